@@ -1,0 +1,4 @@
+pub mod Limbs
+pub mod Poly
+pub mod State
+pub mod Vectors
