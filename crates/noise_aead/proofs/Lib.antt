@@ -1,0 +1,3 @@
+mod Masking
+mod Numbers
+pub mod Sealed

@@ -1,0 +1,44 @@
+use Rattle.std.proofs.Common.{◌≡◌, List, ℕ, ap, sym, refl, ◌∙◌}
+use Rattle.std.proofs.lemmas.Bool.{false≢true}
+use Rattle.rand_chacha.specs.ChaCha.{ChaCha}
+use Rattle.noise_aead.specs.Sealing.{byte_from, xored, masked, seal_tag, sealed}
+use Rattle.noise_aead.proofs.Sealed.{tag_of-seal, sealed-parts, sealed-masked}
+use Rattle.noise_aead.proofs.decryption.open_in_place.Goals as goal
+
+pub returns-else-is_same-clause-accepts : goal.returns-else-is_same-clause-accepts
+returns-else-is_same-clause-accepts c =
+    let key : List ℕ = c.args.key.now in
+    let nonce : List ℕ = c.args.nonce.now in
+    let ad : List ℕ = c.args.ad.now in
+    let buf : List ℕ = c.args.buf.now in
+    let expected : c.tag-expected.result ≡ seal_tag key nonce ad buf =
+    c.tag-expected.ensures ∙ tag_of-seal key nonce ad buf c.begin-words.result.0 c.begin-words.ensures.key in (
+      λ e. absurd (false≢true e),
+      λ (text, e). sym c.if-is_same.false
+          ∙ c.is_same.ensures.1 (expected ∙ sym (sealed-parts key nonce ad text buf c.args.tag.now c.told-tag e).1),
+    )
+
+pub returns-then-is_same-clause-accepts : goal.returns-then-is_same-clause-accepts
+returns-then-is_same-clause-accepts c =
+    let key : List ℕ = c.args.key.now in
+    let nonce : List ℕ = c.args.nonce.now in
+    let ad : List ℕ = c.args.ad.now in
+    let buf : List ℕ = c.args.buf.now in
+    let expected : c.tag-expected.result ≡ seal_tag key nonce ad buf =
+    c.tag-expected.ensures ∙ tag_of-seal key nonce ad buf c.begin-words.result.0 c.begin-words.ensures.key in (
+      λ _. (masked key nonce buf, sealed-masked key nonce ad buf c.args.tag.now (sym (c.is_same.ensures.0 c.if-is_same.true) ∙ expected)),
+      λ _. refl,
+    )
+
+pub returns-then-is_same-clause-ok : goal.returns-then-is_same-clause-ok
+returns-then-is_same-clause-ok c =
+    let key : List ℕ = c.args.key.now in
+    let nonce : List ℕ = c.args.nonce.now in
+    let ad : List ℕ = c.args.ad.now in
+    let buf : List ℕ = c.args.buf.now in
+    let expected : c.tag-expected.result ≡ seal_tag key nonce ad buf =
+    c.tag-expected.ensures ∙ tag_of-seal key nonce ad buf c.begin-words.result.0 c.begin-words.ensures.key in
+    let text : c.apply.new.text ≡ masked key nonce buf =
+    c.apply.ensures.text ∙ ap (λ (g : ChaCha). xored (byte_from g) 0 buf) c.begin-words.ensures.words in
+    sealed-masked key nonce ad buf c.args.tag.now (sym (c.is_same.ensures.0 c.if-is_same.true) ∙ expected)
+    ∙ ap (sealed key nonce ad) (sym text)

@@ -1,0 +1,5 @@
+use Rattle.noise_aead.proofs.Sealed.{sealed-same}
+use Rattle.noise_aead.proofs.laws.sealed_same.Goals as goal
+
+pub returns : goal.returns
+returns c = sealed-same

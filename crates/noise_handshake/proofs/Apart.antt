@@ -1,0 +1,190 @@
+-- What a reader finds is determined, and how reading the tokens goes on.
+use Rattle.std.proofs.Common.{◌≡◌, ℕ, zero, suc, ◌+◌, ◌<◌, ◌≤◌, List, [], ◌∷◌, ◌++◌, length, take, drop, refl, ap, sym, subst, ◌∙◌, arith, append_assoc, take_all, inl, inr, ◌⊎◌}
+use Rattle.std.proofs.Math.Seq.{take-append_seam, drop-append_seam}
+use Rattle.std.specs.Prelude.{Bool, Option, Some, is_some, if◌then◌else◌, nat_lt}
+use Rattle.noise_names.specs.declared.token.Token.{Token}
+use Rattle.noise_names.specs.declared.token.Token.TheVariants.{E, S, Ee, Es, Se, Ss, Psk}
+use Rattle.noise_state.specs.History.{History, cipher_key, piece}
+use Rattle.noise_state.proofs.Pieces.{length-piece, piece-same}
+use Rattle.noise_handshake.specs.declared.remote.Remote.{Remote}
+use Rattle.noise_handshake.specs.declared.faults.Cause.{Cause}
+use Rattle.noise_handshake.specs.Line.{token_piece, behind_token, front, behind_front}
+use Rattle.noise_handshake.specs.View.{View, Reader, reader, Fits, Fit, known_behind, secrets_behind, Fails, Leads, Reaches, Reads, Stops, Stalls, Accepts, cause_of, cause_at, tokens_now}
+use Rattle.noise_handshake.specs.declared.faults.Cause.TheVariants.{Short, Tag}
+
+pub split-apart : (a b p q : List ℕ) → length a ≡ length b → a ++ p ≡ b ++ q → (a ≡ b) × (p ≡ q)
+split-apart a b p q n e = (
+  sym (take-append_seam a p) ∙ ap (take (length a)) e ∙ ap (λ (k : ℕ). take k (b ++ q)) n ∙ take-append_seam b q,
+  sym (drop-append_seam a p) ∙ ap (drop (length a)) e ∙ ap (λ (k : ℕ). drop k (b ++ q)) n ∙ drop-append_seam b q,
+)
+
+some-same : (o : Option (List ℕ)) (x y : List ℕ) → o ≡ Some x → o ≡ Some y → x ≡ y
+some-same o x y f g = cc
+
+-- a token's text and what is behind it are determined
+pub token-apart : (v : Reader) (known : Remote) (secrets : List (List ℕ)) (r : History) (t : Token) (x y p q : List ℕ)
+    → Fits v known secrets t x → Fits v known secrets t y → token_piece r t x ++ p ≡ token_piece r t y ++ q → (x ≡ y) × (p ≡ q)
+token-apart v known secrets r E x y p q f g e = split-apart x y p q (f ∙ sym g) e
+token-apart v known secrets r S x y p q f g e =
+    let n : length (piece r x) ≡ length (piece r y) = length-piece r x ∙ ap (λ (k : ℕ). if is_some (cipher_key r) then k + 16 else k) (f ∙ sym g) ∙ sym (length-piece r y) in
+    let h = split-apart (piece r x) (piece r y) p q n e in
+    (piece-same r x y h.0, h.1)
+token-apart v known secrets r Psk x y p q f g e = (f ∙ sym g, e)
+token-apart v known secrets r Ee x y p q f g e = (some-same _ x y f g, e)
+token-apart v known secrets r Es x y p q f g e = (some-same _ x y f g, e)
+token-apart v known secrets r Se x y p q f g e = (some-same _ x y f g, e)
+token-apart v known secrets r Ss x y p q f g e = (some-same _ x y f g, e)
+
+cons-same : {X : Type 0} (x y : X) (xs ys : List X) → x ≡ y → xs ≡ ys → (x ∷ xs) ≡ (y ∷ ys)
+cons-same x y xs ys e h = cc
+
+-- all the texts are determined, and what is left
+pub front-apart : (v : Reader) (known : Remote) (secrets : List (List ℕ)) (r : History) (ts : List Token) (xs ys : List (List ℕ)) (p q : List ℕ)
+    → Fit v known secrets ts xs → Fit v known secrets ts ys → front v.psks r ts xs ++ p ≡ front v.psks r ts ys ++ q → (xs ≡ ys) × (p ≡ q)
+front-apart v known secrets r [] [] [] p q f g e = (refl, e)
+front-apart v known secrets r [] [] (y ∷ ys) p q f g e = absurd g
+front-apart v known secrets r [] (x ∷ xs) ys p q f g e = absurd f
+front-apart v known secrets r (t ∷ ts) [] ys p q f g e = absurd f
+front-apart v known secrets r (t ∷ ts) (x ∷ xs) [] p q f g e = absurd g
+front-apart v known secrets r (t ∷ ts) (x ∷ xs) (y ∷ ys) p q f g e =
+    let a : List ℕ = front v.psks (behind_token v.psks r t x) ts xs in
+    let b : List ℕ = front v.psks (behind_token v.psks r t y) ts ys in
+    let h = token-apart v known secrets r t x y (a ++ p) (b ++ q) f.0 g.0 (sym (append_assoc (token_piece r t x) a p) ∙ e ∙ append_assoc (token_piece r t y) b q) in
+    let g1 = subst (λ (z : List ℕ). Fit v (known_behind known t z) (secrets_behind secrets t) ts ys) (sym h.0) g.1 in
+    let e1 : a ++ p ≡ front v.psks (behind_token v.psks r t x) ts ys ++ q =
+    h.1 ∙ ap (λ (z : List ℕ). front v.psks (behind_token v.psks r t z) ts ys ++ q) (sym h.0) in
+    let i = front-apart v (known_behind known t x) (secrets_behind secrets t) (behind_token v.psks r t x) ts xs ys p q f.1 g1 e1 in
+    (cons-same x y xs ys h.0 i.0, i.1)
+
+-- no other texts and payload fit a message
+pub reads-one : (v : Reader) (known : Remote) (secrets : List (List ℕ)) (r : History) (ts : List Token) (m : List ℕ) (xs ys : List (List ℕ)) (p q : List ℕ)
+    → Reads v known secrets r ts m xs p → Reads v known secrets r ts m ys q → (xs ≡ ys) × (p ≡ q)
+reads-one v known secrets r ts m xs ys p q a b =
+    let h = front-apart v known secrets r ts xs ys (piece (behind_front v.psks r ts xs) p) (piece (behind_front v.psks r ts ys) q) a.fit b.fit (sym a.spelled ∙ b.spelled) in
+    (h.0, piece-same (behind_front v.psks r ts xs) p q (h.1 ∙ ap (λ (zs : List (List ℕ)). piece (behind_front v.psks r ts zs) q) (sym h.0)))
+
+pub accepts-one : (v : View) (m : List ℕ) (xs ys : List (List ℕ)) (p q : List ℕ) → Accepts v m xs p → Accepts v m ys q → (xs ≡ ys) × (p ≡ q)
+accepts-one v m xs ys p q a b = reads-one (reader v) v.remote v.secrets v.history (tokens_now v) m xs ys p q a.reads b.reads
+
+-- ---- how reading goes on
+
+pub leads-none : (v : Reader) (known : Remote) (secrets : List (List ℕ)) (r : History) (m : List ℕ) → Leads v known secrets r [] [] m m
+leads-none v known secrets r m = record { fit = tt; spelled = refl }
+
+pub leads-more : (v : Reader) (known : Remote) (secrets : List (List ℕ)) (r : History) (t : Token) (x : List ℕ) (ts : List Token) (xs : List (List ℕ)) (m more rest : List ℕ)
+    → Fits v known secrets t x → m ≡ token_piece r t x ++ more
+    → Leads v (known_behind known t x) (secrets_behind secrets t) (behind_token v.psks r t x) ts xs more rest
+    → Leads v known secrets r (t ∷ ts) (x ∷ xs) m rest
+leads-more v known secrets r t x ts xs m more rest f e l = record {
+  fit = (f, l.fit);
+  spelled = e ∙ ap (λ (k : List ℕ). token_piece r t x ++ k) l.spelled ∙ sym (append_assoc (token_piece r t x) _ rest);
+}
+
+leads-fails : (v : Reader) (known : Remote) (secrets : List (List ℕ)) (r : History) (t : Token) (xs : List (List ℕ)) (m rest : List ℕ)
+    → Fails v known secrets r t m → Leads v known secrets r (t ∷ []) xs m rest → ⊥
+leads-fails v known secrets r t [] m rest bad l = l.fit
+leads-fails v known secrets r t (x ∷ []) m rest bad l = bad x rest l.fit.0 (l.spelled ∙ append_assoc (token_piece r t x) [] rest)
+leads-fails v known secrets r t (x ∷ y ∷ ys) m rest bad l = l.fit.1
+
+pub stops-here : (v : Reader) (known : Remote) (secrets : List (List ℕ)) (r : History) (t : Token) (ts : List Token) (m : List ℕ) (cause : Cause)
+    → Fails v known secrets r t m → cause ≡ cause_of (is_some (cipher_key r)) t m → Stops v known secrets r (t ∷ ts) m 0 cause
+stops-here v known secrets r t ts m cause bad why = record {
+  within = omega arith;
+  carried = [];
+  rest = m;
+  leads = leads-none v known secrets r m;
+  further = λ reaches. leads-fails v known secrets r t reaches.carried m reaches.rest bad reaches.leads;
+  why = why;
+}
+
+-- what leads beyond a token leads from behind it
+leads-less : (v : Reader) (known : Remote) (secrets : List (List ℕ)) (r : History) (t : Token) (x : List ℕ) (ts : List Token) (xs : List (List ℕ)) (m more rest : List ℕ)
+    → Fits v known secrets t x → m ≡ token_piece r t x ++ more → Leads v known secrets r (t ∷ ts) xs m rest
+    → Reaches v (known_behind known t x) (secrets_behind secrets t) (behind_token v.psks r t x) ts more
+leads-less v known secrets r t x ts [] m more rest f e l = absurd l.fit
+leads-less v known secrets r t x ts (y ∷ ys) m more rest f e l =
+    let b : List ℕ = front v.psks (behind_token v.psks r t y) ts ys in
+    let h = token-apart v known secrets r t x y more (b ++ rest) f l.fit.0 (sym e ∙ l.spelled ∙ append_assoc (token_piece r t y) b rest) in
+    record {
+      carried = ys;
+      rest = rest;
+      leads = record {
+        fit = subst (λ (z : List ℕ). Fit v (known_behind known t z) (secrets_behind secrets t) ts ys) (sym h.0) l.fit.1;
+        spelled = h.1 ∙ ap (λ (z : List ℕ). front v.psks (behind_token v.psks r t z) ts ys ++ rest) (sym h.0);
+      };
+    }
+
+pub stops-later : (v : Reader) (known : Remote) (secrets : List (List ℕ)) (r : History) (t : Token) (x : List ℕ) (ts : List Token) (m more : List ℕ) (k : ℕ) (cause : Cause)
+    → Fits v known secrets t x → m ≡ token_piece r t x ++ more
+    → Stops v (known_behind known t x) (secrets_behind secrets t) (behind_token v.psks r t x) ts more k cause
+    → Stops v known secrets r (t ∷ ts) m (suc k) cause
+stops-later v known secrets r t x ts m more k cause f e s = record {
+  within = omega (arith, s.within);
+  carried = x ∷ s.carried;
+  rest = s.rest;
+  leads = leads-more v known secrets r t x (take k ts) s.carried m more s.rest f e s.leads;
+  further = λ reaches. s.further (leads-less v known secrets r t x (take (suc k) ts) reaches.carried m more reaches.rest f e reaches.leads);
+  why = s.why;
+}
+
+cause_at-end : (keyed : Bool) (ts : List Token) (rest : List ℕ) → cause_at keyed ts (length ts) rest ≡ (if nat_lt (length rest) 16 then Short else Tag)
+cause_at-end keyed [] rest = refl
+cause_at-end keyed (t ∷ ts) rest = cause_at-end keyed ts rest
+
+-- a stop at the payload
+pub stalls-last : (v : Reader) (known : Remote) (secrets : List (List ℕ)) (r : History) (ts : List Token) (m : List ℕ) (xs : List (List ℕ)) (rest : List ℕ) (cause : Cause)
+    → Leads v known secrets r ts xs m rest → ((payload : List ℕ) → rest ≡ piece (behind_front v.psks r ts xs) payload → ⊥)
+    → cause ≡ (if nat_lt (length rest) 16 then Short else Tag) → Stalls v known secrets r ts m (length ts) cause
+stalls-last v known secrets r ts m xs rest cause l bad why =
+    let whole : take (length ts) ts ≡ ts = take_all (length ts) ts (omega arith) in
+    record {
+      within = omega arith;
+      carried = xs;
+      rest = rest;
+      leads = subst (λ (us : List Token). Leads v known secrets r us xs m rest) (sym whole) l;
+      further = λ h. absurd (omega arith);
+      unread = λ e ys payload reads.
+          let h = front-apart v known secrets r ts xs ys rest (piece (behind_front v.psks r ts ys) payload) l.fit reads.fit (sym l.spelled ∙ reads.spelled) in
+          bad payload (h.1 ∙ ap (λ (zs : List (List ℕ)). piece (behind_front v.psks r ts zs) payload) (sym h.0));
+      why = why ∙ sym (cause_at-end (is_some (cipher_key (behind_front v.psks r (take (length ts) ts) xs))) ts rest);
+    }
+
+pub reads-whole : (v : Reader) (known : Remote) (secrets : List (List ℕ)) (r : History) (ts : List Token) (m : List ℕ) (xs : List (List ℕ)) (rest payload : List ℕ)
+    → Leads v known secrets r ts xs m rest → rest ≡ piece (behind_front v.psks r ts xs) payload → Reads v known secrets r ts m xs payload
+reads-whole v known secrets r ts m xs rest payload l e = record {
+  fit = l.fit;
+  spelled = l.spelled ∙ ap (λ (k : List ℕ). front v.psks r ts xs ++ k) e;
+}
+
+-- what is read whole leads as far as one likes
+pub reads-leads : (v : Reader) (known : Remote) (secrets : List (List ℕ)) (r : History) (ts : List Token) (xs : List (List ℕ)) (m rest : List ℕ) (k : ℕ)
+    → Leads v known secrets r ts xs m rest → Reaches v known secrets r (take k ts) m
+reads-leads v known secrets r ts xs m rest zero l = record { carried = []; rest = m; leads = leads-none v known secrets r m }
+reads-leads v known secrets r [] xs m rest (suc k) l = record { carried = []; rest = m; leads = leads-none v known secrets r m }
+reads-leads v known secrets r (t ∷ ts) [] m rest (suc k) l = absurd l.fit
+reads-leads v known secrets r (t ∷ ts) (x ∷ xs) m rest (suc k) l =
+    let next : History = behind_token v.psks r t x in
+    let more : List ℕ = front v.psks next ts xs ++ rest in
+    let e : m ≡ token_piece r t x ++ more = l.spelled ∙ append_assoc (token_piece r t x) (front v.psks next ts xs) rest in
+    let i = reads-leads v (known_behind known t x) (secrets_behind secrets t) next ts xs more rest k (record { fit = l.fit.1; spelled = refl }) in
+    record {
+      carried = x ∷ i.carried;
+      rest = i.rest;
+      leads = leads-more v known secrets r t x (take k ts) i.carried m more i.rest l.fit.0 e i.leads;
+    }
+
+at-most : (k n : ℕ) → k ≤ n → (k < n) ⊎ (k ≡ n)
+at-most zero zero h = inr refl
+at-most zero (suc n) h = inl (omega arith)
+at-most (suc k) zero h = absurd (omega arith)
+at-most (suc k) (suc n) h = elim (at-most k n (omega arith)) [ inl l ↦ inl (omega arith) | inr e ↦ inr (ap suc e) ]
+
+-- what is refused is no message
+pub stalls-not : (v : Reader) (known : Remote) (secrets : List (List ℕ)) (r : History) (ts : List Token) (m : List ℕ) (k : ℕ) (cause : Cause) (xs : List (List ℕ)) (p : List ℕ)
+    → Stalls v known secrets r ts m k cause → Reads v known secrets r ts m xs p → ⊥
+stalls-not v known secrets r ts m k cause xs p s a =
+    let l : Leads v known secrets r ts xs m (piece (behind_front v.psks r ts xs) p) = record { fit = a.fit; spelled = a.spelled } in
+    elim (at-most k (length ts) s.within) [
+      | inl h ↦ s.further h (reads-leads v known secrets r ts xs m (piece (behind_front v.psks r ts xs) p) (suc k) l)
+      | inr e ↦ s.unread e xs p a
+    ]

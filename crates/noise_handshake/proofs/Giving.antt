@@ -1,0 +1,112 @@
+-- The steps of writing, as the code's values have them.
+use Rattle.std.proofs.Common.{◌≡◌, ℕ, zero, suc, ◌+◌, ◌<◌, ◌≤◌, List, [], ◌∷◌, ◌++◌, take, refl, ap, sym, subst, ◌∙◌, arith, add-one, take-take}
+use Rattle.std.specs.Prelude.{Bool}
+use Rattle.noise_names.specs.declared.token.Token.{Token}
+use Rattle.noise_names.specs.declared.token.Token.TheVariants.{E, S, Ee, Es, Se, Ss, Psk}
+use Rattle.noise_names.specs.Plan.{has_psk}
+use Rattle.noise_state.specs.History.{History}
+use Rattle.noise_handshake.specs.declared.remote.Remote.{Remote}
+use Rattle.noise_handshake.specs.Line.{token_piece, behind_token, front, behind_front, line}
+use Rattle.noise_handshake.specs.Length.{keyed_behind, keyed_behind_tokens, tag_width, token_width, tokens_width, added_width}
+use Rattle.noise_handshake.specs.View.{View, secrets_behind, tokens_now}
+use Rattle.noise_handshake.specs.Writing.{Writer, writer, Gives, Given, LacksAt, Writes, Lacks}
+
+-- one token more in front
+lacks-later : (w : Writer) (known : Remote) (secrets : List (List ℕ)) (t : Token) (ts : List Token) (x : List ℕ) (k : ℕ)
+    → Gives w known secrets t x → LacksAt w known (secrets_behind secrets t) ts k → LacksAt w known secrets (t ∷ ts) (suc k)
+lacks-later w known secrets t ts x k g l = record {
+  within = omega (arith, l.within);
+  before = x ∷ l.before;
+  given = (g, l.given);
+  none = further;
+}
+  where
+    further : (xs : List (List ℕ)) → Given w known secrets (take (suc (suc k)) (t ∷ ts)) xs → ⊥
+    further [] h = h
+    further (y ∷ ys) h = l.none ys h.1
+
+-- a token and those behind it take no more than there is for all of them
+pub widths : (psks keyed keyed2 : Bool) (tokens ts : List Token) (t : Token) (n k room : ℕ) → tokens ≡ t ∷ ts → tokens_width psks keyed tokens ≤ room
+    → n ≡ token_width keyed t → keyed2 ≡ keyed_behind psks keyed t → k ≡ tokens_width psks keyed2 ts → n + k ≤ room
+widths psks keyed keyed2 tokens ts t n k room split fits e f h =
+    let all : tokens_width psks keyed (t ∷ ts) ≤ room = subst (λ (us : List Token). tokens_width psks keyed us ≤ room) split fits in
+    let more : k ≡ tokens_width psks (keyed_behind psks keyed t) ts = h ∙ ap (λ (b : Bool). tokens_width psks b ts) f in
+    omega (arith, all, e, more)
+
+-- the same of the tokens and a payload
+pub widths-last : (psks keyed keyed2 : Bool) (ts : List Token) (n k p room : ℕ) → added_width psks keyed ts + p ≤ room
+    → n ≡ tokens_width psks keyed ts → keyed2 ≡ keyed_behind_tokens psks keyed ts → k ≡ p + tag_width keyed2 → n + k ≤ room
+widths-last psks keyed keyed2 ts n k p room fits e f h = omega (arith, ap tag_width f)
+
+module _ (w : Writer) (known : Remote) (secrets others : List (List ℕ)) (r : History) (tokens ts : List Token) (t : Token) (x : List ℕ)
+    (split : tokens ≡ t ∷ ts) (gives : Gives w known secrets t x) (holds : others ≡ secrets_behind secrets t) where
+  pub given-on : (xs : List (List ℕ)) → Given w known others ts xs → Given w known secrets tokens (x ∷ xs)
+  given-on xs h =
+      let later : Given w known (secrets_behind secrets t) ts xs = subst (λ (z : List (List ℕ)). Given w known z ts xs) holds h in
+      subst (λ (us : List Token). Given w known secrets us (x ∷ xs)) (sym split) (gives, later)
+
+  pub front-on : (xs : List (List ℕ)) (start more : List ℕ) → start ≡ token_piece r t x → more ≡ front w.psks (behind_token w.psks r t x) ts xs
+      → start ++ more ≡ front w.psks r tokens (x ∷ xs)
+  front-on xs start more e f =
+      ap (λ (z : List ℕ). z ++ more) e ∙ ap (λ (z : List ℕ). token_piece r t x ++ z) f ∙ ap (λ (us : List Token). front w.psks r us (x ∷ xs)) (sym split)
+
+  pub behind-on : {St : Type 0} (stands : St → History → Type 0) (state : St) (xs : List (List ℕ))
+      → stands state (behind_front w.psks (behind_token w.psks r t x) ts xs) → stands state (behind_front w.psks r tokens (x ∷ xs))
+  behind-on stands state xs h = subst (λ (us : List Token). stands state (behind_front w.psks r us (x ∷ xs))) (sym split) h
+
+  pub lacks-on : (k : ℕ) → LacksAt w known others ts k → LacksAt w known secrets tokens (k + 1)
+  lacks-on k l =
+      let later : LacksAt w known (secrets_behind secrets t) ts k = subst (λ (z : List (List ℕ)). LacksAt w known z ts k) holds l in
+      rw add-one (subst (λ (us : List Token). LacksAt w known secrets us (suc k)) (sym split) (lacks-later w known secrets t ts x k gives later))
+
+-- ---- what a party gives is determined
+
+gives-one : (w : Writer) (known : Remote) (secrets : List (List ℕ)) (t : Token) (x y : List ℕ) → Gives w known secrets t x → Gives w known secrets t y → x ≡ y
+gives-one w known secrets E x y g h = cc
+gives-one w known secrets S x y g h = cc
+gives-one w known secrets Psk x y g h = cc
+gives-one w known secrets Ee x y g h = cc
+gives-one w known secrets Es x y g h = cc
+gives-one w known secrets Se x y g h = cc
+gives-one w known secrets Ss x y g h = cc
+
+given-one : (w : Writer) (known : Remote) (secrets : List (List ℕ)) (ts : List Token) (xs ys : List (List ℕ)) → Given w known secrets ts xs → Given w known secrets ts ys → xs ≡ ys
+given-one w known secrets [] [] [] g h = refl
+given-one w known secrets [] [] (y ∷ ys) g h = absurd h
+given-one w known secrets [] (x ∷ xs) ys g h = absurd g
+given-one w known secrets (t ∷ ts) [] ys g h = absurd g
+given-one w known secrets (t ∷ ts) (x ∷ xs) [] g h = absurd h
+given-one w known secrets (t ∷ ts) (x ∷ xs) (y ∷ ys) g h =
+    ap (λ (z : List ℕ). z ∷ xs) (gives-one w known secrets t x y g.0 h.0) ∙ ap (λ (zs : List (List ℕ)). y ∷ zs) (given-one w known (secrets_behind secrets t) ts xs ys g.1 h.1)
+
+-- one text for each of the first tokens
+given-front : (w : Writer) (known : Remote) (secrets : List (List ℕ)) (ts : List Token) (xs : List (List ℕ)) (n : ℕ) → Given w known secrets ts xs → Given w known secrets (take n ts) (take n xs)
+given-front w known secrets ts xs zero g = tt
+given-front w known secrets [] [] (suc n) g = tt
+given-front w known secrets [] (x ∷ xs) (suc n) g = absurd g
+given-front w known secrets (t ∷ ts) [] (suc n) g = absurd g
+given-front w known secrets (t ∷ ts) (x ∷ xs) (suc n) g = (g.0, given-front w known (secrets_behind secrets t) ts xs n g.1)
+
+not-before : (w : Writer) (known : Remote) (secrets : List (List ℕ)) (ts : List Token) (k j : ℕ) → LacksAt w known secrets ts k → LacksAt w known secrets ts j → k < j → ⊥
+not-before w known secrets ts k j a b h =
+    a.none (take (suc k) b.before)
+    (subst (λ (us : List Token). Given w known secrets us (take (suc k) b.before)) (take-take (suc k) j ts (omega arith)) (given-front w known secrets (take j ts) b.before (suc k) b.given))
+
+same-place : (k j : ℕ) → (k < j → ⊥) → (j < k → ⊥) → k ≡ j
+same-place k j f g = grind arith
+
+-- a party writes a payload as one message
+pub writes-one : (v : View) (payload m n : List ℕ) (xs ys : List (List ℕ)) → Writes v payload xs m → Writes v payload ys n → (xs ≡ ys) × (m ≡ n)
+writes-one v payload m n xs ys a b =
+    let e : xs ≡ ys = given-one (writer v) v.remote v.secrets (tokens_now v) xs ys a.given b.given in
+    (e, a.spelled ∙ ap (λ (zs : List (List ℕ)). line (has_psk v.pattern) v.history (tokens_now v) zs payload) e ∙ sym b.spelled)
+
+-- it lacks an answer at one token
+pub lacks-one : (v : View) (k j : ℕ) → Lacks v k → Lacks v j → k ≡ j
+lacks-one v k j a b =
+    same-place k j (not-before (writer v) v.remote v.secrets (tokens_now v) k j a.lacks b.lacks) (not-before (writer v) v.remote v.secrets (tokens_now v) j k b.lacks a.lacks)
+
+-- what lacks an answer writes nothing
+pub writes-or : (v : View) (payload m : List ℕ) (xs : List (List ℕ)) (k : ℕ) → Writes v payload xs m → Lacks v k → ⊥
+writes-or v payload m xs k a b =
+    b.lacks.none (take (suc k) xs) (given-front (writer v) v.remote v.secrets (tokens_now v) xs (suc k) a.given)

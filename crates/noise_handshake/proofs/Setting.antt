@@ -1,0 +1,98 @@
+-- What a setup without a fault has.
+use Rattle.std.proofs.Common.{◌≡◌, ℕ, List, refl, ap, sym, ◌∙◌, arith}
+use Rattle.std.proofs.lemmas.Bool.Decides.{nat_tests}
+use Rattle.std.specs.Prelude.{Bool, true, false, not, ◌||◌, ◌&&◌, ◌==◌, ◌↔◌, IsTrue, IsFalse, Option, Some, None, is_some, is_none, if◌then◌else◌}
+use Rattle.noise_names.specs.declared.token.Role.{Role}
+use Rattle.noise_names.specs.declared.token.Role.TheVariants.{Initiator, Responder}
+use Rattle.noise_names.specs.declared.token.Token.TheVariants.{E, S}
+use Rattle.noise_names.specs.Tokens.{other}
+use Rattle.noise_names.specs.Plan.{Plan, places_of, message_places}
+use Rattle.noise_names.specs.Validity.{stands}
+use Rattle.noise_handshake.specs.declared.keys.Own.{Own}
+use Rattle.noise_handshake.specs.declared.keys.Own.TheVariants.{Ephemeral, Static}
+use Rattle.noise_handshake.specs.declared.remote.Remote.{Remote}
+use Rattle.noise_handshake.specs.declared.faults.SetupFault.{SetupFault}
+use Rattle.noise_handshake.specs.declared.faults.SetupFault.TheVariants.{EphemeralMissing, StaticMissing, RemoteMissing, RemoteUnexpected, PskCount}
+use Rattle.noise_handshake.specs.Setup.{HasPre, keys_of, public_keys, secrets_of, setup_fault, lacks_own, lacks_remote, has_unexpected, has_before}
+use Rattle.noise_handshake.proofs.Uses.{stands-places_of}
+
+pub flips : (b x : Bool) → (IsTrue b ↔ IsFalse x) → not b ≡ x
+flips true x e = sym (e.0 refl)
+flips false true e = refl
+flips false false e = absurd (let h : false ≡ true = e.1 refl in cc)
+
+implied : (a : Bool) (o : Option (List ℕ)) → (a && is_none o) ≡ false → a ≡ true → is_some o ≡ true
+implied true None e h = absurd (cc)
+implied true (Some x) e h = refl
+implied false o e h = absurd (cc)
+
+left-false : (a b : Bool) → (a || b) ≡ false → a ≡ false
+left-false true b e = absurd (cc)
+left-false false b e = refl
+
+right-false : (a b : Bool) → (a || b) ≡ false → b ≡ false
+right-false true b e = absurd (cc)
+right-false false b e = e
+
+same-count : (n m : ℕ) → not (n == m) ≡ false → n ≡ m
+same-count n m e = by (n == m) refl e where
+  by : (b : Bool) → (n == m) ≡ b → not b ≡ false → n ≡ m
+  by true h k = grind (arith, nat_tests)
+  by false h k = absurd (cc)
+
+-- five tests of which none holds
+pub record NoFault (a b c d e : Bool) : Type 0 where
+  pub first : a ≡ false
+  pub second : b ≡ false
+  pub third : c ≡ false
+  pub fourth : d ≡ false
+  pub fifth : e ≡ false
+
+abbrev pub first_of : Bool → Bool → Bool → Bool → Bool → Option SetupFault
+first_of a b c d e =
+    if a then Some EphemeralMissing
+    else if b then Some StaticMissing
+    else if c then Some RemoteMissing
+    else if d then Some RemoteUnexpected
+    else if e then Some PskCount
+    else None
+
+no-fault : (a b c d e : Bool) → first_of a b c d e ≡ None → NoFault a b c d e
+no-fault true b c d e h = absurd (cc)
+no-fault false true c d e h = absurd (cc)
+no-fault false false true d e h = absurd (cc)
+no-fault false false false true e h = absurd (cc)
+no-fault false false false false true h = absurd (cc)
+no-fault false false false false false h = record { first = refl; second = refl; third = refl; fourth = refl; fifth = refl }
+
+module _ (p : Plan) (role : Role) (own : Own → Option (List ℕ)) (remote : Remote) (n : ℕ) (none : setup_fault p role own remote n ≡ None) where
+  tests : NoFault (lacks_own p role E (own Ephemeral)) (lacks_own p role S (own Static)) (lacks_remote p role remote) (has_unexpected p role remote) (not (n == secrets_of p.messages))
+  tests = no-fault (lacks_own p role E (own Ephemeral)) (lacks_own p role S (own Static)) (lacks_remote p role remote) (has_unexpected p role remote) (not (n == secrets_of p.messages)) none
+
+  pub own-e : stands role E (places_of p) ≡ true → is_some (own Ephemeral) ≡ true
+  own-e = implied (stands role E (places_of p)) (own Ephemeral) tests.first
+
+  pub own-s : stands role S (places_of p) ≡ true → is_some (own Static) ≡ true
+  own-s = implied (stands role S (places_of p)) (own Static) tests.second
+
+  pub counted : n ≡ secrets_of p.messages
+  counted = same-count n (secrets_of p.messages) tests.fifth
+
+  own-pre : HasPre p role (public_keys own)
+  own-pre = record {
+    e = λ h. own-e (stands-places_of p role E ∙ ap (λ (b : Bool). b || stands role E (message_places Initiator 1 p.messages)) h);
+    s = λ h. own-s (stands-places_of p role S ∙ ap (λ (b : Bool). b || stands role S (message_places Initiator 1 p.messages)) h);
+  }
+
+  pub other-pre : HasPre p (other role) remote
+  other-pre = record {
+    e = implied (has_before p (other role) E) remote.e (left-false (has_before p (other role) E && is_none remote.e) (has_before p (other role) S && is_none remote.s) tests.third);
+    s = implied (has_before p (other role) S) remote.s (right-false (has_before p (other role) E && is_none remote.e) (has_before p (other role) S && is_none remote.s) tests.third);
+  }
+
+-- the keys of both pre-messages
+pub has-pre : (p : Plan) (party role : Role) (own : Own → Option (List ℕ)) (remote : Remote) (n : ℕ) → setup_fault p role own remote n ≡ None → HasPre p party (keys_of party role (public_keys own) remote)
+has-pre p Initiator Initiator own remote n e = own-pre p Initiator own remote n e
+has-pre p Initiator Responder own remote n e = other-pre p Responder own remote n e
+has-pre p Responder Initiator own remote n e = other-pre p Initiator own remote n e
+has-pre p Responder Responder own remote n e = own-pre p Responder own remote n e

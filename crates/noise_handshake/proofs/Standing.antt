@@ -1,0 +1,116 @@
+-- What a handshake stands for, and what follows for a message.
+use Rattle.std.proofs.Common.{◌≡◌, ℕ, ◌+◌, ◌<◌, ◌≤◌, List, Bool, true, false, length, drop, sym, ap, subst, refl, ◌∙◌, arith}
+use Rattle.std.proofs.lemmas.Bool.Decides.{nat_tests}
+use Rattle.std.specs.Prelude.{Option, None, Some, count_by, ◌==◌, if◌then◌else◌}
+use Rattle.noise_names.specs.declared.token.Token.{Token}
+use Rattle.noise_names.specs.declared.token.Role.{Role}
+use Rattle.noise_names.specs.declared.token.Role.TheVariants.{Initiator, Responder}
+use Rattle.noise_names.specs.Tokens.{is_psk, other, same_role, turn_from}
+use Rattle.noise_names.specs.Plan.{Plan, has_psk}
+use Rattle.noise_state.specs.Standing.{StateStands}
+use Rattle.noise_state.specs.declared.symmetric.SymmetricState.{SymmetricState}
+use Rattle.noise_handshake.specs.declared.keys.Own.{Own}
+use Rattle.noise_handshake.specs.declared.remote.Remote.{Remote}
+use Rattle.noise_handshake.specs.declared.faults.ReadFault.{ReadFault}
+use Rattle.noise_handshake.specs.declared.faults.ReadFault.TheVariants as read
+use Rattle.noise_handshake.specs.Line.{behind_line}
+use Rattle.noise_handshake.specs.View.{View, Listens, Listening, learned, tokens_at, tokens_now}
+use Rattle.noise_handshake.specs.Held.{Held, read_fault, is_turn}
+use Rattle.noise_handshake.specs.Party.{Stands, behind_message, over}
+
+-- whose turn it is
+same-role : (a b : Role) → same_role a b ≡ true → a ≡ b
+same-role Initiator Initiator e = refl
+same-role Initiator Responder e = absurd (cc)
+same-role Responder Initiator e = absurd (cc)
+same-role Responder Responder e = refl
+
+other-role : (a b : Role) → same_role a b ≡ false → a ≡ other b
+other-role Initiator Initiator e = absurd (cc)
+other-role Initiator Responder e = refl
+other-role Responder Initiator e = refl
+other-role Responder Responder e = absurd (cc)
+
+abbrev pub Told : (ended all ours : Bool) → Option ReadFault → Type 0
+Told ended all ours (Some read.Ended) = ended ≡ true
+Told ended all ours (Some read.Done) = (ended ≡ false) × (all ≡ true)
+Told ended all ours (Some read.NotYourTurn) = (ended ≡ false) × (all ≡ false) × (ours ≡ true)
+Told ended all ours (Some (read.Refused token cause)) = ⊥
+Told ended all ours None = (ended ≡ false) × (all ≡ false) × (ours ≡ false)
+
+told : (ended all ours : Bool) → Told ended all ours (if ended then Some read.Ended else if all then Some read.Done else if ours then Some read.NotYourTurn else None)
+told true all ours = refl
+told false true ours = (refl, refl)
+told false false true = (refl, refl, refl)
+told false false false = (refl, refl, refl)
+
+-- where a message is due there is one
+pub due : {K : Type 0} (h : Held K) → h.passed ≤ length h.pattern.messages → read_fault h ≡ None → h.passed < length h.pattern.messages
+due h w e =
+    let t : Told h.ended (h.passed == length h.pattern.messages) (is_turn h.role h.passed) None =
+    subst (Told h.ended (h.passed == length h.pattern.messages) (is_turn h.role h.passed)) e (told h.ended (h.passed == length h.pattern.messages) (is_turn h.role h.passed)) in
+    let unequal : (h.passed == length h.pattern.messages) ≡ false = t.1 in
+    grind (arith, nat_tests)
+
+module _ {K : Type 0} (public_of : K → Own → Option (List ℕ)) (agreement : K → Own → List ℕ → Option (List ℕ)) (h : Held K) (v : View) (s : Stands public_of agreement h v) where
+  going : h.ended ≡ false → v.ended ≡ false
+  going e = sym s.ended ∙ e
+
+  few : h.passed ≤ length h.pattern.messages → (h.passed == length h.pattern.messages) ≡ false → v.passed < length v.pattern.messages
+  few w e =
+      let less : h.passed < length h.pattern.messages = grind (arith, nat_tests) in
+      subst (λ (k : ℕ). k < length v.pattern.messages) s.passed (subst (λ (p : Plan). h.passed < length p.messages) s.pattern less)
+
+  turn : (b : Bool) → is_turn h.role h.passed ≡ b → same_role (turn_from Initiator v.passed) v.role ≡ b
+  turn b e = ap (λ (k : ℕ). same_role (turn_from Initiator k) v.role) (sym s.passed) ∙ ap (λ (r : Role). same_role (turn_from Initiator h.passed) r) (sym s.role) ∙ e
+
+  -- a message of the other party is due
+  pub listens : h.passed ≤ length h.pattern.messages → read_fault h ≡ None → Listens v
+  listens w e =
+      let t : Told h.ended (h.passed == length h.pattern.messages) (is_turn h.role h.passed) None =
+      subst (Told h.ended (h.passed == length h.pattern.messages) (is_turn h.role h.passed)) e (told h.ended (h.passed == length h.pattern.messages) (is_turn h.role h.passed)) in
+      record { going = going t.0; more = few w t.1; turn = other-role (turn_from Initiator v.passed) v.role (turn false t.2) }
+
+  pub tokens-are : tokens_at h.pattern.messages h.passed ≡ tokens_now v
+  tokens-are = ap (λ (p : Plan). tokens_at p.messages h.passed) s.pattern ∙ ap (λ (k : ℕ). tokens_at v.pattern.messages k) s.passed
+
+  pub listening : (psks : Bool) (secrets : List (List ℕ)) (tokens : List Token) → Listens v → psks ≡ has_psk h.pattern → secrets ≡ h.secrets → tokens ≡ tokens_now v
+      → Listening v h.role psks (agreement h.keys) secrets h.remote tokens
+  listening psks secrets tokens l b d e = record {
+    listens = l;
+    role_is = s.role;
+    psks_is = b ∙ ap has_psk s.pattern;
+    agree_is = s.agree;
+    secrets_are = d ∙ s.secrets;
+    known_is = s.remote;
+    tokens_are = e;
+  }
+
+  pub behind : (psks : Bool) (tokens : List Token) (xs : List (List ℕ)) (payload : List ℕ) (state : SymmetricState) (remote : Remote) (secrets : List (List ℕ)) (passed : ℕ) → psks ≡ has_psk h.pattern → tokens ≡ tokens_now v
+      → secrets ≡ drop (count_by is_psk tokens) h.secrets → passed ≡ h.passed + 1 → StateStands state (behind_line psks v.history tokens xs payload) → remote ≡ learned v.remote tokens xs
+      → Stands public_of agreement (record h { state = state; remote = remote; secrets = secrets; passed = passed }) (behind_message v xs payload)
+  behind psks tokens xs payload state remote secrets passed b e u n k m = record {
+    pattern = s.pattern;
+    role = s.role;
+    secrets = u ∙ ap (λ (ts : List Token). drop (count_by is_psk ts) h.secrets) e ∙ ap (drop (count_by is_psk (tokens_now v))) s.secrets;
+    own = s.own;
+    agree = s.agree;
+    remote = m ∙ ap (λ (ts : List Token). learned v.remote ts xs) e;
+    passed = n ∙ ap (λ (i : ℕ). i + 1) s.passed;
+    ended = s.ended;
+    history = subst (λ (ts : List Token). StateStands state (behind_line (has_psk v.pattern) v.history ts xs payload)) e (subst (λ (z : Bool). StateStands state (behind_line z v.history tokens xs payload)) (b ∙ ap has_psk s.pattern) k);
+  }
+
+  -- it has ended
+  pub ends : (b : Bool) → b ≡ true → Stands public_of agreement (record h { ended = b }) (over v)
+  ends b e = record {
+    pattern = s.pattern;
+    role = s.role;
+    secrets = s.secrets;
+    own = s.own;
+    agree = s.agree;
+    remote = s.remote;
+    passed = s.passed;
+    ended = e;
+    history = s.history;
+  }

@@ -1,0 +1,88 @@
+-- What a pattern asks of a setup: how many secrets, and whether there is a key behind a pre-message.
+use Rattle.std.proofs.Common.{◌≡◌, ℕ, ◌+◌, ◌<◌, ◌≤◌, List, [], ◌∷◌, ◌++◌, length, cond, eqb, refl, ap, ◌∙◌, arith}
+use Rattle.std.specs.Prelude.{Bool, true, false, ◌||◌, ◌&&◌, IsTrue, nat_le, count_by}
+use Rattle.std.specs.List.{list_any}
+use Rattle.std.proofs.lemmas.Bool.Decides.{nat_tests}
+use Rattle.std.proofs.lemmas.Bool.{leb-true}
+use Rattle.std.proofs.lemmas.List.Sums.{sum_by-append}
+use Rattle.noise_names.specs.declared.token.Token.{Token}
+use Rattle.noise_names.specs.declared.token.Token.TheVariants.{E, S, Ee, Es, Se, Ss, Psk}
+use Rattle.noise_names.specs.Tokens.{is_psk, same_token, own_tokens}
+use Rattle.noise_names.specs.Plan.{Plan}
+use Rattle.noise_names.specs.Limits.{IsPattern, HavePsksAt, psk_if, with_psk_tokens, is_pre_message}
+use Rattle.noise_handshake.specs.Length.{keyed_behind_tokens}
+use Rattle.noise_handshake.specs.Setup.{secrets_of}
+
+-- ---- secrets
+
+no_psk_among : (ts : List Token) → count_by is_psk (own_tokens ts) ≡ 0
+no_psk_among [] = refl
+no_psk_among (E ∷ ts) = no_psk_among ts
+no_psk_among (S ∷ ts) = no_psk_among ts
+no_psk_among (Ee ∷ ts) = no_psk_among ts
+no_psk_among (Es ∷ ts) = no_psk_among ts
+no_psk_among (Se ∷ ts) = no_psk_among ts
+no_psk_among (Ss ∷ ts) = no_psk_among ts
+no_psk_among (Psk ∷ ts) = no_psk_among ts
+
+at_most_one : (n : ℕ) (places : List ℕ) → count_by is_psk (psk_if n places) ≤ 1
+at_most_one n places = by (list_any (λ m. eqb m n) places) where
+  by : (b : Bool) → count_by is_psk (cond b (Psk ∷ []) []) ≤ 1
+  by true = omega arith
+  by false = omega arith
+
+-- a message has a psk token at each of its ends at most, in front only message 1
+few_in : (places : List ℕ) (n : ℕ) (ts : List Token) (front : Bool) (b : ℕ) → eqb n 1 ≡ front → cond front 1 0 ≡ b → ts ≡ with_psk_tokens places n (own_tokens ts) → count_by is_psk ts ≤ 1 + b
+few_in places n ts front b e f h =
+    let first : List Token = cond (eqb n 1) (psk_if 0 places) [] in
+    let sum : count_by is_psk ts ≡ (count_by is_psk first + count_by is_psk (own_tokens ts)) + count_by is_psk (psk_if n places) =
+    ap (count_by is_psk) h ∙ sum_by-append (λ t. cond (is_psk t) 1 0) (first ++ own_tokens ts) (psk_if n places)
+    ∙ ap (λ (k : ℕ). k + count_by is_psk (psk_if n places)) (sum_by-append (λ t. cond (is_psk t) 1 0) first (own_tokens ts)) in
+    let low : count_by is_psk first ≤ cond (eqb n 1) 1 0 = by (eqb n 1) in
+    let same : cond (eqb n 1) 1 0 ≡ b = ap (λ (c : Bool). cond c 1 0) e ∙ f in
+    omega (arith, sum, low, same, no_psk_among ts, at_most_one n places)
+  where
+    by : (c : Bool) → count_by is_psk (cond c (psk_if 0 places) []) ≤ cond c 1 0
+    by true = at_most_one 0 places
+    by false = omega arith
+
+later-few : (places : List ℕ) (n : ℕ) (ms : List (List Token)) → 1 < n → HavePsksAt places n ms → secrets_of ms ≤ length ms
+later-few places n [] h k = omega arith
+later-few places n (ts ∷ ms) h k =
+    let not_first : eqb n 1 ≡ false = grind (arith, nat_tests) in
+    omega (arith, few_in places n ts false 0 not_first refl k.0, later-few places (n + 1) ms (omega arith) k.1)
+
+all-few : (places : List ℕ) (ms : List (List Token)) → HavePsksAt places 1 ms → secrets_of ms ≤ length ms + 1
+all-few places [] k = omega arith
+all-few places (ts ∷ ms) k = omega (arith, few_in places 1 ts true 1 refl refl k.0, later-few places 2 ms (omega arith) k.1)
+
+second : (a b : Bool) → IsTrue (a && b) → IsTrue b
+second true b h = h
+second false b h = cc
+
+-- a pattern takes at most 9 secrets
+pub few-secrets : (p : Plan) → IsPattern p → secrets_of p.messages ≤ 9
+few-secrets p h =
+    omega (arith, all-few p.places p.messages h.psks.tokens, leb-true (length p.messages) 8 (second (nat_le 1 (length p.messages)) (nat_le (length p.messages) 8) h.count))
+
+-- ---- the key behind a pre-message
+
+none : (psks k : Bool) → (k || (psks && false)) ≡ k
+none true true = refl
+none true false = refl
+none false true = refl
+none false false = refl
+
+some : (psks k : Bool) → (k || (psks && true)) ≡ (psks || k)
+some true true = refl
+some true false = refl
+some false true = refl
+some false false = refl
+
+-- in a psk pattern an e gives one
+pub pre-keyed : (psks k : Bool) (ts : List Token) → IsTrue (is_pre_message ts) → (k || (psks && list_any (λ t. same_token t E) ts)) ≡ keyed_behind_tokens psks k ts
+pre-keyed psks k [] h = none psks k
+pre-keyed psks k (E ∷ []) h = some psks k
+pre-keyed psks k (S ∷ []) h = none psks k
+pre-keyed psks k (E ∷ S ∷ []) h = some psks k
+pre-keyed psks k _ h = cc

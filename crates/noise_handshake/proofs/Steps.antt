@@ -1,0 +1,59 @@
+-- The steps of reading, as the code's values have them.
+use Rattle.std.proofs.Common.{◌≡◌, ℕ, suc, ◌+◌, ◌-◌, ◌≤◌, List, [], ◌∷◌, ◌++◌, length, take, drop, refl, ap, sym, subst, ◌∙◌, arith, add-one, drop-drop, length-take}
+use Rattle.std.proofs.lemmas.List.{take-append-le}
+use Rattle.std.proofs.Math.Seq.{drop-append_seam}
+use Rattle.std.specs.Prelude.{is_some}
+use Rattle.noise_names.specs.declared.token.Token.{Token}
+use Rattle.noise_state.specs.History.{History, cipher_key}
+use Rattle.noise_handshake.specs.declared.remote.Remote.{Remote}
+use Rattle.noise_handshake.specs.declared.faults.Cause.{Cause}
+use Rattle.noise_state.specs.Standing.{StateStands}
+use Rattle.noise_state.specs.declared.symmetric.SymmetricState.{SymmetricState}
+use Rattle.noise_handshake.specs.Line.{token_piece, behind_token, behind_front}
+use Rattle.noise_handshake.specs.View.{Reader, Fits, Fails, Leads, Stops, known_behind, secrets_behind, learned, cause_of}
+use Rattle.noise_handshake.proofs.Apart.{leads-none, leads-more, stops-here, stops-later}
+
+pub stopped : (v : Reader) (known : Remote) (secrets : List (List ℕ)) (r : History) (tokens ts : List Token) (t : Token) (m : List ℕ) (cause : Cause)
+    → tokens ≡ t ∷ ts → Fails v known secrets r t m → cause ≡ cause_of (is_some (cipher_key r)) t m → Stops v known secrets r tokens m 0 cause
+stopped v known secrets r tokens ts t m cause e bad why =
+    subst (λ (us : List Token). Stops v known secrets r us m 0 cause) (sym e) (stops-here v known secrets r t ts m cause bad why)
+
+-- what stands in a list behind its first n bytes, once those behind were written
+pub written-at : (m buf post : List ℕ) (n len : ℕ) → n ≤ length m → len ≤ length buf → take ((n + len) - n) (drop n (take n m ++ (buf ++ post))) ≡ take len buf
+written-at m buf post n len h b =
+    let whole : length (take n m) ≡ n = omega (arith, length-take n m) in
+    let behind : drop n (take n m ++ (buf ++ post)) ≡ buf ++ post =
+    ap (λ (k : ℕ). drop k (take n m ++ (buf ++ post))) (sym whole) ∙ drop-append_seam (take n m) (buf ++ post) in
+    let count : (n + len) - n ≡ len = omega arith in
+    ap (λ (k : ℕ). take k (drop n (take n m ++ (buf ++ post)))) count ∙ ap (take len) behind ∙ take-append-le len buf post b
+
+module _ (v : Reader) (known known2 : Remote) (secrets secrets2 : List (List ℕ)) (r : History) (tokens ts : List Token) (t : Token) (x m m2 : List ℕ) (n : ℕ)
+    (split : tokens ≡ t ∷ ts) (fits : Fits v known secrets t x) (spelled : m ≡ token_piece r t x ++ drop n m)
+    (knows : known2 ≡ known_behind known t x) (holds : secrets2 ≡ secrets_behind secrets t) (goes : m2 ≡ drop n m) where
+  pub led : (xs : List (List ℕ)) (k : ℕ) → Leads v known2 secrets2 (behind_token v.psks r t x) ts xs m2 (drop k m2) → Leads v known secrets r tokens (x ∷ xs) m (drop (n + k) m)
+  led xs k l =
+      let l1 = subst (λ (z : Remote). Leads v z secrets2 (behind_token v.psks r t x) ts xs m2 (drop k m2)) knows l in
+      let l2 = subst (λ (z : List (List ℕ)). Leads v (known_behind known t x) z (behind_token v.psks r t x) ts xs m2 (drop k m2)) holds l1 in
+      let l3 = subst (λ (z : List ℕ). Leads v (known_behind known t x) (secrets_behind secrets t) (behind_token v.psks r t x) ts xs z (drop k z)) goes l2 in
+      let l4 = leads-more v known secrets r t x ts xs m (drop n m) (drop k (drop n m)) fits spelled l3 in
+      let l5 = subst (λ (z : List ℕ). Leads v known secrets r (t ∷ ts) (x ∷ xs) m z) (drop-drop k n m) l4 in
+      subst (λ (us : List Token). Leads v known secrets r us (x ∷ xs) m (drop (n + k) m)) (sym split) l5
+
+  pub learned-on : (xs : List (List ℕ)) (known3 : Remote) → known3 ≡ learned known2 ts xs → known3 ≡ learned known tokens (x ∷ xs)
+  learned-on xs known3 e = e ∙ ap (λ (z : Remote). learned z ts xs) knows ∙ ap (λ (us : List Token). learned known us (x ∷ xs)) (sym split)
+
+  pub stopped-later : (k : ℕ) (cause : Cause) → Stops v known2 secrets2 (behind_token v.psks r t x) ts m2 k cause → Stops v known secrets r tokens m (k + 1) cause
+  stopped-later k cause s =
+      let l1 = subst (λ (z : Remote). Stops v z secrets2 (behind_token v.psks r t x) ts m2 k cause) knows s in
+      let l2 = subst (λ (z : List (List ℕ)). Stops v (known_behind known t x) z (behind_token v.psks r t x) ts m2 k cause) holds l1 in
+      let l3 = subst (λ (z : List ℕ). Stops v (known_behind known t x) (secrets_behind secrets t) (behind_token v.psks r t x) ts z k cause) goes l2 in
+      let l4 = stops-later v known secrets r t x ts m (drop n m) k cause fits spelled l3 in
+      let l5 = subst (λ (us : List Token). Stops v known secrets r us m (suc k) cause) (sym split) l4 in
+      rw add-one l5
+
+-- no tokens
+pub led-none : (v : Reader) (known : Remote) (secrets : List (List ℕ)) (r : History) (tokens : List Token) (m : List ℕ) (state : SymmetricState) → tokens ≡ [] → StateStands state r
+    → (xs : List (List ℕ)) × Leads v known secrets r tokens xs m m × StateStands state (behind_front v.psks r tokens xs) × (known ≡ learned known tokens xs)
+led-none v known secrets r tokens m state e s =
+    subst (λ (ts : List Token). (xs : List (List ℕ)) × Leads v known secrets r ts xs m m × StateStands state (behind_front v.psks r ts xs) × (known ≡ learned known ts xs))
+    (sym e) ([], leads-none v known secrets r m, s, refl)

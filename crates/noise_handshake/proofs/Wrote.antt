@@ -1,0 +1,118 @@
+-- What a handshake that writes asks and leaves.
+use Rattle.std.proofs.Common.{◌≡◌, ℕ, ◌+◌, ◌<◌, ◌≤◌, List, Bool, true, false, length, drop, sym, ap, subst, refl, ◌∙◌, arith, not}
+use Rattle.std.proofs.lemmas.Bool.Decides.{nat_tests}
+use Rattle.std.specs.Prelude.{Option, None, Some, count_by, nat_lt, ◌==◌, IsTrue, if◌then◌else◌}
+use Rattle.std.specs.List.{list_all}
+use Rattle.noise_names.specs.declared.token.Token.{Token}
+use Rattle.noise_names.specs.declared.token.Role.{Role}
+use Rattle.noise_names.specs.declared.token.Role.TheVariants.{Initiator, Responder}
+use Rattle.noise_names.specs.Tokens.{is_psk, same_role, turn_from}
+use Rattle.noise_names.specs.Plan.{Plan, has_psk}
+use Rattle.noise_names.specs.Overhead.{has_key, overhead_of}
+use Rattle.noise_state.specs.Standing.{StateStands, keyed}
+use Rattle.noise_state.specs.declared.symmetric.SymmetricState.{SymmetricState}
+use Rattle.noise_handshake.specs.declared.keys.Own.{Own}
+use Rattle.noise_handshake.specs.declared.faults.WriteFault.{WriteFault}
+use Rattle.noise_handshake.specs.declared.faults.WriteFault.TheVariants as write
+use Rattle.noise_handshake.specs.Line.{behind_line}
+use Rattle.noise_handshake.specs.Length.{added_width}
+use Rattle.noise_handshake.specs.View.{View, Speaks, tokens_at, tokens_now}
+use Rattle.noise_handshake.specs.Writing.{Speaking, has_own}
+use Rattle.noise_handshake.specs.Held.{Held, write_fault, is_turn, length_now, length_unless, message_len_of}
+use Rattle.noise_handshake.specs.Sound.{IsSound}
+use Rattle.noise_handshake.specs.Passed.{passed_places}
+use Rattle.noise_handshake.specs.Party.{Stands, behind_own}
+use Rattle.noise_handshake.proofs.Owned.{owned}
+use Rattle.noise_handshake.proofs.Places.{overhead-is}
+
+same-role : (a b : Role) → same_role a b ≡ true → a ≡ b
+same-role Initiator Initiator e = refl
+same-role Initiator Responder e = absurd (cc)
+same-role Responder Initiator e = absurd (cc)
+same-role Responder Responder e = refl
+
+-- what no fault tells
+record Clear (ended all ours long : Bool) : Type 0 where
+  going : ended ≡ false
+  more : all ≡ false
+  turn : ours ≡ true
+  short : long ≡ false
+
+clear : (ended all ours long : Bool)
+    → (if ended then Some write.Ended else if all then Some write.Done else if not ours then Some write.NotYourTurn else if long then Some write.TooLong else None) ≡ None
+    → Clear ended all ours long
+clear true all ours long e = absurd (cc)
+clear false true ours long e = absurd (cc)
+clear false false false long e = absurd (cc)
+clear false false true true e = absurd (cc)
+clear false false true false e = record { going = refl; more = refl; turn = refl; short = refl }
+
+module _ {K : Type 0} (public_of : K → Own → Option (List ℕ)) (h : Held K) (s : IsSound public_of h) (len : ℕ) (none : write_fault h len ≡ None) where
+  clear-now : Clear h.ended (h.passed == length h.pattern.messages) (is_turn h.role h.passed) (nat_lt 65535 (length_now h len))
+  clear-now = clear h.ended (h.passed == length h.pattern.messages) (is_turn h.role h.passed) (nat_lt 65535 (length_now h len)) none
+
+  -- there is a message, of this party
+  pub writes-due : h.passed < length h.pattern.messages
+  writes-due = let unequal : (h.passed == length h.pattern.messages) ≡ false = clear-now.more in let most : h.passed ≤ length h.pattern.messages = s.within in grind (arith, nat_tests)
+
+  pub writes-turn : turn_from Initiator h.passed ≡ h.role
+  writes-turn = same-role (turn_from Initiator h.passed) h.role clear-now.turn
+
+  -- its length
+  pub writes-short : overhead_of h.pattern (h.passed + 1) + len ≤ 65535
+  writes-short = let test : nat_lt 65535 (overhead_of h.pattern (h.passed + 1) + len) ≡ false = clear-now.short in grind (arith, nat_tests)
+
+  pub writes-length : message_len_of h len ≡ Some (length_now h len)
+  writes-length = ap (λ (fault : Option WriteFault). length_unless fault (length_now h len)) none
+
+  module _ (psks : Bool) (tokens : List Token) (b : psks ≡ has_psk h.pattern) (e : tokens ≡ tokens_at h.pattern.messages h.passed) where
+    pub writes-added : added_width psks (keyed h.state) tokens ≡ overhead_of h.pattern (h.passed + 1)
+    writes-added =
+        ap (λ (c : Bool). added_width c (keyed h.state) tokens) b ∙ ap (λ (c : Bool). added_width (has_psk h.pattern) c tokens) s.keyed
+        ∙ ap (λ (ts : List Token). added_width (has_psk h.pattern) (has_key h.pattern (passed_places h.pattern h.passed)) ts) e ∙ sym (overhead-is h.pattern h.passed writes-due)
+
+    -- with the keys of its own that it sends
+    pub writes-own : IsTrue (list_all (has_own (public_of h.keys)) tokens)
+    writes-own =
+        subst (λ (ts : List Token). IsTrue (list_all (has_own (public_of h.keys)) ts)) (sym e) (owned (public_of h.keys) h.pattern h.role h.passed writes-turn s.has_e s.has_s)
+
+  module _ (agreement : K → Own → List ℕ → Option (List ℕ)) (v : View) (t : Stands public_of agreement h v) where
+    speaks : Speaks v
+    speaks = record {
+      going = sym t.ended ∙ clear-now.going;
+      more = subst (λ (k : ℕ). k < length v.pattern.messages) t.passed (subst (λ (p : Plan). h.passed < length p.messages) t.pattern writes-due);
+      turn = ap (turn_from Initiator) (sym t.passed) ∙ writes-turn ∙ t.role;
+    }
+
+    pub speaking : (psks : Bool) (secrets : List (List ℕ)) (tokens : List Token) → psks ≡ has_psk h.pattern → secrets ≡ h.secrets → tokens ≡ tokens_now v
+        → Speaking v h.role psks (public_of h.keys) (agreement h.keys) secrets h.remote tokens
+    speaking psks secrets tokens b d e = record {
+      speaks = speaks;
+      role_is = t.role;
+      psks_is = b ∙ ap has_psk t.pattern;
+      own_is = t.own;
+      agree_is = t.agree;
+      secrets_are = d ∙ t.secrets;
+      known_is = t.remote;
+      tokens_are = e;
+    }
+
+    -- the view's message has that length too
+    pub short-view : overhead_of v.pattern (v.passed + 1) + len ≤ 65535
+    short-view = subst (λ (k : ℕ). overhead_of v.pattern (k + 1) + len ≤ 65535) t.passed (subst (λ (p : Plan). overhead_of p (h.passed + 1) + len ≤ 65535) t.pattern writes-short)
+
+    -- behind a message of its own
+    pub wrote : (psks : Bool) (tokens : List Token) (xs : List (List ℕ)) (payload : List ℕ) (state : SymmetricState) (secrets : List (List ℕ)) (passed : ℕ) → psks ≡ has_psk h.pattern → tokens ≡ tokens_now v
+        → secrets ≡ drop (count_by is_psk tokens) h.secrets → passed ≡ h.passed + 1 → StateStands state (behind_line psks v.history tokens xs payload)
+        → Stands public_of agreement (record h { state = state; secrets = secrets; passed = passed }) (behind_own v xs payload)
+    wrote psks tokens xs payload state secrets passed b e u n k = record {
+      pattern = t.pattern;
+      role = t.role;
+      secrets = u ∙ ap (λ (ts : List Token). drop (count_by is_psk ts) h.secrets) e ∙ ap (drop (count_by is_psk (tokens_now v))) t.secrets;
+      own = t.own;
+      agree = t.agree;
+      remote = t.remote;
+      passed = n ∙ ap (λ (i : ℕ). i + 1) t.passed;
+      ended = t.ended;
+      history = subst (λ (ts : List Token). StateStands state (behind_line (has_psk v.pattern) v.history ts xs payload)) e (subst (λ (z : Bool). StateStands state (behind_line z v.history tokens xs payload)) (b ∙ ap has_psk t.pattern) k);
+    }

@@ -1,0 +1,11 @@
+use Rattle.noise_handshake.proofs.Widths.{start-keyed, next-keyed, line-overhead}
+use Rattle.noise_handshake.proofs.laws.overhead_added.Goals as goal
+
+pub returns-clause-first : goal.returns-clause-first
+returns-clause-first c = start-keyed
+
+pub returns-clause-next : goal.returns-clause-next
+returns-clause-next c = next-keyed
+
+pub returns-clause-line : goal.returns-clause-line
+returns-clause-line c = line-overhead

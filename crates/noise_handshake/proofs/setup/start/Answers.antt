@@ -1,0 +1,33 @@
+use Rattle.std.proofs.Common.{◌≡◌, ap, subst, ◌∙◌}
+use Rattle.std.specs.Prelude.{Bool, not}
+use Rattle.noise_names.specs.Plan.{has_psk}
+use Rattle.noise_names.specs.Names.{name_bytes}
+use Rattle.noise_state.specs.History.{History}
+use Rattle.noise_state.specs.Standing.{StateStands, keyed}
+use Rattle.noise_handshake.proofs.Beginning.{start-is, start-key}
+use Rattle.noise_handshake.proofs.Setting.{flips}
+use Rattle.noise_handshake.proofs.setup.start.Goals as goal
+
+pub returns-clause-stands : goal.returns-clause-stands
+returns-clause-stands c =
+    let p = c.args.pattern.now in
+    let b : Bool = not c.is_plain-with_psks.result in
+    let psks : b ≡ has_psk p = flips c.is_plain-with_psks.result (has_psk p) c.is_plain-with_psks.ensures in
+    let named = c.deref.ensures.0 ∙ c.write-name.ensures ∙ ap name_bytes c.name.ensures in
+    let s1 = c.mix_hash.ensures.stands _ c.new-state.ensures.stands in
+    let s2 = c.mix_premessage.ensures.mixed _ s1 in
+    let s3 = c.mix_premessage-2.ensures.mixed _ s2 in
+    subst (λ (r : History). StateStands c.mix_premessage-2.new.state r)
+    (start-is p b c.pre-first.result.now c.pre-second.result.now psks c.pre-first.ensures.same c.pre-second.ensures.same
+    c.deref.result.now (name_bytes (record { base = p.base; places = p.places })) c.args.prologue.now c.keys_of-initiator.result c.keys_of-responder.result _ _
+    named c.keys_of-initiator.ensures c.keys_of-responder.ensures)
+    s3
+
+pub returns-clause-key : goal.returns-clause-key
+returns-clause-key c =
+    let p = c.args.pattern.now in
+    let b : Bool = not c.is_plain-with_psks.result in
+    let psks : b ≡ has_psk p = flips c.is_plain-with_psks.result (has_psk p) c.is_plain-with_psks.ensures in
+    start-key p b c.pre-first.result.now c.pre-second.result.now psks c.pre-first.ensures.same c.pre-second.ensures.same
+    (keyed c.mix_hash.new.self) (keyed c.mix_premessage.new.state) (keyed c.mix_premessage-2.new.state) (c.mix_hash.ensures.key ∙ c.new-state.ensures.key)
+    c.mix_premessage.ensures.key c.mix_premessage-2.ensures.key c.pre-first.ensures.limits.initiator c.pre-first.ensures.limits.responder

@@ -1,0 +1,53 @@
+-- Which public keys of the other party are known when a token comes (Noise, 5.3).
+use Rattle.std.specs.Prelude.{◌≡◌, Bool, true, ◌&&◌, List, [], ◌∷◌, is_some}
+use Rattle.noise_names.specs.declared.token.Role.{Role}
+use Rattle.noise_names.specs.declared.token.Role.TheVariants.{Initiator, Responder}
+use Rattle.noise_names.specs.declared.token.Token.{Token}
+use Rattle.noise_names.specs.declared.token.Token.TheVariants.{E, S, Es, Se, Ss, Psk}
+use Rattle.noise_names.specs.Tokens.{other}
+use Rattle.noise_names.specs.Validity.{stands}
+use Rattle.noise_handshake.specs.Held.{Held}
+use Rattle.noise_handshake.specs.Passed.{passed_places}
+
+-- whether the remote key of a DH is known, where an ephemeral and a static key of the other party are known or not
+abbrev pub remote_known : Role → Bool → Bool → Token → Bool
+remote_known Initiator e s Es = s
+remote_known Initiator e s Ss = s
+remote_known Responder e s Se = s
+remote_known Responder e s Ss = s
+remote_known _ e s _ = e
+
+-- the same of any token; the others ask for none
+abbrev pub is_known : Role → Bool → Bool → Token → Bool
+is_known role e s E = true
+is_known role e s S = true
+is_known role e s Psk = true
+is_known role e s dh = remote_known role e s dh
+
+-- whether an ephemeral key of the other party is known behind a token of that party, and a static one
+abbrev pub e_behind : Bool → Token → Bool
+e_behind e E = true
+e_behind e _ = e
+
+abbrev pub s_behind : Bool → Token → Bool
+s_behind s S = true
+s_behind s _ = s
+
+-- behind its tokens
+abbrev pub e_behind_tokens : Bool → List Token → Bool
+e_behind_tokens e [] = e
+e_behind_tokens e (t ∷ ts) = e_behind_tokens (e_behind e t) ts
+
+abbrev pub s_behind_tokens : Bool → List Token → Bool
+s_behind_tokens s [] = s
+s_behind_tokens s (t ∷ ts) = s_behind_tokens (s_behind s t) ts
+
+-- each DH among the other party's tokens finds its remote key
+abbrev pub are_known : Role → Bool → Bool → List Token → Bool
+are_known role e s [] = true
+are_known role e s (t ∷ ts) = is_known role e s t && are_known role (e_behind e t) (s_behind s t) ts
+
+-- A key of the other party is known if its token stands in its pre-message or in a message that has passed.
+pub record KnowsRemote {K : Type 0} (h : Held K) : Type 0 where
+  pub e : stands (other h.role) E (passed_places h.pattern h.passed) ≡ true → is_some h.remote.e ≡ true
+  pub s : stands (other h.role) S (passed_places h.pattern h.passed) ≡ true → is_some h.remote.s ≡ true

@@ -1,0 +1,15 @@
+pub mod Held
+pub mod Keys
+pub mod Known
+pub mod Length
+pub mod Line
+pub mod Opening
+pub mod Party
+pub mod Setup
+pub mod Sound
+pub mod Passed
+pub mod Table
+pub mod View
+pub mod Writing
+pub use Rattle.noise_names.specs.Plan
+pub use Rattle.noise_state.specs.History

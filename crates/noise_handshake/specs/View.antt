@@ -1,0 +1,211 @@
+-- What one party of a handshake knows, which messages it accepts, and where it refuses the others.
+use Rattle.std.specs.Prelude.{◌≡◌, ℕ, zero, suc, ◌<◌, ◌≤◌, List, [], ◌∷◌, ◌++◌, length, take, Bool, false, Option, Some, None, is_some, if◌then◌else◌, nat_lt, unwrap_or}
+use Rattle.noise_names.specs.declared.token.Token.{Token}
+use Rattle.noise_names.specs.declared.token.Token.TheVariants.{E, S, Es, Se, Ss, Psk}
+use Rattle.noise_names.specs.declared.token.Role.{Role}
+use Rattle.noise_names.specs.declared.token.Role.TheVariants.{Initiator, Responder}
+use Rattle.noise_handshake.specs.declared.keys.Own.{Own}
+use Rattle.noise_handshake.specs.declared.keys.Own.TheVariants.{Ephemeral, Static}
+use Rattle.noise_handshake.specs.declared.faults.Cause.{Cause}
+use Rattle.noise_handshake.specs.declared.faults.Cause.TheVariants.{Short, Tag, Agreement}
+use Rattle.noise_state.specs.History.{History, Mix, and_then, cipher_key}
+use Rattle.noise_handshake.specs.declared.remote.Remote.{Remote}
+use Rattle.noise_handshake.specs.Line.{with_ephemeral, token_piece, front, behind_front, line}
+use Rattle.noise_names.specs.Tokens.{other, turn_from}
+use Rattle.noise_names.specs.Plan.{Plan, pre_of, has_psk}
+
+-- One party of a handshake. What it knows of the other's public keys grows with the messages.
+pub record View : Type 0 where
+  pub pattern : Plan
+  pub role : Role
+  pub secrets : List (List ℕ)  -- of the psk tokens that are still to come
+  pub own : Own → Option (List ℕ)
+  pub agree : Own → List ℕ → Option (List ℕ)
+  pub remote : Remote
+  pub passed : ℕ  -- messages
+  pub history : History
+  pub ended : Bool  -- it neither reads nor writes any more
+
+-- the tokens of message i, counted from 0
+abbrev pub tokens_at : List (List Token) → ℕ → List Token
+tokens_at [] i = []
+tokens_at (tokens ∷ more) zero = tokens
+tokens_at (tokens ∷ more) (suc i) = tokens_at more i
+
+-- ---- the start (Noise 5.3, 9.2)
+
+abbrev pub with_premessage : Bool → Remote → List Token → History → History
+with_premessage psks p [] r = r
+with_premessage psks p (E ∷ ts) r = with_premessage psks p ts (with_ephemeral psks r (unwrap_or p.e []))
+with_premessage psks p (S ∷ ts) r = with_premessage psks p ts (and_then r (Mix (unwrap_or p.s [])))
+with_premessage psks p (_ ∷ ts) r = with_premessage psks p ts r
+
+-- the prologue, and then the pre-message keys, the initiator's first
+abbrev pub start : List ℕ → Plan → List ℕ → Remote → Remote → History
+start name pattern prologue initiator responder =
+    let psks = has_psk pattern in
+    with_premessage psks responder (pre_of Responder pattern) (with_premessage psks initiator (pre_of Initiator pattern)
+    (and_then (record { name = name; entries = [] }) (Mix prologue)))
+
+-- ---- DH answers (the table of Noise 5.3)
+
+abbrev pub own_at : Role → Token → Own
+own_at Initiator Se = Static
+own_at Initiator Ss = Static
+own_at Responder Es = Static
+own_at Responder Ss = Static
+own_at _ _ = Ephemeral
+
+abbrev pub remote_at : Role → Remote → Token → Option (List ℕ)
+remote_at Initiator p Es = p.s
+remote_at Initiator p Ss = p.s
+remote_at Responder p Se = p.s
+remote_at Responder p Ss = p.s
+remote_at _ p _ = p.e
+
+abbrev pub answered : (Own → List ℕ → Option (List ℕ)) → Own → Option (List ℕ) → Option (List ℕ)
+answered agree own None = None
+answered agree own (Some key) = agree own key
+
+-- ---- what tokens carry
+
+-- what reading asks of the party: its role, whether the pattern has psk tokens, and its agreement
+pub record Reader : Type 0 where
+  pub role : Role
+  pub psks : Bool
+  pub agree : Own → List ℕ → Option (List ℕ)
+
+abbrev pub reader : View → Reader
+reader v = record { role = v.role; psks = has_psk v.pattern; agree = v.agree }
+
+abbrev pub first_secret : List (List ℕ) → List ℕ
+first_secret [] = []
+first_secret (secret ∷ secrets) = secret
+
+abbrev pub other_secrets : List (List ℕ) → List (List ℕ)
+other_secrets [] = []
+other_secrets (secret ∷ secrets) = secrets
+
+-- what a token of the other party may carry, when these keys of it are known and these secrets are to come
+abbrev pub Fits : Reader → Remote → List (List ℕ) → Token → List ℕ → Type 0
+Fits v known secrets E x = length x ≡ 32
+Fits v known secrets S x = length x ≡ 32
+Fits v known secrets Psk x = x ≡ first_secret secrets
+Fits v known secrets dh x = answered v.agree (own_at v.role dh) (remote_at v.role known dh) ≡ Some x
+
+-- the keys known behind a token, and the secrets still to come
+abbrev pub known_behind : Remote → Token → List ℕ → Remote
+known_behind known E x = record known { e = Some x }
+known_behind known S x = record known { s = Some x }
+known_behind known _ x = known
+
+abbrev pub secrets_behind : List (List ℕ) → Token → List (List ℕ)
+secrets_behind secrets Psk = other_secrets secrets
+secrets_behind secrets _ = secrets
+
+-- one text for each token, each of which fits behind those before it
+abbrev pub Fit : Reader → Remote → List (List ℕ) → List Token → List (List ℕ) → Type 0
+Fit v known secrets [] [] = Unit {0}
+Fit v known secrets [] (x ∷ xs) = ⊥
+Fit v known secrets (t ∷ ts) [] = ⊥
+Fit v known secrets (t ∷ ts) (x ∷ xs) = Fits v known secrets t x × Fit v (known_behind known t x) (secrets_behind secrets t) ts xs
+
+-- the keys known behind all tokens
+abbrev pub learned : Remote → List Token → List (List ℕ) → Remote
+learned known [] xs = known
+learned known (t ∷ ts) [] = known
+learned known (t ∷ ts) (x ∷ xs) = learned (known_behind known t x) ts xs
+
+-- ---- reading
+
+abbrev pub tokens_now : View → List Token
+tokens_now v = tokens_at v.pattern.messages v.passed
+
+-- a message of the other party is due
+pub record Listens (v : View) : Type 0 where
+  pub going : v.ended ≡ false
+  pub more : v.passed < length v.pattern.messages
+  pub turn : turn_from Initiator v.passed ≡ other v.role
+
+-- a message of this party is due
+pub record Speaks (v : View) : Type 0 where
+  pub going : v.ended ≡ false
+  pub more : v.passed < length v.pattern.messages
+  pub turn : turn_from Initiator v.passed ≡ v.role
+
+-- The message begins as some sender's tokens would that carry these texts, and this is left of it.
+pub record Leads (v : Reader) (known : Remote) (secrets : List (List ℕ)) (r : History) (ts : List Token) (xs : List (List ℕ)) (message rest : List ℕ) : Type 0 where
+  pub fit : Fit v known secrets ts xs
+  pub spelled : message ≡ front v.psks r ts xs ++ rest
+
+-- It begins as some sender's tokens would.
+pub record Reaches (v : Reader) (known : Remote) (secrets : List (List ℕ)) (r : History) (ts : List Token) (message : List ℕ) : Type 0 where
+  pub carried : List (List ℕ)
+  pub rest : List ℕ
+  pub leads : Leads v known secrets r ts carried message rest
+
+-- no text of token t fits here
+abbrev pub Fails : Reader → Remote → List (List ℕ) → History → Token → List ℕ → Type 0
+Fails v known secrets r t m = (x rest : List ℕ) → Fits v known secrets t x → m ≡ token_piece r t x ++ rest → ⊥
+
+-- how many bytes a static key takes
+abbrev pub width_of_key : History → ℕ
+width_of_key r = if is_some (cipher_key r) then 48 else 32
+
+-- why reading stops at a token, with this left of the message
+abbrev pub cause_of : Bool → Token → List ℕ → Cause
+cause_of keyed E rest = Short
+cause_of keyed S rest = if nat_lt (length rest) (if keyed then 48 else 32) then Short else Tag
+cause_of keyed _ rest = Agreement
+
+-- the same of token k; the payload is behind the last
+abbrev pub cause_at : Bool → List Token → ℕ → List ℕ → Cause
+cause_at keyed [] k rest = if nat_lt (length rest) 16 then Short else Tag
+cause_at keyed (t ∷ ts) zero rest = cause_of keyed t rest
+cause_at keyed (t ∷ ts) (suc k) rest = cause_at keyed ts k rest
+
+-- Reading stops at token k: some sender's tokens before it lead there, and none's lead further.
+pub record Stops (v : Reader) (known : Remote) (secrets : List (List ℕ)) (r : History) (ts : List Token) (message : List ℕ) (k : ℕ) (cause : Cause) : Type 0 where
+  pub within : k < length ts
+  pub carried : List (List ℕ)
+  pub rest : List ℕ
+  pub leads : Leads v known secrets r (take k ts) carried message rest
+  pub further : Reaches v known secrets r (take (suc k) ts) message → ⊥
+  pub why : cause ≡ cause_at (is_some (cipher_key (behind_front v.psks r (take k ts) carried))) ts k rest
+
+-- The message is one whose tokens carry these texts, with this payload.
+pub record Reads (v : Reader) (known : Remote) (secrets : List (List ℕ)) (r : History) (ts : List Token) (message : List ℕ) (xs : List (List ℕ)) (payload : List ℕ) : Type 0 where
+  pub fit : Fit v known secrets ts xs
+  pub spelled : message ≡ line v.psks r ts xs payload
+
+-- Reading stops at token k: some sender's tokens before it lead there, and none's lead further. The payload counts as the token
+-- after the last.
+pub record Stalls (v : Reader) (known : Remote) (secrets : List (List ℕ)) (r : History) (ts : List Token) (message : List ℕ) (k : ℕ) (cause : Cause) : Type 0 where
+  pub within : k ≤ length ts
+  pub carried : List (List ℕ)
+  pub rest : List ℕ
+  pub leads : Leads v known secrets r (take k ts) carried message rest
+  pub further : k < length ts → Reaches v known secrets r (take (suc k) ts) message → ⊥
+  pub unread : k ≡ length ts → (xs : List (List ℕ)) (payload : List ℕ) → Reads v known secrets r ts message xs payload → ⊥
+  pub why : cause ≡ cause_at (is_some (cipher_key (behind_front v.psks r (take k ts) carried))) ts k rest
+
+-- The party accepts the message as this payload, where the tokens carry these texts.
+pub record Accepts (v : View) (message : List ℕ) (xs : List (List ℕ)) (payload : List ℕ) : Type 0 where
+  pub listens : Listens v
+  pub fits : length message ≤ 65535
+  pub reads : Reads (reader v) v.remote v.secrets v.history (tokens_now v) message xs payload
+
+-- The party refuses the message at this token, for this cause.
+pub record Refuses (v : View) (message : List ℕ) (token : ℕ) (cause : Cause) : Type 0 where
+  pub listens : Listens v
+  pub stalls : Stalls (reader v) v.remote v.secrets v.history (tokens_now v) message token cause
+
+-- A party that listens, with these parts, for a view.
+pub record Listening (v : View) (role : Role) (psks : Bool) (agree : Own → List ℕ → Option (List ℕ)) (secrets : List (List ℕ)) (known : Remote) (tokens : List Token) : Type 0 where
+  pub listens : Listens v
+  pub role_is : role ≡ v.role
+  pub psks_is : psks ≡ has_psk v.pattern
+  pub agree_is : agree ≡ v.agree
+  pub secrets_are : secrets ≡ v.secrets
+  pub known_is : known ≡ v.remote
+  pub tokens_are : tokens ≡ tokens_now v

@@ -1,0 +1,56 @@
+//! Why a handshake isn't made, and why a message isn't written or read.
+#![tactic(auto)]
+
+/// Why a handshake isn't made. Of several the first is told.
+#[derive(Clone, Copy, Debug, PartialEq, Eq)]
+pub enum SetupFault {
+    /// This party has an `e` in the pattern, and no ephemeral key.
+    EphemeralMissing,
+    /// This party has an `s` in the pattern, and no static key.
+    StaticMissing,
+    /// A key of the other party's pre-message isn't given.
+    RemoteMissing,
+    /// A key of the other party is given that isn't in its pre-message.
+    RemoteUnexpected,
+    /// The number of secrets isn't that of the pattern's `psk` tokens.
+    PskCount,
+}
+
+/// Why a message isn't written. Looked for in the order Ended, Done, NotYourTurn, TooLong, Agreement.
+#[derive(Clone, Copy, Debug, PartialEq, Eq)]
+pub enum WriteFault {
+    /// The other party writes the next message.
+    NotYourTurn,
+    /// The message would have more than 65535 bytes.
+    TooLong,
+    /// All messages have passed.
+    Done,
+    /// The keys give no answer at this DH token, counted from 0. The handshake has ended.
+    Agreement { token: u8 },
+    /// The handshake has ended.
+    Ended,
+}
+
+/// Why a message isn't read. Looked for in the order Ended, Done, NotYourTurn, Refused.
+#[derive(Clone, Copy, Debug, PartialEq, Eq)]
+pub enum ReadFault {
+    /// This party writes the next message.
+    NotYourTurn,
+    /// All messages have passed.
+    Done,
+    /// The handshake has ended.
+    Ended,
+    /// Reading stopped at this token, counted from 0; the payload is behind the last. The handshake has ended.
+    Refused { token: u8, cause: Cause },
+}
+
+/// Why reading stopped at a token.
+#[derive(Clone, Copy, Debug, PartialEq, Eq)]
+pub enum Cause {
+    /// Too few bytes are left.
+    Short,
+    /// The tag is wrong.
+    Tag,
+    /// The keys give no answer.
+    Agreement,
+}

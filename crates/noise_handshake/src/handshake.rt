@@ -1,0 +1,325 @@
+//! A handshake of one party.
+#![tactic(auto)]
+
+ghost use Rattle.std.specs.Prelude.{◌≡◌, ◌≤◌, ◌<◌, ◌+◌, ◌-◌, true, false, ℕ, List, ◌↔◌, length, take, drop, slice_range, Some, None, IsOk, IfOk, IfErr, OnErr, MatchResult, MatchOption};
+ghost use Rattle.std.specs.Option.{ForSome};
+
+use crate::reading::read_listening;
+use crate::setup::{psk_count, public_keys, setup_fault, start};
+use crate::writing::write_speaking;
+use crate::{Keys, Opened, ReadFault, Remote, SetupFault, WriteFault};
+use arrayvec::ArrayVec;
+use noise_names::{Role, ValidPattern};
+use noise_state::SymmetricState;
+use std::marker::Model;
+
+// The longest message, in bytes (Noise, 3).
+const MAX_LEN: usize = 65535;
+
+/// One party of a handshake (Noise, 5.3), in either role of any valid pattern. It asks for no memory.
+///
+/// Messages are written and read in turn, the initiator's first. A message goes on in a copy of the symmetric state, so
+/// that a fault leaves what the messages before it made.
+#[derive(Drop)]
+pub struct Handshake<K: Keys> {
+    pattern: ValidPattern,
+    role: Role,
+    keys: K,
+    remote: Remote,
+    secrets: ArrayVec<[u8; 32], 9>,
+    used: usize,
+    passed: u8,
+    ended: bool,
+    psks: bool,
+    state: SymmetricState,
+}
+
+impl<K: Keys> Model for Handshake<K> {
+    ghost use Rattle.std.specs.Prelude.{◌≡◌, ◌≤◌, length, drop};
+    ghost use Rattle.noise_names.specs.Plan.{has_psk};
+    ghost use Rattle.noise_handshake.specs.Held.{Held};
+    ghost use Rattle.noise_handshake.specs.Known.{KnowsRemote};
+    ghost use Rattle.noise_handshake.specs.Sound.{IsSound};
+
+    ghost Value = { Held K };
+
+    ghost view = { λ a. record { pattern = a.pattern; role = a.role; keys = a.keys; remote = a.remote; secrets = drop a.used a.secrets.items; passed = a.passed; ended = a.ended; state = a.state } };
+
+    ghost invariant = { λ a. let h : Held K = record { pattern = a.pattern; role = a.role; keys = a.keys; remote = a.remote; secrets = drop a.used a.secrets.items; passed = a.passed; ended = a.ended; state = a.state } in (a.psks ≡ has_psk a.pattern) × (a.used ≤ length a.secrets.items) × IsSound K.public_of h × KnowsRemote h };
+}
+
+impl<K: Keys> Handshake<K> {
+    ghost use Rattle.noise_state.specs.History.{hash};
+    ghost use Rattle.noise_handshake.specs.View.{View, Accepts};
+    ghost use Rattle.noise_handshake.specs.Held.{is_turn, read_fault, behind_read_fault, write_fault, behind_write_fault, message_len_of, IsRefusal, IsAgreement, Advances};
+    ghost use Rattle.noise_handshake.specs.Opening.{Opens};
+    ghost use Rattle.noise_handshake.specs.Setup.{begun, setup_fault};
+    ghost use Rattle.noise_handshake.specs.Writing.{Writes};
+    ghost use Rattle.noise_handshake.specs.Party.{Stands, behind_message, behind_own, Declines, behind_declined, Withholds, behind_withheld};
+
+    /// The handshake of one party before its first message.
+    ///
+    /// The prologue has at most 65535 bytes. `remote` has the keys of the other party's pre-message and no others, and
+    /// `psks` a secret for each `psk` token, in their order. At an `Err` what was handed in is gone.
+    pub fn new(
+        pattern: ValidPattern,
+        role: Role,
+        prologue: &[u8],
+        keys: K,
+        remote: Remote,
+        psks: &[[u8; 32]],
+    ) -> Result<Handshake<K>, SetupFault>
+        requires { length prologue.now ≤ 65535 }
+        ensures fault { MatchOption (setup_fault pattern role (K.public_of keys) remote (length psks.now)) (IsOk result) (λ fault. result ≡ Err fault) }
+        ensures stands { IfOk result (λ h. Stands K.public_of K.agreement h (begun pattern role prologue.now (K.public_of keys) (K.agreement keys) remote psks.now)) }
+        ensures parts { IfOk result (λ h. (h.pattern ≡ pattern) × (h.role ≡ role) × (h.keys ≡ keys) × (h.passed ≡ 0) × (h.ended ≡ false)) }
+    {
+        let plan = pattern.pattern();
+        if let Some(fault) = setup_fault(plan, role, &keys, &remote, psks.len()) {
+            return Err(fault);
+        }
+        let with_psks = !plan.is_plain();
+        let state = start(plan, role, prologue, &public_keys(&keys), &remote);
+        let mut secrets = ArrayVec::new();
+        secrets.try_extend_from_slice(psks).unwrap();
+        Ok(Handshake {
+            pattern,
+            role,
+            keys,
+            remote,
+            secrets,
+            used: 0,
+            passed: 0,
+            ended: false,
+            psks: with_psks,
+            state,
+        })
+    }
+
+    /// The pattern, with the tokens of its messages.
+    pub fn pattern(&self) -> &ValidPattern
+        ensures { result.now ≡ self.now.pattern }
+    {
+        &self.pattern
+    }
+
+    /// The role of this party.
+    pub fn role(&self) -> Role
+        ensures { result ≡ self.now.role }
+    {
+        self.role
+    }
+
+    /// How many messages have passed, of both parties together, also after the handshake has ended.
+    pub fn done(&self) -> u8
+        ensures count { result ≡ self.now.passed }
+        ensures within { self.now.passed ≤ length self.now.pattern.messages }
+    {
+        self.passed
+    }
+
+    /// Whether it has ended: a message was refused, or had no answer. It then neither reads nor writes any more.
+    pub fn ended(&self) -> bool
+        ensures { result ≡ self.now.ended }
+    {
+        self.ended
+    }
+
+    /// Whether this party writes the next message, if there is one.
+    pub fn writes_next(&self) -> bool
+        ensures { result ≡ is_turn self.now.role self.now.passed }
+    {
+        match self.role {
+            Role::Initiator => self.passed % 2 == 0,
+            Role::Responder => self.passed % 2 == 1,
+        }
+    }
+
+    /// The other party's static public key, 32 bytes, as far as its pre-message and the messages that passed tell it, also
+    /// after the handshake has ended.
+    pub fn remote_static(&self) -> Option<[u8; 32]>
+        ensures { result ≡ self.now.remote.s }
+    {
+        self.remote.s
+    }
+
+    // Why no message is read now.
+    fn read_fault(&self) -> Option<ReadFault>
+        ensures { result ≡ read_fault self.now }
+    {
+        if self.ended {
+            Some(ReadFault::Ended)
+        } else if self.passed as usize == self.pattern.pattern().messages().len() {
+            Some(ReadFault::Done)
+        } else if self.writes_next() {
+            Some(ReadFault::NotYourTurn)
+        } else {
+            None
+        }
+    }
+
+    /// Reads a message in place, and tells from where to where its payload then stands in it, in bytes.
+    ///
+    /// The message has at most 65535 bytes. At an `Err` its bytes are unchanged. `Refused` ends the handshake, and the
+    /// other faults leave it as it was.
+    pub fn read_within(&mut self, message: &mut [u8]) -> Result<(usize, usize), ReadFault>
+        requires { length message.old ≤ 65535 }
+        ensures range { IfOk result (λ place. (place.0 ≤ place.1) × (place.1 ≤ length message.new)) }
+        ensures unchanged { OnErr result (message.new ≡ message.old) }
+        ensures fault { MatchOption (read_fault self.old) (IfErr result IsRefusal) (λ fault. result ≡ Err fault) }
+        ensures state { MatchResult result (λ _. Advances self.old self.new) (λ fault. self.new ≡ behind_read_fault self.old fault) }
+        ensures reads { (v : View) → Stands K.public_of K.agreement self.old v → MatchResult result
+            (λ place. let payload = slice_range message.new place.0 place.1 in (xs : List (List ℕ)) × Accepts v message.old xs payload × Stands K.public_of K.agreement self.new (behind_message v xs payload))
+            (λ fault. Declines v message.old fault × Stands K.public_of K.agreement self.new (behind_declined v fault)) }
+    {
+        if let Some(fault) = self.read_fault() {
+            return Err(fault);
+        }
+        let tokens = self.pattern.pattern().messages()[self.passed as usize].tokens();
+        let secrets = &self.secrets[self.used..];
+        let mut state = self.state;
+        let mut remote = self.remote;
+        match read_listening(
+            &mut state,
+            &self.keys,
+            self.role,
+            self.psks,
+            secrets,
+            &mut remote,
+            tokens,
+            message,
+        ) {
+            Ok(place) => {
+                self.used += psk_count(tokens);
+                self.state = state;
+                self.remote = remote;
+                self.passed += 1;
+                Ok(place)
+            }
+            Err((token, cause)) => {
+                self.ended = true;
+                Err(ReadFault::Refused {
+                    token: token as u8,
+                    cause,
+                })
+            }
+        }
+    }
+
+    /// Reads a message in place, and gives its payload, a part of the message's own bytes.
+    ///
+    /// The message has at most 65535 bytes. At an `Err` its bytes are unchanged. `Refused` ends the handshake, and the
+    /// other faults leave it as it was.
+    pub fn read<'a>(&mut self, message: &'a mut [u8]) -> Result<&'a mut [u8], ReadFault>
+        requires { length message.old ≤ 65535 }
+        ensures part { IfOk result (λ payload. (from : ℕ) × (payload.ref_ptr ≡ (message.entry.ref_ptr.0, message.entry.ref_ptr.1 + from)) × (from + length payload.now ≤ length message.old)) }
+        ensures fault { MatchOption (read_fault self.old) (IfErr result IsRefusal) (λ fault. result ≡ Err fault) }
+        ensures state { MatchResult result (λ _. Advances self.old self.new) (λ fault. self.new ≡ behind_read_fault self.old fault) }
+        ensures reads { (v : View) → Stands K.public_of K.agreement self.old v → MatchResult result
+            (λ payload. (xs : List (List ℕ)) × Accepts v message.old xs payload.now × Stands K.public_of K.agreement self.new (behind_message v xs payload.now))
+            (λ fault. Declines v message.old fault × Stands K.public_of K.agreement self.new (behind_declined v fault)) }
+    {
+        let (from, to) = self.read_within(message)?;
+        Ok(&mut message[from..to])
+    }
+
+    /// The handshake hash (Noise, 11.2), 32 bytes, of the start and the messages that passed, also after the handshake has
+    /// ended.
+    pub fn hash(&self) -> [u8; 32]
+        ensures { (v : View) → Stands K.public_of K.agreement self.now v → result ≡ hash v.history }
+    {
+        self.state.hash()
+    }
+
+    // Why no message with a payload of this length is written now, whatever the keys answer.
+    fn write_fault(&self, payload_len: usize) -> Option<WriteFault>
+        ensures { result ≡ write_fault self.now payload_len }
+    {
+        if self.ended {
+            Some(WriteFault::Ended)
+        } else if self.passed as usize == self.pattern.pattern().messages().len() {
+            Some(WriteFault::Done)
+        } else if !self.writes_next() {
+            Some(WriteFault::NotYourTurn)
+        } else if payload_len > MAX_LEN - self.pattern.overhead(self.passed + 1) as usize {
+            Some(WriteFault::TooLong)
+        } else {
+            None
+        }
+    }
+
+    /// The length of the message that `write` would give for a payload of this length, both in bytes. None where it
+    /// would be refused before any DH.
+    pub fn message_len(&self, payload_len: usize) -> Option<usize>
+        ensures { result ≡ message_len_of self.now payload_len }
+    {
+        match self.write_fault(payload_len) {
+            Some(_) => None,
+            None => Some(self.pattern.overhead(self.passed + 1) as usize + payload_len),
+        }
+    }
+
+    /// Writes a message to the front of `out`, and tells its length in bytes.
+    ///
+    /// Where `message_len` gives a length, `out` holds it. `Agreement` ends the handshake and leaves open what `out`
+    /// holds; the other faults change nothing.
+    pub fn write(&mut self, payload: &[u8], out: &mut [u8]) -> Result<usize, WriteFault>
+        requires { ForSome (message_len_of self.old (length payload.now)) (λ n. n ≤ length out.old) }
+        ensures len { IfOk result (λ n. (message_len_of self.old (length payload.now) ≡ Some n) × (n ≤ length out.new)) }
+        ensures fault { MatchOption (write_fault self.old (length payload.now)) (IfErr result IsAgreement) (λ fault. (result ≡ Err fault) × (out.new ≡ out.old)) }
+        ensures state { MatchResult result (λ _. Advances self.old self.new) (λ fault. self.new ≡ behind_write_fault self.old fault) }
+        ensures beyond { IfOk result (λ n. drop n out.new ≡ drop n out.old) }
+        ensures writes { (v : View) → Stands K.public_of K.agreement self.old v → MatchResult result
+            (λ n. (xs : List (List ℕ)) × Writes v payload.now xs (take n out.new) × Stands K.public_of K.agreement self.new (behind_own v xs payload.now))
+            (λ fault. Withholds v (length payload.now) fault × Stands K.public_of K.agreement self.new (behind_withheld v fault)) }
+    {
+        if let Some(fault) = self.write_fault(payload.len()) {
+            return Err(fault);
+        }
+        let tokens = self.pattern.pattern().messages()[self.passed as usize].tokens();
+        let secrets = &self.secrets[self.used..];
+        let mut state = self.state;
+        match write_speaking(
+            &mut state,
+            &self.keys,
+            self.role,
+            self.psks,
+            secrets,
+            &self.remote,
+            tokens,
+            payload,
+            out,
+        ) {
+            Ok(len) => {
+                self.used += psk_count(tokens);
+                self.state = state;
+                self.passed += 1;
+                Ok(len)
+            }
+            Err(token) => {
+                self.ended = true;
+                Err(WriteFault::Agreement { token: token as u8 })
+            }
+        }
+    }
+
+    /// What the handshake leaves once all messages have passed and it hasn't ended; else it comes back as it was.
+    pub fn finish(self) -> Result<Opened, Handshake<K>>
+        ensures when { IsOk result ↔ ((self.ended ≡ false) × (self.passed ≡ length self.pattern.messages)) }
+        ensures opened { (v : View) → Stands K.public_of K.agreement self v → IfOk result (λ o. Opens o v) }
+        ensures back { IfErr result (λ h. h ≡ self) }
+    {
+        if self.ended || (self.passed as usize) < self.pattern.pattern().messages().len() {
+            return Err(self);
+        }
+        let (initiator, responder) = self.state.split();
+        Ok(Opened {
+            role: self.role,
+            one_way: self.pattern.one_way(),
+            hash: self.state.hash(),
+            remote_static: self.remote.s,
+            initiator,
+            responder,
+        })
+    }
+}

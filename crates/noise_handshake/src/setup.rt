@@ -1,0 +1,226 @@
+//! How a handshake starts, and what is wrong with a setup (Noise, 5.3 and 9.2).
+#![tactic(auto)]
+
+ghost use Rattle.std.specs.Prelude.{◌≡◌, ◌≤◌, ◌*◌, ◌||◌, ◌&&◌, true, not, ℕ, length, count_by, is_some, is_none, None};
+ghost use Rattle.std.specs.List.{list_any};
+ghost use Rattle.noise_names.specs.Tokens.{is_psk, same_role, same_token};
+ghost use Rattle.noise_names.specs.Plan.{places_of, message_places};
+ghost use Rattle.noise_names.specs.Validity.{stands};
+ghost use Rattle.noise_names.specs.Overhead.{has_key};
+ghost use Rattle.noise_names.specs.declared.token.Token.TheVariants.{E, S};
+ghost use Rattle.noise_state.specs.Standing.{StateStands, keyed, nonce_now};
+ghost use Rattle.noise_state.specs.History.{History};
+ghost use Rattle.noise_handshake.specs.View.{with_premessage};
+ghost use Rattle.noise_handshake.specs.Setup.{HasPre, token_of, secrets_of, setup_fault, public_keys, keys_of, lacks_own, start_of};
+ghost use Rattle.noise_handshake.specs.Passed.{passed_places};
+
+use crate::tokens::mix_ephemeral;
+use crate::{Keys, Own, Remote, SetupFault};
+use noise_names::{Message, Pattern, Role, Token};
+use noise_state::SymmetricState;
+
+// Whether a token sends such a key.
+fn sends(token: Token, own: Own) -> bool
+    ensures { result ≡ same_token token (token_of own) }
+{
+    match (token, own) {
+        (Token::E, Own::Ephemeral) => true,
+        (Token::S, Own::Static) => true,
+        _ => false,
+    }
+}
+
+// Whether one of the tokens does.
+fn has_token(tokens: &[Token], own: Own) -> bool
+    ensures { result ≡ list_any (λ t. same_token t (token_of own)) tokens.now }
+{
+    tokens.iter().any(|token| sends(*token, own))
+}
+
+fn is_same(party: Role, role: Role) -> bool
+    ensures { result ≡ same_role party role }
+{
+    match (party, role) {
+        (Role::Initiator, Role::Initiator) => true,
+        (Role::Responder, Role::Responder) => true,
+        _ => false,
+    }
+}
+
+// Whether the party is this role, and sends such a key by one of the tokens.
+fn sends_as(tokens: &[Token], party: Role, role: Role, own: Own) -> bool
+    ensures { result ≡ (same_role party role && list_any (λ t. same_token t (token_of own)) tokens.now) }
+{
+    is_same(party, role) && has_token(tokens, own)
+}
+
+// Whether a role sends such a key in one of these messages, the first of which the party writes.
+fn sends_in(messages: &[Message], party: Role, role: Role, own: Own) -> bool
+    ensures { (n : ℕ) → result ≡ stands role (token_of own) (message_places party n messages.now) }
+{
+    let Some((message, later)) = messages.split_first() else {
+        return false;
+    };
+    if sends_as(message.tokens(), party, role, own) {
+        return true;
+    }
+    sends_in(later, party.other(), role, own)
+}
+
+// Whether a role sends such a key in its pre-message or a message.
+fn uses(pattern: &Pattern, role: Role, own: Own) -> bool
+    ensures { result ≡ stands role (token_of own) (places_of pattern.now) }
+{
+    let before = has_token(pattern.pre(role), own);
+    if before {
+        return true;
+    }
+    sends_in(pattern.messages(), Role::Initiator, role, own)
+}
+
+// How many secrets the tokens take.
+pub(crate) fn psk_count(tokens: &[Token]) -> usize
+    ensures { result ≡ count_by is_psk tokens.now }
+{
+    tokens
+        .iter()
+        .filter(|token| matches!(**token, Token::Psk))
+        .count()
+}
+
+// How many secrets the messages take.
+fn psk_total(messages: &[Message]) -> usize
+    requires { length messages.now ≤ 8 }
+    ensures total { result ≡ secrets_of messages.now }
+    ensures bound { result ≤ 10 * length messages.now }
+{
+    let Some((message, later)) = messages.split_first() else {
+        return 0;
+    };
+    psk_count(message.tokens()) + psk_total(later)
+}
+
+// Whether the role has such a key's token in the pattern, and not the key.
+fn lacks_own<K: Keys>(pattern: &Pattern, role: Role, keys: &K, own: Own) -> bool
+    ensures { result ≡ lacks_own pattern.now role (token_of own) (K.public_of keys.now own) }
+{
+    uses(pattern, role, own) && keys.public(own).is_none()
+}
+
+// Whether a key of this pre-message isn't there.
+fn lacks_key(pre: &[Token], remote: &Remote) -> bool
+    ensures { result ≡ ((list_any (λ t. same_token t E) pre.now && is_none remote.now.e) || (list_any (λ t. same_token t S) pre.now && is_none remote.now.s)) }
+{
+    (has_token(pre, Own::Ephemeral) && remote.e.is_none())
+        || (has_token(pre, Own::Static) && remote.s.is_none())
+}
+
+// Whether a key is there that isn't in this pre-message.
+fn has_other_key(pre: &[Token], remote: &Remote) -> bool
+    ensures { result ≡ ((is_some remote.now.e && not (list_any (λ t. same_token t E) pre.now)) || (is_some remote.now.s && not (list_any (λ t. same_token t S) pre.now))) }
+{
+    (remote.e.is_some() && !has_token(pre, Own::Ephemeral))
+        || (remote.s.is_some() && !has_token(pre, Own::Static))
+}
+
+// What is wrong with a setup.
+pub(crate) fn setup_fault<K: Keys>(
+    pattern: &Pattern,
+    role: Role,
+    keys: &K,
+    remote: &Remote,
+    secrets: usize,
+) -> Option<SetupFault>
+    ensures fault { result ≡ setup_fault pattern.now role (K.public_of keys.now) remote.now secrets }
+    ensures few { result ≡ None → secrets ≤ 9 }
+    ensures short { length pattern.now.messages ≤ 8 }
+{
+    let pre = pattern.pre(role.other());
+    let total = psk_total(pattern.messages());
+    if lacks_own(pattern, role, keys, Own::Ephemeral) {
+        return Some(SetupFault::EphemeralMissing);
+    }
+    if lacks_own(pattern, role, keys, Own::Static) {
+        return Some(SetupFault::StaticMissing);
+    }
+    if lacks_key(pre, remote) {
+        return Some(SetupFault::RemoteMissing);
+    }
+    if has_other_key(pre, remote) {
+        return Some(SetupFault::RemoteUnexpected);
+    }
+    if secrets == total {
+        None
+    } else {
+        Some(SetupFault::PskCount)
+    }
+}
+
+// The public keys of a party's own.
+pub(crate) fn public_keys<K: Keys>(keys: &K) -> Remote
+    ensures { result ≡ public_keys (K.public_of keys.now) }
+{
+    Remote {
+        e: keys.public(Own::Ephemeral),
+        s: keys.public(Own::Static),
+    }
+}
+
+// Mixes the keys of a pre-message.
+pub(crate) fn mix_premessage(
+    state: &mut SymmetricState,
+    psks: bool,
+    keys: &Remote,
+    tokens: &[Token],
+)
+    requires e { list_any (λ t. same_token t (token_of Own.Ephemeral)) tokens.now ≡ true → is_some keys.now.e ≡ true }
+    requires s { list_any (λ t. same_token t (token_of Own.Static)) tokens.now ≡ true → is_some keys.now.s ≡ true }
+    ensures key { keyed state.new ≡ keyed state.old || (psks && list_any (λ t. same_token t (token_of Own.Ephemeral)) tokens.now) }
+    ensures nonce { nonce_now state.new ≤ nonce_now state.old }
+    ensures mixed { (r : History) → StateStands state.old r → StateStands state.new (with_premessage psks keys.now tokens.now r) }
+{
+    let Some((token, later)) = tokens.split_first() else {
+        return;
+    };
+    match (*token, keys.e, keys.s) {
+        (Token::E, Some(key), _) => mix_ephemeral(state, psks, &key),
+        (Token::S, _, Some(key)) => state.mix_hash(&key),
+        (Token::E, None, _) | (Token::S, _, None) => unreachable!(),
+        _ => {}
+    }
+    mix_premessage(state, psks, keys, later)
+}
+
+// The public keys of a party, for a role with these keys of its own and these of the other party.
+fn keys_of(party: Role, role: Role, own: &Remote, remote: &Remote) -> Remote
+    ensures { result ≡ keys_of party role own.now remote.now }
+{
+    if is_same(party, role) { *own } else { *remote }
+}
+
+// The state at the start.
+pub(crate) fn start(
+    pattern: &Pattern,
+    role: Role,
+    prologue: &[u8],
+    own: &Remote,
+    remote: &Remote,
+) -> SymmetricState
+    requires initiator { HasPre pattern.now Role.Initiator (keys_of Role.Initiator role own.now remote.now) }
+    requires responder { HasPre pattern.now Role.Responder (keys_of Role.Responder role own.now remote.now) }
+    ensures stands { StateStands result (start_of pattern.now role prologue.now own.now remote.now) }
+    ensures key { keyed result ≡ has_key pattern.now (passed_places pattern.now 0) }
+    ensures nonce { nonce_now result ≡ 0 }
+{
+    let with_psks = !pattern.is_plain();
+    let initiator = keys_of(Role::Initiator, role, own, remote);
+    let responder = keys_of(Role::Responder, role, own, remote);
+    let first = pattern.pre(Role::Initiator);
+    let second = pattern.pre(Role::Responder);
+    let name = pattern.name().write();
+    let mut state = SymmetricState::new(&name);
+    state.mix_hash(prologue);
+    mix_premessage(&mut state, with_psks, &initiator, first);
+    mix_premessage(&mut state, with_psks, &responder, second);
+    state
+}

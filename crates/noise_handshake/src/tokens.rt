@@ -1,0 +1,77 @@
+//! What a token asks of a party, whether it writes or reads it (Noise, 5.3 and 9.2).
+#![tactic(auto)]
+
+ghost use Rattle.std.specs.Prelude.{◌≡◌, ◌<◌, ◌≤◌, length, is_some, IsTrue};
+ghost use Rattle.noise_names.specs.declared.token.Token.{Token};
+ghost use Rattle.noise_state.specs.Standing.{StateStands, keyed, nonce_now};
+ghost use Rattle.noise_state.specs.History.{History};
+ghost use Rattle.noise_handshake.specs.Known.{remote_known};
+ghost use Rattle.noise_handshake.specs.Length.{keyed_behind};
+ghost use Rattle.noise_handshake.specs.Line.{with_ephemeral};
+ghost use Rattle.noise_handshake.specs.View.{answered, own_at, remote_at, secrets_behind};
+
+use crate::{Keys, Own, Remote};
+use noise_names::{Role, Token};
+use noise_state::SymmetricState;
+
+// Which own key a DH token takes.
+fn own_at(role: Role, token: Token) -> Own
+    ensures { result ≡ own_at role token }
+{
+    match (role, token) {
+        (Role::Initiator, Token::Se | Token::Ss) => Own::Static,
+        (Role::Responder, Token::Es | Token::Ss) => Own::Static,
+        _ => Own::Ephemeral,
+    }
+}
+
+// Which remote key it takes, if it is known.
+fn remote_at(role: Role, known: &Remote, token: Token) -> Option<[u8; 32]>
+    ensures { result ≡ remote_at role known.now token }
+{
+    match (role, token) {
+        (Role::Initiator, Token::Es | Token::Ss) => known.s,
+        (Role::Responder, Token::Se | Token::Ss) => known.s,
+        _ => known.e,
+    }
+}
+
+// The answer at a DH token.
+pub(crate) fn answer_at<K: Keys>(
+    keys: &K,
+    role: Role,
+    known: &Remote,
+    token: Token,
+) -> Option<[u8; 32]>
+    requires { IsTrue (remote_known role (is_some known.now.e) (is_some known.now.s) token) }
+    ensures { result ≡ answered (K.agreement keys.now) (own_at role token) (remote_at role known.now token) }
+{
+    let own = own_at(role, token);
+    match remote_at(role, known, token) {
+        Some(key) => keys.agree(own, &key),
+        None => unreachable!(),
+    }
+}
+
+// Mixes an ephemeral public key; in a psk pattern it is a key input too.
+pub(crate) fn mix_ephemeral(state: &mut SymmetricState, psks: bool, key: &[u8; 32])
+    ensures mixed { (r : History) → StateStands state.old r → StateStands state.new (with_ephemeral psks r key.now) }
+    ensures keyed { keyed state.new ≡ keyed_behind psks (keyed state.old) Token.E }
+    ensures used { nonce_now state.new ≤ nonce_now state.old }
+{
+    state.mix_hash(key);
+    if psks {
+        state.mix_key(key);
+    }
+}
+
+// The secrets still to come behind a token.
+pub(crate) fn secrets_behind(secrets: &[[u8; 32]], token: Token) -> &[[u8; 32]]
+    requires { token ≡ Token.Psk → 0 < length secrets.now }
+    ensures { result.now ≡ secrets_behind secrets.now token }
+{
+    match token {
+        Token::Psk => &secrets[1..],
+        _ => secrets,
+    }
+}

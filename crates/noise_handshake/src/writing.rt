@@ -1,0 +1,217 @@
+//! Writing the tokens of a message.
+#![tactic(auto)]
+
+ghost use Rattle.std.specs.Prelude.{◌≡◌, ◌≤◌, ◌<◌, ◌+◌, ◌-◌, ◌^◌, ℕ, List, length, take, drop, count_by, IsTrue, MatchOption, MatchResult, IfSome, IfOk, is_some};
+ghost use Rattle.std.specs.List.{list_all};
+ghost use Rattle.noise_state.specs.Standing.{StateStands, keyed, nonce_now};
+ghost use Rattle.noise_state.specs.History.{History, Part, and_then, piece};
+ghost use Rattle.noise_handshake.specs.Line.{token_piece, behind_token, front, behind_front, line, behind_line, with_ephemeral};
+ghost use Rattle.noise_handshake.specs.Known.{is_known};
+ghost use Rattle.noise_handshake.specs.Length.{keyed_behind, keyed_behind_tokens, tag_width, token_width, tokens_width, added_width};
+ghost use Rattle.noise_handshake.specs.View.{View};
+ghost use Rattle.noise_handshake.specs.Writing.{Writer, Gives, Given, LacksAt, Speaking, Writes, Lacks, has_own};
+ghost use Rattle.noise_names.specs.declared.token.Token.{Token};
+ghost use Rattle.noise_names.specs.Tokens.{is_psk};
+
+use crate::tokens::{answer_at, mix_ephemeral, secrets_behind};
+use crate::{Keys, Own, Remote};
+use noise_names::{Role, Token};
+use noise_state::SymmetricState;
+
+// Copies a text to the front of a buffer, and tells how many bytes it takes.
+fn put(text: &[u8], out: &mut [u8]) -> usize
+    requires { length text.now ≤ length out.old }
+    ensures width { result ≡ length text.now }
+    ensures rest { drop result out.new ≡ drop result out.old }
+    ensures copied { take result out.new ≡ text.now }
+{
+    let width = text.len();
+    out[..width].copy_from_slice(text);
+    width
+}
+
+// How many bytes a tag takes here.
+fn tag_width(state: &SymmetricState) -> usize
+    ensures { result ≡ tag_width (keyed state.now) }
+{
+    if state.has_key() { 16 } else { 0 }
+}
+
+// Writes a text to the front of a buffer as it travels from here, and tells in how many bytes.
+fn write_part(state: &mut SymmetricState, text: &[u8], out: &mut [u8]) -> usize
+    requires room { length text.now + tag_width (keyed state.old) ≤ length out.old }
+    requires most { length text.now + tag_width (keyed state.old) ≤ 65535 }
+    requires nonces { nonce_now state.old < 2 ^ 64 - 1 }
+    ensures width { result ≡ length text.now + tag_width (keyed state.old) }
+    ensures rest { drop result out.new ≡ drop result out.old }
+    ensures keyed { keyed state.new ≡ keyed state.old }
+    ensures used { nonce_now state.new ≤ nonce_now state.old + 1 }
+    ensures written { (r : History) → StateStands state.old r → (take result out.new ≡ piece r text.now) × StateStands state.new (and_then r (Part (piece r text.now))) }
+{
+    let len = put(text, out);
+    let width = len + tag_width(state);
+    match state.encrypt_and_hash(&mut out[..width], len) {
+        Ok(width) => width,
+        Err(_) => unreachable!(),
+    }
+}
+
+// Writes an ephemeral public key to the front of a buffer.
+fn write_e(state: &mut SymmetricState, psks: bool, key: &[u8; 32], out: &mut [u8]) -> usize
+    requires room { 32 ≤ length out.old }
+    ensures width { result ≡ 32 }
+    ensures rest { drop result out.new ≡ drop result out.old }
+    ensures keyed { keyed state.new ≡ keyed_behind psks (keyed state.old) Token.E }
+    ensures used { nonce_now state.new ≤ nonce_now state.old }
+    ensures written { (r : History) → StateStands state.old r → (take result out.new ≡ key.now) × StateStands state.new (with_ephemeral psks r key.now) }
+{
+    mix_ephemeral(state, psks, key);
+    put(key, out)
+}
+
+// Writes one token, and tells in how many bytes, if it is no DH without an answer.
+fn write_token<K: Keys>(
+    state: &mut SymmetricState,
+    keys: &K,
+    role: Role,
+    psks: bool,
+    secrets: &[[u8; 32]],
+    known: &Remote,
+    token: Token,
+    out: &mut [u8],
+) -> Option<usize>
+    requires secret { token ≡ Token.Psk → 0 < length secrets.now }
+    requires own { IsTrue (has_own (K.public_of keys.now) token) }
+    requires known { IsTrue (is_known role (is_some known.now.e) (is_some known.now.s) token) }
+    requires room { token_width (keyed state.old) token ≤ length out.old }
+    requires nonces { nonce_now state.old < 2 ^ 64 - 1 }
+    ensures width { IfSome result (λ n. n ≡ token_width (keyed state.old) token) }
+    ensures rest { IfSome result (λ n. drop n out.new ≡ drop n out.old) }
+    ensures keyed { IfSome result (λ _. keyed state.new ≡ keyed_behind psks (keyed state.old) token) }
+    ensures used { nonce_now state.new ≤ nonce_now state.old + 1 }
+    ensures written { (r : History) → StateStands state.old r → let w : Writer = record { role = role; psks = psks; own = K.public_of keys.now; agree = K.agreement keys.now } in MatchOption result
+        ((x : List ℕ) → Gives w known.now secrets.now token x → ⊥)
+        (λ n. (x : List ℕ) × Gives w known.now secrets.now token x × (take n out.new ≡ token_piece r token x) × StateStands state.new (behind_token psks r token x)) }
+{
+    match token {
+        Token::E => match keys.public(Own::Ephemeral) {
+            Some(key) => Some(write_e(state, psks, &key, out)),
+            None => unreachable!(),
+        },
+        Token::S => match keys.public(Own::Static) {
+            Some(key) => Some(write_part(state, &key, out)),
+            None => unreachable!(),
+        },
+        Token::Psk => {
+            state.mix_key_and_hash(&secrets[0]);
+            Some(0)
+        }
+        _ => {
+            let answer = answer_at(keys, role, known, token)?;
+            state.mix_key(&answer);
+            Some(0)
+        }
+    }
+}
+
+// Writes tokens to the front of a buffer, and tells in how many bytes, or which is the first DH without an answer.
+fn write_tokens<K: Keys>(
+    state: &mut SymmetricState,
+    keys: &K,
+    role: Role,
+    psks: bool,
+    secrets: &[[u8; 32]],
+    known: &Remote,
+    tokens: &[Token],
+    out: &mut [u8],
+) -> Result<usize, usize>
+    requires secrets { count_by is_psk tokens.now ≤ length secrets.now }
+    requires own { IsTrue (list_all (has_own (K.public_of keys.now)) tokens.now) }
+    requires known { IsTrue (list_all (is_known role (is_some known.now.e) (is_some known.now.s)) tokens.now) }
+    requires room { tokens_width psks (keyed state.old) tokens.now ≤ length out.old }
+    requires nonces { nonce_now state.old + length tokens.now < 2 ^ 64 - 1 }
+    ensures width { MatchResult result (λ n. n ≡ tokens_width psks (keyed state.old) tokens.now) (λ k. k < length tokens.now) }
+    ensures rest { IfOk result (λ n. drop n out.new ≡ drop n out.old) }
+    ensures keyed { IfOk result (λ _. keyed state.new ≡ keyed_behind_tokens psks (keyed state.old) tokens.now) }
+    ensures used { nonce_now state.new ≤ nonce_now state.old + length tokens.now }
+    ensures written { (r : History) → StateStands state.old r → let w : Writer = record { role = role; psks = psks; own = K.public_of keys.now; agree = K.agreement keys.now } in MatchResult result
+        (λ n. (xs : List (List ℕ)) × Given w known.now secrets.now tokens.now xs × (take n out.new ≡ front psks r tokens.now xs) × StateStands state.new (behind_front psks r tokens.now xs))
+        (λ k. LacksAt w known.now secrets.now tokens.now k) }
+{
+    let Some((token, later)) = tokens.split_first() else {
+        return Ok(0);
+    };
+    let Some(n) = write_token(state, keys, role, psks, secrets, known, *token, out) else {
+        return Err(0);
+    };
+    let others = secrets_behind(secrets, *token);
+    match write_tokens(state, keys, role, psks, others, known, later, &mut out[n..]) {
+        Ok(more) => Ok(n + more),
+        Err(k) => Err(k + 1),
+    }
+}
+
+// Writes a message to the front of a buffer, and tells how long it is, or which token is the first DH without an answer.
+// What the buffer and the state hold is open in that case.
+pub(crate) fn write_message<K: Keys>(
+    state: &mut SymmetricState,
+    keys: &K,
+    role: Role,
+    psks: bool,
+    secrets: &[[u8; 32]],
+    known: &Remote,
+    tokens: &[Token],
+    payload: &[u8],
+    out: &mut [u8],
+) -> Result<usize, usize>
+    requires secrets { count_by is_psk tokens.now ≤ length secrets.now }
+    requires own { IsTrue (list_all (has_own (K.public_of keys.now)) tokens.now) }
+    requires known { IsTrue (list_all (is_known role (is_some known.now.e) (is_some known.now.s)) tokens.now) }
+    requires room { added_width psks (keyed state.old) tokens.now + length payload.now ≤ length out.old }
+    requires most { added_width psks (keyed state.old) tokens.now + length payload.now ≤ 65535 }
+    requires nonces { nonce_now state.old + length tokens.now < 2 ^ 64 - 1 }
+    ensures width { MatchResult result (λ n. n ≡ added_width psks (keyed state.old) tokens.now + length payload.now) (λ k. k < length tokens.now) }
+    ensures rest { IfOk result (λ n. drop n out.new ≡ drop n out.old) }
+    ensures keyed { IfOk result (λ _. keyed state.new ≡ keyed_behind_tokens psks (keyed state.old) tokens.now) }
+    ensures used { nonce_now state.new ≤ nonce_now state.old + length tokens.now + 1 }
+    ensures written { (r : History) → StateStands state.old r → let w : Writer = record { role = role; psks = psks; own = K.public_of keys.now; agree = K.agreement keys.now } in MatchResult result
+        (λ n. (xs : List (List ℕ)) × Given w known.now secrets.now tokens.now xs × (take n out.new ≡ line psks r tokens.now xs payload.now) × StateStands state.new (behind_line psks r tokens.now xs payload.now))
+        (λ k. LacksAt w known.now secrets.now tokens.now k) }
+{
+    let from = match write_tokens(state, keys, role, psks, secrets, known, tokens, out) {
+        Ok(from) => from,
+        Err(k) => return Err(k),
+    };
+    Ok(from + write_part(state, payload, &mut out[from..]))
+}
+
+// The same for a view.
+pub(crate) fn write_speaking<K: Keys>(
+    state: &mut SymmetricState,
+    keys: &K,
+    role: Role,
+    psks: bool,
+    secrets: &[[u8; 32]],
+    known: &Remote,
+    tokens: &[Token],
+    payload: &[u8],
+    out: &mut [u8],
+) -> Result<usize, usize>
+    requires secrets { count_by is_psk tokens.now ≤ length secrets.now }
+    requires own { IsTrue (list_all (has_own (K.public_of keys.now)) tokens.now) }
+    requires known { IsTrue (list_all (is_known role (is_some known.now.e) (is_some known.now.s)) tokens.now) }
+    requires room { added_width psks (keyed state.old) tokens.now + length payload.now ≤ length out.old }
+    requires most { added_width psks (keyed state.old) tokens.now + length payload.now ≤ 65535 }
+    requires nonces { nonce_now state.old + length tokens.now < 2 ^ 64 - 1 }
+    ensures width { MatchResult result (λ n. n ≡ added_width psks (keyed state.old) tokens.now + length payload.now) (λ k. k < length tokens.now) }
+    ensures rest { IfOk result (λ n. drop n out.new ≡ drop n out.old) }
+    ensures keyed { IfOk result (λ _. keyed state.new ≡ keyed_behind_tokens psks (keyed state.old) tokens.now) }
+    ensures used { nonce_now state.new ≤ nonce_now state.old + length tokens.now + 1 }
+    ensures written { (v : View) → StateStands state.old v.history → Speaking v role psks (K.public_of keys.now) (K.agreement keys.now) secrets.now known.now tokens.now → MatchResult result
+        (λ n. (xs : List (List ℕ)) × Writes v payload.now xs (take n out.new) × StateStands state.new (behind_line psks v.history tokens.now xs payload.now))
+        (λ k. Lacks v k) }
+{
+    write_message(
+        state, keys, role, psks, secrets, known, tokens, payload, out,
+    )
+}

@@ -1,0 +1,2 @@
+pub mod Hkdf
+pub mod Keyed

@@ -1,0 +1,137 @@
+-- The fundamental patterns are within the limits, and each is found by its base.
+use Rattle.std.proofs.Common.{◌≡◌, ℕ, ◌≤◌, ◌+◌, Bool, true, false, ◌&&◌, cond, List, [], ◌∷◌, ◌++◌, Option, Some, None, refl, map, ap, sym, subst, ◌∙◌, length, get_or, arith, leb, append-nil, zero, suc, drop, add-one}
+use Rattle.std.specs.Prelude.{find, nat_le, nat_eq, MatchOption, ⊤, slice_get, bytes_eq}
+use Rattle.std.specs.List.{list_all}
+use Rattle.std.proofs.lemmas.Bool.Decides.{nat_tests}
+use Rattle.std.proofs.lemmas.List.{drop_all}
+use Rattle.noise_names.specs.declared.token.Token.{Token}
+use Rattle.noise_names.specs.Tokens.{own_tokens}
+use Rattle.noise_names.specs.Plan.{Plan, plain_of}
+use Rattle.noise_names.specs.Names.{is_base, are_places}
+use Rattle.noise_names.specs.Limits.{IsPattern, HavePsks, HavePsksAt, is_pre_message, has_few_tokens}
+use Rattle.noise_names.specs.Fundamental.{fundamentals, fundamental_of}
+
+both : (x y : Bool) → x && y ≡ true → (x ≡ true) × (y ≡ true)
+both true y h = (refl, h)
+both false y h = absurd (cc)
+
+-- what is found has what all elements have
+found_all : {X : Type 0} (test keeps : X → Bool) (xs : List X) (x : X) → find test xs ≡ Some x → list_all keeps xs ≡ true → keeps x ≡ true
+found_all test keeps [] x e h = absurd (cc)
+found_all {X = X} test keeps (y ∷ ys) x e h = at (both (keeps y) (list_all keeps ys) h).0 (λ f. found_all test keeps ys x f (both (keeps y) (list_all keeps ys) h).1) (test y) e where
+  at : keeps y ≡ true → (find test ys ≡ Some x → keeps x ≡ true) → (b : Bool) → cond b (Some y) (find test ys) ≡ Some x → keeps x ≡ true
+  at here more true f = let same : y ≡ x = cc in subst (λ (z : X). keeps z ≡ true) same here
+  at here more false f = more f
+
+pub found_map : {X Y : Type 0} (test : X → Bool) (f g : X → Y) (xs : List X) (x : X) → find test xs ≡ Some x → map f xs ≡ map g xs → f x ≡ g x
+found_map test f g [] x e h = absurd (cc)
+found_map {X = X} test f g (y ∷ ys) x e h =
+    let here : f y ≡ g y = cc in
+    let more : map f ys ≡ map g ys = cc in
+    at here (λ k. found_map test f g ys x k more) (test y) e
+  where
+    at : f y ≡ g y → (find test ys ≡ Some x → f x ≡ g x) → (b : Bool) → cond b (Some y) (find test ys) ≡ Some x → f x ≡ g x
+    at here more true k = let same : y ≡ x = cc in subst (λ (z : X). f z ≡ g z) same here
+    at here more false k = more k
+
+-- the limits that are tests, for a pattern with no psk places
+abbrev is_within : Plan → Bool
+is_within p =
+    is_base p.base
+    && (is_pre_message p.initiator
+    && (is_pre_message p.responder
+    && ((nat_le 1 (length p.messages) && nat_le (length p.messages) 8)
+    && (list_all has_few_tokens p.messages
+    && list_all (λ tokens. nat_le (length tokens) 10) p.messages))))
+
+pub fundamentals_within : list_all is_within fundamentals ≡ true
+unfolding fundamentals
+fundamentals_within = refl
+
+pub fundamentals_plain : map plain_of fundamentals ≡ map (λ p. p) fundamentals
+unfolding fundamentals
+fundamentals_plain = refl
+
+pub fundamentals_known : map (λ p. fundamental_of p.base) fundamentals ≡ map (λ p. Some p) fundamentals
+unfolding fundamentals fundamental_of
+fundamentals_known = refl
+
+-- messages without psk tokens
+pub plain_messages : (n : ℕ) (messages : List (List Token)) → map own_tokens messages ≡ messages → HavePsksAt [] n messages
+plain_messages n [] h = tt
+plain_messages n (m ∷ ms) h =
+    let here : own_tokens m ≡ m = cc in
+    let more : map own_tokens ms ≡ ms = cc in
+    (at here (nat_eq n 1), plain_messages (n + 1) ms more)
+  where
+    at : own_tokens m ≡ m → (b : Bool) → m ≡ cond b [] [] ++ own_tokens m ++ []
+    at here true = sym (append-nil (own_tokens m) ∙ here)
+    at here false = sym (append-nil (own_tokens m) ∙ here)
+
+-- one that is found by its base is a pattern
+pub known_is_pattern : (base : List ℕ) (p : Plan) → fundamental_of base ≡ Some p → IsPattern p
+unfolding fundamental_of
+known_is_pattern base p found =
+    let within : is_within p ≡ true = found_all (λ q. bytes_eq q.base base) is_within fundamentals p found fundamentals_within in
+    let plain : plain_of p ≡ p = found_map (λ q. bytes_eq q.base base) plain_of (λ q. q) fundamentals p found fundamentals_plain in
+    let known : fundamental_of p.base ≡ Some p = found_map (λ q. bytes_eq q.base base) (λ q. fundamental_of q.base) (λ q. Some q) fundamentals p found fundamentals_known in
+    let no_places : [] ≡ p.places = ap (λ (q : Plan). q.places) plain in
+    let a = both (is_base p.base) _ within in
+    let b = both (is_pre_message p.initiator) _ a.1 in
+    let c = both (is_pre_message p.responder) _ b.1 in
+    let d = both (nat_le 1 (length p.messages) && nat_le (length p.messages) 8) _ c.1 in
+    let e = both (list_all has_few_tokens p.messages) _ d.1 in
+    record {
+      base = a.0;
+      places = subst (λ (ns : List ℕ). are_places ns ≡ true) no_places refl;
+      initiator = b.0;
+      responder = c.0;
+      count = d.0;
+      sizes = e.0;
+      psks = subst (λ (ns : List ℕ). HavePsks ns p.messages) no_places (record { tokens = plain_messages 1 p.messages (ap (λ (q : Plan). q.messages) plain); in_range = refl });
+      known = subst (λ (o : Option Plan). MatchOption o ⊤ (λ f. plain_of p ≡ f)) (sym known) plain;
+    }
+
+le_from_test : (m n : ℕ) → leb m n ≡ true → m ≤ n
+le_from_test m n t = grind (arith, nat_tests)
+
+each_short : (messages : List (List Token)) (i : ℕ) → list_all (λ tokens. nat_le (length tokens) 10) messages ≡ true → length (get_or messages i []) ≤ 10
+each_short [] i h = omega arith
+each_short (m ∷ ms) zero h = le_from_test (length m) 10 (both (nat_le (length m) 10) (list_all (λ tokens. nat_le (length tokens) 10) ms) h).0
+each_short (m ∷ ms) (suc i) h = each_short ms i (both (nat_le (length m) 10) (list_all (λ tokens. nat_le (length tokens) 10) ms) h).1
+
+-- its messages are short
+pub known_is_short : (base : List ℕ) (p : Plan) (i : ℕ) → fundamental_of base ≡ Some p → length (get_or p.messages i []) ≤ 10
+unfolding fundamental_of
+known_is_short base p i found =
+    let within : is_within p ≡ true = found_all (λ q. bytes_eq q.base base) is_within fundamentals p found fundamentals_within in
+    let b = both (is_pre_message p.initiator) _ (both (is_base p.base) _ within).1 in
+    let c = both (is_pre_message p.responder) _ b.1 in
+    let e = both (list_all has_few_tokens p.messages) _ (both (nat_le 1 (length p.messages) && nat_le (length p.messages) 8) _ c.1).1 in
+    each_short p.messages i e.1
+
+pub known_is_few : (base : List ℕ) (p : Plan) → fundamental_of base ≡ Some p → length p.messages ≤ 8
+known_is_few base p found = le_from_test (length p.messages) 8 (both (nat_le 1 (length p.messages)) (nat_le (length p.messages) 8) (known_is_pattern base p found).count).1
+
+-- a search from the element at i on
+find_at : {X : Type 0} (test : X → Bool) (xs : List X) (i : ℕ) (x : X) → slice_get xs i ≡ Some x → find test (drop i xs) ≡ cond (test x) (Some x) (find test (drop (suc i) xs))
+find_at test [] i x h = absurd (cc)
+find_at test (y ∷ ys) zero x h = let same : y ≡ x = cc in rw same refl
+find_at test (y ∷ ys) (suc i) x h = find_at test ys i x h
+
+pub find-drop : {X : Type 0} (test : X → Bool) (xs : List X) (i : ℕ) (x : X) → slice_get xs i ≡ Some x → find test (drop i xs) ≡ cond (test x) (Some x) (find test (drop (i + 1) xs))
+find-drop test xs i x h = rw (add-one i) (find_at test xs i x h)
+
+past : {X : Type 0} (xs : List X) (i : ℕ) → length xs ≤ i → slice_get xs i ≡ None
+past [] i h = refl
+past (y ∷ ys) zero h = absurd (omega arith)
+past (y ∷ ys) (suc i) h = past ys i (omega arith)
+
+-- there are fifteen
+pub no_more_fundamentals : (i : ℕ) → 15 ≤ i → slice_get fundamentals i ≡ None
+unfolding fundamentals
+no_more_fundamentals i h = past fundamentals i h
+
+pub find-past : (test : Plan → Bool) (i : ℕ) → 15 ≤ i → find test (drop i fundamentals) ≡ None
+unfolding fundamentals
+find-past test i h = ap (find test) (drop_all i fundamentals h)

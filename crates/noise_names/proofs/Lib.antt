@@ -1,0 +1,13 @@
+pub mod Checking
+pub mod Examples
+pub mod Fundamentals
+pub mod Lengths
+pub mod Modifiers
+pub mod Numbers
+pub mod OneText
+pub mod ProtocolNames
+pub mod PskTokens
+pub mod Reading
+pub mod Sections
+pub mod Standing
+pub mod Writing

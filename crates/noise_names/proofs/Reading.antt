@@ -1,0 +1,404 @@
+-- What is read of a written text.
+use Rattle.std.proofs.Common.{◌≡◌, ◌≢◌, ℕ, ◌+◌, ◌<◌, ◌≤◌, Bool, true, false, not, cond, List, [], ◌∷◌, ◌++◌, refl, ap, sym, ◌∙◌, append_assoc, append-nil, length, length-append, arith, map, subst, get_or, take, drop, eqb, suc, Some, None, Bor, ◌⊎◌, inl, inr, ◌&&◌, leb, ltb, Result, Ok, Err}
+use Rattle.std.specs.Cmp.Lexicographic.{pointwise}
+use Rattle.std.proofs.lemmas.Bool.Decides.{Decides-eqb, nat_tests}
+use Rattle.std.proofs.lemmas.Slice.Eq.{strip_prefix_is}
+use Rattle.std.proofs.lemmas.List.{length-map}
+use Rattle.std.proofs.lemmas.List.Folds.{list_any-append, list_all-append}
+use Rattle.noise_names.specs.declared.faults.NameFault.{NameFault}
+use Rattle.noise_names.specs.Plan.{Plan, plain_of, has_psk}
+use Rattle.noise_names.specs.Names.{Section, IsSection, section_bytes, is_base}
+use Rattle.noise_names.specs.Sections.{section_read}
+use Rattle.noise_names.specs.Fundamental.{fundamental_of, fundamentals}
+use Rattle.noise_names.specs.Limits.{IsPattern, HavePsks, HavePsksAt, Placed, first_beyond, with_psk_tokens, has_few_tokens, is_pre_message}
+use Rattle.noise_names.proofs.Fundamentals.{found_map, fundamentals_plain, plain_messages}
+use Rattle.noise_names.proofs.PskTokens.{no_psk_own, own_of_plain}
+use Rattle.noise_names.proofs.Sections.{is_section_byte, all_weaker, front_is, section_read-every}
+use Rattle.std.specs.Prelude.{codes, take_while, find, bytes_eq, ⊤}
+use Rattle.std.proofs.Math.Seq.{take-append_seam, drop-append_seam}
+use Rattle.std.proofs.lemmas.Option.{MatchOption-at_some}
+use Rattle.std.specs.List.{list_all, list_any}
+use Rattle.noise_names.specs.declared.token.Role.{Role}
+use Rattle.noise_names.specs.declared.token.Role.TheVariants.{Initiator, Responder}
+use Rattle.noise_names.specs.declared.token.Token.{Token}
+use Rattle.noise_names.specs.declared.token.Token.TheVariants.{E, S, Ee, Es, Se, Ss, Psk}
+use Rattle.noise_names.specs.Tokens.{other, is_psk, own_tokens}
+use Rattle.noise_names.specs.Text.{words, word_of, line, arrow_of, token_line, message_lines, pre_line, pre_lines, Spells}
+use Rattle.noise_names.specs.Reading.{is_lower}
+
+own-first : (u : Token) (us : List Token) → own_tokens (u ∷ us) ≡ own_tokens (u ∷ []) ++ own_tokens us
+own-first u us = at (not (is_psk u)) where
+  at : (b : Bool) → cond b (u ∷ own_tokens us) (own_tokens us) ≡ cond b (u ∷ []) [] ++ own_tokens us
+  at true = refl
+  at false = refl
+
+two_heads : (list xs ys : List ℕ) (x y : ℕ) → list ≡ x ∷ xs → list ≡ y ∷ ys → x < y → ⊥
+two_heads list xs ys x y e f h =
+    let a : get_or list 0 0 ≡ x = ap (λ (k : List ℕ). get_or k 0 0) e in
+    let b : get_or list 0 0 ≡ y = ap (λ (k : List ℕ). get_or k 0 0) f in
+    omega arith
+
+-- what `strip_prefix` says
+pub stripped : (s p : List ℕ) (x : Bor (List ℕ)) → (pointwise eqb (take (length p) s) p ≡ true) × (x.now ≡ drop (length p) s) × (length x.now + length p ≡ length s) → s ≡ p ++ x.now
+stripped s p x h = strip_prefix_is Decides-eqb s p (Some x) h
+
+pub not-stripped : (s p : List ℕ) → pointwise eqb (take (length p) s) p ≡ false → (rest : List ℕ) → s ≢ p ++ rest
+not-stripped s p h = strip_prefix_is {A = ℕ} Decides-eqb s p None h
+
+-- what stands behind the first word of a list
+abbrev behind_word : List Token → List ℕ → List ℕ
+behind_word [] rest = rest
+behind_word (v ∷ vs) rest = 44 ∷ 32 ∷ (words (v ∷ vs) ++ rest)
+
+word-first : (u : Token) (us : List Token) (rest : List ℕ) → words (u ∷ us) ++ rest ≡ word_of u ++ behind_word us rest
+word-first u [] rest = refl
+word-first u (v ∷ vs) rest = append_assoc (word_of u ++ codes ", ") (words (v ∷ vs)) rest ∙ append_assoc (word_of u) (codes ", ") (words (v ∷ vs) ++ rest)
+
+-- a list of words of which some tokens were read
+pub record IsLeft (kept : List Token) (left : List ℕ) (own : List Token) (more : List ℕ) : Type 0 where
+  pub first : Token
+  pub others : List Token
+  pub tokens : own ≡ kept ++ own_tokens (first ∷ others)
+  pub spelled : left ≡ words (first ∷ others) ++ 10 ∷ more
+
+-- what a token and what is behind it are in such a list
+abbrev pub IsFirstWord : List ℕ → Token → List ℕ → Type 0
+IsFirstWord left token behind = (t : Token) (b : ℕ) (more : List ℕ) → is_lower b ≡ false → left ≡ word_of t ++ b ∷ more → (token ≡ t) × (behind ≡ b ∷ more)
+
+-- the token was kept
+abbrev pub IsKept : List Token → Token → List Token → Type 0
+IsKept kept token kept' = length kept + length (own_tokens (token ∷ [])) ≤ 8 → kept' ≡ kept ++ own_tokens (token ∷ [])
+
+kept_is : (kept kept' own : List Token) (token u : Token) (us : List Token) → token ≡ u → own ≡ kept ++ own_tokens (u ∷ us) → length own ≤ 8 → IsKept kept token kept' → (kept' ≡ kept ++ own_tokens (u ∷ [])) × (own ≡ kept' ++ own_tokens us)
+kept_is kept kept' own token u us same e few k =
+    let all : own ≡ kept ++ (own_tokens (u ∷ []) ++ own_tokens us) = e ∙ ap (λ (ts : List Token). kept ++ ts) (own-first u us) in
+    let count : length own ≡ length kept + (length (own_tokens (u ∷ [])) + length (own_tokens us)) = simp length-append at (ap length all) in
+    let one : length (own_tokens (token ∷ [])) ≡ length (own_tokens (u ∷ [])) = ap (λ (t : Token). length (own_tokens (t ∷ []))) same in
+    let is : kept' ≡ kept ++ own_tokens (u ∷ []) = k (omega arith) ∙ ap (λ (t : Token). kept ++ own_tokens (t ∷ [])) same in
+    (is, all ∙ sym (append_assoc kept (own_tokens (u ∷ [])) (own_tokens us)) ∙ ap (λ (ts : List Token). ts ++ own_tokens us) (sym is))
+
+pub left-more : (kept kept' own : List Token) (left behind rest more : List ℕ) (token : Token) → IsLeft kept left own more → length own ≤ 8 → IsFirstWord left token behind → IsKept kept token kept' → behind ≡ codes ", " ++ rest → IsLeft kept' rest own more
+left-more kept kept' own left behind rest more token l few w k e = at l.first l.others l.tokens l.spelled where
+  at : (u : Token) (us : List Token) → own ≡ kept ++ own_tokens (u ∷ us) → left ≡ words (u ∷ us) ++ 10 ∷ more → IsLeft kept' rest own more
+  at u [] o s =
+      let is : (token ≡ u) × (behind ≡ 10 ∷ more) = w u 10 more refl s in
+      absurd (two_heads behind more (32 ∷ rest) 10 44 is.1 e (omega arith))
+  at u (v ∷ vs) o s =
+      let is : (token ≡ u) × (behind ≡ 44 ∷ 32 ∷ (words (v ∷ vs) ++ 10 ∷ more)) = w u 44 (32 ∷ (words (v ∷ vs) ++ 10 ∷ more)) refl (s ∙ word-first u (v ∷ vs) (10 ∷ more)) in
+      let both : 44 ∷ 32 ∷ rest ≡ 44 ∷ 32 ∷ (words (v ∷ vs) ++ 10 ∷ more) = sym e ∙ is.1 in
+      record { first = v; others = vs; tokens = (kept_is kept kept' own token u (v ∷ vs) is.0 o few k).1; spelled = cc }
+
+pub left-end : (kept kept' own : List Token) (left behind more : List ℕ) (token : Token) → IsLeft kept left own more → length own ≤ 8 → IsFirstWord left token behind → IsKept kept token kept' → ((rest : List ℕ) → behind ≢ codes ", " ++ rest) → (kept' ≡ own) × (behind ≡ 10 ∷ more)
+left-end kept kept' own left behind more token l few w k e = at l.first l.others l.tokens l.spelled where
+  at : (u : Token) (us : List Token) → own ≡ kept ++ own_tokens (u ∷ us) → left ≡ words (u ∷ us) ++ 10 ∷ more → (kept' ≡ own) × (behind ≡ 10 ∷ more)
+  at u [] o s =
+      let is : (token ≡ u) × (behind ≡ 10 ∷ more) = w u 10 more refl s in
+      ((kept_is kept kept' own token u [] is.0 o few k).0 ∙ sym o, is.1)
+  at u (v ∷ vs) o s =
+      let is : (token ≡ u) × (behind ≡ 44 ∷ 32 ∷ (words (v ∷ vs) ++ 10 ∷ more)) = w u 44 (32 ∷ (words (v ∷ vs) ++ 10 ∷ more)) refl (s ∙ word-first u (v ∷ vs) (10 ∷ more)) in
+      absurd (e (words (v ∷ vs) ++ 10 ∷ more) is.1)
+
+pub left-word : (kept own : List Token) (left more : List ℕ) → IsLeft kept left own more → ((t : Token) (b : ℕ) (more : List ℕ) → is_lower b ≡ false → left ≡ word_of t ++ b ∷ more → ⊥) → ⊥
+left-word kept own left more l w = at l.first l.others l.spelled where
+  at : (u : Token) (us : List Token) → left ≡ words (u ∷ us) ++ 10 ∷ more → ⊥
+  at u [] s = w u 10 more refl s
+  at u (v ∷ vs) s = w u 44 (32 ∷ (words (v ∷ vs) ++ 10 ∷ more)) refl (s ∙ word-first u (v ∷ vs) (10 ∷ more))
+
+pub left-start : (kept : List Token) (list : List ℕ) (t : Token) (ts : List Token) (more : List ℕ) → kept ≡ [] → list ≡ words (t ∷ ts) ++ 10 ∷ more → IsLeft kept list (own_tokens (t ∷ ts)) more
+left-start kept list t ts more none e = record { first = t; others = ts; tokens = sym (ap (λ (k : List Token). k ++ own_tokens (t ∷ ts)) none); spelled = e }
+
+-- what stands in front of a list of words
+pub line-starts : (role : Role) (lines behind arrow list : List ℕ) → lines ≡ codes "  " ++ behind → behind ≡ arrow ++ list → arrow ≡ arrow_of role → lines ≡ codes "  " ++ (arrow_of role ++ list)
+line-starts role lines behind arrow list a b c = a ∙ ap (λ (k : List ℕ). codes "  " ++ k) (b ∙ ap (λ (k : List ℕ). k ++ list) c)
+
+pub line-list : (role : Role) (tokens : List Token) (lines front list more : List ℕ) → lines ≡ codes "  " ++ (arrow_of role ++ front) → front ≡ codes " " ++ list → lines ≡ token_line role tokens ++ more → list ≡ words tokens ++ 10 ∷ more
+line-list role tokens lines front list more a b e = at role (sym e ∙ a ∙ ap (λ (k : List ℕ). codes "  " ++ (arrow_of role ++ k)) b) ∙ append_assoc (words tokens) (10 ∷ []) more where
+  at : (role : Role) → token_line role tokens ++ more ≡ codes "  " ++ (arrow_of role ++ (codes " " ++ list)) → list ≡ (words tokens ++ 10 ∷ []) ++ more
+  at Initiator f = cc
+  at Responder f = cc
+
+pub line-behind : (behind rest more : List ℕ) → behind ≡ 10 ∷ more → behind ≡ codes "\n" ++ rest → rest ≡ more
+line-behind behind rest more e f = let both : 10 ∷ more ≡ 10 ∷ rest = sym e ∙ f in cc
+
+-- what reading a line of a party answers: its tokens and what is behind it, or nothing
+abbrev pub There : Role → List ℕ → List Token → List ℕ → Type 0
+There role lines tokens rest = (t : Token) (ts : List Token) (more : List ℕ) → length (own_tokens (t ∷ ts)) ≤ 8 → lines ≡ token_line role (t ∷ ts) ++ more → (tokens ≡ own_tokens (t ∷ ts)) × (rest ≡ more)
+
+abbrev pub Absent : Role → List ℕ → List Token → List ℕ → Type 0
+Absent role lines tokens rest = ((x : List ℕ) → lines ≡ codes "  " ++ (arrow_of role ++ x) → ⊥) → (tokens ≡ []) × (rest ≡ lines)
+
+own-pre : (ts : List Token) → is_pre_message ts ≡ true → (own_tokens ts ≡ ts) × (length (own_tokens ts) ≤ 8)
+own-pre [] h = (refl, omega arith)
+own-pre (E ∷ []) h = (refl, omega arith)
+own-pre (S ∷ []) h = (refl, omega arith)
+own-pre (E ∷ S ∷ []) h = (refl, omega arith)
+own-pre _ h = absurd (cc)
+
+pre-read : (role : Role) (ts tokens : List Token) (lines rest more : List ℕ) → There role lines tokens rest → Absent role lines tokens rest → is_pre_message ts ≡ true → lines ≡ pre_line role ts ++ more → ((x : List ℕ) → more ≡ codes "  " ++ (arrow_of role ++ x) → ⊥) → (tokens ≡ ts) × (rest ≡ more)
+pre-read role [] tokens lines rest more there absent pre e other_line = let a = absent (λ x f. other_line x (sym e ∙ f)) in (a.0, a.1 ∙ e)
+pre-read role (t ∷ ts) tokens lines rest more there absent pre e other_line =
+    let own = own-pre (t ∷ ts) pre in
+    let a = there t ts more own.1 e in
+    (a.0 ∙ own.0, a.1)
+
+third_differs : (xs ys : List ℕ) (a b : ℕ) → get_or xs 2 0 ≡ a → get_or ys 2 0 ≡ b → xs ≡ ys → (a ≡ b → ⊥) → ⊥
+third_differs xs ys a b p q e differ = differ (sym p ∙ ap (λ (k : List ℕ). get_or k 2 0) e ∙ q)
+
+-- the lines behind pre-messages are no lines of the initiator
+
+behind-first : (r : List Token) (rest x : List ℕ) → pre_line Responder r ++ (codes "  ...\n" ++ rest) ≡ codes "  " ++ (arrow_of Initiator ++ x) → ⊥
+behind-first [] rest x e = third_differs _ _ 46 45 refl refl e (λ h. omega arith)
+behind-first (u ∷ us) rest x e = third_differs _ _ 60 45 refl refl e (λ h. omega arith)
+
+-- the lines of messages do not begin with the line that ends the pre-messages
+messages-first : (role : Role) (ms : List (List Token)) (x : List ℕ) → message_lines role ms ≡ codes "  ...\n" ++ x → ⊥
+messages-first role [] x e = cc
+messages-first Initiator (m ∷ ms) x e = third_differs _ _ 45 46 refl refl e (λ h. omega arith)
+messages-first Responder (m ∷ ms) x e = third_differs _ _ 60 46 refl refl e (λ h. omega arith)
+
+both : (x y : Bool) → x && y ≡ true → (x ≡ true) × (y ≡ true)
+both true y h = (refl, h)
+both false y h = absurd (cc)
+
+le_from_test : (m n : ℕ) → leb m n ≡ true → m ≤ n
+le_from_test m n t = grind (arith, nat_tests)
+
+few : (m : List Token) → has_few_tokens m ≡ true → (1 ≤ length (own_tokens m)) × (length (own_tokens m) ≤ 8)
+few m h =
+    let a = both (leb 1 (length (own_tokens m))) (leb (length (own_tokens m)) 8) h in
+    (le_from_test _ _ a.0, le_from_test _ _ a.1)
+
+-- a line of messages is passed
+message-read : (role : Role) (ms : List (List Token)) (tokens : List Token) (lines rest : List ℕ) → There role lines tokens rest → Absent role lines tokens rest → list_all has_few_tokens ms ≡ true → lines ≡ message_lines role ms → (more : List (List Token)) × (rest ≡ message_lines (other role) more) × (list_all has_few_tokens more ≡ true)
+message-read role [] tokens lines rest there absent sizes e = ([], (absent (λ x f. let bad : [] ≡ 32 ∷ 32 ∷ (arrow_of role ++ x) = sym e ∙ f in cc)).1 ∙ e, refl)
+message-read role ([] ∷ ms) tokens lines rest there absent sizes e = absurd (let bad : false ≡ true = sizes in cc)
+message-read role ((t ∷ ts) ∷ ms) tokens lines rest there absent sizes e =
+    let a = both (has_few_tokens (t ∷ ts)) (list_all has_few_tokens ms) sizes in
+    (ms, (there t ts (message_lines (other role) ms) (few (t ∷ ts) a.0).1 e).1, a.1)
+
+-- what is read of both pre-messages
+pub record ArePreMessages (i r first second : List Token) (lines rest : List ℕ) (ms : List (List Token)) : Type 0 where
+  pub first_is : first ≡ i
+  pub second_is : second ≡ r
+  pub rest_is : rest ≡ codes "  ...\n" ++ message_lines Initiator ms
+
+pub record AreNone (i r : List Token) (lines rest : List ℕ) (ms : List (List Token)) : Type 0 where
+  pub no_first : i ≡ []
+  pub no_second : r ≡ []
+  pub lines_are : lines ≡ message_lines Initiator ms
+  pub no_dots : (x : List ℕ) → rest ≢ codes "  ...\n" ++ x
+
+pre-there : (i r first second : List Token) (lines behind rest : List ℕ) (ms : List (List Token)) → There Initiator lines first behind → Absent Initiator lines first behind → There Responder behind second rest → Absent Responder behind second rest → is_pre_message i ≡ true → is_pre_message r ≡ true → lines ≡ pre_line Initiator i ++ (pre_line Responder r ++ (codes "  ...\n" ++ message_lines Initiator ms)) → ArePreMessages i r first second lines rest ms
+pre-there i r first second lines behind rest ms there absent there2 absent2 pi pr e =
+    let a = pre-read Initiator i first lines behind (pre_line Responder r ++ (codes "  ...\n" ++ message_lines Initiator ms)) there absent pi e (behind-first r (message_lines Initiator ms)) in
+    let b = pre-read Responder r second behind rest (codes "  ...\n" ++ message_lines Initiator ms) there2 absent2 pr a.1 (λ x f. third_differs _ _ 46 60 refl refl f (λ h. omega arith)) in
+    record { first_is = a.0; second_is = b.0; rest_is = b.1 }
+
+pub pre-both : (i r first second : List Token) (lines behind rest : List ℕ) (ms : List (List Token)) → There Initiator lines first behind → Absent Initiator lines first behind → There Responder behind second rest → Absent Responder behind second rest → is_pre_message i ≡ true → is_pre_message r ≡ true → list_all has_few_tokens ms ≡ true → lines ≡ pre_lines i r ++ message_lines Initiator ms → ArePreMessages i r first second lines rest ms ⊎ AreNone i r lines rest ms
+pre-both [] [] first second lines behind rest ms there absent there2 absent2 pi pr sizes e =
+    let a = message-read Initiator ms first lines behind there absent sizes e in
+    let b = message-read Responder a.0 second behind rest there2 absent2 a.2 a.1 in
+    inr (record { no_first = refl; no_second = refl; lines_are = e; no_dots = λ x f. messages-first Initiator b.0 x (sym b.1 ∙ f) })
+pre-both [] (u ∷ us) first second lines behind rest ms there absent there2 absent2 pi pr sizes e =
+    inl (pre-there [] (u ∷ us) first second lines behind rest ms there absent there2 absent2 pi pr (e ∙ append_assoc (pre_line Responder (u ∷ us)) (codes "  ...\n") (message_lines Initiator ms)))
+pre-both (t ∷ ts) r first second lines behind rest ms there absent there2 absent2 pi pr sizes e =
+    inl (pre-there (t ∷ ts) r first second lines behind rest ms there absent there2 absent2 pi pr (e ∙ append_assoc (pre_line Initiator (t ∷ ts) ++ pre_line Responder r) (codes "  ...\n") (message_lines Initiator ms) ∙ append_assoc (pre_line Initiator (t ∷ ts)) (pre_line Responder r) (codes "  ...\n" ++ message_lines Initiator ms)))
+
+pub dots-stripped : (rest x y : List ℕ) → rest ≡ codes "  ...\n" ++ x → rest ≡ codes "  ...\n" ++ y → x ≡ y
+dots-stripped rest x y e f = let both : codes "  ...\n" ++ x ≡ codes "  ...\n" ++ y = sym e ∙ f in cc
+
+-- messages of which some were read
+pub record AreLeft (kept : List (List Token)) (role : Role) (left : List ℕ) (own : List (List Token)) : Type 0 where
+  pub more : List (List Token)
+  pub messages : own ≡ kept ++ map own_tokens more
+  pub sizes : list_all has_few_tokens more ≡ true
+  pub spelled : left ≡ message_lines role more
+
+-- what reading one more line gives
+abbrev pub IsLine : Role → List ℕ → List Token → List ℕ → Type 0
+IsLine role left tokens rest = (t : Token) (ts : List Token) (more : List ℕ) → length (own_tokens (t ∷ ts)) ≤ 8 → left ≡ token_line role (t ∷ ts) ++ more → (tokens ≡ own_tokens (t ∷ ts)) × (rest ≡ more)
+
+pub record IsNext (kept : List (List Token)) (role : Role) (tokens : List Token) (rest : List ℕ) (own : List (List Token)) : Type 0 where
+  pub some : 1 ≤ length tokens
+  pub room : length kept < length own
+  pub after : AreLeft (kept ++ tokens ∷ []) (other role) rest own
+
+pub next-line : (kept own : List (List Token)) (role : Role) (left rest : List ℕ) (tokens : List Token) → AreLeft kept role left own → length rest < length left → IsLine role left tokens rest → IsNext kept role tokens rest own
+next-line kept own role left rest tokens l shorter line = at l.more l.messages l.sizes l.spelled where
+  at : (more : List (List Token)) → own ≡ kept ++ map own_tokens more → list_all has_few_tokens more ≡ true → left ≡ message_lines role more → IsNext kept role tokens rest own
+  at [] o z s = absurd (let none : length left ≡ 0 = ap length s in omega arith)
+  at ([] ∷ ms) o z s = absurd (let bad : false ≡ true = z in cc)
+  at ((t ∷ ts) ∷ ms) o z s =
+      let a = both (has_few_tokens (t ∷ ts)) (list_all has_few_tokens ms) z in
+      let b = few (t ∷ ts) a.0 in
+      let c = line t ts (message_lines (other role) ms) b.1 s in
+      let count : length own ≡ length kept + suc (length (map own_tokens ms)) = simp length-append at (ap length o) in
+      record {
+        some = rw (c.0) b.0;
+        room = omega arith;
+        after = record { more = ms; messages = o ∙ ap (λ (k : List Token). kept ++ k ∷ map own_tokens ms) (sym c.0) ∙ sym (append_assoc kept (tokens ∷ []) (map own_tokens ms)); sizes = a.1; spelled = c.1 };
+      }
+
+pub last-line : (kept own : List (List Token)) (role : Role) (left : List ℕ) → AreLeft kept role left own → ((t : Token) (ts : List Token) (more : List ℕ) → length (own_tokens (t ∷ ts)) ≤ 8 → left ≡ token_line role (t ∷ ts) ++ more → ⊥) → kept ≡ own
+last-line kept own role left l none = at l.more l.messages l.sizes l.spelled where
+  at : (more : List (List Token)) → own ≡ kept ++ map own_tokens more → list_all has_few_tokens more ≡ true → left ≡ message_lines role more → kept ≡ own
+  at [] o z s = sym (o ∙ append-nil kept)
+  at ([] ∷ ms) o z s = absurd (let bad : false ≡ true = z in cc)
+  at ((t ∷ ts) ∷ ms) o z s = absurd (none t ts (message_lines (other role) ms) (few (t ∷ ts) (both (has_few_tokens (t ∷ ts)) (list_all has_few_tokens ms) z).0).1 s)
+
+-- one message more
+pub plain-push : (kept : List (List Token)) (m : List Token) → list_any (λ tokens. list_any is_psk tokens) kept ≡ false → list_any is_psk m ≡ false → list_any (λ tokens. list_any is_psk tokens) (kept ++ m ∷ []) ≡ false
+plain-push kept m a b = list_any-append (λ tokens. list_any is_psk tokens) kept (m ∷ []) ∙ rw (a, b) refl
+
+pub sizes-push : (kept : List (List Token)) (m : List Token) → list_all has_few_tokens kept ≡ true → list_any is_psk m ≡ false → 1 ≤ length m → length m ≤ 8 → list_all has_few_tokens (kept ++ m ∷ []) ≡ true
+sizes-push kept m a b low high =
+    let own : own_tokens m ≡ m = no_psk_own m b in
+    let one : leb 1 (length m) ≡ true = grind (arith, nat_tests) in
+    let eight : leb (length m) 8 ≡ true = grind (arith, nat_tests) in
+    let here : has_few_tokens m ≡ true = rw (own, one, eight) refl in
+    list_all-append has_few_tokens kept (m ∷ []) ∙ rw (a, here) refl
+
+pub length-own : (ms : List (List Token)) → length (map own_tokens ms) ≡ length ms
+length-own ms = length-map ms own_tokens
+
+-- a heading
+pub heading-parts : (text section lines front back : List ℕ) (n : ℕ) → list_all is_section_byte section ≡ true → text ≡ line (section ++ codes ":") ++ lines → n ≡ length (take_while (λ b. not (eqb b 58)) text) → front ≡ take n text → back ≡ drop n text → (front ≡ section) × (back ≡ codes ":\n" ++ lines)
+heading-parts text section lines front back n all e n_is f b =
+    let test : ℕ → Bool = λ c. not (eqb c 58) in
+    let whole : text ≡ section ++ (58 ∷ 10 ∷ lines) = e ∙ append_assoc (section ++ codes ":") (10 ∷ []) lines ∙ append_assoc section (codes ":") (10 ∷ lines) in
+    let other_bytes : list_all test section ≡ true = all_weaker is_section_byte test section no_colon all in
+    let front_part : take_while test text ≡ section = ap (take_while test) whole ∙ front_is test section 58 (10 ∷ lines) other_bytes refl in
+    let n_is_length : n ≡ length section = n_is ∙ ap length front_part in (
+      f ∙ rw (n_is_length, whole) (take-append_seam section (58 ∷ 10 ∷ lines)),
+      b ∙ rw (n_is_length, whole) (drop-append_seam section (58 ∷ 10 ∷ lines)),
+    )
+  where
+    no_colon : (x : ℕ) → is_section_byte x ≡ true → not (eqb x 58) ≡ true
+    no_colon x h = grind (arith, nat_tests)
+
+pub heading-rest : (back lines rest : List ℕ) → back ≡ codes ":\n" ++ lines → back ≡ codes ":\n" ++ rest → rest ≡ lines
+heading-rest back lines rest e f = let same : codes ":\n" ++ lines ≡ codes ":\n" ++ rest = sym e ∙ f in cc
+
+-- the bytes of a section give it back
+pub section-of : (s : Section) (front : List ℕ) (read : Result Section NameFault) → IsSection s → front ≡ section_bytes s.base s.places → read ≡ section_read front → read ≡ Ok s
+section-of s front read h e r = r ∙ ap section_read e ∙ section_read-every s h
+
+-- the pattern of these parts, whose base is no fundamental pattern's
+pub plain-pattern : (base : List ℕ) (i r : List Token) (ms : List (List Token)) → is_base base ≡ true → fundamental_of base ≡ None → is_pre_message i ≡ true → is_pre_message r ≡ true → 1 ≤ length ms → length ms ≤ 8 → list_all has_few_tokens ms ≡ true → list_any (λ tokens. list_any is_psk tokens) ms ≡ false → IsPattern (record { base = base; places = []; initiator = i; responder = r; messages = ms })
+plain-pattern base i r ms b unknown pi pr low high sizes plain = record {
+  base = b;
+  places = refl;
+  initiator = pi;
+  responder = pr;
+  count = count (length ms) low high;
+  sizes = sizes;
+  psks = record { tokens = plain_messages 1 ms (own_of_plain ms plain); in_range = refl };
+  known = rw unknown tt;
+} where
+  count : (n : ℕ) → 1 ≤ n → n ≤ 8 → leb 1 n && leb n 8 ≡ true
+  count n low high =
+      let one : leb 1 n ≡ true = grind (arith, nat_tests) in
+      let eight : leb n 8 ≡ true = grind (arith, nat_tests) in
+      rw (one, eight) refl
+
+-- a fundamental pattern is plain, and is that of each pattern of its base
+pub known-plain : (base : List ℕ) (f : Plan) → fundamental_of base ≡ Some f → has_psk f ≡ false
+unfolding fundamental_of
+known-plain base f found =
+    let plain : plain_of f ≡ f = found_map (λ q. bytes_eq q.base base) plain_of (λ q. q) fundamentals f found fundamentals_plain in
+    subst (λ (q : Plan). has_psk q ≡ false) plain (no_psk f.messages)
+  where
+    none : (ts : List Token) → list_any is_psk (own_tokens ts) ≡ false
+    none [] = refl
+    none (E ∷ ts) = none ts
+    none (S ∷ ts) = none ts
+    none (Ee ∷ ts) = none ts
+    none (Es ∷ ts) = none ts
+    none (Se ∷ ts) = none ts
+    none (Ss ∷ ts) = none ts
+    none (Psk ∷ ts) = none ts
+
+    no_psk : (ms : List (List Token)) → list_any (λ tokens. list_any is_psk tokens) (map own_tokens ms) ≡ false
+    no_psk [] = refl
+    no_psk (m ∷ ms) = rw (none m) (no_psk ms)
+
+pub known-same : (p f : Plan) (base : List ℕ) → IsPattern p → p.base ≡ base → fundamental_of base ≡ Some f → f ≡ plain_of p
+known-same p f base h same found = sym (MatchOption-at_some ⊤ (λ g. plain_of p ≡ g) f (ap fundamental_of same ∙ found) h.known)
+
+-- psk tokens at the same places of the same messages
+messages-same : (places : List ℕ) (n : ℕ) (ms ks : List (List Token)) → HavePsksAt places n ms → HavePsksAt places n ks → map own_tokens ms ≡ map own_tokens ks → ms ≡ ks
+messages-same places n [] [] h k e = refl
+messages-same places n [] (x ∷ ks) h k e = absurd (cc)
+messages-same places n (m ∷ ms) [] h k e = absurd (cc)
+messages-same places n (m ∷ ms) (x ∷ ks) h k e =
+    let here : own_tokens m ≡ own_tokens x = cc in
+    let rest : map own_tokens ms ≡ map own_tokens ks = cc in
+    let first : m ≡ x = h.0 ∙ ap (with_psk_tokens places n) here ∙ sym k.0 in
+    let others : ms ≡ ks = messages-same places (n + 1) ms ks h.1 k.1 rest in
+    cc
+
+abbrev pub plan : List ℕ → List ℕ → List Token → List Token → List (List Token) → Plan
+plan base places initiator responder messages = record { base = base; places = places; initiator = initiator; responder = responder; messages = messages }
+
+pub plan-same : (b c : List ℕ) (ps qs : List ℕ) (i j r s : List Token) (ms ks : List (List Token)) → b ≡ c → ps ≡ qs → i ≡ j → r ≡ s → ms ≡ ks → plan b ps i r ms ≡ plan c qs j s ks
+plan-same b c ps qs i j r s ms ks e f g h k = cc
+
+pub placed-same : (p q plain : Plan) (places : List ℕ) → IsPattern p → plain ≡ plain_of p → places ≡ p.places → Placed plain places q → q ≡ p
+placed-same p q plain places h is places_is placed =
+    let same : plain_of q ≡ plain_of p = placed.without ∙ is in
+    let psks : HavePsks p.places q.messages = subst (λ (ns : List ℕ). HavePsks ns q.messages) places_is placed.psks in
+    plan-same q.base p.base q.places p.places q.initiator p.initiator q.responder p.responder q.messages p.messages
+    (ap (λ (x : Plan). x.base) same)
+    (placed.places_are ∙ places_is)
+    (ap (λ (x : Plan). x.initiator) same)
+    (ap (λ (x : Plan). x.responder) same)
+    (messages-same p.places 1 q.messages p.messages psks.tokens h.psks.tokens (ap (λ (x : Plan). x.messages) same))
+
+none-beyond : (count : ℕ) (ns : List ℕ) → list_all (λ n. leb n count) ns ≡ true → find (λ n. ltb count n) ns ≡ None
+none-beyond count [] h = refl
+none-beyond count (n ∷ ns) h =
+    let a = both (leb n count) (list_all (λ k. leb k count) ns) h in
+    let low : ltb count n ≡ false = not_less n count a.0 in
+    rw low (none-beyond count ns a.1)
+  where
+    not_less : (n count : ℕ) → leb n count ≡ true → ltb count n ≡ false
+    not_less n count h = grind (arith, nat_tests)
+
+pub within-places : (p plain : Plan) (places : List ℕ) (n : ℕ) → IsPattern p → plain ≡ plain_of p → places ≡ p.places → first_beyond plain places ≡ Some n → ⊥
+within-places p plain places n h is places_is e =
+    let none : first_beyond (plain_of p) p.places ≡ None = rw (length-own p.messages) (none-beyond (length p.messages) p.places h.psks.in_range) in
+    let same : first_beyond plain places ≡ first_beyond (plain_of p) p.places = ap (λ (x : Plan). first_beyond x places) is ∙ ap (λ (ns : List ℕ). first_beyond (plain_of p) ns) places_is in
+    absurd (let bad : Some n ≡ None = sym e ∙ same ∙ none in cc)
+
+pub ok-same : (r : Result Section NameFault) (x y : Section) → r ≡ Ok x → r ≡ Ok y → x ≡ y
+ok-same r x y e f = let same : Ok x ≡ r = sym e in cc
+
+pub ok-not-err : (r : Result Section NameFault) (x : NameFault) (y : Section) → r ≡ Err x → r ≡ Ok y → ⊥
+ok-not-err r x y e f = absurd (cc)
+
+pub equal_from_test : (b : Bool) (n k : ℕ) → b ≡ eqb n k → b ≡ true → n ≡ k
+equal_from_test b n k e t = let same : eqb n k ≡ true = sym e ∙ t in grind (arith, nat_tests)
+
+pub differ_from_test : (b : Bool) (n k : ℕ) → b ≡ eqb n k → b ≡ false → n ≢ k
+differ_from_test b n k e t = let same : eqb n k ≡ false = sym e ∙ t in grind (arith, nat_tests)
+
+-- the parts of a text
+pub spelled-parts : (text : List ℕ) (p : Plan) → Spells text p → text ≡ line (section_bytes p.base p.places ++ codes ":") ++ (pre_lines p.initiator p.responder ++ message_lines Initiator p.messages)
+spelled-parts text p h = h.spelled ∙ append_assoc (line (section_bytes p.base p.places ++ codes ":")) (pre_lines p.initiator p.responder) (message_lines Initiator p.messages)
+
+pub pattern-section : (p : Plan) → IsPattern p → IsSection (record { base = p.base; places = p.places })
+pattern-section p h = record { base = h.base; places = h.places }
+
+pub some-same : (x y : Plan) → Some x ≡ Some y → x ≡ y
+some-same x y e = cc
+
+pub none-not-some : (x : Plan) → None ≡ Some x → ⊥
+none-not-some x e = absurd (cc)
+
+pub true-not-false : (b : Bool) → b ≡ true → b ≡ false → ⊥
+true-not-false b e f = absurd (let bad : true ≡ false = sym e ∙ f in cc)
+
+pub counted : (p : Plan) → IsPattern p → (1 ≤ length p.messages) × (length p.messages ≤ 8)
+counted p h =
+    let a = both (leb 1 (length p.messages)) (leb (length p.messages) 8) h.count in
+    (le_from_test _ _ a.0, le_from_test _ _ a.1)

@@ -1,0 +1,11 @@
+pub mod Tokens
+pub mod Plan
+pub mod Names
+pub mod Sections
+pub mod Limits
+pub mod Text
+pub mod Fundamental
+pub mod Validity
+pub mod Overhead
+pub mod Checking
+pub mod Reading

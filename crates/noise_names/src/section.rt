@@ -1,0 +1,96 @@
+#![tactic(auto)]
+
+ghost use Rattle.std.specs.Prelude.{◌≡◌, ◌≤◌, ◌++◌, ℕ, List, take_while, length, IfSome, IfNone, IsTrue, map, Ok, Err};
+ghost use Rattle.std.specs.List.{list_all};
+ghost use Rattle.noise_names.specs.Names.{modifier, is_base_byte, base_front, is_base};
+ghost use Rattle.noise_names.specs.Sections.{modifiers_read, section_read};
+
+use crate::{NameFault, ProtocolName, PskPlaces};
+use arrayvec::ArrayVec;
+
+// The base and the psk places of a pattern section, or the first of the faults Base, Modifier and ModifierOrder.
+pub(crate) fn parse_section(section: &[u8]) -> Result<ProtocolName, NameFault>
+    ensures { result ≡ section_read section.now }
+{
+    let (base, modifiers) = section.split_at(base_len(section));
+    if !is_base(base) {
+        return Err(NameFault::Base);
+    }
+    let places = parse_modifiers(modifiers)?;
+    Ok(ProtocolName::of(base, places))
+}
+
+fn is_base_byte(byte: u8) -> bool
+    ensures { result ≡ is_base_byte byte }
+{
+    byte.is_ascii_uppercase() || byte.is_ascii_digit()
+}
+
+// How many upper-case letters and digits stand at the front.
+fn base_len(section: &[u8]) -> usize
+    ensures { result ≡ length (base_front section.now) }
+{
+    section.iter().take_while(|b| is_base_byte(**b)).count()
+}
+
+fn are_base_bytes(bytes: &[u8]) -> bool
+    ensures { result ≡ list_all is_base_byte bytes.now }
+{
+    bytes.iter().all(|b| is_base_byte(*b))
+}
+
+fn is_base(base: &[u8]) -> bool
+    ensures { result ≡ is_base base.now }
+{
+    match base.split_first() {
+        None => false,
+        Some((first, others)) => {
+            first.is_ascii_uppercase() && are_base_bytes(others) && others.len() < 8
+        }
+    }
+}
+
+// The psk places of modifiers that stand behind a base, or the first of the faults Modifier and ModifierOrder.
+fn parse_modifiers(modifiers: &[u8]) -> Result<PskPlaces, NameFault>
+    ensures { result ≡ modifiers_read modifiers.now }
+{
+    if modifiers.is_empty() {
+        return Ok(PskPlaces::none());
+    }
+    let mut numbers: ArrayVec<u8, 9> = ArrayVec::new();
+    let mut too_many = false;
+    let mut rest = modifiers;
+    loop {
+        let Some((number, behind)) = first_modifier(rest) else {
+            return Err(NameFault::Modifier);
+        };
+        if numbers.is_full() {
+            too_many = true;
+        } else {
+            numbers.push(number);
+        }
+        if behind.is_empty() {
+            break;
+        }
+        let Some(more) = behind.strip_prefix(b"+") else {
+            return Err(NameFault::Modifier);
+        };
+        rest = more;
+    }
+    if too_many {
+        return Err(NameFault::ModifierOrder);
+    }
+    PskPlaces::new(&numbers).ok_or(NameFault::ModifierOrder)
+}
+
+// The modifier at the front, and what stands behind it.
+fn first_modifier(modifiers: &[u8]) -> Option<(u8, &[u8])>
+    ensures some { IfSome result (λ r. (r.0 ≤ 8) × (modifiers.now ≡ modifier r.0 ++ r.1.now)) }
+    ensures none { IfNone result ((n : ℕ) (behind : List ℕ) → n ≤ 8 → modifiers.now ≡ modifier n ++ behind → ⊥) }
+{
+    let (digit, behind) = modifiers.strip_prefix(b"psk")?.split_first()?;
+    if *digit < b'0' || *digit > b'8' {
+        return None;
+    }
+    Some((*digit - b'0', behind))
+}

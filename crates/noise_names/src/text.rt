@@ -1,0 +1,41 @@
+//! The text of a pattern, which is written and read.
+#![tactic(auto)]
+
+mod fault;
+mod read;
+mod write;
+
+use crate::{Pattern, TextFault};
+use std::alloc::AllocError;
+
+impl Pattern {
+    ghost use Rattle.std.specs.Prelude.{◌≡◌, ◌++◌, ℕ, List, OnOk, OnErr, IfOk, Ok};
+    ghost use Rattle.noise_names.specs.Plan.{Plan};
+    ghost use Rattle.noise_names.specs.Text.{text_of, Spells};
+
+    /// The pattern that the text spells, within the limits of [`Pattern`]. A pattern has exactly one text. Else the first line
+    /// with a fault is told, counted from 1, and what is wrong in it.
+    pub fn parse_text(text: &[u8]) -> Result<Pattern, TextFault>
+        ensures spelled { IfOk result (λ pattern. Spells text.now pattern) }
+        ensures every { (pattern : Plan) → Spells text.now pattern → result ≡ Ok pattern }
+    {
+        match read::read(text) {
+            Some(pattern) => Ok(pattern),
+            None => Err(fault::first_fault(text)),
+        }
+    }
+
+    /// Appends the pattern's text: its heading, its pre-messages and its messages, each line with a line feed behind it.
+    /// It takes memory for at most 541 bytes. Without that `out` stays as it was.
+    pub fn write_text(&self, out: &mut Vec<u8>) -> Result<(), AllocError>
+        ensures written { OnOk result (out.new.items ≡ out.old.items ++ text_of self.now) }
+        ensures unchanged { OnErr result (out.new.items ≡ out.old.items) }
+    {
+        out.extend_from_slice(&write::text(self))
+    }
+
+    /// No text spells two patterns. It does nothing: its contract is the law.
+    pub fn texts_are_unique()
+        ensures { (text : List ℕ) (p q : Plan) → Spells text p → Spells text q → p ≡ q }
+    {}
+}

@@ -1,0 +1,265 @@
+#![tactic(auto)]
+
+ghost use Rattle.std.specs.Prelude.{◌<◌, length};
+
+use crate::section::parse_section;
+use crate::{ProtocolName, Role, TextFault, TextFaultKind, Token};
+use arrayvec::ArrayVec;
+
+// The first fault of a text that spells no pattern: its lines are judged in order, and after them the whole. Where each line
+// is right, and the modifiers too, only the base is left to be wrong: it is that of another fundamental pattern.
+pub(crate) fn first_fault(text: &[u8]) -> TextFault {
+    if text.is_empty() {
+        return fault(1, TextFaultKind::Heading);
+    }
+    let heading = first_line(text);
+    let Some(name) = read_heading(heading.bytes) else {
+        return fault(1, TextFaultKind::Heading);
+    };
+    if !heading.ended {
+        return fault(1, TextFaultKind::Ending);
+    }
+    let mut judged = Judged::new(&name, heading.behind);
+    let mut rest = heading.behind;
+    let mut number: usize = 2;
+    while !rest.is_empty() {
+        let line = first_line(rest);
+        if let Some(kind) = judged.judge(line.bytes) {
+            return fault(number, kind);
+        }
+        if !line.ended {
+            return fault(number, TextFaultKind::Ending);
+        }
+        rest = line.behind;
+        number = number.saturating_add(1);
+    }
+    judged.fault_of_whole(number)
+}
+
+fn fault(line: usize, kind: TextFaultKind) -> TextFault {
+    TextFault { line, kind }
+}
+
+// A line without its line feed, whether it has one, and what stands behind it.
+#[derive(Clone, Copy)]
+struct Line<'a> {
+    bytes: &'a [u8],
+    ended: bool,
+    behind: &'a [u8],
+}
+
+fn first_line(text: &[u8]) -> Line<'_>
+    requires { 0 < length text.now }
+    ensures { length result.behind.now < length text.now }
+{
+    let len = text.iter().take_while(|b| **b != b'\n').count();
+    let (bytes, behind) = text.split_at(len);
+    match behind.split_first() {
+        Some((_, behind)) => Line {
+            bytes,
+            ended: true,
+            behind,
+        },
+        None => Line {
+            bytes,
+            ended: false,
+            behind,
+        },
+    }
+}
+
+// The name that a heading gives.
+fn read_heading(bytes: &[u8]) -> Option<ProtocolName> {
+    match parse_section(bytes.strip_suffix(b":")?) {
+        Ok(name) => Some(name),
+        Err(_) => None,
+    }
+}
+
+// The line that ends the pre-messages.
+fn is_dots(bytes: &[u8]) -> bool {
+    bytes == b"  ...".as_slice()
+}
+
+fn has_dots(text: &[u8]) -> bool {
+    let mut rest = text;
+    while !rest.is_empty() {
+        let line = first_line(rest);
+        if is_dots(line.bytes) {
+            return true;
+        }
+        rest = line.behind;
+    }
+    false
+}
+
+// What was judged so far: whether a line that ends the pre-messages is still to come, which pre-messages stood before, and
+// how many messages.
+#[derive(Drop)]
+struct Judged<'a> {
+    name: &'a ProtocolName,
+    dots_ahead: bool,
+    initiator: bool,
+    responder: bool,
+    messages: u8,
+}
+
+impl Judged<'_> {
+    fn new<'a>(name: &'a ProtocolName, lines: &[u8]) -> Judged<'a> {
+        Judged {
+            name,
+            dots_ahead: has_dots(lines),
+            initiator: false,
+            responder: false,
+            messages: 0,
+        }
+    }
+
+    // What is wrong in a line behind the heading.
+    fn judge(&mut self, bytes: &[u8]) -> Option<TextFaultKind> {
+        if is_dots(bytes) {
+            return self.judge_dots();
+        }
+        let Some((role, list)) = split_arrow(bytes) else {
+            return Some(TextFaultKind::Arrow);
+        };
+        let Some(words) = Words::read(list) else {
+            return Some(TextFaultKind::Token);
+        };
+        if self.dots_ahead {
+            self.judge_pre_message(role, &words)
+        } else {
+            self.judge_message(role, &words)
+        }
+    }
+
+    fn judge_dots(&mut self) -> Option<TextFaultKind> {
+        if !self.dots_ahead || !(self.initiator || self.responder) {
+            return Some(TextFaultKind::PreMessage);
+        }
+        self.dots_ahead = false;
+        None
+    }
+
+    fn judge_pre_message(&mut self, role: Role, words: &Words) -> Option<TextFaultKind> {
+        let stands = match role {
+            Role::Initiator => self.initiator || self.responder,
+            Role::Responder => self.responder,
+        };
+        if stands || !words.are_pre_message() {
+            return Some(TextFaultKind::PreMessage);
+        }
+        match role {
+            Role::Initiator => self.initiator = true,
+            Role::Responder => self.responder = true,
+        }
+        None
+    }
+
+    fn judge_message(&mut self, role: Role, words: &Words) -> Option<TextFaultKind> {
+        let turn = if self.messages % 2 == 0 {
+            Role::Initiator
+        } else {
+            Role::Responder
+        };
+        if role != turn {
+            return Some(TextFaultKind::Turn);
+        }
+        if self.messages >= 8 || words.own == 0 || words.own > 8 {
+            return Some(TextFaultKind::Limit);
+        }
+        self.messages += 1;
+        let places = self.name.places().numbers();
+        let in_front = self.messages == 1 && places.contains(&0);
+        if words.have_psks(in_front, places.contains(&self.messages)) {
+            None
+        } else {
+            Some(TextFaultKind::PskPlace)
+        }
+    }
+
+    // What is wrong behind the last line, whose number is one less.
+    fn fault_of_whole(&self, number: usize) -> TextFault {
+        if self.messages == 0 {
+            return fault(number, TextFaultKind::Ending);
+        }
+        match self.name.places().numbers().last() {
+            Some(place) if *place > self.messages => fault(1, TextFaultKind::PskPlace),
+            _ => fault(1, TextFaultKind::NameTaken),
+        }
+    }
+}
+
+// The party of a line, and the list of its tokens.
+fn split_arrow(bytes: &[u8]) -> Option<(Role, &[u8])> {
+    if let Some(list) = bytes.strip_prefix(b"  -> ") {
+        return Some((Role::Initiator, list));
+    }
+    let list = bytes.strip_prefix(b"  <- ")?;
+    Some((Role::Responder, list))
+}
+
+// The tokens of a line: the first ten, whether there are more, and how many of all are no psk, up to 255.
+#[derive(Drop)]
+struct Words {
+    first: ArrayVec<Token, 10>,
+    more: bool,
+    own: u8,
+}
+
+impl Words {
+    // The tokens of a list. A token has no comma, so it ends where the first comma stands.
+    fn read(list: &[u8]) -> Option<Words> {
+        let mut words = Words {
+            first: ArrayVec::new(),
+            more: false,
+            own: 0,
+        };
+        let mut left = list;
+        loop {
+            let len = left.iter().take_while(|b| **b != b',').count();
+            let (word, behind) = left.split_at(len);
+            words.add(Token::named(word)?);
+            if behind.is_empty() {
+                return Some(words);
+            }
+            left = behind.strip_prefix(b", ")?;
+        }
+    }
+
+    fn add(&mut self, token: Token) {
+        if token != Token::Psk {
+            self.own = self.own.saturating_add(1);
+        }
+        if self.first.is_full() {
+            self.more = true;
+        } else {
+            self.first.push(token);
+        }
+    }
+
+    fn are_pre_message(&self) -> bool {
+        matches!(
+            self.first.as_slice(),
+            [Token::E] | [Token::S] | [Token::E, Token::S]
+        )
+    }
+
+    // Whether a psk stands in front, or at the end, exactly if it has to, and nowhere else.
+    fn have_psks(&self, in_front: bool, at_end: bool) -> bool {
+        let mut rest = self.first.as_slice();
+        if in_front {
+            match rest.split_first() {
+                Some((Token::Psk, others)) => rest = others,
+                _ => return false,
+            }
+        }
+        if at_end {
+            match rest.split_last() {
+                Some((Token::Psk, others)) => rest = others,
+                _ => return false,
+            }
+        }
+        !self.more && !rest.contains(&Token::Psk)
+    }
+}

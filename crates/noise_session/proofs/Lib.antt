@@ -1,0 +1,9 @@
+pub mod Places
+pub mod Judging
+pub mod Idling
+pub mod Standing
+pub mod Refusing
+pub mod Framing
+pub mod Once
+pub mod Cutting
+pub mod SentOnce

@@ -1,0 +1,40 @@
+-- Parts of a buffer.
+use Rattle.std.proofs.Common.{◌≡◌, ℕ, suc, ◌+◌, ◌-◌, ◌/◌, ◌%◌, ◌≤◌, List, [], ◌∷◌, ◌++◌, length, take, drop, arith, rules, refl, sym, ◌∙◌, ap, length-drop}
+use Rattle.std.proofs.lemmas.List.{places, same_lists, drop_at, drop-drop, take_rest, length-take-le, nil_from_length, append-nil}
+use borrow.Rule.Slice.PartMut.{put_mid}
+use Rattle.noise_session.specs.Frames.{frame}
+use Rattle.std.specs.Prelude.{slice_range}
+
+-- a part of what stands behind the first two bytes
+pub slice_behind : (d m post rest : List ℕ) (len from to : ℕ) → 2 ≤ length d → from ≤ to → to ≤ length m → length m + 2 ≤ len
+    → slice_range (take len (take 2 d ++ (m ++ post) ++ rest)) (from + 2) (to + 2) ≡ slice_range m from to
+slice_behind d m post rest len from to two order within long =
+    same_lists _ _ (search (rules, places)) (λ k e h. grind (arith, places))
+
+-- what stands behind the first k of the first n
+pub drop-front : (xs : List ℕ) (k n : ℕ) → take (n - k) (drop k xs) ≡ drop k (take n xs)
+drop-front xs k n = same_lists _ _ (search (rules, places)) (λ j e h. grind (arith, places))
+
+-- what stands behind the first two bytes of a buffer, all of which was written
+behind_two : (out written : List ℕ) → 2 ≤ length out → drop 2 (put_mid 2 (length out - 2) out written) ≡ written
+behind_two out written two =
+    let post = drop (length out - 2) (drop 2 out) in
+    let none : length post ≡ 0 = omega (arith, length-drop (length out - 2) (drop 2 out), length-drop 2 out) in
+    drop_at (take 2 out) (written ++ post) 2 (length-take-le 2 out two)
+    ∙ (ap (λ (p : List ℕ). written ++ p) (nil_from_length post none) ∙ append-nil written)
+
+-- A message of n bytes was written behind the first two, and its length over them.
+module _ (n : ℕ) (out written new : List ℕ) (two : 2 ≤ length out)
+    (is : new ≡ (n / 256 % 256) ∷ (n % 256) ∷ drop 2 (put_mid 2 (length out - 2) out written)) where
+  over_two : new ≡ (n / 256 % 256) ∷ (n % 256) ∷ written
+  over_two = is ∙ ap (λ (xs : List ℕ). (n / 256 % 256) ∷ (n % 256) ∷ xs) (behind_two out written two)
+
+  pub written_rest : drop n written ≡ drop n (take (length out - 2) (drop 2 out)) → drop (2 + n) new ≡ drop (2 + n) out
+  written_rest rest =
+      sym (drop-drop n 2 new)
+      ∙ (ap (λ (xs : List ℕ). drop n (drop 2 xs)) over_two ∙ (rest ∙ (ap (drop n) (take_rest out 2) ∙ drop-drop n 2 out)))
+
+  pub written_frame : n ≤ length written → take (2 + n) new ≡ frame (take n written)
+  written_frame within =
+      let two_more : 2 + n ≡ suc (suc n) = omega arith in
+      ap (take (2 + n)) over_two ∙ rw (two_more, length-take-le n written within) refl

@@ -1,0 +1,9 @@
+pub mod Frames
+pub mod Transport
+pub mod Steps
+pub mod Progress
+pub mod Ends
+pub mod Taking
+pub mod Sending
+pub mod Outcomes
+pub mod Incoming

@@ -1,0 +1,23 @@
+-- Transport messages and their keys (Noise 5.2, 11.3 and 12.3).
+use Rattle.std.specs.Prelude.{ℕ, ◌-◌, ◌/◌, ◌^◌, List, [], if◌then◌else◌, ◌==◌}
+use Rattle.noise_names.specs.declared.token.Role.{Role}
+use Rattle.noise_names.specs.declared.token.Role.TheVariants.{Initiator, Responder}
+use Rattle.noise_state.specs.History.{History, initiator_key, responder_key, rekeyed_times}
+use Rattle.noise_aead.specs.Sealing.{sealed, nonce_of}
+
+-- the key of the messages that a role writes, at nonce 0
+abbrev pub split_key : History → Role → List ℕ
+split_key r Initiator = initiator_key r
+split_key r Responder = responder_key r
+
+-- how often the key was renewed before this nonce; an interval of 0 means never
+abbrev pub renewals : ℕ → ℕ → ℕ
+renewals interval n = if interval == 0 then 0 else n / interval
+
+-- transport message n of a writer
+abbrev pub packet : History → Role → ℕ → ℕ → List ℕ → List ℕ
+packet r writer interval n payload = sealed (rekeyed_times (renewals interval n) (split_key r writer)) (nonce_of n) [] payload
+
+-- the nonce that no message has
+abbrev pub last_nonce : ℕ
+last_nonce = 2 ^ 64 - 1

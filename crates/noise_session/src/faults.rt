@@ -1,0 +1,21 @@
+//! Why a payload isn't written.
+#![tactic(auto)]
+
+/// Why a payload isn't written. Looked for in the order Ended, OneWay, NotYourTurn, TooLong, Exhausted, Agreement, Output.
+#[derive(Clone, Copy, Debug, PartialEq, Eq)]
+pub enum SendFault {
+    /// The other end writes the next handshake message.
+    NotYourTurn,
+    /// The message would have more than 65535 bytes.
+    TooLong,
+    /// The keys give no answer at this DH token of the handshake message, counted from 0. The session has ended.
+    Agreement { token: u8 },
+    /// The session has ended.
+    Ended,
+    /// This end is the responder of a one-way session that is open: it writes nothing.
+    OneWay,
+    /// The sending nonce is 2^64 - 1, which no message has. The session has ended.
+    Exhausted,
+    /// A write to the output failed behind so many first bytes of the frame. The session has ended.
+    Output { written: usize },
+}

@@ -1,0 +1,27 @@
+//! What bytes came to.
+#![tactic(auto)]
+
+use noise_handshake::Cause;
+
+/// What an end tells of the bytes that it was handed.
+#[derive(Clone, Copy, Debug, PartialEq, Eq)]
+pub enum Step<'a> {
+    /// The session has ended; no byte was taken.
+    Ended,
+    /// This end writes the next handshake message; no byte was taken.
+    YourTurn,
+    /// This end is the initiator of a one-way session that is open: nothing comes to it. No byte was taken.
+    Silent,
+    /// The frame isn't whole yet; all bytes were taken.
+    More,
+    /// A frame was accepted, with this payload; the bytes up to its end were taken.
+    Payload(&'a [u8]),
+    /// A transport frame was refused, and the session goes on as before it; the bytes up to its end were taken.
+    Dropped(Cause),
+    /// A handshake frame was refused, at this token, counted from 0, or at the payload behind the last. The session has
+    /// ended; the bytes up to the frame's end were taken.
+    Refused { token: u8, cause: Cause },
+    /// A transport frame came at nonce 2^64 - 1, which no message has. The session has ended; the bytes up to the frame's
+    /// end were taken.
+    Exhausted,
+}

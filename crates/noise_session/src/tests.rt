@@ -1,0 +1,167 @@
+//! The frames of two ends of NN, with values worked by hand.
+#![tactic(auto)]
+
+ghost use Rattle.std.specs.Prelude.{◌≡◌, IfOk, vec_len};
+
+use crate::{End, SendFault, Stage, Step};
+use noise_handshake::{Cause, Handshake, Remote, XorKeys};
+use noise_names::{Role, fundamental};
+use std::alloc::{AllocError, Global};
+use std::process::Abort;
+use std::test::Fail;
+
+// A new end of NN with an empty prologue. Its ephemeral public key has this byte throughout.
+fn new_end(alloc: Global, role: Role, byte: u8) -> Result<End<XorKeys>, Fail> {
+    let pattern = fundamental(b"NN").ok_or("no pattern")?.check()?;
+    let keys = XorKeys {
+        e: Some([byte; 32]),
+        s: None,
+    };
+    let remote = Remote { e: None, s: None };
+    let handshake = Handshake::new(pattern, role, b"", keys, remote, &[])?;
+    Ok(End::new(alloc, handshake, 0)?)
+}
+
+// The end takes so many bytes of the piece, and tells this.
+fn takes(rt: &impl Abort, end: &mut End<XorKeys>, piece: &[u8], count: usize, step: Step<'_>) {
+    let open = end.is_open();
+    assert!(rt; !open);
+    let (taken, told) = end.take(piece);
+    assert_eq!(rt; taken, count);
+    assert_eq!(rt; told, step);
+}
+
+// What the end writes of the payload.
+fn written(
+    rt: &impl Abort,
+    alloc: Global,
+    end: &mut End<XorKeys>,
+    payload: &[u8],
+) -> Result<Result<Vec<u8>, SendFault>, Fail> {
+    let open = end.is_open();
+    assert!(rt; !open);
+    let room = end.frame_len(payload.len()).unwrap_or(0);
+    let mut out = zeros(alloc, room)?;
+    match end.write_into(payload, out.as_mut_slice()) {
+        Ok(count) => {
+            assert_eq!(rt; count, room);
+            Ok(Ok(out))
+        }
+        Err(fault) => Ok(Err(fault)),
+    }
+}
+
+// So many zero bytes.
+fn zeros(alloc: Global, count: usize) -> Result<Vec<u8>, AllocError>
+    ensures { IfOk result (λ bytes. vec_len bytes ≡ count) }
+{
+    vec![in alloc; 0u8; count]
+}
+
+// The first frame with the payload `hi`, where the initiator's key is all 11.
+fn first_frame() -> [u8; 36] {
+    let mut frame = [0x11; 36];
+    frame[0] = 0x00;
+    frame[1] = 0x22;
+    frame[34] = b'h';
+    frame[35] = b'i';
+    frame
+}
+
+#[test]
+fn writes_the_first_frame(rt: HostRuntime) -> Result<(), Fail> {
+    let mut initiator = new_end(rt.alloc(), Role::Initiator, 0x11)?;
+    assert_eq!(rt; initiator.role(), Role::Initiator);
+    assert_eq!(rt;
+        initiator.stage(),
+        Stage::Handshake {
+            done: 0,
+            ours: true
+        }
+    );
+    takes(&rt, &mut initiator, b"early", 0, Step::YourTurn);
+    let frame = written(&rt, rt.alloc(), &mut initiator, b"hi")?.map_err(|_| "refused")?;
+    assert_eq!(rt; frame.as_slice(), first_frame().as_slice());
+    assert_eq!(rt;
+        initiator.stage(),
+        Stage::Handshake {
+            done: 1,
+            ours: false
+        }
+    );
+    assert_eq!(rt; initiator.hash(), None);
+    let again = written(&rt, rt.alloc(), &mut initiator, b"hi")?;
+    assert_eq!(rt; again.err(), Some(SendFault::NotYourTurn));
+    Ok(())
+}
+
+#[test]
+fn takes_a_byte_a_call(rt: HostRuntime) -> Result<(), Fail> {
+    let mut responder = new_end(rt.alloc(), Role::Responder, 0x22)?;
+    let frame = first_frame();
+    takes(&rt, &mut responder, b"", 0, Step::More);
+    for i in 0..35 {
+        assert_eq!(rt; responder.held(), i);
+        takes(&rt, &mut responder, &frame[i..i + 1], 1, Step::More);
+    }
+    takes(&rt, &mut responder, &frame[35..], 1, Step::Payload(b"hi"));
+    assert_eq!(rt; responder.held(), 0);
+    assert_eq!(rt;
+        responder.stage(),
+        Stage::Handshake {
+            done: 1,
+            ours: true
+        }
+    );
+    Ok(())
+}
+
+#[test]
+fn stops_at_the_frame_end(rt: HostRuntime) -> Result<(), Fail> {
+    let mut responder = new_end(rt.alloc(), Role::Responder, 0x22)?;
+    let mut piece = [0; 41];
+    piece[..36].copy_from_slice(&first_frame());
+    takes(&rt, &mut responder, &piece, 36, Step::Payload(b"hi"));
+    takes(&rt, &mut responder, &piece[36..], 0, Step::YourTurn);
+    Ok(())
+}
+
+#[test]
+fn ends_at_a_refused_frame(rt: HostRuntime) -> Result<(), Fail> {
+    let mut responder = new_end(rt.alloc(), Role::Responder, 0x22)?;
+    let mut piece = [0x11; 33];
+    piece[0] = 0x00;
+    piece[1] = 0x1f;
+    let refused = Step::Refused {
+        token: 0,
+        cause: Cause::Short,
+    };
+    takes(&rt, &mut responder, &piece, 33, refused);
+    assert_eq!(rt; responder.stage(), Stage::Ended);
+    takes(&rt, &mut responder, &first_frame(), 0, Step::Ended);
+    takes(&rt, &mut responder, b"", 0, Step::Ended);
+    let unwritten = written(&rt, rt.alloc(), &mut responder, b"hi")?;
+    assert_eq!(rt; unwritten.err(), Some(SendFault::Ended));
+    Ok(())
+}
+
+#[test]
+fn keeps_to_the_longest_frame(rt: HostRuntime) -> Result<(), Fail> {
+    let mut initiator = new_end(rt.alloc(), Role::Initiator, 0x11)?;
+    let payload = zeros(rt.alloc(), 65504)?;
+    let unwritten = written(&rt, rt.alloc(), &mut initiator, &payload)?;
+    assert_eq!(rt; unwritten.err(), Some(SendFault::TooLong));
+    assert_eq!(rt;
+        initiator.stage(),
+        Stage::Handshake {
+            done: 0,
+            ours: true
+        }
+    );
+    let frame = written(&rt, rt.alloc(), &mut initiator, &payload[..65503])?.map_err(
+        |_| "refused",
+    )?;
+    assert_eq!(rt; frame.len(), 65537);
+    assert_eq!(rt; &frame[..3], [0xff, 0xff, 0x11].as_slice());
+    Ok(())
+}

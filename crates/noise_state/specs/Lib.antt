@@ -1,0 +1,5 @@
+pub mod Cipher
+pub mod History
+pub mod Standing
+pub use Rattle.noise_aead.specs.Sealing
+pub use Rattle.noise_kdf.specs.Hkdf

@@ -1,0 +1,19 @@
+-- What a symmetric state (Noise 5.2) stands for.
+use Rattle.std.specs.Prelude.{◌≡◌, ℕ, Bool, is_some}
+use Rattle.noise_state.specs.declared.symmetric.SymmetricState.{SymmetricState}
+use Rattle.noise_state.specs.History.{History, chaining_key, hash, cipher_key, nonce}
+
+-- whether a key is there
+abbrev pub keyed : SymmetricState → Bool
+keyed s = is_some s.cipher.key
+
+-- the nonce of the next encryption or decryption
+abbrev pub nonce_now : SymmetricState → ℕ
+nonce_now s = s.cipher.nonce
+
+-- the state is the one that the history leads to
+pub record StateStands (s : SymmetricState) (r : History) : Type 0 where
+  pub chaining_key_is : s.chaining_key ≡ chaining_key r
+  pub hash_is : s.hash ≡ hash r
+  pub key_is : s.cipher.key ≡ cipher_key r
+  pub nonce_is : s.cipher.nonce ≡ nonce r

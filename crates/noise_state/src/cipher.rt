@@ -1,0 +1,220 @@
+//! CipherState (Noise 5.1, 11.3): a key, or none, and the nonce that counts its use.
+
+ghost use Rattle.std.specs.Prelude.{◌≡◌, ◌≤◌, ◌<◌, ◌-◌, ◌+◌, ◌^◌, ◌++◌, ◌↔◌, ℕ, List, length, take, drop, is_some, IsOk, IsSome, IfOk, IfErr, IfSome, IfNone, OnOk, OnErr, Some, None};
+ghost use Rattle.std.specs.Option.{option_map};
+ghost use Rattle.noise_aead.specs.Sealing.{sealed, nonce_of, rekeyed};
+ghost use Rattle.noise_state.specs.History.{piece_under};
+
+use noise_aead::{nonce, open_in_place, rekey, seal_in_place};
+
+const MAX_LEN: usize = 65535;
+
+const TAG_LEN: usize = 16;
+
+const RESERVED_NONCE: u64 = u64::MAX;
+
+/// Why nothing was encrypted or decrypted. If several hold, the first in the order Exhausted,
+/// TooLong, Short, Tag is told.
+#[derive(Clone, Copy, Debug, PartialEq, Eq)]
+pub enum CipherFault {
+    /// There is a key, and its nonce is `2^64 - 1`, which is reserved (Noise 5.1).
+    Exhausted,
+    /// The tag is not that of the ciphertext.
+    Tag,
+    /// There is a key, and the bytes to decrypt are fewer than the 16 of a tag.
+    Short,
+    /// The bytes to decrypt, or the text with its tag, are more than 65535.
+    TooLong,
+}
+
+/// A key of 32 bytes, or none, and the nonce of its next use (Noise 5.1). Without a key a text
+/// passes as it is.
+///
+/// It can be copied, since a symmetric state is. A copy must not be used beside the original: both
+/// would encrypt at the same nonce, and then the cipher protects neither text.
+#[derive(Clone, Copy)]
+pub struct CipherState {
+    key: Option<[u8; 32]>,
+    nonce: u64,
+}
+
+impl CipherState {
+    ghost use Rattle.noise_state.specs.Cipher.{key_in, keyed_in, nonce_in, sealed_len, next_nonce, HasNonce, EncryptRefused, DecryptRefused};
+
+    /// A cipher state without a key, at nonce 0.
+    pub fn empty() -> CipherState
+        ensures key { key_in result ≡ None }
+        ensures nonce { nonce_in result ≡ 0 }
+    {
+        CipherState {
+            key: None,
+            nonce: 0,
+        }
+    }
+
+    /// A cipher state with this key, at nonce 0 (InitializeKey).
+    pub fn with_key(key: [u8; 32]) -> CipherState
+        ensures key { key_in result ≡ Some key }
+        ensures nonce { nonce_in result ≡ 0 }
+    {
+        CipherState {
+            key: Some(key),
+            nonce: 0,
+        }
+    }
+
+    pub fn has_key(&self) -> bool
+        ensures { result ≡ keyed_in self.now }
+    {
+        self.key.is_some()
+    }
+
+    pub fn nonce(&self) -> u64
+        ensures { result ≡ nonce_in self.now }
+    {
+        self.nonce
+    }
+
+    /// Sets the nonce of the next use, for transports that name it in each message (Noise 11.4).
+    /// A nonce that was used before must not be set again for encryption.
+    pub fn set_nonce(&mut self, nonce: u64)
+        ensures key { key_in self.new ≡ key_in self.old }
+        ensures nonce { nonce_in self.new ≡ nonce }
+    {
+        self.nonce = nonce;
+    }
+
+    /// Changes the key to the one that follows from it (Rekey, Noise 11.3). The nonce goes on.
+    pub fn rekey(&mut self)
+        requires { IsSome (key_in self.old) }
+        ensures key { key_in self.new ≡ option_map rekeyed (key_in self.old) }
+        ensures nonce { nonce_in self.new ≡ nonce_in self.old }
+    {
+        if let Some(key) = self.key {
+            self.key = Some(rekey(&key));
+        }
+    }
+
+    /// Encrypts the text in the first `len` bytes of `buf` in place (EncryptWithAd). With a key its
+    /// tag of 16 bytes follows it, and the nonce rises by one. The answer is the length of both.
+    ///
+    /// `buf` has to hold them where they are at most 65535 bytes. `ad` has at most 65535 bytes. At
+    /// an `Err` nothing has changed.
+    pub fn encrypt(&mut self, ad: &[u8], buf: &mut [u8], len: usize) -> Result<usize, CipherFault>
+        requires ad_fits { length ad.now ≤ 65535 }
+        requires room { sealed_len (keyed_in self.old) len ≤ 65535
+            → sealed_len (keyed_in self.old) len ≤ length buf.old }
+        ensures ready { IsOk result ↔ (HasNonce (keyed_in self.old) (nonce_in self.old)
+            × (sealed_len (keyed_in self.old) len ≤ 65535)) }
+        ensures refused { IfErr result (λ fault.
+            EncryptRefused (keyed_in self.old) (nonce_in self.old) len fault) }
+        ensures range { IfOk result (λ n.
+            (n ≡ sealed_len (keyed_in self.old) len) × (n ≤ length buf.new)) }
+        ensures sealed { IfOk result (λ n. take n buf.new
+            ≡ piece_under (key_in self.old) (nonce_in self.old) ad.now (take len buf.old)) }
+        ensures beyond { IfOk result (λ n. drop n buf.new ≡ drop n buf.old) }
+        ensures key { key_in self.new ≡ key_in self.old }
+        ensures counted { OnOk result (
+            nonce_in self.new ≡ next_nonce (keyed_in self.old) (nonce_in self.old)) }
+        ensures unchanged { OnErr result (buf.new ≡ buf.old) }
+        ensures same { OnErr result (self.new ≡ self.old) }
+    {
+        let Some(key) = self.key else {
+            return if len > MAX_LEN {
+                Err(CipherFault::TooLong)
+            } else {
+                Ok(len)
+            };
+        };
+        if self.nonce == RESERVED_NONCE {
+            return Err(CipherFault::Exhausted);
+        }
+        if len > MAX_LEN - TAG_LEN {
+            return Err(CipherFault::TooLong);
+        }
+        seal(&key, self.nonce, ad, buf, len);
+        self.nonce += 1;
+        Ok(len + TAG_LEN)
+    }
+
+    /// Decrypts `buf` in place (DecryptWithAd). With a key its last 16 bytes are the tag, which
+    /// stay as they are, and the nonce rises by one. The answer is the length of the text, which
+    /// stands at the front.
+    ///
+    /// `ad` has at most 65535 bytes. The tag is checked before a byte is changed: at an `Err`
+    /// nothing has changed, and the next call decrypts at the same nonce.
+    pub fn decrypt(&mut self, ad: &[u8], buf: &mut [u8]) -> Result<usize, CipherFault>
+        requires ad_fits { length ad.now ≤ 65535 }
+        ensures accepts { IsOk result ↔ (HasNonce (keyed_in self.old) (nonce_in self.old)
+            × (length buf.old ≤ 65535) × ((plain : List ℕ)
+            × (buf.old ≡ piece_under (key_in self.old) (nonce_in self.old) ad.now plain))) }
+        ensures refused { IfErr result (λ fault.
+            DecryptRefused (keyed_in self.old) (nonce_in self.old) (length buf.old) fault) }
+        ensures range { IfOk result (λ n.
+            (n ≤ length buf.new) × (sealed_len (keyed_in self.old) n ≡ length buf.old)) }
+        ensures opened { IfOk result (λ n. buf.old
+            ≡ piece_under (key_in self.old) (nonce_in self.old) ad.now (take n buf.new)) }
+        ensures beyond { IfOk result (λ n. drop n buf.new ≡ drop n buf.old) }
+        ensures key { key_in self.new ≡ key_in self.old }
+        ensures counted { OnOk result (
+            nonce_in self.new ≡ next_nonce (keyed_in self.old) (nonce_in self.old)) }
+        ensures unchanged { OnErr result (buf.new ≡ buf.old) }
+        ensures same { OnErr result (self.new ≡ self.old) }
+    {
+        let Some(key) = self.key else {
+            return if buf.len() > MAX_LEN {
+                Err(CipherFault::TooLong)
+            } else {
+                Ok(buf.len())
+            };
+        };
+        if self.nonce == RESERVED_NONCE {
+            return Err(CipherFault::Exhausted);
+        }
+        if buf.len() > MAX_LEN {
+            return Err(CipherFault::TooLong);
+        }
+        if buf.len() < TAG_LEN {
+            return Err(CipherFault::Short);
+        }
+        let Some(len) = open(&key, self.nonce, ad, buf) else {
+            return Err(CipherFault::Tag);
+        };
+        self.nonce += 1;
+        Ok(len)
+    }
+}
+
+// Seals the first `len` bytes in place, with the tag behind them.
+fn seal(key: &[u8; 32], counter: u64, ad: &[u8], buf: &mut [u8], len: usize)
+    requires ad_fits { length ad.now ≤ 65535 }
+    requires text { len ≤ 65535 }
+    requires room { len + 16 ≤ length buf.old }
+    ensures { buf.new
+        ≡ sealed key.now (nonce_of counter) ad.now (take len buf.old) ++ drop (len + 16) buf.old }
+{
+    let tag = seal_in_place(key, &nonce(counter), ad, &mut buf[..len]);
+    buf[len..len + TAG_LEN].copy_from_slice(&tag);
+}
+
+// Opens all in front of the tag in place, and gives its length; with a wrong tag nothing changes.
+fn open(key: &[u8; 32], counter: u64, ad: &[u8], buf: &mut [u8]) -> Option<usize>
+    requires ad_fits { length ad.now ≤ 65535 }
+    requires bytes { length buf.old ≤ 65535 }
+    requires tag { 16 ≤ length buf.old }
+    ensures accepts { IsSome result ↔ ((plain : List ℕ)
+        × (buf.old ≡ sealed key.now (nonce_of counter) ad.now plain)) }
+    ensures range { IfSome result (λ n. n + 16 ≡ length buf.new) }
+    ensures opened { IfSome result (λ n.
+        (buf.old ≡ sealed key.now (nonce_of counter) ad.now (take n buf.new))
+        × (drop n buf.new ≡ drop n buf.old)) }
+    ensures unchanged { IfNone result (buf.new ≡ buf.old) }
+{
+    let len = buf.len() - TAG_LEN;
+    let mut tag = [0; TAG_LEN];
+    tag.copy_from_slice(&buf[len..]);
+    match open_in_place(key, &nonce(counter), ad, &mut buf[..len], &tag) {
+        Ok(()) => Some(len),
+        Err(_) => None,
+    }
+}

@@ -1,0 +1,196 @@
+//! SymmetricState (Noise 5.2): the chaining key, the handshake hash and the cipher state.
+
+ghost use Rattle.std.specs.Prelude.{◌≡◌, ◌≤◌, ◌<◌, ◌-◌, ◌+◌, ◌^◌, ◌++◌, ◌↔◌, ℕ, List, [], length, take, drop, is_some, true, false, IsOk, IsSome, IfOk, IfErr, OnOk, OnErr, Some};
+ghost use Rattle.sha2.specs.Sha256.{sha256};
+ghost use Rattle.noise_state.specs.History.{History, Mix, Part, Key, KeyHash, and_then, piece, cipher_key, nonce, hash, start_value, initiator_key, responder_key};
+
+use crate::cipher::{CipherFault, CipherState};
+use noise_kdf::{expand2, expand3};
+use sha2::{Digest, Sha256};
+
+const HASH_LEN: usize = 32;
+
+// The first hash: a name of at most 32 bytes with zeros behind it, the digest of a longer one.
+fn first_hash(name: &[u8]) -> [u8; 32]
+    ensures { result ≡ start_value name.now }
+{
+    if name.len() > HASH_LEN {
+        return Sha256::digest(name);
+    }
+    let mut hash = [0; HASH_LEN];
+    hash[..name.len()].copy_from_slice(name);
+    hash
+}
+
+fn hash_of_both(hash: &[u8; 32], text: &[u8]) -> [u8; 32]
+    ensures { result ≡ sha256 (hash.now ++ text.now) }
+{
+    let mut hasher = Sha256::new();
+    hasher.update(hash);
+    hasher.update(text);
+    hasher.finalize()
+}
+
+/// The state of a handshake's key schedule (Noise 5.2). It stands for a history: the protocol name,
+/// and what was mixed and encrypted since.
+///
+/// It can be copied, so that a handshake can read a message in a copy, and put the copy in place of
+/// the original only once the whole message was accepted. A copy must not be used beside the
+/// original: both would encrypt at the same nonce, and then the cipher protects neither text.
+#[derive(Clone, Copy)]
+pub struct SymmetricState {
+    chaining_key: [u8; 32],
+    hash: [u8; 32],
+    cipher: CipherState,
+}
+
+impl SymmetricState {
+    ghost use Rattle.noise_state.specs.Standing.{StateStands, keyed, nonce_now};
+    ghost use Rattle.noise_state.specs.Cipher.{key_in, nonce_in, sealed_len, next_nonce, HasNonce, EncryptRefused, DecryptRefused};
+
+    /// The state of a protocol name, with nothing mixed and no key (InitializeSymmetric).
+    pub fn new(name: &[u8]) -> SymmetricState
+        ensures stands { StateStands result (record { name = name.now; entries = [] }) }
+        ensures key { keyed result ≡ false }
+        ensures nonce { nonce_now result ≡ 0 }
+    {
+        let hash = first_hash(name);
+        SymmetricState {
+            chaining_key: hash,
+            hash,
+            cipher: CipherState::empty(),
+        }
+    }
+
+    /// Mixes a key input, as a DH answer, into the chaining key, and takes a new key (MixKey).
+    pub fn mix_key(&mut self, input: &[u8; 32])
+        ensures stands { (r : History) → StateStands self.old r
+            → StateStands self.new (and_then r (Key input.now)) }
+        ensures key { keyed self.new ≡ true }
+        ensures nonce { nonce_now self.new ≡ 0 }
+    {
+        let (chaining_key, cipher_key) = expand2(&self.chaining_key, input);
+        self.chaining_key = chaining_key;
+        self.cipher = CipherState::with_key(cipher_key);
+    }
+
+    /// Mixes a text into the hash (MixHash).
+    pub fn mix_hash(&mut self, text: &[u8])
+        ensures stands { (r : History) → StateStands self.old r
+            → StateStands self.new (and_then r (Mix text.now)) }
+        ensures key { keyed self.new ≡ keyed self.old }
+        ensures nonce { nonce_now self.new ≡ nonce_now self.old }
+    {
+        self.hash = hash_of_both(&self.hash, text);
+    }
+
+    /// Mixes a key input, as a pre-shared secret, into the chaining key and the hash, and takes a
+    /// new key (MixKeyAndHash).
+    pub fn mix_key_and_hash(&mut self, input: &[u8; 32])
+        ensures stands { (r : History) → StateStands self.old r
+            → StateStands self.new (and_then r (KeyHash input.now)) }
+        ensures key { keyed self.new ≡ true }
+        ensures nonce { nonce_now self.new ≡ 0 }
+    {
+        let (chaining_key, text, key) = expand3(&self.chaining_key, input);
+        self.chaining_key = chaining_key;
+        self.hash = hash_of_both(&self.hash, &text);
+        self.cipher = CipherState::with_key(key);
+    }
+
+    /// Encrypts the text in the first `len` bytes of `buf` in place under the hash, and mixes what
+    /// is sent into the hash (EncryptAndHash). With a key a tag of 16 bytes follows the text. The
+    /// answer is the length of both.
+    ///
+    /// `buf` has to hold them where they are at most 65535 bytes. At an `Err`, which is Exhausted
+    /// or TooLong, nothing has changed.
+    pub fn encrypt_and_hash(&mut self, buf: &mut [u8], len: usize) -> Result<usize, CipherFault>
+        requires { sealed_len (keyed self.old) len ≤ 65535
+            → sealed_len (keyed self.old) len ≤ length buf.old }
+        ensures ready { IsOk result ↔ (HasNonce (keyed self.old) (nonce_now self.old)
+            × (sealed_len (keyed self.old) len ≤ 65535)) }
+        ensures refused { IfErr result (λ fault.
+            EncryptRefused (keyed self.old) (nonce_now self.old) len fault) }
+        ensures range { IfOk result (λ n.
+            (n ≡ sealed_len (keyed self.old) len) × (n ≤ length buf.new)) }
+        ensures ok { (r : History) → StateStands self.old r → IfOk result (λ n.
+            (take n buf.new ≡ piece r (take len buf.old))
+            × StateStands self.new (and_then r (Part (piece r (take len buf.old))))) }
+        ensures beyond { IfOk result (λ n. drop n buf.new ≡ drop n buf.old) }
+        ensures err { (r : History) → StateStands self.old r
+            → OnErr result (StateStands self.new r) }
+        ensures unchanged { OnErr result (buf.new ≡ buf.old) }
+        ensures same { OnErr result (self.new ≡ self.old) }
+        ensures key { keyed self.new ≡ keyed self.old }
+        ensures counted { OnOk result (
+            nonce_now self.new ≡ next_nonce (keyed self.old) (nonce_now self.old)) }
+        ensures nonce { nonce_now self.new ≤ nonce_now self.old + 1 }
+    {
+        let sent = self.cipher.encrypt(&self.hash, buf, len)?;
+        self.hash = hash_of_both(&self.hash, &buf[..sent]);
+        Ok(sent)
+    }
+
+    /// Decrypts `buf` in place under the hash, and mixes it as it was received into the hash
+    /// (DecryptAndHash). With a key its last 16 bytes are the tag, which stay as they are. The
+    /// answer is the length of the text, which stands at the front.
+    ///
+    /// At an `Err` nothing has changed.
+    pub fn decrypt_and_hash(&mut self, buf: &mut [u8]) -> Result<usize, CipherFault>
+        ensures accepted { OnOk result (HasNonce (keyed self.old) (nonce_now self.old)
+            × (length buf.old ≤ 65535)) }
+        ensures refused { IfErr result (λ fault.
+            DecryptRefused (keyed self.old) (nonce_now self.old) (length buf.old) fault) }
+        ensures range { IfOk result (λ n. n ≤ length buf.new) }
+        ensures text { IfOk result (λ n. sealed_len (keyed self.old) n ≡ length buf.old) }
+        ensures ok { (r : History) → StateStands self.old r → IfOk result (λ n.
+            (buf.old ≡ piece r (take n buf.new)) × StateStands self.new (and_then r (Part buf.old))) }
+        ensures beyond { IfOk result (λ n. drop n buf.new ≡ drop n buf.old) }
+        ensures err { (r : History) → StateStands self.old r
+            → nonce r < 2 ^ 64 - 1 → length buf.old ≤ 65535 → OnErr result (
+            ((plain : List ℕ) → buf.old ≡ piece r plain → ⊥) × StateStands self.new r) }
+        ensures unchanged { OnErr result (buf.new ≡ buf.old) }
+        ensures same { OnErr result (self.new ≡ self.old) }
+        ensures key { keyed self.new ≡ keyed self.old }
+        ensures counted { OnOk result (
+            nonce_now self.new ≡ next_nonce (keyed self.old) (nonce_now self.old)) }
+        ensures nonce { nonce_now self.new ≤ nonce_now self.old + 1 }
+    {
+        let hash = hash_of_both(&self.hash, buf);
+        let len = self.cipher.decrypt(&self.hash, buf)?;
+        self.hash = hash;
+        Ok(len)
+    }
+
+    pub fn has_key(&self) -> bool
+        ensures stands { (r : History) → StateStands self.now r
+            → result ≡ is_some (cipher_key r) }
+        ensures key { result ≡ keyed self.now }
+    {
+        self.cipher.has_key()
+    }
+
+    /// The handshake hash (GetHandshakeHash, Noise 11.2).
+    pub fn hash(&self) -> [u8; 32]
+        ensures { (r : History) → StateStands self.now r → result ≡ hash r }
+    {
+        self.hash
+    }
+
+    /// The two cipher states of the transport, the one for initiator to responder first, each with
+    /// a key at nonce 0 (Split).
+    pub fn split(&self) -> (CipherState, CipherState)
+        ensures initiator { (r : History) → StateStands self.now r
+            → key_in result.0 ≡ Some (initiator_key r) }
+        ensures responder { (r : History) → StateStands self.now r
+            → key_in result.1 ≡ Some (responder_key r) }
+        ensures keys { IsSome (key_in result.0) × IsSome (key_in result.1) }
+        ensures nonces { (nonce_in result.0 ≡ 0) × (nonce_in result.1 ≡ 0) }
+    {
+        let (initiator, responder) = expand2(&self.chaining_key, &[]);
+        (
+            CipherState::with_key(initiator),
+            CipherState::with_key(responder),
+        )
+    }
+}

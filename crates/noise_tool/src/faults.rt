@@ -1,0 +1,78 @@
+//! Why a command ends before its work is done.
+
+ghost use Rattle.std.specs.Prelude.{◌≡◌};
+ghost use Rattle.noise_tool.specs.Faults.{status_of};
+ghost use Rattle.noise_tool.specs.declared.faults.Fault.TheVariants.{Memory};
+
+use noise_handshake::SetupFault;
+use noise_names::{Role, RuleFault};
+use std::alloc::AllocError;
+
+/// Which line of a vector file isn't as it has to be.
+#[derive(Clone, Copy, Debug, PartialEq, Eq)]
+pub enum LineKind {
+    Header,
+    Protocol,
+    Prologue,
+    Interval,
+    Psk,
+    Keys,
+    Event,
+    Ending,
+}
+
+impl LineKind {
+    /// The word that the fault's text has for it.
+    pub fn word(self) -> &'static str {
+        match self {
+            LineKind::Header => "header",
+            LineKind::Protocol => "protocol",
+            LineKind::Prologue => "prologue",
+            LineKind::Interval => "interval",
+            LineKind::Psk => "psk",
+            LineKind::Keys => "keys",
+            LineKind::Event => "event",
+            LineKind::Ending => "ending",
+        }
+    }
+}
+
+/// Why a command ends before its work is done.
+#[derive(Clone, Copy, Debug, PartialEq, Eq)]
+pub enum Fault {
+    /// The pattern breaks a rule of validity.
+    Rule(RuleFault),
+    /// An end can't be made of what the file gives it.
+    Setup(Role, SetupFault),
+    /// The line of this number, from 1 on, isn't as it has to be.
+    Line(usize, LineKind),
+    /// The file has more bytes than are read.
+    TooLong,
+    /// The file can't be opened or read.
+    Unreadable,
+    /// The output can't be written.
+    Unwritable,
+    /// Memory ran out.
+    Memory,
+}
+
+impl Fault {
+    /// The exit status of a command that ends with it.
+    pub fn status(&self) -> u8
+        ensures { result ≡ status_of self.now }
+    {
+        match self {
+            Fault::Rule(_) | Fault::Setup(_, _) => 1,
+            Fault::Line(_, _) | Fault::TooLong => 2,
+            Fault::Unreadable | Fault::Unwritable | Fault::Memory => 3,
+        }
+    }
+}
+
+impl From<AllocError> for Fault {
+    ghost from_gives = { λ _ fault. fault ≡ Memory };
+
+    fn from(_error: AllocError) -> Fault {
+        Fault::Memory
+    }
+}

@@ -1,0 +1,60 @@
+//! Lines of output.
+
+ghost use Rattle.std.specs.Prelude.{◌≡◌, ◌++◌, ◌∷◌, IfOk, OnOk, decimal, string_bytes};
+ghost use Rattle.noise_tool.specs.HexWord.{hex_of};
+
+use crate::faults::Fault;
+use crate::hex_words::hex_word;
+use std::alloc::{AllocError, Global};
+use std::io::Write;
+
+/// A line of output, made word by word.
+#[derive(Debug, Drop)]
+pub struct Line {
+    alloc: Global,
+    text: Vec<u8>,
+}
+
+impl Line {
+    /// The line of this one word.
+    pub fn new(alloc: Global, word: &str) -> Result<Line, AllocError>
+        ensures { IfOk result (λ line. line.text.items ≡ word.now) }
+    {
+        let mut text = Vec::new(alloc);
+        text.extend_from_slice(word.as_bytes())?;
+        Ok(Line { alloc, text })
+    }
+
+    /// One word more.
+    pub fn word(&mut self, word: &str) -> Result<(), AllocError>
+        ensures { OnOk result (self.new.text.items ≡ self.old.text.items ++ 32 ∷ word.now) }
+    {
+        self.text.push(b' ')?;
+        self.text.extend_from_slice(word.as_bytes())
+    }
+
+    /// One word more: a number.
+    pub fn number(&mut self, number: u64) -> Result<(), AllocError>
+        ensures { OnOk result (self.new.text.items ≡ self.old.text.items ++ 32 ∷ decimal number) }
+    {
+        let digits = format!(in self.alloc; "{number}")?;
+        self.word(digits.as_str())
+    }
+
+    /// One word more: bytes in hex.
+    pub fn hex(&mut self, bytes: &[u8]) -> Result<(), AllocError>
+        ensures { OnOk result (self.new.text.items ≡ self.old.text.items ++ 32 ∷ hex_of bytes.now) }
+    {
+        self.text.push(b' ')?;
+        hex_word(bytes, &mut self.text)
+    }
+
+    /// Writes the line, with an LF behind it.
+    pub fn write<W: Write>(mut self, out: &mut W) -> Result<(), Fault> {
+        self.text.push(b'\n').map_err(AllocError::from)?;
+        match out.write_all(self.text.as_slice()) {
+            Ok(()) => Ok(()),
+            Err(_) => Err(Fault::Unwritable),
+        }
+    }
+}

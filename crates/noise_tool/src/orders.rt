@@ -1,0 +1,30 @@
+//! The commands, and why words are none.
+
+ghost use Rattle.std.specs.Prelude.{◌≡◌};
+ghost use Rattle.noise_tool.specs.declared.orders.LineFault.TheVariants.{Memory};
+
+use std::alloc::AllocError;
+
+/// A command with its value.
+#[derive(Debug, Drop, PartialEq, Eq)]
+pub enum Chosen {
+    /// Run two ends on the vector file of this name.
+    Talk(String),
+}
+
+/// Why the words of a command line are no command.
+#[derive(Debug, Drop)]
+pub enum LineFault {
+    /// Memory ran out.
+    Memory,
+    /// What `clap` says of the words. Help that they ask for comes this way too.
+    Line(clap::Error),
+}
+
+impl From<AllocError> for LineFault {
+    ghost from_gives = { λ _ fault. fault ≡ Memory };
+
+    fn from(_error: AllocError) -> LineFault {
+        LineFault::Memory
+    }
+}

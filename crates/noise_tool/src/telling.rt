@@ -1,0 +1,88 @@
+//! The texts of faults.
+
+ghost use Rattle.std.specs.Prelude.{◌≤◌};
+
+use crate::faults::Fault;
+use crate::line::Line;
+use crate::report::role_word;
+use noise_handshake::SetupFault;
+use std::alloc::{AllocError, Global};
+use std::io::Write;
+
+/// Writes what the fault is, a broken rule to `out` and any other to `err`, and gives the exit status. Where memory for the text or a
+/// write to `out` is refused, that is the fault; a refused write to `err` changes nothing.
+pub fn tell<O: Write, E: Write>(alloc: Global, fault: Fault, out: &mut O, err: &mut E) -> u8
+    ensures { result ≤ 3 }
+{
+    match write_fault(alloc, fault, out, err) {
+        Ok(()) => fault.status(),
+        Err(other) => {
+            let _ = err.write_all(last_text(other));
+            other.status()
+        }
+    }
+}
+
+fn write_fault<O: Write, E: Write>(
+    alloc: Global,
+    fault: Fault,
+    out: &mut O,
+    err: &mut E,
+) -> Result<(), Fault> {
+    let line = fault_line(alloc, fault)?;
+    if let Fault::Rule(_) = fault {
+        return line.write(out);
+    }
+    match line.write(err) {
+        Err(Fault::Memory) => Err(Fault::Memory),
+        _ => Ok(()),
+    }
+}
+
+// A text that takes no memory.
+fn last_text(fault: Fault) -> &'static [u8] {
+    match fault {
+        Fault::Unwritable => b"cannot write\n",
+        _ => b"out of memory\n",
+    }
+}
+
+fn fault_line(alloc: Global, fault: Fault) -> Result<Line, AllocError> {
+    match fault {
+        Fault::Rule(broken) => {
+            let mut line = Line::new(alloc, "rule")?;
+            line.number(u64::from(broken.rule))?;
+            line.word("message")?;
+            line.number(u64::from(broken.message))?;
+            line.word("token")?;
+            line.number(u64::from(broken.token))?;
+            Ok(line)
+        }
+        Fault::Setup(role, fault) => {
+            let mut line = Line::new(alloc, "setup")?;
+            line.word(role_word(role))?;
+            line.word(setup_word(fault))?;
+            Ok(line)
+        }
+        Fault::Line(number, kind) => {
+            let mut line = Line::new(alloc, "line")?;
+            line.number(number as u64)?;
+            line.word(kind.word())?;
+            Ok(line)
+        }
+        Fault::TooLong => Line::new(alloc, "file too long"),
+        Fault::Unreadable => Line::new(alloc, "cannot read"),
+        Fault::Unwritable => Line::new(alloc, "cannot write"),
+        Fault::Memory => Line::new(alloc, "out of memory"),
+    }
+}
+
+fn setup_word(fault: SetupFault) -> &'static str {
+    match fault {
+        SetupFault::EphemeralMissing => "ephemeral-missing",
+        SetupFault::StaticMissing => "static-missing",
+        SetupFault::RemoteMissing => "remote-missing",
+        SetupFault::RemoteUnexpected => "remote-unexpected",
+        SetupFault::PskCount => "psk-count",
+    }
+}

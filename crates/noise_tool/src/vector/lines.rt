@@ -1,0 +1,80 @@
+//! The lines of a text.
+
+ghost use Rattle.std.specs.Prelude.{◌≡◌, ◌↔◌, ◌+◌, ◌≤◌, [], IsTrue, IsOk, IfOk, IfErr, IsErrOf, MatchBool, length};
+ghost use Rattle.noise_tool.specs.VectorText.{line};
+
+use crate::faults::{Fault, LineKind};
+
+/// A text that is read line by line.
+#[derive(Debug, Drop)]
+pub struct Lines<'a> {
+    /// What is still to be read.
+    pub rest: &'a [u8],
+    /// The number of the line that was read last, 0 before the first.
+    pub number: usize,
+    /// Whether that line has an LF behind it.
+    pub is_ended: bool,
+}
+
+impl<'a> Lines<'a> {
+    /// The text from its first line on.
+    pub fn new(text: &'a [u8]) -> Lines<'a>
+        ensures { (result.rest.now ≡ text.now) × (result.number ≡ 0) }
+    {
+        Lines {
+            rest: text,
+            number: 0,
+            is_ended: true,
+        }
+    }
+
+    /// The next line without its LF, or the fault that there is none.
+    pub fn next(&mut self) -> Result<&'a [u8], Fault>
+        ensures ended { IfOk result (λ text. IsTrue self.new.is_ended → self.old.rest.now ≡ line text.now self.new.rest.now) }
+        ensures missing { IfErr result (λ fault. (self.old.rest.now ≡ []) × (fault ≡ Fault.Line self.new.number LineKind.Ending)) }
+    {
+        self.number = self.number.saturating_add(1);
+        if self.rest.is_empty() {
+            return Err(self.fault(LineKind::Ending));
+        }
+        let rest = self.rest;
+        match rest.iter().position(|byte| *byte == b'\n') {
+            Some(place) => {
+                self.is_ended = true;
+                self.rest = &rest[place + 1..];
+                Ok(&rest[..place])
+            }
+            None => {
+                self.rest = &rest[rest.len()..];
+                self.is_ended = false;
+                Ok(rest)
+            }
+        }
+    }
+
+    /// Whether all lines were read.
+    pub fn is_empty(&self) -> bool
+        ensures { IsTrue result ↔ (self.now.rest.now ≡ []) }
+    {
+        self.rest.is_empty()
+    }
+
+    /// The fault that the line that was read last isn't as it has to be.
+    pub fn fault(&self, kind: LineKind) -> Fault
+        ensures { result ≡ Fault.Line self.now.number kind }
+    {
+        Fault::Line(self.number, kind)
+    }
+
+    /// The fault that the line that was read last has no LF behind it, if it hasn't.
+    pub fn end(&self) -> Result<(), Fault>
+        ensures ended { IsOk result ↔ IsTrue self.now.is_ended }
+        ensures fault { IfErr result (λ fault. fault ≡ Fault.Line self.now.number LineKind.Ending) }
+    {
+        if self.is_ended {
+            Ok(())
+        } else {
+            Err(self.fault(LineKind::Ending))
+        }
+    }
+}
