@@ -9,7 +9,7 @@ ghost use Rattle.noise_names.specs.Validity.{stands};
 ghost use Rattle.noise_names.specs.Overhead.{has_key};
 ghost use Rattle.noise_names.specs.declared.token.Token.TheVariants.{E, S};
 ghost use Rattle.noise_state.specs.Standing.{StateStands, keyed, nonce_now};
-ghost use Rattle.noise_state.specs.History.{History};
+ghost use Rattle.noise_state.specs.History.{History, Mix, and_then};
 ghost use Rattle.noise_handshake.specs.View.{with_premessage};
 ghost use Rattle.noise_handshake.specs.Setup.{HasPre, token_of, secrets_of, setup_fault, public_keys, keys_of, lacks_own, start_of};
 ghost use Rattle.noise_handshake.specs.Passed.{passed_places};
@@ -198,6 +198,15 @@ fn keys_of(party: Role, role: Role, own: &Remote, remote: &Remote) -> Remote
     if is_same(party, role) { *own } else { *remote }
 }
 
+// Mixes the prologue, an empty one too.
+fn mix_prologue(state: &mut SymmetricState, prologue: &[u8])
+    ensures key { keyed state.new ≡ keyed state.old }
+    ensures nonce { nonce_now state.new ≡ nonce_now state.old }
+    ensures mixed { (r : History) → StateStands state.old r → StateStands state.new (and_then r (Mix prologue.now)) }
+{
+    state.mix_hash(prologue);
+}
+
 // The state at the start.
 pub(crate) fn start(
     pattern: &Pattern,
@@ -219,7 +228,7 @@ pub(crate) fn start(
     let second = pattern.pre(Role::Responder);
     let name = pattern.name().write();
     let mut state = SymmetricState::new(&name);
-    state.mix_hash(prologue);
+    mix_prologue(&mut state, prologue);
     mix_premessage(&mut state, with_psks, &initiator, first);
     mix_premessage(&mut state, with_psks, &responder, second);
     state

@@ -1,5 +1,4 @@
 pub mod Checking
-pub mod Examples
 pub mod Fundamentals
 pub mod Lengths
 pub mod Modifiers

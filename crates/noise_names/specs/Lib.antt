@@ -9,3 +9,4 @@ pub mod Validity
 pub mod Overhead
 pub mod Checking
 pub mod Reading
+pub mod Examples

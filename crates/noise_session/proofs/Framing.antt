@@ -4,7 +4,7 @@ use Rattle.std.proofs.lemmas.Bool.Decides.{nat_tests}
 use Rattle.std.proofs.lemmas.List.{take_at, drop_at, append_cancel_left}
 use Rattle.byteorder.specs.Endian.{big_bytes, big_number}
 use Rattle.byteorder.specs.Numbers.{big_number-reads_back}
-use Rattle.noise_session.specs.Frames.{frame, frame_length, IsPartial}
+use Rattle.noise_session.specs.Frames.{frame, IsPartial}
 
 -- the length that a frame begins with
 number-frame : (m rest : List ℕ) → length m ≤ 65535 → big_number 2 (frame m ++ rest) ≡ length m

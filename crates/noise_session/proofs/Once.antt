@@ -1,14 +1,14 @@
 -- A piece comes to one thing at an end.
-use Rattle.std.proofs.Common.{◌≡◌, ℕ, ◌+◌, List, [], ◌++◌, length, true, false, Some, None, refl, sym, ◌∙◌, ap, subst, arith, append_assoc, length-append}
+use Rattle.std.proofs.Common.{◌≡◌, ℕ, List, [], length, false, refl, sym, ◌∙◌, ap, subst, arith}
 use Rattle.std.proofs.lemmas.Bool.{false≢true}
 use Rattle.noise_handshake.specs.declared.faults.Cause.{Cause}
 use Rattle.noise_handshake.specs.View.{View, Accepts, Refuses}
 use Rattle.noise_handshake.specs.Party.{behind_message}
-use Rattle.noise_session.specs.Frames.{frame, IsPartial}
+use Rattle.noise_session.specs.Frames.{IsPartial}
 use Rattle.noise_session.specs.Steps.{Told}
-use Rattle.noise_session.specs.Steps.Told.{More, Payload, Refused}
-use Rattle.noise_session.specs.Progress.{Progress, is_open, idle_step}
-use Rattle.noise_session.specs.Ends.{EndView, progress_of, closed}
+use Rattle.noise_session.specs.Steps.Told.{Payload, Refused}
+use Rattle.noise_session.specs.Progress.{is_open}
+use Rattle.noise_session.specs.Ends.{EndView, progress_of}
 use Rattle.noise_session.specs.Taking.{Judges, Takes}
 use Rattle.noise_session.specs.Taking.Judges.{accepted, refused, opened, dropped, exhausted}
 use Rattle.noise_session.specs.Taking.Takes.{idles, waits, judges}

@@ -1,8 +1,7 @@
 -- Why a payload isn't written, by the handshake's own faults.
 use Rattle.std.proofs.Common.{◌≡◌, ℕ, ◌==◌, nat_lt, length, Bool, true, false, not, ◌&&◌, ◌⊎◌, inl, inr, Option, Some, None, is_some, IsSome, if◌then◌else◌, refl, rules}
-use Rattle.noise_handshake.specs.declared.faults.WriteFault.{WriteFault}
 use Rattle.noise_handshake.specs.declared.faults.WriteFault.TheVariants as write
-use Rattle.noise_handshake.specs.Held.{Held, is_turn, length_now, length_unless, message_len_of}
+use Rattle.noise_handshake.specs.Held.{is_turn, length_now, length_unless, message_len_of}
 use Rattle.noise_session.specs.Progress.{is_open, refusal}
 use Rattle.noise_session.specs.Ends.{HeldEnd, progress}
 

@@ -1,5 +1,5 @@
 -- A payload comes to one thing at an end.
-use Rattle.std.proofs.Common.{◌≡◌, ℕ, List, length, false, Option, Some, None, Result, Ok, Err, refl, sym, ◌∙◌, ap}
+use Rattle.std.proofs.Common.{◌≡◌, ℕ, List, length, false, Option, Some, Result, Ok, Err, refl, sym, ◌∙◌, ap}
 use Rattle.std.proofs.lemmas.Bool.{false≢true}
 use Rattle.noise_handshake.specs.View.{View}
 use Rattle.noise_handshake.specs.Writing.{Writes, Lacks}

@@ -4,7 +4,7 @@ use Rattle.noise_handshake.specs.declared.keys.Own.{Own}
 use Rattle.noise_handshake.specs.Held.{Held}
 use Rattle.noise_handshake.specs.Party.{Stands}
 use Rattle.noise_session.specs.Frames.{IsPartial}
-use Rattle.noise_session.specs.Ends.{HeldEnd, EndView, EndStands, progress, progress_of}
+use Rattle.noise_session.specs.Ends.{EndView, EndStands, progress, progress_of}
 
 pub progress_stands : {K : Type 0} (public_of : K → Own → Option (List ℕ)) (agreement : K → Own → List ℕ → Option (List ℕ))
     (h : Held K) (interval : ℕ) (held : List ℕ) (v : EndView) → Stands public_of agreement h v.party → v.sent ≡ 0 → v.received ≡ 0

@@ -1,5 +1,5 @@
 -- What an end makes of a payload (Noise 5.3, 11.3 and 13).
-use Rattle.std.specs.Prelude.{◌≡◌, ℕ, ◌+◌, List, length, Option, Some, None, Result, Ok, Err, IsTrue}
+use Rattle.std.specs.Prelude.{◌≡◌, ℕ, ◌+◌, List, length, Some, None, Result, Ok, Err, IsTrue}
 use Rattle.noise_handshake.specs.Writing.{Writes, Lacks}
 use Rattle.noise_handshake.specs.Party.{behind_own}
 use Rattle.noise_session.specs.declared.faults.SendFault.{SendFault}

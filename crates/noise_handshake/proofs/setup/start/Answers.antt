@@ -14,7 +14,7 @@ returns-clause-stands c =
     let b : Bool = not c.is_plain-with_psks.result in
     let psks : b ≡ has_psk p = flips c.is_plain-with_psks.result (has_psk p) c.is_plain-with_psks.ensures in
     let named = c.deref.ensures.0 ∙ c.write-name.ensures ∙ ap name_bytes c.name.ensures in
-    let s1 = c.mix_hash.ensures.stands _ c.new-state.ensures.stands in
+    let s1 = c.mix_prologue.ensures.mixed _ c.new-state.ensures.stands in
     let s2 = c.mix_premessage.ensures.mixed _ s1 in
     let s3 = c.mix_premessage-2.ensures.mixed _ s2 in
     subst (λ (r : History). StateStands c.mix_premessage-2.new.state r)
@@ -29,5 +29,5 @@ returns-clause-key c =
     let b : Bool = not c.is_plain-with_psks.result in
     let psks : b ≡ has_psk p = flips c.is_plain-with_psks.result (has_psk p) c.is_plain-with_psks.ensures in
     start-key p b c.pre-first.result.now c.pre-second.result.now psks c.pre-first.ensures.same c.pre-second.ensures.same
-    (keyed c.mix_hash.new.self) (keyed c.mix_premessage.new.state) (keyed c.mix_premessage-2.new.state) (c.mix_hash.ensures.key ∙ c.new-state.ensures.key)
+    (keyed c.mix_prologue.new.state) (keyed c.mix_premessage.new.state) (keyed c.mix_premessage-2.new.state) (c.mix_prologue.ensures.key ∙ c.new-state.ensures.key)
     c.mix_premessage.ensures.key c.mix_premessage-2.ensures.key c.pre-first.ensures.limits.initiator c.pre-first.ensures.limits.responder

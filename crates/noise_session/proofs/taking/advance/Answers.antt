@@ -1,9 +1,9 @@
-use Rattle.std.proofs.Common.{◌≡◌, ℕ, ◌+◌, ◌++◌, List, [], length, take, drop, true, false, Some, None, refl, sym, ◌∙◌, ap, subst, arith, append_assoc, length-drop}
+use Rattle.std.proofs.Common.{◌≡◌, ℕ, ◌+◌, ◌++◌, List, [], length, take, drop, true, false, sym, ◌∙◌, ap, subst, arith, append_assoc, length-drop}
 use Rattle.std.proofs.lemmas.List.{take-append-drop}
 use Rattle.noise_handshake.specs.Held.{is_turn}
 use Rattle.noise_session.specs.Frames.{frame, IsPartial}
 use Rattle.noise_session.specs.Steps.Told.{Ended, YourTurn}
-use Rattle.noise_session.specs.Progress.{Progress, is_open, idle_step}
+use Rattle.noise_session.specs.Progress.{Progress, is_open}
 use Rattle.noise_session.specs.Ends.{progress_of}
 use Rattle.noise_session.specs.Taking.Takes.{idles, waits, judges}
 use Rattle.noise_session.specs.Incoming.{bytes_of}

@@ -1,4 +1,4 @@
-use Rattle.std.proofs.Common.{◌≡◌, ◌-◌, ◌≤◌, ◌+◌, length, take, drop, refl, sym, ◌∙◌, ap, arith, rules}
+use Rattle.std.proofs.Common.{◌≡◌, ◌-◌, take, drop, refl, sym, arith}
 use Rattle.noise_session.specs.Incoming.{bytes_of}
 use Rattle.noise_session.proofs.Places.{slice_behind, drop-front}
 use Rattle.noise_session.proofs.Judging.{accepted_as, refused_as}

@@ -1,4 +1,4 @@
-use Rattle.std.proofs.Common.{◌≡◌, ℕ, List, [], length, sym, ◌∙◌, subst, arith}
+use Rattle.std.proofs.Common.{◌≡◌, ℕ, List, [], sym, ◌∙◌, subst, arith}
 use Rattle.noise_session.specs.Frames.{IsPartial}
 use Rattle.noise_session.specs.Incoming.{bytes_of}
 use Rattle.noise_session.proofs.end.End.new.Goals as goal

@@ -1,7 +1,7 @@
 use Rattle.std.proofs.Common.{◌≡◌, ℕ, ◌-◌, List, MatchOption, take, drop, refl, sym, ◌∙◌, ap, subst}
 use Rattle.std.specs.Prelude.{⊤}
 use Rattle.noise_session.specs.declared.outcome.Outcome.{Outcome}
-use Rattle.noise_session.specs.Ends.{HeldEnd, EndView, EndStands, progress, progress_in}
+use Rattle.noise_session.specs.Ends.{HeldEnd, EndStands, progress, progress_in}
 use Rattle.noise_session.specs.Progress.{idle_step, behind_step}
 use Rattle.noise_session.specs.Steps.{Told}
 use Rattle.noise_session.specs.Steps.Told.{Ended, YourTurn, More, Payload, Refused}

@@ -1,4 +1,4 @@
-use Rattle.std.proofs.Common.{◌≡◌, ◌≤◌, ◌+◌, ℕ, List, [], length, take, drop, true, false, not, None, Ok, Err, Some, is_some, sym, ◌∙◌, ap, subst, arith}
+use Rattle.std.proofs.Common.{◌≡◌, ◌≤◌, ◌+◌, ℕ, List, [], length, take, true, false, not, None, Ok, Some, is_some, sym, ◌∙◌, ap, subst, arith}
 use Rattle.noise_handshake.specs.Held.{message_len_of}
 use Rattle.noise_handshake.specs.Party.{behind_own}
 use Rattle.noise_session.specs.Frames.{IsPartial}

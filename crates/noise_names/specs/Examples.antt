@@ -1,14 +1,14 @@
 -- What the definitions give at known patterns, names and texts, by computing.
-use Rattle.std.proofs.Common.{◌≡◌, ℕ, List, [], ◌∷◌, ◌++◌, Option, Some, None, refl, map, ap}
-use Rattle.std.specs.Prelude.{codes, find}
+use Rattle.std.specs.Prelude.{◌≡◌, ℕ, List, [], ◌∷◌, ◌++◌, Option, Some, None, map, find, codes, refl}
 use Rattle.noise_names.specs.declared.token.Token.{Token}
 use Rattle.noise_names.specs.declared.token.Token.TheVariants.{E, S, Ee, Es, Se, Ss, Psk}
 use Rattle.noise_names.specs.declared.faults.RuleFault.{RuleFault}
 use Rattle.noise_names.specs.declared.faults.NameFault.{NameFault}
 use Rattle.noise_names.specs.declared.faults.NameFault.TheVariants.{Length, Prefix, Base, Modifier, ModifierOrder, Algorithm}
-use Rattle.noise_names.specs.Plan.{Plan, plain_of}
+use Rattle.noise_names.specs.Tokens.{own_tokens}
+use Rattle.noise_names.specs.Plan.{Plan}
 use Rattle.noise_names.specs.Names.{has_fault, name_bytes, prefix, suffix}
-use Rattle.noise_names.specs.Limits.{HavePsksAt, IsPattern}
+use Rattle.noise_names.specs.Limits.{HavePsksAt, with_psk_tokens}
 use Rattle.noise_names.specs.Fundamental.{fundamentals, fundamental_of}
 use Rattle.noise_names.specs.Text.{text_of, line}
 use Rattle.noise_names.specs.Overhead.{overhead_of}
@@ -121,25 +121,14 @@ pub XXpsk0-psk3-placed :
     HavePsksAt (0 ∷ 3 ∷ []) 1 ((Psk ∷ E ∷ []) ∷ (E ∷ Ee ∷ S ∷ Es ∷ []) ∷ (S ∷ Se ∷ Psk ∷ []) ∷ [])
 XXpsk0-psk3-placed = (refl, (refl, (refl, tt)))
 
--- a text whose messages are not those of NN
-pub NN-swapped : Plan
-NN-swapped = of (codes "NN") [] [] [] ((E ∷ []) ∷ (Ee ∷ E ∷ []) ∷ [])
+-- the fundamental pattern of that base
+pub NN-known : fundamental_of (codes "NN") ≡ Some (NN (E ∷ []))
+unfolding fundamentals fundamental_of
+NN-known = refl
 
-pub NN-swapped-text : text_of NN-swapped ≡ line (codes "NN:") ++ line (codes "  -> e") ++ line (codes "  <- ee, e")
-unfolding NN-swapped
-NN-swapped-text = refl
-
-swapped : plain_of NN-swapped ≡ NN (E ∷ []) → ⊥
-unfolding NN-swapped
-swapped e = let f : (E ∷ []) ∷ (Ee ∷ E ∷ []) ∷ [] ≡ (E ∷ []) ∷ (E ∷ Ee ∷ []) ∷ [] = ap (λ (p : Plan). p.messages) e in cc
-
-pub NN-swapped-taken : IsPattern NN-swapped → ⊥
-unfolding NN-swapped fundamentals fundamental_of
-NN-swapped-taken h = swapped h.known
-
--- a psk token in front of message 1 for place 1
-pub A-psk_wrong : HavePsksAt (1 ∷ []) 1 ((Psk ∷ E ∷ []) ∷ []) → ⊥
-A-psk_wrong h = let e = h.0 in cc
+-- the psk token of place 1 stands at the end of message 1
+pub A-psk : with_psk_tokens (1 ∷ []) 1 (own_tokens (Psk ∷ E ∷ [])) ≡ E ∷ Psk ∷ []
+A-psk = refl
 
 -- the faults of names
 abbrev faults : List NameFault
