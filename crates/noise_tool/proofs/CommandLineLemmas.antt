@@ -1,6 +1,8 @@
 -- From a parse's matches to the order that they state.
-use Rattle.std.proofs.Common.{◌≡◌, ℕ, ◌∙◌, ap, sym, refl, codes, List, [], ◌∷◌, Option, Some, None, option_map}
-use Rattle.std.specs.Prelude.{Box}
+use Rattle.std.proofs.Common.{◌≡◌, ap, ap₂, sym, refl, codes, List, [], ◌∷◌, Option, Some, None, option_map}
+use Rattle.std.specs.Prelude.{Box, Bool, true, false}
+use Rattle.std.specs.Str.{bytes_eq}
+use Rattle.std.proofs.lemmas.Slice.Eq.{bytes_eq-Decides}
 use Rattle.std.specs.Box.{box_value}
 use Rattle.clap.specs.Walk.{Row, Text}
 use Rattle.clap.specs.Kinds.{IsAmong, Kinds}
@@ -29,13 +31,30 @@ stated_in-found None name rows e f = cc e
 stated_in-found (Some (n, r)) name rows e f =
     let same_name : n ≡ name = cc in
     let same_rows : r ≡ rows = cc in
-    rw (same_name, same_rows) refl
+    ap₂ stated_by same_name same_rows
 
 -- where no fault is found, the order is the one that the matches state
 pub asked-stated : (words : List Text) → fault_of noise words ≡ [] → asked words ≡ stated_in (subcommand_of noise words)
 asked-stated words e = ap (λ (kinds : Kinds). asked_without kinds (stated_in (subcommand_of noise words))) e
 
 -- a kind is among those of no empty list
-pub asked_without-among : (k : ErrorKind) (kinds : Kinds) (o : Option (Text × Text)) → IsAmong k kinds → asked_without kinds o ≡ None
+pub asked_without-among : (k : ErrorKind) (kinds : Kinds) (o : Option (Text × Option Text)) → IsAmong k kinds → asked_without kinds o ≡ None
 asked_without-among k [] o h = absurd h
 asked_without-among k (x ∷ xs) o h = refl
+
+-- a text is not equal to another one
+differs : (x name : Text) → (name ≡ x → ⊥) → bytes_eq x name ≡ false
+differs x name other = at (bytes_eq x name) refl where
+  at : (b : Bool) → bytes_eq x name ≡ b → bytes_eq x name ≡ false
+  at true same = absurd (other (sym ((bytes_eq-Decides x name).0 same)))
+  at false e = e
+
+-- no other name states an order
+pub stated_by-unknown : (name : Text) (rows : List Row) → (name ≡ codes "list" → ⊥) → (name ≡ codes "show" → ⊥) → (name ≡ codes "check" → ⊥)
+    → (name ≡ codes "talk" → ⊥) → stated_by name rows ≡ None
+stated_by-unknown name rows list show check talk =
+    let no_list = differs (codes "list") name list in
+    let no_show = differs (codes "show") name show in
+    let no_check = differs (codes "check") name check in
+    let no_talk = differs (codes "talk") name talk in
+    rw (no_list, no_show, no_check, no_talk) refl

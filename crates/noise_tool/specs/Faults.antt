@@ -1,12 +1,16 @@
 -- The exit status of each fault.
 use Rattle.std.specs.Prelude.{ℕ}
 use Rattle.noise_tool.specs.declared.faults.Fault.{Fault}
-use Rattle.noise_tool.specs.declared.faults.Fault.TheVariants.{Rule, Setup, Line, TooLong, Unreadable, Unwritable, Memory}
+use Rattle.noise_tool.specs.declared.faults.Fault.TheVariants.{Rule, Place, Setup, Name, UnknownPattern, Text, Line, TooLong, Unreadable, Unwritable, Memory}
 
--- 1 for ends that can't be made, 2 for the file's text, 3 for what is outside the program
+-- 1 for a pattern or ends that can't be made, 2 for what a name or a file says, 3 for what is outside the program
 abbrev pub status_of : Fault → ℕ
 status_of (Rule fault) = 1
+status_of (Place fault) = 1
 status_of (Setup role fault) = 1
+status_of (Name fault) = 2
+status_of UnknownPattern = 2
+status_of (Text fault) = 2
 status_of (Line number kind) = 2
 status_of TooLong = 2
 status_of Unreadable = 3

@@ -1,4 +1,11 @@
 pub mod CommandLine
+pub mod Cuts
+pub mod Ends
 pub mod Faults
+pub mod FileKeys
 pub mod HexWord
+pub mod Named
+pub mod Output
+pub mod OwnPattern
 pub mod VectorText
+pub mod Words

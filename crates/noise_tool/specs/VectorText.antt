@@ -4,46 +4,77 @@ use Rattle.std.specs.List.{join_with_byte}
 use Rattle.hex.specs.Hex.{encode_lower}
 use Rattle.noise_names.specs.declared.token.Role.{Role}
 use Rattle.noise_names.specs.declared.token.Role.TheVariants.{Initiator, Responder}
-use Rattle.noise_handshake.specs.declared.xor_keys.XorKeys.{XorKeys}
+use Rattle.noise_names.specs.Names.{name_bytes}
+use Rattle.noise_names.specs.Plan.{Plan}
+use Rattle.noise_names.specs.Text as PatternText
+use Rattle.noise_handshake.specs.declared.keys.Own.{Own}
+use Rattle.noise_handshake.specs.declared.keys.Own.TheVariants.{Ephemeral, Static}
+use Rattle.noise_handshake.specs.declared.table_keys.Entry.{Entry}
 use Rattle.noise_tool.specs.HexWord.{hex_of}
+use Rattle.noise_tool.specs.declared.file_keys.FileKeys.{FileKeys}
+use Rattle.noise_tool.specs.declared.file_keys.FileKeys.TheVariants.{Xor, Table}
 use Rattle.noise_tool.specs.declared.vector.VectorFile.{VectorFile}
 use Rattle.noise_tool.specs.declared.vector.Say.{Say}
-use Rattle.noise_tool.specs.declared.vector.words.Cuts.{Cuts}
 
 -- a line with its LF (10), and the text behind it
 abbrev pub line : List ℕ → List ℕ → List ℕ
 line text rest = text ++ 10 ∷ rest
+
+-- a line for each, with these words, and the text behind them
+abbrev pub lines_of : {A : Type 0} → (A → List ℕ) → List A → List ℕ → List ℕ
+lines_of words [] rest = rest
+lines_of words (x ∷ xs) rest = line (words x) (lines_of words xs rest)
 
 -- a key as 64 digits, or a hyphen for none
 abbrev pub key_word : Option (List ℕ) → List ℕ
 key_word None = codes "-"
 key_word (Some key) = encode_lower key
 
--- a party's ephemeral and static key, with a space (32) between them
-abbrev pub keys_words : XorKeys → List ℕ
-keys_words keys = key_word keys.e ++ 32 ∷ key_word keys.s
+-- an ephemeral and a static key, with a space (32) between them
+abbrev pub key_words : Option (List ℕ) → Option (List ℕ) → List ℕ
+key_words e s = key_word e ++ 32 ∷ key_word s
 
 abbrev pub role_word : Role → List ℕ
 role_word Initiator = codes "initiator"
 role_word Responder = codes "responder"
+
+abbrev pub own_word : Own → List ℕ
+own_word Ephemeral = codes "e"
+own_word Static = codes "s"
 
 -- the lengths with commas (44) between them, or a hyphen for none
 abbrev pub lengths_word : List ℕ → List ℕ
 lengths_word [] = codes "-"
 lengths_word (n ∷ ns) = join_with_byte 44 (map decimal (n ∷ ns))
 
-abbrev pub say_words : Say → List ℕ
-say_words say = role_word say.role ++ 32 ∷ (hex_of say.payload.items ++ 32 ∷ lengths_word say.cuts)
+-- the pattern's text and the line behind it, where the file spells one
+abbrev pub block_text : Option Plan → List ℕ → List ℕ
+block_text None rest = rest
+block_text (Some pattern) rest = PatternText.text_of pattern ++ line (codes "end") rest
 
-abbrev pub events_text : Option Say → List ℕ
-events_text None = []
-events_text (Some say) = line (codes "say " ++ say_words say) []
+abbrev pub psk_words : List ℕ → List ℕ
+psk_words psk = codes "psk " ++ encode_lower psk
+
+abbrev pub answer_words : Entry → List ℕ
+answer_words a = codes "answer " ++ (own_word a.own ++ 32 ∷ (encode_lower a.remote ++ 32 ∷ encode_lower a.answer))
+
+-- a party's line, and the answers of its table
+abbrev pub party_text : Role → FileKeys → List ℕ → List ℕ
+party_text role (Xor keys) rest = line (role_word role ++ (codes " xor " ++ key_words keys.e keys.s)) rest
+party_text role (Table keys) rest =
+    line (role_word role ++ (codes " table " ++ key_words keys.e keys.s)) (lines_of answer_words keys.entries rest)
+
+abbrev pub say_words : Say → List ℕ
+say_words say = codes "say " ++ (role_word say.role ++ 32 ∷ (hex_of say.payload.items ++ 32 ∷ lengths_word say.cuts))
 
 abbrev pub text_of : VectorFile → List ℕ
-text_of file = line (codes "vector 1")
-    (line (codes "protocol Noise_NN_25519_ChaChaPoly_SHA256")
+text_of file =
+    line (codes "vector 1")
+    (line (codes "protocol " ++ name_bytes file.protocol)
+    (block_text file.block
     (line (codes "prologue " ++ hex_of file.prologue.items)
     (line (codes "interval " ++ decimal file.interval)
-    (line (codes "initiator xor " ++ keys_words file.initiator)
-    (line (codes "responder xor " ++ keys_words file.responder)
-    (events_text file.event))))))
+    (lines_of psk_words file.psks.items
+    (party_text Initiator file.initiator
+    (party_text Responder file.responder
+    (lines_of say_words file.events.items []))))))))

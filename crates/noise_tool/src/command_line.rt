@@ -1,8 +1,9 @@
 //! What the words of the command line ask for.
 
-ghost use Rattle.std.specs.Prelude.{◌≡◌, ◌≢◌, ◌⊎◌, IfOk, IfErr, Some, None, map, option_map, string_bytes};
-ghost use Rattle.clap.specs.Words.{app_of, kind_of, subcommand_rows_of};
-ghost use Rattle.noise_tool.specs.CommandLine.{asked, noise, order_of, stated_in};
+ghost use Rattle.std.specs.Prelude.{◌≡◌, ◌≢◌, ◌⊎◌, IfOk, IfErr, Some, None, false, map, option_map, string_bytes};
+ghost use Rattle.clap.specs.Words.{app_of, first_of, found_of, kind_of, rows_of, shape_of, subcommand_rows_of};
+ghost use Rattle.clap.specs.declared.builder.command.Command.TheViews.{out-Command};
+ghost use Rattle.noise_tool.specs.CommandLine.{asked, noise, order_of, stated_in, subcommand};
 
 use crate::orders::{Chosen, LineFault};
 use clap::error::ErrorKind;
@@ -19,7 +20,7 @@ pub fn chosen(alloc: Global, words: Vec<String>) -> Result<Chosen, LineFault>
         Ok(matches) => match order(alloc, &matches)? {
             Some(order) => Ok(order),
             None => {
-                let error = noise.error(ErrorKind::MissingRequiredArgument, "no file is named")?;
+                let error = noise.error(ErrorKind::MissingRequiredArgument, "a value is missing")?;
                 Err(LineFault::Line(error))
             }
         },
@@ -31,27 +32,73 @@ pub fn chosen(alloc: Global, words: Vec<String>) -> Result<Chosen, LineFault>
 fn command<'a>(alloc: Global) -> Result<Command<'a>, AllocError>
     ensures { IfOk result (λ c. app_of c ≡ noise) }
 {
-    let file = Arg::new(alloc, "FILE").required(true).help("A vector file");
-    let talk = Command::new(alloc, "talk")
-        .about("Run two ends on a vector file and print what each writes and takes")
-        .arg(file)?;
+    let list = Command::new(alloc, "list").about("Print the names of the fundamental patterns");
+    let show = with_value(
+        alloc,
+        "show",
+        "NAME",
+        "Print the pattern of a protocol name",
+    )?;
+    let check = with_value(
+        alloc,
+        "check",
+        "FILE",
+        "Say whether the pattern in a file is valid",
+    )?;
+    let talk = with_value(
+        alloc,
+        "talk",
+        "FILE",
+        "Run two ends on a vector file and print what each writes and takes",
+    )?;
     Command::new(alloc, "noise")
         .bin_name("noise")?
-        .about("Noise handshakes and transport sessions between two ends, by a file")
+        .about("Noise handshake patterns, and transport sessions between two ends, by a file")
         .subcommand_required(true)
+        .subcommand(list)?
+        .subcommand(show)?
+        .subcommand(check)?
         .subcommand(talk)
+}
+
+// The command of this name, which has to have a value.
+fn with_value<'a>(
+    alloc: Global,
+    name: &'a str,
+    value: &'a str,
+    about: &'a str,
+) -> Result<Command<'a>, AllocError>
+    ensures shape { IfOk result (λ c. shape_of c ≡ subcommand (name.now, Some value.now)) }
+    ensures local { IfOk result (λ c. (out-Command c).has_globals ≡ false) }
+{
+    Command::new(alloc, name)
+        .about(about)
+        .arg(Arg::new(alloc, value).required(true))
 }
 
 // The command that a parse found.
 fn order(alloc: Global, matches: &ArgMatches<'_>) -> Result<Option<Chosen>, AllocError>
     ensures { IfOk result (λ found. option_map order_of found ≡ stated_in (subcommand_rows_of matches.now)) }
 {
-    match matches.subcommand() {
-        Some(("talk", talk)) => match talk.get_str("FILE") {
-            Some(file) => Ok(Some(Chosen::Talk(String::from_str(alloc, file)?))),
-            None => Ok(None),
-        },
+    let Some((name, found)) = matches.subcommand() else {
+        return Ok(None);
+    };
+    match name {
+        "list" => Ok(Some(Chosen::List)),
+        "show" => Ok(value(alloc, found, "NAME")?.map(Chosen::Show)),
+        "check" => Ok(value(alloc, found, "FILE")?.map(Chosen::Check)),
+        "talk" => Ok(value(alloc, found, "FILE")?.map(Chosen::Talk)),
         _ => Ok(None),
+    }
+}
+
+// The value that a parse found for an argument.
+fn value(alloc: Global, matches: &ArgMatches<'_>, id: &str) -> Result<Option<String>, AllocError>
+    ensures { IfOk result (λ found. option_map string_bytes found ≡ first_of id.now (rows_of (found_of matches.now))) }
+{
+    match matches.get_str(id) {
+        Some(text) => Ok(Some(String::from_str(alloc, text)?)),
+        None => Ok(None),
     }
 }
 

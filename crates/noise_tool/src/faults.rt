@@ -5,7 +5,7 @@ ghost use Rattle.noise_tool.specs.Faults.{status_of};
 ghost use Rattle.noise_tool.specs.declared.faults.Fault.TheVariants.{Memory};
 
 use noise_handshake::SetupFault;
-use noise_names::{Role, RuleFault};
+use noise_names::{NameFault, PlaceFault, Role, RuleFault, TextFault};
 use std::alloc::AllocError;
 
 /// Which line of a vector file isn't as it has to be.
@@ -13,10 +13,12 @@ use std::alloc::AllocError;
 pub enum LineKind {
     Header,
     Protocol,
+    Pattern,
     Prologue,
     Interval,
     Psk,
     Keys,
+    Answer,
     Event,
     Ending,
 }
@@ -27,10 +29,12 @@ impl LineKind {
         match self {
             LineKind::Header => "header",
             LineKind::Protocol => "protocol",
+            LineKind::Pattern => "pattern",
             LineKind::Prologue => "prologue",
             LineKind::Interval => "interval",
             LineKind::Psk => "psk",
             LineKind::Keys => "keys",
+            LineKind::Answer => "answer",
             LineKind::Event => "event",
             LineKind::Ending => "ending",
         }
@@ -42,9 +46,17 @@ impl LineKind {
 pub enum Fault {
     /// The pattern breaks a rule of validity.
     Rule(RuleFault),
+    /// A psk place is greater than the number of messages.
+    Place(PlaceFault),
     /// An end can't be made of what the file gives it.
     Setup(Role, SetupFault),
-    /// The line of this number, from 1 on, isn't as it has to be.
+    /// A protocol name isn't one.
+    Name(NameFault),
+    /// The base of a protocol name isn't that of a fundamental pattern.
+    UnknownPattern,
+    /// A text isn't that of a pattern.
+    Text(TextFault),
+    /// The line of this number of a vector file, from 1 on, isn't as it has to be.
     Line(usize, LineKind),
     /// The file has more bytes than are read.
     TooLong,
@@ -62,8 +74,12 @@ impl Fault {
         ensures { result ≡ status_of self.now }
     {
         match self {
-            Fault::Rule(_) | Fault::Setup(_, _) => 1,
-            Fault::Line(_, _) | Fault::TooLong => 2,
+            Fault::Rule(_) | Fault::Place(_) | Fault::Setup(_, _) => 1,
+            Fault::Name(_)
+            | Fault::UnknownPattern
+            | Fault::Text(_)
+            | Fault::Line(_, _)
+            | Fault::TooLong => 2,
             Fault::Unreadable | Fault::Unwritable | Fault::Memory => 3,
         }
     }

@@ -1,14 +1,21 @@
-//! The command `noise`: two ends of a Noise session, run on a vector file.
+//! The command `noise`: handshake patterns, and two ends of a Noise session that are run on a vector file.
 #![tactic(auto)]
 
+mod checking;
 mod command_line;
+mod ends;
 mod faults;
+mod file_keys;
 mod hex_words;
 mod input;
 mod line;
+mod listing;
+mod named;
 mod orders;
+mod overheads;
 mod performing;
 mod report;
+mod showing;
 mod talk;
 mod telling;
 #[cfg(test)]
@@ -21,7 +28,7 @@ use orders::{Chosen, LineFault};
 use performing::perform;
 use std::env;
 use std::fs::File;
-use std::io::{self, ErrorKind};
+use std::io::{self, ErrorKind, Read};
 use std::process::ExitCode;
 use telling::tell;
 
@@ -46,20 +53,20 @@ fn words(rt: &HostRuntime) -> io::Result<Vec<String>> {
     Ok(env::args(rt)?.collect(rt.alloc())?)
 }
 
-// Opens the file that the order names, and does what it asks for.
+// Does what the order asks for, on the file that it names, if it names one.
 fn run(rt: &HostRuntime, order: &Chosen) -> u8 {
-    let Chosen::Talk(name) = order;
-    match File::open(rt, name.as_str()) {
-        Ok(mut file) => perform(
-            rt.alloc(),
-            order,
-            &mut file,
-            &mut rt.stdout(),
-            &mut rt.stderr(),
-        ),
-        Err(error) if error.kind() == ErrorKind::OutOfMemory => ends_with(rt, Fault::Memory),
-        Err(_) => ends_with(rt, Fault::Unreadable),
+    match order {
+        Chosen::List | Chosen::Show(_) => run_on(rt, order, &mut io::empty()),
+        Chosen::Check(name) | Chosen::Talk(name) => match File::open(rt, name.as_str()) {
+            Ok(mut file) => run_on(rt, order, &mut file),
+            Err(error) if error.kind() == ErrorKind::OutOfMemory => ends_with(rt, Fault::Memory),
+            Err(_) => ends_with(rt, Fault::Unreadable),
+        },
     }
+}
+
+fn run_on<R: Read>(rt: &HostRuntime, order: &Chosen, file: &mut R) -> u8 {
+    perform(rt.alloc(), order, file, &mut rt.stdout(), &mut rt.stderr())
 }
 
 fn ends_with(rt: &HostRuntime, fault: Fault) -> u8 {

@@ -8,6 +8,12 @@ use std::alloc::AllocError;
 /// A command with its value.
 #[derive(Debug, Drop, PartialEq, Eq)]
 pub enum Chosen {
+    /// Print the base names of the fundamental patterns.
+    List,
+    /// Print the pattern of this protocol name, and what each of its messages adds to a payload.
+    Show(String),
+    /// Judge the pattern text in the file of this name.
+    Check(String),
     /// Run two ends on the vector file of this name.
     Talk(String),
 }

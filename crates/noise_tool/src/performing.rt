@@ -2,18 +2,22 @@
 
 ghost use Rattle.std.specs.Prelude.{◌≤◌};
 
+use crate::checking::check;
 use crate::faults::Fault;
 use crate::input::read_file;
+use crate::listing::list;
 use crate::orders::Chosen;
+use crate::showing::show;
 use crate::talk::talk;
 use crate::telling::tell;
 use crate::vector::read_vector;
 use std::alloc::Global;
 use std::io::{Read, Write};
 
-/// Does what was chosen, with the opened file, and gives the exit status: 0 without a fault, 1 where the ends of a file can't be made, 2 where
-/// the file isn't a vector file, 3 where the file can't be read, the output can't be written, or memory runs out. A refused write to `err` leaves the
-/// status.
+/// Does what was chosen, with the opened file, and gives the exit status: 0 without a fault; 1 where a pattern breaks a rule of validity or has
+/// fewer messages than a psk place needs, or the ends of a vector file can't be made; 2 where the name is none, is of no fundamental pattern, or the file isn't a
+/// pattern text or a vector file; 3 where the file can't be read, the output can't be written, or memory runs out. A refused write to `err` leaves the
+/// status. `list` and `show` read no byte of `file`.
 pub fn perform<R: Read, O: Write, E: Write>(
     alloc: Global,
     chosen: &Chosen,
@@ -36,10 +40,23 @@ fn run<R: Read, O: Write>(
     out: &mut O,
 ) -> Result<(), Fault> {
     match chosen {
+        Chosen::List => print(&list(alloc)?, out),
+        Chosen::Show(name) => print(&show(alloc, name.as_bytes())?, out),
+        Chosen::Check(_) => {
+            let text = read_file(alloc, file)?;
+            print(&check(alloc, &text)?, out)
+        }
         Chosen::Talk(_) => {
             let text = read_file(alloc, file)?;
             let vector = read_vector(alloc, &text)?;
-            talk(alloc, &vector, out)
+            talk(alloc, vector, out)
         }
+    }
+}
+
+fn print<O: Write>(text: &[u8], out: &mut O) -> Result<(), Fault> {
+    match out.write_all(text) {
+        Ok(()) => Ok(()),
+        Err(_) => Err(Fault::Unwritable),
     }
 }

@@ -1,99 +1,93 @@
 //! The command `talk`: two ends say to each other what a file says.
 
-ghost use Rattle.std.specs.Prelude.{◌≡◌, IfOk, false};
+ghost use Rattle.std.specs.Prelude.{◌≡◌, ◌+◌, ◌<◌, ◌≤◌, OnOk};
+ghost use Rattle.noise_session.specs.Ends.{progress};
+ghost use Rattle.noise_tool.specs.Ends.{AreEnds};
+ghost use Rattle.noise_tool.specs.declared.ends.Ends.{Ends};
 
+use crate::ends::{Ends, make_ends};
 use crate::faults::Fault;
 use crate::report::Report;
 use crate::vector::{Cuts, Say, VectorFile};
-use noise_handshake::{Handshake, Keys, Remote, XorKeys};
-use noise_names::{Pattern, Role, Token, ValidPattern, fundamental};
+use noise_handshake::Keys;
+use noise_names::Role;
 use noise_session::{End, Step};
 use std::alloc::Global;
 use std::io::Write;
 
+// One end, and how many frames it has written.
+#[derive(Drop)]
+struct Side<K: Keys> {
+    end: End<K>,
+    frames: u64,
+}
+
 /// Makes the two ends that the file describes, lets them say what it says, and writes what each of them makes of it.
-pub fn talk<O: Write>(alloc: Global, file: &VectorFile, out: &mut O) -> Result<(), Fault> {
-    let (mut initiator, mut responder) = make_ends(alloc, file)?;
+///
+/// Where there are no such ends, the fault is that of `make_ends`, and nothing is written.
+pub fn talk<O: Write>(alloc: Global, file: VectorFile, out: &mut O) -> Result<(), Fault>
+    ensures { OnOk result ((ends : Ends) × AreEnds file ends) }
+{
+    let (ends, events) = make_ends(alloc, file)?;
+    let Ends {
+        initiator,
+        responder,
+    } = ends;
+    let mut initiator = Side {
+        end: initiator,
+        frames: 0,
+    };
+    let mut responder = Side {
+        end: responder,
+        frames: 0,
+    };
     let mut report = Report::new(alloc, out);
-    if let Some(event) = &file.event {
+    for event in &events {
         match event.role {
-            Role::Initiator => say(alloc, event, &mut initiator, &mut responder, &mut report)?,
-            Role::Responder => say(alloc, event, &mut responder, &mut initiator, &mut report)?,
+            Role::Initiator => say(
+                alloc,
+                event,
+                &mut initiator,
+                &mut responder.end,
+                &mut report,
+            )?,
+            Role::Responder => say(
+                alloc,
+                event,
+                &mut responder,
+                &mut initiator.end,
+                &mut report,
+            )?,
         }
     }
+    let (initiator, responder) = (initiator.end, responder.end);
     report.state(Role::Initiator, initiator.stage(), initiator.hash())?;
     report.state(Role::Responder, responder.stage(), responder.hash())
 }
 
-// The initiator's end and the responder's. Of their faults the initiator's is told first.
-fn make_ends(alloc: Global, file: &VectorFile) -> Result<(End<XorKeys>, End<XorKeys>), Fault> {
-    let initiator = start(file, Role::Initiator)?;
-    let responder = start(file, Role::Responder)?;
-    let initiator = End::new(alloc, initiator, file.interval)?;
-    let responder = End::new(alloc, responder, file.interval)?;
-    Ok((initiator, responder))
-}
-
-// The handshake of one party, before any message.
-fn start(file: &VectorFile, role: Role) -> Result<Handshake<XorKeys>, Fault>
-    ensures { IfOk result (λ h. h.ended ≡ false) }
-{
-    let pattern = valid_pattern()?;
-    let (own, other) = match role {
-        Role::Initiator => (file.initiator, file.responder),
-        Role::Responder => (file.responder, file.initiator),
-    };
-    let remote = known_before(pattern.pattern(), role.other(), other);
-    match Handshake::new(pattern, role, &file.prologue, own, remote, &[]) {
-        Ok(handshake) => Ok(handshake),
-        Err(fault) => Err(Fault::Setup(role, fault)),
-    }
-}
-
-// The pattern NN, which is the only one yet.
-#[tactic(auto, unfolding(noise_names::specs::Fundamental::fundamentals, noise_names::specs::Fundamental::fundamental_of))]
-fn valid_pattern() -> Result<ValidPattern, Fault> {
-    let pattern = fundamental(b"NN").unwrap();
-    match pattern.check() {
-        Ok(valid) => Ok(valid),
-        Err(fault) => Err(Fault::Rule(fault)),
-    }
-}
-
-// Of a party's public keys, those that the other party knows before the first message.
-fn known_before(pattern: &Pattern, role: Role, keys: XorKeys) -> Remote {
-    let pre = pattern.pre(role);
-    Remote {
-        e: if pre.contains(&Token::E) {
-            keys.e
-        } else {
-            None
-        },
-        s: if pre.contains(&Token::S) {
-            keys.s
-        } else {
-            None
-        },
-    }
-}
-
-// One end writes, and where it does, the other one is handed the frame. An end that is open writes nothing yet: the only event comes before.
+// One end writes, and where it does, the other one is handed the frame. An end that is open writes nothing yet: a file has no more to say than
+// the handshake's messages.
 fn say<K: Keys, O: Write>(
     alloc: Global,
     event: &Say,
-    from: &mut End<K>,
+    from: &mut Side<K>,
     to: &mut End<K>,
     report: &mut Report<'_, O>,
-) -> Result<(), Fault> {
-    if from.is_open() {
+) -> Result<(), Fault>
+    requires { from.old.frames < 18446744073709551615 }
+    ensures counted { from.new.frames + (progress from.old.end).passed ≡ from.old.frames + (progress from.new.end).passed }
+    ensures one { from.new.frames ≤ from.old.frames + 1 }
+{
+    if from.end.is_open() {
         return Ok(());
     }
-    let room = from.frame_len(event.payload.len()).unwrap_or(0);
+    let room = from.end.frame_len(event.payload.len()).unwrap_or(0);
     let mut frame = vec![in alloc; 0u8; room]?;
-    match from.write_into(&event.payload, frame.as_mut_slice()) {
+    match from.end.write_into(&event.payload, frame.as_mut_slice()) {
         Ok(len) => {
-            // The only frame of this end so far.
-            report.wrote(event.role, 0, &frame[..len])?;
+            let number = from.frames;
+            from.frames += 1;
+            report.wrote(event.role, number, &frame[..len])?;
             deliver(to, &frame[..len], &event.cuts, report)
         }
         Err(fault) => report.unwritten(event.role, fault),

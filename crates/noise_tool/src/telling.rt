@@ -6,6 +6,7 @@ use crate::faults::Fault;
 use crate::line::Line;
 use crate::report::role_word;
 use noise_handshake::SetupFault;
+use noise_names::TextFaultKind;
 use std::alloc::{AllocError, Global};
 use std::io::Write;
 
@@ -58,22 +59,50 @@ fn fault_line(alloc: Global, fault: Fault) -> Result<Line, AllocError> {
             line.number(u64::from(broken.token))?;
             Ok(line)
         }
+        Fault::Place(fault) => {
+            let mut line = Line::new(alloc, "psk place")?;
+            line.number(u64::from(fault.place))?;
+            Ok(line)
+        }
         Fault::Setup(role, fault) => {
             let mut line = Line::new(alloc, "setup")?;
             line.word(role_word(role))?;
             line.word(setup_word(fault))?;
             Ok(line)
         }
-        Fault::Line(number, kind) => {
-            let mut line = Line::new(alloc, "line")?;
-            line.number(number as u64)?;
-            line.word(kind.word())?;
+        Fault::Name(fault) => {
+            let mut line = Line::new(alloc, "name")?;
+            line.word(format!(in alloc; "{fault}")?.as_str())?;
             Ok(line)
         }
+        Fault::UnknownPattern => Line::new(alloc, "unknown pattern"),
+        Fault::Text(fault) => line_fault(alloc, fault.line, text_word(fault.kind)),
+        Fault::Line(number, kind) => line_fault(alloc, number, kind.word()),
         Fault::TooLong => Line::new(alloc, "file too long"),
         Fault::Unreadable => Line::new(alloc, "cannot read"),
         Fault::Unwritable => Line::new(alloc, "cannot write"),
         Fault::Memory => Line::new(alloc, "out of memory"),
+    }
+}
+
+fn line_fault(alloc: Global, number: usize, word: &str) -> Result<Line, AllocError> {
+    let mut line = Line::new(alloc, "line")?;
+    line.number(number as u64)?;
+    line.word(word)?;
+    Ok(line)
+}
+
+fn text_word(kind: TextFaultKind) -> &'static str {
+    match kind {
+        TextFaultKind::Heading => "heading",
+        TextFaultKind::Arrow => "arrow",
+        TextFaultKind::Token => "token",
+        TextFaultKind::PreMessage => "pre-message",
+        TextFaultKind::Turn => "turn",
+        TextFaultKind::PskPlace => "psk-place",
+        TextFaultKind::NameTaken => "name-taken",
+        TextFaultKind::Limit => "limit",
+        TextFaultKind::Ending => "ending",
     }
 }
 

@@ -1,9 +1,14 @@
 //! What no contract says: the printed text, which fault is told, and that each call can succeed.
 
+mod checking;
 mod command_line;
+mod ends;
 mod fakes;
 mod faults;
+mod handshakes;
 mod hex_words;
+mod printing;
+mod showing;
 mod talk;
 
 use crate::orders::Chosen;

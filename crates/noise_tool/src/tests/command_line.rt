@@ -22,10 +22,26 @@ fn kind_of(fault: LineFault) -> Option<ErrorKind> {
 }
 
 #[test]
-fn takes_talk_with_a_file(rt: HostRuntime) -> Result<(), Fail> {
-    let words = words_of(rt.alloc(), ["noise", "talk", "a.vector"].as_slice())?;
-    let Chosen::Talk(file) = chosen(rt.alloc(), words).map_err(|_| "refused")?;
-    assert_eq!(rt; file.as_str(), "a.vector");
+fn takes_each_command(rt: HostRuntime) -> Result<(), Fail> {
+    let alloc = rt.alloc();
+    for (words, wanted) in [
+        (["noise", "list"].as_slice(), Chosen::List),
+        (
+            ["noise", "show", "Noise_NN"].as_slice(),
+            Chosen::Show(String::from_str(alloc, "Noise_NN")?),
+        ),
+        (
+            ["noise", "check", "a.pattern"].as_slice(),
+            Chosen::Check(String::from_str(alloc, "a.pattern")?),
+        ),
+        (
+            ["noise", "talk", "a.vector"].as_slice(),
+            Chosen::Talk(String::from_str(alloc, "a.vector")?),
+        ),
+    ] {
+        let order = chosen(alloc, words_of(alloc, words)?).map_err(|_| "refused")?;
+        assert!(rt; order == wanted);
+    }
     Ok(())
 }
 
@@ -33,7 +49,19 @@ fn takes_talk_with_a_file(rt: HostRuntime) -> Result<(), Fail> {
 fn refuses_other_words(rt: HostRuntime) -> Result<(), Fail> {
     for (words, kind) in [
         (["noise"].as_slice(), ErrorKind::MissingSubcommand),
-        (["noise", "list"].as_slice(), ErrorKind::InvalidSubcommand),
+        (["noise", "look"].as_slice(), ErrorKind::InvalidSubcommand),
+        (
+            ["noise", "list", "a"].as_slice(),
+            ErrorKind::UnknownArgument,
+        ),
+        (
+            ["noise", "show"].as_slice(),
+            ErrorKind::MissingRequiredArgument,
+        ),
+        (
+            ["noise", "check"].as_slice(),
+            ErrorKind::MissingRequiredArgument,
+        ),
         (
             ["noise", "talk"].as_slice(),
             ErrorKind::MissingRequiredArgument,
@@ -47,7 +75,8 @@ fn refuses_other_words(rt: HostRuntime) -> Result<(), Fail> {
             ErrorKind::UnknownArgument,
         ),
         (["noise", "--help"].as_slice(), ErrorKind::DisplayHelp),
-        (["noise", "talk", "-h"].as_slice(), ErrorKind::DisplayHelp),
+        (["noise", "show", "-h"].as_slice(), ErrorKind::DisplayHelp),
+        (["noise", "help", "list"].as_slice(), ErrorKind::DisplayHelp),
     ] {
         let fault = chosen(rt.alloc(), words_of(rt.alloc(), words)?)
             .err()

@@ -1,6 +1,6 @@
 //! The lines of a text.
 
-ghost use Rattle.std.specs.Prelude.{◌≡◌, ◌↔◌, ◌+◌, ◌≤◌, [], IsTrue, IsOk, IfOk, IfErr, IsErrOf, MatchBool, length};
+ghost use Rattle.std.specs.Prelude.{◌≡◌, ◌↔◌, ◌+◌, ◌<◌, [], IsTrue, IsOk, IfOk, IfErr, IsErrOf, MatchBool, length};
 ghost use Rattle.noise_tool.specs.VectorText.{line};
 
 use crate::faults::{Fault, LineKind};
@@ -31,6 +31,7 @@ impl<'a> Lines<'a> {
     /// The next line without its LF, or the fault that there is none.
     pub fn next(&mut self) -> Result<&'a [u8], Fault>
         ensures ended { IfOk result (λ text. IsTrue self.new.is_ended → self.old.rest.now ≡ line text.now self.new.rest.now) }
+        ensures shorter { IfOk result (λ text. length self.new.rest.now < length self.old.rest.now) }
         ensures missing { IfErr result (λ fault. (self.old.rest.now ≡ []) × (fault ≡ Fault.Line self.new.number LineKind.Ending)) }
     {
         self.number = self.number.saturating_add(1);

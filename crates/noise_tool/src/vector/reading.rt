@@ -1,36 +1,53 @@
-//! Reading a vector file.
+//! Reading a vector file: the order of its lines.
 
-ghost use Rattle.std.specs.Prelude.{◌≡◌, ◌≤◌, ◌∷◌, ◌++◌, Some, IfOk, IfSome, OnOk, codes, decimal, length, vec_len};
+ghost use Rattle.std.specs.Prelude.{◌≡◌, ◌≤◌, ◌++◌, ◌↔◌, None, IfOk, IfSome, IsSome, OnOk, codes, decimal, length, vec_len};
+ghost use Rattle.noise_names.specs.Names.{name_bytes};
+ghost use Rattle.noise_names.specs.Fundamental.{fundamental_of};
 ghost use Rattle.noise_tool.specs.HexWord.{hex_of};
-ghost use Rattle.noise_tool.specs.VectorText.{events_text, keys_words, line, say_words, text_of};
+ghost use Rattle.noise_tool.specs.VectorText.{block_text, line, lines_of, psk_words, text_of};
+ghost use Rattle.noise_tool.specs.OwnPattern.{HasName, pattern_of};
 
+use super::VectorFile;
+use super::block::read_block;
+use super::events::read_events;
 use super::lines::Lines;
-use super::words::{read_cuts, read_key, read_number, read_role, split_once};
-use super::{Say, VectorFile};
+use super::parties::read_party;
+use super::words::{read_bytes, read_key, read_number};
 use crate::faults::{Fault, LineKind};
-use crate::hex_words::read_hex;
-use noise_handshake::XorKeys;
-use noise_names::Role;
-use std::alloc::{AllocError, Global};
+use arrayvec::ArrayVec;
+use noise_names::{Pattern, ProtocolName, Role, fundamental};
+use std::alloc::Global;
 
 /// What this text says, or the first line of it that isn't as it has to be.
 pub fn read_vector(alloc: Global, text: &[u8]) -> Result<VectorFile, Fault>
-    ensures { IfOk result (λ file. text.now ≡ text_of file) }
+    ensures text { IfOk result (λ file. text.now ≡ text_of file) }
+
+    // A pattern of its own stands in it exactly where the name's base isn't that of a fundamental one.
+    ensures own { IfOk result (λ file. IsSome file.block ↔ (fundamental_of file.protocol.base ≡ None)) }
+    ensures named { IfOk result (λ file. IfSome file.block (λ pattern. HasName pattern file.protocol)) }
+
+    // There are no more events than messages.
+    ensures few { IfOk result (λ file. IfSome (pattern_of file.protocol file.block) (λ pattern. vec_len file.events ≤ length pattern.messages)) }
 {
     let mut lines = Lines::new(text);
     read_header(&mut lines)?;
-    read_protocol(&mut lines)?;
+    let protocol = read_protocol(&mut lines)?;
+    let (block, most) = read_own_pattern(&mut lines, &protocol)?;
     let prologue = read_prologue(alloc, &mut lines)?;
     let interval = read_interval(&mut lines)?;
-    let initiator = read_initiator(&mut lines)?;
-    let responder = read_responder(&mut lines)?;
-    let event = read_events(alloc, &mut lines)?;
+    let psks = read_psks(&mut lines)?;
+    let initiator = read_party(&mut lines, Role::Initiator)?;
+    let responder = read_party(&mut lines, Role::Responder)?;
+    let events = read_events(alloc, &mut lines, most)?;
     Ok(VectorFile {
+        protocol,
+        block,
         prologue,
         interval,
+        psks,
         initiator,
         responder,
-        event,
+        events,
     })
 }
 
@@ -44,14 +61,39 @@ fn read_header(lines: &mut Lines<'_>) -> Result<(), Fault>
     lines.end()
 }
 
-fn read_protocol(lines: &mut Lines<'_>) -> Result<(), Fault>
-    ensures { OnOk result (lines.old.rest.now ≡ line (codes "protocol Noise_NN_25519_ChaChaPoly_SHA256") lines.new.rest.now) }
+fn read_protocol(lines: &mut Lines<'_>) -> Result<ProtocolName, Fault>
+    ensures { IfOk result (λ name. lines.old.rest.now ≡ line (codes "protocol " ++ name_bytes name) lines.new.rest.now) }
 {
     let line = lines.next()?;
-    if line != b"protocol Noise_NN_25519_ChaChaPoly_SHA256".as_slice() {
+    let name = match line.strip_prefix(b"protocol ".as_slice()) {
+        Some(word) => ProtocolName::parse(word).ok(),
+        None => None,
+    };
+    let Some(name) = name else {
         return Err(lines.fault(LineKind::Protocol));
+    };
+    lines.end()?;
+    Ok(name)
+}
+
+// The pattern that the file spells itself, where no fundamental one has this name's base, and the number of its messages, or of that one's.
+fn read_own_pattern(
+    lines: &mut Lines<'_>,
+    protocol: &ProtocolName,
+) -> Result<(Option<Pattern>, usize), Fault>
+    ensures text { IfOk result (λ own. lines.old.rest.now ≡ block_text own.0 lines.new.rest.now) }
+    ensures there { IfOk result (λ own. IsSome own.0 ↔ (fundamental_of protocol.now.base ≡ None)) }
+    ensures named { IfOk result (λ own. IfSome own.0 (λ pattern. HasName pattern protocol.now)) }
+    ensures count { IfOk result (λ own. IfSome (pattern_of protocol.now own.0) (λ pattern. own.1 ≡ length pattern.messages)) }
+{
+    match fundamental(protocol.base()) {
+        Some(pattern) => Ok((None, pattern.messages().len())),
+        None => {
+            let pattern = read_block(lines, protocol)?;
+            let most = pattern.messages().len();
+            Ok((Some(pattern), most))
+        }
     }
-    lines.end()
 }
 
 fn read_prologue(alloc: Global, lines: &mut Lines<'_>) -> Result<Vec<u8>, Fault>
@@ -85,98 +127,25 @@ fn read_interval(lines: &mut Lines<'_>) -> Result<u64, Fault>
     Ok(interval)
 }
 
-// A secret can't be given yet: its line is a fault of its own.
-fn read_initiator(lines: &mut Lines<'_>) -> Result<XorKeys, Fault>
-    ensures { IfOk result (λ keys. lines.old.rest.now ≡ line (codes "initiator xor " ++ keys_words keys) lines.new.rest.now) }
+fn read_psks(lines: &mut Lines<'_>) -> Result<ArrayVec<[u8; 32], 9>, Fault>
+    ensures { IfOk result (λ psks. lines.old.rest.now ≡ lines_of psk_words psks.items lines.new.rest.now) }
 {
-    let line = lines.next()?;
-    if line.starts_with(b"psk ".as_slice()) {
-        return Err(lines.fault(LineKind::Psk));
+    let mut psks = ArrayVec::new();
+    while lines.rest.starts_with(b"psk ".as_slice()) {
+        let line = lines.next()?;
+        let Some(psk) = read_psk(line) else {
+            return Err(lines.fault(LineKind::Psk));
+        };
+        if psks.try_push(psk).is_err() {
+            return Err(lines.fault(LineKind::Psk));
+        }
+        lines.end()?;
     }
-    let Some(keys) = keys_of(line, b"initiator xor ".as_slice()) else {
-        return Err(lines.fault(LineKind::Keys));
-    };
-    lines.end()?;
-    Ok(keys)
+    Ok(psks)
 }
 
-fn read_responder(lines: &mut Lines<'_>) -> Result<XorKeys, Fault>
-    ensures { IfOk result (λ keys. lines.old.rest.now ≡ line (codes "responder xor " ++ keys_words keys) lines.new.rest.now) }
+fn read_psk(line: &[u8]) -> Option<[u8; 32]>
+    ensures { IfSome result (λ psk. line.now ≡ psk_words psk) }
 {
-    let line = lines.next()?;
-    let Some(keys) = keys_of(line, b"responder xor ".as_slice()) else {
-        return Err(lines.fault(LineKind::Keys));
-    };
-    lines.end()?;
-    Ok(keys)
-}
-
-// The keys behind this front of a line.
-fn keys_of(text: &[u8], front: &[u8]) -> Option<XorKeys>
-    ensures { IfSome result (λ keys. text.now ≡ front.now ++ keys_words keys) }
-{
-    let (e, s) = split_once(text.strip_prefix(front)?, b' ')?;
-    Some(XorKeys {
-        e: read_key(e)?,
-        s: read_key(s)?,
-    })
-}
-
-// No more than one event can be given yet.
-fn read_events(alloc: Global, lines: &mut Lines<'_>) -> Result<Option<Say>, Fault>
-    ensures { IfOk result (λ event. lines.old.rest.now ≡ events_text event) }
-{
-    if lines.is_empty() {
-        return Ok(None);
-    }
-    let line = lines.next()?;
-    let Some(say) = read_say(alloc, line)? else {
-        return Err(lines.fault(LineKind::Event));
-    };
-    lines.end()?;
-    if !lines.is_empty() {
-        lines.next()?;
-        return Err(lines.fault(LineKind::Event));
-    }
-    Ok(Some(say))
-}
-
-// `say`, a role, the payload and the cuts.
-fn read_say(alloc: Global, text: &[u8]) -> Result<Option<Say>, AllocError>
-    ensures { IfOk result (λ found. IfSome found (λ say. text.now ≡ codes "say " ++ say_words say)) }
-{
-    let Some((role, payload, cuts)) = split_say(text) else {
-        return Ok(None);
-    };
-    let (Some(role), Some(cuts)) = (read_role(role), read_cuts(cuts)) else {
-        return Ok(None);
-    };
-    let Some(payload) = read_bytes(alloc, payload)? else {
-        return Ok(None);
-    };
-    Ok(Some(Say {
-        role,
-        payload,
-        cuts,
-    }))
-}
-
-// The three words behind `say`.
-fn split_say(text: &[u8]) -> Option<(&[u8], &[u8], &[u8])>
-    ensures { IfSome result (λ words. text.now ≡ codes "say " ++ (words.0.now ++ 32 ∷ (words.1.now ++ 32 ∷ words.2.now))) }
-{
-    let (role, rest) = split_once(text.strip_prefix(b"say ".as_slice())?, b' ')?;
-    let (payload, cuts) = split_once(rest, b' ')?;
-    Some((role, payload, cuts))
-}
-
-// The bytes of a hex word, at most 65535.
-fn read_bytes(alloc: Global, word: &[u8]) -> Result<Option<Vec<u8>>, AllocError>
-    ensures text { IfOk result (λ found. IfSome found (λ bytes. word.now ≡ hex_of bytes.items)) }
-    ensures bound { IfOk result (λ found. IfSome found (λ bytes. vec_len bytes ≤ 65535)) }
-{
-    if word.len() > 2 * 65535 {
-        return Ok(None);
-    }
-    read_hex(alloc, word)
+    read_key(line.strip_prefix(b"psk ".as_slice())?)
 }

@@ -1,62 +1,39 @@
 //! The words that stand in the lines of a vector file.
 
-ghost use Rattle.std.specs.Prelude.{◌≡◌, ◌↔◌, ◌≤◌, ◌∷◌, ◌++◌, ◌⊎◌, IfSome, IsSome, IsTrue, decimal, codes, length, slice_index};
-ghost use Rattle.noise_tool.specs.VectorText.{key_word, role_word, lengths_word};
+ghost use Rattle.std.specs.Prelude.{◌≡◌, ◌↔◌, ◌<◌, ◌≤◌, ◌^◌, ◌==◌, ℕ, List, ◌∷◌, ◌++◌, Option, Some, IfOk, IfSome, IsTrue, MatchOption, decimal, length, position, slice_index, vec_len};
+ghost use Rattle.noise_tool.specs.HexWord.{hex_of};
+ghost use Rattle.hex.specs.Hex.{encode_lower};
+ghost use Rattle.noise_handshake.specs.declared.keys.Own.{Own};
+ghost use Rattle.noise_names.specs.declared.token.Role.{Role};
+ghost use Rattle.noise_tool.specs.VectorText.{key_word, own_word, role_word};
+ghost use Rattle.noise_tool.specs.Words.{IsKey, lacks};
 
-use arrayvec::ArrayVec;
+use crate::hex_words::read_hex;
+use noise_handshake::Own;
 use noise_names::Role;
-use std::marker::Model;
+use std::alloc::{AllocError, Global};
 use std::str;
-
-/// The lengths of the pieces that a frame is handed over in.
-#[derive(Debug, Drop, PartialEq, Eq)]
-pub struct Cuts {
-    lengths: ArrayVec<u16, 8>,
-}
-
-// No length is one piece. The last one, which is repeated to the frame's end, is not 0.
-impl Model for Cuts {
-    ghost use Rattle.std.specs.Prelude.{ℕ, List, ◌<◌, ◌-◌, length, slice_index_or};
-
-    ghost Value = { List ℕ };
-
-    ghost view = { λ c. c.lengths.items };
-
-    ghost invariant = { λ c. 0 < slice_index_or c.lengths.items (length c.lengths.items - 1) 1 };
-
-    ghost inverse = { λ ns. record { lengths = record { items = ns } } };
-}
-
-impl Cuts {
-    /// How many lengths there are at most, and so how many pieces may be empty.
-    pub const MOST: usize = 8;
-
-    /// The length of the piece of this index, or of what is left of the frame if that is less.
-    pub fn piece_len(&self, index: usize, left: usize) -> usize
-        ensures { result ≤ left }
-    {
-        let length = match self.lengths.get(index) {
-            Some(length) => Some(length),
-            None => self.lengths.last(),
-        };
-        match length {
-            Some(length) => left.min(*length as usize),
-            None => left,
-        }
-    }
-}
 
 /// What stands before the first such byte, and what stands behind it.
 pub fn split_once(text: &[u8], separator: u8) -> Option<(&[u8], &[u8])>
-    ensures { IfSome result (λ parts. text.now ≡ parts.0.now ++ separator ∷ parts.1.now) }
+    ensures parts { IfSome result (λ parts. text.now ≡ parts.0.now ++ separator ∷ parts.1.now) }
+    ensures every { (before behind : List ℕ) → IsTrue (lacks separator before) → text.now ≡ before ++ separator ∷ behind → MatchOption result (Unit {0} → ⊥) (λ parts. (parts.0.now ≡ before) × (parts.1.now ≡ behind)) }
 {
-    let place = text.iter().position(|byte| *byte == separator)?;
+    let place = place_of(text, separator)?;
     Some((&text[..place], &text[place + 1..]))
+}
+
+// Where the first such byte stands.
+fn place_of(text: &[u8], byte: u8) -> Option<usize>
+    ensures { result ≡ position (λ b. b == byte) text.now }
+{
+    text.iter().position(|b| *b == byte)
 }
 
 /// A decimal number below 2^64, without sign or leading zeros.
 pub fn read_number(word: &[u8]) -> Option<u64>
-    ensures { IfSome result (λ number. word.now ≡ decimal number) }
+    ensures value { IfSome result (λ number. word.now ≡ decimal number) }
+    ensures every { (number : ℕ) → number < 2 ^ 64 → word.now ≡ decimal number → result ≡ Some number }
 {
     if !is_led(word) {
         return None;
@@ -69,7 +46,7 @@ pub fn read_number(word: &[u8]) -> Option<u64>
 
 // Whether it begins as a number does: with a digit that is no leading zero.
 fn is_led(word: &[u8]) -> bool
-    ensures { IsTrue result → (48 ≤ slice_index word.now 0) × (slice_index word.now 0 ≡ 48 → length word.now ≡ 1) }
+    ensures { IsTrue result ↔ (48 ≤ slice_index word.now 0) × (slice_index word.now 0 ≤ 57) × (slice_index word.now 0 ≡ 48 → length word.now ≡ 1) }
 {
     match word {
         [b'0'] => true,
@@ -78,25 +55,42 @@ fn is_led(word: &[u8]) -> bool
     }
 }
 
-/// A key of 64 lower-case hex digits, or `-` for none.
-pub fn read_key(word: &[u8]) -> Option<Option<[u8; 32]>>
-    ensures { IfSome result (λ key. word.now ≡ key_word key) }
+/// A number below 65536.
+pub fn read_length(word: &[u8]) -> Option<u16>
+    ensures value { IfSome result (λ length. word.now ≡ decimal length) }
+    ensures every { (length : ℕ) → length < 65536 → word.now ≡ decimal length → result ≡ Some length }
 {
-    if word == b"-".as_slice() {
-        return Some(None);
-    }
+    u16::try_from(read_number(word)?).ok()
+}
+
+/// A key of 64 lower-case hex digits.
+pub fn read_key(word: &[u8]) -> Option<[u8; 32]>
+    ensures value { IfSome result (λ key. word.now ≡ encode_lower key) }
+    ensures every { (key : List ℕ) → IsKey key → word.now ≡ encode_lower key → result ≡ Some key }
+{
     if !crate::hex_words::is_digits(word) {
         return None;
     }
     let mut key = [0; 32];
     hex::decode_to_slice(word, &mut key).ok()?;
-    Some(Some(key))
+    Some(key)
+}
+
+/// A key, or `-` for none.
+pub fn read_optional_key(word: &[u8]) -> Option<Option<[u8; 32]>>
+    ensures value { IfSome result (λ key. word.now ≡ key_word key) }
+    ensures every { (key : Option (List ℕ)) → IfSome key IsKey → word.now ≡ key_word key → result ≡ Some key }
+{
+    if word == b"-".as_slice() {
+        return Some(None);
+    }
+    Some(Some(read_key(word)?))
 }
 
 /// `initiator` or `responder`.
 pub fn read_role(word: &[u8]) -> Option<Role>
     ensures value { IfSome result (λ role. word.now ≡ role_word role) }
-    ensures found { IsSome result ↔ ((word.now ≡ codes "initiator") ⊎ (word.now ≡ codes "responder")) }
+    ensures every { (role : Role) → word.now ≡ role_word role → result ≡ Some role }
 {
     match word {
         b"initiator" => Some(Role::Initiator),
@@ -105,33 +99,25 @@ pub fn read_role(word: &[u8]) -> Option<Role>
     }
 }
 
-/// `-` for one piece, or 1 to 8 numbers below 65536, joined by commas, the last not 0.
-pub fn read_cuts(word: &[u8]) -> Option<Cuts>
-    ensures { IfSome result (λ cuts. word.now ≡ lengths_word cuts) }
+/// `e` for the ephemeral key pair, or `s` for the static one.
+pub fn read_own(word: &[u8]) -> Option<Own>
+    ensures value { IfSome result (λ own. word.now ≡ own_word own) }
+    ensures every { (own : Own) → word.now ≡ own_word own → result ≡ Some own }
 {
-    let mut lengths = ArrayVec::new();
-    if word == b"-".as_slice() {
-        return Some(Cuts { lengths });
+    match word {
+        b"e" => Some(Own::Ephemeral),
+        b"s" => Some(Own::Static),
+        _ => None,
     }
-    let mut rest = word;
-    for _ in 0..Cuts::MOST - 1 {
-        let Some((first, more)) = split_once(rest, b',') else {
-            break;
-        };
-        lengths.try_push(read_length(first)?).ok()?;
-        rest = more;
-    }
-    let last = read_length(rest)?;
-    if last == 0 {
-        return None;
-    }
-    lengths.try_push(last).ok()?;
-    Some(Cuts { lengths })
 }
 
-// A number below 65536.
-fn read_length(word: &[u8]) -> Option<u16>
-    ensures { IfSome result (λ length. word.now ≡ decimal length) }
+/// The bytes of a hex word, at most 65535.
+pub fn read_bytes(alloc: Global, word: &[u8]) -> Result<Option<Vec<u8>>, AllocError>
+    ensures text { IfOk result (λ found. IfSome found (λ bytes. word.now ≡ hex_of bytes.items)) }
+    ensures bound { IfOk result (λ found. IfSome found (λ bytes. vec_len bytes ≤ 65535)) }
 {
-    u16::try_from(read_number(word)?).ok()
+    if word.len() > 2 * 65535 {
+        return Ok(None);
+    }
+    read_hex(alloc, word)
 }

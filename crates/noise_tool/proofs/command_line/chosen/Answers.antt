@@ -1,10 +1,9 @@
-use Rattle.std.proofs.Common.{rules, ◌≡◌, ◌∙◌, ap, ap₂, sym, refl, List, [], ℕ, Option, Some, None, option_map, map, string_bytes, inl, inr, subst}
-use Rattle.clap.specs.Walk.{Text}
+use Rattle.std.proofs.Common.{rules, ◌≡◌, ◌∙◌, ap, ap₂, sym, Some, None, map, string_bytes, inl, inr, subst}
 use Rattle.clap.specs.Values.{kind_of}
 use Rattle.clap.specs.Kinds.{IsAmong, Kinds}
-use Rattle.clap.specs.Simple.{App, app_of, is_simple, subcommand_of, subcommand_rows_of}
+use Rattle.clap.specs.Simple.{app_of, is_simple, subcommand_of, subcommand_rows_of}
 use Rattle.clap.specs.Faults.{fault_of, is_simple_and_free}
-use Rattle.noise_tool.specs.CommandLine.{asked, noise, order_of, stated_in}
+use Rattle.noise_tool.specs.CommandLine.{noise, order_of, stated_in}
 use Rattle.noise_tool.proofs.CommandLineLemmas.{asked-stated, asked_without-among}
 use Rattle.noise_tool.proofs.command_line.chosen.Goals as goal
 

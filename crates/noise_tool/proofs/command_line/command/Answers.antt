@@ -1,16 +1,24 @@
-use Rattle.std.proofs.Common.{rules, ◌≡◌, ◌∙◌, ap, ap₂, codes}
+use Rattle.std.proofs.Common.{◌≡◌, ◌∙◌, ap, ap₂, codes, None, true, false}
 use Rattle.std.proofs.lemmas.Result.{IfOk-weaker}
-use Rattle.clap.specs.Walk.{rule_of}
-use Rattle.clap.specs.Simple.{App, app_of, app_of_fields, new_app, with_rule, with_subcommand}
-use Rattle.noise_tool.specs.CommandLine.{file_rule, noise, talk, wanting}
+use Rattle.clap.specs.Simple.{App, app_of, app_of_fields, new_app, shape_of, with_subcommand}
+use Rattle.clap.specs.declared.builder.command.Command.TheViews.{out-Command}
+use Rattle.clap.specs.declared.builder.command.Command.TheOpen.{Command-F}
+use Rattle.clap.specs.declared.builder.command.Command.{Command}
+use Rattle.noise_tool.specs.CommandLine.{subcommand}
 use Rattle.noise_tool.proofs.command_line.command.Goals as goal
+
+-- a command that has to have one of its subcommands
+abbrev requiring : App → App
+requiring a = record a { top = record a.top { subcommand_required = true } }
 
 pub returns : goal.returns
 returns c =
-    let file_is : rule_of c.help-file.result ≡ file_rule = search rules in
-    let talk_is : app_of c.in_ok-talk.talk ≡ talk = c.in_ok-talk.ensures.shape (search rules)
-    ∙ ap₂ with_rule (ap app_of_fields c.about.ensures ∙ c.new-2.ensures.app) file_is in
-    let noise_is : app_of c.subcommand_required.result ≡ wanting (new_app (codes "noise")) = ap app_of_fields c.subcommand_required.ensures
-    ∙ ap wanting (ap app_of_fields c.about-2.ensures ∙ ap app_of_fields c.in_ok-bin_name.ensures.0 ∙ c.new-3.ensures.app) in
-    IfOk-weaker c.subcommand.result _ _
-    (λ r h. h.shape (search rules) ∙ ap₂ with_subcommand noise_is (ap (λ (a : App). a.top) talk_is)) c.subcommand.ensures
+    let list_is : shape_of c.about-list.result ≡ subcommand (codes "list", None) = ap (λ (a : App). a.top) (ap app_of_fields c.about-list.ensures ∙ c.new.ensures.app) in
+    let list_local : (out-Command c.about-list.result).has_globals ≡ false = ap (λ (f : Command-F Command). f.has_globals) c.about-list.ensures ∙ c.new.ensures.local in
+    let noise_is : app_of c.subcommand_required.result ≡ requiring (new_app (codes "noise")) = ap app_of_fields c.subcommand_required.ensures
+    ∙ ap requiring (ap app_of_fields c.about.ensures ∙ ap app_of_fields c.in_ok-bin_name.ensures.0 ∙ c.new-2.ensures.app) in
+    let with_list = c.in_ok-subcommand.ensures.shape list_local ∙ ap₂ with_subcommand noise_is list_is in
+    let with_show = c.in_ok-subcommand-2.ensures.shape c.in_ok-show.ensures.local ∙ ap₂ with_subcommand with_list c.in_ok-show.ensures.shape in
+    let with_check = c.in_ok-subcommand-3.ensures.shape c.in_ok-check.ensures.local ∙ ap₂ with_subcommand with_show c.in_ok-check.ensures.shape in
+    IfOk-weaker c.subcommand-4.result _ _
+    (λ r h. h.shape c.in_ok-talk.ensures.local ∙ ap₂ with_subcommand with_check c.in_ok-talk.ensures.shape) c.subcommand-4.ensures

@@ -1,8 +1,7 @@
-use Rattle.std.proofs.Common.{rules, ◌≡◌, ◌↔◌, ◌⊎◌, inl, inr, List, [], ◌∷◌, sym, ◌∙◌, refl, codes, Ok, false, true}
-use Rattle.std.specs.Bool.{Decides}
+use Rattle.std.proofs.Common.{rules, ◌≡◌, sym, ◌∙◌, refl, codes}
 use Rattle.std.proofs.lemmas.Slice.Eq.{bytes_eq-Decides}
-use Rattle.noise_tool.specs.HexWord.{IsDigits, IsHexWord}
-use Rattle.noise_tool.proofs.HexWordLemmas.{word_of-decoded, decode_of-word, IsHexWord-digits, not_IsHexWord}
+use Rattle.noise_tool.specs.HexWord.{IsHexWord}
+use Rattle.noise_tool.proofs.HexWordLemmas.{word_of-decoded, IsHexWord-digits, not_IsHexWord}
 use Rattle.noise_tool.proofs.hex_words.read_hex.Goals as goal
 
 pub returns-then-not-is_digits-clause-found : goal.returns-then-not-is_digits-clause-found

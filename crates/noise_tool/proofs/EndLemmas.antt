@@ -1,0 +1,56 @@
+-- What two ends of a file start from, and what is told where a setup is wrong.
+use Rattle.std.proofs.Common.{◌≡◌, ◌∙◌, ap, sym, refl, subst, ℕ, List, length, Option, Some, None}
+use Rattle.std.specs.Option.{option_map}
+use Rattle.noise_names.specs.declared.token.Role.{Role}
+use Rattle.noise_names.specs.declared.token.Role.TheVariants.{Initiator, Responder}
+use Rattle.noise_names.specs.Plan.{Plan}
+use Rattle.noise_names.specs.Validity.{IsValid}
+use Rattle.noise_handshake.specs.declared.remote.Remote.{Remote}
+use Rattle.noise_handshake.specs.declared.faults.SetupFault.{SetupFault}
+use Rattle.noise_handshake.specs.Setup.{begun, setup_fault}
+use Rattle.noise_tool.specs.declared.faults.Fault.{Fault}
+use Rattle.noise_tool.specs.declared.faults.Fault.TheVariants.{Setup}
+use Rattle.noise_tool.specs.declared.file_keys.FileKeys.{FileKeys}
+use Rattle.noise_tool.specs.declared.vector.VectorFile.{VectorFile}
+use Rattle.noise_tool.specs.FileKeys.{public_of, agreement_of}
+use Rattle.noise_tool.specs.Ends.{IsPatternOf, IsStartFault, setup_of}
+
+-- the same start in other words
+pub begun-same : (role : Role) (keys : FileKeys) (plan other : Plan) (prologue text : List ℕ) (remote known : Remote) (secrets psks : List (List ℕ))
+    → plan ≡ other → prologue ≡ text → remote ≡ known → secrets ≡ psks
+    → begun plan role prologue (public_of keys) (agreement_of keys) remote secrets ≡ begun other role text (public_of keys) (agreement_of keys) known psks
+begun-same role keys plan other prologue text remote known secrets psks a b c d =
+    ap (λ (p : Plan). begun p role prologue (public_of keys) (agreement_of keys) remote secrets) a
+    ∙ ap (λ (t : List ℕ). begun other role t (public_of keys) (agreement_of keys) remote secrets) b
+    ∙ ap (λ (r : Remote). begun other role text (public_of keys) (agreement_of keys) r secrets) c
+    ∙ ap (λ (s : List (List ℕ)). begun other role text (public_of keys) (agreement_of keys) known s) d
+
+pub setup-same : (role : Role) (keys : FileKeys) (plan other : Plan) (remote known : Remote) (secrets psks : List (List ℕ))
+    → plan ≡ other → remote ≡ known → secrets ≡ psks
+    → setup_fault plan role (public_of keys) remote (length secrets) ≡ setup_fault other role (public_of keys) known (length psks)
+setup-same role keys plan other remote known secrets psks a c d =
+    ap (λ (p : Plan). setup_fault p role (public_of keys) remote (length secrets)) a
+    ∙ ap (λ (r : Remote). setup_fault other role (public_of keys) r (length secrets)) c
+    ∙ ap (λ (s : List (List ℕ)). setup_fault other role (public_of keys) known (length s)) d
+
+-- no fault is told where nothing is wrong
+pub none-told : (role : Role) (found : Option SetupFault) → None ≡ option_map (λ (why : SetupFault). Setup role why) found → found ≡ None
+none-told role None e = refl
+none-told role (Some why) e = absurd (cc)
+
+-- the initiator's fault
+pub told-first : (file : VectorFile) (plan : Plan) (fault : Fault) (found : Option SetupFault) → IsPatternOf file.block file.protocol plan → IsValid plan
+    → found ≡ setup_of file plan Initiator → Some fault ≡ option_map (λ (why : SetupFault). Setup Initiator why) found → IsStartFault file fault
+told-first file plan fault None named valid e f = absurd (cc)
+told-first file plan fault (Some why) named valid e f =
+    let same : Setup Initiator why ≡ fault = cc in
+    subst (λ (z : Fault). IsStartFault file z) same (plan, named, valid, sym e)
+
+-- the responder's, where nothing is wrong with the initiator's setup
+pub told-second : (file : VectorFile) (plan : Plan) (fault : Fault) (found : Option SetupFault) → IsPatternOf file.block file.protocol plan → IsValid plan
+    → setup_of file plan Initiator ≡ None → found ≡ setup_of file plan Responder
+    → Some fault ≡ option_map (λ (why : SetupFault). Setup Responder why) found → IsStartFault file fault
+told-second file plan fault None named valid none e f = absurd (cc)
+told-second file plan fault (Some why) named valid none e f =
+    let same : Setup Responder why ≡ fault = cc in
+    subst (λ (z : Fault). IsStartFault file z) same (plan, named, valid, (none, sym e))

@@ -1,0 +1,42 @@
+-- Lines that are read one after the other.
+use Rattle.std.proofs.Common.{arith, ◌≡◌, ◌∙◌, ◌+◌, ◌-◌, ◌≤◌, ap, refl, sym, ℕ, List, [], ◌∷◌, ◌++◌, length, take}
+use Rattle.std.proofs.lemmas.List.{append_assoc, length-append}
+use Rattle.std.proofs.Math.Seq.{take-append_seam}
+use Rattle.noise_tool.specs.VectorText.{line, lines_of}
+
+lines_of-push : {A : Type 0} (words : A → List ℕ) (xs : List A) (x : A) (rest : List ℕ)
+    → lines_of words xs (line (words x) rest) ≡ lines_of words (xs ++ x ∷ []) rest
+lines_of-push words [] x rest = refl
+lines_of-push words (y ∷ ys) x rest = ap (λ (t : List ℕ). line (words y) t) (lines_of-push words ys x rest)
+
+-- one line more is read
+pub lines_of-more : {A : Type 0} (words : A → List ℕ) (start rest text behind : List ℕ) (xs : List A) (x : A)
+    → start ≡ lines_of words xs rest → rest ≡ line text behind → text ≡ words x → start ≡ lines_of words (xs ++ x ∷ []) behind
+lines_of-more words start rest text behind xs x before next is =
+    before ∙ ap (λ (t : List ℕ). lines_of words xs t) (next ∙ ap (λ (t : List ℕ). line t behind) is) ∙ lines_of-push words xs x behind
+
+-- what is left is the text's end
+abbrev pub Ends : List ℕ → List ℕ → Type 0
+Ends text rest = (before : List ℕ) × (text ≡ before ++ rest)
+
+-- that lasts where a line is read
+pub Ends-behind : (text rest read behind : List ℕ) → Ends text rest → rest ≡ line read behind → Ends text behind
+Ends-behind text rest read behind (before, e) next = (
+  before ++ (read ++ 10 ∷ []),
+  e ∙ ap (λ (t : List ℕ). before ++ t) (next ∙ sym (append_assoc read (10 ∷ []) behind))
+      ∙ sym (append_assoc before (read ++ 10 ∷ []) behind),
+)
+
+pub Ends-length : (text rest : List ℕ) → Ends text rest → length rest ≤ length text
+Ends-length text rest (before, e) =
+    let len : length text ≡ length before + length rest = ap length e ∙ length-append before rest in
+    omega arith
+
+-- the text is its front and its end
+pub Ends-whole : (text rest : List ℕ) → Ends text rest → text ≡ take (length text - length rest) text ++ rest
+Ends-whole text rest (before, e) =
+    let len : length text ≡ length before + length rest = ap length e ∙ length-append before rest in
+    let n : length text - length rest ≡ length before = omega arith in
+    let front : take (length before) text ≡ before = ap (take (length before)) e ∙ take-append_seam before rest in
+    let same : take (length text - length rest) text ≡ before = rw n front in
+    e ∙ ap (λ (t : List ℕ). t ++ rest) (sym same)

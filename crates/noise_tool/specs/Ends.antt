@@ -1,0 +1,76 @@
+-- Which pattern the two ends of a file run, what each of them starts from, and why a file has no ends.
+use Rattle.std.specs.Prelude.{◌≡◌, ℕ, List, length, Option, Some, None, ⊤, if◌then◌else◌}
+use Rattle.noise_names.specs.declared.token.Role.{Role}
+use Rattle.noise_names.specs.declared.token.Role.TheVariants.{Initiator, Responder}
+use Rattle.noise_names.specs.declared.token.Token.TheVariants.{E, S}
+use Rattle.noise_names.specs.Tokens.{other}
+use Rattle.noise_names.specs.Names.{Section}
+use Rattle.noise_names.specs.Plan.{Plan}
+use Rattle.noise_names.specs.Validity.{IsValid, IsFirstFault}
+use Rattle.noise_handshake.specs.declared.keys.Own.{Own}
+use Rattle.noise_handshake.specs.declared.keys.Own.TheVariants.{Ephemeral, Static}
+use Rattle.noise_handshake.specs.declared.remote.Remote.{Remote}
+use Rattle.noise_handshake.specs.declared.faults.SetupFault.{SetupFault}
+use Rattle.noise_handshake.specs.View.{View}
+use Rattle.noise_handshake.specs.Setup.{begun, has_before, setup_fault}
+use Rattle.noise_session.specs.Ends.{EndStands, end_of}
+use Rattle.noise_tool.specs.FileKeys.{public_of, agreement_of}
+use Rattle.noise_tool.specs.Named.{IsNamed, IsUnnamed}
+use Rattle.noise_tool.specs.declared.faults.Fault.{Fault}
+use Rattle.noise_tool.specs.declared.faults.Fault.TheVariants.{Rule, Setup, Memory}
+use Rattle.noise_tool.specs.declared.file_keys.FileKeys.{FileKeys}
+use Rattle.noise_tool.specs.declared.vector.VectorFile.{VectorFile}
+use Rattle.noise_tool.specs.declared.ends.Ends.{Ends}
+
+-- the pattern is the one that a file spells, or else that of its protocol's name
+abbrev pub IsPatternOf : Option Plan → Section → Plan → Type 0
+IsPatternOf (Some block) name plan = plan ≡ block
+IsPatternOf None name plan = IsNamed name plan
+
+-- why there is no valid one: there is none, or it breaks a rule
+abbrev pub IsPatternFault : Option Plan → Section → Fault → Type 0
+IsPatternFault block name (Rule fault) = (plan : Plan) × IsPatternOf block name plan × IsFirstFault plan fault
+IsPatternFault None name fault = IsUnnamed name fault
+IsPatternFault (Some block) name fault = ⊥
+
+-- the public keys of a party's pre-message, which the other party knows before the first message (Noise 7.1)
+abbrev pub known_before : Plan → Role → (Own → Option (List ℕ)) → Remote
+known_before plan party own = record {
+  e = if has_before plan party E then own Ephemeral else None;
+  s = if has_before plan party S then own Static else None;
+}
+
+abbrev pub keys_in : VectorFile → Role → FileKeys
+keys_in file Initiator = file.initiator
+keys_in file Responder = file.responder
+
+abbrev pub known_to : VectorFile → Plan → Role → Remote
+known_to file plan role = known_before plan (other role) (public_of (keys_in file (other role)))
+
+-- what a party starts from
+abbrev pub party_of : VectorFile → Plan → Role → View
+party_of file plan role =
+    begun plan role file.prologue.items (public_of (keys_in file role)) (agreement_of (keys_in file role)) (known_to file plan role) file.psks.items
+
+-- what is wrong with it, if anything is
+abbrev pub setup_of : VectorFile → Plan → Role → Option SetupFault
+setup_of file plan role = setup_fault plan role (public_of (keys_in file role)) (known_to file plan role) (length file.psks.items)
+
+-- the two ends start from what the file says, by one valid pattern
+pub record AreEnds (file : VectorFile) (ends : Ends) : Type 0 where
+  pub plan : Plan
+  pub pattern : IsPatternOf file.block file.protocol plan
+  pub valid : IsValid plan
+  pub initiator : EndStands public_of agreement_of ends.initiator (end_of (party_of file plan Initiator) file.interval)
+  pub responder : EndStands public_of agreement_of ends.responder (end_of (party_of file plan Responder) file.interval)
+
+-- by a valid pattern of the file, this is wrong with the setups
+abbrev pub HasSetupFault : VectorFile → Role → SetupFault → Plan → Type 0
+HasSetupFault file Initiator fault plan = setup_of file plan Initiator ≡ Some fault
+HasSetupFault file Responder fault plan = (setup_of file plan Initiator ≡ None) × (setup_of file plan Responder ≡ Some fault)
+
+-- why a file has no ends: its pattern, then the initiator's setup, then the responder's, the first of these
+abbrev pub IsStartFault : VectorFile → Fault → Type 0
+IsStartFault file (Setup role fault) = (plan : Plan) × IsPatternOf file.block file.protocol plan × IsValid plan × HasSetupFault file role fault plan
+IsStartFault file Memory = ⊤
+IsStartFault file fault = IsPatternFault file.block file.protocol fault

@@ -1,0 +1,127 @@
+//! The two ends that a vector file describes.
+
+ghost use Rattle.std.specs.Prelude.{◌≡◌, ◌≤◌, IfOk, IfErr, false, length};
+ghost use Rattle.std.specs.Option.{option_map};
+ghost use Rattle.std.specs.Result.{result_err};
+ghost use Rattle.noise_names.specs.Validity.{IsValid};
+ghost use Rattle.noise_handshake.specs.Party.{Stands};
+ghost use Rattle.noise_handshake.specs.Setup.{begun, setup_fault};
+ghost use Rattle.noise_tool.specs.FileKeys.{agreement_of, public_of};
+ghost use Rattle.noise_tool.specs.Ends.{AreEnds, IsPatternFault, IsPatternOf, IsStartFault, known_before};
+
+use crate::faults::Fault;
+use crate::file_keys::FileKeys;
+use crate::named::named_pattern;
+use crate::vector::{Say, VectorFile};
+use noise_handshake::{Handshake, Keys, Own, Remote};
+use noise_names::{Pattern, ProtocolName, Role, Token, ValidPattern};
+use noise_session::End;
+use std::alloc::Global;
+
+/// The initiator's end and the responder's.
+#[derive(Drop)]
+pub struct Ends {
+    pub initiator: End<FileKeys>,
+    pub responder: End<FileKeys>,
+}
+
+/// The two ends that the file describes, before the first message, and what they are to say.
+///
+/// At `Err` the fault is the first of these: a psk place beyond the messages of the pattern, a rule that the pattern breaks, the initiator's setup,
+/// the responder's setup.
+pub fn make_ends(alloc: Global, file: VectorFile) -> Result<(Ends, Vec<Say>), Fault>
+    ensures ends { IfOk result (λ made. AreEnds file made.0) }
+    ensures events { IfOk result (λ made. made.1 ≡ file.events) }
+    ensures fault { IfErr result (λ fault. IsStartFault file fault) }
+{
+    let VectorFile {
+        protocol,
+        block,
+        prologue,
+        interval,
+        psks,
+        initiator,
+        responder,
+        events,
+    } = file;
+    let pattern = valid_pattern(block, &protocol)?;
+    let of_initiator = known_before(pattern.pattern(), Role::Initiator, &initiator);
+    let of_responder = known_before(pattern.pattern(), Role::Responder, &responder);
+    let same = pattern.clone()?;
+    let first = handshake(
+        pattern,
+        Role::Initiator,
+        &prologue,
+        initiator,
+        of_responder,
+        &psks,
+    )?;
+    let second = handshake(
+        same,
+        Role::Responder,
+        &prologue,
+        responder,
+        of_initiator,
+        &psks,
+    )?;
+    let ends = Ends {
+        initiator: End::new(alloc, first, interval)?,
+        responder: End::new(alloc, second, interval)?,
+    };
+    Ok((ends, events))
+}
+
+// The pattern that a file spells, or else that of its protocol's name.
+fn valid_pattern(block: Option<Pattern>, name: &ProtocolName) -> Result<ValidPattern, Fault>
+    ensures pattern { IfOk result (λ pattern. IsPatternOf block name.now pattern) }
+    ensures valid { IfOk result (λ pattern. IsValid pattern) }
+    ensures fault { IfErr result (λ fault. IsPatternFault block name.now fault) }
+{
+    let pattern = match block {
+        Some(pattern) => pattern,
+        None => named_pattern(name)?,
+    };
+    match pattern.check() {
+        Ok(valid) => Ok(valid),
+        Err(fault) => Err(Fault::Rule(fault)),
+    }
+}
+
+// Of a party's public keys those of its pre-message, which the other party knows before the first message.
+fn known_before(pattern: &Pattern, party: Role, keys: &FileKeys) -> Remote
+    ensures { result ≡ known_before pattern.now party (public_of keys.now) }
+{
+    let pre = pattern.pre(party);
+    Remote {
+        e: if pre.contains(&Token::E) {
+            keys.public(Own::Ephemeral)
+        } else {
+            None
+        },
+        s: if pre.contains(&Token::S) {
+            keys.public(Own::Static)
+        } else {
+            None
+        },
+    }
+}
+
+// The handshake of one party, before any message.
+fn handshake(
+    pattern: ValidPattern,
+    role: Role,
+    prologue: &[u8],
+    keys: FileKeys,
+    remote: Remote,
+    psks: &[[u8; 32]],
+) -> Result<Handshake<FileKeys>, Fault>
+    requires { length prologue.now ≤ 65535 }
+    ensures stands { IfOk result (λ h. Stands public_of agreement_of h (begun pattern role prologue.now (public_of keys) (agreement_of keys) remote psks.now)) }
+    ensures begins { IfOk result (λ h. h.ended ≡ false) }
+    ensures fault { result_err result ≡ option_map (λ why. Fault.Setup role why) (setup_fault pattern role (public_of keys) remote (length psks.now)) }
+{
+    match Handshake::new(pattern, role, prologue, keys, remote, psks) {
+        Ok(handshake) => Ok(handshake),
+        Err(fault) => Err(Fault::Setup(role, fault)),
+    }
+}

@@ -1,0 +1,83 @@
+//! The lines that give a party its keys.
+
+ghost use Rattle.std.specs.Prelude.{◌≡◌, ◌∷◌, ◌++◌, IfOk, IfSome};
+ghost use Rattle.noise_tool.specs.VectorText.{answer_words, key_words, lines_of, party_text, role_word};
+
+use super::lines::Lines;
+use super::words::{read_key, read_optional_key, read_own, read_role, split_once};
+use crate::faults::{Fault, LineKind};
+use crate::file_keys::FileKeys;
+use noise_handshake::{Own, TableKeys, XorKeys};
+use noise_names::Role;
+
+/// The line of a party's keys, and behind a table's line its answers.
+pub fn read_party(lines: &mut Lines<'_>, role: Role) -> Result<FileKeys, Fault>
+    ensures { IfOk result (λ keys. lines.old.rest.now ≡ party_text role keys lines.new.rest.now) }
+{
+    let line = lines.next()?;
+    let Some(words) = behind_role(line, role) else {
+        return Err(lines.fault(LineKind::Keys));
+    };
+    if let Some((e, s)) = keys_of(words, b"xor ".as_slice()) {
+        lines.end()?;
+        return Ok(FileKeys::Xor(XorKeys { e, s }));
+    }
+    let Some((e, s)) = keys_of(words, b"table ".as_slice()) else {
+        return Err(lines.fault(LineKind::Keys));
+    };
+    lines.end()?;
+    Ok(FileKeys::Table(read_table(lines, e, s)?))
+}
+
+// What stands behind the word of this role and a space.
+fn behind_role(line: &[u8], role: Role) -> Option<&[u8]>
+    ensures { IfSome result (λ words. line.now ≡ role_word role ++ 32 ∷ words.now) }
+{
+    let (word, words) = split_once(line, b' ')?;
+    if read_role(word)? != role {
+        return None;
+    }
+    Some(words)
+}
+
+// The two keys behind this front.
+fn keys_of(words: &[u8], front: &[u8]) -> Option<(Option<[u8; 32]>, Option<[u8; 32]>)>
+    ensures { IfSome result (λ keys. words.now ≡ front.now ++ key_words keys.0 keys.1) }
+{
+    let (e, s) = split_once(words.strip_prefix(front)?, b' ')?;
+    Some((read_optional_key(e)?, read_optional_key(s)?))
+}
+
+// The table of these keys, with the answers of the lines that stand next.
+fn read_table(
+    lines: &mut Lines<'_>,
+    e: Option<[u8; 32]>,
+    s: Option<[u8; 32]>,
+) -> Result<TableKeys, Fault>
+    ensures keys { IfOk result (λ table. (table.e ≡ e) × (table.s ≡ s)) }
+    ensures text { IfOk result (λ table. lines.old.rest.now ≡ lines_of answer_words table.entries lines.new.rest.now) }
+{
+    let mut table = TableKeys::new(e, s);
+    while lines.rest.starts_with(b"answer ".as_slice()) {
+        let line = lines.next()?;
+        let Some(found) = read_answer(line) else {
+            return Err(lines.fault(LineKind::Answer));
+        };
+        let remote = found.1;
+        let answer = found.2;
+        if table.add(found.0, remote, answer).is_err() {
+            return Err(lines.fault(LineKind::Answer));
+        }
+        lines.end()?;
+    }
+    Ok(table)
+}
+
+// The key pair, the remote public key and the answer.
+fn read_answer(line: &[u8]) -> Option<(Own, [u8; 32], [u8; 32])>
+    ensures { IfSome result (λ answer. line.now ≡ answer_words (record { own = answer.0; remote = answer.1; answer = answer.2 })) }
+{
+    let (own, keys) = split_once(line.strip_prefix(b"answer ".as_slice())?, b' ')?;
+    let (remote, answer) = split_once(keys, b' ')?;
+    Some((read_own(own)?, read_key(remote)?, read_key(answer)?))
+}
