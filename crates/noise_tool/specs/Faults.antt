@@ -1,5 +1,5 @@
--- The exit status of each fault.
-use Rattle.std.specs.Prelude.{ℕ}
+-- The exit status of each fault, and what reading a vector file can end with.
+use Rattle.std.specs.Prelude.{ℕ, ⊤}
 use Rattle.noise_tool.specs.declared.faults.Fault.{Fault}
 use Rattle.noise_tool.specs.declared.faults.Fault.TheVariants.{Rule, Place, Setup, Name, UnknownPattern, Text, Line, TooLong, Unreadable, Unwritable, Memory}
 
@@ -16,3 +16,9 @@ status_of TooLong = 2
 status_of Unreadable = 3
 status_of Unwritable = 3
 status_of Memory = 3
+
+-- a line that isn't as it has to be, or no memory
+abbrev pub IsOfLine : Fault → Type 0
+IsOfLine (Line number kind) = ⊤
+IsOfLine Memory = ⊤
+IsOfLine _ = ⊥

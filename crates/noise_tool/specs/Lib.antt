@@ -1,3 +1,4 @@
+pub mod Block
 pub mod CommandLine
 pub mod Cuts
 pub mod Ends
@@ -7,5 +8,7 @@ pub mod HexWord
 pub mod Named
 pub mod Output
 pub mod OwnPattern
+pub mod Performing
+pub mod VectorFile
 pub mod VectorText
 pub mod Words

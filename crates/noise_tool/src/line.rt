@@ -1,6 +1,8 @@
 //! Lines of output.
 
-ghost use Rattle.std.specs.Prelude.{◌≡◌, ◌++◌, ◌∷◌, IfOk, OnOk, decimal, string_bytes};
+ghost use Rattle.std.specs.Prelude.{◌≡◌, ◌++◌, ◌∷◌, [], IfErr, IfOk, OnOk, decimal, string_bytes};
+ghost use Rattle.std.specs.Io.KnownBytes.{Appends};
+ghost use Rattle.noise_tool.specs.Faults.{status_of};
 ghost use Rattle.noise_tool.specs.HexWord.{hex_of};
 
 use crate::faults::Fault;
@@ -50,7 +52,10 @@ impl Line {
     }
 
     /// Writes the line, with an LF behind it.
-    pub fn write<W: Write>(mut self, out: &mut W) -> Result<(), Fault> {
+    pub fn write<W: Write>(mut self, out: &mut W) -> Result<(), Fault>
+        ensures written { OnOk result (Appends (W.contents out.old) (W.contents out.new) (self.text.items ++ 10 ∷ [])) }
+        ensures fault { IfErr result (λ fault. status_of fault ≡ 3) }
+    {
         self.text.push(b'\n').map_err(AllocError::from)?;
         match out.write_all(self.text.as_slice()) {
             Ok(()) => Ok(()),

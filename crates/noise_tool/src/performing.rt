@@ -1,6 +1,10 @@
 //! Doing what the command line asks for.
 
-ghost use Rattle.std.specs.Prelude.{◌≤◌};
+ghost use Rattle.std.specs.Prelude.{◌≡◌, ◌⊎◌, ◌≤◌, IfErr, OnOk};
+ghost use Rattle.noise_tool.specs.Faults.{status_of};
+ghost use Rattle.std.specs.Io.KnownBytes.{Appends};
+ghost use Rattle.noise_tool.specs.Performing.{IsDone, IsFault};
+ghost use Rattle.noise_tool.specs.declared.faults.Fault.{Fault};
 
 use crate::checking::check;
 use crate::faults::Fault;
@@ -25,7 +29,9 @@ pub fn perform<R: Read, O: Write, E: Write>(
     out: &mut O,
     err: &mut E,
 ) -> u8
-    ensures { result ≤ 3 }
+    ensures status { result ≤ 3 }
+    ensures done { result ≡ 0 → IsDone chosen.now (R.remaining file.old) (O.contents out.old) (O.contents out.new) }
+    ensures fault { 1 ≤ result → (result ≡ 3) ⊎ ((fault : Fault) × (status_of fault ≡ result) × IsFault chosen.now (R.remaining file.old) fault) }
 {
     match run(alloc, chosen, file, out) {
         Ok(()) => 0,
@@ -38,7 +44,10 @@ fn run<R: Read, O: Write>(
     chosen: &Chosen,
     file: &mut R,
     out: &mut O,
-) -> Result<(), Fault> {
+) -> Result<(), Fault>
+    ensures done { OnOk result (IsDone chosen.now (R.remaining file.old) (O.contents out.old) (O.contents out.new)) }
+    ensures fault { IfErr result (λ fault. (status_of fault ≡ 3) ⊎ IsFault chosen.now (R.remaining file.old) fault) }
+{
     match chosen {
         Chosen::List => print(&list(alloc)?, out),
         Chosen::Show(name) => print(&show(alloc, name.as_bytes())?, out),
@@ -54,7 +63,10 @@ fn run<R: Read, O: Write>(
     }
 }
 
-fn print<O: Write>(text: &[u8], out: &mut O) -> Result<(), Fault> {
+fn print<O: Write>(text: &[u8], out: &mut O) -> Result<(), Fault>
+    ensures printed { OnOk result (Appends (O.contents out.old) (O.contents out.new) text.now) }
+    ensures fault { IfErr result (λ fault. status_of fault ≡ 3) }
+{
     match out.write_all(text) {
         Ok(()) => Ok(()),
         Err(_) => Err(Fault::Unwritable),

@@ -1,5 +1,8 @@
 //! What a run of two ends prints.
 
+ghost use Rattle.std.specs.Prelude.{◌≡◌, IfErr};
+ghost use Rattle.noise_tool.specs.Faults.{status_of};
+
 use crate::faults::Fault;
 use crate::line::Line;
 use noise_handshake::Cause;
@@ -22,7 +25,9 @@ impl<'a, O: Write> Report<'a, O> {
     }
 
     /// This end wrote a frame, its own frame of this number, from 0 on.
-    pub fn wrote(&mut self, role: Role, number: u64, frame: &[u8]) -> Result<(), Fault> {
+    pub fn wrote(&mut self, role: Role, number: u64, frame: &[u8]) -> Result<(), Fault>
+        ensures { IfErr result (λ fault. status_of fault ≡ 3) }
+    {
         let mut line = self.line("wrote", role)?;
         line.number(number)?;
         line.hex(frame)?;
@@ -30,28 +35,36 @@ impl<'a, O: Write> Report<'a, O> {
     }
 
     /// This end refused to write.
-    pub fn unwritten(&mut self, role: Role, fault: SendFault) -> Result<(), Fault> {
+    pub fn unwritten(&mut self, role: Role, fault: SendFault) -> Result<(), Fault>
+        ensures { IfErr result (λ fault. status_of fault ≡ 3) }
+    {
         let mut line = self.line("unwritten", role)?;
         send_fault(&mut line, fault)?;
         line.write(self.out)
     }
 
     /// This end accepted a frame.
-    pub fn payload(&mut self, role: Role, payload: &[u8]) -> Result<(), Fault> {
+    pub fn payload(&mut self, role: Role, payload: &[u8]) -> Result<(), Fault>
+        ensures { IfErr result (λ fault. status_of fault ≡ 3) }
+    {
         let mut line = self.line("payload", role)?;
         line.hex(payload)?;
         line.write(self.out)
     }
 
     /// This end dropped a transport frame.
-    pub fn dropped(&mut self, role: Role, cause: Cause) -> Result<(), Fault> {
+    pub fn dropped(&mut self, role: Role, cause: Cause) -> Result<(), Fault>
+        ensures { IfErr result (λ fault. status_of fault ≡ 3) }
+    {
         let mut line = self.line("dropped", role)?;
         line.word(cause_word(cause))?;
         line.write(self.out)
     }
 
     /// This end refused a handshake frame at this token.
-    pub fn refused(&mut self, role: Role, token: u8, cause: Cause) -> Result<(), Fault> {
+    pub fn refused(&mut self, role: Role, token: u8, cause: Cause) -> Result<(), Fault>
+        ensures { IfErr result (λ fault. status_of fault ≡ 3) }
+    {
         let mut line = self.line("refused", role)?;
         line.number(u64::from(token))?;
         line.word(cause_word(cause))?;
@@ -59,7 +72,9 @@ impl<'a, O: Write> Report<'a, O> {
     }
 
     /// This end doesn't listen, for the reason that the word names, and so many bytes are lost.
-    pub fn left(&mut self, role: Role, word: &str, count: usize) -> Result<(), Fault> {
+    pub fn left(&mut self, role: Role, word: &str, count: usize) -> Result<(), Fault>
+        ensures { IfErr result (λ fault. status_of fault ≡ 3) }
+    {
         let mut line = self.line("left", role)?;
         line.word(word)?;
         line.number(count as u64)?;
@@ -67,19 +82,25 @@ impl<'a, O: Write> Report<'a, O> {
     }
 
     /// This end met a frame at the reserved nonce.
-    pub fn exhausted(&mut self, role: Role) -> Result<(), Fault> {
+    pub fn exhausted(&mut self, role: Role) -> Result<(), Fault>
+        ensures { IfErr result (λ fault. status_of fault ≡ 3) }
+    {
         self.line("exhausted", role)?.write(self.out)
     }
 
     /// This end holds so many bytes of an unfinished frame.
-    pub fn held(&mut self, role: Role, count: usize) -> Result<(), Fault> {
+    pub fn held(&mut self, role: Role, count: usize) -> Result<(), Fault>
+        ensures { IfErr result (λ fault. status_of fault ≡ 3) }
+    {
         let mut line = self.line("held", role)?;
         line.number(count as u64)?;
         line.write(self.out)
     }
 
     /// Where this end stands when the run is over.
-    pub fn state(&mut self, role: Role, stage: Stage, hash: Option<[u8; 32]>) -> Result<(), Fault> {
+    pub fn state(&mut self, role: Role, stage: Stage, hash: Option<[u8; 32]>) -> Result<(), Fault>
+        ensures { IfErr result (λ fault. status_of fault ≡ 3) }
+    {
         let mut line = self.line("state", role)?;
         match stage {
             Stage::Handshake { done, ours: _ } => {

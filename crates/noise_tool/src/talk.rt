@@ -1,8 +1,9 @@
 //! The command `talk`: two ends say to each other what a file says.
 
-ghost use Rattle.std.specs.Prelude.{◌≡◌, ◌+◌, ◌<◌, ◌≤◌, OnOk};
+ghost use Rattle.std.specs.Prelude.{◌≡◌, ◌⊎◌, ◌+◌, ◌<◌, ◌≤◌, IfErr, OnOk};
 ghost use Rattle.noise_session.specs.Ends.{progress};
-ghost use Rattle.noise_tool.specs.Ends.{AreEnds};
+ghost use Rattle.noise_tool.specs.Ends.{AreEnds, IsStartFault};
+ghost use Rattle.noise_tool.specs.Faults.{status_of};
 ghost use Rattle.noise_tool.specs.declared.ends.Ends.{Ends};
 
 use crate::ends::{Ends, make_ends};
@@ -26,7 +27,8 @@ struct Side<K: Keys> {
 ///
 /// Where there are no such ends, the fault is that of `make_ends`, and nothing is written.
 pub fn talk<O: Write>(alloc: Global, file: VectorFile, out: &mut O) -> Result<(), Fault>
-    ensures { OnOk result ((ends : Ends) × AreEnds file ends) }
+    ensures ends { OnOk result ((ends : Ends) × AreEnds file ends) }
+    ensures fault { IfErr result (λ fault. (status_of fault ≡ 3) ⊎ IsStartFault file fault) }
 {
     let (ends, events) = make_ends(alloc, file)?;
     let Ends {
@@ -77,6 +79,7 @@ fn say<K: Keys, O: Write>(
     requires { from.old.frames < 18446744073709551615 }
     ensures counted { from.new.frames + (progress from.old.end).passed ≡ from.old.frames + (progress from.new.end).passed }
     ensures one { from.new.frames ≤ from.old.frames + 1 }
+    ensures fault { IfErr result (λ fault. status_of fault ≡ 3) }
 {
     if from.end.is_open() {
         return Ok(());
@@ -100,7 +103,9 @@ fn deliver<K: Keys, O: Write>(
     frame: &[u8],
     cuts: &Cuts,
     report: &mut Report<'_, O>,
-) -> Result<(), Fault> {
+) -> Result<(), Fault>
+    ensures { IfErr result (λ fault. status_of fault ≡ 3) }
+{
     let role = end.role();
     let mut taken = 0;
     for index in 0..frame.len() + Cuts::MOST {

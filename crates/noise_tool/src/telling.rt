@@ -1,6 +1,7 @@
 //! The texts of faults.
 
-ghost use Rattle.std.specs.Prelude.{◌≤◌};
+ghost use Rattle.std.specs.Prelude.{◌≡◌, ◌⊎◌, IfErr};
+ghost use Rattle.noise_tool.specs.Faults.{status_of};
 
 use crate::faults::Fault;
 use crate::line::Line;
@@ -13,7 +14,7 @@ use std::io::Write;
 /// Writes what the fault is, a broken rule to `out` and any other to `err`, and gives the exit status. Where memory for the text or a
 /// write to `out` is refused, that is the fault; a refused write to `err` changes nothing.
 pub fn tell<O: Write, E: Write>(alloc: Global, fault: Fault, out: &mut O, err: &mut E) -> u8
-    ensures { result ≤ 3 }
+    ensures { (result ≡ status_of fault) ⊎ (result ≡ 3) }
 {
     match write_fault(alloc, fault, out, err) {
         Ok(()) => fault.status(),
@@ -29,7 +30,9 @@ fn write_fault<O: Write, E: Write>(
     fault: Fault,
     out: &mut O,
     err: &mut E,
-) -> Result<(), Fault> {
+) -> Result<(), Fault>
+    ensures { IfErr result (λ other. status_of other ≡ 3) }
+{
     let line = fault_line(alloc, fault)?;
     if let Fault::Rule(_) = fault {
         return line.write(out);

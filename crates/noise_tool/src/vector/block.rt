@@ -1,8 +1,13 @@
 //! The pattern that a file spells itself.
 
-ghost use Rattle.std.specs.Prelude.{◌≡◌, ◌++◌, IfOk, IsTrue, codes};
+ghost use Rattle.std.specs.Prelude.{◌≡◌, ◌++◌, [], ℕ, List, IfErr, IfOk, IsTrue, MatchResult, Ok, codes};
+ghost use Rattle.std.specs.List.{All};
+ghost use Rattle.noise_names.specs.Limits.{IsPattern};
+ghost use Rattle.noise_names.specs.Plan.{Plan};
 ghost use Rattle.noise_names.specs.Text.{text_of as pattern_text};
-ghost use Rattle.noise_tool.specs.VectorText.{line};
+ghost use Rattle.noise_tool.specs.Faults.{IsOfLine};
+ghost use Rattle.noise_tool.specs.Block.{IsInner, itself};
+ghost use Rattle.noise_tool.specs.VectorText.{line, lines_of};
 ghost use Rattle.noise_tool.specs.OwnPattern.{HasName};
 
 use super::lines::Lines;
@@ -14,6 +19,8 @@ use noise_names::{Pattern, ProtocolName};
 pub fn read_block(lines: &mut Lines<'_>, protocol: &ProtocolName) -> Result<Pattern, Fault>
     ensures text { IfOk result (λ pattern. lines.old.rest.now ≡ pattern_text pattern ++ line (codes "end") lines.new.rest.now) }
     ensures named { IfOk result (λ pattern. HasName pattern protocol.now) }
+    ensures every { (pattern : Plan) (rest : List ℕ) → IsPattern pattern → HasName pattern protocol.now → lines.old.rest.now ≡ pattern_text pattern ++ line (codes "end") rest → MatchResult result (λ read. (read ≡ pattern) × (lines.new.rest.now ≡ rest)) (λ fault. ⊥) }
+    ensures kind { IfErr result IsOfLine }
 {
     let before = lines.number;
     let text = take_block(lines)?;
@@ -28,7 +35,9 @@ pub fn read_block(lines: &mut Lines<'_>, protocol: &ProtocolName) -> Result<Patt
 
 // The lines before the next line `end`, which is read too.
 fn take_block<'a>(lines: &mut Lines<'a>) -> Result<&'a [u8], Fault>
-    ensures { IfOk result (λ text. IsTrue lines.new.is_ended → lines.old.rest.now ≡ text.now ++ line (codes "end") lines.new.rest.now) }
+    ensures text { IfOk result (λ text. IsTrue lines.new.is_ended → lines.old.rest.now ≡ text.now ++ line (codes "end") lines.new.rest.now) }
+    ensures every { (before : List (List ℕ)) (rest : List ℕ) → All IsInner before → lines.old.rest.now ≡ lines_of itself before (line (codes "end") rest) → MatchResult result (λ text. (text.now ≡ lines_of itself before []) × (lines.new.rest.now ≡ rest) × IsTrue lines.new.is_ended) (λ fault. ⊥) }
+    ensures kind { IfErr result IsOfLine }
 {
     let text = lines.rest;
     loop {
@@ -44,6 +53,7 @@ fn take_block<'a>(lines: &mut Lines<'a>) -> Result<&'a [u8], Fault>
 fn pattern_of(text: &[u8], protocol: &ProtocolName) -> Result<Pattern, usize>
     ensures spelled { IfOk result (λ pattern. text.now ≡ pattern_text pattern) }
     ensures named { IfOk result (λ pattern. HasName pattern protocol.now) }
+    ensures every { (pattern : Plan) → IsPattern pattern → HasName pattern protocol.now → text.now ≡ pattern_text pattern → result ≡ Ok pattern }
 {
     match Pattern::parse_text(text) {
         Ok(pattern) if pattern.name() == *protocol => Ok(pattern),

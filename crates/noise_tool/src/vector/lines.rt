@@ -1,8 +1,10 @@
 //! The lines of a text.
 
-ghost use Rattle.std.specs.Prelude.{◌≡◌, ◌↔◌, ◌+◌, ◌<◌, [], IsTrue, IsOk, IfOk, IfErr, IsErrOf, MatchBool, length};
+ghost use Rattle.std.specs.Prelude.{◌≡◌, ◌↔◌, ◌+◌, ◌<◌, [], List, ℕ, IsTrue, IsOk, IfOk, IfErr, IsErrOf, MatchBool, MatchResult, length};
 ghost use Rattle.noise_tool.specs.VectorText.{line};
+ghost use Rattle.noise_tool.specs.Words.{lacks};
 
+use super::words::split_once;
 use crate::faults::{Fault, LineKind};
 
 /// A text that is read line by line.
@@ -31,6 +33,7 @@ impl<'a> Lines<'a> {
     /// The next line without its LF, or the fault that there is none.
     pub fn next(&mut self) -> Result<&'a [u8], Fault>
         ensures ended { IfOk result (λ text. IsTrue self.new.is_ended → self.old.rest.now ≡ line text.now self.new.rest.now) }
+        ensures every { (words behind : List ℕ) → IsTrue (lacks 10 words) → self.old.rest.now ≡ line words behind → MatchResult result (λ text. (text.now ≡ words) × (self.new.rest.now ≡ behind) × IsTrue self.new.is_ended) (λ fault. ⊥) }
         ensures shorter { IfOk result (λ text. length self.new.rest.now < length self.old.rest.now) }
         ensures missing { IfErr result (λ fault. (self.old.rest.now ≡ []) × (fault ≡ Fault.Line self.new.number LineKind.Ending)) }
     {
@@ -39,11 +42,11 @@ impl<'a> Lines<'a> {
             return Err(self.fault(LineKind::Ending));
         }
         let rest = self.rest;
-        match rest.iter().position(|byte| *byte == b'\n') {
-            Some(place) => {
+        match split_once(rest, b'\n') {
+            Some((line, behind)) => {
                 self.is_ended = true;
-                self.rest = &rest[place + 1..];
-                Ok(&rest[..place])
+                self.rest = behind;
+                Ok(line)
             }
             None => {
                 self.rest = &rest[rest.len()..];

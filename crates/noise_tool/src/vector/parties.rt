@@ -1,6 +1,12 @@
 //! The lines that give a party its keys.
 
-ghost use Rattle.std.specs.Prelude.{◌≡◌, ◌∷◌, ◌++◌, IfOk, IfSome};
+ghost use Rattle.std.specs.Prelude.{◌≡◌, ◌≤◌, ◌∷◌, ◌++◌, ℕ, List, Option, IfErr, IfOk, IfSome, IsFalse, IsOk, IsSome, MatchOption, codes, length};
+ghost use Rattle.std.specs.Bool.{nat_eq};
+ghost use Rattle.std.specs.List.{All, starts_with};
+ghost use Rattle.noise_handshake.specs.declared.table_keys.Entry.{Entry};
+ghost use Rattle.noise_tool.specs.Faults.{IsOfLine};
+ghost use Rattle.noise_tool.specs.VectorFile.{AreKeys, IsEntry};
+ghost use Rattle.noise_tool.specs.Words.{IsKey};
 ghost use Rattle.noise_tool.specs.VectorText.{answer_words, key_words, lines_of, party_text, role_word};
 
 use super::lines::Lines;
@@ -12,7 +18,9 @@ use noise_names::Role;
 
 /// The line of a party's keys, and behind a table's line its answers.
 pub fn read_party(lines: &mut Lines<'_>, role: Role) -> Result<FileKeys, Fault>
-    ensures { IfOk result (λ keys. lines.old.rest.now ≡ party_text role keys lines.new.rest.now) }
+    ensures text { IfOk result (λ keys. lines.old.rest.now ≡ party_text role keys lines.new.rest.now) }
+    ensures every { (keys : FileKeys) (rest : List ℕ) → AreKeys keys → IsFalse (starts_with nat_eq rest (codes "answer ")) → lines.old.rest.now ≡ party_text role keys rest → IsOk result × (lines.new.rest.now ≡ rest) }
+    ensures kind { IfErr result IsOfLine }
 {
     let line = lines.next()?;
     let Some(words) = behind_role(line, role) else {
@@ -31,7 +39,8 @@ pub fn read_party(lines: &mut Lines<'_>, role: Role) -> Result<FileKeys, Fault>
 
 // What stands behind the word of this role and a space.
 fn behind_role(line: &[u8], role: Role) -> Option<&[u8]>
-    ensures { IfSome result (λ words. line.now ≡ role_word role ++ 32 ∷ words.now) }
+    ensures text { IfSome result (λ words. line.now ≡ role_word role ++ 32 ∷ words.now) }
+    ensures every { (words : List ℕ) → line.now ≡ role_word role ++ 32 ∷ words → MatchOption result (Unit {0} → ⊥) (λ found. found.now ≡ words) }
 {
     let (word, words) = split_once(line, b' ')?;
     if read_role(word)? != role {
@@ -42,7 +51,8 @@ fn behind_role(line: &[u8], role: Role) -> Option<&[u8]>
 
 // The two keys behind this front.
 fn keys_of(words: &[u8], front: &[u8]) -> Option<(Option<[u8; 32]>, Option<[u8; 32]>)>
-    ensures { IfSome result (λ keys. words.now ≡ front.now ++ key_words keys.0 keys.1) }
+    ensures text { IfSome result (λ keys. words.now ≡ front.now ++ key_words keys.0 keys.1) }
+    ensures every { (e s : Option (List ℕ)) → IfSome e IsKey → IfSome s IsKey → words.now ≡ front.now ++ key_words e s → IsSome result }
 {
     let (e, s) = split_once(words.strip_prefix(front)?, b' ')?;
     Some((read_optional_key(e)?, read_optional_key(s)?))
@@ -56,6 +66,8 @@ fn read_table(
 ) -> Result<TableKeys, Fault>
     ensures keys { IfOk result (λ table. (table.e ≡ e) × (table.s ≡ s)) }
     ensures text { IfOk result (λ table. lines.old.rest.now ≡ lines_of answer_words table.entries lines.new.rest.now) }
+    ensures every { (entries : List Entry) (rest : List ℕ) → length entries ≤ 8 → All IsEntry entries → IsFalse (starts_with nat_eq rest (codes "answer ")) → lines.old.rest.now ≡ lines_of answer_words entries rest → IsOk result × (lines.new.rest.now ≡ rest) }
+    ensures kind { IfErr result IsOfLine }
 {
     let mut table = TableKeys::new(e, s);
     while lines.rest.starts_with(b"answer ".as_slice()) {
@@ -75,7 +87,8 @@ fn read_table(
 
 // The key pair, the remote public key and the answer.
 fn read_answer(line: &[u8]) -> Option<(Own, [u8; 32], [u8; 32])>
-    ensures { IfSome result (λ answer. line.now ≡ answer_words (record { own = answer.0; remote = answer.1; answer = answer.2 })) }
+    ensures text { IfSome result (λ answer. line.now ≡ answer_words (record { own = answer.0; remote = answer.1; answer = answer.2 })) }
+    ensures every { (entry : Entry) → IsEntry entry → line.now ≡ answer_words entry → IsSome result }
 {
     let (own, keys) = split_once(line.strip_prefix(b"answer ".as_slice())?, b' ')?;
     let (remote, answer) = split_once(keys, b' ')?;

@@ -1,11 +1,18 @@
 //! Reading a vector file: the order of its lines.
 
-ghost use Rattle.std.specs.Prelude.{◌≡◌, ◌≤◌, ◌++◌, ◌↔◌, None, IfOk, IfSome, IsSome, OnOk, codes, decimal, length, vec_len};
-ghost use Rattle.noise_names.specs.Names.{name_bytes};
+ghost use Rattle.std.specs.Prelude.{◌≡◌, ◌<◌, ◌≤◌, ◌^◌, ◌++◌, ◌↔◌, ℕ, List, Option, Some, None, IfErr, IfOk, IfSome, IsFalse, IsOk, IsSome, MatchResult, OnOk, codes, decimal, length, vec_len};
+ghost use Rattle.std.specs.Bool.{nat_eq};
+ghost use Rattle.std.specs.List.{starts_with};
+ghost use Rattle.noise_names.specs.Names.{IsSection, Section, name_bytes};
+ghost use Rattle.noise_names.specs.Plan.{Plan};
 ghost use Rattle.noise_names.specs.Fundamental.{fundamental_of};
+ghost use Rattle.noise_tool.specs.Faults.{IsOfLine};
 ghost use Rattle.noise_tool.specs.HexWord.{hex_of};
 ghost use Rattle.noise_tool.specs.VectorText.{block_text, line, lines_of, psk_words, text_of};
 ghost use Rattle.noise_tool.specs.OwnPattern.{HasName, pattern_of};
+ghost use Rattle.noise_tool.specs.VectorFile.{ArePsks, IsOwn, IsShort, IsVectorFile};
+ghost use Rattle.noise_tool.specs.Words.{IsKey};
+ghost use Rattle.noise_tool.specs.declared.faults.Fault.TheVariants.{Memory};
 
 use super::VectorFile;
 use super::block::read_block;
@@ -16,7 +23,7 @@ use super::words::{read_bytes, read_key, read_number};
 use crate::faults::{Fault, LineKind};
 use arrayvec::ArrayVec;
 use noise_names::{Pattern, ProtocolName, Role, fundamental};
-use std::alloc::Global;
+use std::alloc::{AllocError, Global};
 
 /// What this text says, or the first line of it that isn't as it has to be.
 pub fn read_vector(alloc: Global, text: &[u8]) -> Result<VectorFile, Fault>
@@ -28,6 +35,10 @@ pub fn read_vector(alloc: Global, text: &[u8]) -> Result<VectorFile, Fault>
 
     // There are no more events than messages.
     ensures few { IfOk result (λ file. IfSome (pattern_of file.protocol file.block) (λ pattern. vec_len file.events ≤ length pattern.messages)) }
+
+    // The text of a right file is refused only for want of memory.
+    ensures every { (file : VectorFile) → IsVectorFile file → text.now ≡ text_of file → IfErr result (λ fault. fault ≡ Memory) }
+    ensures kind { IfErr result IsOfLine }
 {
     let mut lines = Lines::new(text);
     read_header(&mut lines)?;
@@ -52,7 +63,9 @@ pub fn read_vector(alloc: Global, text: &[u8]) -> Result<VectorFile, Fault>
 }
 
 fn read_header(lines: &mut Lines<'_>) -> Result<(), Fault>
-    ensures { OnOk result (lines.old.rest.now ≡ line (codes "vector 1") lines.new.rest.now) }
+    ensures text { OnOk result (lines.old.rest.now ≡ line (codes "vector 1") lines.new.rest.now) }
+    ensures every { (rest : List ℕ) → lines.old.rest.now ≡ line (codes "vector 1") rest → IsOk result × (lines.new.rest.now ≡ rest) }
+    ensures kind { IfErr result IsOfLine }
 {
     let line = lines.next()?;
     if line != b"vector 1".as_slice() {
@@ -62,18 +75,24 @@ fn read_header(lines: &mut Lines<'_>) -> Result<(), Fault>
 }
 
 fn read_protocol(lines: &mut Lines<'_>) -> Result<ProtocolName, Fault>
-    ensures { IfOk result (λ name. lines.old.rest.now ≡ line (codes "protocol " ++ name_bytes name) lines.new.rest.now) }
+    ensures text { IfOk result (λ name. lines.old.rest.now ≡ line (codes "protocol " ++ name_bytes name) lines.new.rest.now) }
+    ensures every { (name : Section) (rest : List ℕ) → IsSection name → lines.old.rest.now ≡ line (codes "protocol " ++ name_bytes name) rest → MatchResult result (λ read. (read ≡ name) × (lines.new.rest.now ≡ rest)) (λ fault. ⊥) }
+    ensures kind { IfErr result IsOfLine }
 {
     let line = lines.next()?;
-    let name = match line.strip_prefix(b"protocol ".as_slice()) {
-        Some(word) => ProtocolName::parse(word).ok(),
-        None => None,
-    };
-    let Some(name) = name else {
+    let Some(name) = protocol_of(line) else {
         return Err(lines.fault(LineKind::Protocol));
     };
     lines.end()?;
     Ok(name)
+}
+
+// The name that stands in the line.
+fn protocol_of(line: &[u8]) -> Option<ProtocolName>
+    ensures text { IfSome result (λ name. line.now ≡ codes "protocol " ++ name_bytes name) }
+    ensures every { (name : Section) → IsSection name → line.now ≡ codes "protocol " ++ name_bytes name → result ≡ Some name }
+{
+    ProtocolName::parse(line.strip_prefix(b"protocol ".as_slice())?).ok()
 }
 
 // The pattern that the file spells itself, where no fundamental one has this name's base, and the number of its messages, or of that one's.
@@ -85,6 +104,8 @@ fn read_own_pattern(
     ensures there { IfOk result (λ own. IsSome own.0 ↔ (fundamental_of protocol.now.base ≡ None)) }
     ensures named { IfOk result (λ own. IfSome own.0 (λ pattern. HasName pattern protocol.now)) }
     ensures count { IfOk result (λ own. IfSome (pattern_of protocol.now own.0) (λ pattern. own.1 ≡ length pattern.messages)) }
+    ensures every { (block : Option Plan) (rest : List ℕ) → IsOwn protocol.now block → lines.old.rest.now ≡ block_text block rest → MatchResult result (λ own. (own.0 ≡ block) × (lines.new.rest.now ≡ rest)) (λ fault. ⊥) }
+    ensures kind { IfErr result IsOfLine }
 {
     match fundamental(protocol.base()) {
         Some(pattern) => Ok((None, pattern.messages().len())),
@@ -99,36 +120,54 @@ fn read_own_pattern(
 fn read_prologue(alloc: Global, lines: &mut Lines<'_>) -> Result<Vec<u8>, Fault>
     ensures text { IfOk result (λ bytes. lines.old.rest.now ≡ line (codes "prologue " ++ hex_of bytes.items) lines.new.rest.now) }
     ensures bound { IfOk result (λ bytes. vec_len bytes ≤ 65535) }
+    ensures every { (bytes rest : List ℕ) → IsShort bytes → lines.old.rest.now ≡ line (codes "prologue " ++ hex_of bytes) rest → MatchResult result (λ read. lines.new.rest.now ≡ rest) (λ fault. fault ≡ Memory) }
+    ensures kind { IfErr result IsOfLine }
 {
     let line = lines.next()?;
-    let prologue = match line.strip_prefix(b"prologue ".as_slice()) {
-        Some(word) => read_bytes(alloc, word)?,
-        None => None,
-    };
-    let Some(prologue) = prologue else {
+    let Some(prologue) = prologue_of(alloc, line)? else {
         return Err(lines.fault(LineKind::Prologue));
     };
     lines.end()?;
     Ok(prologue)
 }
 
+// The bytes that stand in the line.
+fn prologue_of(alloc: Global, line: &[u8]) -> Result<Option<Vec<u8>>, AllocError>
+    ensures text { IfOk result (λ found. IfSome found (λ bytes. line.now ≡ codes "prologue " ++ hex_of bytes.items)) }
+    ensures bound { IfOk result (λ found. IfSome found (λ bytes. vec_len bytes ≤ 65535)) }
+    ensures every { (bytes : List ℕ) → IsShort bytes → line.now ≡ codes "prologue " ++ hex_of bytes → IfOk result (λ found. IsSome found) }
+{
+    match line.strip_prefix(b"prologue ".as_slice()) {
+        Some(word) => read_bytes(alloc, word),
+        None => Ok(None),
+    }
+}
+
 fn read_interval(lines: &mut Lines<'_>) -> Result<u64, Fault>
-    ensures { IfOk result (λ interval. lines.old.rest.now ≡ line (codes "interval " ++ decimal interval) lines.new.rest.now) }
+    ensures text { IfOk result (λ interval. lines.old.rest.now ≡ line (codes "interval " ++ decimal interval) lines.new.rest.now) }
+    ensures every { (interval : ℕ) (rest : List ℕ) → interval < 2 ^ 64 → lines.old.rest.now ≡ line (codes "interval " ++ decimal interval) rest → IsOk result × (lines.new.rest.now ≡ rest) }
+    ensures kind { IfErr result IsOfLine }
 {
     let line = lines.next()?;
-    let interval = match line.strip_prefix(b"interval ".as_slice()) {
-        Some(word) => read_number(word),
-        None => None,
-    };
-    let Some(interval) = interval else {
+    let Some(interval) = interval_of(line) else {
         return Err(lines.fault(LineKind::Interval));
     };
     lines.end()?;
     Ok(interval)
 }
 
+// The number that stands in the line.
+fn interval_of(line: &[u8]) -> Option<u64>
+    ensures text { IfSome result (λ interval. line.now ≡ codes "interval " ++ decimal interval) }
+    ensures every { (interval : ℕ) → interval < 2 ^ 64 → line.now ≡ codes "interval " ++ decimal interval → result ≡ Some interval }
+{
+    read_number(line.strip_prefix(b"interval ".as_slice())?)
+}
+
 fn read_psks(lines: &mut Lines<'_>) -> Result<ArrayVec<[u8; 32], 9>, Fault>
-    ensures { IfOk result (λ psks. lines.old.rest.now ≡ lines_of psk_words psks.items lines.new.rest.now) }
+    ensures text { IfOk result (λ psks. lines.old.rest.now ≡ lines_of psk_words psks.items lines.new.rest.now) }
+    ensures every { (psks : List (List ℕ)) (rest : List ℕ) → ArePsks psks → IsFalse (starts_with nat_eq rest (codes "psk ")) → lines.old.rest.now ≡ lines_of psk_words psks rest → IsOk result × (lines.new.rest.now ≡ rest) }
+    ensures kind { IfErr result IsOfLine }
 {
     let mut psks = ArrayVec::new();
     while lines.rest.starts_with(b"psk ".as_slice()) {
@@ -145,7 +184,8 @@ fn read_psks(lines: &mut Lines<'_>) -> Result<ArrayVec<[u8; 32], 9>, Fault>
 }
 
 fn read_psk(line: &[u8]) -> Option<[u8; 32]>
-    ensures { IfSome result (λ psk. line.now ≡ psk_words psk) }
+    ensures text { IfSome result (λ psk. line.now ≡ psk_words psk) }
+    ensures every { (psk : List ℕ) → IsKey psk → line.now ≡ psk_words psk → IsSome result }
 {
     read_key(line.strip_prefix(b"psk ".as_slice())?)
 }

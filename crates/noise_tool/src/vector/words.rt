@@ -1,10 +1,11 @@
 //! The words that stand in the lines of a vector file.
 
-ghost use Rattle.std.specs.Prelude.{◌≡◌, ◌↔◌, ◌<◌, ◌≤◌, ◌^◌, ◌==◌, ℕ, List, ◌∷◌, ◌++◌, Option, Some, IfOk, IfSome, IsTrue, MatchOption, decimal, length, position, slice_index, vec_len};
+ghost use Rattle.std.specs.Prelude.{◌≡◌, ◌↔◌, ◌<◌, ◌≤◌, ◌^◌, ◌==◌, ℕ, List, ◌∷◌, ◌++◌, Option, Some, IfOk, IfSome, IsSome, IsTrue, MatchOption, decimal, length, position, slice_index, vec_len};
 ghost use Rattle.noise_tool.specs.HexWord.{hex_of};
 ghost use Rattle.hex.specs.Hex.{encode_lower};
 ghost use Rattle.noise_handshake.specs.declared.keys.Own.{Own};
 ghost use Rattle.noise_names.specs.declared.token.Role.{Role};
+ghost use Rattle.noise_tool.specs.VectorFile.{IsShort};
 ghost use Rattle.noise_tool.specs.VectorText.{key_word, own_word, role_word};
 ghost use Rattle.noise_tool.specs.Words.{IsKey, lacks};
 
@@ -115,6 +116,7 @@ pub fn read_own(word: &[u8]) -> Option<Own>
 pub fn read_bytes(alloc: Global, word: &[u8]) -> Result<Option<Vec<u8>>, AllocError>
     ensures text { IfOk result (λ found. IfSome found (λ bytes. word.now ≡ hex_of bytes.items)) }
     ensures bound { IfOk result (λ found. IfSome found (λ bytes. vec_len bytes ≤ 65535)) }
+    ensures every { (bytes : List ℕ) → IsShort bytes → word.now ≡ hex_of bytes → IfOk result (λ found. IsSome found) }
 {
     if word.len() > 2 * 65535 {
         return Ok(None);

@@ -1,19 +1,70 @@
-use Rattle.std.proofs.Common.{rules, ◌≡◌, ◌∙◌, ap, sym, [], ◌∷◌, ◌++◌}
+use Rattle.std.proofs.Common.{rules, ◌≡◌, ◌∙◌, ◌+◌, ap, sym, refl, arith, [], ◌∷◌, ◌++◌, true, false, length}
 use Rattle.std.specs.Prelude.{IsTrue}
+use Rattle.std.proofs.lemmas.List.{length-append}
 use Rattle.noise_handshake.specs.Table.{Table}
 use Rattle.noise_handshake.specs.declared.table_keys.Entry.{Entry}
 use Rattle.noise_tool.specs.VectorText.{answer_words, lines_of}
 use Rattle.noise_tool.proofs.LineLemmas.{lines_of-more}
+use Rattle.noise_tool.proofs.PartyLemmas.{begins, Left-end, Left-next, Next-room, Next-step}
 use Rattle.noise_tool.proofs.vector.parties.read_table.Goals as goal
+
+pub returns-in_default-clause-every : goal.returns-in_default-clause-every
+returns-in_default-clause-every c =
+    let starts : begins c.loop-lines.lines.rest.now ≡ true = search rules in
+    λ entries rest few are other is.
+    let n = Left-next entries (length c.loop-lines.table.entries) c.loop-lines.lines.rest.now rest
+    (c.loop-lines.invariant.every entries rest few are other is) starts other in
+    let read = c.in_ok-line.ensures.every (answer_words n.next) (lines_of answer_words n.others rest) n.lacks_end n.left_is in
+    let none = c.in_default.ensures.every n.next n.is read.0 in
+    absurd (cc (none))
+
+pub returns-then-is_err-clause-every : goal.returns-then-is_err-clause-every
+returns-then-is_err-clause-every c =
+    let starts : begins c.loop-lines.lines.rest.now ≡ true = search rules in
+    let full : length c.loop-lines.table.entries ≡ 8 = c.add.ensures.full.0 (sym c.if-is_err.ensures.value) in
+    λ entries rest few are other is.
+    let n = Left-next entries (length c.loop-lines.table.entries) c.loop-lines.lines.rest.now rest
+    (c.loop-lines.invariant.every entries rest few are other is) starts other in
+    let room = Next-room entries (length c.loop-lines.table.entries) c.loop-lines.lines.rest.now rest n few in
+    absurd (omega (arith, room, full))
+
+pub returns-in_err-end-clause-every : goal.returns-in_err-end-clause-every
+returns-in_err-end-clause-every c =
+    let starts : begins c.loop-lines.lines.rest.now ≡ true = search rules in
+    λ entries rest few are other is.
+    let n = Left-next entries (length c.loop-lines.table.entries) c.loop-lines.lines.rest.now rest
+    (c.loop-lines.invariant.every entries rest few are other is) starts other in
+    let read = c.in_ok-line.ensures.every (answer_words n.next) (lines_of answer_words n.others rest) n.lacks_end n.left_is in
+    let bad = c.in_err-end.ensures.ended.1 read.2 in
+    absurd (cc (bad))
 
 pub loop-lines-preserved : goal.loop-lines-preserved
 loop-lines-preserved c =
+    let starts : begins c.loop-lines.lines.rest.now ≡ true = search rules in
     let ended : IsTrue c.next.new.self.is_ended = search rules in
     let found : Entry = record { own = c.in-Some.found.0; remote = c.in-Some.found.1; answer = c.in-Some.found.2 } in
-    let added : c.add.new.self ≡ record c.loop-lines.table { entries = c.loop-lines.table.entries ++ found ∷ [] } = search rules in (
-      ap (λ (t : Table). t.e) added ∙ c.loop-lines.invariant.0,
-      ap (λ (t : Table). t.s) added ∙ c.loop-lines.invariant.1,
-      lines_of-more answer_words c.args.lines.now.rest.now c.loop-lines.lines.rest.now c.in_ok-line.line.now c.next.new.self.rest.now
-          c.loop-lines.table.entries found c.loop-lines.invariant.2 (c.in_ok-line.ensures.ended ended) c.in-Some.ensures
-          ∙ ap (λ (t : Table). lines_of answer_words t.entries c.next.new.self.rest.now) (sym added),
+    let added : c.add.new.self ≡ record c.loop-lines.table { entries = c.loop-lines.table.entries ++ found ∷ [] } = search rules in
+    let one : length c.add.new.self.entries ≡ length c.loop-lines.table.entries + 1 =
+    ap (λ (t : Table). length t.entries) added ∙ length-append c.loop-lines.table.entries (found ∷ []) in
+    record {
+      e = ap (λ (t : Table). t.e) added ∙ c.loop-lines.invariant.e;
+      s = ap (λ (t : Table). t.s) added ∙ c.loop-lines.invariant.s;
+      text = lines_of-more answer_words c.args.lines.now.rest.now c.loop-lines.lines.rest.now c.in_ok-line.line.now c.next.new.self.rest.now
+          c.loop-lines.table.entries found c.loop-lines.invariant.text (c.in_ok-line.ensures.ended ended) c.in-Some.ensures.text
+          ∙ ap (λ (t : Table). lines_of answer_words t.entries c.next.new.self.rest.now) (sym added);
+      every = λ entries rest few are other is.
+          let n = Left-next entries (length c.loop-lines.table.entries) c.loop-lines.lines.rest.now rest
+          (c.loop-lines.invariant.every entries rest few are other is) starts other in
+          let read = c.in_ok-line.ensures.every (answer_words n.next) (lines_of answer_words n.others rest) n.lacks_end n.left_is in
+          Next-step entries (length c.loop-lines.table.entries) (length c.add.new.self.entries) c.loop-lines.lines.rest.now rest
+          c.next.new.self.rest.now n one read.1;
+    }
+
+pub returns-clause-every : goal.returns-clause-every
+returns-clause-every c =
+    let other_line : begins c.loop-lines.lines.rest.now ≡ false = search rules in
+    λ entries rest few are other is. (
+      refl,
+      Left-end entries (length c.loop-lines.table.entries) c.loop-lines.lines.rest.now rest
+          (c.loop-lines.invariant.every entries rest few are other is) other_line,
     )

@@ -1,10 +1,19 @@
-use Rattle.std.proofs.Common.{◌≡◌, length}
+use Rattle.std.proofs.Common.{◌≡◌, ◌≤◌, ℕ, List, false, length}
+use Rattle.std.specs.List.{All}
+use Rattle.noise_handshake.specs.declared.table_keys.Entry.{Entry}
+use Rattle.noise_tool.specs.VectorFile.{IsEntry}
 use Rattle.noise_tool.specs.VectorText.{answer_words, lines_of}
+use Rattle.noise_tool.proofs.PartyLemmas.{begins, Left}
 use Rattle.noise_tool.proofs.vector.parties.read_table.Given as goal
 
 abbrev pub invariant-loop-lines : goal.invariant-loop-lines
-invariant-loop-lines l =
-    (l.table.e ≡ l.fn.e) × (l.table.s ≡ l.fn.s) × (l.fn.lines.rest.now ≡ lines_of answer_words l.table.entries l.lines.rest.now)
+invariant-loop-lines l = record {
+  e : l.table.e ≡ l.fn.e;
+  s : l.table.s ≡ l.fn.s;
+  text : l.fn.lines.rest.now ≡ lines_of answer_words l.table.entries l.lines.rest.now;
+  every : (entries : List Entry) (rest : List ℕ) → length entries ≤ 8 → All IsEntry entries → begins rest ≡ false
+      → l.fn.lines.rest.now ≡ lines_of answer_words entries rest → Left entries (length l.table.entries) l.lines.rest.now rest;
+}
 
 abbrev pub decreases-loop-lines : goal.decreases-loop-lines
 decreases-loop-lines l = length l.lines.rest.now

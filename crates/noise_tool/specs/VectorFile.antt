@@ -1,0 +1,61 @@
+-- What a vector file may say.
+use Rattle.std.specs.Prelude.{⊤, ◌≡◌, ◌↔◌, ℕ, ◌<◌, ◌≤◌, ◌^◌, List, length, Option, None, IfSome, IsSome}
+use Rattle.std.specs.List.{All}
+use Rattle.noise_names.specs.Fundamental.{fundamental_of}
+use Rattle.noise_names.specs.Limits.{IsPattern}
+use Rattle.noise_names.specs.Names.{IsSection, Section}
+use Rattle.noise_names.specs.Plan.{Plan}
+use Rattle.noise_handshake.specs.declared.table_keys.Entry.{Entry}
+use Rattle.noise_tool.specs.Cuts.{AreCuts}
+use Rattle.noise_tool.specs.OwnPattern.{HasName, pattern_of}
+use Rattle.noise_tool.specs.VectorText.{text_of}
+use Rattle.noise_tool.specs.Words.{IsKey}
+use Rattle.noise_tool.specs.declared.faults.Fault.{Fault}
+use Rattle.noise_tool.specs.declared.faults.Fault.TheVariants.{Line, Memory}
+use Rattle.noise_tool.specs.declared.file_keys.FileKeys.{FileKeys}
+use Rattle.noise_tool.specs.declared.file_keys.FileKeys.TheVariants.{Xor, Table}
+use Rattle.noise_tool.specs.declared.vector.VectorFile.{VectorFile}
+use Rattle.noise_tool.specs.declared.vector.Say.{Say}
+
+-- a pattern of its own is there exactly where the base is of no fundamental one, and is within the limits and of the protocol's name
+abbrev pub IsOwn : Section → Option Plan → Type 0
+IsOwn name block = (IsSome block ↔ (fundamental_of name.base ≡ None)) × IfSome block (λ pattern. IsPattern pattern × HasName pattern name)
+
+-- at most 65535 bytes
+abbrev pub IsShort : List ℕ → Type 0
+IsShort bytes = (length bytes ≤ 65535) × All (λ b. b < 256) bytes
+
+-- at most 9 pre-shared secrets
+abbrev pub ArePsks : List (List ℕ) → Type 0
+ArePsks psks = (length psks ≤ 9) × All IsKey psks
+
+-- the remote public key and the answer of a table's entry
+abbrev pub IsEntry : Entry → Type 0
+IsEntry entry = IsKey entry.remote × IsKey entry.answer
+
+-- the keys of a party; a table has at most 8 entries
+abbrev pub AreKeys : FileKeys → Type 0
+AreKeys (Xor keys) = IfSome keys.e IsKey × IfSome keys.s IsKey
+AreKeys (Table keys) = IfSome keys.e IsKey × IfSome keys.s IsKey × (length keys.entries ≤ 8) × All IsEntry keys.entries
+
+-- what one end says
+abbrev pub IsSay : Say → Type 0
+IsSay say = IsShort say.payload.items × AreCuts say.cuts
+
+-- what a vector file says, with no more events than the pattern has messages
+pub record IsVectorFile (file : VectorFile) : Type 0 where
+  pub protocol : IsSection file.protocol
+  pub own : IsOwn file.protocol file.block
+  pub prologue : IsShort file.prologue.items
+  pub interval : file.interval < 2 ^ 64
+  pub psks : ArePsks file.psks.items
+  pub initiator : AreKeys file.initiator
+  pub responder : AreKeys file.responder
+  pub events : All IsSay file.events.items
+  pub few : IfSome (pattern_of file.protocol file.block) (λ pattern. length file.events.items ≤ length pattern.messages)
+
+-- why a text isn't read: it is that of no vector file, or memory ran out
+abbrev pub IsReadFault : List ℕ → Fault → Type 0
+IsReadFault text (Line number kind) = (file : VectorFile) → IsVectorFile file → text ≡ text_of file → ⊥
+IsReadFault text Memory = ⊤
+IsReadFault text _ = ⊥
