@@ -33,6 +33,6 @@ pub fn seal_in_place(key: &[u8; 32], nonce: &[u8; 12], ad: &[u8], buf: &mut [u8]
 pub fn rekey(key: &[u8; 32]) -> [u8; 32]
     ensures { result ≡ rekeyed key.now }
 {
-    let (_, mut words) = keystream::begin(key, &nonce(u64::MAX));
+    let mut words = keystream::generator(key, &nonce(u64::MAX), 16);
     keystream::half_block(&mut words)
 }

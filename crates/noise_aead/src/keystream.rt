@@ -1,5 +1,5 @@
 //! The keystream of a key and a nonce (RFC 8439, 2.3 and 2.4), in blocks of 64 bytes.
-ghost use Rattle.std.specs.Prelude.{◌≡◌, ◌+◌, ◌*◌, ◌^◌, ◌<◌, ◌≤◌, length, bit_xor};
+ghost use Rattle.std.specs.Prelude.{◌≡◌, ◌+◌, ◌*◌, ◌^◌, ◌<◌, ◌≤◌, ℕ, length, bit_xor};
 ghost use Rattle.std.specs.Simd.Lanes.{zip2, number_l, digits_l};
 ghost use Rattle.noise_aead.specs.Sealing.{byte_from, bytes_from, generator_at, stream_bytes, xored};
 
@@ -15,22 +15,28 @@ const BLOCK_LEN: usize = 64;
 pub fn begin(key: &[u8; 32], nonce: &[u8; 12]) -> ([u8; 32], ChaCha20Rng)
     ensures key { result.0 ≡ stream_bytes key.now nonce.now 0 32 }
     ensures words { result.1 ≡ generator_at key.now nonce.now 1 }
-    ensures room { result.1.word_pos + 2 ^ 35 ≤ 2 ^ 68 }
+    ensures room { result.1.word_pos + 2 ^ 34 ≤ 2 ^ 68 }
 {
-    let mut words = generator(key, nonce);
+    let mut words = generator(key, nonce, 0);
     let one_time_key = half_block(&mut words);
     (one_time_key, words)
 }
 
-// The generator at block 0.
-fn generator(key: &[u8; 32], nonce: &[u8; 12]) -> ChaCha20Rng
-    ensures place { result ≡ generator_at key.now nonce.now 0 }
-    ensures room { result.word_pos + 2 ^ 36 ≤ 2 ^ 68 }
+/// The generator at this word of the keystream. A block has 16 words.
+///
+/// It isn't inlined, so that the compiler doesn't see that no caller asks for a word within a block:
+/// else all of the refill of four blocks would be part of `next_word`, which would then be too long
+/// to be inlined where a block is read.
+#[inline(never)]
+pub fn generator(key: &[u8; 32], nonce: &[u8; 12], word: u32) -> ChaCha20Rng
+    ensures place { (b : ℕ) → word ≡ 16 * b → result ≡ generator_at key.now nonce.now b }
+    ensures room { result.word_pos + 2 ^ 35 ≤ 2 ^ 68 }
 {
     let mut words = ChaCha20Rng::from_seed(*key);
     words.set_stream(LittleEndian::read_u64(&nonce[4..]));
-    // The first four bytes count 2^32 blocks each, of 16 words.
-    words.set_word_pos(u128::from(LittleEndian::read_u32(nonce)) << 36);
+    // The first four bytes count 2^32 blocks each.
+    let front = u128::from(LittleEndian::read_u32(nonce)) << 36;
+    words.set_word_pos(front + u128::from(word));
     words
 }
 

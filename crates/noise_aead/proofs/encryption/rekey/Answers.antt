@@ -1,4 +1,4 @@
-use Rattle.std.proofs.Common.{◌≡◌, List, ℕ, [], replicate, take, sym, ap, ◌∙◌, ◌++◌}
+use Rattle.std.proofs.Common.{◌≡◌, List, ℕ, [], replicate, refl, sym, ap, ◌∙◌}
 use Rattle.std.proofs.lemmas.List.{take_at}
 use Rattle.rand_chacha.specs.ChaCha.{ChaCha}
 use Rattle.noise_aead.specs.Sealing.{bytes_from, generator_at, stream_byte, masked, seal_tag, nonce_of, rekeyed}
@@ -14,5 +14,6 @@ returns c =
     let front : List ℕ = masked key nonce (replicate 32 0) in
     let shown : front ≡ bytes_from (generator_at key nonce 1) 32 = xored-zeros (stream_byte key nonce 1) 0 32 in
     c.half_block.ensures.bytes
-    ∙ ap (λ (g : ChaCha). bytes_from g 32) (c.begin-words.ensures.words ∙ ap (λ (n : List ℕ). generator_at key n 1) c.nonce.ensures)
+    ∙ ap (λ (g : ChaCha). bytes_from g 32)
+    (c.generator-words.ensures.place 1 refl ∙ ap (λ (n : List ℕ). generator_at key n 1) c.nonce.ensures)
     ∙ sym shown ∙ sym (take_at front (seal_tag key nonce [] front) 32 (length-masked key nonce (replicate 32 0)))
