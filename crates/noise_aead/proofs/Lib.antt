@@ -1,3 +1,3 @@
+mod Blocks
 mod Masking
 mod Numbers
-pub mod Sealed

@@ -1,5 +1,6 @@
 //! The tag of a ciphertext and its associated data (RFC 8439, 2.8).
-ghost use Rattle.std.specs.Prelude.{◌≡◌, ◌↔◌, IsTrue};
+ghost use Rattle.std.specs.Prelude.{◌≡◌, ◌↔◌, ◌++◌, length, IsTrue};
+ghost use Rattle.std.specs.Int.{w64, to_le_bytes};
 ghost use Rattle.noise_poly.specs.Poly.{tag_of};
 ghost use Rattle.noise_aead.specs.Sealing.{padding, authenticated};
 
@@ -14,9 +15,18 @@ pub fn tag(one_time_key: &[u8; 32], ad: &[u8], ciphertext: &[u8]) -> [u8; 16]
     state.update(zeros_after(ad));
     state.update(ciphertext);
     state.update(zeros_after(ciphertext));
-    state.update(&(ad.len() as u64).to_le_bytes());
-    state.update(&(ciphertext.len() as u64).to_le_bytes());
+    state.update(&lengths(ad, ciphertext));
     state.finish()
+}
+
+// The lengths of both texts, 8 bytes each, the lowest byte first.
+fn lengths(ad: &[u8], ciphertext: &[u8]) -> [u8; 16]
+    ensures { result ≡ to_le_bytes w64 (length ad.now) ++ to_le_bytes w64 (length ciphertext.now) }
+{
+    let mut lengths = [0; 16];
+    lengths[..8].copy_from_slice(&(ad.len() as u64).to_le_bytes());
+    lengths[8..].copy_from_slice(&(ciphertext.len() as u64).to_le_bytes());
+    lengths
 }
 
 // The zeros that make a text's length a multiple of 16.

@@ -1,6 +1,6 @@
 //! Encryption with a tag (RFC 8439, 2.8), the nonces of a counter and the rekeying (Noise 12.3 and 4.2).
 ghost use Rattle.std.specs.Prelude.{◌≡◌, ◌≤◌, ◌++◌, length};
-ghost use Rattle.noise_aead.specs.Sealing.{masked, seal_tag, sealed, nonce_of, rekeyed};
+ghost use Rattle.noise_aead.specs.Sealing.{sealed, nonce_of, rekeyed};
 
 use crate::{authenticator, keystream};
 use byteorder::{ByteOrder, LittleEndian};
@@ -20,8 +20,6 @@ pub fn seal_in_place(key: &[u8; 32], nonce: &[u8; 12], ad: &[u8], buf: &mut [u8]
     requires ad_fits { length ad.now ≤ 65535 }
     requires buf_fits { length buf.old ≤ 65535 }
     ensures sealed { buf.new ++ result ≡ sealed key.now nonce.now ad.now buf.old }
-    ensures ciphertext { buf.new ≡ masked key.now nonce.now buf.old }
-    ensures tag { result ≡ seal_tag key.now nonce.now ad.now buf.new }
 {
     let (one_time_key, mut words) = keystream::begin(key, nonce);
     keystream::apply(&mut words, buf);
@@ -30,10 +28,11 @@ pub fn seal_in_place(key: &[u8; 32], nonce: &[u8; 12], ad: &[u8], buf: &mut [u8]
 
 /// The key that follows a key (Noise 4.2): the first 32 bytes of 32 sealed zeros, with the nonce of
 /// the last counter, `2^64 - 1`, and no associated data.
+///
+/// Sealed zeros are the keystream's own bytes from block 1 on, and their tag is not computed.
 pub fn rekey(key: &[u8; 32]) -> [u8; 32]
     ensures { result ≡ rekeyed key.now }
 {
-    let mut next = [0; 32];
-    let _tag = seal_in_place(key, &nonce(u64::MAX), &[], &mut next);
-    next
+    let mut words = keystream::generator(key, &nonce(u64::MAX), 16);
+    keystream::half_block(&mut words)
 }

@@ -1,51 +1,141 @@
-//! The keystream of a key and a nonce (RFC 8439, 2.3 and 2.4), word by word.
-ghost use Rattle.std.specs.Prelude.{◌≡◌, ◌+◌, ◌*◌, ◌/◌, ◌^◌, ◌<◌, ◌≤◌, length};
-ghost use Rattle.noise_aead.specs.Sealing.{byte_from, generator_at, stream_bytes, xored};
+//! The keystream of a key and a nonce (RFC 8439, 2.3 and 2.4), in blocks of 64 bytes.
+ghost use Rattle.std.specs.Prelude.{◌≡◌, ◌+◌, ◌*◌, ◌^◌, ◌<◌, ◌≤◌, ℕ, length, bit_xor};
+ghost use Rattle.std.specs.Simd.Lanes.{zip2, number_l, digits_l};
+ghost use Rattle.noise_aead.specs.Sealing.{byte_from, bytes_from, generator_at, stream_bytes, xored};
 
 use byteorder::{ByteOrder, LittleEndian};
 use rand_chacha::ChaCha20Rng;
 use rand_core::SeedableRng;
 use rand_core::utils::NextWord;
+use std::simd::{u8x64, u32x16};
+
+const BLOCK_LEN: usize = 64;
 
 /// The one-time key of a message, which is the first half of block 0, and the generator at block 1.
 pub fn begin(key: &[u8; 32], nonce: &[u8; 12]) -> ([u8; 32], ChaCha20Rng)
     ensures key { result.0 ≡ stream_bytes key.now nonce.now 0 32 }
     ensures words { result.1 ≡ generator_at key.now nonce.now 1 }
-    ensures room { result.1.word_pos + 2 ^ 35 < 2 ^ 68 }
+    ensures room { result.1.word_pos + 2 ^ 34 ≤ 2 ^ 68 }
 {
-    let mut words = generator(key, nonce);
-    let mut block = [0; 64];
-    apply(&mut words, &mut block);
-    let mut one_time_key = [0; 32];
-    one_time_key.copy_from_slice(&block[..32]);
+    let mut words = generator(key, nonce, 0);
+    let one_time_key = half_block(&mut words);
     (one_time_key, words)
 }
 
-// The generator at block 0.
-fn generator(key: &[u8; 32], nonce: &[u8; 12]) -> ChaCha20Rng
-    ensures place { result ≡ generator_at key.now nonce.now 0 }
-    ensures room { result.word_pos + 2 ^ 36 ≤ 2 ^ 68 }
+/// The generator at this word of the keystream. A block has 16 words.
+///
+/// It isn't inlined, so that the compiler doesn't see that no caller asks for a word within a block:
+/// else all of the refill of four blocks would be part of `next_word`, which would then be too long
+/// to be inlined where a block is read.
+#[inline(never)]
+pub fn generator(key: &[u8; 32], nonce: &[u8; 12], word: u32) -> ChaCha20Rng
+    ensures place { (b : ℕ) → word ≡ 16 * b → result ≡ generator_at key.now nonce.now b }
+    ensures room { result.word_pos + 2 ^ 35 ≤ 2 ^ 68 }
 {
     let mut words = ChaCha20Rng::from_seed(*key);
     words.set_stream(LittleEndian::read_u64(&nonce[4..]));
-    // The first four bytes count 2^32 blocks each, of 16 words.
-    words.set_word_pos(u128::from(LittleEndian::read_u32(nonce)) << 36);
+    // The first four bytes count 2^32 blocks each.
+    let front = u128::from(LittleEndian::read_u32(nonce)) << 36;
+    words.set_word_pos(front + u128::from(word));
     words
 }
 
-/// Xors the text with the bytes of the next words, each word's lowest byte first. What the last
-/// word has over is dropped.
-pub fn apply(words: &mut ChaCha20Rng, text: &mut [u8])
-    requires { words.old.word_pos + (length text.old + 3) / 4 < 2 ^ 68 }
-    ensures text { text.new ≡ xored (byte_from words.old) 0 text.old }
-    ensures words { words.new
-        ≡ record words.old { word_pos = words.old.word_pos + (length text.old + 3) / 4 } }
+/// The first half of the next block. The other half is passed over.
+pub fn half_block(words: &mut ChaCha20Rng) -> [u8; 32]
+    requires { words.old.word_pos + 16 < 2 ^ 68 }
+    ensures bytes { result ≡ bytes_from words.old 32 }
+    ensures words { words.new ≡ record words.old { word_pos = words.old.word_pos + 16 } }
 {
-    let mut word = [0; 4];
+    let block = block(words);
+    let mut half = [0; 32];
+    half.copy_from_slice(&block[..32]);
+    half
+}
+
+// The next 16 words, each word's lowest byte first.
+#[inline(always)]
+fn block(words: &mut ChaCha20Rng) -> [u8; 64]
+    requires { words.old.word_pos + 16 < 2 ^ 68 }
+    ensures bytes { result ≡ bytes_from words.old 64 }
+    ensures words { words.new ≡ record words.old { word_pos = words.old.word_pos + 16 } }
+{
+    let w0 = words.next_word();
+    let w1 = words.next_word();
+    let w2 = words.next_word();
+    let w3 = words.next_word();
+    let w4 = words.next_word();
+    let w5 = words.next_word();
+    let w6 = words.next_word();
+    let w7 = words.next_word();
+    let w8 = words.next_word();
+    let w9 = words.next_word();
+    let w10 = words.next_word();
+    let w11 = words.next_word();
+    let w12 = words.next_word();
+    let w13 = words.next_word();
+    let w14 = words.next_word();
+    let w15 = words.next_word();
+    bytes_of([
+        w0, w1, w2, w3, w4, w5, w6, w7, w8, w9, w10, w11, w12, w13, w14, w15,
+    ])
+}
+
+// The words as one number, cut into bytes.
+#[inline(always)]
+fn bytes_of(words: [u32; 16]) -> [u8; 64]
+    ensures { result ≡ digits_l 256 64 (number_l (2 ^ 32) words) }
+{
+    u32x16::from_array(words).to_le_bytes().to_array()
+}
+
+/// Xors each byte of the text with the stream's byte at its place.
+#[inline(always)]
+pub fn xor64(text: &mut [u8; 64], stream: &[u8; 64])
+    ensures { text.new ≡ zip2 bit_xor text.old stream.now }
+{
+    let both = u8x64::from_array(*text) ^ u8x64::from_array(*stream);
+    *text = both.to_array();
+}
+
+/// Xors the text with the keystream from the generator's place on.
+pub fn apply(words: &mut ChaCha20Rng, text: &mut [u8])
+    requires fits { length text.old ≤ 65535 }
+    requires room { words.old.word_pos + 2 ^ 15 < 2 ^ 68 }
+    ensures { text.new ≡ xored (byte_from words.old) 0 text.old }
+{
+    let whole = text.len() / BLOCK_LEN;
+    for i in 0..whole {
+        apply_block(words, &mut text[BLOCK_LEN * i..BLOCK_LEN * i + BLOCK_LEN]);
+    }
+    let rest = &mut text[BLOCK_LEN * whole..];
+    if !rest.is_empty() {
+        apply_front(words, rest);
+    }
+}
+
+// A whole block of text.
+#[inline(always)]
+fn apply_block(words: &mut ChaCha20Rng, text: &mut [u8])
+    requires whole { length text.old ≡ 64 }
+    requires room { words.old.word_pos + 16 < 2 ^ 68 }
+    ensures text { text.new ≡ xored (byte_from words.old) 0 text.old }
+    ensures words { words.new ≡ record words.old { word_pos = words.old.word_pos + 16 } }
+{
+    let stream = block(words);
+    if let Some(text) = text.first_chunk_mut::<64>() {
+        xor64(text, &stream);
+    }
+}
+
+// A text within a block. What the block has over is dropped.
+#[inline(always)]
+fn apply_front(words: &mut ChaCha20Rng, text: &mut [u8])
+    requires within { length text.old ≤ 64 }
+    requires room { words.old.word_pos + 16 < 2 ^ 68 }
+    ensures { text.new ≡ xored (byte_from words.old) 0 text.old }
+{
+    let stream = block(words);
     for (j, byte) in text.iter_mut().enumerate() {
-        if j % 4 == 0 {
-            word = words.next_word().to_le_bytes();
-        }
-        *byte ^= word[j % 4];
+        *byte ^= stream[j];
     }
 }

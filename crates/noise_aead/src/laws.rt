@@ -1,11 +1,11 @@
 //! What holds of sealing for every key, nonce, associated data and text. The functions do nothing;
 //! their contracts are the laws.
-ghost use Rattle.std.specs.Prelude.{◌≡◌, ℕ, List};
-ghost use Rattle.noise_aead.specs.Sealing.{masked, sealed};
+ghost use Rattle.std.specs.Prelude.{◌≡◌, ◌+◌, ℕ, List, length};
+ghost use Rattle.noise_aead.specs.Sealing.{sealed};
 
-/// Masked twice, a text is as it was.
-pub fn masked_twice()
-    ensures { (key nonce text : List ℕ) → masked key nonce (masked key nonce text) ≡ text }
+/// A sealing is 16 bytes longer than its text.
+pub fn length_of_sealed()
+    ensures { (key nonce ad text : List ℕ) → length (sealed key nonce ad text) ≡ length text + 16 }
 {}
 
 /// Two texts with one sealing under one key, nonce and associated data are equal.

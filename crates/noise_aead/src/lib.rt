@@ -13,5 +13,6 @@ mod tests;
 
 pub use decryption::{TagFault, open_in_place};
 pub use encryption::{nonce, rekey, seal_in_place};
+pub use keystream::xor64;
 
 pub mod laws;

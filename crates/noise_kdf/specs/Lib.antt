@@ -1,2 +1,3 @@
 pub mod Hkdf
 pub mod Keyed
+pub mod Vectors

@@ -2,7 +2,7 @@ use Rattle.std.proofs.Common.{◌≡◌, List, ℕ, ap, sym, refl, ◌∙◌}
 use Rattle.std.proofs.lemmas.Bool.{false≢true}
 use Rattle.rand_chacha.specs.ChaCha.{ChaCha}
 use Rattle.noise_aead.specs.Sealing.{byte_from, xored, masked, seal_tag, sealed}
-use Rattle.noise_aead.proofs.Sealed.{tag_of-seal, sealed-parts, sealed-masked}
+use Rattle.noise_aead.specs.Sealed.{tag_of-seal, sealed-parts, sealed-masked}
 use Rattle.noise_aead.proofs.decryption.open_in_place.Goals as goal
 
 pub returns-else-is_same-clause-accepts : goal.returns-else-is_same-clause-accepts
@@ -39,6 +39,6 @@ returns-then-is_same-clause-ok c =
     let expected : c.tag-expected.result ≡ seal_tag key nonce ad buf =
     c.tag-expected.ensures ∙ tag_of-seal key nonce ad buf c.begin-words.result.0 c.begin-words.ensures.key in
     let text : c.apply.new.text ≡ masked key nonce buf =
-    c.apply.ensures.text ∙ ap (λ (g : ChaCha). xored (byte_from g) 0 buf) c.begin-words.ensures.words in
+    c.apply.ensures ∙ ap (λ (g : ChaCha). xored (byte_from g) 0 buf) c.begin-words.ensures.words in
     sealed-masked key nonce ad buf c.args.tag.now (sym (c.is_same.ensures.0 c.if-is_same.true) ∙ expected)
     ∙ ap (sealed key nonce ad) (sym text)

@@ -1,10 +1,19 @@
-use Rattle.std.proofs.Common.{List, ℕ, [], replicate, take, sym, ap, ◌∙◌}
+use Rattle.std.proofs.Common.{◌≡◌, List, ℕ, [], replicate, refl, sym, ap, ◌∙◌}
 use Rattle.std.proofs.lemmas.List.{take_at}
-use Rattle.noise_aead.specs.Sealing.{sealed, rekeyed}
+use Rattle.rand_chacha.specs.ChaCha.{ChaCha}
+use Rattle.noise_aead.specs.Sealing.{bytes_from, generator_at, stream_byte, masked, seal_tag, nonce_of, rekeyed}
+use Rattle.noise_aead.proofs.Masking.{xored-zeros}
+use Rattle.noise_aead.specs.Sealed.{length-masked}
 use Rattle.noise_aead.proofs.encryption.rekey.Goals as goal
 
 pub returns : goal.returns
-unfolding rekeyed
+unfolding bytes_from rekeyed
 returns c =
-    sym (take_at c.seal_in_place-tag.new.buf c.seal_in_place-tag.result 32 c.seal_in_place-tag.auto.buf)
-    ∙ ap (take 32) (c.seal_in_place-tag.ensures.sealed ∙ ap (λ (n : List ℕ). sealed c.args.key.now n [] (replicate 32 0)) c.nonce.ensures)
+    let key : List ℕ = c.args.key.now in
+    let nonce : List ℕ = nonce_of 0xffffffffffffffff in
+    let front : List ℕ = masked key nonce (replicate 32 0) in
+    let shown : front ≡ bytes_from (generator_at key nonce 1) 32 = xored-zeros (stream_byte key nonce 1) 0 32 in
+    c.half_block.ensures.bytes
+    ∙ ap (λ (g : ChaCha). bytes_from g 32)
+    (c.generator-words.ensures.place 1 refl ∙ ap (λ (n : List ℕ). generator_at key n 1) c.nonce.ensures)
+    ∙ sym shown ∙ sym (take_at front (seal_tag key nonce [] front) 32 (length-masked key nonce (replicate 32 0)))
