@@ -1,10 +1,8 @@
 -- The words of an event.
-use Rattle.std.proofs.Common.{arith, ◌≡◌, ◌+◌, ◌<◌, ◌≤◌, lit<, refl, Bool, true, ℕ, List, [], ◌∷◌, ◌++◌, codes, length}
-use Rattle.std.specs.List.{All}
-use Rattle.std.proofs.lemmas.List.Elements.{All-head, All-tail}
+use Rattle.std.proofs.Common.{◌≡◌, ◌++◌, ◌∷◌, lit<, refl, true, codes}
 use Rattle.noise_tool.specs.HexWord.{hex_of}
 use Rattle.noise_tool.specs.VectorFile.{IsSay}
-use Rattle.noise_tool.specs.VectorText.{line, lengths_word, lines_of, role_word, say_words}
+use Rattle.noise_tool.specs.VectorText.{lengths_word, role_word, say_words}
 use Rattle.noise_tool.specs.Words.{lacks}
 use Rattle.noise_tool.specs.declared.vector.Say.{Say}
 use Rattle.noise_tool.proofs.LackLemmas.{lacks-append, lacks-hex_of, lacks-lengths_word, role_word-plain}

@@ -1,9 +1,8 @@
 -- The lines that give a party its keys, as they are read.
-use Rattle.std.proofs.Common.{arith, ◌≡◌, ◌∙◌, ◌+◌, ◌≤◌, ◌<◌, ap, sym, refl, lit<, Bool, true, false, ℕ, List, [], ◌∷◌, ◌++◌, Option, codes, length, get_or}
+use Rattle.std.proofs.Common.{arith, ◌≡◌, ◌∙◌, ◌≤◌, ◌<◌, ap, sym, refl, lit<, Bool, true, false, ℕ, List, ◌∷◌, ◌++◌, Option, codes, length, get_or}
 use Rattle.std.specs.Prelude.{nat_eq, IfSome}
 use Rattle.std.specs.List.{All, starts_with}
 use Rattle.std.proofs.lemmas.List.{append_cancel_left}
-use Rattle.std.proofs.lemmas.List.Elements.{All-head, All-tail}
 use Rattle.hex.specs.Hex.{encode_lower}
 use Rattle.noise_names.specs.declared.token.Role.{Role}
 use Rattle.noise_handshake.specs.declared.table_keys.Entry.{Entry}
