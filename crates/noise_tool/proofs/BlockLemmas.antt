@@ -16,11 +16,11 @@ use Rattle.noise_names.specs.Plan.{Plan}
 use Rattle.noise_names.specs.Text.{message_lines, pre_line, pre_lines, token_line, word_of, words}
 use Rattle.noise_names.specs.Text.{text_of as pattern_text}
 use Rattle.noise_names.specs.Tokens.{other}
-use Rattle.noise_names.proofs.Sections.{all_weaker, is_section_byte, section_all}
+use Rattle.noise_names.proofs.Sections.{is_section_byte, section_all}
 use Rattle.noise_tool.specs.Block.{IsInner, itself}
 use Rattle.noise_tool.specs.VectorText.{line, lines_of}
 use Rattle.noise_tool.specs.Words.{lacks}
-use Rattle.noise_tool.proofs.LackLemmas.{lacks-append}
+use Rattle.noise_tool.proofs.LackLemmas.{all_weaker, lacks-append}
 
 -- ---- lists of lines
 

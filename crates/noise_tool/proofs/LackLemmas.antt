@@ -1,7 +1,7 @@
 -- Bytes that a word lacks.
-use Rattle.std.proofs.Common.{arith, ◌≡◌, ◌<◌, ◌==◌, not, true, false, refl, ℕ, List, [], ◌∷◌, ◌++◌, Option, Some, None, codes}
+use Rattle.std.proofs.Common.{arith, ◌≡◌, ◌<◌, ◌==◌, not, Bool, true, false, refl, ℕ, List, [], ◌∷◌, ◌++◌, Option, Some, None, codes}
 use Rattle.std.specs.Prelude.{decimal, IfSome}
-use Rattle.std.specs.List.{All, AllPass}
+use Rattle.std.specs.List.{All, AllPass, list_all}
 use Rattle.std.proofs.lemmas.Bool.{and_parts}
 use Rattle.std.proofs.lemmas.Bool.Decides.{nat_tests}
 use Rattle.std.proofs.lemmas.List.Elements.{All-head, All-tail}
@@ -15,6 +15,15 @@ use Rattle.noise_tool.specs.VectorText.{key_word, lengths_word, own_word, role_w
 use Rattle.noise_tool.specs.Words.{IsKey, lacks}
 use Rattle.noise_tool.proofs.HexWordLemmas.{AllPass-encode_lower}
 use Rattle.noise_tool.proofs.WordLemmas.{lacks-decimal}
+
+-- what passes a test passes one that follows from it
+pub all_weaker : (test other : ℕ → Bool) (xs : List ℕ) → ((x : ℕ) → test x ≡ true → other x ≡ true) → list_all test xs ≡ true
+    → list_all other xs ≡ true
+all_weaker test other [] each h = refl
+all_weaker test other (x ∷ xs) each h =
+    let parts = and_parts (test x) (list_all test xs) h in
+    let more = all_weaker test other xs each parts.1 in
+    rw (each x parts.0, more) refl
 
 pub lacks-append : (byte : ℕ) (front behind : List ℕ) → lacks byte front ≡ true → lacks byte behind ≡ true → lacks byte (front ++ behind) ≡ true
 lacks-append byte [] behind h g = g

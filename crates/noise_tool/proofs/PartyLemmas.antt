@@ -1,9 +1,8 @@
 -- The lines that give a party its keys, as they are read.
-use Rattle.std.proofs.Common.{arith, ◌≡◌, ◌∙◌, ◌+◌, ◌≤◌, ◌<◌, ap, sym, refl, lit<, Bool, true, false, ℕ, List, [], ◌∷◌, ◌++◌, Option, codes, length, get_or}
+use Rattle.std.proofs.Common.{arith, ◌≡◌, ◌∙◌, ◌≤◌, ◌<◌, ap, sym, refl, lit<, Bool, true, false, ℕ, List, ◌∷◌, ◌++◌, Option, codes, length, get_or}
 use Rattle.std.specs.Prelude.{nat_eq, IfSome}
 use Rattle.std.specs.List.{All, starts_with}
 use Rattle.std.proofs.lemmas.List.{append_cancel_left}
-use Rattle.std.proofs.lemmas.List.Elements.{All-head, All-tail}
 use Rattle.hex.specs.Hex.{encode_lower}
 use Rattle.noise_names.specs.declared.token.Role.{Role}
 use Rattle.noise_handshake.specs.declared.table_keys.Entry.{Entry}
@@ -31,7 +30,8 @@ lacks-answer_keys entry h =
     lacks-append 10 (encode_lower entry.remote) (32 ∷ encode_lower entry.answer)
     (lacks-encode_lower 10 entry.remote (lit< tt) h.0.1) (lacks-encode_lower 10 entry.answer (lit< tt) h.1.1)
 
-lacks-answer_words : (entry : Entry) → IsEntry entry → lacks 10 (answer_words entry) ≡ true
+-- which has no line feed
+pub lacks-answer_words : (entry : Entry) → IsEntry entry → lacks 10 (answer_words entry) ≡ true
 lacks-answer_words entry h =
     lacks-append 10 (own_word entry.own) (32 ∷ (encode_lower entry.remote ++ 32 ∷ encode_lower entry.answer))
     (own_word-plain entry.own).0 (lacks-answer_keys entry h)
@@ -49,71 +49,9 @@ answer-keys line front rest own keys entry front_is split every e =
     (own_word entry.own ++ 32 ∷ (encode_lower entry.remote ++ 32 ∷ encode_lower entry.answer)) whole e in
     (every (own_word entry.own) (encode_lower entry.remote ++ 32 ∷ encode_lower entry.answer) (own_word-plain entry.own).1 rest_is).1
 
--- ---- the answers of a table
-
--- of all entries so many are done, and the lines of the others are what is left, before the rest
-pub record Left (all : List Entry) (done : ℕ) (left rest : List ℕ) : Type 0 where
-  pub others : List Entry
-  pub count : done + length others ≡ length all
-  pub left_is : left ≡ lines_of answer_words others rest
-  pub others_are : All IsEntry others
-
--- the next line is that of an entry
-pub record Next (all : List Entry) (done : ℕ) (left rest : List ℕ) : Type 0 where
-  pub next : Entry
-  pub others : List Entry
-  pub count : done + 1 + length others ≡ length all
-  pub left_is : left ≡ line (answer_words next) (lines_of answer_words others rest)
-  pub lacks_end : lacks 10 (answer_words next) ≡ true
-  pub is : IsEntry next
-  pub others_are : All IsEntry others
-
 -- whether the text begins as an answer's line does
 abbrev pub begins : List ℕ → Bool
 begins text = starts_with nat_eq text (codes "answer ")
-
-next-of : (all : List Entry) (done : ℕ) (left rest : List ℕ) (others : List Entry) → done + length others ≡ length all
-    → left ≡ lines_of answer_words others rest → All IsEntry others → begins left ≡ true → begins rest ≡ false → Next all done left rest
-next-of all done left rest [] count left_is h starts behind =
-    let same : begins left ≡ begins rest = ap begins left_is in
-    absurd (cc (starts, behind, same))
-next-of all done left rest (x ∷ xs) count left_is h starts behind = record {
-  next = x;
-  others = xs;
-  count = omega arith;
-  left_is = left_is;
-  lacks_end = lacks-answer_words x (All-head IsEntry x xs h);
-  is = All-head IsEntry x xs h;
-  others_are = All-tail IsEntry x xs h;
-}
-
--- where what is left begins as an answer's line does, and the rest doesn't
-pub Left-next : (all : List Entry) (done : ℕ) (left rest : List ℕ) → Left all done left rest → begins left ≡ true → begins rest ≡ false
-    → Next all done left rest
-Left-next all done left rest l starts behind = next-of all done left rest l.others l.count l.left_is l.others_are starts behind
-
--- there is room for it in a table
-pub Next-room : (all : List Entry) (done : ℕ) (left rest : List ℕ) → Next all done left rest → length all ≤ 8 → done < 8
-Next-room all done left rest n few =
-    let count = n.count in
-    omega arith
-
--- where it is read, one entry more is done
-pub Next-step : (all : List Entry) (done more : ℕ) (left rest behind : List ℕ) → (n : Next all done left rest) → more ≡ done + 1
-    → behind ≡ lines_of answer_words n.others rest → Left all more behind rest
-Next-step all done more left rest behind n one e =
-    let count = n.count in
-    record { others = n.others; count = omega arith; left_is = e; others_are = n.others_are }
-
-end-of : (left rest : List ℕ) (others : List Entry) → left ≡ lines_of answer_words others rest → begins left ≡ false → left ≡ rest
-end-of left rest [] e other = e
-end-of left rest (x ∷ xs) e other =
-    let same : begins left ≡ true = ap begins e in
-    absurd (cc (other, same))
-
--- where what is left doesn't begin so, it is the rest
-pub Left-end : (all : List Entry) (done : ℕ) (left rest : List ℕ) → Left all done left rest → begins left ≡ false → left ≡ rest
-Left-end all done left rest l other = end-of left rest l.others l.left_is other
 
 -- ---- a party's line
 

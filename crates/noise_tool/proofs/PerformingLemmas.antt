@@ -19,7 +19,8 @@ talked-known : (known : Option (List ℕ)) (text : List ℕ) (file : VectorFile)
 talked-known None text file h e ends = tt
 talked-known (Some bytes) text file h e ends = (file, sym h ∙ e, ends)
 
-pub talked : (known : Option (List ℕ)) (text : List ℕ) (file : VectorFile) (result : Result Unit Fault) → IfSome known (λ bytes. text ≡ bytes) → text ≡ text_of file
+pub talked : (known : Option (List ℕ)) (text : List ℕ) (file : VectorFile) (result : Result Unit Fault)
+    → IfSome known (λ bytes. text ≡ bytes) → text ≡ text_of file
     → OnOk result ((ends : Ends) × AreEnds file ends) → OnOk result (IfSome known HasEnds)
 talked known text file (Ok u) h e ends = talked-known known text file h e ends
 talked known text file (Err fault) h e ends = tt
@@ -38,7 +39,8 @@ no-ends-of : (known : Option (List ℕ)) (text : List ℕ) (file : VectorFile) (
 no-ends-of known text file fault h e (inl outside) = inl outside
 no-ends-of known text file fault h e (inr why) = inr (no-ends-known known text file fault h e why)
 
-pub no-ends : (known : Option (List ℕ)) (text : List ℕ) (file : VectorFile) (result : Result Unit Fault) → IfSome known (λ bytes. text ≡ bytes) → text ≡ text_of file
+pub no-ends : (known : Option (List ℕ)) (text : List ℕ) (file : VectorFile) (result : Result Unit Fault)
+    → IfSome known (λ bytes. text ≡ bytes) → text ≡ text_of file
     → IfErr result (λ fault. (status_of fault ≡ 3) ⊎ IsStartFault file fault) → IfErr result (λ fault. (status_of fault ≡ 3) ⊎ IfSome known (IsWhy fault))
 no-ends known text file (Ok u) h e why = tt
 no-ends known text file (Err fault) h e why = no-ends-of known text file fault h e why

@@ -3,12 +3,12 @@ use Rattle.std.proofs.Common.{arith, ◌≡◌, ◌<◌, ◌^◌, ◌==◌, not,
 use Rattle.std.specs.Prelude.{decimal}
 use Rattle.std.proofs.lemmas.Bool.{eqb-true}
 use Rattle.noise_names.specs.Names.{IsSection, Section, name_bytes, section_bytes, suffix}
-use Rattle.noise_names.proofs.Sections.{all_weaker, is_section_byte, section_all}
+use Rattle.noise_names.proofs.Sections.{is_section_byte, section_all}
 use Rattle.noise_tool.specs.HexWord.{hex_of}
 use Rattle.noise_tool.specs.VectorFile.{IsShort}
 use Rattle.noise_tool.specs.VectorText.{psk_words}
 use Rattle.noise_tool.specs.Words.{IsKey, lacks}
-use Rattle.noise_tool.proofs.LackLemmas.{lacks-append, lacks-encode_lower, lacks-hex_of}
+use Rattle.noise_tool.proofs.LackLemmas.{all_weaker, lacks-append, lacks-encode_lower, lacks-hex_of}
 use Rattle.noise_tool.proofs.WordLemmas.{lacks-decimal}
 
 no_line_feed : (b : ℕ) → is_section_byte b ≡ true → not (b == 10) ≡ true

@@ -1,5 +1,6 @@
 -- Where a byte stands first, and what decimal numbers look like.
-use Rattle.std.proofs.Common.{arith, ◌≡◌, ◌∙◌, ◌+◌, ◌-◌, ◌<◌, ◌≤◌, ◌^◌, ◌==◌, not, true, false, ap, refl, sym, add-one, eq-eqb, lit<, ℕ, zero, suc, List, [], ◌∷◌, ◌++◌, Some, None, length, get_or, take, drop}
+use Rattle.std.proofs.Common.{arith, ◌≡◌, ◌∙◌, ◌+◌, ◌-◌, ◌<◌, ◌≤◌, ◌^◌, ◌==◌, not, true, false, ap, refl, sym, add-one, eq-eqb, lit<}
+use Rattle.std.proofs.Common.{ℕ, zero, suc, List, [], ◌∷◌, ◌++◌, Some, None, length, get_or, take, drop}
 use Rattle.std.specs.Prelude.{decimal, position}
 use Rattle.std.specs.List.{prefix_len}
 use Rattle.std.specs.Str.Parse.{AllDigits}

@@ -19,9 +19,9 @@ use std::alloc::Global;
 use std::io::{Read, Write};
 
 /// Does what was chosen, with the opened file, and gives the exit status: 0 without a fault; 1 where a pattern breaks a rule of validity or has
-/// fewer messages than a psk place needs, or the ends of a vector file can't be made; 2 where the name is none, is of no fundamental pattern, or the file isn't a
-/// pattern text or a vector file; 3 where the file can't be read, the output can't be written, or memory runs out. A refused write to `err` leaves the
-/// status. `list` and `show` read no byte of `file`.
+/// fewer messages than a psk place needs, or the ends of a vector file can't be made; 2 where the name is none, is of no fundamental pattern,
+/// or the file isn't a pattern text or a vector file; 3 where the file can't be read, the output can't be written, or memory runs out. A refused
+/// write to `err` leaves the status. `list` and `show` read no byte of `file`.
 pub fn perform<R: Read, O: Write, E: Write>(
     alloc: Global,
     chosen: &Chosen,

@@ -1,19 +1,18 @@
 //! What no contract says: the printed text, which fault is told, and that each call can succeed.
 
-mod checking;
 mod command_line;
-mod ends;
+mod commands;
 mod fakes;
-mod faults;
 mod handshakes;
-mod hex_words;
-mod printing;
-mod showing;
-mod talk;
+mod outside;
+mod wrong_lines;
 
 use crate::orders::Chosen;
 use crate::performing::perform;
+use fakes::Writer;
 use std::alloc::{AllocError, Global};
+use std::io::Read;
+use std::process::Abort;
 
 /// What `perform` did: its status, and what it wrote to the output and to the error output.
 #[derive(Debug, Drop)]
@@ -23,39 +22,46 @@ pub struct Ran {
     pub err: Vec<u8>,
 }
 
-/// `perform` on a file of these bytes.
-pub fn talk_on(alloc: Global, text: &[u8]) -> Result<Ran, AllocError> {
-    let order = Chosen::Talk(String::new(alloc));
-    let mut file = text;
-    let mut out = Vec::new(alloc);
-    let mut err = Vec::new(alloc);
-    let status = perform(alloc, &order, &mut file, &mut out, &mut err);
-    Ok(Ran { status, out, err })
-}
+/// A command, the name or the text of the file that it is given, its status, and what it writes to the output and to the error output.
+pub type Run<'a> = (&'a str, &'a str, u8, &'a str, &'a str);
 
-/// The lines before the events of a right file, numbered from 1.
-pub const START: [&str; 6] = [
-    "vector 1",
-    "protocol Noise_NN_25519_ChaChaPoly_SHA256",
-    "prologue -",
-    "interval 0",
-    "initiator xor 1111111111111111111111111111111111111111111111111111111111111111 -",
-    "responder xor 2222222222222222222222222222222222222222222222222222222222222222 -",
-];
-
-/// The file of these lines, each with its LF.
-pub fn file_of(alloc: Global, lines: &[&str]) -> Result<Vec<u8>, AllocError> {
-    let mut text = Vec::new(alloc);
-    for line in lines {
-        text.extend_from_slice(line.as_bytes())?;
-        text.push(b'\n')?;
+/// The order of a command with this value.
+pub fn order_of(alloc: Global, command: &str, value: &str) -> Result<Chosen, AllocError> {
+    let value = String::from_str(alloc, value)?;
+    match command {
+        "show" => Ok(Chosen::Show(value)),
+        "check" => Ok(Chosen::Check(value)),
+        "talk" => Ok(Chosen::Talk(value)),
+        _ => Ok(Chosen::List),
     }
-    Ok(text)
 }
 
-/// The file that begins as it has to, and has these lines in place of the events.
-pub fn file_with(alloc: Global, events: &[&str]) -> Result<Vec<u8>, AllocError> {
-    let mut text = file_of(alloc, START.as_slice())?;
-    text.extend_from_slice(file_of(alloc, events)?.as_slice())?;
-    Ok(text)
+/// `perform` of a command with this value, this file, and outputs that take so many writes.
+pub fn perform_on<R: Read>(
+    alloc: Global,
+    command: &str,
+    value: &str,
+    file: &mut R,
+    writes: (usize, usize),
+) -> Result<Ran, AllocError> {
+    let order = order_of(alloc, command, value)?;
+    let mut out = Writer::new(alloc, writes.0);
+    let mut err = Writer::new(alloc, writes.1);
+    let status = perform(alloc, &order, file, &mut out, &mut err);
+    Ok(Ran {
+        status,
+        out: out.taken,
+        err: err.taken,
+    })
+}
+
+/// That a run ends and writes as it says.
+pub fn tells(rt: &impl Abort, alloc: Global, run: &Run<'_>) -> Result<(), AllocError> {
+    let (command, given, status, out, err) = *run;
+    let mut file = given.as_bytes();
+    let ran = perform_on(alloc, command, given, &mut file, (usize::MAX, usize::MAX))?;
+    assert_eq!(rt; ran.err.as_slice(), err.as_bytes(), "{given}");
+    assert_eq!(rt; ran.out.as_slice(), out.as_bytes(), "{given}");
+    assert_eq!(rt; ran.status, status, "{given}");
+    Ok(())
 }

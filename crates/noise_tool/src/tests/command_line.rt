@@ -1,17 +1,48 @@
 //! The command line.
 
+use super::order_of;
 use crate::command_line::chosen;
-use crate::orders::{Chosen, LineFault};
+use crate::orders::LineFault;
 use clap::error::ErrorKind;
 use std::alloc::{AllocError, Global};
 use std::test::Fail;
 
-fn words_of(alloc: Global, words: &[&str]) -> Result<Vec<String>, AllocError> {
-    let mut owned = Vec::new(alloc);
-    for word in words {
-        owned.push(String::from_str(alloc, word)?)?;
+// The words of a command line, and the command and its value.
+const TAKEN: [(&str, &str, &str); 4] = [
+    ("noise list", "list", ""),
+    ("noise show Noise_NN", "show", "Noise_NN"),
+    ("noise check a.pattern", "check", "a.pattern"),
+    ("noise talk a.vector", "talk", "a.vector"),
+];
+
+#[test]
+fn takes_each_command(rt: HostRuntime) -> Result<(), Fail> {
+    let alloc = rt.alloc();
+    for (words, command, value) in &TAKEN {
+        let order = chosen(alloc, words_of(alloc, words)?).map_err(|_| "refused")?;
+        assert!(rt; order == order_of(alloc, command, value)?);
     }
-    Ok(owned)
+    Ok(())
+}
+
+// Other words, and what is told of them.
+const OTHER: [(&str, ErrorKind); 5] = [
+    ("noise", ErrorKind::MissingSubcommand),
+    ("noise look", ErrorKind::InvalidSubcommand),
+    ("noise list a", ErrorKind::UnknownArgument),
+    ("noise show", ErrorKind::MissingRequiredArgument),
+    ("noise talk --help", ErrorKind::DisplayHelp),
+];
+
+#[test]
+fn tells_what_is_wrong_with_other_words(rt: HostRuntime) -> Result<(), Fail> {
+    for (words, kind) in &OTHER {
+        let fault = chosen(rt.alloc(), words_of(rt.alloc(), words)?)
+            .err()
+            .ok_or("taken")?;
+        assert_eq!(rt; kind_of(fault), Some(*kind));
+    }
+    Ok(())
 }
 
 fn kind_of(fault: LineFault) -> Option<ErrorKind> {
@@ -21,67 +52,10 @@ fn kind_of(fault: LineFault) -> Option<ErrorKind> {
     }
 }
 
-#[test]
-fn takes_each_command(rt: HostRuntime) -> Result<(), Fail> {
-    let alloc = rt.alloc();
-    for (words, wanted) in [
-        (["noise", "list"].as_slice(), Chosen::List),
-        (
-            ["noise", "show", "Noise_NN"].as_slice(),
-            Chosen::Show(String::from_str(alloc, "Noise_NN")?),
-        ),
-        (
-            ["noise", "check", "a.pattern"].as_slice(),
-            Chosen::Check(String::from_str(alloc, "a.pattern")?),
-        ),
-        (
-            ["noise", "talk", "a.vector"].as_slice(),
-            Chosen::Talk(String::from_str(alloc, "a.vector")?),
-        ),
-    ] {
-        let order = chosen(alloc, words_of(alloc, words)?).map_err(|_| "refused")?;
-        assert!(rt; order == wanted);
+fn words_of(alloc: Global, words: &str) -> Result<Vec<String>, AllocError> {
+    let mut owned = Vec::new(alloc);
+    for word in words.split(' ') {
+        owned.push(String::from_str(alloc, word)?)?;
     }
-    Ok(())
-}
-
-#[test]
-fn refuses_other_words(rt: HostRuntime) -> Result<(), Fail> {
-    for (words, kind) in [
-        (["noise"].as_slice(), ErrorKind::MissingSubcommand),
-        (["noise", "look"].as_slice(), ErrorKind::InvalidSubcommand),
-        (
-            ["noise", "list", "a"].as_slice(),
-            ErrorKind::UnknownArgument,
-        ),
-        (
-            ["noise", "show"].as_slice(),
-            ErrorKind::MissingRequiredArgument,
-        ),
-        (
-            ["noise", "check"].as_slice(),
-            ErrorKind::MissingRequiredArgument,
-        ),
-        (
-            ["noise", "talk"].as_slice(),
-            ErrorKind::MissingRequiredArgument,
-        ),
-        (
-            ["noise", "talk", "a", "b"].as_slice(),
-            ErrorKind::UnknownArgument,
-        ),
-        (
-            ["noise", "talk", "--fast", "a"].as_slice(),
-            ErrorKind::UnknownArgument,
-        ),
-        (["noise", "--help"].as_slice(), ErrorKind::DisplayHelp),
-        (["noise", "show", "-h"].as_slice(), ErrorKind::DisplayHelp),
-        (["noise", "help", "list"].as_slice(), ErrorKind::DisplayHelp),
-    ] {
-        let fault = chosen(rt.alloc(), words_of(rt.alloc(), words)?)
-            .err()
-            .ok_or("taken")?;
-        assert_eq!(rt; kind_of(fault), Some(kind));
-    }
-    Ok(())
+    Ok(owned)
 }

@@ -1,5 +1,6 @@
 //! A reader and a writer that fail.
 
+use std::alloc::Global;
 use std::io::{Error, ErrorKind, Read, Result, Write};
 
 /// So many bytes `x`, and then a failure or the end.
@@ -28,6 +29,15 @@ impl Read for Reader {
 pub struct Writer {
     pub left: usize,
     pub taken: Vec<u8>,
+}
+
+impl Writer {
+    pub fn new(alloc: Global, left: usize) -> Writer {
+        Writer {
+            left,
+            taken: Vec::new(alloc),
+        }
+    }
 }
 
 impl Write for Writer {

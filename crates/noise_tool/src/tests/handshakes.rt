@@ -1,12 +1,10 @@
 //! Whole runs. What they print was worked out by a program in another language, over other libraries.
 
-use super::talk_on;
-use std::alloc::Global;
-use std::process::Abort;
+use super::tells;
 use std::test::Fail;
 
-// A one-way pattern.
-const N: &str = "vector 1
+/// A one-way pattern.
+pub const N: &str = "vector 1
 protocol Noise_N_25519_ChaChaPoly_SHA256
 prologue -
 interval 0
@@ -22,20 +20,22 @@ state initiator transport 0 0 038cf7ec616e3a3eb8131ce1d844fbcff37e9f3e17ad8035bd
 state responder transport 0 0 038cf7ec616e3a3eb8131ce1d844fbcff37e9f3e17ad8035bd250a07acceb64d
 ";
 
-// Three messages with payloads, handed over in pieces.
-const XX: &str = "vector 1
+// Right files, and what a run of each prints.
+const RUNS: [(&str, &str); 11] = [
+    (N, N_TOLD),
+    // Three messages with payloads, handed over in pieces.
+    (
+        "vector 1
 protocol Noise_XX_25519_ChaChaPoly_SHA256
 prologue -
 interval 0
 initiator xor 1111111111111111111111111111111111111111111111111111111111111111 3333333333333333333333333333333333333333333333333333333333333333
 responder xor 2222222222222222222222222222222222222222222222222222222222222222 4444444444444444444444444444444444444444444444444444444444444444
 say initiator 68656c6c6f 1
-say responder 776f726c64 0,3
-say initiator 626965 -
-";
-
-const XX_TOLD: &str =
-    "wrote initiator 0 0025111111111111111111111111111111111111111111111111111111111111111168656c6c6f
+say responder 776f726c64 1,0,2,0,3,0,4,65535
+say initiator 626965 0,0,0,0,0,0,0,2
+",
+        "wrote initiator 0 0025111111111111111111111111111111111111111111111111111111111111111168656c6c6f
 payload responder 68656c6c6f
 wrote responder 0 00652222222222222222222222222222222222222222222222222222222222222222024062932a82331cb7943eb5d61721a3954369945f86d74510869b1c99a46768d0d4cb2964a4e02108bfc5beff15321db66bc276250d9d90768925c27fcabe60e169fb02e2
 payload initiator 776f726c64
@@ -43,28 +43,11 @@ wrote initiator 1 00433cd6abae079b3ba9584f588bb5fafdf01089cbefceeda879d70a6d5201
 payload responder 626965
 state initiator transport 0 0 313f3ac270255700cbece9ac69e62aabd7751cc6b90929c58c5e3b081c2e56a6
 state responder transport 0 0 313f3ac270255700cbece9ac69e62aabd7751cc6b90929c58c5e3b081c2e56a6
-";
-
-// A prologue, a remote static key that is known before, and a write that is refused.
-const IK: &str = "vector 1
-protocol Noise_IK_25519_ChaChaPoly_SHA256
-prologue 0102
-interval 0
-initiator xor 1111111111111111111111111111111111111111111111111111111111111111 3333333333333333333333333333333333333333333333333333333333333333
-responder xor 2222222222222222222222222222222222222222222222222222222222222222 4444444444444444444444444444444444444444444444444444444444444444
-say responder - -
-say initiator 6869 -
-";
-
-const IK_TOLD: &str = "unwritten responder not-your-turn
-wrote initiator 0 00621111111111111111111111111111111111111111111111111111111111111111864975c620da1a6d49b1f830664080fd969109ecf21defeede0e9c056dae7edd36437135b64a6ba0cc11f0e66ae1fec2fc1c4cb192f337861de211b7a7da14471b96
-payload responder 6869
-state initiator handshake 1
-state responder handshake 1
-";
-
-// The initiator's static key is known before.
-const KX: &str = "vector 1
+",
+    ),
+    // The initiator's static key is known before.
+    (
+        "vector 1
 protocol Noise_KX_25519_ChaChaPoly_SHA256
 prologue -
 interval 0
@@ -72,19 +55,39 @@ initiator xor 1111111111111111111111111111111111111111111111111111111111111111 3
 responder xor 2222222222222222222222222222222222222222222222222222222222222222 4444444444444444444444444444444444444444444444444444444444444444
 say initiator - -
 say responder - -
-";
-
-const KX_TOLD: &str =
-    "wrote initiator 0 00201111111111111111111111111111111111111111111111111111111111111111
+",
+        "wrote initiator 0 00201111111111111111111111111111111111111111111111111111111111111111
 payload responder -
 wrote responder 0 0060222222222222222222222222222222222222222222222222222222222222222236d638eac942574dade9b3ae1aa15e29609f708944dd70b5046a05aa1609967047d6a09fdc3591438cf81ca59435b84aa334870e475a6fb80f267a8a4dd9ace5
 payload initiator -
 state initiator transport 0 0 0f7ea4a0872542edb5a1a7fa4229cc0b83bc5e693e882e1883da5a86f789adad
 state responder transport 0 0 0f7ea4a0872542edb5a1a7fa4229cc0b83bc5e693e882e1883da5a86f789adad
-";
-
-// A secret at the end of message 1.
-const INPSK1: &str = "vector 1
+",
+    ),
+    // Two tables with the same answer.
+    (
+        "vector 1
+protocol Noise_NN_25519_ChaChaPoly_SHA256
+prologue -
+interval 0
+initiator table 1111111111111111111111111111111111111111111111111111111111111111 -
+answer e 2222222222222222222222222222222222222222222222222222222222222222 5555555555555555555555555555555555555555555555555555555555555555
+responder table 2222222222222222222222222222222222222222222222222222222222222222 -
+answer e 1111111111111111111111111111111111111111111111111111111111111111 5555555555555555555555555555555555555555555555555555555555555555
+say initiator - -
+say responder - -
+",
+        "wrote initiator 0 00201111111111111111111111111111111111111111111111111111111111111111
+payload responder -
+wrote responder 0 00302222222222222222222222222222222222222222222222222222222222222222b7f34595565e94be35eff6e77968f02d
+payload initiator -
+state initiator transport 0 0 fd841ffc2cfa779fb79777ff09cbb9d8a0ced47cff8b76d3ce3a6ae501c1416f
+state responder transport 0 0 fd841ffc2cfa779fb79777ff09cbb9d8a0ced47cff8b76d3ce3a6ae501c1416f
+",
+    ),
+    // A secret at the end of message 1.
+    (
+        "vector 1
 protocol Noise_INpsk1_25519_ChaChaPoly_SHA256
 prologue -
 interval 0
@@ -93,19 +96,18 @@ initiator xor 1111111111111111111111111111111111111111111111111111111111111111 3
 responder xor 2222222222222222222222222222222222222222222222222222222222222222 -
 say initiator - -
 say responder - -
-";
-
-const INPSK1_TOLD: &str =
-    "wrote initiator 0 00601111111111111111111111111111111111111111111111111111111111111111b2e3903833f685ef23fb27adb9c5e2132fd54fe9c6067ab4467fdfbabaae380482f9534b6e5c2936d8f457728a75f46f2892268216aa220be6436101e90bec3f
+",
+        "wrote initiator 0 00601111111111111111111111111111111111111111111111111111111111111111b2e3903833f685ef23fb27adb9c5e2132fd54fe9c6067ab4467fdfbabaae380482f9534b6e5c2936d8f457728a75f46f2892268216aa220be6436101e90bec3f
 payload responder -
 wrote responder 0 003022222222222222222222222222222222222222222222222222222222222222222a2acd4c1d3e3ada23129cd1bad24432
 payload initiator -
 state initiator transport 0 0 9d9f99dbf8806bf05f4a451ef9493a891ab3d3d81aea8fecdc1d468651ec6b40
 state responder transport 0 0 9d9f99dbf8806bf05f4a451ef9493a891ab3d3d81aea8fecdc1d468651ec6b40
-";
-
-// Two secrets, in front of message 1 and at the end of message 3.
-const XXPSKS: &str = "vector 1
+",
+    ),
+    // Two secrets, in front of message 1 and at the end of message 3.
+    (
+        "vector 1
 protocol Noise_XXpsk0+psk3_25519_ChaChaPoly_SHA256
 prologue -
 interval 0
@@ -116,10 +118,8 @@ responder xor 2222222222222222222222222222222222222222222222222222222222222222 4
 say initiator - -
 say responder - -
 say initiator - -
-";
-
-const XXPSKS_TOLD: &str =
-    "wrote initiator 0 003011111111111111111111111111111111111111111111111111111111111111117d7c9b0eb13190fedbde1aaabff27e4c
+",
+        "wrote initiator 0 003011111111111111111111111111111111111111111111111111111111111111117d7c9b0eb13190fedbde1aaabff27e4c
 payload responder -
 wrote responder 0 00602222222222222222222222222222222222222222222222222222222222222222c4dd9060b788ddb0e57162a2ac092169678eff1ea58284ec58a30e1d3b9d3af5bb89ba7e66129721f050c30ecf13a28a85cf97869a64f8dbeee5eb6aaec29c03
 payload initiator -
@@ -127,10 +127,11 @@ wrote initiator 1 00406738d7824d5dcb43b240e8aaf4137b03db414e91d37760a58cb1a85e14
 payload responder -
 state initiator transport 0 0 5eb6ed801e0a66e8c0eb0477c98ef5c39639391a8dd541b9681a3a7a830d2ee2
 state responder transport 0 0 5eb6ed801e0a66e8c0eb0477c98ef5c39639391a8dd541b9681a3a7a830d2ee2
-";
-
-// A pattern of one's own.
-const NK1: &str = "vector 1
+",
+    ),
+    // A pattern of one's own.
+    (
+        "vector 1
 protocol Noise_NK1_25519_ChaChaPoly_SHA256
 NK1:
   <- s
@@ -144,41 +145,36 @@ initiator xor 1111111111111111111111111111111111111111111111111111111111111111 -
 responder xor 2222222222222222222222222222222222222222222222222222222222222222 4444444444444444444444444444444444444444444444444444444444444444
 say initiator - -
 say responder 6869 -
-";
-
-const NK1_TOLD: &str =
-    "wrote initiator 0 00201111111111111111111111111111111111111111111111111111111111111111
+",
+        "wrote initiator 0 00201111111111111111111111111111111111111111111111111111111111111111
 payload responder -
 wrote responder 0 003222222222222222222222222222222222222222222222222222222222222222227c656c7bdead717c15e93c2f6731e5116934
 payload initiator 6869
 state initiator transport 0 0 67bf7c9aedaa40dd85db485031e3aca7f99c15e5d49490aa2a12302320a0adf1
 state responder transport 0 0 67bf7c9aedaa40dd85db485031e3aca7f99c15e5d49490aa2a12302320a0adf1
-";
-
-// Two tables with the same answer.
-const NN_TABLES: &str = "vector 1
-protocol Noise_NN_25519_ChaChaPoly_SHA256
-prologue -
+",
+    ),
+    // A prologue, a remote static key that is known before, and a write that is refused.
+    (
+        "vector 1
+protocol Noise_IK_25519_ChaChaPoly_SHA256
+prologue 0102
 interval 0
-initiator table 1111111111111111111111111111111111111111111111111111111111111111 -
-answer e 2222222222222222222222222222222222222222222222222222222222222222 5555555555555555555555555555555555555555555555555555555555555555
-responder table 2222222222222222222222222222222222222222222222222222222222222222 -
-answer e 1111111111111111111111111111111111111111111111111111111111111111 5555555555555555555555555555555555555555555555555555555555555555
-say initiator - -
+initiator xor 1111111111111111111111111111111111111111111111111111111111111111 3333333333333333333333333333333333333333333333333333333333333333
+responder xor 2222222222222222222222222222222222222222222222222222222222222222 4444444444444444444444444444444444444444444444444444444444444444
 say responder - -
-";
-
-const NN_TABLES_TOLD: &str =
-    "wrote initiator 0 00201111111111111111111111111111111111111111111111111111111111111111
-payload responder -
-wrote responder 0 00302222222222222222222222222222222222222222222222222222222222222222b7f34595565e94be35eff6e77968f02d
-payload initiator -
-state initiator transport 0 0 fd841ffc2cfa779fb79777ff09cbb9d8a0ced47cff8b76d3ce3a6ae501c1416f
-state responder transport 0 0 fd841ffc2cfa779fb79777ff09cbb9d8a0ced47cff8b76d3ce3a6ae501c1416f
-";
-
-// The responder has no answer when it writes.
-const NO_ANSWER: &str = "vector 1
+say initiator 6869 -
+",
+        "unwritten responder not-your-turn
+wrote initiator 0 00621111111111111111111111111111111111111111111111111111111111111111864975c620da1a6d49b1f830664080fd969109ecf21defeede0e9c056dae7edd36437135b64a6ba0cc11f0e66ae1fec2fc1c4cb192f337861de211b7a7da14471b96
+payload responder 6869
+state initiator handshake 1
+state responder handshake 1
+",
+    ),
+    // The responder has no answer when it writes.
+    (
+        "vector 1
 protocol Noise_NN_25519_ChaChaPoly_SHA256
 prologue -
 interval 0
@@ -186,18 +182,35 @@ initiator xor 1111111111111111111111111111111111111111111111111111111111111111 -
 responder table 2222222222222222222222222222222222222222222222222222222222222222 -
 say initiator - -
 say responder - -
-";
-
-const NO_ANSWER_TOLD: &str =
-    "wrote initiator 0 00201111111111111111111111111111111111111111111111111111111111111111
+",
+        "wrote initiator 0 00201111111111111111111111111111111111111111111111111111111111111111
 payload responder -
 unwritten responder agreement 1
 state initiator handshake 1
 state responder ended
-";
-
-// Two tables with different answers.
-const XN_UNEQUAL: &str = "vector 1
+",
+    ),
+    // The responder has none when it reads.
+    (
+        "vector 1
+protocol Noise_NK_25519_ChaChaPoly_SHA256
+prologue -
+interval 0
+initiator xor 1111111111111111111111111111111111111111111111111111111111111111 -
+responder table 2222222222222222222222222222222222222222222222222222222222222222 4444444444444444444444444444444444444444444444444444444444444444
+say initiator - -
+say responder - -
+",
+        "wrote initiator 0 0030111111111111111111111111111111111111111111111111111111111111111154c8f0181041cda2420f17b9d11815b1
+refused responder 1 agreement
+unwritten responder ended
+state initiator handshake 1
+state responder ended
+",
+    ),
+    // Two tables with different answers.
+    (
+        "vector 1
 protocol Noise_XN_25519_ChaChaPoly_SHA256
 prologue -
 interval 0
@@ -208,80 +221,22 @@ answer e 1111111111111111111111111111111111111111111111111111111111111111 666666
 say initiator - -
 say responder - -
 say initiator - -
-";
-
-const XN_UNEQUAL_TOLD: &str =
-    "wrote initiator 0 00201111111111111111111111111111111111111111111111111111111111111111
+",
+        "wrote initiator 0 00201111111111111111111111111111111111111111111111111111111111111111
 payload responder -
 wrote responder 0 003022222222222222222222222222222222222222222222222222222222222222220a498d414ec66dc5ef9326e62d30513e
 refused initiator 2 tag
 unwritten initiator ended
 state initiator ended
 state responder handshake 2
-";
-
-// The responder has none when it reads.
-const NK_NO_ANSWER: &str = "vector 1
-protocol Noise_NK_25519_ChaChaPoly_SHA256
-prologue -
-interval 0
-initiator xor 1111111111111111111111111111111111111111111111111111111111111111 -
-responder table 2222222222222222222222222222222222222222222222222222222222222222 4444444444444444444444444444444444444444444444444444444444444444
-say initiator - -
-say responder - -
-";
-
-const NK_NO_ANSWER_TOLD: &str =
-    "wrote initiator 0 0030111111111111111111111111111111111111111111111111111111111111111154c8f0181041cda2420f17b9d11815b1
-refused responder 1 agreement
-unwritten responder ended
-state initiator handshake 1
-state responder ended
-";
-
-// The file is run, and prints this.
-fn prints(rt: &impl Abort, alloc: Global, file: &str, told: &str) -> Result<(), Fail> {
-    let ran = talk_on(alloc, file.as_bytes())?;
-    assert_eq!(rt; ran.status, 0, "{file}");
-    assert_eq!(rt; ran.out.as_slice(), told.as_bytes(), "{file}");
-    assert!(rt; ran.err.is_empty(), "{file}");
-    Ok(())
-}
+",
+    ),
+];
 
 #[test]
-fn opens_sessions(rt: HostRuntime) -> Result<(), Fail> {
-    for (file, told) in [
-        (N, N_TOLD),
-        (XX, XX_TOLD),
-        (KX, KX_TOLD),
-        (NN_TABLES, NN_TABLES_TOLD),
-    ] {
-        prints(&rt, rt.alloc(), file, told)?;
-    }
-    Ok(())
-}
-
-#[test]
-fn takes_secrets_and_patterns_of_the_file(rt: HostRuntime) -> Result<(), Fail> {
-    for (file, told) in [
-        (INPSK1, INPSK1_TOLD),
-        (XXPSKS, XXPSKS_TOLD),
-        (NK1, NK1_TOLD),
-    ] {
-        prints(&rt, rt.alloc(), file, told)?;
-    }
-    Ok(())
-}
-
-#[test]
-fn goes_on_behind_a_refusal(rt: HostRuntime) -> Result<(), Fail> {
-    for (file, told) in [
-        (IK, IK_TOLD),
-        (NO_ANSWER, NO_ANSWER_TOLD),
-        (NK_NO_ANSWER, NK_NO_ANSWER_TOLD),
-        (XN_UNEQUAL, XN_UNEQUAL_TOLD),
-    ] {
-        prints(&rt, rt.alloc(), file, told)?;
+fn prints_what_each_end_does(rt: HostRuntime) -> Result<(), Fail> {
+    for (file, told) in &RUNS {
+        tells(&rt, rt.alloc(), &("talk", file, 0, told, ""))?;
     }
     Ok(())
 }

@@ -19,7 +19,9 @@ use noise_names::{Pattern, ProtocolName};
 pub fn read_block(lines: &mut Lines<'_>, protocol: &ProtocolName) -> Result<Pattern, Fault>
     ensures text { IfOk result (λ pattern. lines.old.rest.now ≡ pattern_text pattern ++ line (codes "end") lines.new.rest.now) }
     ensures named { IfOk result (λ pattern. HasName pattern protocol.now) }
-    ensures every { (pattern : Plan) (rest : List ℕ) → IsPattern pattern → HasName pattern protocol.now → lines.old.rest.now ≡ pattern_text pattern ++ line (codes "end") rest → MatchResult result (λ read. (read ≡ pattern) × (lines.new.rest.now ≡ rest)) (λ fault. ⊥) }
+    ensures every { (pattern : Plan) (rest : List ℕ) → IsPattern pattern → HasName pattern protocol.now
+        → lines.old.rest.now ≡ pattern_text pattern ++ line (codes "end") rest
+        → MatchResult result (λ read. (read ≡ pattern) × (lines.new.rest.now ≡ rest)) (λ fault. ⊥) }
     ensures kind { IfErr result IsOfLine }
 {
     let before = lines.number;
@@ -36,7 +38,9 @@ pub fn read_block(lines: &mut Lines<'_>, protocol: &ProtocolName) -> Result<Patt
 // The lines before the next line `end`, which is read too.
 fn take_block<'a>(lines: &mut Lines<'a>) -> Result<&'a [u8], Fault>
     ensures text { IfOk result (λ text. IsTrue lines.new.is_ended → lines.old.rest.now ≡ text.now ++ line (codes "end") lines.new.rest.now) }
-    ensures every { (before : List (List ℕ)) (rest : List ℕ) → All IsInner before → lines.old.rest.now ≡ lines_of itself before (line (codes "end") rest) → MatchResult result (λ text. (text.now ≡ lines_of itself before []) × (lines.new.rest.now ≡ rest) × IsTrue lines.new.is_ended) (λ fault. ⊥) }
+    ensures every { (before : List (List ℕ)) (rest : List ℕ) → All IsInner before
+        → lines.old.rest.now ≡ lines_of itself before (line (codes "end") rest)
+        → MatchResult result (λ text. (text.now ≡ lines_of itself before []) × (lines.new.rest.now ≡ rest) × IsTrue lines.new.is_ended) (λ fault. ⊥) }
     ensures kind { IfErr result IsOfLine }
 {
     let text = lines.rest;
@@ -53,7 +57,8 @@ fn take_block<'a>(lines: &mut Lines<'a>) -> Result<&'a [u8], Fault>
 fn pattern_of(text: &[u8], protocol: &ProtocolName) -> Result<Pattern, usize>
     ensures spelled { IfOk result (λ pattern. text.now ≡ pattern_text pattern) }
     ensures named { IfOk result (λ pattern. HasName pattern protocol.now) }
-    ensures every { (pattern : Plan) → IsPattern pattern → HasName pattern protocol.now → text.now ≡ pattern_text pattern → result ≡ Ok pattern }
+    ensures every { (pattern : Plan) → IsPattern pattern → HasName pattern protocol.now → text.now ≡ pattern_text pattern
+        → result ≡ Ok pattern }
 {
     match Pattern::parse_text(text) {
         Ok(pattern) if pattern.name() == *protocol => Ok(pattern),

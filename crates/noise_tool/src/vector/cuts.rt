@@ -68,7 +68,8 @@ pub fn read_cuts(word: &[u8]) -> Option<Cuts>
 // 1 to 8 numbers below 65536, joined by commas.
 fn read_lengths(word: &[u8]) -> Option<ArrayVec<u16, 8>>
     ensures value { IfSome result (λ lengths. (0 < array_vec_len lengths) × (word.now ≡ lengths_word lengths.items)) }
-    ensures every { (n : ℕ) (ns : List ℕ) → AreLengths (n ∷ ns) → word.now ≡ lengths_word (n ∷ ns) → MatchOption result (Unit {0} → ⊥) (λ lengths. lengths.items ≡ n ∷ ns) }
+    ensures every { (n : ℕ) (ns : List ℕ) → AreLengths (n ∷ ns) → word.now ≡ lengths_word (n ∷ ns)
+        → MatchOption result (Unit {0} → ⊥) (λ lengths. lengths.items ≡ n ∷ ns) }
 {
     let mut lengths = ArrayVec::new();
     let mut rest = word;

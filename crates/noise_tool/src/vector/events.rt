@@ -19,7 +19,9 @@ use std::alloc::{AllocError, Global};
 pub fn read_events(alloc: Global, lines: &mut Lines<'_>, most: usize) -> Result<Vec<Say>, Fault>
     ensures text { IfOk result (λ events. lines.old.rest.now ≡ lines_of say_words events.items []) }
     ensures few { IfOk result (λ events. vec_len events ≤ most) }
-    ensures every { (events : List Say) → length events ≤ most → All IsSay events → lines.old.rest.now ≡ lines_of say_words events [] → IfErr result (λ fault. fault ≡ Memory) }
+    ensures every { (events : List Say) → length events ≤ most → All IsSay events
+        → lines.old.rest.now ≡ lines_of say_words events []
+        → IfErr result (λ fault. fault ≡ Memory) }
     ensures kind { IfErr result IsOfLine }
 {
     let mut events = Vec::new(alloc);
@@ -63,7 +65,9 @@ fn read_say(alloc: Global, text: &[u8]) -> Result<Option<Say>, AllocError>
 // The three words behind `say`.
 fn split_say(text: &[u8]) -> Option<(&[u8], &[u8], &[u8])>
     ensures text { IfSome result (λ words. text.now ≡ codes "say " ++ (words.0.now ++ 32 ∷ (words.1.now ++ 32 ∷ words.2.now))) }
-    ensures every { (role payload cuts : List ℕ) → IsTrue (lacks 32 role) → IsTrue (lacks 32 payload) → text.now ≡ codes "say " ++ (role ++ 32 ∷ (payload ++ 32 ∷ cuts)) → MatchOption result (Unit {0} → ⊥) (λ words. (words.0.now ≡ role) × (words.1.now ≡ payload) × (words.2.now ≡ cuts)) }
+    ensures every { (role payload cuts : List ℕ) → IsTrue (lacks 32 role) → IsTrue (lacks 32 payload)
+        → text.now ≡ codes "say " ++ (role ++ 32 ∷ (payload ++ 32 ∷ cuts))
+        → MatchOption result (Unit {0} → ⊥) (λ words. (words.0.now ≡ role) × (words.1.now ≡ payload) × (words.2.now ≡ cuts)) }
 {
     let (role, rest) = split_once(text.strip_prefix(b"say ".as_slice())?, b' ')?;
     let (payload, cuts) = split_once(rest, b' ')?;

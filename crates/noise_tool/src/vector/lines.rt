@@ -33,7 +33,8 @@ impl<'a> Lines<'a> {
     /// The next line without its LF, or the fault that there is none.
     pub fn next(&mut self) -> Result<&'a [u8], Fault>
         ensures ended { IfOk result (λ text. IsTrue self.new.is_ended → self.old.rest.now ≡ line text.now self.new.rest.now) }
-        ensures every { (words behind : List ℕ) → IsTrue (lacks 10 words) → self.old.rest.now ≡ line words behind → MatchResult result (λ text. (text.now ≡ words) × (self.new.rest.now ≡ behind) × IsTrue self.new.is_ended) (λ fault. ⊥) }
+        ensures every { (words behind : List ℕ) → IsTrue (lacks 10 words) → self.old.rest.now ≡ line words behind
+            → MatchResult result (λ text. (text.now ≡ words) × (self.new.rest.now ≡ behind) × IsTrue self.new.is_ended) (λ fault. ⊥) }
         ensures shorter { IfOk result (λ text. length self.new.rest.now < length self.old.rest.now) }
         ensures missing { IfErr result (λ fault. (self.old.rest.now ≡ []) × (fault ≡ Fault.Line self.new.number LineKind.Ending)) }
     {

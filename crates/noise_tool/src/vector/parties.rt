@@ -19,7 +19,9 @@ use noise_names::Role;
 /// The line of a party's keys, and behind a table's line its answers.
 pub fn read_party(lines: &mut Lines<'_>, role: Role) -> Result<FileKeys, Fault>
     ensures text { IfOk result (λ keys. lines.old.rest.now ≡ party_text role keys lines.new.rest.now) }
-    ensures every { (keys : FileKeys) (rest : List ℕ) → AreKeys keys → IsFalse (starts_with nat_eq rest (codes "answer ")) → lines.old.rest.now ≡ party_text role keys rest → IsOk result × (lines.new.rest.now ≡ rest) }
+    ensures every { (keys : FileKeys) (rest : List ℕ) → AreKeys keys → IsFalse (starts_with nat_eq rest (codes "answer "))
+        → lines.old.rest.now ≡ party_text role keys rest
+        → IsOk result × (lines.new.rest.now ≡ rest) }
     ensures kind { IfErr result IsOfLine }
 {
     let line = lines.next()?;
@@ -40,7 +42,8 @@ pub fn read_party(lines: &mut Lines<'_>, role: Role) -> Result<FileKeys, Fault>
 // What stands behind the word of this role and a space.
 fn behind_role(line: &[u8], role: Role) -> Option<&[u8]>
     ensures text { IfSome result (λ words. line.now ≡ role_word role ++ 32 ∷ words.now) }
-    ensures every { (words : List ℕ) → line.now ≡ role_word role ++ 32 ∷ words → MatchOption result (Unit {0} → ⊥) (λ found. found.now ≡ words) }
+    ensures every { (words : List ℕ) → line.now ≡ role_word role ++ 32 ∷ words
+        → MatchOption result (Unit {0} → ⊥) (λ found. found.now ≡ words) }
 {
     let (word, words) = split_once(line, b' ')?;
     if read_role(word)? != role {
@@ -52,7 +55,8 @@ fn behind_role(line: &[u8], role: Role) -> Option<&[u8]>
 // The two keys behind this front.
 fn keys_of(words: &[u8], front: &[u8]) -> Option<(Option<[u8; 32]>, Option<[u8; 32]>)>
     ensures text { IfSome result (λ keys. words.now ≡ front.now ++ key_words keys.0 keys.1) }
-    ensures every { (e s : Option (List ℕ)) → IfSome e IsKey → IfSome s IsKey → words.now ≡ front.now ++ key_words e s → IsSome result }
+    ensures every { (e s : Option (List ℕ)) → IfSome e IsKey → IfSome s IsKey → words.now ≡ front.now ++ key_words e s
+        → IsSome result }
 {
     let (e, s) = split_once(words.strip_prefix(front)?, b' ')?;
     Some((read_optional_key(e)?, read_optional_key(s)?))
@@ -66,7 +70,10 @@ fn read_table(
 ) -> Result<TableKeys, Fault>
     ensures keys { IfOk result (λ table. (table.e ≡ e) × (table.s ≡ s)) }
     ensures text { IfOk result (λ table. lines.old.rest.now ≡ lines_of answer_words table.entries lines.new.rest.now) }
-    ensures every { (entries : List Entry) (rest : List ℕ) → length entries ≤ 8 → All IsEntry entries → IsFalse (starts_with nat_eq rest (codes "answer ")) → lines.old.rest.now ≡ lines_of answer_words entries rest → IsOk result × (lines.new.rest.now ≡ rest) }
+    ensures every { (entries : List Entry) (rest : List ℕ) → length entries ≤ 8 → All IsEntry entries
+        → IsFalse (starts_with nat_eq rest (codes "answer "))
+        → lines.old.rest.now ≡ lines_of answer_words entries rest
+        → IsOk result × (lines.new.rest.now ≡ rest) }
     ensures kind { IfErr result IsOfLine }
 {
     let mut table = TableKeys::new(e, s);

@@ -1,6 +1,7 @@
 //! Reading a vector file: the order of its lines.
 
-ghost use Rattle.std.specs.Prelude.{◌≡◌, ◌<◌, ◌≤◌, ◌^◌, ◌++◌, ◌↔◌, ℕ, List, Option, Some, None, IfErr, IfOk, IfSome, IsFalse, IsOk, IsSome, MatchResult, OnOk, codes, decimal, length, vec_len};
+ghost use Rattle.std.specs.Prelude.{◌≡◌, ◌<◌, ◌≤◌, ◌^◌, ◌++◌, ◌↔◌, ℕ, List, Option, Some, None, codes, decimal, length, vec_len};
+ghost use Rattle.std.specs.Prelude.{IfErr, IfOk, IfSome, IsFalse, IsOk, IsSome, MatchResult, OnOk};
 ghost use Rattle.std.specs.Bool.{nat_eq};
 ghost use Rattle.std.specs.List.{starts_with};
 ghost use Rattle.noise_names.specs.Names.{IsSection, Section, name_bytes};
@@ -37,7 +38,8 @@ pub fn read_vector(alloc: Global, text: &[u8]) -> Result<VectorFile, Fault>
     ensures few { IfOk result (λ file. IfSome (pattern_of file.protocol file.block) (λ pattern. vec_len file.events ≤ length pattern.messages)) }
 
     // The text of a right file is refused only for want of memory.
-    ensures every { (file : VectorFile) → IsVectorFile file → text.now ≡ text_of file → IfErr result (λ fault. fault ≡ Memory) }
+    ensures every { (file : VectorFile) → IsVectorFile file → text.now ≡ text_of file
+        → IfErr result (λ fault. fault ≡ Memory) }
     ensures kind { IfErr result IsOfLine }
 {
     let mut lines = Lines::new(text);
@@ -64,7 +66,8 @@ pub fn read_vector(alloc: Global, text: &[u8]) -> Result<VectorFile, Fault>
 
 fn read_header(lines: &mut Lines<'_>) -> Result<(), Fault>
     ensures text { OnOk result (lines.old.rest.now ≡ line (codes "vector 1") lines.new.rest.now) }
-    ensures every { (rest : List ℕ) → lines.old.rest.now ≡ line (codes "vector 1") rest → IsOk result × (lines.new.rest.now ≡ rest) }
+    ensures every { (rest : List ℕ) → lines.old.rest.now ≡ line (codes "vector 1") rest
+        → IsOk result × (lines.new.rest.now ≡ rest) }
     ensures kind { IfErr result IsOfLine }
 {
     let line = lines.next()?;
@@ -76,7 +79,9 @@ fn read_header(lines: &mut Lines<'_>) -> Result<(), Fault>
 
 fn read_protocol(lines: &mut Lines<'_>) -> Result<ProtocolName, Fault>
     ensures text { IfOk result (λ name. lines.old.rest.now ≡ line (codes "protocol " ++ name_bytes name) lines.new.rest.now) }
-    ensures every { (name : Section) (rest : List ℕ) → IsSection name → lines.old.rest.now ≡ line (codes "protocol " ++ name_bytes name) rest → MatchResult result (λ read. (read ≡ name) × (lines.new.rest.now ≡ rest)) (λ fault. ⊥) }
+    ensures every { (name : Section) (rest : List ℕ) → IsSection name
+        → lines.old.rest.now ≡ line (codes "protocol " ++ name_bytes name) rest
+        → MatchResult result (λ read. (read ≡ name) × (lines.new.rest.now ≡ rest)) (λ fault. ⊥) }
     ensures kind { IfErr result IsOfLine }
 {
     let line = lines.next()?;
@@ -90,7 +95,8 @@ fn read_protocol(lines: &mut Lines<'_>) -> Result<ProtocolName, Fault>
 // The name that stands in the line.
 fn protocol_of(line: &[u8]) -> Option<ProtocolName>
     ensures text { IfSome result (λ name. line.now ≡ codes "protocol " ++ name_bytes name) }
-    ensures every { (name : Section) → IsSection name → line.now ≡ codes "protocol " ++ name_bytes name → result ≡ Some name }
+    ensures every { (name : Section) → IsSection name → line.now ≡ codes "protocol " ++ name_bytes name
+        → result ≡ Some name }
 {
     ProtocolName::parse(line.strip_prefix(b"protocol ".as_slice())?).ok()
 }
@@ -104,7 +110,9 @@ fn read_own_pattern(
     ensures there { IfOk result (λ own. IsSome own.0 ↔ (fundamental_of protocol.now.base ≡ None)) }
     ensures named { IfOk result (λ own. IfSome own.0 (λ pattern. HasName pattern protocol.now)) }
     ensures count { IfOk result (λ own. IfSome (pattern_of protocol.now own.0) (λ pattern. own.1 ≡ length pattern.messages)) }
-    ensures every { (block : Option Plan) (rest : List ℕ) → IsOwn protocol.now block → lines.old.rest.now ≡ block_text block rest → MatchResult result (λ own. (own.0 ≡ block) × (lines.new.rest.now ≡ rest)) (λ fault. ⊥) }
+    ensures every { (block : Option Plan) (rest : List ℕ) → IsOwn protocol.now block
+        → lines.old.rest.now ≡ block_text block rest
+        → MatchResult result (λ own. (own.0 ≡ block) × (lines.new.rest.now ≡ rest)) (λ fault. ⊥) }
     ensures kind { IfErr result IsOfLine }
 {
     match fundamental(protocol.base()) {
@@ -120,7 +128,8 @@ fn read_own_pattern(
 fn read_prologue(alloc: Global, lines: &mut Lines<'_>) -> Result<Vec<u8>, Fault>
     ensures text { IfOk result (λ bytes. lines.old.rest.now ≡ line (codes "prologue " ++ hex_of bytes.items) lines.new.rest.now) }
     ensures bound { IfOk result (λ bytes. vec_len bytes ≤ 65535) }
-    ensures every { (bytes rest : List ℕ) → IsShort bytes → lines.old.rest.now ≡ line (codes "prologue " ++ hex_of bytes) rest → MatchResult result (λ read. lines.new.rest.now ≡ rest) (λ fault. fault ≡ Memory) }
+    ensures every { (bytes rest : List ℕ) → IsShort bytes → lines.old.rest.now ≡ line (codes "prologue " ++ hex_of bytes) rest
+        → MatchResult result (λ read. lines.new.rest.now ≡ rest) (λ fault. fault ≡ Memory) }
     ensures kind { IfErr result IsOfLine }
 {
     let line = lines.next()?;
@@ -135,7 +144,8 @@ fn read_prologue(alloc: Global, lines: &mut Lines<'_>) -> Result<Vec<u8>, Fault>
 fn prologue_of(alloc: Global, line: &[u8]) -> Result<Option<Vec<u8>>, AllocError>
     ensures text { IfOk result (λ found. IfSome found (λ bytes. line.now ≡ codes "prologue " ++ hex_of bytes.items)) }
     ensures bound { IfOk result (λ found. IfSome found (λ bytes. vec_len bytes ≤ 65535)) }
-    ensures every { (bytes : List ℕ) → IsShort bytes → line.now ≡ codes "prologue " ++ hex_of bytes → IfOk result (λ found. IsSome found) }
+    ensures every { (bytes : List ℕ) → IsShort bytes → line.now ≡ codes "prologue " ++ hex_of bytes
+        → IfOk result (λ found. IsSome found) }
 {
     match line.strip_prefix(b"prologue ".as_slice()) {
         Some(word) => read_bytes(alloc, word),
@@ -145,7 +155,9 @@ fn prologue_of(alloc: Global, line: &[u8]) -> Result<Option<Vec<u8>>, AllocError
 
 fn read_interval(lines: &mut Lines<'_>) -> Result<u64, Fault>
     ensures text { IfOk result (λ interval. lines.old.rest.now ≡ line (codes "interval " ++ decimal interval) lines.new.rest.now) }
-    ensures every { (interval : ℕ) (rest : List ℕ) → interval < 2 ^ 64 → lines.old.rest.now ≡ line (codes "interval " ++ decimal interval) rest → IsOk result × (lines.new.rest.now ≡ rest) }
+    ensures every { (interval : ℕ) (rest : List ℕ) → interval < 2 ^ 64
+        → lines.old.rest.now ≡ line (codes "interval " ++ decimal interval) rest
+        → IsOk result × (lines.new.rest.now ≡ rest) }
     ensures kind { IfErr result IsOfLine }
 {
     let line = lines.next()?;
@@ -159,14 +171,17 @@ fn read_interval(lines: &mut Lines<'_>) -> Result<u64, Fault>
 // The number that stands in the line.
 fn interval_of(line: &[u8]) -> Option<u64>
     ensures text { IfSome result (λ interval. line.now ≡ codes "interval " ++ decimal interval) }
-    ensures every { (interval : ℕ) → interval < 2 ^ 64 → line.now ≡ codes "interval " ++ decimal interval → result ≡ Some interval }
+    ensures every { (interval : ℕ) → interval < 2 ^ 64 → line.now ≡ codes "interval " ++ decimal interval
+        → result ≡ Some interval }
 {
     read_number(line.strip_prefix(b"interval ".as_slice())?)
 }
 
 fn read_psks(lines: &mut Lines<'_>) -> Result<ArrayVec<[u8; 32], 9>, Fault>
     ensures text { IfOk result (λ psks. lines.old.rest.now ≡ lines_of psk_words psks.items lines.new.rest.now) }
-    ensures every { (psks : List (List ℕ)) (rest : List ℕ) → ArePsks psks → IsFalse (starts_with nat_eq rest (codes "psk ")) → lines.old.rest.now ≡ lines_of psk_words psks rest → IsOk result × (lines.new.rest.now ≡ rest) }
+    ensures every { (psks : List (List ℕ)) (rest : List ℕ) → ArePsks psks → IsFalse (starts_with nat_eq rest (codes "psk "))
+        → lines.old.rest.now ≡ lines_of psk_words psks rest
+        → IsOk result × (lines.new.rest.now ≡ rest) }
     ensures kind { IfErr result IsOfLine }
 {
     let mut psks = ArrayVec::new();

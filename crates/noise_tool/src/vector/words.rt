@@ -1,6 +1,7 @@
 //! The words that stand in the lines of a vector file.
 
-ghost use Rattle.std.specs.Prelude.{◌≡◌, ◌↔◌, ◌<◌, ◌≤◌, ◌^◌, ◌==◌, ℕ, List, ◌∷◌, ◌++◌, Option, Some, IfOk, IfSome, IsSome, IsTrue, MatchOption, decimal, length, position, slice_index, vec_len};
+ghost use Rattle.std.specs.Prelude.{◌≡◌, ◌↔◌, ◌<◌, ◌≤◌, ◌^◌, ◌==◌, ℕ, List, ◌∷◌, ◌++◌, Option, Some, decimal, length, position, slice_index, vec_len};
+ghost use Rattle.std.specs.Prelude.{IfOk, IfSome, IsSome, IsTrue, MatchOption};
 ghost use Rattle.noise_tool.specs.HexWord.{hex_of};
 ghost use Rattle.hex.specs.Hex.{encode_lower};
 ghost use Rattle.noise_handshake.specs.declared.keys.Own.{Own};
@@ -18,7 +19,8 @@ use std::str;
 /// What stands before the first such byte, and what stands behind it.
 pub fn split_once(text: &[u8], separator: u8) -> Option<(&[u8], &[u8])>
     ensures parts { IfSome result (λ parts. text.now ≡ parts.0.now ++ separator ∷ parts.1.now) }
-    ensures every { (before behind : List ℕ) → IsTrue (lacks separator before) → text.now ≡ before ++ separator ∷ behind → MatchOption result (Unit {0} → ⊥) (λ parts. (parts.0.now ≡ before) × (parts.1.now ≡ behind)) }
+    ensures every { (before behind : List ℕ) → IsTrue (lacks separator before) → text.now ≡ before ++ separator ∷ behind
+        → MatchOption result (Unit {0} → ⊥) (λ parts. (parts.0.now ≡ before) × (parts.1.now ≡ behind)) }
 {
     let place = place_of(text, separator)?;
     Some((&text[..place], &text[place + 1..]))

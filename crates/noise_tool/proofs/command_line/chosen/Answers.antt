@@ -33,6 +33,7 @@ returns-clause-line c =
     elim (c.in-Err.ensures.kinds (ap is_simple_and_free noise_is)) [
       | inl memory ↦ inl (c.line_fault.ensures.0 memory)
       | inr kind ↦
-          inr (asked_without-among (kind_of c.in-Err.error) (fault_of noise (map string_bytes c.args.words.items)) (stated_in (subcommand_of noise (map string_bytes c.args.words.items)))
+          inr (asked_without-among (kind_of c.in-Err.error) (fault_of noise (map string_bytes c.args.words.items))
+          (stated_in (subcommand_of noise (map string_bytes c.args.words.items)))
           (subst (λ (kinds : Kinds). IsAmong (kind_of c.in-Err.error) kinds) same kind))
     ]

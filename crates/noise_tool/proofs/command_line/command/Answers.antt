@@ -13,8 +13,10 @@ requiring a = record a { top = record a.top { subcommand_required = true } }
 
 pub returns : goal.returns
 returns c =
-    let list_is : shape_of c.about-list.result ≡ subcommand (codes "list", None) = ap (λ (a : App). a.top) (ap app_of_fields c.about-list.ensures ∙ c.new.ensures.app) in
-    let list_local : (out-Command c.about-list.result).has_globals ≡ false = ap (λ (f : Command-F Command). f.has_globals) c.about-list.ensures ∙ c.new.ensures.local in
+    let list_is : shape_of c.about-list.result ≡ subcommand (codes "list", None) =
+    ap (λ (a : App). a.top) (ap app_of_fields c.about-list.ensures ∙ c.new.ensures.app) in
+    let list_local : (out-Command c.about-list.result).has_globals ≡ false =
+    ap (λ (f : Command-F Command). f.has_globals) c.about-list.ensures ∙ c.new.ensures.local in
     let noise_is : app_of c.subcommand_required.result ≡ requiring (new_app (codes "noise")) = ap app_of_fields c.subcommand_required.ensures
     ∙ ap requiring (ap app_of_fields c.about.ensures ∙ ap app_of_fields c.in_ok-bin_name.ensures.0 ∙ c.new-2.ensures.app) in
     let with_list = c.in_ok-subcommand.ensures.shape list_local ∙ ap₂ with_subcommand noise_is list_is in

@@ -13,7 +13,8 @@ module _ {T : Type 0} (role : Role) where
   made (Some why) result value is m = absurd (cc)
 
   refused : (found : Option SetupFault) (result : Result T SetupFault) (fault : SetupFault) → result ≡ Err fault
-      → MatchOption found (IsOk result) (λ (why : SetupFault). result ≡ Err why) → Some (Setup role fault) ≡ option_map (λ (why : SetupFault). Setup role why) found
+      → MatchOption found (IsOk result) (λ (why : SetupFault). result ≡ Err why)
+      → Some (Setup role fault) ≡ option_map (λ (why : SetupFault). Setup role why) found
   refused None result fault is m = absurd (let bad = rw is at m in cc)
   refused (Some why) result fault is m = cc
 

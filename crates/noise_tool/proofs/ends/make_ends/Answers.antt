@@ -20,7 +20,8 @@ returns-in_err-first-clause-fault c =
     let psks : c.deref-2.result.now ≡ file.psks.items = search rules in
     let setup = setup-same Initiator file.initiator plan plan c.known_before-of_responder.result (known_before plan Responder (public_of file.responder))
     c.deref-2.result.now file.psks.items refl known psks in
-    rw (p.1, p.2) (told-first file plan c.in_err-first.field-0.0 _ c.in_ok-pattern.ensures.pattern c.in_ok-pattern.ensures.valid setup c.in_err-first.ensures.fault)
+    rw (p.1, p.2) (told-first file plan c.in_err-first.field-0.0 _
+    c.in_ok-pattern.ensures.pattern c.in_ok-pattern.ensures.valid setup c.in_err-first.ensures.fault)
 
 pub returns-in_err-second-clause-fault : goal.returns-in_err-second-clause-fault
 returns-in_err-second-clause-fault c =
@@ -36,10 +37,12 @@ returns-in_err-second-clause-fault c =
     let psks-2 : c.deref-4.result.now ≡ file.psks.items = search rules in
     let setup = setup-same Initiator file.initiator plan plan c.known_before-of_responder.result (known_before plan Responder (public_of file.responder))
     c.deref-2.result.now file.psks.items refl known psks in
-    let setup-2 = setup-same Responder file.responder c.in_ok-same.same plan c.known_before-of_initiator.result (known_before plan Initiator (public_of file.initiator))
+    let setup-2 = setup-same Responder file.responder c.in_ok-same.same plan c.known_before-of_initiator.result
+    (known_before plan Initiator (public_of file.initiator))
     c.deref-4.result.now file.psks.items copy known-2 psks-2 in
     let none = sym setup ∙ none-told Initiator _ c.in_ok-first.ensures.fault in
-    rw (p.1, p.2) (told-second file plan c.in_err-second.field-0.0 _ c.in_ok-pattern.ensures.pattern c.in_ok-pattern.ensures.valid none setup-2 c.in_err-second.ensures.fault)
+    rw (p.1, p.2) (told-second file plan c.in_err-second.field-0.0 _
+    c.in_ok-pattern.ensures.pattern c.in_ok-pattern.ensures.valid none setup-2 c.in_err-second.ensures.fault)
 
 pub returns-clause-ends : goal.returns-clause-ends
 returns-clause-ends c =

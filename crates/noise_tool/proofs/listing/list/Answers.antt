@@ -28,4 +28,5 @@ loop-place-preserved c =
 pub returns : goal.returns
 returns c =
     c.loop-place.invariant
-    ∙ ap (λ (ps : List Plan). flat_map (λ p. line p.base) ps) (take_all c.loop-place.place fundamentals (omega (arith, fundamentals-count, c.loop-place-test.false)))
+    ∙ ap (λ (ps : List Plan). flat_map (λ p. line p.base) ps)
+    (take_all c.loop-place.place fundamentals (omega (arith, fundamentals-count, c.loop-place-test.false)))

@@ -1,21 +1,20 @@
-use Rattle.std.proofs.Common.{rules, ◌≡◌, ◌∙◌, ◌+◌, ap, sym, refl, arith, [], ◌∷◌, ◌++◌, true, false, length}
+use Rattle.std.proofs.Common.{rules, ◌≡◌, ◌∙◌, ◌+◌, ap, sym, refl, arith, ℕ, List, [], ◌∷◌, ◌++◌, true, false, true≢false, codes, length}
 use Rattle.std.specs.Prelude.{IsTrue}
 use Rattle.std.proofs.lemmas.List.{length-append}
 use Rattle.noise_handshake.specs.Table.{Table}
 use Rattle.noise_handshake.specs.declared.table_keys.Entry.{Entry}
-use Rattle.noise_tool.specs.VectorText.{answer_words, lines_of}
-use Rattle.noise_tool.proofs.LineLemmas.{lines_of-more}
-use Rattle.noise_tool.proofs.PartyLemmas.{begins, Left-end, Left-next, Next-room, Next-step}
+use Rattle.noise_tool.specs.VectorText.{answer_words, line, lines_of}
+use Rattle.noise_tool.proofs.LineLemmas.{lines_of-more, FirstLine-room, FirstLine-step, LinesLeft-begun, LinesLeft-end}
+use Rattle.noise_tool.proofs.PartyLemmas.{begins, lacks-answer_words}
 use Rattle.noise_tool.proofs.vector.parties.read_table.Goals as goal
 
 pub returns-in_default-clause-every : goal.returns-in_default-clause-every
 returns-in_default-clause-every c =
     let starts : begins c.loop-lines.lines.rest.now ≡ true = search rules in
     λ entries rest few are other is.
-    let n = Left-next entries (length c.loop-lines.table.entries) c.loop-lines.lines.rest.now rest
-    (c.loop-lines.invariant.every entries rest few are other is) starts other in
-    let read = c.in_ok-line.ensures.every (answer_words n.next) (lines_of answer_words n.others rest) n.lacks_end n.left_is in
-    let none = c.in_default.ensures.every n.next n.is read.0 in
+    let f = LinesLeft-begun (c.loop-lines.invariant.every entries rest few are other is) (codes "answer ") starts other in
+    let read = c.in_ok-line.ensures.every (answer_words f.next) (lines_of answer_words f.others rest) (lacks-answer_words f.next f.next_good) f.left_is in
+    let none = c.in_default.ensures.every f.next f.next_good read.0 in
     absurd (cc (none))
 
 pub returns-then-is_err-clause-every : goal.returns-then-is_err-clause-every
@@ -23,18 +22,15 @@ returns-then-is_err-clause-every c =
     let starts : begins c.loop-lines.lines.rest.now ≡ true = search rules in
     let full : length c.loop-lines.table.entries ≡ 8 = c.add.ensures.full.0 (sym c.if-is_err.ensures.value) in
     λ entries rest few are other is.
-    let n = Left-next entries (length c.loop-lines.table.entries) c.loop-lines.lines.rest.now rest
-    (c.loop-lines.invariant.every entries rest few are other is) starts other in
-    let room = Next-room entries (length c.loop-lines.table.entries) c.loop-lines.lines.rest.now rest n few in
-    absurd (omega (arith, room, full))
+    let f = LinesLeft-begun (c.loop-lines.invariant.every entries rest few are other is) (codes "answer ") starts other in
+    absurd (omega (arith, FirstLine-room f, full))
 
 pub returns-in_err-end-clause-every : goal.returns-in_err-end-clause-every
 returns-in_err-end-clause-every c =
     let starts : begins c.loop-lines.lines.rest.now ≡ true = search rules in
     λ entries rest few are other is.
-    let n = Left-next entries (length c.loop-lines.table.entries) c.loop-lines.lines.rest.now rest
-    (c.loop-lines.invariant.every entries rest few are other is) starts other in
-    let read = c.in_ok-line.ensures.every (answer_words n.next) (lines_of answer_words n.others rest) n.lacks_end n.left_is in
+    let f = LinesLeft-begun (c.loop-lines.invariant.every entries rest few are other is) (codes "answer ") starts other in
+    let read = c.in_ok-line.ensures.every (answer_words f.next) (lines_of answer_words f.others rest) (lacks-answer_words f.next f.next_good) f.left_is in
     let bad = c.in_err-end.ensures.ended.1 read.2 in
     absurd (cc (bad))
 
@@ -53,18 +49,14 @@ loop-lines-preserved c =
           c.loop-lines.table.entries found c.loop-lines.invariant.text (c.in_ok-line.ensures.ended ended) c.in-Some.ensures.text
           ∙ ap (λ (t : Table). lines_of answer_words t.entries c.next.new.self.rest.now) (sym added);
       every = λ entries rest few are other is.
-          let n = Left-next entries (length c.loop-lines.table.entries) c.loop-lines.lines.rest.now rest
-          (c.loop-lines.invariant.every entries rest few are other is) starts other in
-          let read = c.in_ok-line.ensures.every (answer_words n.next) (lines_of answer_words n.others rest) n.lacks_end n.left_is in
-          Next-step entries (length c.loop-lines.table.entries) (length c.add.new.self.entries) c.loop-lines.lines.rest.now rest
-          c.next.new.self.rest.now n one read.1;
+          let f = LinesLeft-begun (c.loop-lines.invariant.every entries rest few are other is) (codes "answer ") starts other in
+          let read = c.in_ok-line.ensures.every (answer_words f.next) (lines_of answer_words f.others rest) (lacks-answer_words f.next f.next_good) f.left_is in
+          FirstLine-step f one read.1;
     }
 
 pub returns-clause-every : goal.returns-clause-every
 returns-clause-every c =
-    let other_line : begins c.loop-lines.lines.rest.now ≡ false = search rules in
-    λ entries rest few are other is. (
-      refl,
-      Left-end entries (length c.loop-lines.table.entries) c.loop-lines.lines.rest.now rest
-          (c.loop-lines.invariant.every entries rest few are other is) other_line,
-    )
+    let over : begins c.loop-lines.lines.rest.now ≡ false = search rules in
+    let none : (entry : Entry) (behind : List ℕ) → ¬ (c.loop-lines.lines.rest.now ≡ line (answer_words entry) behind) =
+    λ entry behind e. true≢false (sym (ap begins e) ∙ over) in
+    λ entries rest few are other is. (refl, LinesLeft-end (c.loop-lines.invariant.every entries rest few are other is) none)

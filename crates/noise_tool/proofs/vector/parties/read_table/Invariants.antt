@@ -3,7 +3,8 @@ use Rattle.std.specs.List.{All}
 use Rattle.noise_handshake.specs.declared.table_keys.Entry.{Entry}
 use Rattle.noise_tool.specs.VectorFile.{IsEntry}
 use Rattle.noise_tool.specs.VectorText.{answer_words, lines_of}
-use Rattle.noise_tool.proofs.PartyLemmas.{begins, Left}
+use Rattle.noise_tool.proofs.LineLemmas.{LinesLeft}
+use Rattle.noise_tool.proofs.PartyLemmas.{begins}
 use Rattle.noise_tool.proofs.vector.parties.read_table.Given as goal
 
 abbrev pub invariant-loop-lines : goal.invariant-loop-lines
@@ -12,7 +13,7 @@ invariant-loop-lines l = record {
   s : l.table.s ≡ l.fn.s;
   text : l.fn.lines.rest.now ≡ lines_of answer_words l.table.entries l.lines.rest.now;
   every : (entries : List Entry) (rest : List ℕ) → length entries ≤ 8 → All IsEntry entries → begins rest ≡ false
-      → l.fn.lines.rest.now ≡ lines_of answer_words entries rest → Left entries (length l.table.entries) l.lines.rest.now rest;
+      → l.fn.lines.rest.now ≡ lines_of answer_words entries rest → LinesLeft answer_words IsEntry 8 (length l.table.entries) l.lines.rest.now rest;
 }
 
 abbrev pub decreases-loop-lines : goal.decreases-loop-lines

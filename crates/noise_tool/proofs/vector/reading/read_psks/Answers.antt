@@ -5,14 +5,10 @@ use Rattle.std.specs.List.{starts_with}
 use Rattle.std.proofs.lemmas.List.{length-append}
 use Rattle.noise_tool.specs.VectorText.{line, lines_of, psk_words}
 use Rattle.noise_tool.specs.Words.{IsKey}
-use Rattle.noise_tool.proofs.LineLemmas.{lines_of-more, not_begun, FirstLine, FirstLine-room, FirstLine-step, LinesLeft, LinesLeft-end, LinesLeft-first, LinesLeft-start}
+use Rattle.noise_tool.proofs.LineLemmas.{lines_of-more, FirstLine-room, FirstLine-step}
+use Rattle.noise_tool.proofs.LineLemmas.{LinesLeft-begun, LinesLeft-end, LinesLeft-start}
 use Rattle.noise_tool.proofs.ReadingLemmas.{psk-plain}
 use Rattle.noise_tool.proofs.vector.reading.read_psks.Goals as goal
-
--- a text that begins so begins with a line that is left
-first : (done : ℕ) (left rest : List ℕ) → LinesLeft psk_words IsKey 9 done left rest → starts_with nat_eq left (codes "psk ") ≡ true
-    → starts_with nat_eq rest (codes "psk ") ≡ false → FirstLine psk_words IsKey 9 done left rest
-first done left rest l begun other = LinesLeft-first l (not_begun (codes "psk ") left rest begun other)
 
 pub loop-lines-init : goal.loop-lines-init
 loop-lines-init c =
@@ -25,7 +21,7 @@ pub returns-in_default-clause-every : goal.returns-in_default-clause-every
 returns-in_default-clause-every c =
     let begun : starts_with nat_eq c.loop-lines.lines.rest.now (codes "psk ") ≡ true = search rules in
     λ psks rest h other e.
-    let f = first (length c.loop-lines.psks.items) c.loop-lines.lines.rest.now rest (c.loop-lines.invariant.1 psks rest h other e) begun other in
+    let f = LinesLeft-begun (c.loop-lines.invariant.1 psks rest h other e) (codes "psk ") begun other in
     let read = c.in_ok-line.ensures.every (psk_words f.next) (lines_of psk_words f.others rest) (psk-plain f.next f.next_good) f.left_is in
     let some = c.in_default.ensures.every f.next f.next_good read.0 in
     absurd (cc (some))
@@ -35,14 +31,14 @@ returns-then-is_err-clause-every c =
     let begun : starts_with nat_eq c.loop-lines.lines.rest.now (codes "psk ") ≡ true = search rules in
     let full : length c.loop-lines.psks.items ≡ 9 = search rules in
     λ psks rest h other e.
-    let f = first (length c.loop-lines.psks.items) c.loop-lines.lines.rest.now rest (c.loop-lines.invariant.1 psks rest h other e) begun other in
+    let f = LinesLeft-begun (c.loop-lines.invariant.1 psks rest h other e) (codes "psk ") begun other in
     absurd (omega (arith, FirstLine-room f))
 
 pub returns-in_err-end-clause-every : goal.returns-in_err-end-clause-every
 returns-in_err-end-clause-every c =
     let begun : starts_with nat_eq c.loop-lines.lines.rest.now (codes "psk ") ≡ true = search rules in
     λ psks rest h other e.
-    let f = first (length c.loop-lines.psks.items) c.loop-lines.lines.rest.now rest (c.loop-lines.invariant.1 psks rest h other e) begun other in
+    let f = LinesLeft-begun (c.loop-lines.invariant.1 psks rest h other e) (codes "psk ") begun other in
     let read = c.in_ok-line.ensures.every (psk_words f.next) (lines_of psk_words f.others rest) (psk-plain f.next f.next_good) f.left_is in
     let ended = c.in_err-end.ensures.ended.1 read.2 in
     absurd (cc (ended))
@@ -58,7 +54,7 @@ loop-lines-preserved c =
           c.loop-lines.psks.items c.in-Some.psk c.loop-lines.invariant.0 (c.in_ok-line.ensures.ended ended) c.in-Some.ensures.text
           ∙ ap (λ (psks : List (List ℕ)). lines_of psk_words psks c.next.new.self.rest.now) (sym pushed),
       λ psks rest h other e.
-          let f = first (length c.loop-lines.psks.items) c.loop-lines.lines.rest.now rest (c.loop-lines.invariant.1 psks rest h other e) begun other in
+          let f = LinesLeft-begun (c.loop-lines.invariant.1 psks rest h other e) (codes "psk ") begun other in
           let read = c.in_ok-line.ensures.every (psk_words f.next) (lines_of psk_words f.others rest) (psk-plain f.next f.next_good) f.left_is in
           FirstLine-step f more read.1,
     )

@@ -4,7 +4,8 @@ use Rattle.std.proofs.lemmas.Result.{err_from_is_err_and}
 use Rattle.noise_tool.specs.VectorFile.{IsVectorFile}
 use Rattle.noise_tool.specs.VectorText.{text_of}
 use Rattle.noise_tool.specs.declared.vector.VectorFile.{VectorFile}
-use Rattle.noise_tool.proofs.VectorLemmas.{behind_block, behind_header, behind_initiator, behind_interval, behind_prologue, behind_protocol, behind_psks, behind_responder, events-few, initiator-ends, own-read, psks-end, responder-ends}
+use Rattle.noise_tool.proofs.VectorLemmas.{behind_block, behind_header, behind_initiator, behind_interval, behind_prologue, behind_protocol}
+use Rattle.noise_tool.proofs.VectorLemmas.{behind_psks, behind_responder, events-few, initiator-ends, own-read, psks-end, responder-ends}
 use Rattle.noise_tool.proofs.vector.reading.read_vector.Goals.{After-read_party, After-read_prologue}
 use Rattle.noise_tool.proofs.vector.reading.read_vector.Goals as goal
 

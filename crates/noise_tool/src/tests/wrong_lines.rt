@@ -1,0 +1,205 @@
+//! Which line of a wrong vector file is told.
+
+use super::tells;
+use std::alloc::{AllocError, Global};
+use std::process::Abort;
+use std::test::Fail;
+
+const PSK: &str = "psk 3333333333333333333333333333333333333333333333333333333333333333";
+
+const ANSWER: &str =
+    "answer e 3333333333333333333333333333333333333333333333333333333333333333 4444444444444444444444444444444444444444444444444444444444444444";
+
+// The lines of a right file with as many psks and answers as there may be.
+const FULL: [&str; 33] = [
+    "vector 1",
+    "protocol Noise_NN_25519_ChaChaPoly_SHA256",
+    "prologue -",
+    "interval 0",
+    PSK,
+    PSK,
+    PSK,
+    PSK,
+    PSK,
+    PSK,
+    PSK,
+    PSK,
+    PSK,
+    "initiator table - -",
+    ANSWER,
+    ANSWER,
+    ANSWER,
+    ANSWER,
+    ANSWER,
+    ANSWER,
+    ANSWER,
+    ANSWER,
+    "responder table - -",
+    ANSWER,
+    ANSWER,
+    ANSWER,
+    ANSWER,
+    ANSWER,
+    ANSWER,
+    ANSWER,
+    ANSWER,
+    "say initiator - -",
+    "say responder - -",
+];
+
+// A line, in front of which line of that file it stands, and which kind of line it is told not to be.
+const WRONG: [(&str, usize, &str); 36] = [
+    ("vector 2", 1, "header"),
+    ("", 1, "header"),
+    ("protocol", 2, "protocol"),
+    ("protocol Noise_NN_25519_AESGCM_SHA256", 2, "protocol"),
+    ("prologue", 3, "prologue"),
+    ("prologue AB", 3, "prologue"),
+    ("interval 0", 3, "prologue"),
+    ("NN:", 3, "prologue"),
+    ("interval 00", 4, "interval"),
+    ("interval +1", 4, "interval"),
+    ("interval 18446744073709551616", 4, "interval"),
+    ("psk -", 5, "psk"),
+    ("psk", 5, "keys"),
+    (PSK, 14, "psk"),
+    ("psk", 14, "keys"),
+    ("initiator", 14, "keys"),
+    ("initiator xor -", 14, "keys"),
+    ("initiator xor - - -", 14, "keys"),
+    ("initiator curve - -", 14, "keys"),
+    ("responder xor - -", 14, "keys"),
+    ("answer e - -", 15, "answer"),
+    ("answer", 15, "keys"),
+    (ANSWER, 23, "answer"),
+    (PSK, 23, "keys"),
+    ("initiator xor - -", 23, "keys"),
+    ("responder table - - ", 23, "keys"),
+    ("answer x", 24, "answer"),
+    (ANSWER, 32, "answer"),
+    ("answer", 32, "event"),
+    ("", 32, "event"),
+    ("say initiator 6869", 32, "event"),
+    ("say nobody 6869 1", 32, "event"),
+    ("say initiator 686 1", 32, "event"),
+    ("say initiator 6869 1,0", 32, "event"),
+    ("say initiator 6869 1,1,1,1,1,1,1,1,1", 32, "event"),
+    ("deliver responder 0 -", 33, "event"),
+];
+
+// The lines of a right file that spells its own pattern.
+const OWN: [&str; 14] = [
+    "vector 1",
+    "protocol Noise_NK1_25519_ChaChaPoly_SHA256",
+    "NK1:",
+    "  <- s",
+    "  ...",
+    "  -> e",
+    "  <- e, ee, es",
+    "end",
+    "prologue -",
+    "interval 0",
+    "initiator xor - -",
+    "responder xor - -",
+    "say initiator - -",
+    "say responder - -",
+];
+
+// Without a heading or messages it is told where they had to stand. Behind a line of xor keys no answer may stand.
+const WRONG_IN_OWN: [(&str, usize, &str); 8] = [
+    ("NK2:", 3, "pattern"),
+    ("NK1", 3, "pattern"),
+    ("end", 3, "pattern"),
+    ("end", 4, "pattern"),
+    ("  <- x", 7, "pattern"),
+    ("  -> psk", 8, "pattern"),
+    ("end", 9, "prologue"),
+    (ANSWER, 12, "keys"),
+];
+
+#[test]
+fn tells_the_first_wrong_line(rt: HostRuntime) -> Result<(), Fail> {
+    tells_each(&rt, rt.alloc(), &FULL, &WRONG)?;
+    tells_each(&rt, rt.alloc(), &OWN, &WRONG_IN_OWN)?;
+    Ok(())
+}
+
+// That each of these wrong lines is told, where it stands in a file of the right ones.
+fn tells_each(
+    rt: &impl Abort,
+    alloc: Global,
+    lines: &[&str],
+    rows: &[(&str, usize, &str)],
+) -> Result<(), AllocError> {
+    for (wrong, number, kind) in rows {
+        let file = file_with(alloc, lines, wrong, *number)?;
+        let told = format!(in alloc; "line {number} {kind}\n")?;
+        tells(rt, alloc, &("talk", file.as_str(), 2, "", told.as_str()))?;
+    }
+    Ok(())
+}
+
+// The file of these lines, with a wrong one in front of that of this number.
+fn file_with(
+    alloc: Global,
+    lines: &[&str],
+    wrong: &str,
+    number: usize,
+) -> Result<String, AllocError> {
+    let mut text = String::new(alloc);
+    for (index, line) in lines.iter().enumerate() {
+        if index + 1 == number {
+            text.push_str(wrong)?;
+            text.push_str("\n")?;
+        }
+        text.push_str(line)?;
+        text.push_str("\n")?;
+    }
+    Ok(text)
+}
+
+// How many bytes the prologue and the payload have, the status, and what is written: a word has at most 65535 bytes, and a message's text too.
+const LONG: [(usize, usize, u8, &str, &str); 3] = [
+    (65536, 0, 2, "", "line 3 prologue\n"),
+    (65535, 65536, 2, "", "line 7 event\n"),
+    (
+        65535,
+        65504,
+        0,
+        "unwritten initiator too-long\nstate initiator handshake 0\nstate responder handshake 0\n",
+        "",
+    ),
+];
+
+const KEYS: &str = "initiator xor 1111111111111111111111111111111111111111111111111111111111111111 -
+responder xor 2222222222222222222222222222222222222222222222222222222222222222 -";
+
+#[test]
+fn tells_that_bytes_are_too_many(rt: HostRuntime) -> Result<(), Fail> {
+    let alloc = rt.alloc();
+    for (prologue, payload, status, out, err) in &LONG {
+        let mut file = String::from_str(
+            alloc,
+            "vector 1\nprotocol Noise_NN_25519_ChaChaPoly_SHA256\nprologue ",
+        )?;
+        push_digits(&mut file, *prologue)?;
+        file.push_str("\ninterval 0\n")?;
+        file.push_str(KEYS)?;
+        file.push_str("\nsay initiator ")?;
+        push_digits(&mut file, *payload)?;
+        file.push_str(" -\n")?;
+        tells(&rt, alloc, &("talk", file.as_str(), *status, out, err))?;
+    }
+    Ok(())
+}
+
+// Appends the digits of so many bytes 0, or a hyphen for none.
+fn push_digits(text: &mut String, count: usize) -> Result<(), AllocError> {
+    if count == 0 {
+        return text.push_str("-");
+    }
+    for _ in 0..count {
+        text.push_str("00")?;
+    }
+    Ok(())
+}
