@@ -10,11 +10,12 @@ use Rattle.noise_names.specs.declared.token.Token.{Token}
 use Rattle.noise_names.specs.declared.token.Token.TheVariants.{E, S, Ee, Es, Se, Ss, Psk}
 use Rattle.noise_names.specs.Tokens.{other}
 use Rattle.noise_names.specs.Plan.{Plan}
-use Rattle.noise_names.specs.Names.{Section, IsSection, section_bytes}
+use Rattle.noise_names.specs.Names.{is_section_byte, Section, IsSection, section_bytes}
 use Rattle.noise_names.specs.Limits.{IsPattern, has_few_tokens}
 use Rattle.noise_names.specs.Text.{word_of, words, token_line, pre_line, pre_lines, message_lines, text_of}
 use Rattle.noise_names.specs.Reading.{is_lower, token_named}
-use Rattle.noise_names.proofs.Sections.{is_section_byte, all_weaker, front_is, one_section, section_all}
+use Rattle.noise_names.specs.Facts.{section_bytes-all}
+use Rattle.noise_names.proofs.Sections.{all_weaker, front_is, one_section}
 
 both : (x y : Bool) → x && y ≡ true → (x ≡ true) × (y ≡ true)
 both true y h = (refl, h)
@@ -200,7 +201,7 @@ no_feed : (c : ℕ) → is_section_byte c ≡ true → not (eqb c 10) ≡ true
 no_feed c h = grind (arith, nat_tests)
 
 heading_all : (s : Section) → IsSection s → list_all (λ c. not (eqb c 10)) (section_bytes s.base s.places ++ codes ":") ≡ true
-heading_all s h = all_push (section_bytes s.base s.places) (all_weaker is_section_byte (λ c. not (eqb c 10)) (section_bytes s.base s.places) no_feed (section_all s h)) where
+heading_all s h = all_push (section_bytes s.base s.places) (all_weaker is_section_byte (λ c. not (eqb c 10)) (section_bytes s.base s.places) no_feed (section_bytes-all s h)) where
   all_push : (xs : List ℕ) → list_all (λ c. not (eqb c 10)) xs ≡ true → list_all (λ c. not (eqb c 10)) (xs ++ codes ":") ≡ true
   all_push [] k = refl
   all_push (x ∷ xs) k = let a = both (not (eqb x 10)) (list_all (λ c. not (eqb c 10)) xs) k in rw (a.0) (all_push xs a.1)

@@ -7,10 +7,11 @@ use Rattle.std.proofs.lemmas.List.{take-append-drop, drop_at, drop-drop}
 use Rattle.std.proofs.lemmas.Slice.Eq.{bytes_eq-Decides}
 use Rattle.noise_names.specs.declared.faults.NameFault.{NameFault}
 use Rattle.noise_names.specs.declared.faults.NameFault.TheVariants.{Length, Prefix, Base, Modifier, ModifierOrder, Algorithm}
-use Rattle.noise_names.specs.Names.{Section, IsSection, Names, modifier, section_bytes, name_bytes, prefix, suffix, section_part, algorithm_part, has_fault, number_of, IsFirstNameFault}
+use Rattle.noise_names.specs.Names.{is_section_byte, Section, IsSection, Names, modifier, section_bytes, name_bytes, prefix, suffix, section_part, algorithm_part, has_fault, number_of, IsFirstNameFault}
 use Rattle.noise_names.specs.Sections.{unless_section_fault, section_in, section_read, name_read}
 use Rattle.noise_names.proofs.Numbers.{places_from-few, are_places-from}
-use Rattle.noise_names.proofs.Sections.{is_section_byte, base_few, front_is, front_split, section_all, section_keeps, section_in-spelled, unless_section_ok, unless_section_err, unless_section_kept, take-front, kept_section, all_weaker}
+use Rattle.noise_names.specs.Facts.{section_bytes-all}
+use Rattle.noise_names.proofs.Sections.{base_few, front_is, front_split, section_keeps, section_in-spelled, unless_section_ok, unless_section_err, unless_section_kept, take-front, kept_section, all_weaker}
 
 -- the faults of a lower number than n do not hold
 lowers : (bytes : List ℕ) (n : ℕ)
@@ -105,7 +106,7 @@ no_underscore x h = at (eqb x 95) refl where
   at false e = refl
 
 part_of : (s : Section) → IsSection s → section_part (name_bytes s) ≡ section_bytes s.base s.places
-part_of s h = front_is (λ b. not (eqb b 95)) (section_bytes s.base s.places) 95 (codes "25519_ChaChaPoly_SHA256") (all_weaker is_section_byte (λ b. not (eqb b 95)) (section_bytes s.base s.places) no_underscore (section_all s h)) refl
+part_of s h = front_is (λ b. not (eqb b 95)) (section_bytes s.base s.places) 95 (codes "25519_ChaChaPoly_SHA256") (all_weaker is_section_byte (λ b. not (eqb b 95)) (section_bytes s.base s.places) no_underscore (section_bytes-all s h)) refl
 
 behind_of : (s : Section) → IsSection s → algorithm_part (name_bytes s) ≡ suffix
 behind_of s h =

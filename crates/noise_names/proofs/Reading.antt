@@ -7,13 +7,13 @@ use Rattle.std.proofs.lemmas.List.{length-map}
 use Rattle.std.proofs.lemmas.List.Folds.{list_any-append, list_all-append}
 use Rattle.noise_names.specs.declared.faults.NameFault.{NameFault}
 use Rattle.noise_names.specs.Plan.{Plan, plain_of, has_psk}
-use Rattle.noise_names.specs.Names.{Section, IsSection, section_bytes, is_base}
+use Rattle.noise_names.specs.Names.{is_section_byte, Section, IsSection, section_bytes, is_base}
 use Rattle.noise_names.specs.Sections.{section_read}
 use Rattle.noise_names.specs.Fundamental.{fundamental_of, fundamentals}
 use Rattle.noise_names.specs.Limits.{IsPattern, HavePsks, HavePsksAt, Placed, first_beyond, with_psk_tokens, has_few_tokens, is_pre_message}
 use Rattle.noise_names.proofs.Fundamentals.{found_map, fundamentals_plain, plain_messages}
 use Rattle.noise_names.proofs.PskTokens.{no_psk_own, own_of_plain}
-use Rattle.noise_names.proofs.Sections.{is_section_byte, all_weaker, front_is, section_read-every}
+use Rattle.noise_names.proofs.Sections.{all_weaker, front_is, section_read-every}
 use Rattle.std.specs.Prelude.{codes, take_while, find, bytes_eq, ⊤}
 use Rattle.std.proofs.Math.Seq.{take-append_seam, drop-append_seam}
 use Rattle.std.proofs.lemmas.Option.{MatchOption-at_some}
@@ -262,22 +262,23 @@ pub length-own : (ms : List (List Token)) → length (map own_tokens ms) ≡ len
 length-own ms = length-map ms own_tokens
 
 -- a heading
-pub heading-parts : (text section lines front back : List ℕ) (n : ℕ) → list_all is_section_byte section ≡ true → text ≡ line (section ++ codes ":") ++ lines → n ≡ length (take_while (λ b. not (eqb b 58)) text) → front ≡ take n text → back ≡ drop n text → (front ≡ section) × (back ≡ codes ":\n" ++ lines)
-heading-parts text section lines front back n all e n_is f b =
+pub heading-parts : (text section behind front back : List ℕ) (n : ℕ) → list_all is_section_byte section ≡ true → text ≡ (section ++ codes ":") ++ behind
+    → n ≡ length (take_while (λ b. not (eqb b 58)) text) → front ≡ take n text → back ≡ drop n text → (front ≡ section) × (back ≡ codes ":" ++ behind)
+heading-parts text section behind front back n all e n_is f b =
     let test : ℕ → Bool = λ c. not (eqb c 58) in
-    let whole : text ≡ section ++ (58 ∷ 10 ∷ lines) = e ∙ append_assoc (section ++ codes ":") (10 ∷ []) lines ∙ append_assoc section (codes ":") (10 ∷ lines) in
+    let whole : text ≡ section ++ (58 ∷ behind) = e ∙ append_assoc section (codes ":") behind in
     let other_bytes : list_all test section ≡ true = all_weaker is_section_byte test section no_colon all in
-    let front_part : take_while test text ≡ section = ap (take_while test) whole ∙ front_is test section 58 (10 ∷ lines) other_bytes refl in
+    let front_part : take_while test text ≡ section = ap (take_while test) whole ∙ front_is test section 58 behind other_bytes refl in
     let n_is_length : n ≡ length section = n_is ∙ ap length front_part in (
-      f ∙ rw (n_is_length, whole) (take-append_seam section (58 ∷ 10 ∷ lines)),
-      b ∙ rw (n_is_length, whole) (drop-append_seam section (58 ∷ 10 ∷ lines)),
+      f ∙ rw (n_is_length, whole) (take-append_seam section (58 ∷ behind)),
+      b ∙ rw (n_is_length, whole) (drop-append_seam section (58 ∷ behind)),
     )
   where
     no_colon : (x : ℕ) → is_section_byte x ≡ true → not (eqb x 58) ≡ true
     no_colon x h = grind (arith, nat_tests)
 
-pub heading-rest : (back lines rest : List ℕ) → back ≡ codes ":\n" ++ lines → back ≡ codes ":\n" ++ rest → rest ≡ lines
-heading-rest back lines rest e f = let same : codes ":\n" ++ lines ≡ codes ":\n" ++ rest = sym e ∙ f in cc
+pub heading-rest : (back behind rest : List ℕ) → back ≡ codes ":" ++ behind → back ≡ codes ":" ++ rest → rest ≡ behind
+heading-rest back behind rest e f = let same : codes ":" ++ behind ≡ codes ":" ++ rest = sym e ∙ f in cc
 
 -- the bytes of a section give it back
 pub section-of : (s : Section) (front : List ℕ) (read : Result Section NameFault) → IsSection s → front ≡ section_bytes s.base s.places → read ≡ section_read front → read ≡ Ok s
@@ -383,8 +384,15 @@ pub differ_from_test : (b : Bool) (n k : ℕ) → b ≡ eqb n k → b ≡ false 
 differ_from_test b n k e t = let same : eqb n k ≡ false = sym e ∙ t in grind (arith, nat_tests)
 
 -- the parts of a text
-pub spelled-parts : (text : List ℕ) (p : Plan) → Spells text p → text ≡ line (section_bytes p.base p.places ++ codes ":") ++ (pre_lines p.initiator p.responder ++ message_lines Initiator p.messages)
-spelled-parts text p h = h.spelled ∙ append_assoc (line (section_bytes p.base p.places ++ codes ":")) (pre_lines p.initiator p.responder) (message_lines Initiator p.messages)
+-- the lines behind the heading of a pattern's text
+abbrev pub lines_behind : Plan → List ℕ
+lines_behind p = pre_lines p.initiator p.responder ++ message_lines Initiator p.messages
+
+pub spelled-parts : (text : List ℕ) (p : Plan) → Spells text p → text ≡ (section_bytes p.base p.places ++ codes ":") ++ 10 ∷ lines_behind p
+spelled-parts text p h =
+    let heading : List ℕ = section_bytes p.base p.places ++ codes ":" in
+    h.spelled ∙ append_assoc (line heading) (pre_lines p.initiator p.responder) (message_lines Initiator p.messages)
+    ∙ append_assoc heading (10 ∷ []) (lines_behind p)
 
 pub pattern-section : (p : Plan) → IsPattern p → IsSection (record { base = p.base; places = p.places })
 pattern-section p h = record { base = h.base; places = h.places }

@@ -40,12 +40,6 @@ front_all test (x ∷ front) all =
     let a : (test x ≡ true) × (list_all test front ≡ true) = both (test x) (list_all test front) all in
     take_while-yes test x front a.0 ∙ ap (λ (xs : List ℕ). x ∷ xs) (front_all test front a.1)
 
-all-append : (test : ℕ → Bool) (xs ys : List ℕ) → list_all test xs ≡ true → list_all test ys ≡ true → list_all test (xs ++ ys) ≡ true
-all-append test [] ys a b = b
-all-append test (x ∷ xs) ys a b =
-    let h : (test x ≡ true) × (list_all test xs ≡ true) = both (test x) (list_all test xs) a in
-    rw (h.0) (all-append test xs ys h.1 b)
-
 pub all_weaker : (test other : ℕ → Bool) (xs : List ℕ) → ((x : ℕ) → test x ≡ true → other x ≡ true) → list_all test xs ≡ true → list_all other xs ≡ true
 all_weaker test other [] each h = refl
 all_weaker test other (x ∷ xs) each h =
@@ -66,32 +60,11 @@ base_few (b ∷ bs) h = let less : length bs < 8 = less_from_test (length bs) 8 
   less_from_test : (m n : ℕ) → ltb m n ≡ true → m < n
   less_from_test m n t = grind (arith, nat_tests)
 
--- the bytes of modifiers: no byte of a base begins them, and no _ or line feed is among them
-abbrev pub is_section_byte : ℕ → Bool
-is_section_byte b = is_base_byte b || (eqb b 43 || (leb 107 b && leb b 115))
-
+-- no byte of a base begins modifiers
 modifiers_begin : (ns : List ℕ) (base : List ℕ) → list_all is_base_byte base ≡ true → base_front (base ++ join_with_byte 43 (map modifier ns)) ≡ base
 modifiers_begin [] base h = rw append-nil (front_all is_base_byte base h)
 modifiers_begin (n ∷ []) base h = front_is is_base_byte base 112 (115 ∷ 107 ∷ (48 + n) ∷ []) h refl
 modifiers_begin (n ∷ m ∷ ns) base h = front_is is_base_byte base 112 (115 ∷ 107 ∷ (48 + n) ∷ 43 ∷ join_with_byte 43 (map modifier (m ∷ ns))) h refl
-
-digit_is_section_byte : (n : ℕ) → n ≤ 8 → is_section_byte (48 + n) ≡ true
-digit_is_section_byte n h = rw (high n h, lower n, upper n h) refl where
-  lower : (m : ℕ) → leb 48 (48 + m) ≡ true
-  lower m = grind (arith, nat_tests)
-
-  upper : (m : ℕ) → m ≤ 8 → leb (48 + m) 57 ≡ true
-  upper m k = grind (arith, nat_tests)
-
-  high : (m : ℕ) → m ≤ 8 → leb 65 (48 + m) ≡ false
-  high m k = grind (arith, nat_tests)
-
-modifiers_bytes : (ns : List ℕ) → are_numbers ns ≡ true → list_all is_section_byte (join_with_byte 43 (map modifier ns)) ≡ true
-modifiers_bytes [] h = refl
-modifiers_bytes (n ∷ []) h = rw (digit_is_section_byte n (le_from_test n 8 (both (leb n 8) true h).0)) refl
-modifiers_bytes (n ∷ m ∷ ns) h =
-    let a = both (leb n 8) (are_numbers (m ∷ ns)) h in
-    rw (digit_is_section_byte n (le_from_test n 8 a.0)) (modifiers_bytes (m ∷ ns) a.1)
 
 places_are_numbers : (ns : List ℕ) → are_places ns ≡ true → are_numbers ns ≡ true
 places_are_numbers ns h = (both (rises ns) (are_numbers ns) h).1
@@ -195,13 +168,6 @@ section_read-every s h = section_keeps s (Ok (section_in (section_bytes s.base s
 -- no bytes spell two sections
 pub one_section : (s t : Section) → IsSection s → IsSection t → section_bytes s.base s.places ≡ section_bytes t.base t.places → s ≡ t
 one_section s t h k e = sym (section_in-spelled s h) ∙ ap section_in e ∙ section_in-spelled t k
-
--- the bytes of a section
-pub section_all : (s : Section) → IsSection s → list_all is_section_byte (section_bytes s.base s.places) ≡ true
-section_all s h =
-    all-append is_section_byte s.base (join_with_byte 43 (map modifier s.places))
-    (all_weaker is_base_byte is_section_byte s.base (λ x k. rw k refl) (base_all s.base h.base))
-    (modifiers_bytes s.places (places_are_numbers s.places h.places))
 
 -- the rest of a reading behind a section
 pub unless_section_err : {A : Type 0} (section : List ℕ) (fault : NameFault) (result : Result A NameFault) → section_read section ≡ Err fault → unless_section_fault section result ≡ Err fault

@@ -12,7 +12,7 @@ use Rattle.noise_names.specs.Limits.{HavePsksAt, with_psk_tokens}
 use Rattle.noise_names.specs.Fundamental.{fundamentals, fundamental_of}
 use Rattle.noise_names.specs.Text.{text_of, line}
 use Rattle.noise_names.specs.Overhead.{overhead_of}
-use Rattle.noise_names.specs.Checking.{first_fault, first_fault_from}
+use Rattle.noise_names.specs.Validity.{first_fault, first_fault_from}
 
 abbrev of : List ℕ → List ℕ → List Token → List Token → List (List Token) → Plan
 of base places initiator responder messages =

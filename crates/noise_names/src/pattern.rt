@@ -88,7 +88,7 @@ impl Model for Pattern {
 
 impl Pattern {
     ghost use Rattle.noise_names.specs.Plan.{Plan, has_psk, pre_of};
-    ghost use Rattle.noise_names.specs.Limits.{IsPattern};
+    ghost use Rattle.noise_names.specs.Limits.{IsPattern, is_pre_message};
 
     // The pattern of these parts.
     pub(crate) fn of(
@@ -119,7 +119,6 @@ impl Pattern {
     /// The base of its name, 1 to 8 bytes.
     pub fn base(&self) -> &[u8]
         ensures same { result.now ≡ self.now.base }
-        ensures limits { IsPattern self.now }
     {
         &self.base
     }
@@ -127,7 +126,6 @@ impl Pattern {
     /// The places of its psk tokens.
     pub fn places(&self) -> &PskPlaces
         ensures same { result.now ≡ self.now.places }
-        ensures limits { IsPattern self.now }
     {
         &self.places
     }
@@ -135,7 +133,7 @@ impl Pattern {
     /// The pre-message of a party: nothing, `e`, `s`, or `e` and `s`.
     pub fn pre(&self, role: Role) -> &[Token]
         ensures same { result.now ≡ pre_of role self.now }
-        ensures limits { IsPattern self.now }
+        ensures kinds { IsTrue (is_pre_message (pre_of role self.now)) }
     {
         match role {
             Role::Initiator => &self.initiator,
@@ -174,6 +172,6 @@ impl Pattern {
     pub fn name(&self) -> ProtocolName
         ensures { result ≡ record { base = self.now.base; places = self.now.places } }
     {
-        ProtocolName::of(self.base(), self.places().copy())
+        ProtocolName::of(&self.base, self.places.copy())
     }
 }
