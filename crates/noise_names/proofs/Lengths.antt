@@ -20,11 +20,14 @@ by_party Responder false a b = refl
 -- an e is of either party
 occurs-e : (places : List Place) → occurs E places ≡ stands Initiator E places || stands Responder E places
 occurs-e [] = refl
-occurs-e (p ∷ places) = ap (λ (b : Bool). is_at E p.step || b) (occurs-e places) ∙ by_party p.party (is_at E p.step) (stands Initiator E places) (stands Responder E places)
+occurs-e (p ∷ places) = ap (λ (b : Bool). is_at E p.step || b) (occurs-e places)
+    ∙ by_party p.party (is_at E p.step) (stands Initiator E places) (stands Responder E places)
 
 key_by-seen_of : (plan : Plan) (earlier : List Place) → key_by (seen_of earlier) (has_psk plan) ≡ has_key plan earlier
 unfolding seen_of
-key_by-seen_of plan earlier = ap (λ (b : Bool). occurs Ee earlier || occurs Es earlier || occurs Se earlier || occurs Ss earlier || occurs Psk earlier || (has_psk plan && b)) (sym (occurs-e earlier))
+key_by-seen_of plan earlier =
+    ap (λ (b : Bool). occurs Ee earlier || occurs Es earlier || occurs Se earlier || occurs Ss earlier || occurs Psk earlier || (has_psk plan && b))
+    (sym (occurs-e earlier))
 
 -- what is kept tells what a place adds
 pub added_by-seen_of : (plan : Plan) (earlier : List Place) (step : Step) → added_by (seen_of earlier) (has_psk plan) step ≡ added_len plan earlier step

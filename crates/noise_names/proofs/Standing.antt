@@ -9,7 +9,8 @@ use Rattle.noise_names.specs.Validity.{IsValid, KeepsRules}
 use Rattle.noise_names.proofs.Checking.{keeps_rules}
 use Rattle.noise_names.specs.Facts.{message_places-append}
 
-token_places-append : (party : Role) (n i : ℕ) (front rest : List Token) → token_places party n i (front ++ rest) ≡ token_places party n i front ++ token_places party n (i + length front) rest
+token_places-append : (party : Role) (n i : ℕ) (front rest : List Token)
+    → token_places party n i (front ++ rest) ≡ token_places party n i front ++ token_places party n (i + length front) rest
 token_places-append party n i [] rest = ap (λ (k : ℕ). token_places party n k rest) (omega arith)
 token_places-append party n i (t ∷ front) rest =
     let count : (i + 1) + length front ≡ i + length (t ∷ front) = omega arith in
@@ -17,8 +18,10 @@ token_places-append party n i (t ∷ front) rest =
     (token_places-append party n (i + 1) front rest ∙ ap (λ (k : ℕ). token_places party n (i + 1) front ++ token_places party n k rest) count)
 
 -- the list of places, cut at a token
-pub places-split : (plan : Plan) (before : List (List Token)) (front : List Token) (token : Token) (back : List Token) (after : List (List Token)) → plan.messages ≡ before ++ (front ++ token ∷ back) ∷ after →
-    (later : List Place) × (places_of plan ≡ places_before plan before front ++ place (turn_from Initiator (length before)) (does token) (length before + 1) (length front) ∷ later)
+pub places-split : (plan : Plan) (before : List (List Token)) (front : List Token) (token : Token) (back : List Token) (after : List (List Token))
+    → plan.messages ≡ before ++ (front ++ token ∷ back) ∷ after →
+    (later : List Place) × (places_of plan
+    ≡ places_before plan before front ++ place (turn_from Initiator (length before)) (does token) (length before + 1) (length front) ∷ later)
 places-split plan before front token back after split =
     let party : Role = turn_from Initiator (length before) in
     let n : ℕ = length before + 1 in
@@ -44,8 +47,10 @@ places-split plan before front token back after split =
     regroup a b c p d e f = simp append_assoc
 
 -- the rules at a token of a valid pattern
-pub rules_at_token : (plan : Plan) (before : List (List Token)) (front : List Token) (token : Token) (back : List Token) (after : List (List Token)) → IsValid plan → plan.messages ≡ before ++ (front ++ token ∷ back) ∷ after →
+pub rules_at_token : (plan : Plan) (before : List (List Token)) (front : List Token) (token : Token) (back : List Token) (after : List (List Token))
+    → IsValid plan → plan.messages ≡ before ++ (front ++ token ∷ back) ∷ after →
     KeepsRules (places_before plan before front) (place (turn_from Initiator (length before)) (does token) (length before + 1) (length front))
 rules_at_token plan before front token back after valid split =
     let h = places-split plan before front token back after split in
-    keeps_rules (places_before plan before front) (place (turn_from Initiator (length before)) (does token) (length before + 1) (length front)) (valid _ _ h.0 h.1)
+    keeps_rules (places_before plan before front) (place (turn_from Initiator (length before)) (does token) (length before + 1) (length front))
+    (valid _ _ h.0 h.1)

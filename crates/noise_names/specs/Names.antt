@@ -1,5 +1,6 @@
 -- Protocol names and their faults (Noise, 8; modifiers, 8.1 and 9.4).
-use Rattle.std.specs.Prelude.{◌≡◌, ℕ, ◌+◌, ◌<◌, ◌==◌, Bool, true, false, not, ◌&&◌, ◌||◌, nat_lt, nat_le, List, [], ◌∷◌, ◌++◌, length, map, take, drop, codes, take_while, slice_index, bytes_eq, IsTrue, IsFalse}
+use Rattle.std.specs.Prelude.{◌≡◌, ℕ, ◌+◌, ◌<◌, ◌==◌, Bool, true, false, not, ◌&&◌, ◌||◌, nat_lt, nat_le, List, [], ◌∷◌, ◌++◌, length, map, take, drop, codes}
+use Rattle.std.specs.Prelude.{take_while, slice_index, bytes_eq, IsTrue, IsFalse}
 use Rattle.std.specs.List.{list_all, join_with_byte, starts_with, slice_split}
 use Rattle.std.specs.Bool.{nat_eq}
 use Rattle.noise_names.specs.declared.faults.NameFault.{NameFault}

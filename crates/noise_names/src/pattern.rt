@@ -79,11 +79,24 @@ impl Model for Pattern {
 
     ghost Value = { Plan };
 
-    ghost view = { λ p. record { base = p.base.items; places = p.places; initiator = p.initiator.items; responder = p.responder.items; messages = p.messages.items } };
+    ghost view = { λ p. record {
+      base = p.base.items;
+      places = p.places;
+      initiator = p.initiator.items;
+      responder = p.responder.items;
+      messages = p.messages.items;
+    } };
 
-    ghost invariant = { λ p. IsPattern (record { base = p.base.items; places = p.places; initiator = p.initiator.items; responder = p.responder.items; messages = p.messages.items }) };
+    ghost invariant = { λ p. IsPattern
+        (record { base = p.base.items; places = p.places; initiator = p.initiator.items; responder = p.responder.items; messages = p.messages.items }) };
 
-    ghost inverse = { λ p. record { base = record { items = p.base }; places = p.places; initiator = record { items = p.initiator }; responder = record { items = p.responder }; messages = record { items = p.messages } } };
+    ghost inverse = { λ p. record {
+      base = record { items = p.base };
+      places = p.places;
+      initiator = record { items = p.initiator };
+      responder = record { items = p.responder };
+      messages = record { items = p.messages };
+    } };
 }
 
 impl Pattern {

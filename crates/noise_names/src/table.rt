@@ -76,7 +76,8 @@ fn row(place: u8) -> Pattern
 
 // The fundamental pattern that has these parts.
 fn plain(base: &[u8], initiator: &[Token], responder: &[Token], messages: &[&[Token]]) -> Pattern
-    requires { fundamental_of base.now ≡ Some (record { base = base.now; places = []; initiator = initiator.now; responder = responder.now; messages = map (λ m. m.now) messages.now }) }
+    requires { fundamental_of base.now
+        ≡ Some (record { base = base.now; places = []; initiator = initiator.now; responder = responder.now; messages = map (λ m. m.now) messages.now }) }
     ensures { result ≡ record { base = base.now; places = []; initiator = initiator.now; responder = responder.now; messages = map (λ m. m.now) messages.now } }
 {
     let mut kept = ArrayVec::new();

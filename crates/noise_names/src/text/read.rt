@@ -1,6 +1,7 @@
 #![tactic(auto)]
 
-ghost use Rattle.std.specs.Prelude.{◌≡◌, ◌↔◌, ◌≤◌, ◌<◌, ◌+◌, ◌++◌, ◌==◌, ℕ, List, [], ◌∷◌, Some, None, IfSome, IfNone, MatchOption, IsTrue, IsFalse, not, codes, false, length, take_while, map};
+ghost use Rattle.std.specs.Prelude.{◌≡◌, ◌↔◌, ◌≤◌, ◌<◌, ◌+◌, ◌++◌, ◌==◌, ℕ, List, [], ◌∷◌, Some, None, IfSome, IfNone, MatchOption, IsTrue, IsFalse, not};
+ghost use Rattle.std.specs.Prelude.{codes, false, length, take_while, map};
 ghost use Rattle.std.specs.List.{list_any, list_all};
 ghost use Rattle.arrayvec.specs.ArrayVec.{array_vec_len};
 ghost use Rattle.noise_names.specs.declared.token.Token.{Token};
@@ -65,7 +66,8 @@ fn section_len(text: &[u8]) -> usize
 fn read_plain(base: &[u8], lines: &[u8]) -> Option<Pattern>
     requires { IsTrue (is_base base.now) }
     ensures plain { IfSome result (λ q. has_psk q ≡ false) }
-    ensures every { (p : Plan) → IsPattern p → p.base ≡ base.now → lines.now ≡ pre_lines p.initiator p.responder ++ message_lines Initiator p.messages → result ≡ Some (plain_of p) }
+    ensures every { (p : Plan) → IsPattern p → p.base ≡ base.now → lines.now ≡ pre_lines p.initiator p.responder ++ message_lines Initiator p.messages
+        → result ≡ Some (plain_of p) }
 {
     match fundamental(base) {
         Some(known) => Some(known),
@@ -78,7 +80,8 @@ fn read_lines(base: &[u8], lines: &[u8]) -> Option<Pattern>
     requires base { IsTrue (is_base base.now) }
     requires unknown { fundamental_of base.now ≡ None }
     ensures plain { IfSome result (λ q. has_psk q ≡ false) }
-    ensures every { (p : Plan) → IsPattern p → p.base ≡ base.now → lines.now ≡ pre_lines p.initiator p.responder ++ message_lines Initiator p.messages → result ≡ Some (plain_of p) }
+    ensures every { (p : Plan) → IsPattern p → p.base ≡ base.now → lines.now ≡ pre_lines p.initiator p.responder ++ message_lines Initiator p.messages
+        → result ≡ Some (plain_of p) }
 {
     let (initiator, responder, lines) = read_pre_messages(lines);
     let messages = read_messages(lines);
@@ -104,7 +107,9 @@ pub(super) fn is_pre_message(tokens: &[Token]) -> bool
 
 // The pre-messages, empty where no line ends them, and the lines behind them.
 fn read_pre_messages(lines: &[u8]) -> (ArrayVec<Token, 8>, ArrayVec<Token, 8>, &[u8])
-    ensures { (i : List Token) (r : List Token) (ms : List (List Token)) → IsTrue (is_pre_message i) → IsTrue (is_pre_message r) → IsTrue (list_all has_few_tokens ms) → lines.now ≡ pre_lines i r ++ message_lines Initiator ms → (result.0.items ≡ i) × (result.1.items ≡ r) × (result.2.now ≡ message_lines Initiator ms) }
+    ensures { (i : List Token) (r : List Token) (ms : List (List Token)) → IsTrue (is_pre_message i) → IsTrue (is_pre_message r)
+        → IsTrue (list_all has_few_tokens ms) → lines.now ≡ pre_lines i r ++ message_lines Initiator ms
+        → (result.0.items ≡ i) × (result.1.items ≡ r) × (result.2.now ≡ message_lines Initiator ms) }
 {
     let (initiator, behind) = read_pre_message(Role::Initiator, lines);
     let (responder, behind) = read_pre_message(Role::Responder, behind);
@@ -116,7 +121,8 @@ fn read_pre_messages(lines: &[u8]) -> (ArrayVec<Token, 8>, ArrayVec<Token, 8>, &
 
 // The tokens of the party's line, none if this is no such line, and the lines behind it.
 fn read_pre_message(role: Role, lines: &[u8]) -> (ArrayVec<Token, 8>, &[u8])
-    ensures there { (t : Token) (ts : List Token) (more : List ℕ) → length (own_tokens (t ∷ ts)) ≤ 8 → lines.now ≡ token_line role (t ∷ ts) ++ more → (result.0.items ≡ own_tokens (t ∷ ts)) × (result.1.now ≡ more) }
+    ensures there { (t : Token) (ts : List Token) (more : List ℕ) → length (own_tokens (t ∷ ts)) ≤ 8 → lines.now ≡ token_line role (t ∷ ts) ++ more
+        → (result.0.items ≡ own_tokens (t ∷ ts)) × (result.1.now ≡ more) }
     ensures absent { ((rest : List ℕ) → lines.now ≡ codes "  " ++ (arrow_of role ++ rest) → ⊥) → (result.0.items ≡ []) × (result.1.now ≡ lines.now) }
 {
     match read_line(role, lines) {
@@ -130,7 +136,8 @@ fn read_messages(lines: &[u8]) -> ArrayVec<Message, 8>
     ensures plain { list_any (λ tokens. list_any is_psk tokens) result.items ≡ false }
     ensures sizes { IsTrue (list_all has_few_tokens result.items) }
     ensures few { array_vec_len result ≤ 8 }
-    ensures every { (ms : List (List Token)) → length ms ≤ 8 → IsTrue (list_all has_few_tokens ms) → lines.now ≡ message_lines Initiator ms → result.items ≡ map own_tokens ms }
+    ensures every { (ms : List (List Token)) → length ms ≤ 8 → IsTrue (list_all has_few_tokens ms) → lines.now ≡ message_lines Initiator ms
+        → result.items ≡ map own_tokens ms }
 {
     let mut messages = ArrayVec::new();
     let mut role = Role::Initiator;
@@ -179,7 +186,8 @@ pub(super) fn read_arrow(line: &[u8]) -> Option<(Role, &[u8])>
 fn read_words(list: &[u8]) -> (ArrayVec<Token, 8>, &[u8])
     ensures plain { list_any is_psk result.0.items ≡ false }
     ensures shorter { length result.1.now ≤ length list.now }
-    ensures every { (t : Token) (ts : List Token) (more : List ℕ) → length (own_tokens (t ∷ ts)) ≤ 8 → list.now ≡ words (t ∷ ts) ++ 10 ∷ more → (result.0.items ≡ own_tokens (t ∷ ts)) × (result.1.now ≡ 10 ∷ more) }
+    ensures every { (t : Token) (ts : List Token) (more : List ℕ) → length (own_tokens (t ∷ ts)) ≤ 8 → list.now ≡ words (t ∷ ts) ++ 10 ∷ more
+        → (result.0.items ≡ own_tokens (t ∷ ts)) × (result.1.now ≡ 10 ∷ more) }
 {
     let mut tokens = ArrayVec::new();
     let mut left = list;
@@ -209,7 +217,8 @@ fn keep(tokens: &mut ArrayVec<Token, 8>, token: Token)
 // The token whose word stands in front, and what stands behind that.
 pub(super) fn first_word(list: &[u8]) -> Option<(Token, &[u8])>
     ensures shorter { IfSome result (λ r. length r.1.now ≤ length list.now) }
-    ensures every { (t : Token) (b : ℕ) (more : List ℕ) → is_lower b ≡ false → list.now ≡ word_of t ++ b ∷ more → MatchOption result (Unit {0} → ⊥) (λ r. (r.0 ≡ t) × (r.1.now ≡ b ∷ more)) }
+    ensures every { (t : Token) (b : ℕ) (more : List ℕ) → is_lower b ≡ false → list.now ≡ word_of t ++ b ∷ more
+        → MatchOption result (Unit {0} → ⊥) (λ r. (r.0 ≡ t) × (r.1.now ≡ b ∷ more)) }
 {
     let (word, behind) = list.split_at(word_len(list));
     Some((Token::named(word)?, behind))
