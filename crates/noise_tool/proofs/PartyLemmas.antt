@@ -6,7 +6,7 @@ use Rattle.std.proofs.lemmas.List.{append_cancel_left}
 use Rattle.std.proofs.lemmas.List.Elements.{All-head, All-tail}
 use Rattle.hex.specs.Hex.{encode_lower}
 use Rattle.noise_names.specs.declared.token.Role.{Role}
-use Rattle.noise_handshake.specs.declared.table_keys.Entry.{Entry}
+use Rattle.noise_handshake.specs.Table.{TableEntry}
 use Rattle.noise_handshake.specs.Table as Tables
 use Rattle.noise_tool.specs.VectorFile.{AreKeys, IsEntry}
 use Rattle.noise_tool.specs.VectorText.{answer_words, key_word, key_words, line, lines_of, own_word, party_text, role_word}
@@ -26,12 +26,12 @@ lacks-key_words e s he hs =
 
 -- ---- an answer's line
 
-lacks-answer_keys : (entry : Entry) → IsEntry entry → lacks 10 (encode_lower entry.remote ++ 32 ∷ encode_lower entry.answer) ≡ true
+lacks-answer_keys : (entry : TableEntry) → IsEntry entry → lacks 10 (encode_lower entry.remote ++ 32 ∷ encode_lower entry.answer) ≡ true
 lacks-answer_keys entry h =
     lacks-append 10 (encode_lower entry.remote) (32 ∷ encode_lower entry.answer)
     (lacks-encode_lower 10 entry.remote (lit< tt) h.0.1) (lacks-encode_lower 10 entry.answer (lit< tt) h.1.1)
 
-lacks-answer_words : (entry : Entry) → IsEntry entry → lacks 10 (answer_words entry) ≡ true
+lacks-answer_words : (entry : TableEntry) → IsEntry entry → lacks 10 (answer_words entry) ≡ true
 lacks-answer_words entry h =
     lacks-append 10 (own_word entry.own) (32 ∷ (encode_lower entry.remote ++ 32 ∷ encode_lower entry.answer))
     (own_word-plain entry.own).0 (lacks-answer_keys entry h)
@@ -41,7 +41,7 @@ abbrev pub Splits : List ℕ → List ℕ → List ℕ → Type 0
 Splits text first behind = (b h : List ℕ) → lacks 32 b ≡ true → text ≡ b ++ 32 ∷ h → (first ≡ b) × (behind ≡ h)
 
 -- the keys behind the name of the key pair
-pub answer-keys : (line front rest own keys : List ℕ) (entry : Entry) → front ≡ codes "answer " → line ≡ front ++ rest → Splits rest own keys
+pub answer-keys : (line front rest own keys : List ℕ) (entry : TableEntry) → front ≡ codes "answer " → line ≡ front ++ rest → Splits rest own keys
     → line ≡ answer_words entry → keys ≡ encode_lower entry.remote ++ 32 ∷ encode_lower entry.answer
 answer-keys line front rest own keys entry front_is split every e =
     let whole : line ≡ codes "answer " ++ rest = split ∙ ap (λ (t : List ℕ). t ++ rest) front_is in
@@ -52,16 +52,16 @@ answer-keys line front rest own keys entry front_is split every e =
 -- ---- the answers of a table
 
 -- of all entries so many are done, and the lines of the others are what is left, before the rest
-pub record Left (all : List Entry) (done : ℕ) (left rest : List ℕ) : Type 0 where
-  pub others : List Entry
+pub record Left (all : List TableEntry) (done : ℕ) (left rest : List ℕ) : Type 0 where
+  pub others : List TableEntry
   pub count : done + length others ≡ length all
   pub left_is : left ≡ lines_of answer_words others rest
   pub others_are : All IsEntry others
 
 -- the next line is that of an entry
-pub record Next (all : List Entry) (done : ℕ) (left rest : List ℕ) : Type 0 where
-  pub next : Entry
-  pub others : List Entry
+pub record Next (all : List TableEntry) (done : ℕ) (left rest : List ℕ) : Type 0 where
+  pub next : TableEntry
+  pub others : List TableEntry
   pub count : done + 1 + length others ≡ length all
   pub left_is : left ≡ line (answer_words next) (lines_of answer_words others rest)
   pub lacks_end : lacks 10 (answer_words next) ≡ true
@@ -72,7 +72,7 @@ pub record Next (all : List Entry) (done : ℕ) (left rest : List ℕ) : Type 0 
 abbrev pub begins : List ℕ → Bool
 begins text = starts_with nat_eq text (codes "answer ")
 
-next-of : (all : List Entry) (done : ℕ) (left rest : List ℕ) (others : List Entry) → done + length others ≡ length all
+next-of : (all : List TableEntry) (done : ℕ) (left rest : List ℕ) (others : List TableEntry) → done + length others ≡ length all
     → left ≡ lines_of answer_words others rest → All IsEntry others → begins left ≡ true → begins rest ≡ false → Next all done left rest
 next-of all done left rest [] count left_is h starts behind =
     let same : begins left ≡ begins rest = ap begins left_is in
@@ -88,31 +88,31 @@ next-of all done left rest (x ∷ xs) count left_is h starts behind = record {
 }
 
 -- where what is left begins as an answer's line does, and the rest doesn't
-pub Left-next : (all : List Entry) (done : ℕ) (left rest : List ℕ) → Left all done left rest → begins left ≡ true → begins rest ≡ false
+pub Left-next : (all : List TableEntry) (done : ℕ) (left rest : List ℕ) → Left all done left rest → begins left ≡ true → begins rest ≡ false
     → Next all done left rest
 Left-next all done left rest l starts behind = next-of all done left rest l.others l.count l.left_is l.others_are starts behind
 
 -- there is room for it in a table
-pub Next-room : (all : List Entry) (done : ℕ) (left rest : List ℕ) → Next all done left rest → length all ≤ 8 → done < 8
+pub Next-room : (all : List TableEntry) (done : ℕ) (left rest : List ℕ) → Next all done left rest → length all ≤ 8 → done < 8
 Next-room all done left rest n few =
     let count = n.count in
     omega arith
 
 -- where it is read, one entry more is done
-pub Next-step : (all : List Entry) (done more : ℕ) (left rest behind : List ℕ) → (n : Next all done left rest) → more ≡ done + 1
+pub Next-step : (all : List TableEntry) (done more : ℕ) (left rest behind : List ℕ) → (n : Next all done left rest) → more ≡ done + 1
     → behind ≡ lines_of answer_words n.others rest → Left all more behind rest
 Next-step all done more left rest behind n one e =
     let count = n.count in
     record { others = n.others; count = omega arith; left_is = e; others_are = n.others_are }
 
-end-of : (left rest : List ℕ) (others : List Entry) → left ≡ lines_of answer_words others rest → begins left ≡ false → left ≡ rest
+end-of : (left rest : List ℕ) (others : List TableEntry) → left ≡ lines_of answer_words others rest → begins left ≡ false → left ≡ rest
 end-of left rest [] e other = e
 end-of left rest (x ∷ xs) e other =
     let same : begins left ≡ true = ap begins e in
     absurd (cc (other, same))
 
 -- where what is left doesn't begin so, it is the rest
-pub Left-end : (all : List Entry) (done : ℕ) (left rest : List ℕ) → Left all done left rest → begins left ≡ false → left ≡ rest
+pub Left-end : (all : List TableEntry) (done : ℕ) (left rest : List ℕ) → Left all done left rest → begins left ≡ false → left ≡ rest
 Left-end all done left rest l other = end-of left rest l.others l.left_is other
 
 -- ---- a party's line
