@@ -58,9 +58,13 @@ token_of Static = S
 abbrev pub lacks_own : Plan → Role → Token → Option (List ℕ) → Bool
 lacks_own p role t key = stands role t (places_of p) && is_none key
 
+-- whether a token is among these
+abbrev pub has_token : Token → List Token → Bool
+has_token t tokens = list_any (λ u. same_token u t) tokens
+
 -- whether a party's pre-message has token t
 abbrev pub has_before : Plan → Role → Token → Bool
-has_before p role t = list_any (λ u. same_token u t) (pre_of role p)
+has_before p role t = has_token t (pre_of role p)
 
 -- whether a key of the other party's pre-message isn't there
 abbrev pub lacks_remote : Plan → Role → Remote → Bool

@@ -1,5 +1,6 @@
 -- What one party of a handshake knows, which messages it accepts, and where it refuses the others.
-use Rattle.std.specs.Prelude.{◌≡◌, ℕ, zero, suc, ◌<◌, ◌≤◌, List, [], ◌∷◌, ◌++◌, length, take, Bool, false, Option, Some, None, is_some, if◌then◌else◌, nat_lt, unwrap_or}
+use Rattle.std.specs.Prelude.{◌≡◌, ℕ, zero, suc, ◌<◌, ◌≤◌, nat_lt, List, [], ◌∷◌, ◌++◌, length, take, Bool, false, if◌then◌else◌}
+use Rattle.std.specs.Prelude.{Option, Some, None, is_some, unwrap_or}
 use Rattle.noise_names.specs.declared.token.Token.{Token}
 use Rattle.noise_names.specs.declared.token.Token.TheVariants.{E, S, Es, Se, Ss, Psk}
 use Rattle.noise_names.specs.declared.token.Role.{Role}
@@ -134,7 +135,8 @@ pub record Speaks (v : View) : Type 0 where
   pub turn : turn_from Initiator v.passed ≡ v.role
 
 -- The message begins as some sender's tokens would that carry these texts, and this is left of it.
-pub record Leads (v : Reader) (known : Remote) (secrets : List (List ℕ)) (r : History) (ts : List Token) (xs : List (List ℕ)) (message rest : List ℕ) : Type 0 where
+pub record Leads (v : Reader) (known : Remote) (secrets : List (List ℕ)) (r : History) (ts : List Token) (xs : List (List ℕ))
+    (message rest : List ℕ) : Type 0 where
   pub fit : Fit v known secrets ts xs
   pub spelled : message ≡ front v.psks r ts xs ++ rest
 
@@ -157,13 +159,15 @@ cause_at keyed (t ∷ ts) zero rest = cause_of keyed t rest
 cause_at keyed (t ∷ ts) (suc k) rest = cause_at keyed ts k rest
 
 -- The message is one whose tokens carry these texts, with this payload.
-pub record Reads (v : Reader) (known : Remote) (secrets : List (List ℕ)) (r : History) (ts : List Token) (message : List ℕ) (xs : List (List ℕ)) (payload : List ℕ) : Type 0 where
+pub record Reads (v : Reader) (known : Remote) (secrets : List (List ℕ)) (r : History) (ts : List Token) (message : List ℕ)
+    (xs : List (List ℕ)) (payload : List ℕ) : Type 0 where
   pub fit : Fit v known secrets ts xs
   pub spelled : message ≡ line v.psks r ts xs payload
 
 -- Reading stops at token k: some sender's tokens before it lead there, and none's lead further. The payload counts as the token
 -- after the last.
-pub record Stops (v : Reader) (known : Remote) (secrets : List (List ℕ)) (r : History) (ts : List Token) (message : List ℕ) (k : ℕ) (cause : Cause) : Type 0 where
+pub record Stops (v : Reader) (known : Remote) (secrets : List (List ℕ)) (r : History) (ts : List Token) (message : List ℕ)
+    (k : ℕ) (cause : Cause) : Type 0 where
   pub within : k ≤ length ts
   pub carried : List (List ℕ)
   pub rest : List ℕ

@@ -49,6 +49,8 @@ impl<K: Keys> Model for Handshake<K> {
 }
 
 impl<K: Keys> Handshake<K> {
+    ghost use Rattle.noise_names.specs.Limits.{IsPattern};
+    ghost use Rattle.noise_names.specs.Validity.{IsValid};
     ghost use Rattle.noise_state.specs.History.{hash};
     ghost use Rattle.noise_handshake.specs.View.{View, Accepts};
     ghost use Rattle.noise_handshake.specs.Held.{is_turn, read_fault, behind_read_fault, write_fault, behind_write_fault, message_len_of, IsRefusal, IsAgreement, Advances};
@@ -98,8 +100,11 @@ impl<K: Keys> Handshake<K> {
 
     /// The pattern, with the tokens of its messages.
     pub fn pattern(&self) -> &ValidPattern
-        ensures { result.now ≡ self.now.pattern }
+        ensures same { result.now ≡ self.now.pattern }
+        ensures valid { IsValid self.now.pattern }
+        ensures limits { IsPattern self.now.pattern }
     {
+        let _ = self.pattern.pattern().messages();
         &self.pattern
     }
 

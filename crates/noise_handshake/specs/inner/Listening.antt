@@ -18,7 +18,8 @@ abbrev pub width_of_key : History → ℕ
 width_of_key r = if is_some (cipher_key r) then 48 else 32
 
 -- A party that listens, with these parts, for a view.
-pub record Listening (v : View) (role : Role) (psks : Bool) (agree : Own → List ℕ → Option (List ℕ)) (secrets : List (List ℕ)) (known : Remote) (tokens : List Token) : Type 0 where
+pub record Listening (v : View) (role : Role) (psks : Bool) (agree : Own → List ℕ → Option (List ℕ))
+    (secrets : List (List ℕ)) (known : Remote) (tokens : List Token) : Type 0 where
   pub listens : Listens v
   pub role_is : role ≡ v.role
   pub psks_is : psks ≡ has_psk v.pattern
