@@ -13,7 +13,7 @@ use Rattle.noise_names.specs.Validity.{is_at, stands}
 use Rattle.noise_handshake.specs.declared.keys.Own.{Own}
 use Rattle.noise_handshake.specs.declared.keys.Own.TheVariants.{Ephemeral, Static}
 use Rattle.noise_handshake.specs.View.{tokens_at}
-use Rattle.noise_handshake.specs.Writing.{has_own}
+use Rattle.noise_handshake.specs.inner.Speaking.{has_own}
 
 -- whether a token is among these
 abbrev pub has_token : Token → List Token → Bool

@@ -13,7 +13,8 @@ use Rattle.noise_handshake.specs.declared.keys.Own.TheVariants.{Ephemeral, Stati
 use Rattle.noise_handshake.specs.declared.remote.Remote.{Remote}
 use Rattle.noise_handshake.specs.declared.faults.SetupFault.{SetupFault}
 use Rattle.noise_handshake.specs.declared.faults.SetupFault.TheVariants.{EphemeralMissing, StaticMissing, RemoteMissing, RemoteUnexpected, PskCount}
-use Rattle.noise_handshake.specs.Setup.{HasPre, keys_of, public_keys, secrets_of, setup_fault, lacks_own, lacks_remote, has_unexpected, has_before}
+use Rattle.noise_handshake.specs.Setup.{keys_of, public_keys, secrets_of, setup_fault, lacks_own, lacks_remote, has_unexpected, has_before}
+use Rattle.noise_handshake.specs.inner.PreMessage.{HasPre}
 use Rattle.noise_handshake.proofs.Uses.{stands-places_of}
 
 pub flips : (b x : Bool) → (IsTrue b ↔ IsFalse x) → not b ≡ x

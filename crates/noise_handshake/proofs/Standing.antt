@@ -14,7 +14,8 @@ use Rattle.noise_handshake.specs.declared.remote.Remote.{Remote}
 use Rattle.noise_handshake.specs.declared.faults.ReadFault.{ReadFault}
 use Rattle.noise_handshake.specs.declared.faults.ReadFault.TheVariants as read
 use Rattle.noise_handshake.specs.Line.{behind_line}
-use Rattle.noise_handshake.specs.View.{View, Listens, Listening, learned, tokens_at, tokens_now}
+use Rattle.noise_handshake.specs.View.{View, Listens, learned, tokens_at, tokens_now}
+use Rattle.noise_handshake.specs.inner.Listening.{Listening}
 use Rattle.noise_handshake.specs.Held.{Held, read_fault, is_turn}
 use Rattle.noise_handshake.specs.Party.{Stands, behind_message, over}
 

@@ -5,7 +5,7 @@ use Rattle.std.specs.Prelude.{Bool, true, false, is_some, if◌then◌else◌, n
 use Rattle.noise_state.specs.History.{History, cipher_key, piece}
 use Rattle.noise_state.proofs.Pieces.{length-piece}
 use Rattle.noise_handshake.specs.declared.faults.Cause.TheVariants.{Short, Tag}
-use Rattle.noise_handshake.specs.View.{width_of_key}
+use Rattle.noise_handshake.specs.inner.Listening.{width_of_key}
 
 wide : (k : Bool) (n : ℕ) → n ≡ 32 → (if k then n + 16 else n) ≡ (if k then 48 else 32)
 wide true n e = omega arith

@@ -17,9 +17,9 @@ use Rattle.noise_handshake.specs.declared.faults.WriteFault.TheVariants as write
 use Rattle.noise_handshake.specs.Line.{behind_line}
 use Rattle.noise_handshake.specs.Length.{added_width}
 use Rattle.noise_handshake.specs.View.{View, Speaks, tokens_at, tokens_now}
-use Rattle.noise_handshake.specs.Writing.{Speaking, has_own}
+use Rattle.noise_handshake.specs.inner.Speaking.{Speaking, has_own}
 use Rattle.noise_handshake.specs.Held.{Held, write_fault, is_turn, length_now, length_unless, message_len_of}
-use Rattle.noise_handshake.specs.Sound.{IsSound}
+use Rattle.noise_handshake.specs.inner.Sound.{IsSound}
 use Rattle.noise_handshake.specs.Passed.{passed_places}
 use Rattle.noise_handshake.specs.Party.{Stands, behind_own}
 use Rattle.noise_handshake.proofs.Owned.{owned}

@@ -1,5 +1,5 @@
 -- How a handshake starts, and what is wrong with a setup (Noise 5.3, 9.2).
-use Rattle.std.specs.Prelude.{◌≡◌, ℕ, ◌+◌, ◌==◌, List, [], ◌∷◌, Bool, true, false, not, ◌&&◌, ◌||◌, Option, Some, None, is_some, is_none, count_by, if◌then◌else◌}
+use Rattle.std.specs.Prelude.{ℕ, ◌+◌, ◌==◌, List, [], ◌∷◌, Bool, false, not, ◌&&◌, ◌||◌, Option, Some, None, is_some, is_none, count_by, if◌then◌else◌}
 use Rattle.std.specs.List.{list_any}
 use Rattle.noise_names.specs.declared.token.Role.{Role}
 use Rattle.noise_names.specs.declared.token.Role.TheVariants.{Initiator, Responder}
@@ -79,8 +79,3 @@ setup_fault p role own remote secrets =
     else if has_unexpected p role remote then Some RemoteUnexpected
     else if not (secrets == secrets_of p.messages) then Some PskCount
     else None
-
--- these are the keys of the party's pre-message
-pub record HasPre (p : Plan) (party : Role) (keys : Remote) : Type 0 where
-  pub e : has_before p party E ≡ true → is_some keys.e ≡ true
-  pub s : has_before p party S ≡ true → is_some keys.s ≡ true

@@ -38,8 +38,8 @@ impl<K: Keys> Model for Handshake<K> {
     ghost use Rattle.std.specs.Prelude.{◌≡◌, ◌≤◌, length, drop};
     ghost use Rattle.noise_names.specs.Plan.{has_psk};
     ghost use Rattle.noise_handshake.specs.Held.{Held};
-    ghost use Rattle.noise_handshake.specs.Known.{KnowsRemote};
-    ghost use Rattle.noise_handshake.specs.Sound.{IsSound};
+    ghost use Rattle.noise_handshake.specs.inner.Known.{KnowsRemote};
+    ghost use Rattle.noise_handshake.specs.inner.Sound.{IsSound};
 
     ghost Value = { Held K };
 

@@ -5,9 +5,10 @@ ghost use Rattle.std.specs.Prelude.{◌≡◌, ◌≤◌, ◌<◌, ◌+◌, ◌-
 ghost use Rattle.noise_state.specs.Standing.{StateStands, keyed, nonce_now};
 ghost use Rattle.noise_state.specs.History.{History, Part, and_then, piece, cipher_key, nonce};
 ghost use Rattle.noise_handshake.specs.Line.{with_ephemeral, token_piece, behind_token, front, behind_front, behind_line};
-ghost use Rattle.noise_handshake.specs.Known.{is_known, are_known, e_behind, s_behind, e_behind_tokens, s_behind_tokens};
+ghost use Rattle.noise_handshake.specs.inner.Known.{is_known, are_known, e_behind, s_behind, e_behind_tokens, s_behind_tokens};
 ghost use Rattle.noise_handshake.specs.Length.{keyed_behind, keyed_behind_tokens};
-ghost use Rattle.noise_handshake.specs.View.{View, Accepts, Refuses, Listening, Reader, answered, own_at, remote_at, Fits, Fit, Leads, Reaches, Stops, Fails, known_behind, learned, Reads, Stalls, cause_of, width_of_key, secrets_behind};
+ghost use Rattle.noise_handshake.specs.View.{View, Accepts, Refuses, Reader, answered, own_at, remote_at, Fits, Fit, Leads, Reaches, Stops, known_behind, learned, Reads, cause_of, secrets_behind};
+ghost use Rattle.noise_handshake.specs.inner.Listening.{Listening, Fails, width_of_key};
 ghost use Rattle.noise_names.specs.declared.token.Token.{Token};
 ghost use Rattle.noise_names.specs.Tokens.{is_psk};
 ghost use Rattle.noise_names.specs.declared.token.Role.{Role};
@@ -205,7 +206,7 @@ pub(crate) fn read_message<K: Keys>(
     ensures nonce { nonce_now state.new ≤ nonce_now state.old + length tokens.now + 1 }
     ensures read { (r : History) → StateStands state.old r → let v : Reader = record { role = role; psks = psks; agree = K.agreement keys.now } in MatchResult result
         (λ place. let payload = slice_range message.new place.0 place.1 in (xs : List (List ℕ)) × Reads v known.old secrets.now r tokens.now message.old xs payload × StateStands state.new (behind_line psks r tokens.now xs payload) × (known.new ≡ learned known.old tokens.now xs))
-        (λ stop. Stalls v known.old secrets.now r tokens.now message.old stop.0 stop.1) }
+        (λ stop. Stops v known.old secrets.now r tokens.now message.old stop.0 stop.1) }
     ensures unchanged { OnErr result (message.new ≡ message.old) }
 {
     let from = match read_tokens(state, keys, role, psks, secrets, known, tokens, message) {

@@ -5,7 +5,7 @@ ghost use Rattle.std.specs.Prelude.{◌≡◌, ◌<◌, ◌≤◌, length, is_so
 ghost use Rattle.noise_names.specs.declared.token.Token.{Token};
 ghost use Rattle.noise_state.specs.Standing.{StateStands, keyed, nonce_now};
 ghost use Rattle.noise_state.specs.History.{History};
-ghost use Rattle.noise_handshake.specs.Known.{remote_known};
+ghost use Rattle.noise_handshake.specs.inner.Known.{remote_known};
 ghost use Rattle.noise_handshake.specs.Length.{keyed_behind};
 ghost use Rattle.noise_handshake.specs.Line.{with_ephemeral};
 ghost use Rattle.noise_handshake.specs.View.{answered, own_at, remote_at, secrets_behind};

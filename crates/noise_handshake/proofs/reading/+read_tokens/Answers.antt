@@ -42,7 +42,7 @@ returns-in-Err-read_tokens-clause-read g t c r s =
     let i = c.in-Err-read_tokens.ensures.read (behind_token c.args.psks r token d.0) d.3 in
     let goes = take_all (length m - n) (drop n m) (omega (arith, length-drop n m)) in
     stopped-later v c.args.known.now c.read_token.new.known c.args.secrets.now c.secrets_behind-others.result.now r c.args.tokens.now c.in-Some.later.now token d.0 m (take (length m - n) (drop n m)) n
-    c.in-Some.ensures.cases.0 d.1 d.2 d.4 c.secrets_behind-others.ensures goes c.in-Err-read_tokens.k c.in-Err-read_tokens.cause i
+    c.in-Some.ensures.cases.0 d.1 d.2 d.4 c.secrets_behind-others.ensures goes c.in-Err-read_tokens.k c.in-Err-read_tokens.cause c.in-Err-read_tokens.ensures.range i
 
 pub returns-in_default-clause-read : goal.returns-in_default-clause-read
 returns-in_default-clause-read g t c r s =

@@ -6,7 +6,7 @@ use Rattle.noise_state.specs.History.{History, Part, and_then, piece, nonce}
 use Rattle.noise_handshake.specs.Line.{behind_front}
 use Rattle.noise_handshake.specs.View.{Reader}
 use Rattle.noise_handshake.specs.declared.faults.Cause.TheVariants.{Short, Tag}
-use Rattle.noise_handshake.proofs.Apart.{reads-whole, stalls-last}
+use Rattle.noise_handshake.proofs.Apart.{reads-whole, stops-last}
 use Rattle.noise_handshake.proofs.Steps.{written-at}
 use Rattle.noise_handshake.proofs.reading.read_message.Goals as goal
 
@@ -40,5 +40,5 @@ returns-in-Err-Short-clause-read g c r s =
     let nonces : nonce behind < 2 ^ 64 - 1 = omega (arith, nonce_now-is c.read_tokens.new.state behind i.2, c.read_tokens.ensures.nonce) in
     let d = c.in-Err-Short.ensures.err behind i.2 nonces (omega (arith, length-drop n m, length-take (length m - n) (drop n m))) in
     let goes : take (length m - n) (drop n m) ≡ drop n m = take_all (length m - n) (drop n m) (omega (arith, length-drop n m)) in
-    stalls-last v c.args.known.now c.args.secrets.now r c.args.tokens.now m i.0 (drop n m) c.end_cause.result i.1 (λ payload e. d.0 payload (goes ∙ e))
+    stops-last v c.args.known.now c.args.secrets.now r c.args.tokens.now m i.0 (drop n m) c.end_cause.result i.1 (λ payload e. d.0 payload (goes ∙ e))
     (c.end_cause.ensures ∙ ap (λ (k : ℕ). if nat_lt k 16 then Short else Tag) (sym (length-drop n m)))

@@ -10,7 +10,7 @@ use Rattle.noise_handshake.specs.Party.{Stands}
 use Rattle.noise_handshake.specs.View.{tokens_at, tokens_now}
 use Rattle.noise_handshake.proofs.Keeping.{enough, sound-behind}
 use Rattle.noise_handshake.proofs.Knowing.{reading-known, knows-read}
-use Rattle.noise_handshake.specs.Known.{are_known}
+use Rattle.noise_handshake.specs.inner.Known.{are_known}
 use Rattle.noise_handshake.proofs.Standing.{due, tokens-are, listening, listens, behind, ends}
 use Rattle.noise_handshake.proofs.Views.{tokens_at-index, items-from}
 use Rattle.noise_handshake.proofs.handshake.Handshake.read_within.Goals as goal

@@ -12,7 +12,7 @@ use Rattle.noise_handshake.specs.View.{tokens_at, tokens_now}
 use Rattle.noise_handshake.proofs.Keeping.{enough, sound-behind}
 use Rattle.std.specs.List.{list_all}
 use Rattle.noise_handshake.proofs.Knowing.{writing-known, knows-wrote}
-use Rattle.noise_handshake.specs.Known.{is_known}
+use Rattle.noise_handshake.specs.inner.Known.{is_known}
 use Rattle.noise_handshake.proofs.Standing.{tokens-are, ends}
 use Rattle.noise_handshake.proofs.Views.{tokens_at-index, items-from}
 use Rattle.noise_handshake.proofs.Wrote.{writes-due, writes-turn, writes-short, writes-length, writes-added, writes-own, speaking, short-view, wrote}
