@@ -3,7 +3,7 @@ use Rattle.std.proofs.Common.{◌≡◌, ℕ, ◌+◌, ◌<◌, ◌≤◌, List,
 use Rattle.std.proofs.Math.Seq.{take-append_seam}
 use Rattle.std.specs.Prelude.{Bool, true, false, is_some, if◌then◌else◌, nat_lt}
 use Rattle.noise_state.specs.History.{History, cipher_key, piece}
-use Rattle.noise_state.proofs.Pieces.{length-piece}
+use Rattle.noise_state.specs.Pieces.{length-piece}
 use Rattle.noise_handshake.specs.declared.faults.Cause.TheVariants.{Short, Tag}
 use Rattle.noise_handshake.specs.inner.Listening.{width_of_key}
 

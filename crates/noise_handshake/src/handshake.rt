@@ -177,7 +177,7 @@ impl<K: Keys> Handshake<K> {
         }
         let tokens = self.pattern.pattern().messages()[self.passed as usize].tokens();
         let secrets = &self.secrets[self.used..];
-        let mut state = self.state;
+        let mut state = self.state.for_trial();
         let mut remote = self.remote;
         match read_listening(
             &mut state,
@@ -278,7 +278,7 @@ impl<K: Keys> Handshake<K> {
         }
         let tokens = self.pattern.pattern().messages()[self.passed as usize].tokens();
         let secrets = &self.secrets[self.used..];
-        let mut state = self.state;
+        let mut state = self.state.for_trial();
         match write_speaking(
             &mut state,
             &self.keys,

@@ -1,6 +1,7 @@
-use Rattle.std.proofs.Common.{◌≡◌, ◌<◌, ℕ, ◌+◌, List, length, drop, refl, ap, sym, subst, ◌∙◌, arith, length-drop, drop-drop}
+use Rattle.std.proofs.Common.{◌≡◌, ◌<◌, ◌≤◌, ℕ, ◌+◌, List, length, drop, refl, ap, sym, subst, ◌∙◌, arith, length-drop, drop-drop}
 use Rattle.std.specs.Prelude.{Bool, None, count_by, true, is_some}
-use Rattle.noise_state.specs.Standing.{keyed}
+use Rattle.noise_state.specs.Standing.{StateStands, keyed, nonce_now}
+use Rattle.noise_state.specs.declared.symmetric.SymmetricState.{SymmetricState}
 use Rattle.noise_handshake.specs.Length.{keyed_behind_tokens}
 use Rattle.noise_names.specs.declared.token.Token.{Token}
 use Rattle.noise_names.specs.Plan.{Plan}
@@ -45,7 +46,8 @@ invariant_of-self g c =
       omega (arith, enough g.K.Keys.public_of h i.2 ts e less, length-drop a.used a.secrets.items, n, i.1),
       sound-behind g.K.Keys.public_of h i.2 ts e less c.read_listening.new.known c.read_listening.new.state (drop (a.used + c.psk_count.result) a.secrets.items) (a.passed + 1) refl
           (ap (λ (k : ℕ). drop (a.used + k) a.secrets.items) n ∙ sym (drop-drop (count_by is_psk ts) a.used a.secrets.items))
-          (c.in-Ok.ensures.key ∙ ap (λ (b : Bool). keyed_behind_tokens b (keyed a.state) ts) i.0) c.read_listening.ensures.nonce
+          (c.in-Ok.ensures.key ∙ ap (λ (z : SymmetricState). keyed_behind_tokens a.psks (keyed z) ts) c.for_trial-state.ensures ∙ ap (λ (b : Bool). keyed_behind_tokens b (keyed a.state) ts) i.0)
+          (subst (λ (z : SymmetricState). nonce_now c.read_listening.new.state ≤ nonce_now z + length ts + 1) c.for_trial-state.ensures c.read_listening.ensures.nonce)
           (omega (arith, c.tokens-tokens.ensures.few, ap length c.tokens-tokens.ensures.same)),
       knows-read h i.3 less c.read_listening.new.known c.read_listening.new.state (drop (a.used + c.psk_count.result) a.secrets.items) ts e c.in-Ok.ensures.e c.in-Ok.ensures.s,
     )
@@ -65,7 +67,7 @@ returns-in-Ok-clause-reads g c v s =
     tokens_at-index ts c.index-messages-self.result c.messages.result.now a.pattern.messages a.passed c.tokens-tokens.ensures.same c.index-messages-self.is
     (c.messages.ensures.same ∙ ap (λ (q : Plan). q.messages) c.pattern.ensures.same) less ∙ tokens-are P A h v s0 in
     let d = items-from c.deref.result.now a.secrets.items a.used c.deref.ensures.0 in
-    let r = c.in-Ok.ensures.read v s0.history (listening P A h v s0 a.psks _ ts (listens P A h v s0 i.2.within none) i.0 d e) in (
+    let r = c.in-Ok.ensures.read v (subst (λ (z : SymmetricState). StateStands z v.history) (sym c.for_trial-state.ensures) s0.history) (listening P A h v s0 a.psks _ ts (listens P A h v s0 i.2.within none) i.0 d e) in (
       r.0,
       r.1,
       behind P A h v s0 a.psks ts r.0 _ c.read_listening.new.state c.read_listening.new.known (drop (a.used + c.psk_count.result) a.secrets.items) (a.passed + 1) i.0 e
@@ -87,4 +89,4 @@ returns-in-Err-clause-reads g c v s =
     tokens_at-index ts c.index-messages-self.result c.messages.result.now a.pattern.messages a.passed c.tokens-tokens.ensures.same c.index-messages-self.is
     (c.messages.ensures.same ∙ ap (λ (q : Plan). q.messages) c.pattern.ensures.same) less ∙ tokens-are P A h v s0 in
     let d = items-from c.deref.result.now a.secrets.items a.used c.deref.ensures.0 in
-    (c.in-Err.ensures.read v s0.history (listening P A h v s0 a.psks _ ts (listens P A h v s0 i.2.within none) i.0 d e), ends P A h v s0 true refl)
+    (c.in-Err.ensures.read v (subst (λ (z : SymmetricState). StateStands z v.history) (sym c.for_trial-state.ensures) s0.history) (listening P A h v s0 a.psks _ ts (listens P A h v s0 i.2.within none) i.0 d e), ends P A h v s0 true refl)
