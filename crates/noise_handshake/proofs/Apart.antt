@@ -5,7 +5,7 @@ use Rattle.std.specs.Prelude.{Bool, Option, Some, is_some, if◌then◌else◌, 
 use Rattle.noise_names.specs.declared.token.Token.{Token}
 use Rattle.noise_names.specs.declared.token.Token.TheVariants.{E, S, Ee, Es, Se, Ss, Psk}
 use Rattle.noise_state.specs.History.{History, cipher_key, piece}
-use Rattle.noise_state.proofs.Pieces.{length-piece, piece-same}
+use Rattle.noise_state.specs.Pieces.{length-piece, piece-same}
 use Rattle.noise_handshake.specs.declared.remote.Remote.{Remote}
 use Rattle.noise_handshake.specs.declared.faults.Cause.{Cause}
 use Rattle.noise_handshake.specs.Line.{token_piece, behind_token, front, behind_front}

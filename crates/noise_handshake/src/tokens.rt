@@ -14,6 +14,14 @@ use crate::{Keys, Own, Remote};
 use noise_names::{Role, Token};
 use noise_state::SymmetricState;
 
+// What a message is read or written with, but for what changes along its tokens.
+#[derive(Drop)]
+pub(crate) struct Means<'a, K: Keys> {
+    pub(crate) keys: &'a K,
+    pub(crate) role: Role,
+    pub(crate) psks: bool,
+}
+
 // Which own key a DH token takes.
 fn own_at(role: Role, token: Token) -> Own
     ensures { result ≡ own_at role token }
