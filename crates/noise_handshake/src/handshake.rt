@@ -20,8 +20,8 @@ const MAX_LEN: usize = 65535;
 
 /// One party of a handshake (Noise, 5.3), in either role of any valid pattern. It asks for no memory.
 ///
-/// Messages are written and read in turn, the initiator's first. A message goes on in a copy of the symmetric state, so
-/// that a fault leaves what the messages before it made.
+/// Messages are written and read in turn, the initiator's first. A message goes on in a trial of the symmetric state, so
+/// that a fault leaves what the messages before it made. The pattern is laid out once, when the handshake is made.
 #[derive(Drop)]
 pub struct Handshake<K: Keys> {
     pattern: ValidPattern,
