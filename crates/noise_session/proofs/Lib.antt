@@ -7,3 +7,6 @@ pub mod Framing
 pub mod Once
 pub mod Cutting
 pub mod SentOnce
+pub mod Renewing
+pub mod Unopened
+pub mod Streaming

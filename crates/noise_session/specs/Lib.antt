@@ -1,5 +1,7 @@
 pub mod Frames
 pub mod Transport
+pub mod HeldTransport
+pub mod Counting
 pub mod Steps
 pub mod Progress
 pub mod Ends
