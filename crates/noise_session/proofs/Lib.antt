@@ -10,3 +10,4 @@ pub mod SentOnce
 pub mod Renewing
 pub mod Unopened
 pub mod Streaming
+pub mod Facing

@@ -84,3 +84,10 @@ open_fault t =
 -- why a message of this length isn't opened that is no packet of the other party
 abbrev pub no_packet : ℕ → OpenFault
 no_packet message = if nat_lt message 16 then unopened.Short else unopened.Tag
+
+-- The second is the other party of the first, and expects the message that the first writes next.
+pub record Faces (v w : TransportView) : Type 0 where
+  pub role : w.role ≡ other v.role
+  pub history : w.history ≡ v.history
+  pub interval : w.interval ≡ v.interval
+  pub received : w.received ≡ v.sent

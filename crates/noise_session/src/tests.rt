@@ -1,6 +1,8 @@
 //! The frames of two ends of NN, with values worked by hand.
 #![tactic(auto)]
 
+mod transport;
+
 ghost use Rattle.std.specs.Prelude.{◌≡◌, IfOk, vec_len};
 
 use crate::{End, SendFault, Stage, Step};
