@@ -82,6 +82,15 @@ fn zeros(alloc: Global, count: usize) -> Result<Vec<u8>, AllocError>
     vec![in alloc; 0u8; count]
 }
 
+// Message n with the payload `hi`, under this key.
+fn sealed(key: &[u8; 32], n: u64) -> [u8; 18] {
+    let mut message = [0; 18];
+    message[..2].copy_from_slice(b"hi");
+    let tag = seal_in_place(key, &nonce(n), &[], &mut message[..2]);
+    message[2..].copy_from_slice(&tag);
+    message
+}
+
 #[test]
 fn renews_at_each_multiple(rt: HostRuntime) {
     let (mut initiator, mut responder) = both_ways(&rt, 2);
@@ -89,14 +98,11 @@ fn renews_at_each_multiple(rt: HostRuntime) {
     let third = rekey(&second);
     let keys = [KEY, KEY, second, second, third, third];
     for (n, key) in keys.iter().enumerate() {
-        let mut wanted = *b"hi";
-        let tag = seal_in_place(key, &nonce(n as u64), &[], &mut wanted);
-        let mut message = [0; 20];
+        let mut message = [0; 18];
         assert_eq!(rt; initiator.seal(b"hi", &mut message), Ok(18));
-        assert_eq!(rt; &message[..2], wanted.as_slice(), "at {n}");
-        assert_eq!(rt; &message[2..18], tag.as_slice(), "at {n}");
-        assert_eq!(rt; responder.open_within(&mut message[..18]), Ok(2));
-        assert_eq!(rt; &message[..2], b"hi".as_slice(), "at {n}");
+        assert_eq!(rt; message, sealed(key, n as u64), "at {n}");
+        let opened = responder.open(&mut message).expect(&rt, "a payload");
+        assert!(rt; &*opened == b"hi".as_slice(), "at {n}");
     }
     assert_eq!(rt; initiator.send_nonce(), 6);
     assert_eq!(rt; responder.receive_nonce(), 6);
@@ -140,16 +146,17 @@ fn one_way_sessions_have_one_writer(rt: HostRuntime) {
 fn payloads_of_the_least_and_most_bytes(rt: HostRuntime) -> Result<(), Fail> {
     let (mut initiator, mut responder) = both_ways(&rt, 1);
     let mut message = zeros(rt.alloc(), 65535)?;
-    let payload = zeros(rt.alloc(), 65520)?;
+    let most = zeros(rt.alloc(), 65519)?;
+    let more = zeros(rt.alloc(), 65520)?;
     assert_eq!(rt; initiator.seal(&[], &mut message), Ok(16));
     assert_eq!(rt; responder.open_within(&mut message[..16]), Ok(0));
     assert_eq!(rt;
-        initiator.seal(&payload, &mut message),
+        initiator.seal(&more, &mut message),
         Err(SendFault::TooLong)
     );
-    assert_eq!(rt; initiator.seal(&payload[..65519], &mut message), Ok(65535));
-    assert_eq!(rt; responder.open_within(&mut message), Ok(65519));
-    assert!(rt; &message[..65519] == &payload[..65519]);
+    assert_eq!(rt; initiator.seal(&most, &mut message), Ok(65535));
+    let opened = responder.open(&mut message).expect(&rt, "a payload");
+    assert!(rt; &*opened == most.as_slice());
     Ok(())
 }
 
@@ -168,6 +175,6 @@ fn a_refused_message_changes_nothing(rt: HostRuntime) {
     );
     assert_eq!(rt; wrong, sent);
     assert_eq!(rt; responder.receive_nonce(), 0);
-    assert_eq!(rt; responder.open_within(&mut message), Ok(2));
-    assert_eq!(rt; &message[..2], b"hi".as_slice());
+    let opened = responder.open(&mut message).expect(&rt, "a payload");
+    assert!(rt; &*opened == b"hi".as_slice());
 }
