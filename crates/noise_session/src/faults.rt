@@ -20,6 +20,21 @@ pub enum SendFault {
     Output { written: usize },
 }
 
+impl SendFault {
+    ghost use Rattle.std.specs.Prelude.{◌≡◌};
+    ghost use Rattle.noise_session.specs.Faults.{ends};
+
+    // Whether it ends the session.
+    pub(crate) fn ends(self) -> bool
+        ensures { result ≡ ends self }
+    {
+        matches!(
+            self,
+            SendFault::Agreement { .. } | SendFault::Exhausted | SendFault::Output { .. }
+        )
+    }
+}
+
 /// Why a transport message isn't opened. Looked for in the order OneWay, Exhausted, Short, Tag.
 #[derive(Clone, Copy, Debug, PartialEq, Eq)]
 pub enum OpenFault {

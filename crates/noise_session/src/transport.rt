@@ -151,7 +151,7 @@ impl Transport {
     /// `out` holds them where the payload has at most 65519 bytes. The faults are OneWay, TooLong and Exhausted, looked for
     /// in this order.
     pub fn seal(&mut self, payload: &[u8], out: &mut [u8]) -> Result<usize, SendFault>
-        requires { length payload.now ≤ 65519 → length payload.now + 16 ≤ length out.old }
+        requires { seal_fault self.old (length payload.now) ≡ None → length payload.now + 16 ≤ length out.old }
         ensures fault { MatchOption (seal_fault self.old (length payload.now)) (IsOk result) (λ fault. result ≡ Err fault) }
         ensures len { IfOk result (λ n. (n ≡ length payload.now + 16) × (n ≤ length out.new)) }
         ensures rest { IfOk result (λ n. drop n out.new ≡ drop n out.old) }
