@@ -34,7 +34,8 @@ fn read_e(
     ensures known { OnOk result ((is_some known.new.e ≡ true) × (known.new.s ≡ known.old.s)) }
     ensures nonce { nonce_now state.new ≤ nonce_now state.old }
     ensures read { (r : History) → StateStands state.old r → MatchResult result
-        (λ n. (x : List ℕ) × (length x ≡ 32) × (message.now ≡ x ++ drop n message.now) × StateStands state.new (with_ephemeral psks r x) × (known.new ≡ record known.old { e = Some x }))
+        (λ n. (x : List ℕ) × (length x ≡ 32) × (message.now ≡ x ++ drop n message.now) × StateStands state.new (with_ephemeral psks r x)
+        × (known.new ≡ record known.old { e = Some x }))
         (λ cause. ((x rest : List ℕ) → length x ≡ 32 → message.now ≡ x ++ rest → ⊥) × (cause ≡ Short)) }
 {
     let Some((key, _)) = message.split_first_chunk::<32>() else {
@@ -86,7 +87,8 @@ fn read_s(
     ensures known { OnOk result ((known.new.e ≡ known.old.e) × (is_some known.new.s ≡ true)) }
     ensures nonce { nonce_now state.new ≤ nonce_now state.old + 1 }
     ensures read { (r : History) → StateStands state.old r → MatchResult result
-        (λ n. (x : List ℕ) × (length x ≡ 32) × (message.now ≡ piece r x ++ drop n message.now) × StateStands state.new (and_then r (Part (piece r x))) × (known.new ≡ record known.old { s = Some x }))
+        (λ n. (x : List ℕ) × (length x ≡ 32) × (message.now ≡ piece r x ++ drop n message.now) × StateStands state.new (and_then r (Part (piece r x)))
+        × (known.new ≡ record known.old { s = Some x }))
         (λ cause. ((x rest : List ℕ) → length x ≡ 32 → message.now ≡ piece r x ++ rest → ⊥) × (cause ≡ cause_of (is_some (cipher_key r)) Token.S message.now)) }
 {
     if message.len() < width {
@@ -122,8 +124,10 @@ fn read_token<K: Keys>(
     ensures e { OnOk result (is_some known.new.e ≡ e_behind (is_some known.old.e) placed.token) }
     ensures s { OnOk result (is_some known.new.s ≡ s_behind (is_some known.old.s) placed.token) }
     ensures nonce { nonce_now state.new ≤ nonce_now state.old + 1 }
-    ensures read { (r : History) → StateStands state.old r → let v : Reader = record { role = means.now.role; psks = means.now.psks; agree = K.agreement means.now.keys.now } in MatchResult result
-        (λ n. (x : List ℕ) × Fits v known.old secrets.now placed.token x × (message.now ≡ token_piece r placed.token x ++ drop n message.now) × StateStands state.new (behind_token means.now.psks r placed.token x) × (known.new ≡ known_behind known.old placed.token x))
+    ensures read { (r : History) → StateStands state.old r
+        → let v : Reader = record { role = means.now.role; psks = means.now.psks; agree = K.agreement means.now.keys.now } in MatchResult result
+        (λ n. (x : List ℕ) × Fits v known.old secrets.now placed.token x × (message.now ≡ token_piece r placed.token x ++ drop n message.now)
+        × StateStands state.new (behind_token means.now.psks r placed.token x) × (known.new ≡ known_behind known.old placed.token x))
         (λ cause. Fails v known.old secrets.now r placed.token message.now × (cause ≡ cause_of (is_some (cipher_key r)) placed.token message.now)) }
 {
     match placed.token {
@@ -161,8 +165,11 @@ fn read_tokens<K: Keys>(
     ensures e { OnOk result (is_some known.new.e ≡ e_behind_tokens (is_some known.old.e) (tokens_of placed.now)) }
     ensures s { OnOk result (is_some known.new.s ≡ s_behind_tokens (is_some known.old.s) (tokens_of placed.now)) }
     ensures nonce { nonce_now state.new ≤ nonce_now state.old + length (tokens_of placed.now) }
-    ensures read { (r : History) → StateStands state.old r → let v : Reader = record { role = means.now.role; psks = means.now.psks; agree = K.agreement means.now.keys.now } in let tokens : List Token = tokens_of placed.now in MatchResult result
-        (λ n. (xs : List (List ℕ)) × Leads v known.old secrets.now r tokens xs message.now (drop n message.now) × StateStands state.new (behind_front means.now.psks r tokens xs) × (known.new ≡ learned known.old tokens xs))
+    ensures read { (r : History) → StateStands state.old r
+        → let v : Reader = record { role = means.now.role; psks = means.now.psks; agree = K.agreement means.now.keys.now } in
+        let tokens : List Token = tokens_of placed.now in MatchResult result
+        (λ n. (xs : List (List ℕ)) × Leads v known.old secrets.now r tokens xs message.now (drop n message.now)
+        × StateStands state.new (behind_front means.now.psks r tokens xs) × (known.new ≡ learned known.old tokens xs))
         (λ stop. Stops v known.old secrets.now r tokens message.now stop.0 stop.1) }
 {
     let Some((first, later)) = placed.split_first() else {
@@ -199,8 +206,11 @@ pub(crate) fn read_message<K: Keys>(
     ensures e { OnOk result (is_some known.new.e ≡ e_behind_tokens (is_some known.old.e) (tokens_of placed.now)) }
     ensures s { OnOk result (is_some known.new.s ≡ s_behind_tokens (is_some known.old.s) (tokens_of placed.now)) }
     ensures nonce { nonce_now state.new ≤ nonce_now state.old + length (tokens_of placed.now) + 1 }
-    ensures read { (r : History) → StateStands state.old r → let v : Reader = record { role = means.now.role; psks = means.now.psks; agree = K.agreement means.now.keys.now } in let tokens : List Token = tokens_of placed.now in MatchResult result
-        (λ place. let payload = slice_range message.new place.0 place.1 in (xs : List (List ℕ)) × Reads v known.old secrets.now r tokens message.old xs payload × StateStands state.new (behind_line means.now.psks r tokens xs payload) × (known.new ≡ learned known.old tokens xs))
+    ensures read { (r : History) → StateStands state.old r
+        → let v : Reader = record { role = means.now.role; psks = means.now.psks; agree = K.agreement means.now.keys.now } in
+        let tokens : List Token = tokens_of placed.now in MatchResult result
+        (λ place. let payload = slice_range message.new place.0 place.1 in (xs : List (List ℕ)) × Reads v known.old secrets.now r tokens message.old xs payload
+        × StateStands state.new (behind_line means.now.psks r tokens xs payload) × (known.new ≡ learned known.old tokens xs))
         (λ stop. Stops v known.old secrets.now r tokens message.old stop.0 stop.1) }
     ensures unchanged { OnErr result (message.new ≡ message.old) }
 {
