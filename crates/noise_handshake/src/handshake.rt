@@ -4,9 +4,11 @@
 ghost use Rattle.std.specs.Prelude.{◌≡◌, ◌≤◌, ◌<◌, ◌+◌, ◌-◌, true, false, ℕ, List, ◌↔◌, length, take, drop, slice_range, Some, None, IsOk, IfOk, IfErr, OnErr, MatchResult, MatchOption};
 ghost use Rattle.std.specs.Option.{ForSome};
 
-use crate::reading::read_listening;
-use crate::setup::{psk_count, public_keys, setup_fault, start};
-use crate::writing::write_speaking;
+use crate::layout::{MessageLayout, lay_out};
+use crate::reading::read_message;
+use crate::setup::{public_keys, setup_fault, start};
+use crate::tokens::Means;
+use crate::writing::write_message;
 use crate::{Keys, Opened, ReadFault, Remote, SetupFault, WriteFault};
 use arrayvec::ArrayVec;
 use noise_names::{Role, ValidPattern};
@@ -18,8 +20,8 @@ const MAX_LEN: usize = 65535;
 
 /// One party of a handshake (Noise, 5.3), in either role of any valid pattern. It asks for no memory.
 ///
-/// Messages are written and read in turn, the initiator's first. A message goes on in a copy of the symmetric state, so
-/// that a fault leaves what the messages before it made.
+/// Messages are written and read in turn, the initiator's first. A message goes on in a trial of the symmetric state, so
+/// that a fault leaves what the messages before it made. The pattern is laid out once, when the handshake is made.
 #[derive(Drop)]
 pub struct Handshake<K: Keys> {
     pattern: ValidPattern,
@@ -31,6 +33,7 @@ pub struct Handshake<K: Keys> {
     passed: u8,
     ended: bool,
     psks: bool,
+    layout: ArrayVec<MessageLayout, 8>,
     state: SymmetricState,
 }
 
@@ -38,19 +41,47 @@ impl<K: Keys> Model for Handshake<K> {
     ghost use Rattle.std.specs.Prelude.{◌≡◌, ◌≤◌, length, drop};
     ghost use Rattle.noise_names.specs.Plan.{has_psk};
     ghost use Rattle.noise_handshake.specs.Held.{Held};
-    ghost use Rattle.noise_handshake.specs.Known.{KnowsRemote};
-    ghost use Rattle.noise_handshake.specs.Sound.{IsSound};
+    ghost use Rattle.noise_handshake.specs.inner.Known.{KnowsRemote};
+    ghost use Rattle.noise_handshake.specs.inner.Sound.{IsSound};
+    ghost use Rattle.noise_handshake.specs.inner.Layout.{LaysOut};
+    ghost use Rattle.noise_names.specs.Validity.{IsValid};
 
     ghost Value = { Held K };
 
-    ghost view = { λ a. record { pattern = a.pattern; role = a.role; keys = a.keys; remote = a.remote; secrets = drop a.used a.secrets.items; passed = a.passed; ended = a.ended; state = a.state } };
+    ghost view = { λ a. record {
+      pattern = a.pattern;
+      role = a.role;
+      keys = a.keys;
+      remote = a.remote;
+      secrets = drop a.used a.secrets.items;
+      passed = a.passed;
+      ended = a.ended;
+      state = a.state;
+    } };
 
-    ghost invariant = { λ a. let h : Held K = record { pattern = a.pattern; role = a.role; keys = a.keys; remote = a.remote; secrets = drop a.used a.secrets.items; passed = a.passed; ended = a.ended; state = a.state } in (a.psks ≡ has_psk a.pattern) × (a.used ≤ length a.secrets.items) × IsSound K.public_of h × KnowsRemote h };
+    ghost invariant = { λ a. let h : Held K = record {
+      pattern = a.pattern;
+      role = a.role;
+      keys = a.keys;
+      remote = a.remote;
+      secrets = drop a.used a.secrets.items;
+      passed = a.passed;
+      ended = a.ended;
+      state = a.state;
+    } in
+        (a.psks ≡ has_psk a.pattern) × (a.used ≤ length a.secrets.items) × IsSound K.public_of h × KnowsRemote h × LaysOut a.pattern a.layout.items × IsValid a.pattern };
 }
 
 impl<K: Keys> Handshake<K> {
+    ghost use Rattle.noise_names.specs.Limits.{IsPattern};
+    ghost use Rattle.noise_names.specs.Validity.{IsValid};
     ghost use Rattle.noise_state.specs.History.{hash};
-    ghost use Rattle.noise_handshake.specs.View.{View, Accepts};
+    ghost use Rattle.noise_names.specs.Plan.{has_psk};
+    ghost use Rattle.noise_names.specs.Validity.{IsValid};
+    ghost use Rattle.noise_names.specs.Overhead.{has_key, overhead_of};
+    ghost use Rattle.noise_handshake.specs.Passed.{passed_places};
+    ghost use Rattle.noise_handshake.specs.inner.Layout.{IsLaid};
+    ghost use Rattle.noise_handshake.specs.View.{View, Accepts, tokens_at};
     ghost use Rattle.noise_handshake.specs.Held.{is_turn, read_fault, behind_read_fault, write_fault, behind_write_fault, message_len_of, IsRefusal, IsAgreement, Advances};
     ghost use Rattle.noise_handshake.specs.Opening.{Opens};
     ghost use Rattle.noise_handshake.specs.Setup.{begun, setup_fault};
@@ -71,7 +102,8 @@ impl<K: Keys> Handshake<K> {
     ) -> Result<Handshake<K>, SetupFault>
         requires { length prologue.now ≤ 65535 }
         ensures fault { MatchOption (setup_fault pattern role (K.public_of keys) remote (length psks.now)) (IsOk result) (λ fault. result ≡ Err fault) }
-        ensures stands { IfOk result (λ h. Stands K.public_of K.agreement h (begun pattern role prologue.now (K.public_of keys) (K.agreement keys) remote psks.now)) }
+        ensures stands { IfOk result
+            (λ h. Stands K.public_of K.agreement h (begun pattern role prologue.now (K.public_of keys) (K.agreement keys) remote psks.now)) }
         ensures parts { IfOk result (λ h. (h.pattern ≡ pattern) × (h.role ≡ role) × (h.keys ≡ keys) × (h.passed ≡ 0) × (h.ended ≡ false)) }
     {
         let plan = pattern.pattern();
@@ -80,6 +112,7 @@ impl<K: Keys> Handshake<K> {
         }
         let with_psks = !plan.is_plain();
         let state = start(plan, role, prologue, &public_keys(&keys), &remote);
+        let layout = lay_out(plan, with_psks, state.has_key());
         let mut secrets = ArrayVec::new();
         secrets.try_extend_from_slice(psks).unwrap();
         Ok(Handshake {
@@ -92,14 +125,18 @@ impl<K: Keys> Handshake<K> {
             passed: 0,
             ended: false,
             psks: with_psks,
+            layout,
             state,
         })
     }
 
     /// The pattern, with the tokens of its messages.
     pub fn pattern(&self) -> &ValidPattern
-        ensures { result.now ≡ self.now.pattern }
+        ensures same { result.now ≡ self.now.pattern }
+        ensures valid { IsValid self.now.pattern }
+        ensures limits { IsPattern self.now.pattern }
     {
+        let _ = self.pattern.pattern().messages();
         &self.pattern
     }
 
@@ -143,13 +180,32 @@ impl<K: Keys> Handshake<K> {
         self.remote.s
     }
 
+    // The layout of the next message.
+    fn next_layout(&self) -> &MessageLayout
+        requires { self.now.passed < length self.now.pattern.messages }
+        ensures laid { let p = self.now.pattern in let n = self.now.passed in
+            IsLaid (has_psk p) (has_key p (passed_places p n)) (tokens_at p.messages n) result.now }
+        ensures valid { IsValid self.now.pattern }
+    {
+        &self.layout[self.passed as usize]
+    }
+
+    // How much longer the next message is than its payload.
+    fn overhead(&self) -> usize
+        requires { self.now.passed < length self.now.pattern.messages }
+        ensures value { result ≡ overhead_of self.now.pattern (self.now.passed + 1) }
+        ensures most { result ≤ 65535 }
+    {
+        self.next_layout().overhead as usize
+    }
+
     // Why no message is read now.
     fn read_fault(&self) -> Option<ReadFault>
         ensures { result ≡ read_fault self.now }
     {
         if self.ended {
             Some(ReadFault::Ended)
-        } else if self.passed as usize == self.pattern.pattern().messages().len() {
+        } else if self.passed as usize == self.layout.len() {
             Some(ReadFault::Done)
         } else if self.writes_next() {
             Some(ReadFault::NotYourTurn)
@@ -169,28 +225,32 @@ impl<K: Keys> Handshake<K> {
         ensures fault { MatchOption (read_fault self.old) (IfErr result IsRefusal) (λ fault. result ≡ Err fault) }
         ensures state { MatchResult result (λ _. Advances self.old self.new) (λ fault. self.new ≡ behind_read_fault self.old fault) }
         ensures reads { (v : View) → Stands K.public_of K.agreement self.old v → MatchResult result
-            (λ place. let payload = slice_range message.new place.0 place.1 in (xs : List (List ℕ)) × Accepts v message.old xs payload × Stands K.public_of K.agreement self.new (behind_message v xs payload))
+            (λ place. let payload = slice_range message.new place.0 place.1 in (xs : List (List ℕ)) × Accepts v message.old xs payload
+            × Stands K.public_of K.agreement self.new (behind_message v xs payload))
             (λ fault. Declines v message.old fault × Stands K.public_of K.agreement self.new (behind_declined v fault)) }
     {
         if let Some(fault) = self.read_fault() {
             return Err(fault);
         }
-        let tokens = self.pattern.pattern().messages()[self.passed as usize].tokens();
+        let laid = self.next_layout();
+        let means = Means {
+            keys: &self.keys,
+            role: self.role,
+            psks: self.psks,
+        };
         let secrets = &self.secrets[self.used..];
-        let mut state = self.state;
+        let mut state = self.state.for_trial();
         let mut remote = self.remote;
-        match read_listening(
+        match read_message(
             &mut state,
-            &self.keys,
-            self.role,
-            self.psks,
-            secrets,
             &mut remote,
-            tokens,
+            &means,
+            secrets,
+            &laid.tokens,
             message,
         ) {
             Ok(place) => {
-                self.used += psk_count(tokens);
+                self.used += laid.secrets;
                 self.state = state;
                 self.remote = remote;
                 self.passed += 1;
@@ -212,7 +272,8 @@ impl<K: Keys> Handshake<K> {
     /// other faults leave it as it was.
     pub fn read<'a>(&mut self, message: &'a mut [u8]) -> Result<&'a mut [u8], ReadFault>
         requires { length message.old ≤ 65535 }
-        ensures part { IfOk result (λ payload. (from : ℕ) × (payload.ref_ptr ≡ (message.entry.ref_ptr.0, message.entry.ref_ptr.1 + from)) × (from + length payload.now ≤ length message.old)) }
+        ensures part { IfOk result (λ payload. (from : ℕ) × (payload.ref_ptr ≡ (message.entry.ref_ptr.0, message.entry.ref_ptr.1 + from))
+            × (from + length payload.now ≤ length message.old)) }
         ensures fault { MatchOption (read_fault self.old) (IfErr result IsRefusal) (λ fault. result ≡ Err fault) }
         ensures state { MatchResult result (λ _. Advances self.old self.new) (λ fault. self.new ≡ behind_read_fault self.old fault) }
         ensures reads { (v : View) → Stands K.public_of K.agreement self.old v → MatchResult result
@@ -233,15 +294,16 @@ impl<K: Keys> Handshake<K> {
 
     // Why no message with a payload of this length is written now, whatever the keys answer.
     fn write_fault(&self, payload_len: usize) -> Option<WriteFault>
-        ensures { result ≡ write_fault self.now payload_len }
+        ensures value { result ≡ write_fault self.now payload_len }
+        ensures due { result ≡ None → self.now.passed < length self.now.pattern.messages }
     {
         if self.ended {
             Some(WriteFault::Ended)
-        } else if self.passed as usize == self.pattern.pattern().messages().len() {
+        } else if self.passed as usize == self.layout.len() {
             Some(WriteFault::Done)
         } else if !self.writes_next() {
             Some(WriteFault::NotYourTurn)
-        } else if payload_len > MAX_LEN - self.pattern.overhead(self.passed + 1) as usize {
+        } else if payload_len > MAX_LEN - self.overhead() {
             Some(WriteFault::TooLong)
         } else {
             None
@@ -255,7 +317,7 @@ impl<K: Keys> Handshake<K> {
     {
         match self.write_fault(payload_len) {
             Some(_) => None,
-            None => Some(self.pattern.overhead(self.passed + 1) as usize + payload_len),
+            None => Some(self.overhead() + payload_len),
         }
     }
 
@@ -266,7 +328,8 @@ impl<K: Keys> Handshake<K> {
     pub fn write(&mut self, payload: &[u8], out: &mut [u8]) -> Result<usize, WriteFault>
         requires { ForSome (message_len_of self.old (length payload.now)) (λ n. n ≤ length out.old) }
         ensures len { IfOk result (λ n. (message_len_of self.old (length payload.now) ≡ Some n) × (n ≤ length out.new)) }
-        ensures fault { MatchOption (write_fault self.old (length payload.now)) (IfErr result IsAgreement) (λ fault. (result ≡ Err fault) × (out.new ≡ out.old)) }
+        ensures fault { MatchOption (write_fault self.old (length payload.now)) (IfErr result IsAgreement) (λ fault. (result ≡ Err fault)
+            × (out.new ≡ out.old)) }
         ensures state { MatchResult result (λ _. Advances self.old self.new) (λ fault. self.new ≡ behind_write_fault self.old fault) }
         ensures beyond { IfOk result (λ n. drop n out.new ≡ drop n out.old) }
         ensures writes { (v : View) → Stands K.public_of K.agreement self.old v → MatchResult result
@@ -276,22 +339,25 @@ impl<K: Keys> Handshake<K> {
         if let Some(fault) = self.write_fault(payload.len()) {
             return Err(fault);
         }
-        let tokens = self.pattern.pattern().messages()[self.passed as usize].tokens();
+        let laid = self.next_layout();
+        let means = Means {
+            keys: &self.keys,
+            role: self.role,
+            psks: self.psks,
+        };
         let secrets = &self.secrets[self.used..];
-        let mut state = self.state;
-        match write_speaking(
+        let mut state = self.state.for_trial();
+        match write_message(
             &mut state,
-            &self.keys,
-            self.role,
-            self.psks,
-            secrets,
             &self.remote,
-            tokens,
+            &means,
+            secrets,
+            &laid.tokens,
             payload,
             out,
         ) {
             Ok(len) => {
-                self.used += psk_count(tokens);
+                self.used += laid.secrets;
                 self.state = state;
                 self.passed += 1;
                 Ok(len)
@@ -309,7 +375,7 @@ impl<K: Keys> Handshake<K> {
         ensures opened { (v : View) → Stands K.public_of K.agreement self v → IfOk result (λ o. Opens o v) }
         ensures back { IfErr result (λ h. h ≡ self) }
     {
-        if self.ended || (self.passed as usize) < self.pattern.pattern().messages().len() {
+        if self.ended || (self.passed as usize) < self.layout.len() {
             return Err(self);
         }
         let (initiator, responder) = self.state.split();

@@ -11,7 +11,8 @@ ghost use Rattle.noise_names.specs.declared.token.Token.TheVariants.{E, S};
 ghost use Rattle.noise_state.specs.Standing.{StateStands, keyed, nonce_now};
 ghost use Rattle.noise_state.specs.History.{History, Mix, and_then};
 ghost use Rattle.noise_handshake.specs.View.{with_premessage};
-ghost use Rattle.noise_handshake.specs.Setup.{HasPre, token_of, secrets_of, setup_fault, public_keys, keys_of, lacks_own, start_of};
+ghost use Rattle.noise_handshake.specs.Setup.{token_of, secrets_of, setup_fault, public_keys, keys_of, lacks_own, start_of};
+ghost use Rattle.noise_handshake.specs.inner.PreMessage.{HasPre};
 ghost use Rattle.noise_handshake.specs.Passed.{passed_places};
 
 use crate::tokens::mix_ephemeral;
@@ -117,7 +118,8 @@ fn lacks_key(pre: &[Token], remote: &Remote) -> bool
 
 // Whether a key is there that isn't in this pre-message.
 fn has_other_key(pre: &[Token], remote: &Remote) -> bool
-    ensures { result ≡ ((is_some remote.now.e && not (list_any (λ t. same_token t E) pre.now)) || (is_some remote.now.s && not (list_any (λ t. same_token t S) pre.now))) }
+    ensures { result ≡ ((is_some remote.now.e && not (list_any (λ t. same_token t E) pre.now)) || (is_some remote.now.s && not (list_any
+        (λ t. same_token t S) pre.now))) }
 {
     (remote.e.is_some() && !has_token(pre, Own::Ephemeral))
         || (remote.s.is_some() && !has_token(pre, Own::Static))
