@@ -1,13 +1,13 @@
 -- Where a piece is cut makes no difference.
-use Rattle.std.proofs.Common.{◌≡◌, ℕ, ◌+◌, List, ◌++◌, length, Bool, true, false, ◌&&◌, Option, Some, None, if◌then◌else◌, refl, sym, ◌∙◌, subst, arith, append_assoc, length-append}
+use Rattle.std.proofs.Common.{◌≡◌, ℕ, ◌+◌, List, ◌++◌, length, Bool, true, false, ◌&&◌, Option, Some, None, if◌then◌else◌, refl, sym, ◌∙◌, ap, subst, arith, append_assoc, length-append}
 use Rattle.noise_session.specs.Frames.{IsPartial}
 use Rattle.noise_session.specs.Steps.{Told}
-use Rattle.noise_session.specs.Steps.Told.{Ended, YourTurn, Silent, More}
+use Rattle.noise_session.specs.Steps.Told.{YourTurn, Silent, More}
 use Rattle.noise_names.specs.declared.token.Role.TheVariants.{Initiator}
 use Rattle.noise_names.specs.Tokens.{same_role}
-use Rattle.noise_names.specs.Plan.{is_one_way}
 use Rattle.noise_handshake.specs.Held.{is_turn}
-use Rattle.noise_session.specs.Progress.{is_open, idle_step}
+use Rattle.noise_session.specs.Progress.{Progress, idle_step}
+use Rattle.noise_session.specs.Progress.Progress.{Handshaking, Open, Closed}
 use Rattle.noise_session.specs.Ends.{EndView, progress_of}
 use Rattle.noise_session.specs.Taking.{Judges, Takes}
 use Rattle.noise_session.specs.Taking.Judges.{accepted, refused, opened, dropped, exhausted}
@@ -18,13 +18,18 @@ abbrev holding : EndView → List ℕ → EndView
 holding v a = record v { held = v.held ++ a }
 
 -- an end that takes no bytes doesn't tell More
-idles-not : (ended opens silent turn : Bool) (e : Option Told) → e ≡ Some More
-    → (if ended then Some Ended else (if opens then (if silent then Some Silent else None) else (if turn then Some YourTurn else None))) ≡ e → ⊥
-idles-not true opens silent turn e is same = cc
-idles-not false true true turn e is same = cc
-idles-not false true false turn e is same = cc
-idles-not false false silent true e is same = cc
-idles-not false false silent false e is same = cc
+turn-not : (turn : Bool) → (if turn then Some YourTurn else None) ≡ Some More → ⊥
+turn-not true e = cc
+turn-not false e = cc
+
+silent-not : (silent : Bool) → (if silent then Some Silent else None) ≡ Some More → ⊥
+silent-not true e = cc
+silent-not false e = cc
+
+idles-not : (p : Progress) → idle_step p ≡ Some More → ⊥
+idles-not (Handshaking pattern role passed) e = turn-not (is_turn role passed) e
+idles-not (Open role one_way sent received) e = silent-not (one_way && same_role role Initiator) e
+idles-not (Closed role) e = cc
 
 -- nor does a whole message come to More
 judged-not : (v x : EndView) (m : List ℕ) (s : Told) → s ≡ More → Judges v m s x → ⊥
@@ -35,7 +40,7 @@ judged-not v x m s e (dropped _ _ opens low never) = cc
 judged-not v x m s e (exhausted _ _ opens last) = cc
 
 waited : (v x : EndView) (a : List ℕ) (m : ℕ) (s : Told) → s ≡ More → Takes v a m s x → (idle_step (progress_of v) ≡ None) × IsPartial (v.held ++ a) × (x ≡ holding v a)
-waited v x a m s e (idles _ _ _ idle) = absurd (idles-not v.party.ended (is_open (progress_of v)) (is_one_way v.party.pattern && same_role v.party.role Initiator) (is_turn v.party.role v.party.passed) (Some s) (let same : Some s ≡ Some More = cc in same) idle)
+waited v x a m s e (idles _ _ _ idle) = absurd (idles-not (progress_of v) (idle ∙ ap (λ (t : Told). Some t) e))
 waited v x a m s e (waits _ _ listens partial) = (listens, partial, refl)
 waited v x a m s e (judges _ _ _ message rest _ _ listens is short count j) = absurd (judged-not v x message s e j)
 

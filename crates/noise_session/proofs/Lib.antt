@@ -1,9 +1,13 @@
 pub mod Places
-pub mod Judging
-pub mod Idling
-pub mod Standing
-pub mod Refusing
 pub mod Framing
+pub mod Renewing
+pub mod Unopened
+pub mod Streaming
+pub mod Facing
+pub mod Views
+pub mod Judging
+pub mod Making
+pub mod Growing
 pub mod Once
 pub mod Cutting
 pub mod SentOnce

@@ -1,51 +1,71 @@
 -- A piece comes to one thing at an end.
-use Rattle.std.proofs.Common.{◌≡◌, ℕ, List, [], length, false, refl, sym, ◌∙◌, ap, subst, arith}
-use Rattle.std.proofs.lemmas.Bool.{false≢true}
+use Rattle.std.proofs.Common.{◌≡◌, ℕ, List, [], length, refl, sym, ◌∙◌, ap, subst, arith}
+use Rattle.noise_names.specs.declared.token.Role.{Role}
+use Rattle.noise_names.specs.Tokens.{other}
+use Rattle.noise_state.specs.History.{History}
 use Rattle.noise_handshake.specs.declared.faults.Cause.{Cause}
 use Rattle.noise_handshake.specs.View.{View, Accepts, Refuses}
 use Rattle.noise_handshake.specs.Party.{behind_message}
 use Rattle.noise_session.specs.Frames.{IsPartial}
+use Rattle.noise_session.specs.Transport.{packet}
 use Rattle.noise_session.specs.Steps.{Told}
 use Rattle.noise_session.specs.Steps.Told.{Payload, Refused}
-use Rattle.noise_session.specs.Progress.{is_open}
-use Rattle.noise_session.specs.Ends.{EndView, progress_of}
+use Rattle.noise_session.specs.Ends.{EndView}
 use Rattle.noise_session.specs.Taking.{Judges, Takes}
 use Rattle.noise_session.specs.Taking.Judges.{accepted, refused, opened, dropped, exhausted}
 use Rattle.noise_session.specs.Taking.Takes.{idles, waits, judges}
 use Rattle.noise_session.proofs.Framing.{frame-whole, frame-same}
+use Rattle.noise_session.proofs.Views.{open-passed}
 
 module _ (accepted-one : (v : View) (message : List ℕ) (xs ys : List (List ℕ)) (p q : List ℕ) → Accepts v message xs p → Accepts v message ys q → (xs ≡ ys) × (p ≡ q))
     (refused-one : (v : View) (message : List ℕ) (k j : ℕ) (c d : Cause) → Refuses v message k c → Refuses v message j d → (k ≡ j) × (c ≡ d))
-    (apart : (v : View) (message : List ℕ) (xs : List (List ℕ)) (p : List ℕ) (k : ℕ) (c : Cause) → Accepts v message xs p → Refuses v message k c → ⊥) where
-  judged-once : (v x y : EndView) (m : List ℕ) (s t : Told) → is_open (progress_of v) ≡ false → Judges v m s x → Judges v m t y → (s ≡ t) × (x ≡ y)
-  judged-once v x y m s t shut (accepted _ _ p xs a) (accepted _ _ q ys b) =
+    (apart : (v : View) (message : List ℕ) (xs : List (List ℕ)) (p : List ℕ) (k : ℕ) (c : Cause) → Accepts v message xs p → Refuses v message k c → ⊥)
+    (packet-one : (r : History) (writer : Role) (interval n : ℕ) (p q : List ℕ) → packet r writer interval n p ≡ packet r writer interval n q → p ≡ q) where
+  judged-once : (v x y : EndView) (m : List ℕ) (s t : Told) → Judges v m s x → Judges v m t y → (s ≡ t) × (x ≡ y)
+  judged-once v x y m s t (accepted _ _ p xs a) (accepted _ _ q ys b) =
       let one = accepted-one v.party m xs ys p q a b in
       (ap Payload one.1, ap (λ (zs : List (List ℕ)). record v { party = behind_message v.party zs p; held = [] }) one.0 ∙ ap (λ (r : List ℕ). record v { party = behind_message v.party ys r; held = [] }) one.1)
-  judged-once v x y m s t shut (accepted _ _ p xs a) (refused _ _ k c b) = absurd (apart v.party m xs p k c a b)
-  judged-once v x y m s t shut (refused _ _ k c a) (accepted _ _ p xs b) = absurd (apart v.party m xs p k c b a)
-  judged-once v x y m s t shut (refused _ _ k c a) (refused _ _ j d b) =
+  judged-once v x y m s t (accepted _ _ p xs a) (refused _ _ k c b) = absurd (apart v.party m xs p k c a b)
+  judged-once v x y m s t (accepted _ _ p xs a) (opened _ _ q opens low is) = let more = a.listens.more in let all = open-passed v opens in absurd (omega arith)
+  judged-once v x y m s t (accepted _ _ p xs a) (dropped _ _ opens low never) = let more = a.listens.more in let all = open-passed v opens in absurd (omega arith)
+  judged-once v x y m s t (accepted _ _ p xs a) (exhausted _ _ opens last) = let more = a.listens.more in let all = open-passed v opens in absurd (omega arith)
+  judged-once v x y m s t (refused _ _ k c a) (accepted _ _ p xs b) = absurd (apart v.party m xs p k c b a)
+  judged-once v x y m s t (refused _ _ k c a) (refused _ _ j d b) =
       let one = refused-one v.party m k j c d a b in
       (ap (λ (i : ℕ). Refused i c) one.0 ∙ ap (Refused j) one.1, refl)
-  judged-once v x y m s t shut (opened _ _ p opens low is) b = absurd (false≢true (sym shut ∙ opens))
-  judged-once v x y m s t shut (dropped _ _ opens low never) b = absurd (false≢true (sym shut ∙ opens))
-  judged-once v x y m s t shut (exhausted _ _ opens last) b = absurd (false≢true (sym shut ∙ opens))
-  judged-once v x y m s t shut a (opened _ _ p opens low is) = absurd (false≢true (sym shut ∙ opens))
-  judged-once v x y m s t shut a (dropped _ _ opens low never) = absurd (false≢true (sym shut ∙ opens))
-  judged-once v x y m s t shut a (exhausted _ _ opens last) = absurd (false≢true (sym shut ∙ opens))
+  judged-once v x y m s t (refused _ _ k c a) (opened _ _ q opens low is) = let more = a.listens.more in let all = open-passed v opens in absurd (omega arith)
+  judged-once v x y m s t (refused _ _ k c a) (dropped _ _ opens low never) = let more = a.listens.more in let all = open-passed v opens in absurd (omega arith)
+  judged-once v x y m s t (refused _ _ k c a) (exhausted _ _ opens last) = let more = a.listens.more in let all = open-passed v opens in absurd (omega arith)
+  judged-once v x y m s t (opened _ _ p opens low is) (accepted _ _ q xs a) = let more = a.listens.more in let all = open-passed v opens in absurd (omega arith)
+  judged-once v x y m s t (opened _ _ p opens low is) (refused _ _ k c a) = let more = a.listens.more in let all = open-passed v opens in absurd (omega arith)
+  judged-once v x y m s t (opened _ _ p opens low is) (opened _ _ q other_opens other_low be) =
+      (ap Payload (packet-one v.party.history (other v.party.role) v.interval v.received p q (sym is ∙ be)), refl)
+  judged-once v x y m s t (opened _ _ p opens low is) (dropped _ _ other_opens other_low never) = absurd (never p is)
+  judged-once v x y m s t (opened _ _ p opens low is) (exhausted _ _ other_opens last) = absurd (low last)
+  judged-once v x y m s t (dropped _ _ opens low never) (accepted _ _ q xs a) = let more = a.listens.more in let all = open-passed v opens in absurd (omega arith)
+  judged-once v x y m s t (dropped _ _ opens low never) (refused _ _ k c a) = let more = a.listens.more in let all = open-passed v opens in absurd (omega arith)
+  judged-once v x y m s t (dropped _ _ opens low never) (opened _ _ q other_opens other_low is) = absurd (never q is)
+  judged-once v x y m s t (dropped _ _ opens low never) (dropped _ _ other_opens other_low other_never) = (refl, refl)
+  judged-once v x y m s t (dropped _ _ opens low never) (exhausted _ _ other_opens last) = absurd (low last)
+  judged-once v x y m s t (exhausted _ _ opens last) (accepted _ _ q xs a) = let more = a.listens.more in let all = open-passed v opens in absurd (omega arith)
+  judged-once v x y m s t (exhausted _ _ opens last) (refused _ _ k c a) = let more = a.listens.more in let all = open-passed v opens in absurd (omega arith)
+  judged-once v x y m s t (exhausted _ _ opens last) (opened _ _ q other_opens low is) = absurd (low last)
+  judged-once v x y m s t (exhausted _ _ opens last) (dropped _ _ other_opens low never) = absurd (low last)
+  judged-once v x y m s t (exhausted _ _ opens last) (exhausted _ _ other_opens other_last) = (refl, refl)
 
-  pub takes-once : (v x y : EndView) (piece : List ℕ) (m n : ℕ) (s t : Told) → is_open (progress_of v) ≡ false → Takes v piece m s x → Takes v piece n t y → (m ≡ n) × (s ≡ t) × (x ≡ y)
-  takes-once v x y piece m n s t shut (idles _ _ _ e) (idles _ _ _ f) = let same : s ≡ t = cc in (refl, same, refl)
-  takes-once v x y piece m n s t shut (idles _ _ _ e) (waits _ _ f partial) = cc
-  takes-once v x y piece m n s t shut (idles _ _ _ e) (judges _ _ _ message rest _ _ f is short count j) = cc
-  takes-once v x y piece m n s t shut (waits _ _ e partial) (idles _ _ _ f) = cc
-  takes-once v x y piece m n s t shut (waits _ _ e partial) (waits _ _ f other) = (refl, refl, refl)
-  takes-once v x y piece m n s t shut (waits _ _ e partial) (judges _ _ _ message rest _ _ f is short count j) =
+  pub takes-once : (v x y : EndView) (piece : List ℕ) (m n : ℕ) (s t : Told) → Takes v piece m s x → Takes v piece n t y → (m ≡ n) × (s ≡ t) × (x ≡ y)
+  takes-once v x y piece m n s t (idles _ _ _ e) (idles _ _ _ f) = let same : s ≡ t = cc in (refl, same, refl)
+  takes-once v x y piece m n s t (idles _ _ _ e) (waits _ _ f partial) = cc
+  takes-once v x y piece m n s t (idles _ _ _ e) (judges _ _ _ message rest _ _ f is short count j) = cc
+  takes-once v x y piece m n s t (waits _ _ e partial) (idles _ _ _ f) = cc
+  takes-once v x y piece m n s t (waits _ _ e partial) (waits _ _ f other) = (refl, refl, refl)
+  takes-once v x y piece m n s t (waits _ _ e partial) (judges _ _ _ message rest _ _ f is short count j) =
       absurd (frame-whole message rest short (subst (λ (bytes : List ℕ). IsPartial bytes) is partial))
-  takes-once v x y piece m n s t shut (judges _ _ _ message rest _ _ e is short count j) (idles _ _ _ f) = cc
-  takes-once v x y piece m n s t shut (judges _ _ _ message rest _ _ e is short count j) (waits _ _ f partial) =
+  takes-once v x y piece m n s t (judges _ _ _ message rest _ _ e is short count j) (idles _ _ _ f) = cc
+  takes-once v x y piece m n s t (judges _ _ _ message rest _ _ e is short count j) (waits _ _ f partial) =
       absurd (frame-whole message rest short (subst (λ (bytes : List ℕ). IsPartial bytes) is partial))
-  takes-once v x y piece m n s t shut (judges _ _ _ message rest _ _ e is short count j) (judges _ _ _ other left _ _ f be small number k) =
+  takes-once v x y piece m n s t (judges _ _ _ message rest _ _ e is short count j) (judges _ _ _ other left _ _ f be small number k) =
       let one = frame-same message other rest left short small (sym is ∙ be) in
-      let same = judged-once v x y other s t shut (subst (λ (bytes : List ℕ). Judges v bytes s x) one.0 j) k in
+      let same = judged-once v x y other s t (subst (λ (bytes : List ℕ). Judges v bytes s x) one.0 j) k in
       let taken : m ≡ n = omega (arith, ap length one.1, count, number) in
       (taken, same.0, same.1)

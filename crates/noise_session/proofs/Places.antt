@@ -1,15 +1,42 @@
 -- Parts of a buffer.
-use Rattle.std.proofs.Common.{◌≡◌, ℕ, suc, ◌+◌, ◌-◌, ◌/◌, ◌%◌, ◌≤◌, List, ◌∷◌, ◌++◌, length, take, drop, arith, rules, refl, sym, ◌∙◌, ap, length-drop}
+use Rattle.std.proofs.Common.{◌≡◌, ℕ, suc, ◌+◌, ◌-◌, ◌/◌, ◌%◌, ◌≤◌, List, ◌∷◌, ◌++◌, length, take, drop, arith, rules, refl, sym, ◌∙◌, ap, length-drop, length-append}
 use Rattle.std.proofs.lemmas.List.{places, same_lists, drop_at, drop-drop, take_rest, length-take-le, nil_from_length, append-nil}
 use borrow.Rule.Slice.PartMut.{put_mid}
+use Rattle.noise_session.specs.declared.outcome.Outcome.{Outcome}
+use Rattle.noise_session.specs.declared.outcome.Outcome.TheVariants as outcome
 use Rattle.noise_session.specs.Frames.{frame}
+use Rattle.noise_session.specs.Outcomes.{tells, StandsIn}
+use Rattle.noise_session.specs.Steps.Told.{Payload}
 use Rattle.std.specs.Prelude.{slice_range}
 
 -- a part of what stands behind the first two bytes
-pub slice_behind : (d m post rest : List ℕ) (len from to : ℕ) → 2 ≤ length d → from ≤ to → to ≤ length m → length m + 2 ≤ len
+slice_on : (d m post rest : List ℕ) (len from to : ℕ) → 2 ≤ length d → from ≤ to → to ≤ length m → length m + 2 ≤ len
     → slice_range (take len (take 2 d ++ (m ++ post) ++ rest)) (from + 2) (to + 2) ≡ slice_range m from to
-slice_behind d m post rest len from to two order within long =
+slice_on d m post rest len from to two order within long =
     same_lists _ _ (search (rules, places)) (λ k e h. grind (arith, places))
+
+slice-drop : (xs : List ℕ) (from to : ℕ) → slice_range (drop 2 xs) from to ≡ slice_range xs (from + 2) (to + 2)
+slice-drop xs from to =
+    let count : to - from ≡ to + 2 - (from + 2) = omega arith in
+    let place : 2 + from ≡ from + 2 = omega arith in
+    ap (take (to - from)) (drop-drop from 2 xs ∙ ap (λ (k : ℕ). drop k xs) place) ∙ ap (λ (k : ℕ). take k (drop (from + 2) xs)) count
+
+slice_behind : (d m post rest : List ℕ) (len from to : ℕ) → 2 ≤ length d → from ≤ to → to ≤ length m → length m + 2 ≤ len
+    → slice_range (drop 2 (take len (take 2 d ++ (m ++ post) ++ rest))) from to ≡ slice_range m from to
+slice_behind d m post rest len from to two order within long =
+    slice-drop (take len (take 2 d ++ (m ++ post) ++ rest)) from to ∙ slice_on d m post rest len from to two order within long
+
+-- a step by the places of its payload there
+pub tells-behind : (d m post rest : List ℕ) (len : ℕ) (o : Outcome) → 2 ≤ length d → StandsIn m o → length m + 2 ≤ len
+    → tells (drop 2 (take len (take 2 d ++ (m ++ post) ++ rest))) o ≡ tells m o
+tells-behind d m post rest len outcome.Ended two place long = refl
+tells-behind d m post rest len outcome.YourTurn two place long = refl
+tells-behind d m post rest len outcome.Silent two place long = refl
+tells-behind d m post rest len outcome.More two place long = refl
+tells-behind d m post rest len (outcome.Payload from to) two place long = ap Payload (slice_behind d m post rest len from to two place.0 place.1 long)
+tells-behind d m post rest len (outcome.Dropped cause) two place long = refl
+tells-behind d m post rest len (outcome.Refused token cause) two place long = refl
+tells-behind d m post rest len outcome.Exhausted two place long = refl
 
 -- what stands behind the first k of the first n
 pub drop-front : (xs : List ℕ) (k n : ℕ) → take (n - k) (drop k xs) ≡ drop k (take n xs)
@@ -38,3 +65,14 @@ module _ (n : ℕ) (out written new : List ℕ) (two : 2 ≤ length out)
   written_frame within =
       let two_more : 2 + n ≡ suc (suc n) = omega arith in
       ap (take (2 + n)) over_two ∙ rw (two_more, length-take-le n written within) refl
+
+-- what is left behind the first bytes of a buffer holds a message
+pub room-behind : (out : List ℕ) (m from : ℕ) → 2 + m ≤ length out → from ≤ 2 → m ≤ length (take (length out - from) (drop from out))
+room-behind out m from room low =
+    let rest : take (length out - from) (drop from out) ≡ drop from out = take_rest out from in
+    omega (arith, ap length rest, length-drop from out)
+
+-- what is written behind the first two bytes leaves them there
+pub two-left : (out written : List ℕ) → 2 ≤ length out → 2 ≤ length (put_mid 2 (length out - 2) out written)
+two-left out written two =
+    omega (arith, length-append (take 2 out) (written ++ drop (length out - 2) (drop 2 out)), length-take-le 2 out two)

@@ -1,8 +1,12 @@
 pub mod Frames
 pub mod Transport
+pub mod HeldTransport
+pub mod Counting
+pub mod Faults
 pub mod Steps
 pub mod Progress
 pub mod Ends
+pub mod Phases
 pub mod Taking
 pub mod Sending
 pub mod Outcomes

@@ -1,19 +1,22 @@
--- A step by its places in the buffer.
+-- A step by the places of its payload in the message.
 use Rattle.std.specs.Prelude.{⊤, ℕ, ◌≤◌, List, length, slice_range}
 use Rattle.noise_session.specs.declared.outcome.Outcome.{Outcome}
 use Rattle.noise_session.specs.declared.outcome.Outcome.TheVariants as outcome
 use Rattle.noise_session.specs.Steps.{Told}
-use Rattle.noise_session.specs.Steps.Told.{Ended, YourTurn, More, Payload, Refused}
+use Rattle.noise_session.specs.Steps.Told.{Ended, YourTurn, Silent, More, Payload, Dropped, Refused, Exhausted}
 
--- the step, with the payload's bytes from the buffer
+-- the step, with the payload's bytes from the message
 abbrev pub tells : List ℕ → Outcome → Told
-tells buffer outcome.Ended = Ended
-tells buffer outcome.YourTurn = YourTurn
-tells buffer outcome.More = More
-tells buffer (outcome.Payload from to) = Payload (slice_range buffer from to)
-tells buffer (outcome.Refused token cause) = Refused token cause
+tells message outcome.Ended = Ended
+tells message outcome.YourTurn = YourTurn
+tells message outcome.Silent = Silent
+tells message outcome.More = More
+tells message (outcome.Payload from to) = Payload (slice_range message from to)
+tells message (outcome.Dropped cause) = Dropped cause
+tells message (outcome.Refused token cause) = Refused token cause
+tells message outcome.Exhausted = Exhausted
 
--- a payload's places stand in the buffer
+-- a payload's places stand in the message
 abbrev pub StandsIn : List ℕ → Outcome → Type 0
-StandsIn buffer (outcome.Payload from to) = (from ≤ to) × (to ≤ length buffer)
-StandsIn buffer _ = ⊤
+StandsIn message (outcome.Payload from to) = (from ≤ to) × (to ≤ length message)
+StandsIn message _ = ⊤

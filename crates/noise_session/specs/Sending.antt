@@ -1,5 +1,5 @@
 -- What an end makes of a payload (Noise 5.3, 11.3 and 13).
-use Rattle.std.specs.Prelude.{◌≡◌, ℕ, ◌+◌, List, length, Some, None, Result, Ok, Err, IsTrue}
+use Rattle.std.specs.Prelude.{◌≡◌, ℕ, ◌+◌, List, length, Some, None, Result, Ok, Err, IsTrue, if◌then◌else◌}
 use Rattle.noise_handshake.specs.Writing.{Writes, Lacks}
 use Rattle.noise_handshake.specs.Party.{behind_own}
 use Rattle.noise_session.specs.declared.faults.SendFault.{SendFault}
@@ -7,17 +7,17 @@ use Rattle.noise_session.specs.declared.faults.SendFault.TheVariants as fault
 use Rattle.noise_session.specs.Frames.{frame}
 use Rattle.noise_session.specs.Transport.{packet}
 use Rattle.noise_session.specs.Progress.{is_open, refusal}
+use Rattle.noise_session.specs.Faults.{ends}
 use Rattle.noise_session.specs.Ends.{EndView, progress_of, closed}
 
--- what a refusal leaves: an exhausted nonce ends the session, the others change nothing
-abbrev pub behind_refusal : EndView → SendFault → EndView
-behind_refusal v fault.Exhausted = closed v
-behind_refusal v _ = v
+-- what a fault leaves: some end the session, the others change nothing
+abbrev pub behind_fault : EndView → SendFault → EndView
+behind_fault v why = if ends why then closed v else v
 
--- An end writes a payload as a frame, or refuses to. A DH without an answer ends the session.
+-- An end writes a payload as a frame, or refuses to.
 pub data Sends : EndView → List ℕ → Result (List ℕ) SendFault → EndView → Type 0 where
   refuses : (v : EndView) (payload : List ℕ) (why : SendFault) → refusal (progress_of v) (length payload) ≡ Some why
-      → Sends v payload (Err why) (behind_refusal v why)
+      → Sends v payload (Err why) (behind_fault v why)
   lacks_answer : (v : EndView) (payload : List ℕ) (token : ℕ) → refusal (progress_of v) (length payload) ≡ None → Lacks v.party token
       → Sends v payload (Err (fault.Agreement token)) (closed v)
   sends_handshake : (v : EndView) (payload message : List ℕ) (xs : List (List ℕ)) → refusal (progress_of v) (length payload) ≡ None

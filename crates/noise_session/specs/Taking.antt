@@ -1,5 +1,5 @@
 -- What bytes make of an end (Noise 5.3, 11.3 and 13).
-use Rattle.std.specs.Prelude.{◌≡◌, ◌≢◌, ℕ, ◌+◌, ◌<◌, ◌≤◌, List, [], ◌++◌, length, Some, None, IsTrue, nat_lt, if◌then◌else◌}
+use Rattle.std.specs.Prelude.{◌≡◌, ◌≢◌, ℕ, ◌+◌, ◌≤◌, List, [], ◌++◌, length, Some, None, IsTrue, nat_lt, if◌then◌else◌}
 use Rattle.noise_names.specs.Tokens.{other}
 use Rattle.noise_handshake.specs.declared.faults.Cause.{Cause}
 use Rattle.noise_handshake.specs.declared.faults.Cause.TheVariants.{Short, Tag}
@@ -18,10 +18,10 @@ pub data Judges : EndView → List ℕ → Told → EndView → Type 0 where
       → Judges v message (Payload payload) (record v { party = behind_message v.party xs payload; held = [] })
   refused : (v : EndView) (message : List ℕ) (token : ℕ) (cause : Cause) → Refuses v.party message token cause
       → Judges v message (Refused token cause) (closed v)
-  opened : (v : EndView) (message payload : List ℕ) → IsTrue (is_open (progress_of v)) → v.received < last_nonce
+  opened : (v : EndView) (message payload : List ℕ) → IsTrue (is_open (progress_of v)) → v.received ≢ last_nonce
       → message ≡ packet v.party.history (other v.party.role) v.interval v.received payload
       → Judges v message (Payload payload) (record v { received = v.received + 1; held = [] })
-  dropped : (v : EndView) (message : List ℕ) → IsTrue (is_open (progress_of v)) → v.received < last_nonce
+  dropped : (v : EndView) (message : List ℕ) → IsTrue (is_open (progress_of v)) → v.received ≢ last_nonce
       → ((payload : List ℕ) → message ≢ packet v.party.history (other v.party.role) v.interval v.received payload)
       → Judges v message (Dropped (if nat_lt (length message) 16 then Short else Tag)) (record v { held = [] })
   exhausted : (v : EndView) (message : List ℕ) → IsTrue (is_open (progress_of v)) → v.received ≡ last_nonce

@@ -14,9 +14,13 @@ split_key r Responder = responder_key r
 abbrev pub renewals : ℕ → ℕ → ℕ
 renewals interval n = if interval == 0 then 0 else n / interval
 
+-- the key of transport message n of a writer
+abbrev pub transport_key : History → Role → ℕ → ℕ → List ℕ
+transport_key r writer interval n = rekeyed_times (renewals interval n) (split_key r writer)
+
 -- transport message n of a writer
 abbrev pub packet : History → Role → ℕ → ℕ → List ℕ → List ℕ
-packet r writer interval n payload = sealed (rekeyed_times (renewals interval n) (split_key r writer)) (nonce_of n) [] payload
+packet r writer interval n payload = sealed (transport_key r writer interval n) (nonce_of n) [] payload
 
 -- the nonce that no message has
 abbrev pub last_nonce : ℕ

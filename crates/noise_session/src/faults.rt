@@ -1,4 +1,4 @@
-//! Why a payload isn't written.
+//! Why a payload isn't written, and why a transport message isn't opened.
 #![tactic(auto)]
 
 /// Why a payload isn't written. Looked for in the order Ended, OneWay, NotYourTurn, TooLong, Exhausted, Agreement, Output.
@@ -18,4 +18,32 @@ pub enum SendFault {
     Exhausted,
     /// A write to the output failed behind so many first bytes of the frame. The session has ended.
     Output { written: usize },
+}
+
+impl SendFault {
+    ghost use Rattle.std.specs.Prelude.{◌≡◌};
+    ghost use Rattle.noise_session.specs.Faults.{ends};
+
+    // Whether it ends the session.
+    pub(crate) fn ends(self) -> bool
+        ensures { result ≡ ends self }
+    {
+        matches!(
+            self,
+            SendFault::Agreement { .. } | SendFault::Exhausted | SendFault::Output { .. }
+        )
+    }
+}
+
+/// Why a transport message isn't opened. Looked for in the order OneWay, Exhausted, Short, Tag.
+#[derive(Clone, Copy, Debug, PartialEq, Eq)]
+pub enum OpenFault {
+    /// It has fewer than the 16 bytes of a tag.
+    Short,
+    /// Its tag is wrong.
+    Tag,
+    /// The receiving nonce is 2^64 - 1, which no message has.
+    Exhausted,
+    /// This party is the initiator of a one-way session: nothing comes to it.
+    OneWay,
 }

@@ -1,7 +1,7 @@
 //! The frame that is coming.
 #![tactic(auto)]
 
-ghost use Rattle.std.specs.Prelude.{◌≡◌, ◌≤◌, ◌<◌, ◌-◌, ◌++◌, ◌∷◌, ◌↔◌, [], length, take, IfOk, IfNone, IfSome, IsTrue, IsFalse};
+ghost use Rattle.std.specs.Prelude.{◌≡◌, ◌≢◌, ◌≤◌, ◌<◌, ◌+◌, ◌-◌, ◌++◌, [], length, take, IfOk, IfNone, IfSome};
 ghost use Rattle.noise_session.specs.Frames.{IsPartial, IsWhole, frame_length};
 ghost use Rattle.byteorder.specs.Endian.{big_bytes};
 
@@ -59,32 +59,52 @@ impl Incoming {
         self.held
     }
 
-    // Takes a byte, and tells whether the frame is whole with it.
-    fn push(&mut self, byte: u8) -> bool
-        requires { IsPartial (bytes_of self.old) }
-        ensures taken { bytes_of self.new ≡ bytes_of self.old ++ byte ∷ [] }
-        ensures whole { IsTrue result ↔ IsWhole (bytes_of self.new) }
-        ensures partial { IsFalse result → IsPartial (bytes_of self.new) }
+    // Takes bytes up to the end of the frame's length, or of the frame once that is there, and tells how many.
+    fn accept(&mut self, piece: &[u8]) -> usize
+        ensures count { result ≤ length piece.now }
+        ensures taken { bytes_of self.new ≡ bytes_of self.old ++ take result piece.now }
+        ensures all { length (bytes_of self.new) < frame_length (bytes_of self.old) → result ≡ length piece.now }
     {
-        self.buffer[self.held] = byte;
-        self.held += 1;
-        if self.held == 2 {
-            self.whole = 2 + usize::from(BigEndian::read_u16(&self.buffer));
-        }
-        self.held == self.whole
+        let count = piece.len().min(self.whole - self.held);
+        let end = self.held + count;
+        put(&mut self.buffer, self.held, &piece[..count]);
+        self.whole = whole_behind(&self.buffer, self.whole, end);
+        self.held = end;
+        count
     }
 
     // Takes bytes of a piece up to the frame's end, and tells how many; None where the frame isn't whole with all of them.
     pub(crate) fn fill(&mut self, piece: &[u8]) -> Option<usize>
-        requires { IsPartial (bytes_of self.old) }
         ensures part { IfNone result ((bytes_of self.new ≡ bytes_of self.old ++ piece.now) × IsPartial (bytes_of self.new)) }
         ensures whole { IfSome result (λ n. (n ≤ length piece.now) × (bytes_of self.new ≡ bytes_of self.old ++ take n piece.now) × IsWhole (bytes_of self.new)) }
     {
-        for (i, byte) in piece.iter().enumerate() {
-            if self.push(*byte) {
-                return Some(i + 1);
-            }
+        let first = self.accept(piece);
+        let count = first + self.accept(&piece[first..]);
+        if self.held < self.whole {
+            return None;
         }
-        None
+        Some(count)
+    }
+}
+
+// Writes bytes into a buffer, from a place on.
+fn put(buffer: &mut Vec<u8>, from: usize, bytes: &[u8])
+    requires { from + length bytes.now ≤ length buffer.old.items }
+    ensures room { length buffer.new.items ≡ length buffer.old.items }
+    ensures front { take (from + length bytes.now) buffer.new.items ≡ take from buffer.old.items ++ bytes.now }
+{
+    buffer[from..from + bytes.len()].copy_from_slice(bytes);
+}
+
+// How long a frame is of which so many bytes have come: what was known, but where its length is whole just now.
+fn whole_behind(buffer: &[u8], known: usize, end: usize) -> usize
+    requires { 2 ≤ length buffer.now }
+    ensures read { end ≡ 2 → (result ≡ frame_length (take 2 buffer.now)) × (result ≤ 65537) × (take 2 buffer.now ≡ big_bytes 2 (result - 2)) }
+    ensures kept { end ≢ 2 → result ≡ known }
+{
+    if end == 2 {
+        2 + usize::from(BigEndian::read_u16(buffer))
+    } else {
+        known
     }
 }

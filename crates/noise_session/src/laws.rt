@@ -2,22 +2,23 @@
 #![tactic(auto)]
 
 ghost use Rattle.std.specs.Prelude.{◌≡◌, ◌+◌, ℕ, List, ◌++◌, length, Result};
-ghost use Rattle.noise_session.specs.Ends.{EndView, progress_of};
-ghost use Rattle.noise_session.specs.Progress.{NeedsNoTransport};
+ghost use Rattle.noise_session.specs.Ends.{EndView};
 ghost use Rattle.noise_session.specs.Steps.{Told};
 ghost use Rattle.noise_session.specs.Steps.Told.{More};
 ghost use Rattle.noise_session.specs.Taking.{Takes};
 ghost use Rattle.noise_session.specs.Sending.{Sends};
 ghost use Rattle.noise_session.specs.declared.faults.SendFault.{SendFault};
 
+use crate::packets::packet_same;
 use noise_handshake::{accepted_once, refused_once, written_once};
 
 /// A piece comes to one thing at an end: so many bytes, one step, and one view behind it.
 pub fn taken_once()
-    ensures { (v x y : EndView) (piece : List ℕ) (m n : ℕ) (s t : Told) → NeedsNoTransport (progress_of v) → Takes v piece m s x → Takes v piece n t y → (m ≡ n) × (s ≡ t) × (x ≡ y) }
+    ensures { (v x y : EndView) (piece : List ℕ) (m n : ℕ) (s t : Told) → Takes v piece m s x → Takes v piece n t y → (m ≡ n) × (s ≡ t) × (x ≡ y) }
 {
     accepted_once();
     refused_once();
+    packet_same();
 }
 
 /// Where a piece is cut makes no difference: what comes of its second part, behind a first that wasn't a whole frame, comes of both in one piece.
@@ -27,7 +28,7 @@ pub fn cuts_alike()
 
 /// A payload comes to one thing at an end: one frame or one fault, and one view behind it.
 pub fn sent_once()
-    ensures { (v x y : EndView) (payload : List ℕ) (r s : Result (List ℕ) SendFault) → NeedsNoTransport (progress_of v) → Sends v payload r x → Sends v payload s y → (r ≡ s) × (x ≡ y) }
+    ensures { (v x y : EndView) (payload : List ℕ) (r s : Result (List ℕ) SendFault) → Sends v payload r x → Sends v payload s y → (r ≡ s) × (x ≡ y) }
 {
     written_once();
 }

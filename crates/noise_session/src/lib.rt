@@ -1,20 +1,31 @@
 //! Noise sessions over a stream: messages in frames, handled by one end.
 #![tactic(auto)]
 
+mod counted;
+mod draining;
 mod end;
 mod faults;
+mod filling;
 mod incoming;
 mod laws;
 mod outcome;
+mod packets;
+mod phase;
+mod reading;
+mod sending;
 mod stage;
 mod step;
 mod taking;
+mod transport;
 
+pub use counted::Counted;
 pub use end::End;
-pub use faults::SendFault;
+pub use faults::{OpenFault, SendFault};
 pub use laws::{cuts_alike, sent_once, taken_once};
+pub use packets::{packet_is_due, packet_same};
 pub use stage::Stage;
 pub use step::Step;
+pub use transport::Transport;
 
 #[cfg(test)]
 mod tests;

@@ -1,6 +1,8 @@
 //! The frames of two ends of NN, with values worked by hand.
 #![tactic(auto)]
 
+mod transport;
+
 ghost use Rattle.std.specs.Prelude.{◌≡◌, IfOk, vec_len};
 
 use crate::{End, SendFault, Stage, Step};
@@ -24,8 +26,6 @@ fn new_end(alloc: Global, role: Role, byte: u8) -> Result<End<XorKeys>, Fail> {
 
 // The end takes so many bytes of the piece, and tells this.
 fn takes(rt: &impl Abort, end: &mut End<XorKeys>, piece: &[u8], count: usize, step: Step<'_>) {
-    let open = end.is_open();
-    assert!(rt; !open);
     let (taken, told) = end.take(piece);
     assert_eq!(rt; taken, count);
     assert_eq!(rt; told, step);
@@ -38,8 +38,6 @@ fn written(
     end: &mut End<XorKeys>,
     payload: &[u8],
 ) -> Result<Result<Vec<u8>, SendFault>, Fail> {
-    let open = end.is_open();
-    assert!(rt; !open);
     let room = end.frame_len(payload.len()).unwrap_or(0);
     let mut out = zeros(alloc, room)?;
     match end.write_into(payload, out.as_mut_slice()) {

@@ -1,0 +1,116 @@
+-- What is known of a frame when bytes come to those that are held.
+use Rattle.std.proofs.Common.{◌≡◌, ◌≢◌, ℕ, ◌+◌, ◌-◌, ◌==◌, ◌<◌, ◌≤◌, nat_lt, List, ◌++◌, length, take, drop, Bool, true, false, if◌then◌else◌, refl, sym, ◌∙◌, ap, subst, arith, length-append, append_assoc}
+use Rattle.std.proofs.lemmas.Bool.Decides.{nat_tests}
+use Rattle.std.proofs.lemmas.List.{take-take, take-append-le, length-take-le, take-append-drop, drop-take, take_rest}
+use Rattle.byteorder.specs.Endian.{big_bytes, big_number}
+use Rattle.byteorder.specs.Numbers.{big_from-take}
+use Rattle.noise_session.specs.Frames.{frame_length, IsPartial, IsWhole}
+
+-- fewer than two bytes tell nothing
+length-short : (xs : List ℕ) → length xs < 2 → frame_length xs ≡ 2
+length-short xs short = grind (arith, nat_tests)
+
+length-long : (xs : List ℕ) → 2 ≤ length xs → frame_length xs ≡ 2 + big_number 2 xs
+length-long xs long = grind (arith, nat_tests)
+
+-- nothing that comes behind the first two bytes changes it
+length-same : (xs ys : List ℕ) → 2 ≤ length xs → 2 ≤ length ys → take 2 xs ≡ take 2 ys → frame_length xs ≡ frame_length ys
+length-same xs ys long other same =
+    length-long xs long
+    ∙ (ap (λ (k : ℕ). 2 + k) (sym (big_from-take 0 2 2 xs (omega arith)) ∙ (ap (big_number 2) same ∙ big_from-take 0 2 2 ys (omega arith))) ∙ sym (length-long ys other))
+
+same-is : (a b : ℕ) → (a == b) ≡ true → a ≡ b
+same-is a b e = grind (arith, nat_tests)
+
+same-isnt : (a b : ℕ) → (a == b) ≡ false → a ≢ b
+same-isnt a b e = λ same. grind (arith, nat_tests)
+
+below : (a b : ℕ) → nat_lt a b ≡ true → a < b
+below a b e = grind (arith, nat_tests)
+
+above : (a b : ℕ) → nat_lt a b ≡ false → b ≤ a
+above a b e = grind (arith, nat_tests)
+
+-- So many bytes of p come to the first h of xs, of a frame of w, and those are then the first of ys, of a frame of u.
+module _ (xs ys p : List ℕ) (h n w u : ℕ) (joined : take (h + n) ys ≡ take h xs ++ p) (came : length p ≡ n) (room : h + n ≤ length xs) (kept_room : length ys ≡ length xs)
+    (known : w ≡ frame_length (take h xs)) (fits : h + n ≤ w) (low : w ≤ 65537) (spelled : 2 ≤ h → take 2 xs ≡ big_bytes 2 (w - 2))
+    (read : h + n ≡ 2 → (u ≡ frame_length (take 2 ys)) × (u ≤ 65537) × (take 2 ys ≡ big_bytes 2 (u - 2))) (kept : h + n ≢ 2 → u ≡ w) where
+  length-front : length (take h xs) ≡ h
+  length-front = length-take-le h xs (omega arith)
+
+  length-back : length (take (h + n) ys) ≡ h + n
+  length-back = length-take-le (h + n) ys (omega arith)
+
+  first-two : 2 ≤ h → take 2 ys ≡ take 2 xs
+  first-two two =
+      let front = length-front in
+      sym (take-take 2 (h + n) ys (omega arith)) ∙ (ap (take 2) joined ∙ (take-append-le 2 (take h xs) p (omega arith) ∙ take-take 2 h xs two))
+
+  at-most : (b : Bool) → (h + n == 2) ≡ b → u ≤ 65537
+  at-most true e = (read (same-is (h + n) 2 e)).1
+  at-most false e = let same = kept (same-isnt (h + n) 2 e) in omega arith
+
+  begun : (b : Bool) → nat_lt h 2 ≡ b → h + n ≢ 2 → 2 ≤ h + n → 2 ≤ h
+  begun true e not long =
+      let short = below h 2 e in
+      let front = length-front in
+      let two = length-short (take h xs) (omega arith) in
+      absurd (not (omega arith))
+  begun false e not long = above h 2 e
+
+  known-by : (b d : Bool) → (h + n == 2) ≡ b → nat_lt (h + n) 2 ≡ d → u ≡ frame_length (take (h + n) ys)
+  known-by true d e f =
+      let is = same-is (h + n) 2 e in
+      (read is).0 ∙ ap (λ (k : ℕ). frame_length (take k ys)) (sym is)
+  known-by false true e f =
+      let not = same-isnt (h + n) 2 e in
+      let short = below (h + n) 2 f in
+      let front = length-front in
+      let back = length-back in
+      kept not ∙ (known ∙ (length-short (take h xs) (omega arith) ∙ sym (length-short (take (h + n) ys) (omega arith))))
+  known-by false false e f =
+      let not = same-isnt (h + n) 2 e in
+      let long = above (h + n) 2 f in
+      let front = length-front in
+      let back = length-back in
+      let two = begun (nat_lt h 2) refl not long in
+      kept not
+      ∙ (known ∙ length-same (take h xs) (take (h + n) ys) (omega arith) (omega arith) (take-take 2 h xs two ∙ (sym (first-two two) ∙ sym (take-take 2 (h + n) ys (omega arith)))))
+
+  spelled-by : (b : Bool) → (h + n == 2) ≡ b → 2 ≤ h + n → take 2 ys ≡ big_bytes 2 (u - 2)
+  spelled-by true e long = (read (same-is (h + n) 2 e)).2
+  spelled-by false e long =
+      let not = same-isnt (h + n) 2 e in
+      let two = begun (nat_lt h 2) refl not long in
+      first-two two ∙ (spelled two ∙ ap (λ (k : ℕ). big_bytes 2 (k - 2)) (sym (kept not)))
+
+  within-by : (b : Bool) → (h + n == 2) ≡ b → h + n ≤ u
+  within-by true e =
+      let is = same-is (h + n) 2 e in
+      let at = (read is).0 in
+      let two = length-long (take 2 ys) (let l = length-take-le 2 ys (omega arith) in omega arith) in
+      omega arith
+  within-by false e = let same = kept (same-isnt (h + n) 2 e) in omega arith
+
+  pub grown-most : u ≤ 65537
+  grown-most = at-most (h + n == 2) refl
+
+  pub grown-within : h + n ≤ u
+  grown-within = within-by (h + n == 2) refl
+
+  pub grown-known : u ≡ frame_length (take (h + n) ys)
+  grown-known = known-by (h + n == 2) (nat_lt (h + n) 2) refl refl
+
+  pub grown-spelled : 2 ≤ h + n → take 2 ys ≡ big_bytes 2 (u - 2)
+  grown-spelled = spelled-by (h + n == 2) refl
+
+-- Bytes of a piece come in two parts.
+pub two-parts : (old mid new piece : List ℕ) (first second : ℕ) → mid ≡ old ++ take first piece
+    → new ≡ mid ++ take second (take (length piece - first) (drop first piece)) → new ≡ old ++ take (first + second) piece
+two-parts old mid new piece first second to_mid to_new =
+    let joined : take first piece ++ take second (drop first piece) ≡ take (first + second) piece =
+    ap (λ (xs : List ℕ). xs ++ take second (drop first piece)) (sym (take-take first (first + second) piece (omega arith)))
+    ∙ (ap (λ (xs : List ℕ). take first (take (first + second) piece) ++ xs) (sym (drop-take first second piece)) ∙ take-append-drop first (take (first + second) piece)) in
+    to_new
+    ∙ (ap (λ (xs : List ℕ). mid ++ take second xs) (take_rest piece first)
+    ∙ (ap (λ (xs : List ℕ). xs ++ take second (drop first piece)) to_mid ∙ (append_assoc old (take first piece) (take second (drop first piece)) ∙ ap (λ (xs : List ℕ). old ++ xs) joined)))

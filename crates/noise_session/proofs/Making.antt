@@ -1,0 +1,92 @@
+-- Why a payload isn't written, by the faults of a handshake and of a transport.
+use Rattle.std.proofs.Common.{◌≡◌, ◌≢◌, ℕ, ◌+◌, ◌==◌, nat_lt, List, length, Bool, true, false, not, ◌&&◌, Option, Some, None, Result, Ok, Err, MatchOption, IfErr, IsOk, if◌then◌else◌, refl, sym, ◌∙◌, ap, subst}
+use Rattle.noise_names.specs.declared.token.Role.{Role}
+use Rattle.noise_names.specs.Plan.{Plan}
+use Rattle.noise_names.specs.Overhead.{overhead_of}
+use Rattle.noise_handshake.specs.declared.faults.WriteFault.{WriteFault}
+use Rattle.noise_handshake.specs.declared.faults.WriteFault.TheVariants as write
+use Rattle.noise_handshake.specs.Held.{Held, is_turn, write_fault, length_now, IsAgreement}
+use Rattle.noise_session.specs.declared.faults.SendFault.{SendFault}
+use Rattle.noise_session.specs.declared.faults.SendFault.TheVariants as fault
+use Rattle.noise_session.specs.Progress.{Progress, refusal}
+use Rattle.noise_session.specs.Progress.Progress.{Handshaking}
+
+-- why no message is written now, by what is asked, at a handshake and at an end
+abbrev asked : Bool → Bool → Bool → Bool → Option WriteFault
+asked ended done turn long =
+    if ended then Some write.Ended else if done then Some write.Done else if not turn then Some write.NotYourTurn else if long then Some write.TooLong else None
+
+abbrev answered : Bool → Bool → Option SendFault
+answered turn long = if not turn then Some fault.NotYourTurn else if long then Some fault.TooLong else None
+
+-- what a result of the handshake tells of that
+abbrev Told : Bool → Bool → Bool → Bool → List ℕ → List ℕ → Result ℕ WriteFault → Type 0
+Told ended done turn long old new r = MatchOption (asked ended done turn long) (IfErr r IsAgreement) (λ f. (r ≡ Err f) × (new ≡ old))
+
+ok-told : (ended done turn long : Bool) (old new : List ℕ) (n : ℕ) → Told ended done turn long old new (Ok n) → answered turn long ≡ None
+ok-told true done turn long old new n h = cc
+ok-told false true turn long old new n h = cc
+ok-told false false false long old new n h = cc
+ok-told false false true true old new n h = cc
+ok-told false false true false old new n h = refl
+
+turn-told : (ended done turn long : Bool) (old new : List ℕ) → not ended && not done ≡ true → Told ended done turn long old new (Err write.NotYourTurn)
+    → answered turn long ≡ Some fault.NotYourTurn
+turn-told true done turn long old new due h = cc
+turn-told false true turn long old new due h = cc
+turn-told false false false long old new due h = refl
+turn-told false false true true old new due h = cc
+turn-told false false true false old new due h = absurd h
+
+long-told : (ended done turn long : Bool) (old new : List ℕ) → not ended && not done ≡ true → Told ended done turn long old new (Err write.TooLong)
+    → answered turn long ≡ Some fault.TooLong
+long-told true done turn long old new due h = cc
+long-told false true turn long old new due h = cc
+long-told false false false long old new due h = cc
+long-told false false true true old new due h = refl
+long-told false false true false old new due h = absurd h
+
+lack-told : (ended done turn long : Bool) (old new : List ℕ) (k : ℕ) → Told ended done turn long old new (Err (write.Agreement k))
+    → answered turn long ≡ None
+lack-told true done turn long old new k h = cc
+lack-told false true turn long old new k h = cc
+lack-told false false false long old new k h = cc
+lack-told false false true true old new k h = cc
+lack-told false false true false old new k h = refl
+
+module _ {K : Type 0} (h : Held K) (n : ℕ) (old new : List ℕ) where
+  abbrev now : Progress
+  now = Handshaking h.pattern h.role h.passed
+
+  abbrev Tells : Result ℕ WriteFault → Type 0
+  Tells r = MatchOption (write_fault h n) (IfErr r IsAgreement) (λ f. (r ≡ Err f) × (new ≡ old))
+
+  abbrev due : Bool
+  due = not h.ended && not (h.passed == length h.pattern.messages)
+
+  pub ok-due : (m : ℕ) → Tells (Ok m) → refusal now n ≡ None
+  ok-due m t = ok-told h.ended (h.passed == length h.pattern.messages) (is_turn h.role h.passed) (nat_lt 65535 (length_now h n)) old new m t
+
+  pub not-turn : due ≡ true → Tells (Err write.NotYourTurn) → refusal now n ≡ Some fault.NotYourTurn
+  not-turn d t = turn-told h.ended (h.passed == length h.pattern.messages) (is_turn h.role h.passed) (nat_lt 65535 (length_now h n)) old new d t
+
+  pub too-long : due ≡ true → Tells (Err write.TooLong) → refusal now n ≡ Some fault.TooLong
+  too-long d t = long-told h.ended (h.passed == length h.pattern.messages) (is_turn h.role h.passed) (nat_lt 65535 (length_now h n)) old new d t
+
+  pub lack-due : (k : ℕ) → Tells (Err (write.Agreement k)) → refusal now n ≡ None
+  lack-due k t = lack-told h.ended (h.passed == length h.pattern.messages) (is_turn h.role h.passed) (nat_lt 65535 (length_now h n)) old new k t
+
+-- what a result of a transport tells of why nothing is sealed
+abbrev sealed : ℕ → Result ℕ SendFault
+sealed n = Ok n
+
+abbrev unsealed : SendFault → Result ℕ SendFault
+unsealed f = Err f
+
+pub seal-due : (o : Option SendFault) (n : ℕ) → MatchOption o (IsOk (sealed n)) (λ f. sealed n ≡ Err f) → o ≡ None
+seal-due None n h = refl
+seal-due (Some f) n h = cc
+
+pub seal-refused : (o : Option SendFault) (f : SendFault) → MatchOption o (IsOk (unsealed f)) (λ e. unsealed f ≡ Err e) → o ≡ Some f
+seal-refused None f h = cc
+seal-refused (Some e) f h = cc

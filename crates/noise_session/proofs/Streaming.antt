@@ -1,0 +1,60 @@
+-- Bytes that come from a reader or go to a writer, one call after another.
+use Rattle.std.proofs.Common.{◌≡◌, ℕ, ◌+◌, ◌-◌, ◌≤◌, List, [], ◌++◌, length, take, drop, slice_range, Option, Some, None, refl, sym, ◌∙◌, ap, subst, arith, append_assoc, append-nil, length-take-le}
+use Rattle.std.proofs.lemmas.List.{take_rest, drop_at}
+use Rattle.std.proofs.lemmas.Slice.{take-put_mid_below}
+use Rattle.std.proofs.Math.Seq.{take-add, take-append-le}
+use Rattle.std.specs.Io.KnownBytes.{Appends, Consumes, Keeps}
+use borrow.Rule.Slice.PartMut.{put_mid, post_of}
+
+pub consumed : (a b c : Option (List ℕ)) (x y : List ℕ) → Consumes a b x → Consumes b c y → Consumes a c (x ++ y)
+consumed None b c x y p q = tt
+consumed (Some xs) None c x y p q = absurd p
+consumed (Some xs) (Some ys) None x y p q = absurd q
+consumed (Some xs) (Some ys) (Some zs) x y p q = p ∙ ap (λ (l : List ℕ). x ++ l) q ∙ sym (append_assoc x y zs)
+
+pub consumed_kept : (a b c : Option (List ℕ)) (x : List ℕ) → Consumes a b x → Keeps b c → Consumes a c x
+consumed_kept None b c x p q = tt
+consumed_kept (Some xs) None c x p q = absurd p
+consumed_kept (Some xs) (Some ys) None x p q = absurd q
+consumed_kept (Some xs) (Some ys) (Some zs) x p q = p ∙ ap (λ (l : List ℕ). x ++ l) (sym q)
+
+pub consumed_none : (a : Option (List ℕ)) → Consumes a a []
+consumed_none None = tt
+consumed_none (Some xs) = refl
+
+pub appended : (a b c : Option (List ℕ)) (x y : List ℕ) → Appends a b x → Appends b c y → Appends a c (x ++ y)
+appended None b c x y p q = tt
+appended (Some xs) None c x y p q = absurd p
+appended (Some xs) (Some ys) None x y p q = absurd q
+appended (Some xs) (Some ys) (Some zs) x y p q = q ∙ ap (λ (l : List ℕ). l ++ y) p ∙ append_assoc xs x y
+
+pub appended_kept : (a b c : Option (List ℕ)) (x : List ℕ) → Appends a b x → Keeps b c → Appends a c x
+appended_kept None b c x p q = tt
+appended_kept (Some xs) None c x p q = absurd p
+appended_kept (Some xs) (Some ys) None x p q = absurd q
+appended_kept (Some xs) (Some ys) (Some zs) x p q = q ∙ p
+
+pub appended_none : (a : Option (List ℕ)) → Appends a a []
+appended_none None = tt
+appended_none (Some xs) = sym (append-nil xs)
+
+-- the first bytes of a buffer, behind one more read into a part of it
+pub filled_part : (at room n : ℕ) (old read : List ℕ) → at ≤ length old → n ≤ length read
+    → take at old ++ take n read ≡ take (at + n) (put_mid at room old read)
+filled_part at room n old read within fits =
+    let post = post_of at room old in
+    let new = put_mid at room old read in
+    let front : take at new ≡ take at old = take-put_mid_below _ _ _ _ _ (omega arith) within in
+    let behind : drop at new ≡ read ++ post = drop_at (take at old) (read ++ post) at (length-take-le at old within) in
+    let part : take n (drop at new) ≡ take n read = ap (take n) behind ∙ take-append-le n read post fits in
+    sym (take-add at n new ∙ (ap (λ (l : List ℕ). l ++ take n (drop at new)) front ∙ ap (λ (l : List ℕ). take at old ++ l) part))
+
+-- into the whole rest of it
+pub filled_more : (at n : ℕ) (old read : List ℕ) → at ≤ length old → n ≤ length read
+    → take at old ++ take n read ≡ take (at + n) (put_mid at (length old - at) old read)
+filled_more at n old read within fits = filled_part at (length old - at) n old read within fits
+
+-- the first bytes of a text, behind one more write of its rest
+pub taken_more : (at n : ℕ) (bytes : List ℕ) → take at bytes ++ take n (take (length bytes - at) (drop at bytes)) ≡ take (at + n) bytes
+taken_more at n bytes =
+    ap (λ (l : List ℕ). take at bytes ++ take n l) (take_rest bytes at) ∙ sym (take-add at n bytes)

@@ -1,0 +1,83 @@
+-- How far an end has come, by the view that it stands for.
+use Rattle.std.proofs.Common.{◌≡◌, ◌≢◌, ℕ, ◌==◌, List, length, Bool, true, false, Option, Some, None, IsTrue, if◌then◌else◌, refl, sym, ◌∙◌, ap, subst, arith}
+use Rattle.std.proofs.lemmas.Bool.Decides.{nat_tests}
+use Rattle.noise_names.specs.declared.token.Role.{Role}
+use Rattle.noise_names.specs.Plan.{Plan, is_one_way}
+use Rattle.noise_state.specs.History.{hash}
+use Rattle.noise_handshake.specs.declared.keys.Own.{Own}
+use Rattle.noise_session.specs.declared.phase.Phase.{Phase}
+use Rattle.noise_session.specs.declared.phase.Phase.TheVariants as phase
+use Rattle.noise_session.specs.Progress.{Progress, is_open}
+use Rattle.noise_session.specs.Progress.Progress.{Handshaking, Open, Closed}
+use Rattle.noise_session.specs.Ends.{EndView, HeldEnd, PhaseStands, EndStands, HandshakeStands, OpenStands, OverStands, progress_in, progress_of, session_hash, closed}
+use Rattle.noise_session.specs.HeldTransport.{HeldTransport, TransportStands}
+
+-- numbers are tested for being equal
+same-true : (a b : ℕ) → a ≡ b → (a == b) ≡ true
+same-true a b e = grind (arith, nat_tests)
+
+same-false : (a b : ℕ) → a ≢ b → (a == b) ≡ false
+same-false a b apart = grind (arith, nat_tests)
+
+same-is : (a b : ℕ) → (a == b) ≡ true → a ≡ b
+same-is a b e = grind (arith, nat_tests)
+
+same-isnt : (a b : ℕ) → (a == b) ≡ false → a ≢ b
+same-isnt a b e = λ same. grind (arith, nat_tests)
+
+pub progress-handshaking : (v : EndView) → v.party.ended ≡ false → v.party.passed ≢ length v.party.pattern.messages
+    → progress_of v ≡ Handshaking v.party.pattern v.party.role v.party.passed
+progress-handshaking v going more =
+    let test = same-false v.party.passed (length v.party.pattern.messages) more in
+    rw (going, test) refl
+
+pub progress-open : (v : EndView) → v.party.ended ≡ false → v.party.passed ≡ length v.party.pattern.messages
+    → progress_of v ≡ Open v.party.role (is_one_way v.party.pattern) v.sent v.received
+progress-open v going all =
+    let test = same-true v.party.passed (length v.party.pattern.messages) all in
+    rw (going, test) refl
+
+pub progress-closed : (v : EndView) → v.party.ended ≡ true → progress_of v ≡ Closed v.party.role
+progress-closed v over = rw over refl
+
+-- the hash is told once all messages have passed
+pub no-hash : (v : EndView) → v.party.passed ≢ length v.party.pattern.messages → session_hash v ≡ None
+no-hash v more = let test = same-false v.party.passed (length v.party.pattern.messages) more in rw test refl
+
+pub whole-hash : (v : EndView) → v.party.passed ≡ length v.party.pattern.messages → session_hash v ≡ Some (hash v.party.history)
+whole-hash v all = let test = same-true v.party.passed (length v.party.pattern.messages) all in rw test refl
+
+pub is-open : (v : EndView) (t : HeldTransport) → OpenStands t v → IsTrue (is_open (progress_of v))
+is-open v t s = ap is_open (progress-open v s.going s.all)
+
+-- an open end has seen all messages of its handshake
+open-by : (ended done : Bool) (role : Role) (one_way : Bool) (sent received : ℕ) (pattern : Plan) (passed : ℕ)
+    → IsTrue (is_open (if ended then Closed role else if done then Open role one_way sent received else Handshaking pattern role passed)) → done ≡ true
+open-by true done role one_way sent received pattern passed h = cc
+open-by false true role one_way sent received pattern passed h = refl
+open-by false false role one_way sent received pattern passed h = cc
+
+pub open-passed : (v : EndView) → IsTrue (is_open (progress_of v)) → v.party.passed ≡ length v.party.pattern.messages
+open-passed v opens =
+    same-is v.party.passed (length v.party.pattern.messages)
+    (open-by v.party.ended (v.party.passed == length v.party.pattern.messages) v.party.role (is_one_way v.party.pattern) v.sent v.received v.party.pattern v.party.passed opens)
+
+open-fields : (a b : Role) (x y : Bool) (m n i j : ℕ) → a ≡ b → x ≡ y → m ≡ n → i ≡ j → Open a x m i ≡ Open b y n j
+open-fields a b x y m n i j e f g h = cc
+
+module _ {K : Type 0} (public_of : K → Own → Option (List ℕ)) (agreement : K → Own → List ℕ → Option (List ℕ)) where
+  pub phase-progress : (p : Phase K) (v : EndView) → PhaseStands public_of agreement p v → progress_in p ≡ progress_of v
+  phase-progress (phase.Handshaking h every) v s =
+      let is : Handshaking h.pattern h.role h.passed ≡ Handshaking v.party.pattern v.party.role v.party.passed = rw (s.party.pattern, s.party.role, s.party.passed) refl in
+      is ∙ sym (progress-handshaking v s.going s.more)
+  phase-progress (phase.Open t) v s =
+      open-fields t.role v.party.role t.one_way (is_one_way v.party.pattern) t.send_nonce v.sent t.receive_nonce v.received s.transport.role s.transport.one_way s.transport.send_nonce s.transport.receive_nonce
+      ∙ sym (progress-open v s.going s.all)
+  phase-progress (phase.Ended role told) v s = ap Closed s.role ∙ sym (progress-closed v s.over)
+
+  -- what is held of a frame doesn't count
+  pub phase-held : (p : Phase K) (v : EndView) (held : List ℕ) → PhaseStands public_of agreement p v → PhaseStands public_of agreement p (record v { held = held })
+  phase-held (phase.Handshaking h every) v held s =
+      record { party = s.party; interval = s.interval; going = s.going; more = s.more; sent = s.sent; received = s.received }
+  phase-held (phase.Open t) v held s = record { going = s.going; all = s.all; transport = s.transport }
+  phase-held (phase.Ended role told) v held s = record { over = s.over; role = s.role; hash = s.hash }

@@ -1,0 +1,93 @@
+-- What a transport holds, which views it stands for, and what it refuses (Noise 5.1, 7.4, 11.3).
+use Rattle.std.specs.Prelude.{◌≡◌, ℕ, ◌+◌, ◌==◌, nat_lt, List, Bool, ◌&&◌, Option, Some, None, if◌then◌else◌}
+use Rattle.noise_names.specs.declared.token.Role.{Role}
+use Rattle.noise_names.specs.declared.token.Role.TheVariants.{Initiator, Responder}
+use Rattle.noise_names.specs.Tokens.{same_role, other}
+use Rattle.noise_names.specs.Plan.{is_one_way}
+use Rattle.noise_state.specs.History.{History, hash}
+use Rattle.noise_handshake.specs.View.{View}
+use Rattle.noise_session.specs.declared.faults.SendFault.{SendFault}
+use Rattle.noise_session.specs.declared.faults.SendFault.TheVariants as send
+use Rattle.noise_session.specs.declared.faults.OpenFault.{OpenFault}
+use Rattle.noise_session.specs.declared.faults.OpenFault.TheVariants as unopened
+use Rattle.noise_session.specs.Transport.{transport_key, packet, last_nonce}
+
+-- a transport as contracts see it
+pub record HeldTransport : Type 0 where
+  pub role : Role
+  pub one_way : Bool
+  pub hash : List ℕ  -- of the handshake
+  pub remote_static : Option (List ℕ)
+  pub interval : ℕ
+  pub send_key : Option (List ℕ)
+  pub send_nonce : ℕ
+  pub receive_key : Option (List ℕ)
+  pub receive_nonce : ℕ
+
+-- The transport of one party of a handshake with that history, so many messages on.
+pub record TransportView : Type 0 where
+  pub role : Role
+  pub one_way : Bool
+  pub history : History
+  pub remote_static : Option (List ℕ)
+  pub interval : ℕ  -- after so many messages of a direction its key is renewed; 0 for never
+  pub sent : ℕ  -- messages: the nonce of the next
+  pub received : ℕ
+
+-- that of a party whose handshake is over
+abbrev pub transport_of : View → ℕ → TransportView
+transport_of v interval = record {
+  role = v.role;
+  one_way = is_one_way v.pattern;
+  history = v.history;
+  remote_static = v.remote.s;
+  interval = interval;
+  sent = 0;
+  received = 0;
+}
+
+-- what this party makes of a payload now
+abbrev pub next_packet : TransportView → List ℕ → List ℕ
+next_packet v payload = packet v.history v.role v.interval v.sent payload
+
+-- what the other party makes of a payload that is to come now
+abbrev pub due_packet : TransportView → List ℕ → List ℕ
+due_packet v payload = packet v.history (other v.role) v.interval v.received payload
+
+-- The transport holds what the view says.
+pub record TransportStands (t : HeldTransport) (v : TransportView) : Type 0 where
+  pub role : t.role ≡ v.role
+  pub one_way : t.one_way ≡ v.one_way
+  pub hash : t.hash ≡ hash v.history
+  pub remote_static : t.remote_static ≡ v.remote_static
+  pub interval : t.interval ≡ v.interval
+  pub send_key : t.send_key ≡ Some (transport_key v.history v.role v.interval v.sent)
+  pub send_nonce : t.send_nonce ≡ v.sent
+  pub receive_key : t.receive_key ≡ Some (transport_key v.history (other v.role) v.interval v.received)
+  pub receive_nonce : t.receive_nonce ≡ v.received
+
+-- why a payload of this length isn't sealed now: the first of these
+abbrev pub seal_fault : HeldTransport → ℕ → Option SendFault
+seal_fault t payload =
+    if t.one_way && same_role t.role Responder then Some send.OneWay
+    else if nat_lt 65535 (payload + 16) then Some send.TooLong
+    else if t.send_nonce == last_nonce then Some send.Exhausted
+    else None
+
+-- why no message is opened now, whatever it is: the first of these
+abbrev pub open_fault : HeldTransport → Option OpenFault
+open_fault t =
+    if t.one_way && same_role t.role Initiator then Some unopened.OneWay
+    else if t.receive_nonce == last_nonce then Some unopened.Exhausted
+    else None
+
+-- why a message of this length isn't opened that is no packet of the other party
+abbrev pub no_packet : ℕ → OpenFault
+no_packet message = if nat_lt message 16 then unopened.Short else unopened.Tag
+
+-- The second is the other party of the first, and expects the message that the first writes next.
+pub record Faces (v w : TransportView) : Type 0 where
+  pub role : w.role ≡ other v.role
+  pub history : w.history ≡ v.history
+  pub interval : w.interval ≡ v.interval
+  pub received : w.received ≡ v.sent

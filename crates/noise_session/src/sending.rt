@@ -1,0 +1,61 @@
+//! An end makes a message of a payload.
+#![tactic(auto)]
+
+ghost use Rattle.std.specs.Prelude.{◌≡◌, ◌≤◌, ⊤, length, take, drop, true, false, None, Ok, Err, IsTrue, IfOk, IfErr, MatchOption};
+ghost use Rattle.noise_session.specs.Ends.{EndView, PhaseStands, progress_in};
+ghost use Rattle.noise_session.specs.Frames.{frame};
+ghost use Rattle.noise_session.specs.Phases.{is_due, is_over};
+ghost use Rattle.noise_session.specs.Progress.{refusal, message_length, frame_len_of};
+ghost use Rattle.noise_session.specs.Sending.{Sends, behind_fault};
+ghost use Rattle.noise_session.specs.Faults.{ends};
+
+use crate::SendFault;
+use crate::phase::Phase;
+use noise_handshake::{Keys, WriteFault};
+
+// Writes the message of a payload into the first bytes of `out`, and tells how many.
+pub(crate) fn write_message<K: Keys>(
+    phase: &mut Phase<K>,
+    payload: &[u8],
+    out: &mut [u8],
+) -> Result<usize, SendFault>
+    requires due { IsTrue (is_due phase.old) }
+    requires room { refusal (progress_in phase.old) (length payload.now) ≡ None → message_length (progress_in phase.old) (length payload.now) ≤ length out.old }
+    ensures due { IsTrue (is_due phase.new) }
+    ensures len { IfOk result (λ n. (refusal (progress_in phase.old) (length payload.now) ≡ None) × (n ≡ message_length (progress_in phase.old) (length payload.now)) × (n ≤ length out.new) × (n ≤ 65535)) }
+    ensures rest { IfOk result (λ n. drop n out.new ≡ drop n out.old) }
+    ensures refused { MatchOption (refusal (progress_in phase.old) (length payload.now)) ⊤ (λ fault. (result ≡ Err fault) × (out.new ≡ out.old)) }
+    ensures going { IfOk result (λ _. is_over phase.new ≡ false) }
+    ensures kept { IfErr result (λ fault. ends fault ≡ false → phase.new ≡ phase.old) }
+    ensures ok { (v : EndView) → PhaseStands K.public_of K.agreement phase.old v → IfOk result (λ n.
+        (next : EndView) × Sends v payload.now (Ok (frame (take n out.new))) next × PhaseStands K.public_of K.agreement phase.new next × (next.held ≡ v.held)) }
+    ensures err { (v : EndView) → PhaseStands K.public_of K.agreement phase.old v → IfErr result (λ fault.
+        Sends v payload.now (Err fault) (behind_fault v fault) × PhaseStands K.public_of K.agreement phase.new (behind_fault v fault)) }
+{
+    match phase {
+        Phase::Handshaking { handshake, .. } => match handshake.write(payload, out) {
+            Ok(len) => {
+                phase.settle();
+                Ok(len)
+            }
+            Err(WriteFault::NotYourTurn) => Err(SendFault::NotYourTurn),
+            Err(WriteFault::TooLong) => Err(SendFault::TooLong),
+            Err(WriteFault::Agreement { token }) => {
+                phase.end();
+                Err(SendFault::Agreement { token })
+            }
+            Err(_) => unreachable!(),
+        },
+        Phase::Open(transport) => match transport.seal(payload, out) {
+            Ok(len) => Ok(len),
+            Err(SendFault::Exhausted) => {
+                phase.end();
+                Err(SendFault::Exhausted)
+            }
+            Err(SendFault::OneWay) => Err(SendFault::OneWay),
+            Err(SendFault::TooLong) => Err(SendFault::TooLong),
+            Err(_) => unreachable!(),
+        },
+        Phase::Ended { .. } => Err(SendFault::Ended),
+    }
+}

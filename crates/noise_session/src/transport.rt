@@ -1,0 +1,239 @@
+//! Transport messages of one party (Noise, 5.2 and 11.3).
+#![tactic(auto)]
+
+ghost use Rattle.std.specs.Prelude.{◌≡◌, ◌≢◌, ◌≤◌, ◌+◌, ℕ, List, length, take, drop, Option, Some, None, IsSome, IsOk, IfOk, IfErr, OnOk, OnErr, MatchOption, MatchResult};
+ghost use Rattle.noise_state.specs.Cipher.{key_in, nonce_in};
+ghost use Rattle.noise_state.specs.History.{rekeyed_times};
+ghost use Rattle.noise_handshake.specs.View.{View};
+ghost use Rattle.noise_handshake.specs.Opening.{Opens};
+ghost use Rattle.noise_session.specs.Transport.{renewals};
+ghost use Rattle.noise_session.specs.HeldTransport.{TransportView, TransportStands, transport_of, next_packet, due_packet, seal_fault, open_fault, no_packet};
+
+use crate::{OpenFault, SendFault};
+use noise_handshake::Opened;
+use noise_names::Role;
+use noise_state::{CipherFault, CipherState};
+use std::marker::Model;
+
+// The longest payload in bytes: its message has 16 more, and at most 65535 (Noise, 3).
+const PAYLOAD_MAX: usize = 65519;
+
+// The nonce that no message has (Noise, 5.1).
+const LAST_NONCE: u64 = u64::MAX;
+
+/// The transport of one party: it seals this party's payloads and opens the messages of the other.
+///
+/// In transport the key of a direction is renewed after each `interval` messages; 0 means never. Its nonces go on then. No
+/// call takes memory, and a fault changes nothing.
+#[derive(Drop)]
+pub struct Transport {
+    role: Role,
+    one_way: bool,
+    hash: [u8; 32],
+    remote_static: Option<[u8; 32]>,
+    interval: u64,
+    sending: CipherState,
+    receiving: CipherState,
+}
+
+impl Model for Transport {
+    ghost use Rattle.std.specs.Prelude.{IsSome};
+    ghost use Rattle.noise_state.specs.Cipher.{key_in, nonce_in};
+    ghost use Rattle.noise_session.specs.HeldTransport.{HeldTransport};
+
+    ghost Value = { HeldTransport };
+
+    ghost view = { λ t. record {
+      role = t.role;
+      one_way = t.one_way;
+      hash = t.hash;
+      remote_static = t.remote_static;
+      interval = t.interval;
+      send_key = key_in t.sending;
+      send_nonce = nonce_in t.sending;
+      receive_key = key_in t.receiving;
+      receive_nonce = nonce_in t.receiving;
+    } };
+
+    ghost invariant = { λ t. IsSome (key_in t.sending) × IsSome (key_in t.receiving) };
+}
+
+impl Transport {
+    /// The transport behind a handshake, at nonces 0.
+    pub fn new(opened: Opened, interval: u64) -> Transport
+        ensures parts { (result.role ≡ opened.role) × (result.one_way ≡ opened.one_way) × (result.hash ≡ opened.hash)
+            × (result.remote_static ≡ opened.remote_static) × (result.interval ≡ interval) × (result.send_nonce ≡ 0) × (result.receive_nonce ≡ 0) }
+        ensures stands { (v : View) → Opens opened v → TransportStands result (transport_of v interval) }
+    {
+        let role = opened.role();
+        let one_way = opened.one_way();
+        let hash = opened.hash();
+        let remote_static = opened.remote_static();
+        let (initiator, responder) = opened.into_ciphers();
+        let (sending, receiving) = match role {
+            Role::Initiator => (initiator, responder),
+            Role::Responder => (responder, initiator),
+        };
+        Transport {
+            role,
+            one_way,
+            hash,
+            remote_static,
+            interval,
+            sending,
+            receiving,
+        }
+    }
+
+    /// The role of this party.
+    pub fn role(&self) -> Role
+        ensures { result ≡ self.now.role }
+    {
+        self.role
+    }
+
+    /// Whether only the initiator writes (Noise, 7.4).
+    pub fn one_way(&self) -> bool
+        ensures { result ≡ self.now.one_way }
+    {
+        self.one_way
+    }
+
+    /// The hash of the whole handshake (Noise, 11.2), 32 bytes.
+    pub fn hash(&self) -> [u8; 32]
+        ensures { result ≡ self.now.hash }
+    {
+        self.hash
+    }
+
+    /// The other party's static public key, 32 bytes, where the handshake told it.
+    pub fn remote_static(&self) -> Option<[u8; 32]>
+        ensures { result ≡ self.now.remote_static }
+    {
+        self.remote_static
+    }
+
+    /// After how many messages of a direction its key is renewed; 0 for never.
+    pub fn interval(&self) -> u64
+        ensures { result ≡ self.now.interval }
+    {
+        self.interval
+    }
+
+    /// The nonce of the next message that is sealed.
+    pub fn send_nonce(&self) -> u64
+        ensures { result ≡ self.now.send_nonce }
+    {
+        self.sending.nonce()
+    }
+
+    /// The nonce of the next message that is opened.
+    pub fn receive_nonce(&self) -> u64
+        ensures { result ≡ self.now.receive_nonce }
+    {
+        self.receiving.nonce()
+    }
+
+    /// Sets the nonces of the next messages, where no key is ever renewed.
+    ///
+    /// A nonce at which a message was sealed must not be set again for sealing.
+    pub fn set_nonces(&mut self, send: u64, receive: u64)
+        requires { self.old.interval ≡ 0 }
+        ensures alone { self.new ≡ record self.old { send_nonce = send; receive_nonce = receive } }
+        ensures stands { (v : TransportView) → TransportStands self.old v → TransportStands self.new (record v { sent = send; received = receive }) }
+    {
+        self.sending.set_nonce(send);
+        self.receiving.set_nonce(receive);
+    }
+
+    /// Seals a payload into the first bytes of `out`, 16 more than it has, and tells how many.
+    ///
+    /// `out` holds them where the payload has at most 65519 bytes. The faults are OneWay, TooLong and Exhausted, looked for
+    /// in this order.
+    pub fn seal(&mut self, payload: &[u8], out: &mut [u8]) -> Result<usize, SendFault>
+        requires { seal_fault self.old (length payload.now) ≡ None → length payload.now + 16 ≤ length out.old }
+        ensures fault { MatchOption (seal_fault self.old (length payload.now)) (IsOk result) (λ fault. result ≡ Err fault) }
+        ensures len { IfOk result (λ n. (n ≡ length payload.now + 16) × (n ≤ length out.new)) }
+        ensures rest { IfOk result (λ n. drop n out.new ≡ drop n out.old) }
+        ensures counted { OnOk result (self.new ≡ record self.old { send_key = self.new.send_key; send_nonce = self.old.send_nonce + 1 }) }
+        ensures unchanged { OnErr result ((self.new ≡ self.old) × (out.new ≡ out.old)) }
+        ensures seals { (v : TransportView) → TransportStands self.old v → IfOk result (λ n.
+            (take n out.new ≡ next_packet v payload.now) × TransportStands self.new (record v { sent = v.sent + 1 })) }
+    {
+        if self.one_way && self.role == Role::Responder {
+            return Err(SendFault::OneWay);
+        }
+        if payload.len() > PAYLOAD_MAX {
+            return Err(SendFault::TooLong);
+        }
+        if self.sending.nonce() == LAST_NONCE {
+            return Err(SendFault::Exhausted);
+        }
+        out[..payload.len()].copy_from_slice(payload);
+        match self.sending.encrypt(&[], out, payload.len()) {
+            Ok(len) => {
+                renew(&mut self.sending, self.interval);
+                Ok(len)
+            }
+            Err(_) => unreachable!(),
+        }
+    }
+
+    /// Opens a message in place, and tells how many first bytes of it are then the payload.
+    ///
+    /// The message has at most 65535 bytes. At an `Err` its bytes are unchanged.
+    pub fn open_within(&mut self, message: &mut [u8]) -> Result<usize, OpenFault>
+        requires { length message.old ≤ 65535 }
+        ensures fault { MatchOption (open_fault self.old) (IfErr result (λ fault. fault ≡ no_packet (length message.old))) (λ fault. result ≡ Err fault) }
+        ensures len { IfOk result (λ n. n + 16 ≡ length message.new) }
+        ensures counted { OnOk result (self.new ≡ record self.old { receive_key = self.new.receive_key; receive_nonce = self.old.receive_nonce + 1 }) }
+        ensures unchanged { OnErr result ((self.new ≡ self.old) × (message.new ≡ message.old)) }
+        ensures opens { (v : TransportView) → TransportStands self.old v → MatchResult result
+            (λ n. (message.old ≡ due_packet v (take n message.new)) × TransportStands self.new (record v { received = v.received + 1 }))
+            (λ _. open_fault self.old ≡ None → (payload : List ℕ) → message.old ≢ due_packet v payload) }
+    {
+        if self.one_way && self.role == Role::Initiator {
+            return Err(OpenFault::OneWay);
+        }
+        match self.receiving.decrypt(&[], message) {
+            Ok(len) => {
+                renew(&mut self.receiving, self.interval);
+                Ok(len)
+            }
+            Err(CipherFault::Exhausted) => Err(OpenFault::Exhausted),
+            Err(CipherFault::Short) => Err(OpenFault::Short),
+            Err(CipherFault::Tag) => Err(OpenFault::Tag),
+            Err(CipherFault::TooLong) => unreachable!(),
+        }
+    }
+
+    /// Opens a message in place, and gives its payload, a part of the message's own bytes.
+    ///
+    /// The message has at most 65535 bytes. At an `Err` its bytes are unchanged.
+    pub fn open<'a>(&mut self, message: &'a mut [u8]) -> Result<&'a mut [u8], OpenFault>
+        requires { length message.old ≤ 65535 }
+        ensures fault { MatchOption (open_fault self.old) (IfErr result (λ fault. fault ≡ no_packet (length message.old))) (λ fault. result ≡ Err fault) }
+        ensures part { IfOk result (λ payload. (payload.ref_ptr ≡ message.entry.ref_ptr) × (length payload.now + 16 ≡ length message.old)) }
+        ensures counted { OnOk result (self.new ≡ record self.old { receive_key = self.new.receive_key; receive_nonce = self.old.receive_nonce + 1 }) }
+        ensures unchanged { OnErr result (self.new ≡ self.old) }
+        ensures opens { (v : TransportView) → TransportStands self.old v → MatchResult result
+            (λ payload. (message.old ≡ due_packet v payload.now) × TransportStands self.new (record v { received = v.received + 1 }))
+            (λ _. open_fault self.old ≡ None → (payload : List ℕ) → message.old ≢ due_packet v payload) }
+    {
+        let len = self.open_within(message)?;
+        Ok(&mut message[..len])
+    }
+}
+
+// Renews the key where the nonce has come to a multiple of the interval.
+fn renew(cipher: &mut CipherState, interval: u64)
+    requires { IsSome (key_in cipher.old) }
+    ensures nonce { nonce_in cipher.new ≡ nonce_in cipher.old }
+    ensures keyed { IsSome (key_in cipher.new) }
+    ensures key { (first : List ℕ) (n : ℕ) → nonce_in cipher.old ≡ n + 1 → key_in cipher.old ≡ Some (rekeyed_times (renewals interval n) first)
+        → key_in cipher.new ≡ Some (rekeyed_times (renewals interval (n + 1)) first) }
+{
+    if interval != 0 && cipher.nonce() % interval == 0 {
+        cipher.rekey();
+    }
+}
