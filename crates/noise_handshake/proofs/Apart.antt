@@ -5,11 +5,12 @@ use Rattle.std.specs.Prelude.{Bool, Option, Some, is_some, if◌then◌else◌, 
 use Rattle.noise_names.specs.declared.token.Token.{Token}
 use Rattle.noise_names.specs.declared.token.Token.TheVariants.{E, S, Ee, Es, Se, Ss, Psk}
 use Rattle.noise_state.specs.History.{History, cipher_key, piece}
-use Rattle.noise_state.proofs.Pieces.{length-piece, piece-same}
+use Rattle.noise_state.specs.Pieces.{length-piece, piece-same}
 use Rattle.noise_handshake.specs.declared.remote.Remote.{Remote}
 use Rattle.noise_handshake.specs.declared.faults.Cause.{Cause}
 use Rattle.noise_handshake.specs.Line.{token_piece, behind_token, front, behind_front}
-use Rattle.noise_handshake.specs.View.{View, Reader, reader, Fits, Fit, known_behind, secrets_behind, Fails, Leads, Reaches, Reads, Stops, Stalls, Accepts, cause_of, cause_at, tokens_now}
+use Rattle.noise_handshake.specs.View.{View, Reader, reader, Fits, Fit, known_behind, secrets_behind, Leads, Reaches, Reads, Stops, Accepts, cause_of, cause_at, tokens_now}
+use Rattle.noise_handshake.specs.inner.Listening.{Fails}
 use Rattle.noise_handshake.specs.declared.faults.Cause.TheVariants.{Short, Tag}
 
 pub split-apart : (a b p q : List ℕ) → length a ≡ length b → a ++ p ≡ b ++ q → (a ≡ b) × (p ≡ q)
@@ -93,7 +94,8 @@ stops-here v known secrets r t ts m cause bad why = record {
   carried = [];
   rest = m;
   leads = leads-none v known secrets r m;
-  further = λ reaches. leads-fails v known secrets r t reaches.carried m reaches.rest bad reaches.leads;
+  further = λ _ reaches. leads-fails v known secrets r t reaches.carried m reaches.rest bad reaches.leads;
+  unread = λ e. absurd (omega arith);
   why = why;
 }
 
@@ -115,15 +117,16 @@ leads-less v known secrets r t x ts (y ∷ ys) m more rest f e l =
     }
 
 pub stops-later : (v : Reader) (known : Remote) (secrets : List (List ℕ)) (r : History) (t : Token) (x : List ℕ) (ts : List Token) (m more : List ℕ) (k : ℕ) (cause : Cause)
-    → Fits v known secrets t x → m ≡ token_piece r t x ++ more
+    → k < length ts → Fits v known secrets t x → m ≡ token_piece r t x ++ more
     → Stops v (known_behind known t x) (secrets_behind secrets t) (behind_token v.psks r t x) ts more k cause
     → Stops v known secrets r (t ∷ ts) m (suc k) cause
-stops-later v known secrets r t x ts m more k cause f e s = record {
-  within = omega (arith, s.within);
+stops-later v known secrets r t x ts m more k cause h f e s = record {
+  within = omega (arith, h);
   carried = x ∷ s.carried;
   rest = s.rest;
   leads = leads-more v known secrets r t x (take k ts) s.carried m more s.rest f e s.leads;
-  further = λ reaches. s.further (leads-less v known secrets r t x (take (suc k) ts) reaches.carried m more reaches.rest f e reaches.leads);
+  further = λ _ reaches. s.further h (leads-less v known secrets r t x (take (suc k) ts) reaches.carried m more reaches.rest f e reaches.leads);
+  unread = λ e. absurd (omega (arith, h));
   why = s.why;
 }
 
@@ -132,10 +135,10 @@ cause_at-end keyed [] rest = refl
 cause_at-end keyed (t ∷ ts) rest = cause_at-end keyed ts rest
 
 -- a stop at the payload
-pub stalls-last : (v : Reader) (known : Remote) (secrets : List (List ℕ)) (r : History) (ts : List Token) (m : List ℕ) (xs : List (List ℕ)) (rest : List ℕ) (cause : Cause)
+pub stops-last : (v : Reader) (known : Remote) (secrets : List (List ℕ)) (r : History) (ts : List Token) (m : List ℕ) (xs : List (List ℕ)) (rest : List ℕ) (cause : Cause)
     → Leads v known secrets r ts xs m rest → ((payload : List ℕ) → rest ≡ piece (behind_front v.psks r ts xs) payload → ⊥)
-    → cause ≡ (if nat_lt (length rest) 16 then Short else Tag) → Stalls v known secrets r ts m (length ts) cause
-stalls-last v known secrets r ts m xs rest cause l bad why =
+    → cause ≡ (if nat_lt (length rest) 16 then Short else Tag) → Stops v known secrets r ts m (length ts) cause
+stops-last v known secrets r ts m xs rest cause l bad why =
     let whole : take (length ts) ts ≡ ts = take_all (length ts) ts (omega arith) in
     record {
       within = omega arith;
@@ -180,9 +183,9 @@ at-most (suc k) zero h = absurd (omega arith)
 at-most (suc k) (suc n) h = elim (at-most k n (omega arith)) [ inl l ↦ inl (omega arith) | inr e ↦ inr (ap suc e) ]
 
 -- what is refused is no message
-pub stalls-not : (v : Reader) (known : Remote) (secrets : List (List ℕ)) (r : History) (ts : List Token) (m : List ℕ) (k : ℕ) (cause : Cause) (xs : List (List ℕ)) (p : List ℕ)
-    → Stalls v known secrets r ts m k cause → Reads v known secrets r ts m xs p → ⊥
-stalls-not v known secrets r ts m k cause xs p s a =
+pub stops-not : (v : Reader) (known : Remote) (secrets : List (List ℕ)) (r : History) (ts : List Token) (m : List ℕ) (k : ℕ) (cause : Cause) (xs : List (List ℕ)) (p : List ℕ)
+    → Stops v known secrets r ts m k cause → Reads v known secrets r ts m xs p → ⊥
+stops-not v known secrets r ts m k cause xs p s a =
     let l : Leads v known secrets r ts xs m (piece (behind_front v.psks r ts xs) p) = record { fit = a.fit; spelled = a.spelled } in
     elim (at-most k (length ts) s.within) [
       | inl h ↦ s.further h (reads-leads v known secrets r ts xs m (piece (behind_front v.psks r ts xs) p) (suc k) l)

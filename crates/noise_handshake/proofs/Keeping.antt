@@ -13,7 +13,7 @@ use Rattle.noise_handshake.specs.Length.{keyed_behind_tokens}
 use Rattle.noise_handshake.specs.View.{tokens_at}
 use Rattle.noise_handshake.specs.Held.{Held}
 use Rattle.noise_handshake.specs.Setup.{secrets_of}
-use Rattle.noise_handshake.specs.Sound.{IsSound}
+use Rattle.noise_handshake.specs.inner.Sound.{IsSound}
 use Rattle.noise_handshake.specs.Passed.{passed_places}
 use Rattle.noise_handshake.proofs.Places.{has_key-passed}
 

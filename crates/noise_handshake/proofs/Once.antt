@@ -6,11 +6,11 @@ use Rattle.noise_state.specs.History.{History, cipher_key}
 use Rattle.noise_handshake.specs.declared.remote.Remote.{Remote}
 use Rattle.noise_handshake.specs.declared.faults.Cause.{Cause}
 use Rattle.noise_handshake.specs.Line.{behind_front}
-use Rattle.noise_handshake.specs.View.{View, Reader, reader, Reaches, Stalls, Accepts, Refuses, cause_at, tokens_now}
-use Rattle.noise_handshake.proofs.Apart.{front-apart, reads-leads, stalls-not}
+use Rattle.noise_handshake.specs.View.{View, Reader, reader, Reaches, Stops, Accepts, Refuses, cause_at, tokens_now}
+use Rattle.noise_handshake.proofs.Apart.{front-apart, reads-leads, stops-not}
 
 not-earlier : (v : Reader) (known : Remote) (secrets : List (List ℕ)) (r : History) (ts : List Token) (m : List ℕ) (k j : ℕ) (c d : Cause)
-    → Stalls v known secrets r ts m k c → Stalls v known secrets r ts m j d → k < j → ⊥
+    → Stops v known secrets r ts m k c → Stops v known secrets r ts m j d → k < j → ⊥
 not-earlier v known secrets r ts m k j c d a b h =
     a.further (omega (arith, h, b.within))
     (subst (λ (us : List Token). Reaches v known secrets r us m) (take-take (suc k) j ts (omega (arith, h))) (reads-leads v known secrets r (take j ts) b.carried m b.rest (suc k) b.leads))
@@ -19,7 +19,7 @@ same-place : (k j : ℕ) → (k < j → ⊥) → (j < k → ⊥) → k ≡ j
 same-place k j f g = grind arith
 
 same-cause : (v : Reader) (known : Remote) (secrets : List (List ℕ)) (r : History) (ts : List Token) (m : List ℕ) (k : ℕ) (c d : Cause)
-    → Stalls v known secrets r ts m k c → Stalls v known secrets r ts m k d → c ≡ d
+    → Stops v known secrets r ts m k c → Stops v known secrets r ts m k d → c ≡ d
 same-cause v known secrets r ts m k c d a b =
     let h = front-apart v known secrets r (take k ts) a.carried b.carried a.rest b.rest a.leads.fit b.leads.fit (sym a.leads.spelled ∙ b.leads.spelled) in
     a.why
@@ -31,9 +31,9 @@ same-cause v known secrets r ts m k c d a b =
 pub refuses-one : (v : View) (m : List ℕ) (k j : ℕ) (c d : Cause) → Refuses v m k c → Refuses v m j d → (k ≡ j) × (c ≡ d)
 refuses-one v m k j c d a b =
     let u : Reader = reader v in
-    let e : k ≡ j = same-place k j (not-earlier u v.remote v.secrets v.history (tokens_now v) m k j c d a.stalls b.stalls) (not-earlier u v.remote v.secrets v.history (tokens_now v) m j k d c b.stalls a.stalls) in
-    (e, same-cause u v.remote v.secrets v.history (tokens_now v) m k c d a.stalls (subst (λ (i : ℕ). Stalls u v.remote v.secrets v.history (tokens_now v) m i d) (sym e) b.stalls))
+    let e : k ≡ j = same-place k j (not-earlier u v.remote v.secrets v.history (tokens_now v) m k j c d a.stops b.stops) (not-earlier u v.remote v.secrets v.history (tokens_now v) m j k d c b.stops a.stops) in
+    (e, same-cause u v.remote v.secrets v.history (tokens_now v) m k c d a.stops (subst (λ (i : ℕ). Stops u v.remote v.secrets v.history (tokens_now v) m i d) (sym e) b.stops))
 
 -- what is accepted isn't refused
 pub accepts-or : (v : View) (m : List ℕ) (xs : List (List ℕ)) (p : List ℕ) (k : ℕ) (c : Cause) → Accepts v m xs p → Refuses v m k c → ⊥
-accepts-or v m xs p k c a b = stalls-not (reader v) v.remote v.secrets v.history (tokens_now v) m k c xs p b.stalls a.reads
+accepts-or v m xs p k c a b = stops-not (reader v) v.remote v.secrets v.history (tokens_now v) m k c xs p b.stops a.reads

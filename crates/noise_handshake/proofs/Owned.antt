@@ -12,12 +12,9 @@ use Rattle.noise_names.specs.Plan.{Plan, Place, place, payload, token_places, me
 use Rattle.noise_names.specs.Validity.{is_at, stands}
 use Rattle.noise_handshake.specs.declared.keys.Own.{Own}
 use Rattle.noise_handshake.specs.declared.keys.Own.TheVariants.{Ephemeral, Static}
+use Rattle.noise_handshake.specs.Setup.{has_token}
 use Rattle.noise_handshake.specs.View.{tokens_at}
-use Rattle.noise_handshake.specs.Writing.{has_own}
-
--- whether a token is among these
-abbrev pub has_token : Token → List Token → Bool
-has_token t ts = list_any (λ u. same_token u t) ts
+use Rattle.noise_handshake.specs.inner.Speaking.{has_own}
 
 or-left : (a b : Bool) → a ≡ true → (a || b) ≡ true
 or-left true b e = refl
@@ -50,7 +47,8 @@ stands-tokens party t m i (u ∷ ts) e =
     or-both (same_token u t) (has_token t ts) (same_token u t && same_role party party) (stands party t (token_places party m (i + 1) ts))
     (by_self (same_token u t) party) (stands-tokens party t m (i + 1) ts) e
 
-stands-messages : (party : Role) (t : Token) (k : ℕ) (ms : List (List Token)) (n : ℕ) → has_token t (tokens_at ms n) ≡ true → stands (turn_from party n) t (message_places party k ms) ≡ true
+stands-messages : (party : Role) (t : Token) (k : ℕ) (ms : List (List Token)) (n : ℕ) → has_token t (tokens_at ms n) ≡ true
+    → stands (turn_from party n) t (message_places party k ms) ≡ true
 stands-messages party t k [] n e = cc
 stands-messages party t k (ts ∷ ms) zero e =
     let rest : List Place = place party payload k (length ts) ∷ message_places (other party) (k + 1) ms in
@@ -69,10 +67,12 @@ stands-place p t n e =
     let all : List Place = message_places Initiator 1 p.messages in
     list_any-append (λ q. is_at t q.step && same_role q.party whose) (pre ++ all) (transport_places p)
     ∙ or-left (stands whose t (pre ++ all)) (stands whose t (transport_places p))
-    (list_any-append (λ q. is_at t q.step && same_role q.party whose) pre all ∙ or-right (stands whose t pre) (stands whose t all) (stands-messages Initiator t 1 p.messages n e))
+    (list_any-append (λ q. is_at t q.step && same_role q.party whose) pre all
+    ∙ or-right (stands whose t pre) (stands whose t all) (stands-messages Initiator t 1 p.messages n e))
 
 module _ (own : Own → Option (List ℕ)) where
-  all-own : (ts : List Token) → (has_token E ts ≡ true → is_some (own Ephemeral) ≡ true) → (has_token S ts ≡ true → is_some (own Static) ≡ true) → IsTrue (list_all (has_own own) ts)
+  all-own : (ts : List Token) → (has_token E ts ≡ true → is_some (own Ephemeral) ≡ true) → (has_token S ts ≡ true → is_some (own Static) ≡ true)
+      → IsTrue (list_all (has_own own) ts)
   all-own [] e s = refl
   all-own (E ∷ ts) e s = and-both (is_some (own Ephemeral)) (list_all (has_own own) ts) (e refl) (all-own ts (λ h. e refl) s)
   all-own (S ∷ ts) e s = and-both (is_some (own Static)) (list_all (has_own own) ts) (s refl) (all-own ts e (λ h. s refl))

@@ -4,6 +4,7 @@ use Rattle.std.proofs.lemmas.Bool.Decides.{nat_tests}
 use Rattle.std.specs.Prelude.{Bool, true, false, not, ◌||◌, ◌&&◌, ◌==◌, ◌↔◌, IsTrue, IsFalse, Option, Some, None, is_some, is_none, if◌then◌else◌}
 use Rattle.noise_names.specs.declared.token.Role.{Role}
 use Rattle.noise_names.specs.declared.token.Role.TheVariants.{Initiator, Responder}
+use Rattle.noise_names.specs.declared.token.Token.{Token}
 use Rattle.noise_names.specs.declared.token.Token.TheVariants.{E, S}
 use Rattle.noise_names.specs.Tokens.{other}
 use Rattle.noise_names.specs.Plan.{Plan, places_of, message_places}
@@ -13,7 +14,8 @@ use Rattle.noise_handshake.specs.declared.keys.Own.TheVariants.{Ephemeral, Stati
 use Rattle.noise_handshake.specs.declared.remote.Remote.{Remote}
 use Rattle.noise_handshake.specs.declared.faults.SetupFault.{SetupFault}
 use Rattle.noise_handshake.specs.declared.faults.SetupFault.TheVariants.{EphemeralMissing, StaticMissing, RemoteMissing, RemoteUnexpected, PskCount}
-use Rattle.noise_handshake.specs.Setup.{HasPre, keys_of, public_keys, secrets_of, setup_fault, lacks_own, lacks_remote, has_unexpected, has_before}
+use Rattle.noise_handshake.specs.Setup.{keys_of, public_keys, secrets_of, setup_fault, lacks_own, lacks_remote, has_unexpected, has_before, token_of}
+use Rattle.noise_handshake.specs.inner.PreMessage.{HasPre}
 use Rattle.noise_handshake.proofs.Uses.{stands-places_of}
 
 pub flips : (b x : Bool) → (IsTrue b ↔ IsFalse x) → not b ≡ x
@@ -25,6 +27,12 @@ implied : (a : Bool) (o : Option (List ℕ)) → (a && is_none o) ≡ false → 
 implied true None e h = absurd (cc)
 implied true (Some x) e h = refl
 implied false o e h = absurd (cc)
+
+exactly : (a : Bool) (o : Option (List ℕ)) → (a && is_none o) ≡ false → (is_some o && not a) ≡ false → is_some o ≡ a
+exactly true None e h = absurd (cc)
+exactly true (Some x) e h = refl
+exactly false None e h = refl
+exactly false (Some x) e h = absurd (cc)
 
 left-false : (a b : Bool) → (a || b) ≡ false → a ≡ false
 left-false true b e = absurd (cc)
@@ -66,8 +74,10 @@ no-fault false false false false true h = absurd (cc)
 no-fault false false false false false h = record { first = refl; second = refl; third = refl; fourth = refl; fifth = refl }
 
 module _ (p : Plan) (role : Role) (own : Own → Option (List ℕ)) (remote : Remote) (n : ℕ) (none : setup_fault p role own remote n ≡ None) where
-  tests : NoFault (lacks_own p role E (own Ephemeral)) (lacks_own p role S (own Static)) (lacks_remote p role remote) (has_unexpected p role remote) (not (n == secrets_of p.messages))
-  tests = no-fault (lacks_own p role E (own Ephemeral)) (lacks_own p role S (own Static)) (lacks_remote p role remote) (has_unexpected p role remote) (not (n == secrets_of p.messages)) none
+  tests : NoFault (lacks_own p role E (own Ephemeral)) (lacks_own p role S (own Static)) (lacks_remote p role remote) (has_unexpected p role remote)
+      (not (n == secrets_of p.messages))
+  tests = no-fault (lacks_own p role E (own Ephemeral)) (lacks_own p role S (own Static)) (lacks_remote p role remote) (has_unexpected p role remote)
+      (not (n == secrets_of p.messages)) none
 
   pub own-e : stands role E (places_of p) ≡ true → is_some (own Ephemeral) ≡ true
   own-e = implied (stands role E (places_of p)) (own Ephemeral) tests.first
@@ -78,6 +88,21 @@ module _ (p : Plan) (role : Role) (own : Own → Option (List ℕ)) (remote : Re
   pub counted : n ≡ secrets_of p.messages
   counted = same-count n (secrets_of p.messages) tests.fifth
 
+  pub own-there : (x : Own) → stands role (token_of x) (places_of p) ≡ true → is_some (own x) ≡ true
+  own-there Ephemeral = own-e
+  own-there Static = own-s
+
+  abbrev before : Token → Bool
+  before t = has_before p (other role) t
+
+  pub remote-exactly : (is_some remote.e ≡ has_before p (other role) E) × (is_some remote.s ≡ has_before p (other role) S)
+  remote-exactly = (
+    exactly (before E) remote.e (left-false (before E && is_none remote.e) (before S && is_none remote.s) tests.third)
+        (left-false (is_some remote.e && not (before E)) (is_some remote.s && not (before S)) tests.fourth),
+    exactly (before S) remote.s (right-false (before E && is_none remote.e) (before S && is_none remote.s) tests.third)
+        (right-false (is_some remote.e && not (before E)) (is_some remote.s && not (before S)) tests.fourth),
+  )
+
   own-pre : HasPre p role (public_keys own)
   own-pre = record {
     e = λ h. own-e (stands-places_of p role E ∙ ap (λ (b : Bool). b || stands role E (message_places Initiator 1 p.messages)) h);
@@ -85,13 +110,11 @@ module _ (p : Plan) (role : Role) (own : Own → Option (List ℕ)) (remote : Re
   }
 
   pub other-pre : HasPre p (other role) remote
-  other-pre = record {
-    e = implied (has_before p (other role) E) remote.e (left-false (has_before p (other role) E && is_none remote.e) (has_before p (other role) S && is_none remote.s) tests.third);
-    s = implied (has_before p (other role) S) remote.s (right-false (has_before p (other role) E && is_none remote.e) (has_before p (other role) S && is_none remote.s) tests.third);
-  }
+  other-pre = record { e = λ h. remote-exactly.0 ∙ h; s = λ h. remote-exactly.1 ∙ h }
 
 -- the keys of both pre-messages
-pub has-pre : (p : Plan) (party role : Role) (own : Own → Option (List ℕ)) (remote : Remote) (n : ℕ) → setup_fault p role own remote n ≡ None → HasPre p party (keys_of party role (public_keys own) remote)
+pub has-pre : (p : Plan) (party role : Role) (own : Own → Option (List ℕ)) (remote : Remote) (n : ℕ) → setup_fault p role own remote n ≡ None
+    → HasPre p party (keys_of party role (public_keys own) remote)
 has-pre p Initiator Initiator own remote n e = own-pre p Initiator own remote n e
 has-pre p Initiator Responder own remote n e = other-pre p Responder own remote n e
 has-pre p Responder Initiator own remote n e = other-pre p Initiator own remote n e

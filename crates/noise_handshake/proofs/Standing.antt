@@ -11,10 +11,12 @@ use Rattle.noise_state.specs.Standing.{StateStands}
 use Rattle.noise_state.specs.declared.symmetric.SymmetricState.{SymmetricState}
 use Rattle.noise_handshake.specs.declared.keys.Own.{Own}
 use Rattle.noise_handshake.specs.declared.remote.Remote.{Remote}
+use Rattle.noise_handshake.specs.declared.faults.Cause.{Cause}
 use Rattle.noise_handshake.specs.declared.faults.ReadFault.{ReadFault}
 use Rattle.noise_handshake.specs.declared.faults.ReadFault.TheVariants as read
 use Rattle.noise_handshake.specs.Line.{behind_line}
-use Rattle.noise_handshake.specs.View.{View, Listens, Listening, learned, tokens_at, tokens_now}
+use Rattle.noise_handshake.specs.View.{View, Reader, reader, Listens, Reads, Stops, Accepts, Refuses, learned, tokens_at, tokens_now}
+use Rattle.noise_handshake.specs.inner.Listening.{Listening}
 use Rattle.noise_handshake.specs.Held.{Held, read_fault, is_turn}
 use Rattle.noise_handshake.specs.Party.{Stands, behind_message, over}
 
@@ -114,3 +116,27 @@ module _ {K : Type 0} (public_of : K → Own → Option (List ℕ)) (agreement :
     ended = e;
     history = s.history;
   }
+
+-- what holds of a party's parts holds of the view that it listens for
+module _ (v : View) (role : Role) (psks : Bool) (agree : Own → List ℕ → Option (List ℕ)) (secrets : List (List ℕ)) (known : Remote) (tokens : List Token)
+    (l : Listening v role psks agree secrets known tokens) where
+  for-view : (P : Reader → Remote → List (List ℕ) → List Token → Type 0) → P (record { role = role; psks = psks; agree = agree }) known secrets tokens
+      → P (reader v) v.remote v.secrets (tokens_now v)
+  for-view P h =
+      let h1 = subst (λ (z : Role). P (record { role = z; psks = psks; agree = agree }) known secrets tokens) l.role_is h in
+      let h2 = subst (λ (z : Bool). P (record { role = v.role; psks = z; agree = agree }) known secrets tokens) l.psks_is h1 in
+      let h3 = subst (λ (z : Own → List ℕ → Option (List ℕ)). P (record { role = v.role; psks = has_psk v.pattern; agree = z }) known secrets tokens) l.agree_is h2 in
+      let h4 = subst (λ (z : Remote). P (reader v) z secrets tokens) l.known_is h3 in
+      let h5 = subst (λ (z : List (List ℕ)). P (reader v) v.remote z tokens) l.secrets_are h4 in
+      subst (λ (ts : List Token). P (reader v) v.remote v.secrets ts) l.tokens_are h5
+
+  pub accepted : (m : List ℕ) (xs : List (List ℕ)) (payload : List ℕ) → length m ≤ 65535
+      → Reads (record { role = role; psks = psks; agree = agree }) known secrets v.history tokens m xs payload → Accepts v m xs payload
+  accepted m xs payload fits h = record {
+    listens = l.listens;
+    fits = fits;
+    reads = for-view (λ w k s ts. Reads w k s v.history ts m xs payload) h;
+  }
+
+  pub refused : (m : List ℕ) (k : ℕ) (cause : Cause) → Stops (record { role = role; psks = psks; agree = agree }) known secrets v.history tokens m k cause → Refuses v m k cause
+  refused m k cause h = record { listens = l.listens; stops = for-view (λ w z s ts. Stops w z s v.history ts m k cause) h }

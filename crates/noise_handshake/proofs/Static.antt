@@ -3,9 +3,29 @@ use Rattle.std.proofs.Common.{◌≡◌, ℕ, ◌+◌, ◌<◌, ◌≤◌, List,
 use Rattle.std.proofs.Math.Seq.{take-append_seam}
 use Rattle.std.specs.Prelude.{Bool, true, false, is_some, if◌then◌else◌, nat_lt}
 use Rattle.noise_state.specs.History.{History, cipher_key, piece}
-use Rattle.noise_state.proofs.Pieces.{length-piece}
+use Rattle.noise_state.specs.Pieces.{length-piece}
+use Rattle.noise_names.specs.declared.token.Token.TheVariants.{S}
+use Rattle.noise_state.specs.Standing.{StateStands, keyed, keyed-is}
+use Rattle.noise_state.specs.declared.symmetric.SymmetricState.{SymmetricState}
+use Rattle.noise_handshake.specs.Length.{tag_width, token_width}
 use Rattle.noise_handshake.specs.declared.faults.Cause.TheVariants.{Short, Tag}
-use Rattle.noise_handshake.specs.View.{width_of_key}
+use Rattle.noise_handshake.specs.inner.Listening.{width_of_key}
+
+key_width : (k : Bool) → 32 + tag_width k ≡ (if k then 48 else 32)
+key_width true = refl
+key_width false = refl
+
+-- how wide a static key is, by the state
+pub width-is : (s : SymmetricState) (r : History) (n : ℕ) → StateStands s r → n ≡ token_width (keyed s) S → n ≡ width_of_key r
+width-is s r n h e = e ∙ ap (λ (k : Bool). 32 + tag_width k) (keyed-is s r h) ∙ key_width (is_some (cipher_key r))
+
+pub width-low : (k : Bool) → 32 ≤ token_width k S
+width-low true = omega arith
+width-low false = omega arith
+
+pub width-high : (k : Bool) → token_width k S ≤ 48
+width-high true = omega arith
+width-high false = omega arith
 
 wide : (k : Bool) (n : ℕ) → n ≡ 32 → (if k then n + 16 else n) ≡ (if k then 48 else 32)
 wide true n e = omega arith

@@ -1,5 +1,5 @@
 -- The steps of reading, as the code's values have them.
-use Rattle.std.proofs.Common.{◌≡◌, ℕ, suc, ◌+◌, ◌-◌, ◌≤◌, List, [], ◌∷◌, ◌++◌, length, take, drop, refl, ap, sym, subst, ◌∙◌, arith, add-one, drop-drop, length-take}
+use Rattle.std.proofs.Common.{◌≡◌, ℕ, suc, ◌+◌, ◌-◌, ◌<◌, ◌≤◌, List, [], ◌∷◌, ◌++◌, length, take, drop, refl, ap, sym, subst, ◌∙◌, arith, add-one, drop-drop, length-take}
 use Rattle.std.proofs.lemmas.List.{take-append-le}
 use Rattle.std.proofs.Math.Seq.{drop-append_seam}
 use Rattle.std.specs.Prelude.{is_some}
@@ -10,7 +10,8 @@ use Rattle.noise_handshake.specs.declared.faults.Cause.{Cause}
 use Rattle.noise_state.specs.Standing.{StateStands}
 use Rattle.noise_state.specs.declared.symmetric.SymmetricState.{SymmetricState}
 use Rattle.noise_handshake.specs.Line.{token_piece, behind_token, behind_front}
-use Rattle.noise_handshake.specs.View.{Reader, Fits, Fails, Leads, Stops, known_behind, secrets_behind, learned, cause_of}
+use Rattle.noise_handshake.specs.View.{Reader, Fits, Leads, Stops, known_behind, secrets_behind, learned, cause_of}
+use Rattle.noise_handshake.specs.inner.Listening.{Fails}
 use Rattle.noise_handshake.proofs.Apart.{leads-none, leads-more, stops-here, stops-later}
 
 pub stopped : (v : Reader) (known : Remote) (secrets : List (List ℕ)) (r : History) (tokens ts : List Token) (t : Token) (m : List ℕ) (cause : Cause)
@@ -42,12 +43,12 @@ module _ (v : Reader) (known known2 : Remote) (secrets secrets2 : List (List ℕ
   pub learned-on : (xs : List (List ℕ)) (known3 : Remote) → known3 ≡ learned known2 ts xs → known3 ≡ learned known tokens (x ∷ xs)
   learned-on xs known3 e = e ∙ ap (λ (z : Remote). learned z ts xs) knows ∙ ap (λ (us : List Token). learned known us (x ∷ xs)) (sym split)
 
-  pub stopped-later : (k : ℕ) (cause : Cause) → Stops v known2 secrets2 (behind_token v.psks r t x) ts m2 k cause → Stops v known secrets r tokens m (k + 1) cause
-  stopped-later k cause s =
+  pub stopped-later : (k : ℕ) (cause : Cause) → k < length ts → Stops v known2 secrets2 (behind_token v.psks r t x) ts m2 k cause → Stops v known secrets r tokens m (k + 1) cause
+  stopped-later k cause h s =
       let l1 = subst (λ (z : Remote). Stops v z secrets2 (behind_token v.psks r t x) ts m2 k cause) knows s in
       let l2 = subst (λ (z : List (List ℕ)). Stops v (known_behind known t x) z (behind_token v.psks r t x) ts m2 k cause) holds l1 in
       let l3 = subst (λ (z : List ℕ). Stops v (known_behind known t x) (secrets_behind secrets t) (behind_token v.psks r t x) ts z k cause) goes l2 in
-      let l4 = stops-later v known secrets r t x ts m (drop n m) k cause fits spelled l3 in
+      let l4 = stops-later v known secrets r t x ts m (drop n m) k cause h fits spelled l3 in
       let l5 = subst (λ (us : List Token). Stops v known secrets r us m (suc k) cause) (sym split) l4 in
       rw add-one l5
 

@@ -14,12 +14,14 @@ use Rattle.noise_state.specs.declared.symmetric.SymmetricState.{SymmetricState}
 use Rattle.noise_handshake.specs.declared.keys.Own.{Own}
 use Rattle.noise_handshake.specs.declared.faults.WriteFault.{WriteFault}
 use Rattle.noise_handshake.specs.declared.faults.WriteFault.TheVariants as write
-use Rattle.noise_handshake.specs.Line.{behind_line}
+use Rattle.noise_handshake.specs.declared.remote.Remote.{Remote}
+use Rattle.noise_handshake.specs.Writing.{Writer, writer, Given, LacksAt, Writes, Lacks}
+use Rattle.noise_handshake.specs.Line.{line, behind_line}
 use Rattle.noise_handshake.specs.Length.{added_width}
 use Rattle.noise_handshake.specs.View.{View, Speaks, tokens_at, tokens_now}
-use Rattle.noise_handshake.specs.Writing.{Speaking, has_own}
+use Rattle.noise_handshake.specs.inner.Speaking.{Speaking, has_own}
 use Rattle.noise_handshake.specs.Held.{Held, write_fault, is_turn, length_now, length_unless, message_len_of}
-use Rattle.noise_handshake.specs.Sound.{IsSound}
+use Rattle.noise_handshake.specs.inner.Sound.{IsSound}
 use Rattle.noise_handshake.specs.Passed.{passed_places}
 use Rattle.noise_handshake.specs.Party.{Stands, behind_own}
 use Rattle.noise_handshake.proofs.Owned.{owned}
@@ -116,3 +118,29 @@ module _ {K : Type 0} (public_of : K → Own → Option (List ℕ)) (h : Held K)
       ended = t.ended;
       history = subst (λ (ts : List Token). StateStands state (behind_line (has_psk v.pattern) v.history ts xs payload)) e (subst (λ (z : Bool). StateStands state (behind_line z v.history tokens xs payload)) (b ∙ ap has_psk t.pattern) k);
     }
+
+-- what holds of a party's parts holds of the view that it speaks for
+module _ (v : View) (role : Role) (psks : Bool) (own : Own → Option (List ℕ)) (agree : Own → List ℕ → Option (List ℕ)) (secrets : List (List ℕ)) (known : Remote) (tokens : List Token)
+    (l : Speaking v role psks own agree secrets known tokens) where
+  for-view : (P : Writer → Remote → List (List ℕ) → List Token → Type 0) → P (record { role = role; psks = psks; own = own; agree = agree }) known secrets tokens
+      → P (writer v) v.remote v.secrets (tokens_now v)
+  for-view P h =
+      let h1 = subst (λ (z : Role). P (record { role = z; psks = psks; own = own; agree = agree }) known secrets tokens) l.role_is h in
+      let h2 = subst (λ (z : Bool). P (record { role = v.role; psks = z; own = own; agree = agree }) known secrets tokens) l.psks_is h1 in
+      let h3 = subst (λ (z : Own → Option (List ℕ)). P (record { role = v.role; psks = has_psk v.pattern; own = z; agree = agree }) known secrets tokens) l.own_is h2 in
+      let h4 = subst (λ (z : Own → List ℕ → Option (List ℕ)). P (record { role = v.role; psks = has_psk v.pattern; own = v.own; agree = z }) known secrets tokens) l.agree_is h3 in
+      let h5 = subst (λ (z : Remote). P (writer v) z secrets tokens) l.known_is h4 in
+      let h6 = subst (λ (z : List (List ℕ)). P (writer v) v.remote z tokens) l.secrets_are h5 in
+      subst (λ (ts : List Token). P (writer v) v.remote v.secrets ts) l.tokens_are h6
+
+  pub written : (payload : List ℕ) (xs : List (List ℕ)) (m : List ℕ) → length m ≤ 65535
+      → Given (record { role = role; psks = psks; own = own; agree = agree }) known secrets tokens xs → m ≡ line psks v.history tokens xs payload → Writes v payload xs m
+  written payload xs m fits g e = record {
+    speaks = l.speaks;
+    given = for-view (λ w z s ts. Given w z s ts xs) g;
+    spelled = e ∙ ap (λ (z : Bool). line z v.history tokens xs payload) l.psks_is ∙ ap (λ (ts : List Token). line (has_psk v.pattern) v.history ts xs payload) l.tokens_are;
+    fits = fits;
+  }
+
+  pub lacking : (k : ℕ) → LacksAt (record { role = role; psks = psks; own = own; agree = agree }) known secrets tokens k → Lacks v k
+  lacking k h = record { speaks = l.speaks; lacks = for-view (λ w z s ts. LacksAt w z s ts k) h }

@@ -1,5 +1,5 @@
 -- What a handshake leaves once all its messages have passed (Noise, 5.2 and 5.3).
-use Rattle.std.specs.Prelude.{◌≡◌, ℕ, List, Bool, Option, Some, IsSome}
+use Rattle.std.specs.Prelude.{◌≡◌, ℕ, List, length, Bool, false, Option, Some, IsSome}
 use Rattle.noise_names.specs.declared.token.Role.{Role}
 use Rattle.noise_names.specs.Plan.{is_one_way}
 use Rattle.noise_state.specs.declared.cipher.CipherState.{CipherState}
@@ -21,8 +21,10 @@ pub record IsFresh (c : CipherState) : Type 0 where
   pub key : IsSome (key_in c)
   pub nonce : nonce_in c ≡ 0
 
--- they are those of the view
+-- they are those of the view, of which all messages have passed and none was refused
 pub record Opens (o : Opening) (v : View) : Type 0 where
+  pub going : v.ended ≡ false
+  pub whole : v.passed ≡ length v.pattern.messages
   pub role : o.role ≡ v.role
   pub one_way : o.one_way ≡ is_one_way v.pattern
   pub hash : o.hash ≡ hash v.history

@@ -1,8 +1,9 @@
 -- Which view a handshake stands for, the views behind its messages, and why it doesn't read or write.
-use Rattle.std.specs.Prelude.{◌≡◌, ℕ, ◌+◌, ◌<◌, ◌≤◌, List, length, drop, count_by, Option, true, false}
+use Rattle.std.specs.Prelude.{◌≡◌, ℕ, ◌+◌, ◌<◌, ◌≤◌, List, length, drop, count_by, Option, true, false, is_some}
 use Rattle.noise_names.specs.Tokens.{is_psk}
 use Rattle.noise_names.specs.Plan.{has_psk}
-use Rattle.noise_names.specs.Overhead.{overhead_of}
+use Rattle.noise_names.specs.Overhead.{has_key, overhead_of}
+use Rattle.noise_state.specs.History.{cipher_key}
 use Rattle.noise_state.specs.Standing.{StateStands}
 use Rattle.noise_handshake.specs.declared.keys.Own.{Own}
 use Rattle.noise_handshake.specs.declared.faults.ReadFault.{ReadFault}
@@ -10,6 +11,7 @@ use Rattle.noise_handshake.specs.declared.faults.ReadFault.TheVariants as read
 use Rattle.noise_handshake.specs.declared.faults.WriteFault.{WriteFault}
 use Rattle.noise_handshake.specs.declared.faults.WriteFault.TheVariants as write
 use Rattle.noise_handshake.specs.Line.{behind_line}
+use Rattle.noise_handshake.specs.Passed.{passed_places}
 use Rattle.noise_handshake.specs.View.{View, Listens, Refuses, Speaks, learned, tokens_now}
 use Rattle.noise_handshake.specs.Writing.{Lacks}
 use Rattle.noise_handshake.specs.Held.{Held}
@@ -34,6 +36,10 @@ behind_own v xs payload = record v {
 -- the view of a party that has ended
 abbrev pub over : View → View
 over v = record v { ended = true }
+
+-- The party's history has a key exactly where the pattern says so.
+abbrev pub IsKeyed : View → Type 0
+IsKeyed v = is_some (cipher_key v.history) ≡ has_key v.pattern (passed_places v.pattern v.passed)
 
 -- The handshake holds what the view says, by the meaning of its keys.
 module _ {K : Type 0} (public_of : K → Own → Option (List ℕ)) (agreement : K → Own → List ℕ → Option (List ℕ)) where

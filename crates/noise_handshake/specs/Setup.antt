@@ -1,5 +1,5 @@
 -- How a handshake starts, and what is wrong with a setup (Noise 5.3, 9.2).
-use Rattle.std.specs.Prelude.{◌≡◌, ℕ, ◌+◌, ◌==◌, List, [], ◌∷◌, Bool, true, false, not, ◌&&◌, ◌||◌, Option, Some, None, is_some, is_none, count_by, if◌then◌else◌}
+use Rattle.std.specs.Prelude.{ℕ, ◌+◌, ◌==◌, List, [], ◌∷◌, Bool, false, not, ◌&&◌, ◌||◌, Option, Some, None, is_some, is_none, count_by, if◌then◌else◌}
 use Rattle.std.specs.List.{list_any}
 use Rattle.noise_names.specs.declared.token.Role.{Role}
 use Rattle.noise_names.specs.declared.token.Role.TheVariants.{Initiator, Responder}
@@ -58,9 +58,13 @@ token_of Static = S
 abbrev pub lacks_own : Plan → Role → Token → Option (List ℕ) → Bool
 lacks_own p role t key = stands role t (places_of p) && is_none key
 
+-- whether a token is among these
+abbrev pub has_token : Token → List Token → Bool
+has_token t tokens = list_any (λ u. same_token u t) tokens
+
 -- whether a party's pre-message has token t
 abbrev pub has_before : Plan → Role → Token → Bool
-has_before p role t = list_any (λ u. same_token u t) (pre_of role p)
+has_before p role t = has_token t (pre_of role p)
 
 -- whether a key of the other party's pre-message isn't there
 abbrev pub lacks_remote : Plan → Role → Remote → Bool
@@ -79,8 +83,3 @@ setup_fault p role own remote secrets =
     else if has_unexpected p role remote then Some RemoteUnexpected
     else if not (secrets == secrets_of p.messages) then Some PskCount
     else None
-
--- these are the keys of the party's pre-message
-pub record HasPre (p : Plan) (party : Role) (keys : Remote) : Type 0 where
-  pub e : has_before p party E ≡ true → is_some keys.e ≡ true
-  pub s : has_before p party S ≡ true → is_some keys.s ≡ true

@@ -4,13 +4,18 @@ use Rattle.std.specs.Option.{option_map}
 use Rattle.std.specs.Cmp.Lexicographic.{pointwise}
 use Rattle.noise_handshake.specs.declared.keys.Own.{Own}
 use Rattle.noise_handshake.specs.declared.keys.Own.TheVariants.{Ephemeral, Static}
-use Rattle.noise_handshake.specs.declared.table_keys.Entry.{Entry}
+
+-- the answer of a key pair to a remote public key
+pub record TableEntry : Type 0 where
+  pub own : Own
+  pub remote : List ℕ
+  pub answer : List ℕ
 
 -- the public keys, and the entries in the order in which they were added
 pub record Table : Type 0 where
   pub e : Option (List ℕ)
   pub s : Option (List ℕ)
-  pub entries : List Entry
+  pub entries : List TableEntry
 
 abbrev pub same_own : Own → Own → Bool
 same_own Ephemeral Ephemeral = true
@@ -19,9 +24,9 @@ same_own Static Ephemeral = false
 same_own Static Static = true
 
 -- whether an entry is for a key pair and a remote public key
-abbrev pub is_for : Own → List ℕ → Entry → Bool
+abbrev pub is_for : Own → List ℕ → TableEntry → Bool
 is_for own remote entry = same_own entry.own own && pointwise nat_eq entry.remote remote
 
 -- the answer of the first entry for them, if there is one
-abbrev pub answer_in : List Entry → Own → List ℕ → Option (List ℕ)
+abbrev pub answer_in : List TableEntry → Own → List ℕ → Option (List ℕ)
 answer_in entries own remote = option_map (λ entry. entry.answer) (find (is_for own remote) entries)

@@ -1,5 +1,6 @@
 -- What one party of a handshake knows, which messages it accepts, and where it refuses the others.
-use Rattle.std.specs.Prelude.{◌≡◌, ℕ, zero, suc, ◌<◌, ◌≤◌, List, [], ◌∷◌, ◌++◌, length, take, Bool, false, Option, Some, None, is_some, if◌then◌else◌, nat_lt, unwrap_or}
+use Rattle.std.specs.Prelude.{◌≡◌, ℕ, zero, suc, ◌<◌, ◌≤◌, nat_lt, List, [], ◌∷◌, ◌++◌, length, take, Bool, false, if◌then◌else◌}
+use Rattle.std.specs.Prelude.{Option, Some, None, is_some, unwrap_or}
 use Rattle.noise_names.specs.declared.token.Token.{Token}
 use Rattle.noise_names.specs.declared.token.Token.TheVariants.{E, S, Es, Se, Ss, Psk}
 use Rattle.noise_names.specs.declared.token.Role.{Role}
@@ -10,7 +11,7 @@ use Rattle.noise_handshake.specs.declared.faults.Cause.{Cause}
 use Rattle.noise_handshake.specs.declared.faults.Cause.TheVariants.{Short, Tag, Agreement}
 use Rattle.noise_state.specs.History.{History, Mix, and_then, cipher_key}
 use Rattle.noise_handshake.specs.declared.remote.Remote.{Remote}
-use Rattle.noise_handshake.specs.Line.{with_ephemeral, token_piece, front, behind_front, line}
+use Rattle.noise_handshake.specs.Line.{with_ephemeral, front, behind_front, line}
 use Rattle.noise_names.specs.Tokens.{other, turn_from}
 use Rattle.noise_names.specs.Plan.{Plan, pre_of, has_psk}
 
@@ -134,7 +135,8 @@ pub record Speaks (v : View) : Type 0 where
   pub turn : turn_from Initiator v.passed ≡ v.role
 
 -- The message begins as some sender's tokens would that carry these texts, and this is left of it.
-pub record Leads (v : Reader) (known : Remote) (secrets : List (List ℕ)) (r : History) (ts : List Token) (xs : List (List ℕ)) (message rest : List ℕ) : Type 0 where
+pub record Leads (v : Reader) (known : Remote) (secrets : List (List ℕ)) (r : History) (ts : List Token) (xs : List (List ℕ))
+    (message rest : List ℕ) : Type 0 where
   pub fit : Fit v known secrets ts xs
   pub spelled : message ≡ front v.psks r ts xs ++ rest
 
@@ -143,14 +145,6 @@ pub record Reaches (v : Reader) (known : Remote) (secrets : List (List ℕ)) (r 
   pub carried : List (List ℕ)
   pub rest : List ℕ
   pub leads : Leads v known secrets r ts carried message rest
-
--- no text of token t fits here
-abbrev pub Fails : Reader → Remote → List (List ℕ) → History → Token → List ℕ → Type 0
-Fails v known secrets r t m = (x rest : List ℕ) → Fits v known secrets t x → m ≡ token_piece r t x ++ rest → ⊥
-
--- how many bytes a static key takes
-abbrev pub width_of_key : History → ℕ
-width_of_key r = if is_some (cipher_key r) then 48 else 32
 
 -- why reading stops at a token, with this left of the message
 abbrev pub cause_of : Bool → Token → List ℕ → Cause
@@ -164,23 +158,16 @@ cause_at keyed [] k rest = if nat_lt (length rest) 16 then Short else Tag
 cause_at keyed (t ∷ ts) zero rest = cause_of keyed t rest
 cause_at keyed (t ∷ ts) (suc k) rest = cause_at keyed ts k rest
 
--- Reading stops at token k: some sender's tokens before it lead there, and none's lead further.
-pub record Stops (v : Reader) (known : Remote) (secrets : List (List ℕ)) (r : History) (ts : List Token) (message : List ℕ) (k : ℕ) (cause : Cause) : Type 0 where
-  pub within : k < length ts
-  pub carried : List (List ℕ)
-  pub rest : List ℕ
-  pub leads : Leads v known secrets r (take k ts) carried message rest
-  pub further : Reaches v known secrets r (take (suc k) ts) message → ⊥
-  pub why : cause ≡ cause_at (is_some (cipher_key (behind_front v.psks r (take k ts) carried))) ts k rest
-
 -- The message is one whose tokens carry these texts, with this payload.
-pub record Reads (v : Reader) (known : Remote) (secrets : List (List ℕ)) (r : History) (ts : List Token) (message : List ℕ) (xs : List (List ℕ)) (payload : List ℕ) : Type 0 where
+pub record Reads (v : Reader) (known : Remote) (secrets : List (List ℕ)) (r : History) (ts : List Token) (message : List ℕ)
+    (xs : List (List ℕ)) (payload : List ℕ) : Type 0 where
   pub fit : Fit v known secrets ts xs
   pub spelled : message ≡ line v.psks r ts xs payload
 
 -- Reading stops at token k: some sender's tokens before it lead there, and none's lead further. The payload counts as the token
 -- after the last.
-pub record Stalls (v : Reader) (known : Remote) (secrets : List (List ℕ)) (r : History) (ts : List Token) (message : List ℕ) (k : ℕ) (cause : Cause) : Type 0 where
+pub record Stops (v : Reader) (known : Remote) (secrets : List (List ℕ)) (r : History) (ts : List Token) (message : List ℕ)
+    (k : ℕ) (cause : Cause) : Type 0 where
   pub within : k ≤ length ts
   pub carried : List (List ℕ)
   pub rest : List ℕ
@@ -198,14 +185,4 @@ pub record Accepts (v : View) (message : List ℕ) (xs : List (List ℕ)) (paylo
 -- The party refuses the message at this token, for this cause.
 pub record Refuses (v : View) (message : List ℕ) (token : ℕ) (cause : Cause) : Type 0 where
   pub listens : Listens v
-  pub stalls : Stalls (reader v) v.remote v.secrets v.history (tokens_now v) message token cause
-
--- A party that listens, with these parts, for a view.
-pub record Listening (v : View) (role : Role) (psks : Bool) (agree : Own → List ℕ → Option (List ℕ)) (secrets : List (List ℕ)) (known : Remote) (tokens : List Token) : Type 0 where
-  pub listens : Listens v
-  pub role_is : role ≡ v.role
-  pub psks_is : psks ≡ has_psk v.pattern
-  pub agree_is : agree ≡ v.agree
-  pub secrets_are : secrets ≡ v.secrets
-  pub known_is : known ≡ v.remote
-  pub tokens_are : tokens ≡ tokens_now v
+  pub stops : Stops (reader v) v.remote v.secrets v.history (tokens_now v) message token cause

@@ -4,9 +4,11 @@
 ghost use Rattle.std.specs.Prelude.{◌≡◌, ◌≤◌, ◌<◌, ◌+◌, ◌-◌, true, false, ℕ, List, ◌↔◌, length, take, drop, slice_range, Some, None, IsOk, IfOk, IfErr, OnErr, MatchResult, MatchOption};
 ghost use Rattle.std.specs.Option.{ForSome};
 
-use crate::reading::read_listening;
-use crate::setup::{psk_count, public_keys, setup_fault, start};
-use crate::writing::write_speaking;
+use crate::layout::{MessageLayout, lay_out};
+use crate::reading::read_message;
+use crate::setup::{public_keys, setup_fault, start};
+use crate::tokens::Means;
+use crate::writing::write_message;
 use crate::{Keys, Opened, ReadFault, Remote, SetupFault, WriteFault};
 use arrayvec::ArrayVec;
 use noise_names::{Role, ValidPattern};
@@ -31,6 +33,7 @@ pub struct Handshake<K: Keys> {
     passed: u8,
     ended: bool,
     psks: bool,
+    layout: ArrayVec<MessageLayout, 8>,
     state: SymmetricState,
 }
 
@@ -38,19 +41,28 @@ impl<K: Keys> Model for Handshake<K> {
     ghost use Rattle.std.specs.Prelude.{◌≡◌, ◌≤◌, length, drop};
     ghost use Rattle.noise_names.specs.Plan.{has_psk};
     ghost use Rattle.noise_handshake.specs.Held.{Held};
-    ghost use Rattle.noise_handshake.specs.Known.{KnowsRemote};
-    ghost use Rattle.noise_handshake.specs.Sound.{IsSound};
+    ghost use Rattle.noise_handshake.specs.inner.Known.{KnowsRemote};
+    ghost use Rattle.noise_handshake.specs.inner.Sound.{IsSound};
+    ghost use Rattle.noise_handshake.specs.inner.Layout.{LaysOut};
+    ghost use Rattle.noise_names.specs.Validity.{IsValid};
 
     ghost Value = { Held K };
 
     ghost view = { λ a. record { pattern = a.pattern; role = a.role; keys = a.keys; remote = a.remote; secrets = drop a.used a.secrets.items; passed = a.passed; ended = a.ended; state = a.state } };
 
-    ghost invariant = { λ a. let h : Held K = record { pattern = a.pattern; role = a.role; keys = a.keys; remote = a.remote; secrets = drop a.used a.secrets.items; passed = a.passed; ended = a.ended; state = a.state } in (a.psks ≡ has_psk a.pattern) × (a.used ≤ length a.secrets.items) × IsSound K.public_of h × KnowsRemote h };
+    ghost invariant = { λ a. let h : Held K = record { pattern = a.pattern; role = a.role; keys = a.keys; remote = a.remote; secrets = drop a.used a.secrets.items; passed = a.passed; ended = a.ended; state = a.state } in (a.psks ≡ has_psk a.pattern) × (a.used ≤ length a.secrets.items) × IsSound K.public_of h × KnowsRemote h × LaysOut a.pattern a.layout.items × IsValid a.pattern };
 }
 
 impl<K: Keys> Handshake<K> {
+    ghost use Rattle.noise_names.specs.Limits.{IsPattern};
+    ghost use Rattle.noise_names.specs.Validity.{IsValid};
     ghost use Rattle.noise_state.specs.History.{hash};
-    ghost use Rattle.noise_handshake.specs.View.{View, Accepts};
+    ghost use Rattle.noise_names.specs.Plan.{has_psk};
+    ghost use Rattle.noise_names.specs.Validity.{IsValid};
+    ghost use Rattle.noise_names.specs.Overhead.{has_key, overhead_of};
+    ghost use Rattle.noise_handshake.specs.Passed.{passed_places};
+    ghost use Rattle.noise_handshake.specs.inner.Layout.{IsLaid};
+    ghost use Rattle.noise_handshake.specs.View.{View, Accepts, tokens_at};
     ghost use Rattle.noise_handshake.specs.Held.{is_turn, read_fault, behind_read_fault, write_fault, behind_write_fault, message_len_of, IsRefusal, IsAgreement, Advances};
     ghost use Rattle.noise_handshake.specs.Opening.{Opens};
     ghost use Rattle.noise_handshake.specs.Setup.{begun, setup_fault};
@@ -80,6 +92,7 @@ impl<K: Keys> Handshake<K> {
         }
         let with_psks = !plan.is_plain();
         let state = start(plan, role, prologue, &public_keys(&keys), &remote);
+        let layout = lay_out(plan, with_psks, state.has_key());
         let mut secrets = ArrayVec::new();
         secrets.try_extend_from_slice(psks).unwrap();
         Ok(Handshake {
@@ -92,14 +105,18 @@ impl<K: Keys> Handshake<K> {
             passed: 0,
             ended: false,
             psks: with_psks,
+            layout,
             state,
         })
     }
 
     /// The pattern, with the tokens of its messages.
     pub fn pattern(&self) -> &ValidPattern
-        ensures { result.now ≡ self.now.pattern }
+        ensures same { result.now ≡ self.now.pattern }
+        ensures valid { IsValid self.now.pattern }
+        ensures limits { IsPattern self.now.pattern }
     {
+        let _ = self.pattern.pattern().messages();
         &self.pattern
     }
 
@@ -143,13 +160,31 @@ impl<K: Keys> Handshake<K> {
         self.remote.s
     }
 
+    // The layout of the next message.
+    fn next_layout(&self) -> &MessageLayout
+        requires { self.now.passed < length self.now.pattern.messages }
+        ensures laid { IsLaid (has_psk self.now.pattern) (has_key self.now.pattern (passed_places self.now.pattern self.now.passed)) (tokens_at self.now.pattern.messages self.now.passed) result.now }
+        ensures valid { IsValid self.now.pattern }
+    {
+        &self.layout[self.passed as usize]
+    }
+
+    // How much longer the next message is than its payload.
+    fn overhead(&self) -> usize
+        requires { self.now.passed < length self.now.pattern.messages }
+        ensures value { result ≡ overhead_of self.now.pattern (self.now.passed + 1) }
+        ensures most { result ≤ 65535 }
+    {
+        self.next_layout().overhead as usize
+    }
+
     // Why no message is read now.
     fn read_fault(&self) -> Option<ReadFault>
         ensures { result ≡ read_fault self.now }
     {
         if self.ended {
             Some(ReadFault::Ended)
-        } else if self.passed as usize == self.pattern.pattern().messages().len() {
+        } else if self.passed as usize == self.layout.len() {
             Some(ReadFault::Done)
         } else if self.writes_next() {
             Some(ReadFault::NotYourTurn)
@@ -175,22 +210,25 @@ impl<K: Keys> Handshake<K> {
         if let Some(fault) = self.read_fault() {
             return Err(fault);
         }
-        let tokens = self.pattern.pattern().messages()[self.passed as usize].tokens();
+        let laid = self.next_layout();
+        let means = Means {
+            keys: &self.keys,
+            role: self.role,
+            psks: self.psks,
+        };
         let secrets = &self.secrets[self.used..];
-        let mut state = self.state;
+        let mut state = self.state.for_trial();
         let mut remote = self.remote;
-        match read_listening(
+        match read_message(
             &mut state,
-            &self.keys,
-            self.role,
-            self.psks,
-            secrets,
             &mut remote,
-            tokens,
+            &means,
+            secrets,
+            &laid.tokens,
             message,
         ) {
             Ok(place) => {
-                self.used += psk_count(tokens);
+                self.used += laid.secrets;
                 self.state = state;
                 self.remote = remote;
                 self.passed += 1;
@@ -233,15 +271,16 @@ impl<K: Keys> Handshake<K> {
 
     // Why no message with a payload of this length is written now, whatever the keys answer.
     fn write_fault(&self, payload_len: usize) -> Option<WriteFault>
-        ensures { result ≡ write_fault self.now payload_len }
+        ensures value { result ≡ write_fault self.now payload_len }
+        ensures due { result ≡ None → self.now.passed < length self.now.pattern.messages }
     {
         if self.ended {
             Some(WriteFault::Ended)
-        } else if self.passed as usize == self.pattern.pattern().messages().len() {
+        } else if self.passed as usize == self.layout.len() {
             Some(WriteFault::Done)
         } else if !self.writes_next() {
             Some(WriteFault::NotYourTurn)
-        } else if payload_len > MAX_LEN - self.pattern.overhead(self.passed + 1) as usize {
+        } else if payload_len > MAX_LEN - self.overhead() {
             Some(WriteFault::TooLong)
         } else {
             None
@@ -255,7 +294,7 @@ impl<K: Keys> Handshake<K> {
     {
         match self.write_fault(payload_len) {
             Some(_) => None,
-            None => Some(self.pattern.overhead(self.passed + 1) as usize + payload_len),
+            None => Some(self.overhead() + payload_len),
         }
     }
 
@@ -276,22 +315,25 @@ impl<K: Keys> Handshake<K> {
         if let Some(fault) = self.write_fault(payload.len()) {
             return Err(fault);
         }
-        let tokens = self.pattern.pattern().messages()[self.passed as usize].tokens();
+        let laid = self.next_layout();
+        let means = Means {
+            keys: &self.keys,
+            role: self.role,
+            psks: self.psks,
+        };
         let secrets = &self.secrets[self.used..];
-        let mut state = self.state;
-        match write_speaking(
+        let mut state = self.state.for_trial();
+        match write_message(
             &mut state,
-            &self.keys,
-            self.role,
-            self.psks,
-            secrets,
             &self.remote,
-            tokens,
+            &means,
+            secrets,
+            &laid.tokens,
             payload,
             out,
         ) {
             Ok(len) => {
-                self.used += psk_count(tokens);
+                self.used += laid.secrets;
                 self.state = state;
                 self.passed += 1;
                 Ok(len)
@@ -309,7 +351,7 @@ impl<K: Keys> Handshake<K> {
         ensures opened { (v : View) → Stands K.public_of K.agreement self v → IfOk result (λ o. Opens o v) }
         ensures back { IfErr result (λ h. h ≡ self) }
     {
-        if self.ended || (self.passed as usize) < self.pattern.pattern().messages().len() {
+        if self.ended || (self.passed as usize) < self.layout.len() {
             return Err(self);
         }
         let (initiator, responder) = self.state.split();

@@ -34,5 +34,6 @@ pub trait Keys: Drop {
 
 /// Keys whose two sides agree: DH of one's own key and the other's public key is the same from both ends (Noise, 4.1).
 pub trait Agreeing: Keys {
-    ghost commutes: { (a b : Self) (x y : Own) (p q : List ℕ) → Self.public_of a x ≡ Some p → Self.public_of b y ≡ Some q → Self.agreement a x q ≡ Self.agreement b y p };
+    ghost commutes: { (a b : Self) (x y : Own) (p q : List ℕ) → Self.public_of a x ≡ Some p → Self.public_of b y ≡ Some q
+        → Self.agreement a x q ≡ Self.agreement b y p };
 }

@@ -23,7 +23,14 @@ impl Model for Opened {
 
     ghost Value = { Opening };
 
-    ghost view = { λ o. record { role = o.role; one_way = o.one_way; hash = o.hash; remote_static = o.remote_static; initiator = o.initiator; responder = o.responder } };
+    ghost view = { λ o. record {
+      role = o.role;
+      one_way = o.one_way;
+      hash = o.hash;
+      remote_static = o.remote_static;
+      initiator = o.initiator;
+      responder = o.responder;
+    } };
 
     ghost invariant = { λ o. IsFresh o.initiator × IsFresh o.responder };
 }

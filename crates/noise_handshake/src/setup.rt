@@ -11,7 +11,8 @@ ghost use Rattle.noise_names.specs.declared.token.Token.TheVariants.{E, S};
 ghost use Rattle.noise_state.specs.Standing.{StateStands, keyed, nonce_now};
 ghost use Rattle.noise_state.specs.History.{History, Mix, and_then};
 ghost use Rattle.noise_handshake.specs.View.{with_premessage};
-ghost use Rattle.noise_handshake.specs.Setup.{HasPre, token_of, secrets_of, setup_fault, public_keys, keys_of, lacks_own, start_of};
+ghost use Rattle.noise_handshake.specs.Setup.{token_of, secrets_of, setup_fault, public_keys, keys_of, lacks_own, start_of};
+ghost use Rattle.noise_handshake.specs.inner.PreMessage.{HasPre};
 ghost use Rattle.noise_handshake.specs.Passed.{passed_places};
 
 use crate::tokens::mix_ephemeral;

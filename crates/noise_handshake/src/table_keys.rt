@@ -16,6 +16,16 @@ struct Entry {
     answer: [u8; 32],
 }
 
+impl Model for Entry {
+    ghost use Rattle.noise_handshake.specs.Table.{TableEntry};
+
+    ghost Value = { TableEntry };
+
+    ghost view = { λ entry. record { own = entry.own; remote = entry.remote; answer = entry.answer } };
+
+    ghost inverse = { λ entry. record { own = entry.own; remote = entry.remote; answer = entry.answer } };
+}
+
 impl Entry {
     ghost use Rattle.noise_handshake.specs.Table.{is_for};
 

@@ -5,7 +5,7 @@ ghost use Rattle.std.specs.Prelude.{◌≡◌, ◌<◌, ◌≤◌, length, is_so
 ghost use Rattle.noise_names.specs.declared.token.Token.{Token};
 ghost use Rattle.noise_state.specs.Standing.{StateStands, keyed, nonce_now};
 ghost use Rattle.noise_state.specs.History.{History};
-ghost use Rattle.noise_handshake.specs.Known.{remote_known};
+ghost use Rattle.noise_handshake.specs.inner.Known.{remote_known};
 ghost use Rattle.noise_handshake.specs.Length.{keyed_behind};
 ghost use Rattle.noise_handshake.specs.Line.{with_ephemeral};
 ghost use Rattle.noise_handshake.specs.View.{answered, own_at, remote_at, secrets_behind};
@@ -13,6 +13,14 @@ ghost use Rattle.noise_handshake.specs.View.{answered, own_at, remote_at, secret
 use crate::{Keys, Own, Remote};
 use noise_names::{Role, Token};
 use noise_state::SymmetricState;
+
+// What a message is read or written with, but for what changes along its tokens.
+#[derive(Drop)]
+pub(crate) struct Means<'a, K: Keys> {
+    pub(crate) keys: &'a K,
+    pub(crate) role: Role,
+    pub(crate) psks: bool,
+}
 
 // Which own key a DH token takes.
 fn own_at(role: Role, token: Token) -> Own

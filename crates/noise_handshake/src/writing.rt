@@ -6,16 +6,19 @@ ghost use Rattle.std.specs.List.{list_all};
 ghost use Rattle.noise_state.specs.Standing.{StateStands, keyed, nonce_now};
 ghost use Rattle.noise_state.specs.History.{History, Part, and_then, piece};
 ghost use Rattle.noise_handshake.specs.Line.{token_piece, behind_token, front, behind_front, line, behind_line, with_ephemeral};
-ghost use Rattle.noise_handshake.specs.Known.{is_known};
+ghost use Rattle.noise_handshake.specs.inner.Known.{is_known};
 ghost use Rattle.noise_handshake.specs.Length.{keyed_behind, keyed_behind_tokens, tag_width, token_width, tokens_width, added_width};
 ghost use Rattle.noise_handshake.specs.View.{View};
-ghost use Rattle.noise_handshake.specs.Writing.{Writer, Gives, Given, LacksAt, Speaking, Writes, Lacks, has_own};
+ghost use Rattle.noise_handshake.specs.Writing.{Writer, Gives, Given, LacksAt, Writes, Lacks};
+ghost use Rattle.noise_handshake.specs.inner.Speaking.{Speaking, has_own};
 ghost use Rattle.noise_names.specs.declared.token.Token.{Token};
+ghost use Rattle.noise_handshake.specs.inner.Layout.{tokens_of};
 ghost use Rattle.noise_names.specs.Tokens.{is_psk};
 
-use crate::tokens::{answer_at, mix_ephemeral, secrets_behind};
+use crate::layout::PlacedToken;
+use crate::tokens::{Means, answer_at, mix_ephemeral, secrets_behind};
 use crate::{Keys, Own, Remote};
-use noise_names::{Role, Token};
+use noise_names::Token;
 use noise_state::SymmetricState;
 
 // Copies a text to the front of a buffer, and tells how many bytes it takes.
@@ -72,33 +75,31 @@ fn write_e(state: &mut SymmetricState, psks: bool, key: &[u8; 32], out: &mut [u8
 // Writes one token, and tells in how many bytes, if it is no DH without an answer.
 fn write_token<K: Keys>(
     state: &mut SymmetricState,
-    keys: &K,
-    role: Role,
-    psks: bool,
-    secrets: &[[u8; 32]],
     known: &Remote,
+    means: &Means<K>,
+    secrets: &[[u8; 32]],
     token: Token,
     out: &mut [u8],
 ) -> Option<usize>
     requires secret { token ≡ Token.Psk → 0 < length secrets.now }
-    requires own { IsTrue (has_own (K.public_of keys.now) token) }
-    requires known { IsTrue (is_known role (is_some known.now.e) (is_some known.now.s) token) }
+    requires own { IsTrue (has_own (K.public_of means.now.keys.now) token) }
+    requires known { IsTrue (is_known means.now.role (is_some known.now.e) (is_some known.now.s) token) }
     requires room { token_width (keyed state.old) token ≤ length out.old }
     requires nonces { nonce_now state.old < 2 ^ 64 - 1 }
     ensures width { IfSome result (λ n. n ≡ token_width (keyed state.old) token) }
     ensures rest { IfSome result (λ n. drop n out.new ≡ drop n out.old) }
-    ensures keyed { IfSome result (λ _. keyed state.new ≡ keyed_behind psks (keyed state.old) token) }
+    ensures keyed { IfSome result (λ _. keyed state.new ≡ keyed_behind means.now.psks (keyed state.old) token) }
     ensures used { nonce_now state.new ≤ nonce_now state.old + 1 }
-    ensures written { (r : History) → StateStands state.old r → let w : Writer = record { role = role; psks = psks; own = K.public_of keys.now; agree = K.agreement keys.now } in MatchOption result
+    ensures written { (r : History) → StateStands state.old r → let w : Writer = record { role = means.now.role; psks = means.now.psks; own = K.public_of means.now.keys.now; agree = K.agreement means.now.keys.now } in MatchOption result
         ((x : List ℕ) → Gives w known.now secrets.now token x → ⊥)
-        (λ n. (x : List ℕ) × Gives w known.now secrets.now token x × (take n out.new ≡ token_piece r token x) × StateStands state.new (behind_token psks r token x)) }
+        (λ n. (x : List ℕ) × Gives w known.now secrets.now token x × (take n out.new ≡ token_piece r token x) × StateStands state.new (behind_token means.now.psks r token x)) }
 {
     match token {
-        Token::E => match keys.public(Own::Ephemeral) {
-            Some(key) => Some(write_e(state, psks, &key, out)),
+        Token::E => match means.keys.public(Own::Ephemeral) {
+            Some(key) => Some(write_e(state, means.psks, &key, out)),
             None => unreachable!(),
         },
-        Token::S => match keys.public(Own::Static) {
+        Token::S => match means.keys.public(Own::Static) {
             Some(key) => Some(write_part(state, &key, out)),
             None => unreachable!(),
         },
@@ -107,7 +108,7 @@ fn write_token<K: Keys>(
             Some(0)
         }
         _ => {
-            let answer = answer_at(keys, role, known, token)?;
+            let answer = answer_at(means.keys, means.role, known, token)?;
             state.mix_key(&answer);
             Some(0)
         }
@@ -117,35 +118,33 @@ fn write_token<K: Keys>(
 // Writes tokens to the front of a buffer, and tells in how many bytes, or which is the first DH without an answer.
 fn write_tokens<K: Keys>(
     state: &mut SymmetricState,
-    keys: &K,
-    role: Role,
-    psks: bool,
-    secrets: &[[u8; 32]],
     known: &Remote,
-    tokens: &[Token],
+    means: &Means<K>,
+    secrets: &[[u8; 32]],
+    placed: &[PlacedToken],
     out: &mut [u8],
 ) -> Result<usize, usize>
-    requires secrets { count_by is_psk tokens.now ≤ length secrets.now }
-    requires own { IsTrue (list_all (has_own (K.public_of keys.now)) tokens.now) }
-    requires known { IsTrue (list_all (is_known role (is_some known.now.e) (is_some known.now.s)) tokens.now) }
-    requires room { tokens_width psks (keyed state.old) tokens.now ≤ length out.old }
-    requires nonces { nonce_now state.old + length tokens.now < 2 ^ 64 - 1 }
-    ensures width { MatchResult result (λ n. n ≡ tokens_width psks (keyed state.old) tokens.now) (λ k. k < length tokens.now) }
+    requires secrets { count_by is_psk (tokens_of placed.now) ≤ length secrets.now }
+    requires own { IsTrue (list_all (has_own (K.public_of means.now.keys.now)) (tokens_of placed.now)) }
+    requires known { IsTrue (list_all (is_known means.now.role (is_some known.now.e) (is_some known.now.s)) (tokens_of placed.now)) }
+    requires room { tokens_width means.now.psks (keyed state.old) (tokens_of placed.now) ≤ length out.old }
+    requires nonces { nonce_now state.old + length (tokens_of placed.now) < 2 ^ 64 - 1 }
+    ensures width { MatchResult result (λ n. n ≡ tokens_width means.now.psks (keyed state.old) (tokens_of placed.now)) (λ k. k < length (tokens_of placed.now)) }
     ensures rest { IfOk result (λ n. drop n out.new ≡ drop n out.old) }
-    ensures keyed { IfOk result (λ _. keyed state.new ≡ keyed_behind_tokens psks (keyed state.old) tokens.now) }
-    ensures used { nonce_now state.new ≤ nonce_now state.old + length tokens.now }
-    ensures written { (r : History) → StateStands state.old r → let w : Writer = record { role = role; psks = psks; own = K.public_of keys.now; agree = K.agreement keys.now } in MatchResult result
-        (λ n. (xs : List (List ℕ)) × Given w known.now secrets.now tokens.now xs × (take n out.new ≡ front psks r tokens.now xs) × StateStands state.new (behind_front psks r tokens.now xs))
-        (λ k. LacksAt w known.now secrets.now tokens.now k) }
+    ensures keyed { IfOk result (λ _. keyed state.new ≡ keyed_behind_tokens means.now.psks (keyed state.old) (tokens_of placed.now)) }
+    ensures used { nonce_now state.new ≤ nonce_now state.old + length (tokens_of placed.now) }
+    ensures written { (r : History) → StateStands state.old r → let w : Writer = record { role = means.now.role; psks = means.now.psks; own = K.public_of means.now.keys.now; agree = K.agreement means.now.keys.now } in MatchResult result
+        (λ n. (xs : List (List ℕ)) × Given w known.now secrets.now (tokens_of placed.now) xs × (take n out.new ≡ front means.now.psks r (tokens_of placed.now) xs) × StateStands state.new (behind_front means.now.psks r (tokens_of placed.now) xs))
+        (λ k. LacksAt w known.now secrets.now (tokens_of placed.now) k) }
 {
-    let Some((token, later)) = tokens.split_first() else {
+    let Some((first, later)) = placed.split_first() else {
         return Ok(0);
     };
-    let Some(n) = write_token(state, keys, role, psks, secrets, known, *token, out) else {
+    let Some(n) = write_token(state, known, means, secrets, first.token, out) else {
         return Err(0);
     };
-    let others = secrets_behind(secrets, *token);
-    match write_tokens(state, keys, role, psks, others, known, later, &mut out[n..]) {
+    let others = secrets_behind(secrets, first.token);
+    match write_tokens(state, known, means, others, later, &mut out[n..]) {
         Ok(more) => Ok(n + more),
         Err(k) => Err(k + 1),
     }
@@ -155,63 +154,30 @@ fn write_tokens<K: Keys>(
 // What the buffer and the state hold is open in that case.
 pub(crate) fn write_message<K: Keys>(
     state: &mut SymmetricState,
-    keys: &K,
-    role: Role,
-    psks: bool,
-    secrets: &[[u8; 32]],
     known: &Remote,
-    tokens: &[Token],
+    means: &Means<K>,
+    secrets: &[[u8; 32]],
+    placed: &[PlacedToken],
     payload: &[u8],
     out: &mut [u8],
 ) -> Result<usize, usize>
-    requires secrets { count_by is_psk tokens.now ≤ length secrets.now }
-    requires own { IsTrue (list_all (has_own (K.public_of keys.now)) tokens.now) }
-    requires known { IsTrue (list_all (is_known role (is_some known.now.e) (is_some known.now.s)) tokens.now) }
-    requires room { added_width psks (keyed state.old) tokens.now + length payload.now ≤ length out.old }
-    requires most { added_width psks (keyed state.old) tokens.now + length payload.now ≤ 65535 }
-    requires nonces { nonce_now state.old + length tokens.now < 2 ^ 64 - 1 }
-    ensures width { MatchResult result (λ n. n ≡ added_width psks (keyed state.old) tokens.now + length payload.now) (λ k. k < length tokens.now) }
+    requires secrets { count_by is_psk (tokens_of placed.now) ≤ length secrets.now }
+    requires own { IsTrue (list_all (has_own (K.public_of means.now.keys.now)) (tokens_of placed.now)) }
+    requires known { IsTrue (list_all (is_known means.now.role (is_some known.now.e) (is_some known.now.s)) (tokens_of placed.now)) }
+    requires room { added_width means.now.psks (keyed state.old) (tokens_of placed.now) + length payload.now ≤ length out.old }
+    requires most { added_width means.now.psks (keyed state.old) (tokens_of placed.now) + length payload.now ≤ 65535 }
+    requires nonces { nonce_now state.old + length (tokens_of placed.now) < 2 ^ 64 - 1 }
+    ensures width { MatchResult result (λ n. n ≡ added_width means.now.psks (keyed state.old) (tokens_of placed.now) + length payload.now) (λ k. k < length (tokens_of placed.now)) }
     ensures rest { IfOk result (λ n. drop n out.new ≡ drop n out.old) }
-    ensures keyed { IfOk result (λ _. keyed state.new ≡ keyed_behind_tokens psks (keyed state.old) tokens.now) }
-    ensures used { nonce_now state.new ≤ nonce_now state.old + length tokens.now + 1 }
-    ensures written { (r : History) → StateStands state.old r → let w : Writer = record { role = role; psks = psks; own = K.public_of keys.now; agree = K.agreement keys.now } in MatchResult result
-        (λ n. (xs : List (List ℕ)) × Given w known.now secrets.now tokens.now xs × (take n out.new ≡ line psks r tokens.now xs payload.now) × StateStands state.new (behind_line psks r tokens.now xs payload.now))
-        (λ k. LacksAt w known.now secrets.now tokens.now k) }
+    ensures keyed { IfOk result (λ _. keyed state.new ≡ keyed_behind_tokens means.now.psks (keyed state.old) (tokens_of placed.now)) }
+    ensures used { nonce_now state.new ≤ nonce_now state.old + length (tokens_of placed.now) + 1 }
+    ensures written { (r : History) → StateStands state.old r → let w : Writer = record { role = means.now.role; psks = means.now.psks; own = K.public_of means.now.keys.now; agree = K.agreement means.now.keys.now } in MatchResult result
+        (λ n. (xs : List (List ℕ)) × Given w known.now secrets.now (tokens_of placed.now) xs × (take n out.new ≡ line means.now.psks r (tokens_of placed.now) xs payload.now) × StateStands state.new (behind_line means.now.psks r (tokens_of placed.now) xs payload.now))
+        (λ k. LacksAt w known.now secrets.now (tokens_of placed.now) k) }
 {
-    let from = match write_tokens(state, keys, role, psks, secrets, known, tokens, out) {
+    let from = match write_tokens(state, known, means, secrets, placed, out) {
         Ok(from) => from,
         Err(k) => return Err(k),
     };
     Ok(from + write_part(state, payload, &mut out[from..]))
-}
-
-// The same for a view.
-pub(crate) fn write_speaking<K: Keys>(
-    state: &mut SymmetricState,
-    keys: &K,
-    role: Role,
-    psks: bool,
-    secrets: &[[u8; 32]],
-    known: &Remote,
-    tokens: &[Token],
-    payload: &[u8],
-    out: &mut [u8],
-) -> Result<usize, usize>
-    requires secrets { count_by is_psk tokens.now ≤ length secrets.now }
-    requires own { IsTrue (list_all (has_own (K.public_of keys.now)) tokens.now) }
-    requires known { IsTrue (list_all (is_known role (is_some known.now.e) (is_some known.now.s)) tokens.now) }
-    requires room { added_width psks (keyed state.old) tokens.now + length payload.now ≤ length out.old }
-    requires most { added_width psks (keyed state.old) tokens.now + length payload.now ≤ 65535 }
-    requires nonces { nonce_now state.old + length tokens.now < 2 ^ 64 - 1 }
-    ensures width { MatchResult result (λ n. n ≡ added_width psks (keyed state.old) tokens.now + length payload.now) (λ k. k < length tokens.now) }
-    ensures rest { IfOk result (λ n. drop n out.new ≡ drop n out.old) }
-    ensures keyed { IfOk result (λ _. keyed state.new ≡ keyed_behind_tokens psks (keyed state.old) tokens.now) }
-    ensures used { nonce_now state.new ≤ nonce_now state.old + length tokens.now + 1 }
-    ensures written { (v : View) → StateStands state.old v.history → Speaking v role psks (K.public_of keys.now) (K.agreement keys.now) secrets.now known.now tokens.now → MatchResult result
-        (λ n. (xs : List (List ℕ)) × Writes v payload.now xs (take n out.new) × StateStands state.new (behind_line psks v.history tokens.now xs payload.now))
-        (λ k. Lacks v k) }
-{
-    write_message(
-        state, keys, role, psks, secrets, known, tokens, payload, out,
-    )
 }

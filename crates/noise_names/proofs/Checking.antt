@@ -1,5 +1,6 @@
 -- The first fault of a pattern as a function, and that it is what the definitions say.
-use Rattle.std.proofs.Common.{◌≡◌, ℕ, List, [], ◌∷◌, ◌++◌, Option, Some, None, Result, Ok, Err, refl, Bool, true, false, ◌||◌, ap, sym, ◌∙◌, subst, append_assoc, append-nil, ◌<◌, ◌≤◌, ◌+◌, length, drop, get_or, drop-cons, add-one}
+use Rattle.std.proofs.Common.{◌≡◌, ℕ, List, [], ◌∷◌, ◌++◌, Option, Some, None, Result, Ok, Err, refl, Bool, true, false, ◌||◌, ap, sym, ◌∙◌, subst}
+use Rattle.std.proofs.Common.{append_assoc, append-nil, ◌<◌, ◌≤◌, ◌+◌, length, drop, get_or, drop-cons, add-one}
 use Rattle.std.specs.List.{list_any}
 use Rattle.std.proofs.lemmas.List.{drop_all}
 use Rattle.noise_names.specs.declared.faults.RuleFault.{RuleFault}
@@ -10,8 +11,9 @@ use Rattle.noise_names.specs.declared.token.Token.TheVariants.{E, S, Ee, Es, Se,
 use Rattle.noise_names.specs.declared.seen.Seen.{Seen}
 use Rattle.noise_names.specs.Plan.{Plan, Place, Step, does, payload, transport, place, token_places, message_places, places_of, is_one_way}
 use Rattle.noise_names.specs.Tokens.{other}
-use Rattle.noise_names.specs.Checking.{fault_or, first_fault_by, first_fault_from, first_fault, seen_of, with_place, rules_by, lowest_of, Walks}
-use Rattle.noise_names.specs.Validity.{keys_stand, key_is_first, dh_is_first, dh_is_fresh, psk_is_fresh, encrypts, comes_with, unless_kept, broken_rules, KeepsRules, IsValid, IsFirstFault}
+use Rattle.noise_names.specs.Checking.{seen_of, with_place, rules_by, lowest_of, Walks}
+use Rattle.noise_names.specs.Validity.{fault_or, first_fault_by, first_fault_from, first_fault, keys_stand, key_is_first, dh_is_first, dh_is_fresh}
+use Rattle.noise_names.specs.Validity.{psk_is_fresh, encrypts, comes_with, unless_kept, broken_rules, KeepsRules, IsValid, IsFirstFault}
 
 -- each of the places, wherever it stands, breaks none after the earlier ones and those before it
 pub record Keeps (broken : List Place → Place → List ℕ) (earlier places : List Place) : Type 0 where
@@ -34,7 +36,8 @@ no_place [] p rest e = cc
 no_place (q ∷ front) p rest e = cc
 
 -- one more in front
-keeps-cons : (broken : List Place → Place → List ℕ) (earlier : List Place) (q : Place) (later : List Place) → broken earlier q ≡ [] → Keeps broken (earlier ++ q ∷ []) later → Keeps broken earlier (q ∷ later)
+keeps-cons : (broken : List Place → Place → List ℕ) (earlier : List Place) (q : Place) (later : List Place) → broken earlier q ≡ []
+    → Keeps broken (earlier ++ q ∷ []) later → Keeps broken earlier (q ∷ later)
 keeps-cons broken earlier q later here there = record { each = each } where
   each : (front : List Place) (p : Place) (rest : List Place) → q ∷ later ≡ front ++ p ∷ rest → broken (earlier ++ front) p ≡ []
   each [] p rest h =
@@ -46,17 +49,22 @@ keeps-cons broken earlier q later here there = record { each = each } where
       let found : broken ((earlier ++ q ∷ []) ++ front) p ≡ [] = there.each front p rest tails in
       subst (λ (x : Place). broken (earlier ++ x ∷ front) p ≡ []) same (rw append_assoc at found)
 
-pub none_keeps : (broken : List Place → Place → List ℕ) (earlier places : List Place) → first_fault_by broken earlier places ≡ None → Keeps broken earlier places
+pub none_keeps : (broken : List Place → Place → List ℕ) (earlier places : List Place) → first_fault_by broken earlier places ≡ None
+    → Keeps broken earlier places
 none_keeps broken earlier [] e = record { each = λ front p rest h. absurd (no_place front p rest h) }
 none_keeps broken earlier (q ∷ later) e = at (none_keeps broken (earlier ++ q ∷ []) later) (broken earlier q) refl e where
-  at : (first_fault_by broken (earlier ++ q ∷ []) later ≡ None → Keeps broken (earlier ++ q ∷ []) later) → (rules : List ℕ) → broken earlier q ≡ rules → fault_or rules q (first_fault_by broken (earlier ++ q ∷ []) later) ≡ None → Keeps broken earlier (q ∷ later)
+  at : (first_fault_by broken (earlier ++ q ∷ []) later ≡ None → Keeps broken (earlier ++ q ∷ []) later) → (rules : List ℕ) → broken earlier q ≡ rules
+      → fault_or rules q (first_fault_by broken (earlier ++ q ∷ []) later) ≡ None → Keeps broken earlier (q ∷ later)
   at deeper [] b h = keeps-cons broken earlier q later b (deeper h)
   at deeper (r ∷ rs) b h = cc
 
-pub some_first : (broken : List Place → Place → List ℕ) (earlier places : List Place) (fault : RuleFault) → first_fault_by broken earlier places ≡ Some fault → FirstBroken broken earlier places fault
+pub some_first : (broken : List Place → Place → List ℕ) (earlier places : List Place) (fault : RuleFault)
+    → first_fault_by broken earlier places ≡ Some fault → FirstBroken broken earlier places fault
 some_first broken earlier [] fault e = cc
 some_first broken earlier (q ∷ later) fault e = at (some_first broken (earlier ++ q ∷ []) later fault) (broken earlier q) refl e where
-  at : (first_fault_by broken (earlier ++ q ∷ []) later ≡ Some fault → FirstBroken broken (earlier ++ q ∷ []) later fault) → (rules : List ℕ) → broken earlier q ≡ rules → fault_or rules q (first_fault_by broken (earlier ++ q ∷ []) later) ≡ Some fault → FirstBroken broken earlier (q ∷ later) fault
+  at : (first_fault_by broken (earlier ++ q ∷ []) later ≡ Some fault → FirstBroken broken (earlier ++ q ∷ []) later fault) → (rules : List ℕ)
+      → broken earlier q ≡ rules → fault_or rules q (first_fault_by broken (earlier ++ q ∷ []) later) ≡ Some fault
+      → FirstBroken broken earlier (q ∷ later) fault
   at deeper (r ∷ rs) b h =
       let told : RuleFault = record { rule = r; message = q.message; token = q.token } in
       let same : told ≡ fault = cc in
@@ -113,7 +121,17 @@ fault_invalid plan fault f v = apart (v f.earlier f.at f.later f.places) f.lowes
   apart a b = cc
 
 -- what is kept of no places
-pub seen_of-none : seen_of [] ≡ record { initiator_e = false; initiator_s = false; responder_e = false; responder_s = false; ee = false; es = false; se = false; ss = false; psk = false }
+pub seen_of-none : seen_of [] ≡ record {
+  initiator_e = false;
+  initiator_s = false;
+  responder_e = false;
+  responder_s = false;
+  ee = false;
+  es = false;
+  se = false;
+  ss = false;
+  psk = false;
+}
 unfolding seen_of
 seen_of-none = refl
 
@@ -132,7 +150,8 @@ pub seen_of-snoc : (places : List Place) (p : Place) → seen_of (places ++ p �
 unfolding seen_of
 seen_of-snoc places p = simp (any-snoc) refl
 
-by_step : (earlier : List Place) (party : Role) (step : Step) (message token : ℕ) → rules_by (seen_of earlier) party step ≡ broken_rules earlier (place party step message token)
+by_step : (earlier : List Place) (party : Role) (step : Step) (message token : ℕ)
+    → rules_by (seen_of earlier) party step ≡ broken_rules earlier (place party step message token)
 unfolding seen_of
 by_step earlier Initiator (does E) message token = simp (append-nil, append_assoc)
 by_step earlier Responder (does E) message token = simp (append-nil, append_assoc)
@@ -156,20 +175,25 @@ none_or : (rules : List ℕ) (p : Place) (next : Option RuleFault) → lowest_of
 none_or [] p next h = refl
 none_or (r ∷ rs) p next h = cc
 
-some_or : (rules : List ℕ) (p : Place) (next : Option RuleFault) (rule : ℕ) → lowest_of rules ≡ Some rule → fault_or rules p next ≡ Some (record { rule = rule; message = p.message; token = p.token })
+some_or : (rules : List ℕ) (p : Place) (next : Option RuleFault) (rule : ℕ) → lowest_of rules ≡ Some rule
+    → fault_or rules p next ≡ Some (record { rule = rule; message = p.message; token = p.token })
 some_or [] p next rule h = cc
-some_or (r ∷ rs) p next rule h = let e : r ≡ rule = cc in ap (λ (n : ℕ). let f : RuleFault = record { rule = n; message = p.message; token = p.token } in Some f) e
+some_or (r ∷ rs) p next rule h = let e : r ≡ rule = cc in
+    ap (λ (n : ℕ). let f : RuleFault = record { rule = n; message = p.message; token = p.token } in Some f) e
 
-kept_goes_on : (earlier : List Place) (p : Place) (later : List Place) → lowest_of (broken_rules earlier p) ≡ None → first_fault_from earlier (p ∷ later) ≡ first_fault_from (earlier ++ p ∷ []) later
+kept_goes_on : (earlier : List Place) (p : Place) (later : List Place) → lowest_of (broken_rules earlier p) ≡ None
+    → first_fault_from earlier (p ∷ later) ≡ first_fault_from (earlier ++ p ∷ []) later
 unfolding first_fault_from
 kept_goes_on earlier p later h = none_or (broken_rules earlier p) p (first_fault_by broken_rules (earlier ++ p ∷ []) later) h
 
-broken_stops : (earlier : List Place) (p : Place) (later : List Place) (rule : ℕ) → lowest_of (broken_rules earlier p) ≡ Some rule → first_fault_from earlier (p ∷ later) ≡ Some (record { rule = rule; message = p.message; token = p.token })
+broken_stops : (earlier : List Place) (p : Place) (later : List Place) (rule : ℕ) → lowest_of (broken_rules earlier p) ≡ Some rule
+    → first_fault_from earlier (p ∷ later) ≡ Some (record { rule = rule; message = p.message; token = p.token })
 unfolding first_fault_from
 broken_stops earlier p later rule h = some_or (broken_rules earlier p) p (first_fault_by broken_rules (earlier ++ p ∷ []) later) rule h
 
 -- the lowest rule that is broken, from what is kept
-lowest-same : (old : Seen) (earlier : List Place) (p : Place) → old ≡ seen_of earlier → lowest_of (broken_rules earlier p) ≡ lowest_of (rules_by old p.party p.step)
+lowest-same : (old : Seen) (earlier : List Place) (p : Place) → old ≡ seen_of earlier
+    → lowest_of (broken_rules earlier p) ≡ lowest_of (rules_by old p.party p.step)
 lowest-same old earlier p e = sym (ap (λ (s : Seen). lowest_of (rules_by s p.party p.step)) e ∙ ap lowest_of (rules_by-seen_of earlier p))
 
 -- one place without a fault
@@ -180,17 +204,22 @@ walks_one old new p kept more earlier later e = (
 )
 
 -- one place with a fault
-pub walks_fault : (old new : Seen) (p : Place) (rule : ℕ) → lowest_of (rules_by old p.party p.step) ≡ Some rule → Walks old new (p ∷ []) (Err (record { rule = rule; message = p.message; token = p.token }))
+pub walks_fault : (old new : Seen) (p : Place) (rule : ℕ) → lowest_of (rules_by old p.party p.step) ≡ Some rule
+    → Walks old new (p ∷ []) (Err (record { rule = rule; message = p.message; token = p.token }))
 walks_fault old new p rule broken earlier later e = broken_stops earlier p later rule (lowest-same old earlier p e ∙ broken)
 
 -- some places and then others
-pub walks_on : (old mid new : Seen) (ps qs : List Place) (result : Result (Unit {0}) RuleFault) → Walks old mid ps (Ok tt) → Walks mid new qs result → Walks old new (ps ++ qs) result
+pub walks_on : (old mid new : Seen) (ps qs : List Place) (result : Result (Unit {0}) RuleFault) → Walks old mid ps (Ok tt) → Walks mid new qs result
+    → Walks old new (ps ++ qs) result
 walks_on old mid new ps qs (Ok x) a b earlier later e =
-    let first : (mid ≡ seen_of (earlier ++ ps)) × (first_fault_from earlier (ps ++ (qs ++ later)) ≡ first_fault_from (earlier ++ ps) (qs ++ later)) = a earlier (qs ++ later) e in
-    let second : (new ≡ seen_of ((earlier ++ ps) ++ qs)) × (first_fault_from (earlier ++ ps) (qs ++ later) ≡ first_fault_from ((earlier ++ ps) ++ qs) later) = b (earlier ++ ps) later first.0 in
+    let first : (mid ≡ seen_of (earlier ++ ps)) × (first_fault_from earlier (ps ++ (qs ++ later)) ≡ first_fault_from (earlier ++ ps) (qs ++ later)) =
+    a earlier (qs ++ later) e in
+    let second : (new ≡ seen_of ((earlier ++ ps) ++ qs))
+    × (first_fault_from (earlier ++ ps) (qs ++ later) ≡ first_fault_from ((earlier ++ ps) ++ qs) later) = b (earlier ++ ps) later first.0 in
     (rw append_assoc at second.0, rw append_assoc (first.1 ∙ rw append_assoc at second.1))
 walks_on old mid new ps qs (Err fault) a b earlier later e =
-    let first : (mid ≡ seen_of (earlier ++ ps)) × (first_fault_from earlier (ps ++ (qs ++ later)) ≡ first_fault_from (earlier ++ ps) (qs ++ later)) = a earlier (qs ++ later) e in
+    let first : (mid ≡ seen_of (earlier ++ ps)) × (first_fault_from earlier (ps ++ (qs ++ later)) ≡ first_fault_from (earlier ++ ps) (qs ++ later)) =
+    a earlier (qs ++ later) e in
     rw append_assoc (first.1 ∙ b (earlier ++ ps) later first.0)
 
 -- a fault among the first places
@@ -202,9 +231,11 @@ pub walks_none : (seen : Seen) → Walks seen seen [] (Ok tt)
 walks_none seen earlier later e = (e ∙ ap seen_of (sym (append-nil earlier)), ap (λ (ps : List Place). first_fault_from ps later) (sym (append-nil earlier)))
 
 -- the places of the tokens from the one at i on
-pub token_places-at : (party : Role) (message k : ℕ) (tokens : List Token) (i : ℕ) (d : Token) → i < length tokens → token_places party message k (drop i tokens) ≡ place party (does (get_or tokens i d)) message k ∷ token_places party message (k + 1) (drop (i + 1) tokens)
+pub token_places-at : (party : Role) (message k : ℕ) (tokens : List Token) (i : ℕ) (d : Token) → i < length tokens
+    → token_places party message k (drop i tokens) ≡ place party (does (get_or tokens i d)) message k ∷ token_places party message (k + 1) (drop (i + 1) tokens)
 token_places-at party message k tokens i d h =
-    let e : drop i tokens ≡ get_or tokens i d ∷ drop (i + 1) tokens = drop-cons tokens i d h ∙ ap (λ (n : ℕ). get_or tokens i d ∷ drop n tokens) (sym (add-one i)) in
+    let e : drop i tokens ≡ get_or tokens i d ∷ drop (i + 1) tokens = drop-cons tokens i d h
+    ∙ ap (λ (n : ℕ). get_or tokens i d ∷ drop n tokens) (sym (add-one i)) in
     ap (λ (ts : List Token). token_places party message k ts) e
 
 -- the places of a message
@@ -212,9 +243,11 @@ abbrev pub whole_message : Role → ℕ → List Token → List Place
 whole_message party n tokens = token_places party n 0 tokens ++ place party payload n (length tokens) ∷ []
 
 -- the places of the messages from the one at i on
-pub message_places-at : (party : Role) (n : ℕ) (messages : List (List Token)) (i : ℕ) (m : List Token) → i < length messages → m ≡ get_or messages i m → message_places party n (drop i messages) ≡ whole_message party n m ++ message_places (other party) (n + 1) (drop (i + 1) messages)
+pub message_places-at : (party : Role) (n : ℕ) (messages : List (List Token)) (i : ℕ) (m : List Token) → i < length messages → m ≡ get_or messages i m
+    → message_places party n (drop i messages) ≡ whole_message party n m ++ message_places (other party) (n + 1) (drop (i + 1) messages)
 message_places-at party n messages i m h is =
-    let e : drop i messages ≡ get_or messages i m ∷ drop (i + 1) messages = drop-cons messages i m h ∙ ap (λ (k : ℕ). get_or messages i m ∷ drop k messages) (sym (add-one i)) in
+    let e : drop i messages ≡ get_or messages i m ∷ drop (i + 1) messages = drop-cons messages i m h
+    ∙ ap (λ (k : ℕ). get_or messages i m ∷ drop k messages) (sym (add-one i)) in
     let f : drop i messages ≡ m ∷ drop (i + 1) messages = e ∙ ap (λ (x : List Token). x ∷ drop (i + 1) messages) (sym is) in
     ap (λ (ms : List (List Token)). message_places party n ms) f
     ∙ sym (append_assoc (token_places party n 0 m) (place party payload n (length m) ∷ []) (message_places (other party) (n + 1) (drop (i + 1) messages)))
@@ -224,19 +257,24 @@ unfolding first_fault_from
 no_more earlier = refl
 
 -- all places were passed
-pub whole_none : (plan : Plan) (start new : Seen) (places : List Place) → start ≡ seen_of [] → places ≡ places_of plan → Walks start new places (Ok tt) → first_fault plan ≡ None
+pub whole_none : (plan : Plan) (start new : Seen) (places : List Place) → start ≡ seen_of [] → places ≡ places_of plan → Walks start new places (Ok tt)
+    → first_fault plan ≡ None
 whole_none plan start new places e same w =
     let ended : first_fault_from [] (places ++ []) ≡ None = (w [] [] e).1 ∙ no_more places in
     let all : first_fault_from [] places ≡ None = rw append-nil at ended in
     subst (λ (ps : List Place). first_fault_from [] ps ≡ None) same all
 
 -- the parts of the list of places
-pub two_way_places : (plan : Plan) (initiator responder : List Token) (messages : List (List Token)) → initiator ≡ plan.initiator → responder ≡ plan.responder → messages ≡ plan.messages → is_one_way plan ≡ false
-    → (((token_places Initiator 0 0 initiator ++ token_places Responder 0 0 responder) ++ message_places Initiator 1 messages) ++ place Initiator transport (length messages + 1) 0 ∷ []) ++ place Responder transport (length messages + 1) 1 ∷ [] ≡ places_of plan
+pub two_way_places : (plan : Plan) (initiator responder : List Token) (messages : List (List Token)) → initiator ≡ plan.initiator
+    → responder ≡ plan.responder → messages ≡ plan.messages → is_one_way plan ≡ false
+    → (((token_places Initiator 0 0 initiator ++ token_places Responder 0 0 responder) ++ message_places Initiator 1 messages)
+    ++ place Initiator transport (length messages + 1) 0 ∷ []) ++ place Responder transport (length messages + 1) 1 ∷ [] ≡ places_of plan
 two_way_places plan initiator responder messages a b c d = rw (a, b, c, d) (append_assoc _ (place Initiator transport (length plan.messages + 1) 0 ∷ []) _)
 
-pub one_way_places : (plan : Plan) (initiator responder : List Token) (messages : List (List Token)) → initiator ≡ plan.initiator → responder ≡ plan.responder → messages ≡ plan.messages → is_one_way plan ≡ true
-    → ((token_places Initiator 0 0 initiator ++ token_places Responder 0 0 responder) ++ message_places Initiator 1 messages) ++ place Initiator transport (length messages + 1) 0 ∷ [] ≡ places_of plan
+pub one_way_places : (plan : Plan) (initiator responder : List Token) (messages : List (List Token)) → initiator ≡ plan.initiator
+    → responder ≡ plan.responder → messages ≡ plan.messages → is_one_way plan ≡ true
+    → ((token_places Initiator 0 0 initiator ++ token_places Responder 0 0 responder) ++ message_places Initiator 1 messages)
+    ++ place Initiator transport (length messages + 1) 0 ∷ [] ≡ places_of plan
 one_way_places plan initiator responder messages a b c d = rw (a, b, c, d) refl
 
 no_rules : (rules others : List ℕ) → rules ++ others ≡ [] → (rules ≡ []) × (others ≡ [])
@@ -249,33 +287,44 @@ kept_of n false h = absurd (cc)
 
 -- the five rules at a place that breaks none
 pub keeps_rules : (earlier : List Place) (p : Place) → broken_rules earlier p ≡ [] → KeepsRules earlier p
-keeps_rules earlier p h = by_tests (keys_stand earlier p.step) (key_is_first earlier p.party p.step) (dh_is_first earlier p.step) (comes_with (encrypts p.step) (dh_is_fresh earlier p.party)) (comes_with (encrypts p.step) (psk_is_fresh earlier p.party)) refl refl refl refl refl h where
-  by_tests : (a b c d e : Bool) → keys_stand earlier p.step ≡ a → key_is_first earlier p.party p.step ≡ b → dh_is_first earlier p.step ≡ c → comes_with (encrypts p.step) (dh_is_fresh earlier p.party) ≡ d → comes_with (encrypts p.step) (psk_is_fresh earlier p.party) ≡ e
-      → (((unless_kept 1 a ++ unless_kept 2 b) ++ unless_kept 3 c) ++ unless_kept 4 d) ++ unless_kept 5 e ≡ [] → KeepsRules earlier p
-  by_tests a b c d e ka kb kc kd ke h =
-      let fifth : ((((unless_kept 1 a ++ unless_kept 2 b) ++ unless_kept 3 c) ++ unless_kept 4 d) ≡ []) × (unless_kept 5 e ≡ []) = no_rules (((unless_kept 1 a ++ unless_kept 2 b) ++ unless_kept 3 c) ++ unless_kept 4 d) (unless_kept 5 e) h in
-      let fourth : (((unless_kept 1 a ++ unless_kept 2 b) ++ unless_kept 3 c) ≡ []) × (unless_kept 4 d ≡ []) = no_rules ((unless_kept 1 a ++ unless_kept 2 b) ++ unless_kept 3 c) (unless_kept 4 d) fifth.0 in
-      let third : ((unless_kept 1 a ++ unless_kept 2 b) ≡ []) × (unless_kept 3 c ≡ []) = no_rules (unless_kept 1 a ++ unless_kept 2 b) (unless_kept 3 c) fourth.0 in
-      let second : (unless_kept 1 a ≡ []) × (unless_kept 2 b ≡ []) = no_rules (unless_kept 1 a) (unless_kept 2 b) third.0 in
-      record {
-        keys = ka ∙ kept_of 1 a second.0;
-        key = kb ∙ kept_of 2 b second.1;
-        dh = kc ∙ kept_of 3 c third.1;
-        fresh_dh = kd ∙ kept_of 4 d fourth.1;
-        fresh_psk = ke ∙ kept_of 5 e fifth.1;
-      }
+keeps_rules earlier p h =
+    by_tests (keys_stand earlier p.step) (key_is_first earlier p.party p.step) (dh_is_first earlier p.step)
+    (comes_with (encrypts p.step) (dh_is_fresh earlier p.party)) (comes_with (encrypts p.step) (psk_is_fresh earlier p.party)) refl refl refl refl refl h where
+      by_tests : (a b c d e : Bool) → keys_stand earlier p.step ≡ a → key_is_first earlier p.party p.step ≡ b → dh_is_first earlier p.step ≡ c
+          → comes_with (encrypts p.step) (dh_is_fresh earlier p.party) ≡ d → comes_with (encrypts p.step) (psk_is_fresh earlier p.party) ≡ e
+          → (((unless_kept 1 a ++ unless_kept 2 b) ++ unless_kept 3 c) ++ unless_kept 4 d) ++ unless_kept 5 e ≡ [] → KeepsRules earlier p
+      by_tests a b c d e ka kb kc kd ke h =
+          let fifth : ((((unless_kept 1 a ++ unless_kept 2 b) ++ unless_kept 3 c) ++ unless_kept 4 d) ≡ []) × (unless_kept 5 e ≡ []) =
+          no_rules (((unless_kept 1 a ++ unless_kept 2 b) ++ unless_kept 3 c) ++ unless_kept 4 d) (unless_kept 5 e) h in
+          let fourth : (((unless_kept 1 a ++ unless_kept 2 b) ++ unless_kept 3 c) ≡ []) × (unless_kept 4 d ≡ []) =
+          no_rules ((unless_kept 1 a ++ unless_kept 2 b) ++ unless_kept 3 c) (unless_kept 4 d) fifth.0 in
+          let third : ((unless_kept 1 a ++ unless_kept 2 b) ≡ []) × (unless_kept 3 c ≡ []) =
+          no_rules (unless_kept 1 a ++ unless_kept 2 b) (unless_kept 3 c) fourth.0 in
+          let second : (unless_kept 1 a ≡ []) × (unless_kept 2 b ≡ []) = no_rules (unless_kept 1 a) (unless_kept 2 b) third.0 in
+          record {
+            keys = ka ∙ kept_of 1 a second.0;
+            key = kb ∙ kept_of 2 b second.1;
+            dh = kc ∙ kept_of 3 c third.1;
+            fresh_dh = kd ∙ kept_of 4 d fourth.1;
+            fresh_psk = ke ∙ kept_of 5 e fifth.1;
+          }
 
 -- one place more is kept
-pub seen-more : (earlier done : List Place) (old new : Seen) (q : Place) → old ≡ seen_of (earlier ++ done) → new ≡ with_place old q → new ≡ seen_of (earlier ++ (done ++ q ∷ []))
-seen-more earlier done old new q e f = f ∙ ap (λ (s : Seen). with_place s q) e ∙ sym (seen_of-snoc (earlier ++ done) q) ∙ ap seen_of (append_assoc earlier done (q ∷ []))
+pub seen-more : (earlier done : List Place) (old new : Seen) (q : Place) → old ≡ seen_of (earlier ++ done) → new ≡ with_place old q
+    → new ≡ seen_of (earlier ++ (done ++ q ∷ []))
+seen-more earlier done old new q e f = f ∙ ap (λ (s : Seen). with_place s q) e ∙ sym (seen_of-snoc (earlier ++ done) q)
+    ∙ ap seen_of (append_assoc earlier done (q ∷ []))
 
 -- one token more is passed
-pub tokens-more : (party : Role) (message : ℕ) (tokens : List Token) (i : ℕ) (d : Token) (done all : List Place) → i < length tokens → done ++ token_places party message i (drop i tokens) ≡ all → (done ++ place party (does (get_or tokens i d)) message i ∷ []) ++ token_places party message (i + 1) (drop (i + 1) tokens) ≡ all
+pub tokens-more : (party : Role) (message : ℕ) (tokens : List Token) (i : ℕ) (d : Token) (done all : List Place) → i < length tokens
+    → done ++ token_places party message i (drop i tokens) ≡ all
+    → (done ++ place party (does (get_or tokens i d)) message i ∷ []) ++ token_places party message (i + 1) (drop (i + 1) tokens) ≡ all
 tokens-more party message tokens i d done all h e =
     append_assoc done (place party (does (get_or tokens i d)) message i ∷ []) (token_places party message (i + 1) (drop (i + 1) tokens))
     ∙ ap (λ (ps : List Place). done ++ ps) (sym (token_places-at party message i tokens i d h)) ∙ e
 
 -- no token is left
-pub tokens-all : (party : Role) (message : ℕ) (tokens : List Token) (i : ℕ) (done all : List Place) → length tokens ≤ i → done ++ token_places party message i (drop i tokens) ≡ all → done ≡ all
+pub tokens-all : (party : Role) (message : ℕ) (tokens : List Token) (i : ℕ) (done all : List Place) → length tokens ≤ i
+    → done ++ token_places party message i (drop i tokens) ≡ all → done ≡ all
 tokens-all party message tokens i done all h e =
     sym (append-nil done) ∙ ap (λ (ts : List Token). done ++ token_places party message i ts) (sym (drop_all i tokens h)) ∙ e

@@ -1,5 +1,6 @@
 -- The fundamental patterns are within the limits, and each is found by its base.
-use Rattle.std.proofs.Common.{◌≡◌, ℕ, ◌≤◌, ◌+◌, Bool, true, false, ◌&&◌, cond, List, [], ◌∷◌, ◌++◌, Option, Some, None, refl, map, ap, sym, subst, ◌∙◌, length, get_or, arith, leb, append-nil, zero, suc, drop, add-one}
+use Rattle.std.proofs.Common.{◌≡◌, ℕ, ◌≤◌, ◌+◌, Bool, true, false, ◌&&◌, cond, List, [], ◌∷◌, ◌++◌, Option, Some, None, refl, map, ap, sym, subst, ◌∙◌, length}
+use Rattle.std.proofs.Common.{get_or, arith, leb, append-nil, zero, suc, drop, add-one}
 use Rattle.std.specs.Prelude.{find, nat_le, nat_eq, MatchOption, ⊤, slice_get, bytes_eq}
 use Rattle.std.specs.List.{list_all}
 use Rattle.std.proofs.lemmas.Bool.Decides.{nat_tests}
@@ -18,10 +19,11 @@ both false y h = absurd (cc)
 -- what is found has what all elements have
 found_all : {X : Type 0} (test keeps : X → Bool) (xs : List X) (x : X) → find test xs ≡ Some x → list_all keeps xs ≡ true → keeps x ≡ true
 found_all test keeps [] x e h = absurd (cc)
-found_all {X = X} test keeps (y ∷ ys) x e h = at (both (keeps y) (list_all keeps ys) h).0 (λ f. found_all test keeps ys x f (both (keeps y) (list_all keeps ys) h).1) (test y) e where
-  at : keeps y ≡ true → (find test ys ≡ Some x → keeps x ≡ true) → (b : Bool) → cond b (Some y) (find test ys) ≡ Some x → keeps x ≡ true
-  at here more true f = let same : y ≡ x = cc in subst (λ (z : X). keeps z ≡ true) same here
-  at here more false f = more f
+found_all {X = X} test keeps (y ∷ ys) x e h =
+    at (both (keeps y) (list_all keeps ys) h).0 (λ f. found_all test keeps ys x f (both (keeps y) (list_all keeps ys) h).1) (test y) e where
+      at : keeps y ≡ true → (find test ys ≡ Some x → keeps x ≡ true) → (b : Bool) → cond b (Some y) (find test ys) ≡ Some x → keeps x ≡ true
+      at here more true f = let same : y ≡ x = cc in subst (λ (z : X). keeps z ≡ true) same here
+      at here more false f = more f
 
 pub found_map : {X Y : Type 0} (test : X → Bool) (f g : X → Y) (xs : List X) (x : X) → find test xs ≡ Some x → map f xs ≡ map g xs → f x ≡ g x
 found_map test f g [] x e h = absurd (cc)
@@ -74,7 +76,8 @@ unfolding fundamental_of
 known_is_pattern base p found =
     let within : is_within p ≡ true = found_all (λ q. bytes_eq q.base base) is_within fundamentals p found fundamentals_within in
     let plain : plain_of p ≡ p = found_map (λ q. bytes_eq q.base base) plain_of (λ q. q) fundamentals p found fundamentals_plain in
-    let known : fundamental_of p.base ≡ Some p = found_map (λ q. bytes_eq q.base base) (λ q. fundamental_of q.base) (λ q. Some q) fundamentals p found fundamentals_known in
+    let known : fundamental_of p.base ≡ Some p =
+    found_map (λ q. bytes_eq q.base base) (λ q. fundamental_of q.base) (λ q. Some q) fundamentals p found fundamentals_known in
     let no_places : [] ≡ p.places = ap (λ (q : Plan). q.places) plain in
     let a = both (is_base p.base) _ within in
     let b = both (is_pre_message p.initiator) _ a.1 in
@@ -88,7 +91,8 @@ known_is_pattern base p found =
       responder = c.0;
       count = d.0;
       sizes = e.0;
-      psks = subst (λ (ns : List ℕ). HavePsks ns p.messages) no_places (record { tokens = plain_messages 1 p.messages (ap (λ (q : Plan). q.messages) plain); in_range = refl });
+      psks = subst (λ (ns : List ℕ). HavePsks ns p.messages) no_places
+          (record { tokens = plain_messages 1 p.messages (ap (λ (q : Plan). q.messages) plain); in_range = refl });
       known = subst (λ (o : Option Plan). MatchOption o ⊤ (λ f. plain_of p ≡ f)) (sym known) plain;
     }
 
@@ -111,15 +115,18 @@ known_is_short base p i found =
     each_short p.messages i e.1
 
 pub known_is_few : (base : List ℕ) (p : Plan) → fundamental_of base ≡ Some p → length p.messages ≤ 8
-known_is_few base p found = le_from_test (length p.messages) 8 (both (nat_le 1 (length p.messages)) (nat_le (length p.messages) 8) (known_is_pattern base p found).count).1
+known_is_few base p found =
+    le_from_test (length p.messages) 8 (both (nat_le 1 (length p.messages)) (nat_le (length p.messages) 8) (known_is_pattern base p found).count).1
 
 -- a search from the element at i on
-find_at : {X : Type 0} (test : X → Bool) (xs : List X) (i : ℕ) (x : X) → slice_get xs i ≡ Some x → find test (drop i xs) ≡ cond (test x) (Some x) (find test (drop (suc i) xs))
+find_at : {X : Type 0} (test : X → Bool) (xs : List X) (i : ℕ) (x : X) → slice_get xs i ≡ Some x
+    → find test (drop i xs) ≡ cond (test x) (Some x) (find test (drop (suc i) xs))
 find_at test [] i x h = absurd (cc)
 find_at test (y ∷ ys) zero x h = let same : y ≡ x = cc in rw same refl
 find_at test (y ∷ ys) (suc i) x h = find_at test ys i x h
 
-pub find-drop : {X : Type 0} (test : X → Bool) (xs : List X) (i : ℕ) (x : X) → slice_get xs i ≡ Some x → find test (drop i xs) ≡ cond (test x) (Some x) (find test (drop (i + 1) xs))
+pub find-drop : {X : Type 0} (test : X → Bool) (xs : List X) (i : ℕ) (x : X) → slice_get xs i ≡ Some x
+    → find test (drop i xs) ≡ cond (test x) (Some x) (find test (drop (i + 1) xs))
 find-drop test xs i x h = rw (add-one i) (find_at test xs i x h)
 
 past : {X : Type 0} (xs : List X) (i : ℕ) → length xs ≤ i → slice_get xs i ≡ None

@@ -1,5 +1,6 @@
 -- The modifiers of a pattern section: what spells them, and that nothing else does.
-use Rattle.std.proofs.Common.{◌≡◌, ℕ, ◌+◌, ◌-◌, ◌<◌, ◌≤◌, Bool, true, false, ◌&&◌, not, cond, eqb, leb, ltb, List, [], ◌∷◌, ◌++◌, Ok, Err, refl, ap, sym, ◌∙◌, map, length, arith}
+use Rattle.std.proofs.Common.{◌≡◌, ℕ, ◌+◌, ◌-◌, ◌<◌, ◌≤◌, Bool, true, false, ◌&&◌, not, cond, eqb, leb, ltb, List, [], ◌∷◌, ◌++◌, Ok, Err, refl, ap, sym, ◌∙◌}
+use Rattle.std.proofs.Common.{map, length, arith}
 use Rattle.std.specs.Prelude.{codes}
 use Rattle.std.specs.List.{list_all, join_with_byte, slice_split, starts_with}
 use Rattle.std.proofs.lemmas.Bool.Decides.{nat_tests}
@@ -47,7 +48,8 @@ pub record IsLeft (rest : List ℕ) : Type 0 where
 pub le_from_test : (m n : ℕ) → leb m n ≡ true → m ≤ n
 le_from_test m n t = grind (arith, nat_tests)
 
-pub left_over : (done : List ℕ) (n : ℕ) (ns rest : List ℕ) → are_numbers (n ∷ ns) ≡ true → fronts done ++ rest ≡ join_with_byte 43 (map modifier (n ∷ ns)) → IsLeft rest
+pub left_over : (done : List ℕ) (n : ℕ) (ns rest : List ℕ) → are_numbers (n ∷ ns) ≡ true → fronts done ++ rest ≡ join_with_byte 43 (map modifier (n ∷ ns))
+    → IsLeft rest
 left_over [] n ns rest h e = record { number = n; others = ns; small = le_from_test n 8 (both (leb n 8) (are_numbers ns) h).0; spelled = e }
 left_over (d ∷ done) n [] rest h e = absurd (cc)
 left_over (d ∷ done) n (m ∷ ns) rest h e =
@@ -74,14 +76,19 @@ modifier_is (a ∷ b ∷ c ∷ d ∷ []) h =
     let d_is : d ≡ 48 + (d - 48) = omega arith in
     (rw (← p_is, ← s_is, ← k_is) (ap (λ (n : ℕ). 112 ∷ 115 ∷ 107 ∷ n ∷ []) d_is), omega arith)
 modifier_is piece h =
-    let four : length piece ≡ 4 = same_from_test (length piece) 4 (both (starts_with eqb piece (codes "psk")) (eqb (length piece) 4) (both (starts_with eqb piece (codes "psk") && eqb (length piece) 4) (leb 48 (digit_of piece)) (both (starts_with eqb piece (codes "psk") && eqb (length piece) 4 && leb 48 (digit_of piece)) (leb (digit_of piece) 56) h).0).0).1 in
+    let four : length piece ≡ 4 =
+    same_from_test (length piece) 4
+    (both (starts_with eqb piece (codes "psk")) (eqb (length piece) 4)
+    (both (starts_with eqb piece (codes "psk") && eqb (length piece) 4) (leb 48 (digit_of piece))
+    (both (starts_with eqb piece (codes "psk") && eqb (length piece) 4 && leb 48 (digit_of piece)) (leb (digit_of piece) 56) h).0).0).1 in
     absurd (omega arith)
 
 not_plus : (n : ℕ) → n ≤ 8 → eqb (48 + n) 43 ≡ false
 not_plus n h = grind (arith, nat_tests)
 
 -- the pieces of modifiers
-split_modifiers : (n : ℕ) (ns : List ℕ) → are_numbers (n ∷ ns) ≡ true → slice_split (λ c. eqb c 43) (join_with_byte 43 (map modifier (n ∷ ns))) ≡ map modifier (n ∷ ns)
+split_modifiers : (n : ℕ) (ns : List ℕ) → are_numbers (n ∷ ns) ≡ true
+    → slice_split (λ c. eqb c 43) (join_with_byte 43 (map modifier (n ∷ ns))) ≡ map modifier (n ∷ ns)
 split_modifiers n [] h =
     let e : eqb (48 + n) 43 ≡ false = not_plus n (le_from_test n 8 (both (leb n 8) true h).0) in rw e refl
 split_modifiers n (m ∷ ns) h =
@@ -95,7 +102,8 @@ pieces_of-modifiers [] h = refl
 pieces_of-modifiers (n ∷ []) h = split_modifiers n [] h
 pieces_of-modifiers (n ∷ m ∷ ns) h = split_modifiers n (m ∷ ns) h
 
-pub all_modifiers : (pieces : List (List ℕ)) → list_all is_modifier pieces ≡ true → (pieces ≡ map modifier (map number_in pieces)) × (are_numbers (map number_in pieces) ≡ true)
+pub all_modifiers : (pieces : List (List ℕ)) → list_all is_modifier pieces ≡ true
+    → (pieces ≡ map modifier (map number_in pieces)) × (are_numbers (map number_in pieces) ≡ true)
 all_modifiers [] h = (refl, refl)
 all_modifiers (piece ∷ pieces) h =
     let a : (is_modifier piece ≡ true) × (list_all is_modifier pieces ≡ true) = both (is_modifier piece) (list_all is_modifier pieces) h in
@@ -114,7 +122,8 @@ all_modifiers (piece ∷ pieces) h =
     and_true e f = rw (e, f) refl
 
 -- where no numbers spell the modifiers, some piece is none
-pub refused : (modifiers : List ℕ) → ((n : ℕ) (ns : List ℕ) → are_numbers (n ∷ ns) ≡ true → modifiers ≡ join_with_byte 43 (map modifier (n ∷ ns)) → ⊥) → (modifiers ≡ [] → ⊥) → list_all is_modifier (pieces_of modifiers) ≡ false
+pub refused : (modifiers : List ℕ) → ((n : ℕ) (ns : List ℕ) → are_numbers (n ∷ ns) ≡ true → modifiers ≡ join_with_byte 43 (map modifier (n ∷ ns)) → ⊥)
+    → (modifiers ≡ [] → ⊥) → list_all is_modifier (pieces_of modifiers) ≡ false
 refused [] none some = absurd (some refl)
 refused (b ∷ bs) none some = at (list_all is_modifier (slice_split (λ c. eqb c 43) (b ∷ bs))) refl where
   pieces : List (List ℕ)
@@ -169,8 +178,10 @@ pub if_not : {A : Type 0} (b : Bool) (x y : A) → cond (not b) x y ≡ cond b y
 if_not true x y = refl
 if_not false x y = refl
 
-pub modifiers_read-all : (ns : List ℕ) → are_numbers ns ≡ true → modifiers_read (join_with_byte 43 (map modifier ns)) ≡ cond (are_places ns) (Ok ns) (Err ModifierOrder)
-modifiers_read-all ns h = rw (pieces_of-modifiers ns h, are_modifiers ns h, digits_rise ns, same_numbers ns, places_rise ns h) (if_not (rises ns) (Err ModifierOrder) (Ok ns))
+pub modifiers_read-all : (ns : List ℕ) → are_numbers ns ≡ true
+    → modifiers_read (join_with_byte 43 (map modifier ns)) ≡ cond (are_places ns) (Ok ns) (Err ModifierOrder)
+modifiers_read-all ns h =
+    rw (pieces_of-modifiers ns h, are_modifiers ns h, digits_rise ns, same_numbers ns, places_rise ns h) (if_not (rises ns) (Err ModifierOrder) (Ok ns))
 
 pub too_many_places : (ns : List ℕ) → 9 < length ns → are_places ns ≡ false
 too_many_places ns h = at (are_places ns) refl where
@@ -188,12 +199,15 @@ join-cons n [] = refl
 join-cons n (m ∷ ns) = refl
 
 -- the rest has no modifier in front
-pub refused_at : (modifiers rest done : List ℕ) → modifiers ≡ fronts done ++ rest → (modifiers ≡ [] → ⊥) → ((n : ℕ) (behind : List ℕ) → n ≤ 8 → rest ≡ modifier n ++ behind → ⊥) → list_all is_modifier (pieces_of modifiers) ≡ false
+pub refused_at : (modifiers rest done : List ℕ) → modifiers ≡ fronts done ++ rest → (modifiers ≡ [] → ⊥)
+    → ((n : ℕ) (behind : List ℕ) → n ≤ 8 → rest ≡ modifier n ++ behind → ⊥) → list_all is_modifier (pieces_of modifiers) ≡ false
 refused_at modifiers rest done e some none =
-    refused modifiers (λ n ns h f. let l : IsLeft rest = left_over done n ns rest h (sym e ∙ f) in none l.number (tail_of l.others) l.small (l.spelled ∙ join-cons l.number l.others)) some
+    refused modifiers (λ n ns h f. let l : IsLeft rest = left_over done n ns rest h (sym e ∙ f) in
+    none l.number (tail_of l.others) l.small (l.spelled ∙ join-cons l.number l.others)) some
 
 -- the rest has something else than a + behind a modifier
-pub refused_behind : (modifiers rest done behind : List ℕ) (n : ℕ) → modifiers ≡ fronts done ++ rest → (modifiers ≡ [] → ⊥) → rest ≡ modifier n ++ behind → (behind ≡ [] → ⊥) → ((more : List ℕ) → behind ≡ 43 ∷ more → ⊥) → list_all is_modifier (pieces_of modifiers) ≡ false
+pub refused_behind : (modifiers rest done behind : List ℕ) (n : ℕ) → modifiers ≡ fronts done ++ rest → (modifiers ≡ [] → ⊥) → rest ≡ modifier n ++ behind
+    → (behind ≡ [] → ⊥) → ((more : List ℕ) → behind ≡ 43 ∷ more → ⊥) → list_all is_modifier (pieces_of modifiers) ≡ false
 refused_behind modifiers rest done behind n e some here ended plus =
     refused modifiers (λ k ns h f. let l : IsLeft rest = left_over done k ns rest h (sym e ∙ f) in at l.number l.others (sym here ∙ l.spelled)) some
   where

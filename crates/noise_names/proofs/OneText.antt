@@ -1,5 +1,6 @@
 -- No text spells two patterns.
-use Rattle.std.proofs.Common.{◌≡◌, ℕ, ◌<◌, Bool, true, false, ◌&&◌, not, eqb, List, [], ◌∷◌, ◌++◌, Some, refl, ap, sym, ◌∙◌, append_assoc, get_or, take_while, arith}
+use Rattle.std.proofs.Common.{◌≡◌, ℕ, ◌<◌, Bool, true, false, ◌&&◌, not, eqb, List, [], ◌∷◌, ◌++◌, Some, refl, ap, sym, ◌∙◌, append_assoc, get_or, take_while}
+use Rattle.std.proofs.Common.{arith}
 use Rattle.std.specs.Prelude.{codes}
 use Rattle.std.specs.List.{list_all}
 use Rattle.std.proofs.lemmas.Bool.Decides.{nat_tests}
@@ -10,11 +11,12 @@ use Rattle.noise_names.specs.declared.token.Token.{Token}
 use Rattle.noise_names.specs.declared.token.Token.TheVariants.{E, S, Ee, Es, Se, Ss, Psk}
 use Rattle.noise_names.specs.Tokens.{other}
 use Rattle.noise_names.specs.Plan.{Plan}
-use Rattle.noise_names.specs.Names.{Section, IsSection, section_bytes}
+use Rattle.noise_names.specs.Names.{is_section_byte, Section, IsSection, section_bytes}
 use Rattle.noise_names.specs.Limits.{IsPattern, has_few_tokens}
 use Rattle.noise_names.specs.Text.{word_of, words, token_line, pre_line, pre_lines, message_lines, text_of}
 use Rattle.noise_names.specs.Reading.{is_lower, token_named}
-use Rattle.noise_names.proofs.Sections.{is_section_byte, all_weaker, front_is, one_section, section_all}
+use Rattle.noise_names.specs.Facts.{section_bytes-all}
+use Rattle.noise_names.proofs.Sections.{all_weaker, front_is, one_section}
 
 both : (x y : Bool) → x && y ≡ true → (x ≡ true) × (y ≡ true)
 both true y h = (refl, h)
@@ -43,7 +45,8 @@ word_named Se = refl
 word_named Ss = refl
 word_named Psk = refl
 
-first_word_same : (t u : Token) (b c : ℕ) (x y : List ℕ) → is_lower b ≡ false → is_lower c ≡ false → word_of t ++ b ∷ x ≡ word_of u ++ c ∷ y → (t ≡ u) × (b ∷ x ≡ c ∷ y)
+first_word_same : (t u : Token) (b c : ℕ) (x y : List ℕ) → is_lower b ≡ false → is_lower c ≡ false → word_of t ++ b ∷ x ≡ word_of u ++ c ∷ y
+    → (t ≡ u) × (b ∷ x ≡ c ∷ y)
 first_word_same t u b c x y hb hc e =
     let word : word_of t ≡ word_of u =
     sym (front_is is_lower (word_of t) b x (word_lower t) hb) ∙ ap (take_while is_lower) e ∙ front_is is_lower (word_of u) c y (word_lower u) hc in
@@ -57,16 +60,19 @@ behind (v ∷ vs) rest = 44 ∷ 32 ∷ (words (v ∷ vs) ++ 10 ∷ rest)
 
 word_first : (u : Token) (us : List Token) (rest : List ℕ) → words (u ∷ us) ++ 10 ∷ rest ≡ word_of u ++ behind us rest
 word_first u [] rest = refl
-word_first u (v ∷ vs) rest = append_assoc (word_of u ++ codes ", ") (words (v ∷ vs)) (10 ∷ rest) ∙ append_assoc (word_of u) (codes ", ") (words (v ∷ vs) ++ 10 ∷ rest)
+word_first u (v ∷ vs) rest = append_assoc (word_of u ++ codes ", ") (words (v ∷ vs)) (10 ∷ rest)
+    ∙ append_assoc (word_of u) (codes ", ") (words (v ∷ vs) ++ 10 ∷ rest)
 
 words_same : (t u : Token) (ts us : List Token) (x y : List ℕ) → words (t ∷ ts) ++ 10 ∷ x ≡ words (u ∷ us) ++ 10 ∷ y → (t ∷ ts ≡ u ∷ us) × (x ≡ y)
 words_same t u [] [] x y e = let h = first_word_same t u 10 10 x y refl refl e in (ap (λ (v : Token). v ∷ []) h.0, cc)
 words_same t u [] (v ∷ vs) x y e =
     let h = first_word_same t u 10 44 x (32 ∷ (words (v ∷ vs) ++ 10 ∷ y)) refl refl (e ∙ word_first u (v ∷ vs) y) in absurd (apart _ _ 0 h.1 (omega arith))
 words_same t u (v ∷ vs) [] x y e =
-    let h = first_word_same t u 44 10 (32 ∷ (words (v ∷ vs) ++ 10 ∷ x)) y refl refl (sym (word_first t (v ∷ vs) x) ∙ e) in absurd (apart _ _ 0 (sym h.1) (omega arith))
+    let h = first_word_same t u 44 10 (32 ∷ (words (v ∷ vs) ++ 10 ∷ x)) y refl refl (sym (word_first t (v ∷ vs) x) ∙ e) in
+    absurd (apart _ _ 0 (sym h.1) (omega arith))
 words_same t u (v ∷ vs) (w ∷ ws) x y e =
-    let h = first_word_same t u 44 44 (32 ∷ (words (v ∷ vs) ++ 10 ∷ x)) (32 ∷ (words (w ∷ ws) ++ 10 ∷ y)) refl refl (sym (word_first t (v ∷ vs) x) ∙ e ∙ word_first u (w ∷ ws) y) in
+    let h = first_word_same t u 44 44 (32 ∷ (words (v ∷ vs) ++ 10 ∷ x)) (32 ∷ (words (w ∷ ws) ++ 10 ∷ y)) refl refl (sym (word_first t (v ∷ vs) x) ∙ e
+    ∙ word_first u (w ∷ ws) y) in
     let rest : words (v ∷ vs) ++ 10 ∷ x ≡ words (w ∷ ws) ++ 10 ∷ y = cc in
     let more = words_same v w vs ws x y rest in
     (cons_same h.0 more.0, more.1)
@@ -80,7 +86,8 @@ pub record IsSameLine (r s : Role) (ts us : List Token) (x y : List ℕ) : Type 
   pub tokens : ts ≡ us
   pub rest : x ≡ y
 
-line_same : (r s : Role) (t u : Token) (ts us : List Token) (x y : List ℕ) → token_line r (t ∷ ts) ++ x ≡ token_line s (u ∷ us) ++ y → IsSameLine r s (t ∷ ts) (u ∷ us) x y
+line_same : (r s : Role) (t u : Token) (ts us : List Token) (x y : List ℕ) → token_line r (t ∷ ts) ++ x ≡ token_line s (u ∷ us) ++ y
+    → IsSameLine r s (t ∷ ts) (u ∷ us) x y
 line_same Initiator Initiator t u ts us x y e =
     let list : (words (t ∷ ts) ++ 10 ∷ []) ++ x ≡ (words (u ∷ us) ++ 10 ∷ []) ++ y = cc in
     let h = words_same t u ts us x y (sym (append_assoc (words (t ∷ ts)) (10 ∷ []) x) ∙ list ∙ append_assoc (words (u ∷ us)) (10 ∷ []) y) in
@@ -103,15 +110,18 @@ no_dots Responder (m ∷ ms) x e = apart _ _ 2 (sym e) (omega arith)
 some_token : (ms : List (List Token)) → list_all has_few_tokens ([] ∷ ms) ≡ true → ⊥
 some_token ms h = let bad : false ≡ true = h in cc
 
-messages_same : (role : Role) (ms ks : List (List Token)) → list_all has_few_tokens ms ≡ true → list_all has_few_tokens ks ≡ true → message_lines role ms ≡ message_lines role ks → ms ≡ ks
+messages_same : (role : Role) (ms ks : List (List Token)) → list_all has_few_tokens ms ≡ true → list_all has_few_tokens ks ≡ true
+    → message_lines role ms ≡ message_lines role ks → ms ≡ ks
 messages_same role [] [] h k e = refl
 messages_same role [] (y ∷ ks) h k e = absurd (cc)
 messages_same role (x ∷ ms) [] h k e = absurd (cc)
 messages_same role ([] ∷ ms) (y ∷ ks) h k e = absurd (some_token ms h)
 messages_same role ((t ∷ ts) ∷ ms) ([] ∷ ks) h k e = absurd (some_token ks k)
 messages_same role ((t ∷ ts) ∷ ms) ((u ∷ us) ∷ ks) h k e =
-    let same : IsSameLine role role (t ∷ ts) (u ∷ us) (message_lines (other role) ms) (message_lines (other role) ks) = line_same role role t u ts us (message_lines (other role) ms) (message_lines (other role) ks) e in
-    let more : ms ≡ ks = messages_same (other role) ms ks (both (has_few_tokens (t ∷ ts)) (list_all has_few_tokens ms) h).1 (both (has_few_tokens (u ∷ us)) (list_all has_few_tokens ks) k).1 same.rest in
+    let same : IsSameLine role role (t ∷ ts) (u ∷ us) (message_lines (other role) ms) (message_lines (other role) ks) =
+    line_same role role t u ts us (message_lines (other role) ms) (message_lines (other role) ks) e in
+    let more : ms ≡ ks = messages_same (other role) ms ks (both (has_few_tokens (t ∷ ts)) (list_all has_few_tokens ms) h).1
+    (both (has_few_tokens (u ∷ us)) (list_all has_few_tokens ks) k).1 same.rest in
     cons_same same.tokens more
   where
     cons_same : {a b : List Token} {xs ys : List (List Token)} → a ≡ b → xs ≡ ys → a ∷ xs ≡ b ∷ ys
@@ -144,7 +154,8 @@ both_same (t ∷ ts) (u ∷ us) r s x y e =
     (same.tokens, h.0, h.1)
 
 -- messages are no pre-messages
-behind_first : (ms : List (List Token)) (s : List Token) (y : List ℕ) → list_all has_few_tokens ms ≡ true → message_lines Responder ms ≡ pre_line Responder s ++ (dots ++ y) → ⊥
+behind_first : (ms : List (List Token)) (s : List Token) (y : List ℕ) → list_all has_few_tokens ms ≡ true
+    → message_lines Responder ms ≡ pre_line Responder s ++ (dots ++ y) → ⊥
 behind_first ms [] y h e = no_dots Responder ms y e
 behind_first [] (u ∷ us) y h e = cc
 behind_first ([] ∷ ms) (u ∷ us) y h e = some_token ms h
@@ -159,7 +170,8 @@ no_pre ((t ∷ ts) ∷ ms) [] (u ∷ us) y h e = apart _ _ 2 e (omega arith)
 no_pre [] (u ∷ us) s y h e = cc
 no_pre ([] ∷ ms) (u ∷ us) s y h e = some_token ms h
 no_pre ((t ∷ ts) ∷ ms) (u ∷ us) s y h e =
-    behind_first ms s y (both (has_few_tokens (t ∷ ts)) (list_all has_few_tokens ms) h).1 (line_same Initiator Initiator t u ts us (message_lines Responder ms) (pre_line Responder s ++ (dots ++ y)) e).rest
+    behind_first ms s y (both (has_few_tokens (t ∷ ts)) (list_all has_few_tokens ms) h).1
+    (line_same Initiator Initiator t u ts us (message_lines Responder ms) (pre_line Responder s ++ (dots ++ y)) e).rest
 
 -- the lines behind the heading
 regroup : (a b c d : List ℕ) → ((a ++ b) ++ c) ++ d ≡ a ++ (b ++ (c ++ d))
@@ -168,31 +180,43 @@ regroup a b c d = append_assoc (a ++ b) c d ∙ append_assoc a b (c ++ d)
 lines_same : (i r j s : List Token) (ms ks : List (List Token)) → list_all has_few_tokens ms ≡ true → list_all has_few_tokens ks ≡ true
     → pre_lines i r ++ message_lines Initiator ms ≡ pre_lines j s ++ message_lines Initiator ks → (i ≡ j) × (r ≡ s) × (ms ≡ ks)
 lines_same [] [] [] [] ms ks h k e = (refl, refl, messages_same Initiator ms ks h k e)
-lines_same [] [] [] (u ∷ us) ms ks h k e = absurd (no_pre ms [] (u ∷ us) (message_lines Initiator ks) h (e ∙ regroup [] (pre_line Responder (u ∷ us)) dots (message_lines Initiator ks)))
-lines_same [] [] (u ∷ us) s ms ks h k e = absurd (no_pre ms (u ∷ us) s (message_lines Initiator ks) h (e ∙ regroup (pre_line Initiator (u ∷ us)) (pre_line Responder s) dots (message_lines Initiator ks)))
-lines_same [] (t ∷ ts) [] [] ms ks h k e = absurd (no_pre ks [] (t ∷ ts) (message_lines Initiator ms) k (sym e ∙ regroup [] (pre_line Responder (t ∷ ts)) dots (message_lines Initiator ms)))
-lines_same (t ∷ ts) r [] [] ms ks h k e = absurd (no_pre ks (t ∷ ts) r (message_lines Initiator ms) k (sym e ∙ regroup (pre_line Initiator (t ∷ ts)) (pre_line Responder r) dots (message_lines Initiator ms)))
+lines_same [] [] [] (u ∷ us) ms ks h k e =
+    absurd (no_pre ms [] (u ∷ us) (message_lines Initiator ks) h (e ∙ regroup [] (pre_line Responder (u ∷ us)) dots (message_lines Initiator ks)))
+lines_same [] [] (u ∷ us) s ms ks h k e =
+    absurd (no_pre ms (u ∷ us) s (message_lines Initiator ks) h (e
+    ∙ regroup (pre_line Initiator (u ∷ us)) (pre_line Responder s) dots (message_lines Initiator ks)))
+lines_same [] (t ∷ ts) [] [] ms ks h k e =
+    absurd (no_pre ks [] (t ∷ ts) (message_lines Initiator ms) k (sym e ∙ regroup [] (pre_line Responder (t ∷ ts)) dots (message_lines Initiator ms)))
+lines_same (t ∷ ts) r [] [] ms ks h k e =
+    absurd (no_pre ks (t ∷ ts) r (message_lines Initiator ms) k (sym e
+    ∙ regroup (pre_line Initiator (t ∷ ts)) (pre_line Responder r) dots (message_lines Initiator ms)))
 lines_same [] (t ∷ ts) [] (u ∷ us) ms ks h k e =
     let same = both_same [] [] (t ∷ ts) (u ∷ us) (message_lines Initiator ms) (message_lines Initiator ks)
-    (sym (regroup [] (pre_line Responder (t ∷ ts)) dots (message_lines Initiator ms)) ∙ e ∙ regroup [] (pre_line Responder (u ∷ us)) dots (message_lines Initiator ks)) in
+    (sym (regroup [] (pre_line Responder (t ∷ ts)) dots (message_lines Initiator ms)) ∙ e
+    ∙ regroup [] (pre_line Responder (u ∷ us)) dots (message_lines Initiator ks)) in
     (same.0, same.1, messages_same Initiator ms ks h k same.2)
 lines_same [] (t ∷ ts) (u ∷ us) s ms ks h k e =
     let same = both_same [] (u ∷ us) (t ∷ ts) s (message_lines Initiator ms) (message_lines Initiator ks)
-    (sym (regroup [] (pre_line Responder (t ∷ ts)) dots (message_lines Initiator ms)) ∙ e ∙ regroup (pre_line Initiator (u ∷ us)) (pre_line Responder s) dots (message_lines Initiator ks)) in
+    (sym (regroup [] (pre_line Responder (t ∷ ts)) dots (message_lines Initiator ms)) ∙ e
+    ∙ regroup (pre_line Initiator (u ∷ us)) (pre_line Responder s) dots (message_lines Initiator ks)) in
     (same.0, same.1, messages_same Initiator ms ks h k same.2)
 lines_same (t ∷ ts) r [] (u ∷ us) ms ks h k e =
     let same = both_same (t ∷ ts) [] r (u ∷ us) (message_lines Initiator ms) (message_lines Initiator ks)
-    (sym (regroup (pre_line Initiator (t ∷ ts)) (pre_line Responder r) dots (message_lines Initiator ms)) ∙ e ∙ regroup [] (pre_line Responder (u ∷ us)) dots (message_lines Initiator ks)) in
+    (sym (regroup (pre_line Initiator (t ∷ ts)) (pre_line Responder r) dots (message_lines Initiator ms)) ∙ e
+    ∙ regroup [] (pre_line Responder (u ∷ us)) dots (message_lines Initiator ks)) in
     (same.0, same.1, messages_same Initiator ms ks h k same.2)
 lines_same (t ∷ ts) r (u ∷ us) s ms ks h k e =
     let same = both_same (t ∷ ts) (u ∷ us) r s (message_lines Initiator ms) (message_lines Initiator ks)
-    (sym (regroup (pre_line Initiator (t ∷ ts)) (pre_line Responder r) dots (message_lines Initiator ms)) ∙ e ∙ regroup (pre_line Initiator (u ∷ us)) (pre_line Responder s) dots (message_lines Initiator ks)) in
+    (sym (regroup (pre_line Initiator (t ∷ ts)) (pre_line Responder r) dots (message_lines Initiator ms)) ∙ e
+    ∙ regroup (pre_line Initiator (u ∷ us)) (pre_line Responder s) dots (message_lines Initiator ks)) in
     (same.0, same.1, messages_same Initiator ms ks h k same.2)
 
 -- the heading ends at the first line feed
-heading_same : (a b : List ℕ) (x y : List ℕ) → list_all (λ c. not (eqb c 10)) a ≡ true → list_all (λ c. not (eqb c 10)) b ≡ true → a ++ 10 ∷ x ≡ b ++ 10 ∷ y → (a ≡ b) × (x ≡ y)
+heading_same : (a b : List ℕ) (x y : List ℕ) → list_all (λ c. not (eqb c 10)) a ≡ true → list_all (λ c. not (eqb c 10)) b ≡ true → a ++ 10 ∷ x ≡ b ++ 10 ∷ y
+    → (a ≡ b) × (x ≡ y)
 heading_same a b x y all other e =
-    let same : a ≡ b = sym (front_is (λ c. not (eqb c 10)) a 10 x all refl) ∙ ap (take_while (λ c. not (eqb c 10))) e ∙ front_is (λ c. not (eqb c 10)) b 10 y other refl in
+    let same : a ≡ b = sym (front_is (λ c. not (eqb c 10)) a 10 x all refl) ∙ ap (take_while (λ c. not (eqb c 10))) e
+    ∙ front_is (λ c. not (eqb c 10)) b 10 y other refl in
     let rest : 10 ∷ x ≡ 10 ∷ y = append_cancel_left b (10 ∷ x) (10 ∷ y) (ap (λ (k : List ℕ). k ++ 10 ∷ x) (sym same) ∙ e) in
     (same, cc)
 
@@ -200,15 +224,17 @@ no_feed : (c : ℕ) → is_section_byte c ≡ true → not (eqb c 10) ≡ true
 no_feed c h = grind (arith, nat_tests)
 
 heading_all : (s : Section) → IsSection s → list_all (λ c. not (eqb c 10)) (section_bytes s.base s.places ++ codes ":") ≡ true
-heading_all s h = all_push (section_bytes s.base s.places) (all_weaker is_section_byte (λ c. not (eqb c 10)) (section_bytes s.base s.places) no_feed (section_all s h)) where
-  all_push : (xs : List ℕ) → list_all (λ c. not (eqb c 10)) xs ≡ true → list_all (λ c. not (eqb c 10)) (xs ++ codes ":") ≡ true
-  all_push [] k = refl
-  all_push (x ∷ xs) k = let a = both (not (eqb x 10)) (list_all (λ c. not (eqb c 10)) xs) k in rw (a.0) (all_push xs a.1)
+heading_all s h = all_push (section_bytes s.base s.places)
+    (all_weaker is_section_byte (λ c. not (eqb c 10)) (section_bytes s.base s.places) no_feed (section_bytes-all s h)) where
+      all_push : (xs : List ℕ) → list_all (λ c. not (eqb c 10)) xs ≡ true → list_all (λ c. not (eqb c 10)) (xs ++ codes ":") ≡ true
+      all_push [] k = refl
+      all_push (x ∷ xs) k = let a = both (not (eqb x 10)) (list_all (λ c. not (eqb c 10)) xs) k in rw (a.0) (all_push xs a.1)
 
 abbrev plan : List ℕ → List ℕ → List Token → List Token → List (List Token) → Plan
 plan base places initiator responder messages = record { base = base; places = places; initiator = initiator; responder = responder; messages = messages }
 
-plan_same : (b c ps qs : List ℕ) (i j r s : List Token) (ms ks : List (List Token)) → b ≡ c → ps ≡ qs → i ≡ j → r ≡ s → ms ≡ ks → plan b ps i r ms ≡ plan c qs j s ks
+plan_same : (b c ps qs : List ℕ) (i j r s : List Token) (ms ks : List (List Token)) → b ≡ c → ps ≡ qs → i ≡ j → r ≡ s → ms ≡ ks
+    → plan b ps i r ms ≡ plan c qs j s ks
 plan_same b c ps qs i j r s ms ks e f g h k = cc
 
 pub one_text : (p q : Plan) → IsPattern p → IsPattern q → text_of p ≡ text_of q → p ≡ q
@@ -225,7 +251,8 @@ one_text p q h k e =
     let parts = heading_same (heading p) (heading q) (lines p) (lines q) (heading_all s hs) (heading_all t kt) cut in
     let sections : s ≡ t = one_section s t hs kt (same_from_push (section_bytes p.base p.places) (section_bytes q.base q.places) 58 58 parts.0).0 in
     let rest = lines_same p.initiator p.responder q.initiator q.responder p.messages q.messages h.sizes k.sizes parts.1 in
-    plan_same p.base q.base p.places q.places p.initiator q.initiator p.responder q.responder p.messages q.messages (ap (λ (x : Section). x.base) sections) (ap (λ (x : Section). x.places) sections) rest.0 rest.1 rest.2
+    plan_same p.base q.base p.places q.places p.initiator q.initiator p.responder q.responder p.messages q.messages (ap (λ (x : Section). x.base) sections)
+    (ap (λ (x : Section). x.places) sections) rest.0 rest.1 rest.2
   where
     split : (a b c : List ℕ) → ((a ++ 10 ∷ []) ++ b) ++ c ≡ a ++ 10 ∷ (b ++ c)
     split a b c = append_assoc (a ++ 10 ∷ []) b c ∙ append_assoc a (10 ∷ []) (b ++ c)

@@ -1,5 +1,6 @@
 -- A plain pattern with psk tokens: its limits, and that its psk tokens stand where its places say.
-use Rattle.std.proofs.Common.{◌≡◌, ℕ, suc, zero, ◌+◌, ◌<◌, ◌≤◌, Bool, true, false, ◌&&◌, ◌||◌, not, cond, eqb, leb, ltb, List, [], ◌∷◌, ◌++◌, Some, None, refl, ap, sym, ◌∙◌, subst, append-nil, map, length, get_or, arith}
+use Rattle.std.proofs.Common.{◌≡◌, ℕ, suc, zero, ◌+◌, ◌<◌, ◌≤◌, Bool, true, false, ◌&&◌, ◌||◌, not, cond, eqb, leb, ltb, List, [], ◌∷◌, ◌++◌, Some, None, refl}
+use Rattle.std.proofs.Common.{ap, sym, ◌∙◌, subst, append-nil, map, length, get_or, arith}
 use Rattle.std.specs.Prelude.{find, MatchOption, ⊤}
 use Rattle.std.specs.List.{list_any, list_all}
 use Rattle.std.proofs.lemmas.Bool.Decides.{nat_tests}
@@ -22,7 +23,8 @@ neither false y h = (refl, h)
 own-append : (xs ys : List Token) → own_tokens (xs ++ ys) ≡ own_tokens xs ++ own_tokens ys
 own-append [] ys = refl
 own-append (x ∷ xs) ys = at (not (is_psk x)) (own-append xs ys) where
-  at : (b : Bool) → own_tokens (xs ++ ys) ≡ own_tokens xs ++ own_tokens ys → cond b (x ∷ own_tokens (xs ++ ys)) (own_tokens (xs ++ ys)) ≡ cond b (x ∷ own_tokens xs) (own_tokens xs) ++ own_tokens ys
+  at : (b : Bool) → own_tokens (xs ++ ys) ≡ own_tokens xs ++ own_tokens ys
+      → cond b (x ∷ own_tokens (xs ++ ys)) (own_tokens (xs ++ ys)) ≡ cond b (x ∷ own_tokens xs) (own_tokens xs) ++ own_tokens ys
   at true e = ap (λ (ts : List Token). x ∷ ts) e
   at false e = e
 
@@ -80,7 +82,8 @@ length-psks : (places : List ℕ) (n : ℕ) (messages : List (List Token)) → l
 length-psks places n [] = refl
 length-psks places n (m ∷ ms) = ap (λ (k : ℕ). suc k) (length-psks places (n + 1) ms)
 
-few_psks : (places : List ℕ) (n : ℕ) (messages : List (List Token)) → any_psk messages ≡ false → list_all has_few_tokens messages ≡ true → list_all has_few_tokens (with_psks_from places n messages) ≡ true
+few_psks : (places : List ℕ) (n : ℕ) (messages : List (List Token)) → any_psk messages ≡ false → list_all has_few_tokens messages ≡ true
+    → list_all has_few_tokens (with_psks_from places n messages) ≡ true
 few_psks places n [] h few = refl
 few_psks places n (m ∷ ms) h few =
     let a = neither (list_any is_psk m) (any_psk ms) h in
@@ -118,7 +121,8 @@ in_range count (n ∷ ns) e = at (ltb count n) refl (in_range count ns) e where
   within : (m n : ℕ) → ltb m n ≡ false → leb n m ≡ true
   within m n t = grind (arith, nat_tests)
 
-  at : (b : Bool) → ltb count n ≡ b → (find (λ k. ltb count k) ns ≡ None → list_all (λ k. leb k count) ns ≡ true) → cond b (Some n) (find (λ k. ltb count k) ns) ≡ None → leb n count && list_all (λ k. leb k count) ns ≡ true
+  at : (b : Bool) → ltb count n ≡ b → (find (λ k. ltb count k) ns ≡ None → list_all (λ k. leb k count) ns ≡ true)
+      → cond b (Some n) (find (λ k. ltb count k) ns) ≡ None → leb n count && list_all (λ k. leb k count) ns ≡ true
   at true h more f = absurd (cc)
   at false h more f = rw (within count n h) (more f)
 
@@ -130,12 +134,14 @@ any-snoc (t ∷ ts) = at (is_psk t) (any-snoc ts) where
   at true e = refl
   at false e = e
 
-shows : (places : List ℕ) (k d : ℕ) (messages : List (List Token)) → d < length messages → list_any (λ m. eqb m (k + d)) places ≡ true → HavePsksAt places k messages → any_psk messages ≡ true
+shows : (places : List ℕ) (k d : ℕ) (messages : List (List Token)) → d < length messages → list_any (λ m. eqb m (k + d)) places ≡ true
+    → HavePsksAt places k messages → any_psk messages ≡ true
 shows places k d [] less there h = absurd (omega arith)
 shows places k zero (m ∷ ms) less there h =
     let there_now : list_any (λ p. eqb p k) places ≡ true = subst (λ (n : ℕ). list_any (λ p. eqb p n) places ≡ true) (no_more k) there in
     let psk : psk_if k places ≡ Psk ∷ [] = ap (λ (b : Bool). cond b (Psk ∷ []) []) there_now in
-    let ends : m ≡ (cond (eqb k 1) (psk_if 0 places) [] ++ own_tokens m) ++ Psk ∷ [] = h.0 ∙ ap (λ (ts : List Token). (cond (eqb k 1) (psk_if 0 places) [] ++ own_tokens m) ++ ts) psk in
+    let ends : m ≡ (cond (eqb k 1) (psk_if 0 places) [] ++ own_tokens m) ++ Psk ∷ [] = h.0
+    ∙ ap (λ (ts : List Token). (cond (eqb k 1) (psk_if 0 places) [] ++ own_tokens m) ++ ts) psk in
     or_left (list_any is_psk m) (any_psk ms) (ap (list_any is_psk) ends ∙ any-snoc (cond (eqb k 1) (psk_if 0 places) [] ++ own_tokens m))
   where
     no_more : (k : ℕ) → k + 0 ≡ k
@@ -186,10 +192,23 @@ one_message messages h = le_from_test 1 (length messages) (both (leb 1 (length m
 
 pub plain_of-with : (plain : Plan) (places : List ℕ) → has_psk plain ≡ false → IsPattern plain → plain_of (with_psks plain places) ≡ plain
 plain_of-with plain places none limits =
-    ap (λ (ms : List (List Token)). let p : Plan = record { base = plain.base; places = []; initiator = plain.initiator; responder = plain.responder; messages = ms } in p) (own_of_psks places 1 plain.messages none)
-    ∙ ap (λ (ns : List ℕ). let p : Plan = record { base = plain.base; places = ns; initiator = plain.initiator; responder = plain.responder; messages = plain.messages } in p) (sym (plain_places plain.places plain.messages none limits.psks (one_message plain.messages limits.count)))
+    ap (λ (ms : List (List Token)). let p : Plan = record {
+      base = plain.base;
+      places = [];
+      initiator = plain.initiator;
+      responder = plain.responder;
+      messages = ms;
+    } in p) (own_of_psks places 1 plain.messages none)
+    ∙ ap (λ (ns : List ℕ). let p : Plan = record {
+      base = plain.base;
+      places = ns;
+      initiator = plain.initiator;
+      responder = plain.responder;
+      messages = plain.messages;
+    } in p) (sym (plain_places plain.places plain.messages none limits.psks (one_message plain.messages limits.count)))
 
-pub psks_placed : (plain : Plan) (places : List ℕ) → has_psk plain ≡ false → IsPattern plain → find (λ n. ltb (length plain.messages) n) places ≡ None → Placed plain places (with_psks plain places)
+pub psks_placed : (plain : Plan) (places : List ℕ) → has_psk plain ≡ false → IsPattern plain → find (λ n. ltb (length plain.messages) n) places ≡ None
+    → Placed plain places (with_psks plain places)
 psks_placed plain places none limits range = record {
   without = plain_of-with plain places none limits;
   places_are = refl;
@@ -199,11 +218,18 @@ psks_placed plain places none limits range = record {
   };
 }
 
-pub psks_pattern : (plain : Plan) (places : List ℕ) → has_psk plain ≡ false → IsPattern plain → are_places places ≡ true → find (λ n. ltb (length plain.messages) n) places ≡ None → IsPattern (with_psks plain places)
+pub psks_pattern : (plain : Plan) (places : List ℕ) → has_psk plain ≡ false → IsPattern plain → are_places places ≡ true
+    → find (λ n. ltb (length plain.messages) n) places ≡ None → IsPattern (with_psks plain places)
 psks_pattern plain places none limits rising range =
     let placed : Placed plain places (with_psks plain places) = psks_placed plain places none limits range in
     let same : plain_of plain ≡ plain_of (with_psks plain places) =
-    ap (λ (ms : List (List Token)). let p : Plan = record { base = plain.base; places = []; initiator = plain.initiator; responder = plain.responder; messages = ms } in p) (own_of_plain plain.messages none ∙ sym (own_of_psks places 1 plain.messages none)) in
+    ap (λ (ms : List (List Token)). let p : Plan = record {
+      base = plain.base;
+      places = [];
+      initiator = plain.initiator;
+      responder = plain.responder;
+      messages = ms;
+    } in p) (own_of_plain plain.messages none ∙ sym (own_of_psks places 1 plain.messages none)) in
     record {
       base = limits.base;
       places = rising;
@@ -216,7 +242,8 @@ psks_pattern plain places none limits rising range =
     }
 
 -- one message more
-pub psks-push : (places : List ℕ) (n : ℕ) (messages : List (List Token)) (m : List Token) → with_psks_from places n (messages ++ m ∷ []) ≡ with_psks_from places n messages ++ with_psk_tokens places (n + length messages) m ∷ []
+pub psks-push : (places : List ℕ) (n : ℕ) (messages : List (List Token)) (m : List Token)
+    → with_psks_from places n (messages ++ m ∷ []) ≡ with_psks_from places n messages ++ with_psk_tokens places (n + length messages) m ∷ []
 psks-push places n [] m = ap (λ (k : ℕ). with_psk_tokens places k m ∷ []) (no_more n) where
   no_more : (n : ℕ) → n ≡ n + 0
   no_more n = omega arith

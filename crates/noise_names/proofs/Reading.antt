@@ -1,5 +1,7 @@
 -- What is read of a written text.
-use Rattle.std.proofs.Common.{◌≡◌, ◌≢◌, ℕ, ◌+◌, ◌<◌, ◌≤◌, Bool, true, false, not, cond, List, [], ◌∷◌, ◌++◌, refl, ap, sym, ◌∙◌, append_assoc, append-nil, length, length-append, arith, map, subst, get_or, take, drop, eqb, suc, Some, None, Bor, ◌⊎◌, inl, inr, ◌&&◌, leb, ltb, Result, Ok, Err}
+use Rattle.std.proofs.Common.{◌≡◌, ◌≢◌, ℕ, ◌+◌, ◌<◌, ◌≤◌, Bool, true, false, not, cond, List, [], ◌∷◌, ◌++◌, refl, ap, sym, ◌∙◌, append_assoc, append-nil}
+use Rattle.std.proofs.Common.{length, length-append, arith, map, subst, get_or, take, drop, eqb, suc, Some, None, Bor, ◌⊎◌, inl, inr, ◌&&◌, leb, ltb, Result}
+use Rattle.std.proofs.Common.{Ok, Err}
 use Rattle.std.specs.Cmp.Lexicographic.{pointwise}
 use Rattle.std.proofs.lemmas.Bool.Decides.{Decides-eqb, nat_tests}
 use Rattle.std.proofs.lemmas.Slice.Eq.{strip_prefix_is}
@@ -7,13 +9,13 @@ use Rattle.std.proofs.lemmas.List.{length-map}
 use Rattle.std.proofs.lemmas.List.Folds.{list_any-append, list_all-append}
 use Rattle.noise_names.specs.declared.faults.NameFault.{NameFault}
 use Rattle.noise_names.specs.Plan.{Plan, plain_of, has_psk}
-use Rattle.noise_names.specs.Names.{Section, IsSection, section_bytes, is_base}
+use Rattle.noise_names.specs.Names.{is_section_byte, Section, IsSection, section_bytes, is_base}
 use Rattle.noise_names.specs.Sections.{section_read}
 use Rattle.noise_names.specs.Fundamental.{fundamental_of, fundamentals}
 use Rattle.noise_names.specs.Limits.{IsPattern, HavePsks, HavePsksAt, Placed, first_beyond, with_psk_tokens, has_few_tokens, is_pre_message}
 use Rattle.noise_names.proofs.Fundamentals.{found_map, fundamentals_plain, plain_messages}
 use Rattle.noise_names.proofs.PskTokens.{no_psk_own, own_of_plain}
-use Rattle.noise_names.proofs.Sections.{is_section_byte, all_weaker, front_is, section_read-every}
+use Rattle.noise_names.proofs.Sections.{all_weaker, front_is, section_read-every}
 use Rattle.std.specs.Prelude.{codes, take_while, find, bytes_eq, ⊤}
 use Rattle.std.proofs.Math.Seq.{take-append_seam, drop-append_seam}
 use Rattle.std.proofs.lemmas.Option.{MatchOption-at_some}
@@ -39,7 +41,8 @@ two_heads list xs ys x y e f h =
     omega arith
 
 -- what `strip_prefix` says
-pub stripped : (s p : List ℕ) (x : Bor (List ℕ)) → (pointwise eqb (take (length p) s) p ≡ true) × (x.now ≡ drop (length p) s) × (length x.now + length p ≡ length s) → s ≡ p ++ x.now
+pub stripped : (s p : List ℕ) (x : Bor (List ℕ))
+    → (pointwise eqb (take (length p) s) p ≡ true) × (x.now ≡ drop (length p) s) × (length x.now + length p ≡ length s) → s ≡ p ++ x.now
 stripped s p x h = strip_prefix_is Decides-eqb s p (Some x) h
 
 pub not-stripped : (s p : List ℕ) → pointwise eqb (take (length p) s) p ≡ false → (rest : List ℕ) → s ≢ p ++ rest
@@ -69,7 +72,8 @@ IsFirstWord left token behind = (t : Token) (b : ℕ) (more : List ℕ) → is_l
 abbrev pub IsKept : List Token → Token → List Token → Type 0
 IsKept kept token kept' = length kept + length (own_tokens (token ∷ [])) ≤ 8 → kept' ≡ kept ++ own_tokens (token ∷ [])
 
-kept_is : (kept kept' own : List Token) (token u : Token) (us : List Token) → token ≡ u → own ≡ kept ++ own_tokens (u ∷ us) → length own ≤ 8 → IsKept kept token kept' → (kept' ≡ kept ++ own_tokens (u ∷ [])) × (own ≡ kept' ++ own_tokens us)
+kept_is : (kept kept' own : List Token) (token u : Token) (us : List Token) → token ≡ u → own ≡ kept ++ own_tokens (u ∷ us) → length own ≤ 8
+    → IsKept kept token kept' → (kept' ≡ kept ++ own_tokens (u ∷ [])) × (own ≡ kept' ++ own_tokens us)
 kept_is kept kept' own token u us same e few k =
     let all : own ≡ kept ++ (own_tokens (u ∷ []) ++ own_tokens us) = e ∙ ap (λ (ts : List Token). kept ++ ts) (own-first u us) in
     let count : length own ≡ length kept + (length (own_tokens (u ∷ [])) + length (own_tokens us)) = simp length-append at (ap length all) in
@@ -77,52 +81,62 @@ kept_is kept kept' own token u us same e few k =
     let is : kept' ≡ kept ++ own_tokens (u ∷ []) = k (omega arith) ∙ ap (λ (t : Token). kept ++ own_tokens (t ∷ [])) same in
     (is, all ∙ sym (append_assoc kept (own_tokens (u ∷ [])) (own_tokens us)) ∙ ap (λ (ts : List Token). ts ++ own_tokens us) (sym is))
 
-pub left-more : (kept kept' own : List Token) (left behind rest more : List ℕ) (token : Token) → IsLeft kept left own more → length own ≤ 8 → IsFirstWord left token behind → IsKept kept token kept' → behind ≡ codes ", " ++ rest → IsLeft kept' rest own more
+pub left-more : (kept kept' own : List Token) (left behind rest more : List ℕ) (token : Token) → IsLeft kept left own more → length own ≤ 8
+    → IsFirstWord left token behind → IsKept kept token kept' → behind ≡ codes ", " ++ rest → IsLeft kept' rest own more
 left-more kept kept' own left behind rest more token l few w k e = at l.first l.others l.tokens l.spelled where
   at : (u : Token) (us : List Token) → own ≡ kept ++ own_tokens (u ∷ us) → left ≡ words (u ∷ us) ++ 10 ∷ more → IsLeft kept' rest own more
   at u [] o s =
       let is : (token ≡ u) × (behind ≡ 10 ∷ more) = w u 10 more refl s in
       absurd (two_heads behind more (32 ∷ rest) 10 44 is.1 e (omega arith))
   at u (v ∷ vs) o s =
-      let is : (token ≡ u) × (behind ≡ 44 ∷ 32 ∷ (words (v ∷ vs) ++ 10 ∷ more)) = w u 44 (32 ∷ (words (v ∷ vs) ++ 10 ∷ more)) refl (s ∙ word-first u (v ∷ vs) (10 ∷ more)) in
+      let is : (token ≡ u) × (behind ≡ 44 ∷ 32 ∷ (words (v ∷ vs) ++ 10 ∷ more)) =
+      w u 44 (32 ∷ (words (v ∷ vs) ++ 10 ∷ more)) refl (s ∙ word-first u (v ∷ vs) (10 ∷ more)) in
       let both : 44 ∷ 32 ∷ rest ≡ 44 ∷ 32 ∷ (words (v ∷ vs) ++ 10 ∷ more) = sym e ∙ is.1 in
       record { first = v; others = vs; tokens = (kept_is kept kept' own token u (v ∷ vs) is.0 o few k).1; spelled = cc }
 
-pub left-end : (kept kept' own : List Token) (left behind more : List ℕ) (token : Token) → IsLeft kept left own more → length own ≤ 8 → IsFirstWord left token behind → IsKept kept token kept' → ((rest : List ℕ) → behind ≢ codes ", " ++ rest) → (kept' ≡ own) × (behind ≡ 10 ∷ more)
+pub left-end : (kept kept' own : List Token) (left behind more : List ℕ) (token : Token) → IsLeft kept left own more → length own ≤ 8
+    → IsFirstWord left token behind → IsKept kept token kept' → ((rest : List ℕ) → behind ≢ codes ", " ++ rest) → (kept' ≡ own) × (behind ≡ 10 ∷ more)
 left-end kept kept' own left behind more token l few w k e = at l.first l.others l.tokens l.spelled where
   at : (u : Token) (us : List Token) → own ≡ kept ++ own_tokens (u ∷ us) → left ≡ words (u ∷ us) ++ 10 ∷ more → (kept' ≡ own) × (behind ≡ 10 ∷ more)
   at u [] o s =
       let is : (token ≡ u) × (behind ≡ 10 ∷ more) = w u 10 more refl s in
       ((kept_is kept kept' own token u [] is.0 o few k).0 ∙ sym o, is.1)
   at u (v ∷ vs) o s =
-      let is : (token ≡ u) × (behind ≡ 44 ∷ 32 ∷ (words (v ∷ vs) ++ 10 ∷ more)) = w u 44 (32 ∷ (words (v ∷ vs) ++ 10 ∷ more)) refl (s ∙ word-first u (v ∷ vs) (10 ∷ more)) in
+      let is : (token ≡ u) × (behind ≡ 44 ∷ 32 ∷ (words (v ∷ vs) ++ 10 ∷ more)) =
+      w u 44 (32 ∷ (words (v ∷ vs) ++ 10 ∷ more)) refl (s ∙ word-first u (v ∷ vs) (10 ∷ more)) in
       absurd (e (words (v ∷ vs) ++ 10 ∷ more) is.1)
 
-pub left-word : (kept own : List Token) (left more : List ℕ) → IsLeft kept left own more → ((t : Token) (b : ℕ) (more : List ℕ) → is_lower b ≡ false → left ≡ word_of t ++ b ∷ more → ⊥) → ⊥
+pub left-word : (kept own : List Token) (left more : List ℕ) → IsLeft kept left own more
+    → ((t : Token) (b : ℕ) (more : List ℕ) → is_lower b ≡ false → left ≡ word_of t ++ b ∷ more → ⊥) → ⊥
 left-word kept own left more l w = at l.first l.others l.spelled where
   at : (u : Token) (us : List Token) → left ≡ words (u ∷ us) ++ 10 ∷ more → ⊥
   at u [] s = w u 10 more refl s
   at u (v ∷ vs) s = w u 44 (32 ∷ (words (v ∷ vs) ++ 10 ∷ more)) refl (s ∙ word-first u (v ∷ vs) (10 ∷ more))
 
-pub left-start : (kept : List Token) (list : List ℕ) (t : Token) (ts : List Token) (more : List ℕ) → kept ≡ [] → list ≡ words (t ∷ ts) ++ 10 ∷ more → IsLeft kept list (own_tokens (t ∷ ts)) more
+pub left-start : (kept : List Token) (list : List ℕ) (t : Token) (ts : List Token) (more : List ℕ) → kept ≡ [] → list ≡ words (t ∷ ts) ++ 10 ∷ more
+    → IsLeft kept list (own_tokens (t ∷ ts)) more
 left-start kept list t ts more none e = record { first = t; others = ts; tokens = sym (ap (λ (k : List Token). k ++ own_tokens (t ∷ ts)) none); spelled = e }
 
 -- what stands in front of a list of words
-pub line-starts : (role : Role) (lines behind arrow list : List ℕ) → lines ≡ codes "  " ++ behind → behind ≡ arrow ++ list → arrow ≡ arrow_of role → lines ≡ codes "  " ++ (arrow_of role ++ list)
+pub line-starts : (role : Role) (lines behind arrow list : List ℕ) → lines ≡ codes "  " ++ behind → behind ≡ arrow ++ list → arrow ≡ arrow_of role
+    → lines ≡ codes "  " ++ (arrow_of role ++ list)
 line-starts role lines behind arrow list a b c = a ∙ ap (λ (k : List ℕ). codes "  " ++ k) (b ∙ ap (λ (k : List ℕ). k ++ list) c)
 
-pub line-list : (role : Role) (tokens : List Token) (lines front list more : List ℕ) → lines ≡ codes "  " ++ (arrow_of role ++ front) → front ≡ codes " " ++ list → lines ≡ token_line role tokens ++ more → list ≡ words tokens ++ 10 ∷ more
-line-list role tokens lines front list more a b e = at role (sym e ∙ a ∙ ap (λ (k : List ℕ). codes "  " ++ (arrow_of role ++ k)) b) ∙ append_assoc (words tokens) (10 ∷ []) more where
-  at : (role : Role) → token_line role tokens ++ more ≡ codes "  " ++ (arrow_of role ++ (codes " " ++ list)) → list ≡ (words tokens ++ 10 ∷ []) ++ more
-  at Initiator f = cc
-  at Responder f = cc
+pub line-list : (role : Role) (tokens : List Token) (lines front list more : List ℕ) → lines ≡ codes "  " ++ (arrow_of role ++ front)
+    → front ≡ codes " " ++ list → lines ≡ token_line role tokens ++ more → list ≡ words tokens ++ 10 ∷ more
+line-list role tokens lines front list more a b e = at role (sym e ∙ a ∙ ap (λ (k : List ℕ). codes "  " ++ (arrow_of role ++ k)) b)
+    ∙ append_assoc (words tokens) (10 ∷ []) more where
+      at : (role : Role) → token_line role tokens ++ more ≡ codes "  " ++ (arrow_of role ++ (codes " " ++ list)) → list ≡ (words tokens ++ 10 ∷ []) ++ more
+      at Initiator f = cc
+      at Responder f = cc
 
 pub line-behind : (behind rest more : List ℕ) → behind ≡ 10 ∷ more → behind ≡ codes "\n" ++ rest → rest ≡ more
 line-behind behind rest more e f = let both : 10 ∷ more ≡ 10 ∷ rest = sym e ∙ f in cc
 
 -- what reading a line of a party answers: its tokens and what is behind it, or nothing
 abbrev pub There : Role → List ℕ → List Token → List ℕ → Type 0
-There role lines tokens rest = (t : Token) (ts : List Token) (more : List ℕ) → length (own_tokens (t ∷ ts)) ≤ 8 → lines ≡ token_line role (t ∷ ts) ++ more → (tokens ≡ own_tokens (t ∷ ts)) × (rest ≡ more)
+There role lines tokens rest = (t : Token) (ts : List Token) (more : List ℕ) → length (own_tokens (t ∷ ts)) ≤ 8 → lines ≡ token_line role (t ∷ ts) ++ more
+    → (tokens ≡ own_tokens (t ∷ ts)) × (rest ≡ more)
 
 abbrev pub Absent : Role → List ℕ → List Token → List ℕ → Type 0
 Absent role lines tokens rest = ((x : List ℕ) → lines ≡ codes "  " ++ (arrow_of role ++ x) → ⊥) → (tokens ≡ []) × (rest ≡ lines)
@@ -134,7 +148,9 @@ own-pre (S ∷ []) h = (refl, omega arith)
 own-pre (E ∷ S ∷ []) h = (refl, omega arith)
 own-pre _ h = absurd (cc)
 
-pre-read : (role : Role) (ts tokens : List Token) (lines rest more : List ℕ) → There role lines tokens rest → Absent role lines tokens rest → is_pre_message ts ≡ true → lines ≡ pre_line role ts ++ more → ((x : List ℕ) → more ≡ codes "  " ++ (arrow_of role ++ x) → ⊥) → (tokens ≡ ts) × (rest ≡ more)
+pre-read : (role : Role) (ts tokens : List Token) (lines rest more : List ℕ) → There role lines tokens rest → Absent role lines tokens rest
+    → is_pre_message ts ≡ true → lines ≡ pre_line role ts ++ more → ((x : List ℕ) → more ≡ codes "  " ++ (arrow_of role ++ x) → ⊥)
+    → (tokens ≡ ts) × (rest ≡ more)
 pre-read role [] tokens lines rest more there absent pre e other_line = let a = absent (λ x f. other_line x (sym e ∙ f)) in (a.0, a.1 ∙ e)
 pre-read role (t ∷ ts) tokens lines rest more there absent pre e other_line =
     let own = own-pre (t ∷ ts) pre in
@@ -169,8 +185,11 @@ few m h =
     (le_from_test _ _ a.0, le_from_test _ _ a.1)
 
 -- a line of messages is passed
-message-read : (role : Role) (ms : List (List Token)) (tokens : List Token) (lines rest : List ℕ) → There role lines tokens rest → Absent role lines tokens rest → list_all has_few_tokens ms ≡ true → lines ≡ message_lines role ms → (more : List (List Token)) × (rest ≡ message_lines (other role) more) × (list_all has_few_tokens more ≡ true)
-message-read role [] tokens lines rest there absent sizes e = ([], (absent (λ x f. let bad : [] ≡ 32 ∷ 32 ∷ (arrow_of role ++ x) = sym e ∙ f in cc)).1 ∙ e, refl)
+message-read : (role : Role) (ms : List (List Token)) (tokens : List Token) (lines rest : List ℕ) → There role lines tokens rest
+    → Absent role lines tokens rest → list_all has_few_tokens ms ≡ true → lines ≡ message_lines role ms
+    → (more : List (List Token)) × (rest ≡ message_lines (other role) more) × (list_all has_few_tokens more ≡ true)
+message-read role [] tokens lines rest there absent sizes e =
+    ([], (absent (λ x f. let bad : [] ≡ 32 ∷ 32 ∷ (arrow_of role ++ x) = sym e ∙ f in cc)).1 ∙ e, refl)
 message-read role ([] ∷ ms) tokens lines rest there absent sizes e = absurd (let bad : false ≡ true = sizes in cc)
 message-read role ((t ∷ ts) ∷ ms) tokens lines rest there absent sizes e =
     let a = both (has_few_tokens (t ∷ ts)) (list_all has_few_tokens ms) sizes in
@@ -188,21 +207,32 @@ pub record AreNone (i r : List Token) (lines rest : List ℕ) (ms : List (List T
   pub lines_are : lines ≡ message_lines Initiator ms
   pub no_dots : (x : List ℕ) → rest ≢ codes "  ...\n" ++ x
 
-pre-there : (i r first second : List Token) (lines behind rest : List ℕ) (ms : List (List Token)) → There Initiator lines first behind → Absent Initiator lines first behind → There Responder behind second rest → Absent Responder behind second rest → is_pre_message i ≡ true → is_pre_message r ≡ true → lines ≡ pre_line Initiator i ++ (pre_line Responder r ++ (codes "  ...\n" ++ message_lines Initiator ms)) → ArePreMessages i r first second lines rest ms
+pre-there : (i r first second : List Token) (lines behind rest : List ℕ) (ms : List (List Token)) → There Initiator lines first behind
+    → Absent Initiator lines first behind → There Responder behind second rest → Absent Responder behind second rest → is_pre_message i ≡ true
+    → is_pre_message r ≡ true → lines ≡ pre_line Initiator i ++ (pre_line Responder r ++ (codes "  ...\n" ++ message_lines Initiator ms))
+    → ArePreMessages i r first second lines rest ms
 pre-there i r first second lines behind rest ms there absent there2 absent2 pi pr e =
-    let a = pre-read Initiator i first lines behind (pre_line Responder r ++ (codes "  ...\n" ++ message_lines Initiator ms)) there absent pi e (behind-first r (message_lines Initiator ms)) in
-    let b = pre-read Responder r second behind rest (codes "  ...\n" ++ message_lines Initiator ms) there2 absent2 pr a.1 (λ x f. third_differs _ _ 46 60 refl refl f (λ h. omega arith)) in
+    let a = pre-read Initiator i first lines behind (pre_line Responder r ++ (codes "  ...\n" ++ message_lines Initiator ms)) there absent pi e
+    (behind-first r (message_lines Initiator ms)) in
+    let b = pre-read Responder r second behind rest (codes "  ...\n" ++ message_lines Initiator ms) there2 absent2 pr a.1
+    (λ x f. third_differs _ _ 46 60 refl refl f (λ h. omega arith)) in
     record { first_is = a.0; second_is = b.0; rest_is = b.1 }
 
-pub pre-both : (i r first second : List Token) (lines behind rest : List ℕ) (ms : List (List Token)) → There Initiator lines first behind → Absent Initiator lines first behind → There Responder behind second rest → Absent Responder behind second rest → is_pre_message i ≡ true → is_pre_message r ≡ true → list_all has_few_tokens ms ≡ true → lines ≡ pre_lines i r ++ message_lines Initiator ms → ArePreMessages i r first second lines rest ms ⊎ AreNone i r lines rest ms
+pub pre-both : (i r first second : List Token) (lines behind rest : List ℕ) (ms : List (List Token)) → There Initiator lines first behind
+    → Absent Initiator lines first behind → There Responder behind second rest → Absent Responder behind second rest → is_pre_message i ≡ true
+    → is_pre_message r ≡ true → list_all has_few_tokens ms ≡ true → lines ≡ pre_lines i r ++ message_lines Initiator ms
+    → ArePreMessages i r first second lines rest ms ⊎ AreNone i r lines rest ms
 pre-both [] [] first second lines behind rest ms there absent there2 absent2 pi pr sizes e =
     let a = message-read Initiator ms first lines behind there absent sizes e in
     let b = message-read Responder a.0 second behind rest there2 absent2 a.2 a.1 in
     inr (record { no_first = refl; no_second = refl; lines_are = e; no_dots = λ x f. messages-first Initiator b.0 x (sym b.1 ∙ f) })
 pre-both [] (u ∷ us) first second lines behind rest ms there absent there2 absent2 pi pr sizes e =
-    inl (pre-there [] (u ∷ us) first second lines behind rest ms there absent there2 absent2 pi pr (e ∙ append_assoc (pre_line Responder (u ∷ us)) (codes "  ...\n") (message_lines Initiator ms)))
+    inl (pre-there [] (u ∷ us) first second lines behind rest ms there absent there2 absent2 pi pr (e
+    ∙ append_assoc (pre_line Responder (u ∷ us)) (codes "  ...\n") (message_lines Initiator ms)))
 pre-both (t ∷ ts) r first second lines behind rest ms there absent there2 absent2 pi pr sizes e =
-    inl (pre-there (t ∷ ts) r first second lines behind rest ms there absent there2 absent2 pi pr (e ∙ append_assoc (pre_line Initiator (t ∷ ts) ++ pre_line Responder r) (codes "  ...\n") (message_lines Initiator ms) ∙ append_assoc (pre_line Initiator (t ∷ ts)) (pre_line Responder r) (codes "  ...\n" ++ message_lines Initiator ms)))
+    inl (pre-there (t ∷ ts) r first second lines behind rest ms there absent there2 absent2 pi pr (e
+    ∙ append_assoc (pre_line Initiator (t ∷ ts) ++ pre_line Responder r) (codes "  ...\n") (message_lines Initiator ms)
+    ∙ append_assoc (pre_line Initiator (t ∷ ts)) (pre_line Responder r) (codes "  ...\n" ++ message_lines Initiator ms)))
 
 pub dots-stripped : (rest x y : List ℕ) → rest ≡ codes "  ...\n" ++ x → rest ≡ codes "  ...\n" ++ y → x ≡ y
 dots-stripped rest x y e f = let both : codes "  ...\n" ++ x ≡ codes "  ...\n" ++ y = sym e ∙ f in cc
@@ -216,16 +246,19 @@ pub record AreLeft (kept : List (List Token)) (role : Role) (left : List ℕ) (o
 
 -- what reading one more line gives
 abbrev pub IsLine : Role → List ℕ → List Token → List ℕ → Type 0
-IsLine role left tokens rest = (t : Token) (ts : List Token) (more : List ℕ) → length (own_tokens (t ∷ ts)) ≤ 8 → left ≡ token_line role (t ∷ ts) ++ more → (tokens ≡ own_tokens (t ∷ ts)) × (rest ≡ more)
+IsLine role left tokens rest = (t : Token) (ts : List Token) (more : List ℕ) → length (own_tokens (t ∷ ts)) ≤ 8 → left ≡ token_line role (t ∷ ts) ++ more
+    → (tokens ≡ own_tokens (t ∷ ts)) × (rest ≡ more)
 
 pub record IsNext (kept : List (List Token)) (role : Role) (tokens : List Token) (rest : List ℕ) (own : List (List Token)) : Type 0 where
   pub some : 1 ≤ length tokens
   pub room : length kept < length own
   pub after : AreLeft (kept ++ tokens ∷ []) (other role) rest own
 
-pub next-line : (kept own : List (List Token)) (role : Role) (left rest : List ℕ) (tokens : List Token) → AreLeft kept role left own → length rest < length left → IsLine role left tokens rest → IsNext kept role tokens rest own
+pub next-line : (kept own : List (List Token)) (role : Role) (left rest : List ℕ) (tokens : List Token) → AreLeft kept role left own
+    → length rest < length left → IsLine role left tokens rest → IsNext kept role tokens rest own
 next-line kept own role left rest tokens l shorter line = at l.more l.messages l.sizes l.spelled where
-  at : (more : List (List Token)) → own ≡ kept ++ map own_tokens more → list_all has_few_tokens more ≡ true → left ≡ message_lines role more → IsNext kept role tokens rest own
+  at : (more : List (List Token)) → own ≡ kept ++ map own_tokens more → list_all has_few_tokens more ≡ true → left ≡ message_lines role more
+      → IsNext kept role tokens rest own
   at [] o z s = absurd (let none : length left ≡ 0 = ap length s in omega arith)
   at ([] ∷ ms) o z s = absurd (let bad : false ≡ true = z in cc)
   at ((t ∷ ts) ∷ ms) o z s =
@@ -236,21 +269,31 @@ next-line kept own role left rest tokens l shorter line = at l.more l.messages l
       record {
         some = rw (c.0) b.0;
         room = omega arith;
-        after = record { more = ms; messages = o ∙ ap (λ (k : List Token). kept ++ k ∷ map own_tokens ms) (sym c.0) ∙ sym (append_assoc kept (tokens ∷ []) (map own_tokens ms)); sizes = a.1; spelled = c.1 };
+        after = record {
+          more = ms;
+          messages = o ∙ ap (λ (k : List Token). kept ++ k ∷ map own_tokens ms) (sym c.0)
+              ∙ sym (append_assoc kept (tokens ∷ []) (map own_tokens ms));
+          sizes = a.1;
+          spelled = c.1;
+        };
       }
 
-pub last-line : (kept own : List (List Token)) (role : Role) (left : List ℕ) → AreLeft kept role left own → ((t : Token) (ts : List Token) (more : List ℕ) → length (own_tokens (t ∷ ts)) ≤ 8 → left ≡ token_line role (t ∷ ts) ++ more → ⊥) → kept ≡ own
+pub last-line : (kept own : List (List Token)) (role : Role) (left : List ℕ) → AreLeft kept role left own
+    → ((t : Token) (ts : List Token) (more : List ℕ) → length (own_tokens (t ∷ ts)) ≤ 8 → left ≡ token_line role (t ∷ ts) ++ more → ⊥) → kept ≡ own
 last-line kept own role left l none = at l.more l.messages l.sizes l.spelled where
   at : (more : List (List Token)) → own ≡ kept ++ map own_tokens more → list_all has_few_tokens more ≡ true → left ≡ message_lines role more → kept ≡ own
   at [] o z s = sym (o ∙ append-nil kept)
   at ([] ∷ ms) o z s = absurd (let bad : false ≡ true = z in cc)
-  at ((t ∷ ts) ∷ ms) o z s = absurd (none t ts (message_lines (other role) ms) (few (t ∷ ts) (both (has_few_tokens (t ∷ ts)) (list_all has_few_tokens ms) z).0).1 s)
+  at ((t ∷ ts) ∷ ms) o z s =
+      absurd (none t ts (message_lines (other role) ms) (few (t ∷ ts) (both (has_few_tokens (t ∷ ts)) (list_all has_few_tokens ms) z).0).1 s)
 
 -- one message more
-pub plain-push : (kept : List (List Token)) (m : List Token) → list_any (λ tokens. list_any is_psk tokens) kept ≡ false → list_any is_psk m ≡ false → list_any (λ tokens. list_any is_psk tokens) (kept ++ m ∷ []) ≡ false
+pub plain-push : (kept : List (List Token)) (m : List Token) → list_any (λ tokens. list_any is_psk tokens) kept ≡ false → list_any is_psk m ≡ false
+    → list_any (λ tokens. list_any is_psk tokens) (kept ++ m ∷ []) ≡ false
 plain-push kept m a b = list_any-append (λ tokens. list_any is_psk tokens) kept (m ∷ []) ∙ rw (a, b) refl
 
-pub sizes-push : (kept : List (List Token)) (m : List Token) → list_all has_few_tokens kept ≡ true → list_any is_psk m ≡ false → 1 ≤ length m → length m ≤ 8 → list_all has_few_tokens (kept ++ m ∷ []) ≡ true
+pub sizes-push : (kept : List (List Token)) (m : List Token) → list_all has_few_tokens kept ≡ true → list_any is_psk m ≡ false → 1 ≤ length m → length m ≤ 8
+    → list_all has_few_tokens (kept ++ m ∷ []) ≡ true
 sizes-push kept m a b low high =
     let own : own_tokens m ≡ m = no_psk_own m b in
     let one : leb 1 (length m) ≡ true = grind (arith, nat_tests) in
@@ -262,29 +305,33 @@ pub length-own : (ms : List (List Token)) → length (map own_tokens ms) ≡ len
 length-own ms = length-map ms own_tokens
 
 -- a heading
-pub heading-parts : (text section lines front back : List ℕ) (n : ℕ) → list_all is_section_byte section ≡ true → text ≡ line (section ++ codes ":") ++ lines → n ≡ length (take_while (λ b. not (eqb b 58)) text) → front ≡ take n text → back ≡ drop n text → (front ≡ section) × (back ≡ codes ":\n" ++ lines)
-heading-parts text section lines front back n all e n_is f b =
+pub heading-parts : (text section behind front back : List ℕ) (n : ℕ) → list_all is_section_byte section ≡ true → text ≡ (section ++ codes ":") ++ behind
+    → n ≡ length (take_while (λ b. not (eqb b 58)) text) → front ≡ take n text → back ≡ drop n text → (front ≡ section) × (back ≡ codes ":" ++ behind)
+heading-parts text section behind front back n all e n_is f b =
     let test : ℕ → Bool = λ c. not (eqb c 58) in
-    let whole : text ≡ section ++ (58 ∷ 10 ∷ lines) = e ∙ append_assoc (section ++ codes ":") (10 ∷ []) lines ∙ append_assoc section (codes ":") (10 ∷ lines) in
+    let whole : text ≡ section ++ (58 ∷ behind) = e ∙ append_assoc section (codes ":") behind in
     let other_bytes : list_all test section ≡ true = all_weaker is_section_byte test section no_colon all in
-    let front_part : take_while test text ≡ section = ap (take_while test) whole ∙ front_is test section 58 (10 ∷ lines) other_bytes refl in
+    let front_part : take_while test text ≡ section = ap (take_while test) whole ∙ front_is test section 58 behind other_bytes refl in
     let n_is_length : n ≡ length section = n_is ∙ ap length front_part in (
-      f ∙ rw (n_is_length, whole) (take-append_seam section (58 ∷ 10 ∷ lines)),
-      b ∙ rw (n_is_length, whole) (drop-append_seam section (58 ∷ 10 ∷ lines)),
+      f ∙ rw (n_is_length, whole) (take-append_seam section (58 ∷ behind)),
+      b ∙ rw (n_is_length, whole) (drop-append_seam section (58 ∷ behind)),
     )
   where
     no_colon : (x : ℕ) → is_section_byte x ≡ true → not (eqb x 58) ≡ true
     no_colon x h = grind (arith, nat_tests)
 
-pub heading-rest : (back lines rest : List ℕ) → back ≡ codes ":\n" ++ lines → back ≡ codes ":\n" ++ rest → rest ≡ lines
-heading-rest back lines rest e f = let same : codes ":\n" ++ lines ≡ codes ":\n" ++ rest = sym e ∙ f in cc
+pub heading-rest : (back behind rest : List ℕ) → back ≡ codes ":" ++ behind → back ≡ codes ":" ++ rest → rest ≡ behind
+heading-rest back behind rest e f = let same : codes ":" ++ behind ≡ codes ":" ++ rest = sym e ∙ f in cc
 
 -- the bytes of a section give it back
-pub section-of : (s : Section) (front : List ℕ) (read : Result Section NameFault) → IsSection s → front ≡ section_bytes s.base s.places → read ≡ section_read front → read ≡ Ok s
+pub section-of : (s : Section) (front : List ℕ) (read : Result Section NameFault) → IsSection s → front ≡ section_bytes s.base s.places
+    → read ≡ section_read front → read ≡ Ok s
 section-of s front read h e r = r ∙ ap section_read e ∙ section_read-every s h
 
 -- the pattern of these parts, whose base is no fundamental pattern's
-pub plain-pattern : (base : List ℕ) (i r : List Token) (ms : List (List Token)) → is_base base ≡ true → fundamental_of base ≡ None → is_pre_message i ≡ true → is_pre_message r ≡ true → 1 ≤ length ms → length ms ≤ 8 → list_all has_few_tokens ms ≡ true → list_any (λ tokens. list_any is_psk tokens) ms ≡ false → IsPattern (record { base = base; places = []; initiator = i; responder = r; messages = ms })
+pub plain-pattern : (base : List ℕ) (i r : List Token) (ms : List (List Token)) → is_base base ≡ true → fundamental_of base ≡ None → is_pre_message i ≡ true
+    → is_pre_message r ≡ true → 1 ≤ length ms → length ms ≤ 8 → list_all has_few_tokens ms ≡ true → list_any (λ tokens. list_any is_psk tokens) ms ≡ false
+    → IsPattern (record { base = base; places = []; initiator = i; responder = r; messages = ms })
 plain-pattern base i r ms b unknown pi pr low high sizes plain = record {
   base = b;
   places = refl;
@@ -326,7 +373,8 @@ pub known-same : (p f : Plan) (base : List ℕ) → IsPattern p → p.base ≡ b
 known-same p f base h same found = sym (MatchOption-at_some ⊤ (λ g. plain_of p ≡ g) f (ap fundamental_of same ∙ found) h.known)
 
 -- psk tokens at the same places of the same messages
-messages-same : (places : List ℕ) (n : ℕ) (ms ks : List (List Token)) → HavePsksAt places n ms → HavePsksAt places n ks → map own_tokens ms ≡ map own_tokens ks → ms ≡ ks
+messages-same : (places : List ℕ) (n : ℕ) (ms ks : List (List Token)) → HavePsksAt places n ms → HavePsksAt places n ks
+    → map own_tokens ms ≡ map own_tokens ks → ms ≡ ks
 messages-same places n [] [] h k e = refl
 messages-same places n [] (x ∷ ks) h k e = absurd (cc)
 messages-same places n (m ∷ ms) [] h k e = absurd (cc)
@@ -340,7 +388,8 @@ messages-same places n (m ∷ ms) (x ∷ ks) h k e =
 abbrev pub plan : List ℕ → List ℕ → List Token → List Token → List (List Token) → Plan
 plan base places initiator responder messages = record { base = base; places = places; initiator = initiator; responder = responder; messages = messages }
 
-pub plan-same : (b c : List ℕ) (ps qs : List ℕ) (i j r s : List Token) (ms ks : List (List Token)) → b ≡ c → ps ≡ qs → i ≡ j → r ≡ s → ms ≡ ks → plan b ps i r ms ≡ plan c qs j s ks
+pub plan-same : (b c : List ℕ) (ps qs : List ℕ) (i j r s : List Token) (ms ks : List (List Token)) → b ≡ c → ps ≡ qs → i ≡ j → r ≡ s → ms ≡ ks
+    → plan b ps i r ms ≡ plan c qs j s ks
 plan-same b c ps qs i j r s ms ks e f g h k = cc
 
 pub placed-same : (p q plain : Plan) (places : List ℕ) → IsPattern p → plain ≡ plain_of p → places ≡ p.places → Placed plain places q → q ≡ p
@@ -367,7 +416,8 @@ none-beyond count (n ∷ ns) h =
 pub within-places : (p plain : Plan) (places : List ℕ) (n : ℕ) → IsPattern p → plain ≡ plain_of p → places ≡ p.places → first_beyond plain places ≡ Some n → ⊥
 within-places p plain places n h is places_is e =
     let none : first_beyond (plain_of p) p.places ≡ None = rw (length-own p.messages) (none-beyond (length p.messages) p.places h.psks.in_range) in
-    let same : first_beyond plain places ≡ first_beyond (plain_of p) p.places = ap (λ (x : Plan). first_beyond x places) is ∙ ap (λ (ns : List ℕ). first_beyond (plain_of p) ns) places_is in
+    let same : first_beyond plain places ≡ first_beyond (plain_of p) p.places = ap (λ (x : Plan). first_beyond x places) is
+    ∙ ap (λ (ns : List ℕ). first_beyond (plain_of p) ns) places_is in
     absurd (let bad : Some n ≡ None = sym e ∙ same ∙ none in cc)
 
 pub ok-same : (r : Result Section NameFault) (x y : Section) → r ≡ Ok x → r ≡ Ok y → x ≡ y
@@ -383,8 +433,15 @@ pub differ_from_test : (b : Bool) (n k : ℕ) → b ≡ eqb n k → b ≡ false 
 differ_from_test b n k e t = let same : eqb n k ≡ false = sym e ∙ t in grind (arith, nat_tests)
 
 -- the parts of a text
-pub spelled-parts : (text : List ℕ) (p : Plan) → Spells text p → text ≡ line (section_bytes p.base p.places ++ codes ":") ++ (pre_lines p.initiator p.responder ++ message_lines Initiator p.messages)
-spelled-parts text p h = h.spelled ∙ append_assoc (line (section_bytes p.base p.places ++ codes ":")) (pre_lines p.initiator p.responder) (message_lines Initiator p.messages)
+-- the lines behind the heading of a pattern's text
+abbrev pub lines_behind : Plan → List ℕ
+lines_behind p = pre_lines p.initiator p.responder ++ message_lines Initiator p.messages
+
+pub spelled-parts : (text : List ℕ) (p : Plan) → Spells text p → text ≡ (section_bytes p.base p.places ++ codes ":") ++ 10 ∷ lines_behind p
+spelled-parts text p h =
+    let heading : List ℕ = section_bytes p.base p.places ++ codes ":" in
+    h.spelled ∙ append_assoc (line heading) (pre_lines p.initiator p.responder) (message_lines Initiator p.messages)
+    ∙ append_assoc heading (10 ∷ []) (lines_behind p)
 
 pub pattern-section : (p : Plan) → IsPattern p → IsSection (record { base = p.base; places = p.places })
 pattern-section p h = record { base = h.base; places = h.places }

@@ -1,11 +1,13 @@
 -- A pattern section and a protocol name are read exactly if they are spelled so.
-use Rattle.std.proofs.Common.{◌≡◌, ℕ, suc, ◌+◌, ◌<◌, ◌≤◌, Bool, true, false, ◌&&◌, ◌||◌, not, cond, eqb, leb, ltb, List, [], ◌∷◌, ◌++◌, Result, Ok, Err, refl, ap, sym, ◌∙◌, subst, append-nil, map, length, take, drop, take_while, arith}
+use Rattle.std.proofs.Common.{◌≡◌, ℕ, suc, ◌+◌, ◌<◌, ◌≤◌, Bool, true, false, ◌&&◌, ◌||◌, not, cond, eqb, leb, ltb, List, [], ◌∷◌, ◌++◌, Result, Ok, Err, refl}
+use Rattle.std.proofs.Common.{ap, sym, ◌∙◌, subst, append-nil, map, length, take, drop, take_while, arith}
 use Rattle.std.specs.List.{list_all, join_with_byte, prefix_len}
 use Rattle.std.proofs.lemmas.Bool.Decides.{nat_tests}
 use Rattle.std.proofs.lemmas.List.{take-append-drop, take_min, length-take, drop_at}
 use Rattle.noise_names.specs.declared.faults.NameFault.{NameFault}
 use Rattle.noise_names.specs.declared.faults.NameFault.TheVariants.{Base, Modifier, ModifierOrder}
-use Rattle.noise_names.specs.Names.{Section, IsSection, is_base_byte, is_upper, is_base, base_front, behind_base, modifier, pieces_of, is_modifier, digit_of, rises, are_places, section_bytes}
+use Rattle.noise_names.specs.Names.{Section, IsSection, is_base_byte, is_upper, is_base, base_front, behind_base, modifier, pieces_of, is_modifier, digit_of}
+use Rattle.noise_names.specs.Names.{rises, are_places, section_bytes}
 use Rattle.noise_names.specs.Sections.{numbers_in, modifiers_read, unless_section_fault, section_in, section_read}
 use Rattle.std.proofs.lemmas.List.Splits.{join_with_byte-slice_split}
 use Rattle.noise_names.proofs.Modifiers.{are_numbers, le_from_test, all_modifiers, pieces_of-modifiers, are_modifiers, digits_rise, same_numbers, places_rise}
@@ -20,7 +22,8 @@ take-front test bytes = ap (λ (n : ℕ). take n bytes) (length-take (prefix_len
 
 pub front_split : (test : ℕ → Bool) (bytes : List ℕ) → bytes ≡ take_while test bytes ++ drop (length (take_while test bytes)) bytes
 front_split test bytes =
-    sym (take-append-drop (length (take_while test bytes)) bytes) ∙ ap (λ (xs : List ℕ). xs ++ drop (length (take_while test bytes)) bytes) (take-front test bytes)
+    sym (take-append-drop (length (take_while test bytes)) bytes)
+    ∙ ap (λ (xs : List ℕ). xs ++ drop (length (take_while test bytes)) bytes) (take-front test bytes)
 
 take_while-yes : (test : ℕ → Bool) (x : ℕ) (xs : List ℕ) → test x ≡ true → take_while test (x ∷ xs) ≡ x ∷ take_while test xs
 take_while-yes test x xs h = rw h (ap (λ (n : ℕ). take n (x ∷ xs)) (one_more (prefix_len test xs))) where
@@ -28,7 +31,8 @@ take_while-yes test x xs h = rw h (ap (λ (n : ℕ). take n (x ∷ xs)) (one_mor
   one_more n = omega arith
 
 -- the front of bytes that pass, where what follows begins with none
-pub front_is : (test : ℕ → Bool) (front : List ℕ) (b : ℕ) (rest : List ℕ) → list_all test front ≡ true → test b ≡ false → take_while test (front ++ b ∷ rest) ≡ front
+pub front_is : (test : ℕ → Bool) (front : List ℕ) (b : ℕ) (rest : List ℕ) → list_all test front ≡ true → test b ≡ false
+    → take_while test (front ++ b ∷ rest) ≡ front
 front_is test [] b rest all stops = rw stops refl
 front_is test (x ∷ front) b rest all stops =
     let a : (test x ≡ true) × (list_all test front ≡ true) = both (test x) (list_all test front) all in
@@ -39,12 +43,6 @@ front_all test [] all = refl
 front_all test (x ∷ front) all =
     let a : (test x ≡ true) × (list_all test front ≡ true) = both (test x) (list_all test front) all in
     take_while-yes test x front a.0 ∙ ap (λ (xs : List ℕ). x ∷ xs) (front_all test front a.1)
-
-all-append : (test : ℕ → Bool) (xs ys : List ℕ) → list_all test xs ≡ true → list_all test ys ≡ true → list_all test (xs ++ ys) ≡ true
-all-append test [] ys a b = b
-all-append test (x ∷ xs) ys a b =
-    let h : (test x ≡ true) × (list_all test xs ≡ true) = both (test x) (list_all test xs) a in
-    rw (h.0) (all-append test xs ys h.1 b)
 
 pub all_weaker : (test other : ℕ → Bool) (xs : List ℕ) → ((x : ℕ) → test x ≡ true → other x ≡ true) → list_all test xs ≡ true → list_all other xs ≡ true
 all_weaker test other [] each h = refl
@@ -62,67 +60,55 @@ base_all (b ∷ bs) h =
 
 pub base_few : (base : List ℕ) → is_base base ≡ true → length base ≤ 8
 base_few [] h = absurd (cc)
-base_few (b ∷ bs) h = let less : length bs < 8 = less_from_test (length bs) 8 (both (is_upper b && list_all is_base_byte bs) (ltb (length bs) 8) h).1 in omega arith where
-  less_from_test : (m n : ℕ) → ltb m n ≡ true → m < n
-  less_from_test m n t = grind (arith, nat_tests)
+base_few (b ∷ bs) h = let less : length bs < 8 = less_from_test (length bs) 8 (both (is_upper b && list_all is_base_byte bs) (ltb (length bs) 8) h).1 in
+    omega arith where
+      less_from_test : (m n : ℕ) → ltb m n ≡ true → m < n
+      less_from_test m n t = grind (arith, nat_tests)
 
--- the bytes of modifiers: no byte of a base begins them, and no _ or line feed is among them
-abbrev pub is_section_byte : ℕ → Bool
-is_section_byte b = is_base_byte b || (eqb b 43 || (leb 107 b && leb b 115))
-
+-- no byte of a base begins modifiers
 modifiers_begin : (ns : List ℕ) (base : List ℕ) → list_all is_base_byte base ≡ true → base_front (base ++ join_with_byte 43 (map modifier ns)) ≡ base
 modifiers_begin [] base h = rw append-nil (front_all is_base_byte base h)
 modifiers_begin (n ∷ []) base h = front_is is_base_byte base 112 (115 ∷ 107 ∷ (48 + n) ∷ []) h refl
 modifiers_begin (n ∷ m ∷ ns) base h = front_is is_base_byte base 112 (115 ∷ 107 ∷ (48 + n) ∷ 43 ∷ join_with_byte 43 (map modifier (m ∷ ns))) h refl
 
-digit_is_section_byte : (n : ℕ) → n ≤ 8 → is_section_byte (48 + n) ≡ true
-digit_is_section_byte n h = rw (high n h, lower n, upper n h) refl where
-  lower : (m : ℕ) → leb 48 (48 + m) ≡ true
-  lower m = grind (arith, nat_tests)
-
-  upper : (m : ℕ) → m ≤ 8 → leb (48 + m) 57 ≡ true
-  upper m k = grind (arith, nat_tests)
-
-  high : (m : ℕ) → m ≤ 8 → leb 65 (48 + m) ≡ false
-  high m k = grind (arith, nat_tests)
-
-modifiers_bytes : (ns : List ℕ) → are_numbers ns ≡ true → list_all is_section_byte (join_with_byte 43 (map modifier ns)) ≡ true
-modifiers_bytes [] h = refl
-modifiers_bytes (n ∷ []) h = rw (digit_is_section_byte n (le_from_test n 8 (both (leb n 8) true h).0)) refl
-modifiers_bytes (n ∷ m ∷ ns) h =
-    let a = both (leb n 8) (are_numbers (m ∷ ns)) h in
-    rw (digit_is_section_byte n (le_from_test n 8 a.0)) (modifiers_bytes (m ∷ ns) a.1)
-
 places_are_numbers : (ns : List ℕ) → are_places ns ≡ true → are_numbers ns ≡ true
 places_are_numbers ns h = (both (rises ns) (are_numbers ns) h).1
 
 -- the result behind modifiers that are read
-modifiers_ok : {A : Type 0} (m o : Bool) (xs ns : List ℕ) (result : Result A NameFault) → cond m (Err Modifier) (cond o (Err ModifierOrder) (Ok xs)) ≡ Ok ns → (cond m (Err Modifier) (cond o (Err ModifierOrder) result) ≡ result) × (xs ≡ ns)
+modifiers_ok : {A : Type 0} (m o : Bool) (xs ns : List ℕ) (result : Result A NameFault) → cond m (Err Modifier) (cond o (Err ModifierOrder) (Ok xs)) ≡ Ok ns
+    → (cond m (Err Modifier) (cond o (Err ModifierOrder) result) ≡ result) × (xs ≡ ns)
 modifiers_ok true o xs ns result e = absurd (cc)
 modifiers_ok false true xs ns result e = absurd (cc)
 modifiers_ok false false xs ns result e = (refl, cc)
 
-modifiers_err : {A : Type 0} (m o : Bool) (xs : List ℕ) (fault : NameFault) (result : Result A NameFault) → cond m (Err Modifier) (cond o (Err ModifierOrder) (Ok xs)) ≡ Err fault → cond m (Err Modifier) (cond o (Err ModifierOrder) result) ≡ Err fault
+modifiers_err : {A : Type 0} (m o : Bool) (xs : List ℕ) (fault : NameFault) (result : Result A NameFault)
+    → cond m (Err Modifier) (cond o (Err ModifierOrder) (Ok xs)) ≡ Err fault → cond m (Err Modifier) (cond o (Err ModifierOrder) result) ≡ Err fault
 modifiers_err true o xs fault result e = cc
 modifiers_err false true xs fault result e = cc
 modifiers_err false false xs fault result e = absurd (cc)
 
 -- a section whose parts are read
-pub section_ok : (section base modifiers ns : List ℕ) → base ≡ base_front section → modifiers ≡ behind_base section → is_base base ≡ true → modifiers_read modifiers ≡ Ok ns → section_read section ≡ Ok (record { base = base; places = ns })
+pub section_ok : (section base modifiers ns : List ℕ) → base ≡ base_front section → modifiers ≡ behind_base section → is_base base ≡ true
+    → modifiers_read modifiers ≡ Ok ns → section_read section ≡ Ok (record { base = base; places = ns })
 section_ok section base modifiers ns e f h read =
     let base_is : is_base (base_front section) ≡ true = ap is_base (sym e) ∙ h in
     let read_behind : modifiers_read (behind_base section) ≡ Ok ns = ap modifiers_read (sym f) ∙ read in
-    let parts = modifiers_ok (not (list_all is_modifier (pieces_of (behind_base section)))) (not (rises (map digit_of (pieces_of (behind_base section))))) (numbers_in (behind_base section)) ns (Ok (section_in section)) read_behind in
+    let parts = modifiers_ok (not (list_all is_modifier (pieces_of (behind_base section)))) (not (rises (map digit_of (pieces_of (behind_base section)))))
+    (numbers_in (behind_base section)) ns (Ok (section_in section)) read_behind in
     rw base_is (parts.0 ∙ same (base_front section) base (numbers_in (behind_base section)) ns (sym e) parts.1)
   where
-    same : (a b : List ℕ) (xs ys : List ℕ) → a ≡ b → xs ≡ ys → (let s : Result Section NameFault = Ok (record { base = a; places = xs }) in let t : Result Section NameFault = Ok (record { base = b; places = ys }) in s ≡ t)
+    same : (a b : List ℕ) (xs ys : List ℕ) → a ≡ b → xs ≡ ys
+        → (let s : Result Section NameFault = Ok (record { base = a; places = xs }) in
+        let t : Result Section NameFault = Ok (record { base = b; places = ys }) in s ≡ t)
     same a b xs ys p q = rw (p, q) refl
 
-pub section_err : (section base modifiers : List ℕ) (fault : NameFault) → base ≡ base_front section → modifiers ≡ behind_base section → is_base base ≡ true → modifiers_read modifiers ≡ Err fault → section_read section ≡ Err fault
+pub section_err : (section base modifiers : List ℕ) (fault : NameFault) → base ≡ base_front section → modifiers ≡ behind_base section → is_base base ≡ true
+    → modifiers_read modifiers ≡ Err fault → section_read section ≡ Err fault
 section_err section base modifiers fault e f h read =
     let base_is : is_base (base_front section) ≡ true = ap is_base (sym e) ∙ h in
     let read_behind : modifiers_read (behind_base section) ≡ Err fault = ap modifiers_read (sym f) ∙ read in
-    rw base_is (modifiers_err (not (list_all is_modifier (pieces_of (behind_base section)))) (not (rises (map digit_of (pieces_of (behind_base section))))) (numbers_in (behind_base section)) fault (Ok (section_in section)) read_behind)
+    rw base_is (modifiers_err (not (list_all is_modifier (pieces_of (behind_base section)))) (not (rises (map digit_of (pieces_of (behind_base section)))))
+    (numbers_in (behind_base section)) fault (Ok (section_in section)) read_behind)
 
 pub section_no_base : (section base : List ℕ) → base ≡ base_front section → is_base base ≡ false → section_read section ≡ Err Base
 section_no_base section base e h = let base_is : is_base (base_front section) ≡ false = ap is_base (sym e) ∙ h in rw base_is refl
@@ -130,9 +116,11 @@ section_no_base section base e h = let base_is : is_base (base_front section) �
 -- what a section without a fault is
 abbrev pub KeepsSection : List ℕ → Type 0
 KeepsSection section =
-    (is_base (base_front section) ≡ true) × (list_all is_modifier (pieces_of (behind_base section)) ≡ true) × (rises (map digit_of (pieces_of (behind_base section))) ≡ true)
+    (is_base (base_front section) ≡ true) × (list_all is_modifier (pieces_of (behind_base section)) ≡ true)
+    × (rises (map digit_of (pieces_of (behind_base section))) ≡ true)
 
-pub kept_section : (section : List ℕ) → KeepsSection section → IsSection (section_in section) × (section ≡ section_bytes (section_in section).base (section_in section).places)
+pub kept_section : (section : List ℕ) → KeepsSection section
+    → IsSection (section_in section) × (section ≡ section_bytes (section_in section).base (section_in section).places)
 kept_section section h =
     let all = all_modifiers (pieces_of (behind_base section)) h.1 in
     let numbers : List ℕ = numbers_in (behind_base section) in
@@ -146,7 +134,8 @@ kept_section section h =
     join-pieces [] = refl
     join-pieces (b ∷ bs) = join_with_byte-slice_split 43 (b ∷ bs)
 
-unless_ok : {A : Type 0} (b m o : Bool) (result : Result A NameFault) (x : A) → cond b (Err Base) (cond m (Err Modifier) (cond o (Err ModifierOrder) result)) ≡ Ok x → (b ≡ false) × (m ≡ false) × (o ≡ false) × (result ≡ Ok x)
+unless_ok : {A : Type 0} (b m o : Bool) (result : Result A NameFault) (x : A)
+    → cond b (Err Base) (cond m (Err Modifier) (cond o (Err ModifierOrder) result)) ≡ Ok x → (b ≡ false) × (m ≡ false) × (o ≡ false) × (result ≡ Ok x)
 unless_ok true m o result x e = absurd (cc)
 unless_ok false true o result x e = absurd (cc)
 unless_ok false false true result x e = absurd (cc)
@@ -156,9 +145,11 @@ not_false : (b : Bool) → not b ≡ false → b ≡ true
 not_false true e = refl
 not_false false e = absurd (cc)
 
-pub unless_section_ok : {A : Type 0} (section : List ℕ) (result : Result A NameFault) (x : A) → unless_section_fault section result ≡ Ok x → KeepsSection section × (result ≡ Ok x)
+pub unless_section_ok : {A : Type 0} (section : List ℕ) (result : Result A NameFault) (x : A) → unless_section_fault section result ≡ Ok x
+    → KeepsSection section × (result ≡ Ok x)
 unless_section_ok section result x e =
-    let h = unless_ok (not (is_base (base_front section))) (not (list_all is_modifier (pieces_of (behind_base section)))) (not (rises (map digit_of (pieces_of (behind_base section))))) result x e in
+    let h = unless_ok (not (is_base (base_front section))) (not (list_all is_modifier (pieces_of (behind_base section))))
+    (not (rises (map digit_of (pieces_of (behind_base section))))) result x e in
     ((not_false _ h.0, not_false _ h.1, not_false _ h.2), h.3)
 
 -- what is read of a section spells it
@@ -176,17 +167,20 @@ behind_of : (s : Section) → IsSection s → behind_base (section_bytes s.base 
 behind_of s h = drop_at s.base (join_with_byte 43 (map modifier s.places)) _ (sym (ap length (front_of s h)))
 
 -- what spells a section has no fault, and gives the section
-pub section_keeps : {A : Type 0} (s : Section) (result : Result A NameFault) → IsSection s → unless_section_fault (section_bytes s.base s.places) result ≡ result
+pub section_keeps : {A : Type 0} (s : Section) (result : Result A NameFault) → IsSection s
+    → unless_section_fault (section_bytes s.base s.places) result ≡ result
 section_keeps s result h =
     let numbers : are_numbers s.places ≡ true = places_are_numbers s.places h.places in
-    let pieces : pieces_of (behind_base (section_bytes s.base s.places)) ≡ map modifier s.places = ap pieces_of (behind_of s h) ∙ pieces_of-modifiers s.places numbers in
+    let pieces : pieces_of (behind_base (section_bytes s.base s.places)) ≡ map modifier s.places = ap pieces_of (behind_of s h)
+    ∙ pieces_of-modifiers s.places numbers in
     let rising : rises s.places ≡ true = (both (rises s.places) (are_numbers s.places) h.places).0 in
     rw (pieces, are_modifiers s.places numbers, digits_rise s.places, rising, front_of s h, h.base) refl
 
 pub section_in-spelled : (s : Section) → IsSection s → section_in (section_bytes s.base s.places) ≡ s
 section_in-spelled s h =
     let numbers : are_numbers s.places ≡ true = places_are_numbers s.places h.places in
-    let pieces : pieces_of (behind_base (section_bytes s.base s.places)) ≡ map modifier s.places = ap pieces_of (behind_of s h) ∙ pieces_of-modifiers s.places numbers in
+    let pieces : pieces_of (behind_base (section_bytes s.base s.places)) ≡ map modifier s.places = ap pieces_of (behind_of s h)
+    ∙ pieces_of-modifiers s.places numbers in
     rw (pieces, same_numbers s.places, front_of s h) refl
 
 pub section_read-every : (s : Section) → IsSection s → section_read (section_bytes s.base s.places) ≡ Ok s
@@ -196,26 +190,25 @@ section_read-every s h = section_keeps s (Ok (section_in (section_bytes s.base s
 pub one_section : (s t : Section) → IsSection s → IsSection t → section_bytes s.base s.places ≡ section_bytes t.base t.places → s ≡ t
 one_section s t h k e = sym (section_in-spelled s h) ∙ ap section_in e ∙ section_in-spelled t k
 
--- the bytes of a section
-pub section_all : (s : Section) → IsSection s → list_all is_section_byte (section_bytes s.base s.places) ≡ true
-section_all s h =
-    all-append is_section_byte s.base (join_with_byte 43 (map modifier s.places))
-    (all_weaker is_base_byte is_section_byte s.base (λ x k. rw k refl) (base_all s.base h.base))
-    (modifiers_bytes s.places (places_are_numbers s.places h.places))
-
 -- the rest of a reading behind a section
-pub unless_section_err : {A : Type 0} (section : List ℕ) (fault : NameFault) (result : Result A NameFault) → section_read section ≡ Err fault → unless_section_fault section result ≡ Err fault
-unless_section_err section fault result e = at (is_base (base_front section)) (list_all is_modifier (pieces_of (behind_base section))) (rises (map digit_of (pieces_of (behind_base section)))) e where
-  at : (b m o : Bool) → cond (not b) (Err Base) (cond (not m) (Err Modifier) (cond (not o) (Err ModifierOrder) (Ok (section_in section)))) ≡ Err fault → cond (not b) (Err Base) (cond (not m) (Err Modifier) (cond (not o) (Err ModifierOrder) result)) ≡ Err fault
-  at false m o f = cc
-  at true false o f = cc
-  at true true false f = cc
-  at true true true f = absurd (cc)
+pub unless_section_err : {A : Type 0} (section : List ℕ) (fault : NameFault) (result : Result A NameFault) → section_read section ≡ Err fault
+    → unless_section_fault section result ≡ Err fault
+unless_section_err section fault result e =
+    at (is_base (base_front section)) (list_all is_modifier (pieces_of (behind_base section))) (rises (map digit_of (pieces_of (behind_base section)))) e where
+      at : (b m o : Bool) → cond (not b) (Err Base) (cond (not m) (Err Modifier) (cond (not o) (Err ModifierOrder) (Ok (section_in section)))) ≡ Err fault
+          → cond (not b) (Err Base) (cond (not m) (Err Modifier) (cond (not o) (Err ModifierOrder) result)) ≡ Err fault
+      at false m o f = cc
+      at true false o f = cc
+      at true true false f = cc
+      at true true true f = absurd (cc)
 
-pub unless_section_kept : {A : Type 0} (section : List ℕ) (s : Section) (result : Result A NameFault) → section_read section ≡ Ok s → (unless_section_fault section result ≡ result) × (section_in section ≡ s)
-unless_section_kept section s result e = at (is_base (base_front section)) (list_all is_modifier (pieces_of (behind_base section))) (rises (map digit_of (pieces_of (behind_base section)))) e where
-  at : (b m o : Bool) → cond (not b) (Err Base) (cond (not m) (Err Modifier) (cond (not o) (Err ModifierOrder) (Ok (section_in section)))) ≡ Ok s → (cond (not b) (Err Base) (cond (not m) (Err Modifier) (cond (not o) (Err ModifierOrder) result)) ≡ result) × (section_in section ≡ s)
-  at false m o f = absurd (cc)
-  at true false o f = absurd (cc)
-  at true true false f = absurd (cc)
-  at true true true f = (refl, cc)
+pub unless_section_kept : {A : Type 0} (section : List ℕ) (s : Section) (result : Result A NameFault) → section_read section ≡ Ok s
+    → (unless_section_fault section result ≡ result) × (section_in section ≡ s)
+unless_section_kept section s result e =
+    at (is_base (base_front section)) (list_all is_modifier (pieces_of (behind_base section))) (rises (map digit_of (pieces_of (behind_base section)))) e where
+      at : (b m o : Bool) → cond (not b) (Err Base) (cond (not m) (Err Modifier) (cond (not o) (Err ModifierOrder) (Ok (section_in section)))) ≡ Ok s
+          → (cond (not b) (Err Base) (cond (not m) (Err Modifier) (cond (not o) (Err ModifierOrder) result)) ≡ result) × (section_in section ≡ s)
+      at false m o f = absurd (cc)
+      at true false o f = absurd (cc)
+      at true true false f = absurd (cc)
+      at true true true f = (refl, cc)

@@ -17,7 +17,8 @@ words-first t [] = sym (append-nil (word_of t))
 words-first t (u ∷ ts) = append_assoc (word_of t) (codes ", ") (words (u ∷ ts)) ∙ ap (λ (k : List ℕ). word_of t ++ (codes ", " ++ k)) (words-first u ts)
 
 -- one token more was written
-pub words-step : (out out' comma word before : List ℕ) (ts : List Token) (i : ℕ) (d : Token) → i < length ts → word ≡ word_of (get_or ts i d) → comma ≡ out ++ codes ", " → out' ≡ comma ++ word → out ++ more_words (drop i ts) ≡ before → out' ++ more_words (drop (i + 1) ts) ≡ before
+pub words-step : (out out' comma word before : List ℕ) (ts : List Token) (i : ℕ) (d : Token) → i < length ts → word ≡ word_of (get_or ts i d)
+    → comma ≡ out ++ codes ", " → out' ≡ comma ++ word → out ++ more_words (drop i ts) ≡ before → out' ++ more_words (drop (i + 1) ts) ≡ before
 words-step out out' comma word before ts i d h is c w e =
     ap (λ (k : List ℕ). k ++ more_words (drop (i + 1) ts)) (w ∙ ap (λ (k : List ℕ). k ++ word) c ∙ ap (λ (k : List ℕ). (out ++ codes ", ") ++ k) is)
     ∙ append_assoc (out ++ codes ", ") (word_of (get_or ts i d)) (more_words (drop (i + 1) ts))
@@ -26,7 +27,9 @@ words-step out out' comma word before ts i d h is c w e =
     ∙ e
 
 -- one message more was written
-pub lines-step : (out out' before : List ℕ) (role : Role) (ms : List (List Token)) (i : ℕ) (d : List Token) → i < length ms → out' ≡ out ++ token_line role (get_or ms i d) → out ++ message_lines role (drop i ms) ≡ before → out' ++ message_lines (other role) (drop (i + 1) ms) ≡ before
+pub lines-step : (out out' before : List ℕ) (role : Role) (ms : List (List Token)) (i : ℕ) (d : List Token) → i < length ms
+    → out' ≡ out ++ token_line role (get_or ms i d) → out ++ message_lines role (drop i ms) ≡ before
+    → out' ++ message_lines (other role) (drop (i + 1) ms) ≡ before
 lines-step out out' before role ms i d h w e =
     ap (λ (k : List ℕ). k ++ message_lines (other role) (drop (i + 1) ms)) w
     ∙ append_assoc out (token_line role (get_or ms i d)) (message_lines (other role) (drop (i + 1) ms))
@@ -34,7 +37,8 @@ lines-step out out' before role ms i d h w e =
     ∙ e
 
 -- the first token was written
-pub words-start : (tokens : List Token) (first : Token) (others : List Token) (out out' w : List ℕ) → tokens ≡ first ∷ others → out' ≡ out ++ w → w ≡ word_of first → out' ++ more_words others ≡ out ++ words tokens
+pub words-start : (tokens : List Token) (first : Token) (others : List Token) (out out' w : List ℕ) → tokens ≡ first ∷ others → out' ≡ out ++ w
+    → w ≡ word_of first → out' ++ more_words others ≡ out ++ words tokens
 words-start tokens first others out out' w is e f =
     ap (λ (k : List ℕ). k ++ more_words others) (e ∙ ap (λ (k : List ℕ). out ++ k) f)
     ∙ append_assoc out (word_of first) (more_words others)

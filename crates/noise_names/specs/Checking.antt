@@ -1,4 +1,4 @@
--- The first fault of a pattern as a function, and what the check keeps of the places that it passed. No public contract cites this file.
+-- What the check keeps of the places that it passed, and what that tells of the next one. No public contract cites this file.
 use Rattle.std.specs.Prelude.{◌≡◌, ℕ, ◌+◌, if◌then◌else◌, Bool, not, ◌&&◌, ◌||◌, List, [], ◌∷◌, ◌++◌, Option, Some, None, Result, MatchResult}
 use Rattle.noise_names.specs.declared.token.Role.{Role}
 use Rattle.noise_names.specs.declared.token.Role.TheVariants.{Initiator, Responder}
@@ -6,24 +6,8 @@ use Rattle.noise_names.specs.declared.token.Token.TheVariants.{E, S, Ee, Es, Se,
 use Rattle.noise_names.specs.declared.faults.RuleFault.{RuleFault}
 use Rattle.noise_names.specs.declared.seen.Seen.{Seen}
 use Rattle.noise_names.specs.Tokens.{same_role}
-use Rattle.noise_names.specs.Plan.{Plan, Place, Step, does, payload, transport, places_of}
-use Rattle.noise_names.specs.Validity.{stands, occurs, is_at, broken_rules, unless_kept, comes_with}
-
--- the fault of a place that breaks these rules, or else the next fault
-abbrev pub fault_or : List ℕ → Place → Option RuleFault → Option RuleFault
-fault_or [] p next = next
-fault_or (rule ∷ _) p next = Some (record { rule = rule; message = p.message; token = p.token })
-
--- the first fault of the places after the earlier ones, where broken gives the rules that a place breaks after others
-abbrev pub first_fault_by : (List Place → Place → List ℕ) → List Place → List Place → Option RuleFault
-first_fault_by broken earlier [] = None
-first_fault_by broken earlier (p ∷ later) = fault_or (broken earlier p) p (first_fault_by broken (earlier ++ p ∷ []) later)
-
-unfoldable pub first_fault_from : List Place → List Place → Option RuleFault
-first_fault_from earlier places = first_fault_by broken_rules earlier places
-
-abbrev pub first_fault : Plan → Option RuleFault
-first_fault plan = first_fault_from [] (places_of plan)
+use Rattle.noise_names.specs.Plan.{Place, Step, does, payload, transport}
+use Rattle.noise_names.specs.Validity.{stands, occurs, is_at, unless_kept, comes_with, first_fault_from}
 
 -- what is kept of the places that were passed
 unfoldable pub seen_of : List Place → Seen

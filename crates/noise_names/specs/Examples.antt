@@ -12,7 +12,7 @@ use Rattle.noise_names.specs.Limits.{HavePsksAt, with_psk_tokens}
 use Rattle.noise_names.specs.Fundamental.{fundamentals, fundamental_of}
 use Rattle.noise_names.specs.Text.{text_of, line}
 use Rattle.noise_names.specs.Overhead.{overhead_of}
-use Rattle.noise_names.specs.Checking.{first_fault, first_fault_from}
+use Rattle.noise_names.specs.Validity.{first_fault, first_fault_from}
 
 abbrev of : List ℕ → List ℕ → List Token → List Token → List (List Token) → Plan
 of base places initiator responder messages =
@@ -142,8 +142,10 @@ in_name section = prefix ++ section ++ suffix
 
 pub name_faults :
     map (λ section. first_name_fault (in_name section))
-    (codes "XXpsk3+psk0" ∷ codes "XXpsk0+psk0" ∷ codes "XXfallback" ∷ codes "XX+psk0" ∷ codes "XXpsk9" ∷ codes "XXpsk0+" ∷ codes "xx" ∷ codes "8X" ∷ [] ∷ codes "ABCDEFGHI" ∷ [])
-    ≡ Some ModifierOrder ∷ Some ModifierOrder ∷ Some Modifier ∷ Some Modifier ∷ Some Modifier ∷ Some Modifier ∷ Some Base ∷ Some Base ∷ Some Base ∷ Some Base ∷ []
+    (codes "XXpsk3+psk0" ∷ codes "XXpsk0+psk0" ∷ codes "XXfallback" ∷ codes "XX+psk0" ∷ codes "XXpsk9" ∷ codes "XXpsk0+" ∷ codes "xx" ∷ codes "8X" ∷ [] ∷
+    codes "ABCDEFGHI" ∷ [])
+    ≡ Some ModifierOrder ∷ Some ModifierOrder ∷ Some Modifier ∷ Some Modifier ∷ Some Modifier ∷ Some Modifier ∷ Some Base ∷ Some Base ∷ Some Base ∷ Some
+    Base ∷ []
 name_faults = refl
 
 pub AESGCM-fault : first_name_fault (codes "Noise_XX_25519_AESGCM_SHA256") ≡ Some Algorithm
@@ -155,7 +157,8 @@ no_prefix = refl
 pub no_suffix : first_name_fault (codes "Noise_XX") ≡ Some Algorithm
 no_suffix = refl
 
-pub XXpsk4-named : map first_name_fault (in_name (codes "XXpsk4") ∷ in_name (codes "NN") ∷ in_name (codes "A1B2C3D4psk0+psk1+psk2+psk3+psk4+psk5+psk6+psk7+psk8") ∷ []) ≡ None ∷ None ∷ None ∷ []
+pub XXpsk4-named : map first_name_fault
+    (in_name (codes "XXpsk4") ∷ in_name (codes "NN") ∷ in_name (codes "A1B2C3D4psk0+psk1+psk2+psk3+psk4+psk5+psk6+psk7+psk8") ∷ []) ≡ None ∷ None ∷ None ∷ []
 XXpsk4-named = refl
 
 pub XXpsk3-psk8-name :

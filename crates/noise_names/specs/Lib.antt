@@ -9,4 +9,5 @@ pub mod Validity
 pub mod Overhead
 pub mod Checking
 pub mod Reading
+pub mod Facts
 pub mod Examples

@@ -1,5 +1,6 @@
 -- Protocol names and their faults (Noise, 8; modifiers, 8.1 and 9.4).
-use Rattle.std.specs.Prelude.{◌≡◌, ℕ, ◌+◌, ◌<◌, ◌==◌, Bool, true, false, not, ◌&&◌, ◌||◌, nat_lt, nat_le, List, [], ◌∷◌, ◌++◌, length, map, take, drop, codes, take_while, slice_index, bytes_eq, IsTrue, IsFalse}
+use Rattle.std.specs.Prelude.{◌≡◌, ℕ, ◌+◌, ◌<◌, ◌==◌, Bool, true, false, not, ◌&&◌, ◌||◌, nat_lt, nat_le, List, [], ◌∷◌, ◌++◌, length, map, take, drop, codes}
+use Rattle.std.specs.Prelude.{take_while, slice_index, bytes_eq, IsTrue, IsFalse}
 use Rattle.std.specs.List.{list_all, join_with_byte, starts_with, slice_split}
 use Rattle.std.specs.Bool.{nat_eq}
 use Rattle.noise_names.specs.declared.faults.NameFault.{NameFault}
@@ -18,6 +19,10 @@ is_upper b = nat_le 65 b && nat_le b 90
 
 abbrev pub is_base_byte : ℕ → Bool
 is_base_byte b = is_upper b || is_digit b
+
+-- the bytes of a pattern section: those of a base, + (43), and the letters of psk, which lie between k (107) and s (115)
+abbrev pub is_section_byte : ℕ → Bool
+is_section_byte b = is_base_byte b || (b == 43 || (nat_le 107 b && nat_le b 115))
 
 -- whether these bytes are a base: 1 to 8 upper-case letters and digits, the first a letter (8.1; the limit is this library's)
 abbrev pub is_base : List ℕ → Bool

@@ -1,5 +1,5 @@
 -- A handshake pattern as contracts see it (Noise, 7.1), and its places in order.
-use Rattle.std.specs.Prelude.{ℕ, ◌+◌, ◌==◌, Bool, List, [], ◌∷◌, ◌++◌, length, map, if◌then◌else◌}
+use Rattle.std.specs.Prelude.{ℕ, ◌+◌, ◌==◌, Bool, List, [], ◌∷◌, ◌++◌, length, map, take, if◌then◌else◌}
 use Rattle.std.specs.List.{list_any}
 use Rattle.noise_names.specs.declared.token.Role.{Role}
 use Rattle.noise_names.specs.declared.token.Role.TheVariants.{Initiator, Responder}
@@ -69,6 +69,12 @@ abbrev pub places_of : Plan → List Place
 places_of p =
     token_places Initiator 0 0 p.initiator ++ token_places Responder 0 0 p.responder
     ++ message_places Initiator 1 p.messages ++ transport_places p
+
+-- the places of the pre-messages and of the first n messages
+abbrev pub first_places : Plan → ℕ → List Place
+first_places p n =
+    token_places Initiator 0 0 p.initiator ++ token_places Responder 0 0 p.responder
+    ++ message_places Initiator 1 (take n p.messages)
 
 -- the places before a token: those of the pre-messages, of the messages before its own, and of the tokens in front of it
 abbrev pub places_before : Plan → List (List Token) → List Token → List Place

@@ -3,7 +3,8 @@ use Rattle.std.specs.Prelude.{ℕ, ◌-◌, nat_lt, not, List, length, map, take
 use Rattle.std.specs.List.{list_all}
 use Rattle.noise_names.specs.declared.faults.NameFault.{NameFault}
 use Rattle.noise_names.specs.declared.faults.NameFault.TheVariants.{Length, Prefix, Base, Modifier, ModifierOrder, Algorithm}
-use Rattle.noise_names.specs.Names.{Section, is_base, base_front, behind_base, pieces_of, is_modifier, digit_of, rises, prefix, suffix, section_part, algorithm_part}
+use Rattle.noise_names.specs.Names.{Section, is_base, base_front, behind_base, pieces_of, is_modifier, digit_of, rises, prefix, suffix, section_part}
+use Rattle.noise_names.specs.Names.{algorithm_part}
 
 -- the number of a modifier
 abbrev pub number_in : List ℕ → ℕ

@@ -1,13 +1,13 @@
 -- When a pattern is valid: five rules on what stands before a place (Noise, 7.3 and 9.3; the choice of the five is this library's).
-use Rattle.std.specs.Prelude.{◌≡◌, ℕ, Bool, true, false, not, ◌&&◌, ◌||◌, List, [], ◌∷◌, ◌++◌, if◌then◌else◌, IsTrue}
+use Rattle.std.specs.Prelude.{◌≡◌, ℕ, ◌+◌, Bool, true, false, not, ◌&&◌, ◌||◌, List, [], ◌∷◌, ◌++◌, length, if◌then◌else◌, IsTrue, Option, Some, None}
 use Rattle.std.specs.List.{list_any}
 use Rattle.noise_names.specs.declared.token.Role.{Role}
 use Rattle.noise_names.specs.declared.token.Role.TheVariants.{Initiator, Responder}
 use Rattle.noise_names.specs.declared.token.Token.{Token}
 use Rattle.noise_names.specs.declared.token.Token.TheVariants.{E, S, Ee, Es, Se, Ss, Psk}
 use Rattle.noise_names.specs.declared.faults.RuleFault.{RuleFault}
-use Rattle.noise_names.specs.Tokens.{same_role, same_token}
-use Rattle.noise_names.specs.Plan.{Plan, Step, does, payload, transport, Place, places_of}
+use Rattle.noise_names.specs.Tokens.{same_role, same_token, turn_from}
+use Rattle.noise_names.specs.Plan.{Plan, Step, does, payload, transport, Place, place, places_of, places_before}
 
 -- whether a place is that of token t
 abbrev pub is_at : Token → Step → Bool
@@ -95,6 +95,30 @@ pub record KeepsRules (earlier : List Place) (p : Place) : Type 0 where
   pub dh : IsTrue (dh_is_first earlier p.step)
   pub fresh_dh : IsTrue (comes_with (encrypts p.step) (dh_is_fresh earlier p.party))
   pub fresh_psk : IsTrue (comes_with (encrypts p.step) (psk_is_fresh earlier p.party))
+
+-- each token of the messages breaks none of them after the places before it
+abbrev pub TokensKeepRules : Plan → Type 0
+TokensKeepRules plan =
+    (before : List (List Token)) (front : List Token) (token : Token) (back : List Token) (after : List (List Token)) →
+    plan.messages ≡ before ++ (front ++ token ∷ back) ∷ after →
+    KeepsRules (places_before plan before front) (place (turn_from Initiator (length before)) (does token) (length before + 1) (length front))
+
+-- the fault of a place that breaks these rules, or else the next fault
+abbrev pub fault_or : List ℕ → Place → Option RuleFault → Option RuleFault
+fault_or [] p next = next
+fault_or (rule ∷ _) p next = Some (record { rule = rule; message = p.message; token = p.token })
+
+-- the first fault of the places after the earlier ones, where broken gives the rules that a place breaks after others
+abbrev pub first_fault_by : (List Place → Place → List ℕ) → List Place → List Place → Option RuleFault
+first_fault_by broken earlier [] = None
+first_fault_by broken earlier (p ∷ later) = fault_or (broken earlier p) p (first_fault_by broken (earlier ++ p ∷ []) later)
+
+unfoldable pub first_fault_from : List Place → List Place → Option RuleFault
+first_fault_from earlier places = first_fault_by broken_rules earlier places
+
+-- the first fault of a pattern: of the earliest place that breaks a rule the lowest rule that it breaks
+abbrev pub first_fault : Plan → Option RuleFault
+first_fault plan = first_fault_from [] (places_of plan)
 
 -- the fault is told of the earliest place that breaks a rule, with the lowest rule that is broken there
 pub record IsFirstFault (plan : Plan) (fault : RuleFault) : Type 0 where

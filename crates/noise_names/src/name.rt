@@ -11,6 +11,12 @@ use crate::{NameFault, PskPlaces};
 use arrayvec::ArrayVec;
 use std::marker::Model;
 
+// What every name begins with.
+const PREFIX: &[u8] = b"Noise_";
+
+// What every name ends with: its algorithms.
+const SUFFIX: &[u8] = b"_25519_ChaChaPoly_SHA256";
+
 /// A protocol name (Noise, 8): its base and psk places, which are all that differs among the names of this library.
 #[derive(Clone, Debug, Drop, PartialEq, Eq)]
 pub struct ProtocolName {
@@ -77,11 +83,10 @@ impl ProtocolName {
         ensures { result.items ≡ name_bytes self.now }
     {
         let mut out = ArrayVec::new();
-        out.try_extend_from_slice(b"Noise_").unwrap();
+        out.try_extend_from_slice(PREFIX).unwrap();
         out.try_extend_from_slice(&self.base).unwrap();
         push_modifiers(&mut out, self.places.numbers());
-        out.try_extend_from_slice(b"_25519_ChaChaPoly_SHA256")
-            .unwrap();
+        out.try_extend_from_slice(SUFFIX).unwrap();
         out
     }
 }
@@ -93,7 +98,7 @@ fn read_name(bytes: &[u8]) -> Result<ProtocolName, NameFault>
     if bytes.len() > 255 {
         return Err(NameFault::Length);
     }
-    let Some(behind) = bytes.strip_prefix(b"Noise_") else {
+    let Some(behind) = bytes.strip_prefix(PREFIX) else {
         return Err(NameFault::Prefix);
     };
     let (section, algorithm) = behind.split_at(section_len(behind));
@@ -108,7 +113,7 @@ fn read_name(bytes: &[u8]) -> Result<ProtocolName, NameFault>
 fn is_algorithm(bytes: &[u8]) -> bool
     ensures { result ≡ bytes_eq bytes.now suffix }
 {
-    bytes == b"_25519_ChaChaPoly_SHA256".as_slice()
+    bytes == SUFFIX
 }
 
 // How many bytes stand before the first `_`.

@@ -79,16 +79,29 @@ impl Model for Pattern {
 
     ghost Value = { Plan };
 
-    ghost view = { λ p. record { base = p.base.items; places = p.places; initiator = p.initiator.items; responder = p.responder.items; messages = p.messages.items } };
+    ghost view = { λ p. record {
+      base = p.base.items;
+      places = p.places;
+      initiator = p.initiator.items;
+      responder = p.responder.items;
+      messages = p.messages.items;
+    } };
 
-    ghost invariant = { λ p. IsPattern (record { base = p.base.items; places = p.places; initiator = p.initiator.items; responder = p.responder.items; messages = p.messages.items }) };
+    ghost invariant = { λ p. IsPattern
+        (record { base = p.base.items; places = p.places; initiator = p.initiator.items; responder = p.responder.items; messages = p.messages.items }) };
 
-    ghost inverse = { λ p. record { base = record { items = p.base }; places = p.places; initiator = record { items = p.initiator }; responder = record { items = p.responder }; messages = record { items = p.messages } } };
+    ghost inverse = { λ p. record {
+      base = record { items = p.base };
+      places = p.places;
+      initiator = record { items = p.initiator };
+      responder = record { items = p.responder };
+      messages = record { items = p.messages };
+    } };
 }
 
 impl Pattern {
     ghost use Rattle.noise_names.specs.Plan.{Plan, has_psk, pre_of};
-    ghost use Rattle.noise_names.specs.Limits.{IsPattern};
+    ghost use Rattle.noise_names.specs.Limits.{IsPattern, is_pre_message};
 
     // The pattern of these parts.
     pub(crate) fn of(
@@ -119,7 +132,6 @@ impl Pattern {
     /// The base of its name, 1 to 8 bytes.
     pub fn base(&self) -> &[u8]
         ensures same { result.now ≡ self.now.base }
-        ensures limits { IsPattern self.now }
     {
         &self.base
     }
@@ -127,7 +139,6 @@ impl Pattern {
     /// The places of its psk tokens.
     pub fn places(&self) -> &PskPlaces
         ensures same { result.now ≡ self.now.places }
-        ensures limits { IsPattern self.now }
     {
         &self.places
     }
@@ -135,7 +146,7 @@ impl Pattern {
     /// The pre-message of a party: nothing, `e`, `s`, or `e` and `s`.
     pub fn pre(&self, role: Role) -> &[Token]
         ensures same { result.now ≡ pre_of role self.now }
-        ensures limits { IsPattern self.now }
+        ensures kinds { IsTrue (is_pre_message (pre_of role self.now)) }
     {
         match role {
             Role::Initiator => &self.initiator,
@@ -174,6 +185,6 @@ impl Pattern {
     pub fn name(&self) -> ProtocolName
         ensures { result ≡ record { base = self.now.base; places = self.now.places } }
     {
-        ProtocolName::of(self.base(), self.places().copy())
+        ProtocolName::of(&self.base, self.places.copy())
     }
 }

@@ -1,6 +1,7 @@
 #![tactic(auto)]
 
-ghost use Rattle.std.specs.Prelude.{◌≡◌, ◌<◌, Some, slice_get, map, []};
+ghost use Rattle.std.specs.Prelude.{◌≡◌, ◌<◌, Some, None, slice_get, map, [], IfSome, IsFalse, MatchOption};
+ghost use Rattle.noise_names.specs.Plan.{has_psk};
 ghost use Rattle.noise_names.specs.Fundamental.{fundamentals, fundamental_of};
 
 use crate::{Message, Pattern, PskPlaces, Token};
@@ -8,15 +9,35 @@ use arrayvec::ArrayVec;
 
 /// The fundamental pattern of this base, such as `XX` (Noise, 7.4 and 7.5). None if the base is none of the fifteen.
 pub fn fundamental(base: &[u8]) -> Option<Pattern>
-    ensures { result ≡ fundamental_of base.now }
+    ensures same { result ≡ fundamental_of base.now }
+    ensures plain { IfSome result (λ pattern. IsFalse (has_psk pattern)) }
 {
-    for index in 0..15 {
-        let pattern = row(index);
-        if pattern.base() == base {
-            return Some(pattern);
-        }
+    fundamental_at(place_of(base)?)
+}
+
+// The place of the base in the list.
+#[tactic(auto, unfolding(crate::specs::Fundamental::fundamentals, crate::specs::Fundamental::fundamental_of))]
+fn place_of(base: &[u8]) -> Option<u8>
+    ensures { MatchOption result (fundamental_of base.now ≡ None) (λ place. slice_get fundamentals place ≡ fundamental_of base.now) }
+{
+    match base {
+        b"N" => Some(0),
+        b"K" => Some(1),
+        b"X" => Some(2),
+        b"NN" => Some(3),
+        b"NK" => Some(4),
+        b"NX" => Some(5),
+        b"KN" => Some(6),
+        b"KK" => Some(7),
+        b"KX" => Some(8),
+        b"XN" => Some(9),
+        b"XK" => Some(10),
+        b"XX" => Some(11),
+        b"IN" => Some(12),
+        b"IK" => Some(13),
+        b"IX" => Some(14),
+        _ => None,
     }
-    None
 }
 
 /// The fundamental pattern at a place of the list: the three one-way patterns, then the twelve interactive ones, in the
@@ -55,7 +76,8 @@ fn row(place: u8) -> Pattern
 
 // The fundamental pattern that has these parts.
 fn plain(base: &[u8], initiator: &[Token], responder: &[Token], messages: &[&[Token]]) -> Pattern
-    requires { fundamental_of base.now ≡ Some (record { base = base.now; places = []; initiator = initiator.now; responder = responder.now; messages = map (λ m. m.now) messages.now }) }
+    requires { fundamental_of base.now
+        ≡ Some (record { base = base.now; places = []; initiator = initiator.now; responder = responder.now; messages = map (λ m. m.now) messages.now }) }
     ensures { result ≡ record { base = base.now; places = []; initiator = initiator.now; responder = responder.now; messages = map (λ m. m.now) messages.now } }
 {
     let mut kept = ArrayVec::new();

@@ -1,6 +1,6 @@
 #![tactic(auto)]
 
-ghost use Rattle.std.specs.Prelude.{◌≡◌, ◌↔◌, ◌≤◌, ◌<◌, ◌==◌, ◌+◌, ◌++◌, ◌∷◌, List, length, IsTrue, IsOk, IfOk, IfErr, MatchResult, Some, None};
+ghost use Rattle.std.specs.Prelude.{◌≡◌, ◌↔◌, ◌≤◌, ◌==◌, length, IsOk, IfOk, IfErr, MatchResult, Some, None};
 
 use crate::seen::Seen;
 use crate::{Pattern, Role, RuleFault};
@@ -26,11 +26,9 @@ impl Model for ValidPattern {
 }
 
 impl ValidPattern {
-    ghost use Rattle.noise_names.specs.declared.token.Token.{Token};
-    ghost use Rattle.noise_names.specs.Tokens.{turn_from};
-    ghost use Rattle.noise_names.specs.Plan.{Place, does, place, places_of, places_before, is_one_way};
+    ghost use Rattle.noise_names.specs.Plan.{is_one_way};
     ghost use Rattle.noise_names.specs.Overhead.{overhead_of};
-    ghost use Rattle.noise_names.specs.Validity.{IsValid, KeepsRules};
+    ghost use Rattle.noise_names.specs.Validity.{IsValid, TokensKeepRules};
 
     /// The pattern.
     pub fn pattern(&self) -> &Pattern
@@ -40,11 +38,10 @@ impl ValidPattern {
         &self.pattern
     }
 
-    /// That a valid pattern keeps the five rules at each of its places, and what stands before a token of a message. It
-    /// does nothing: its contract is the law.
+    /// That each token of a valid pattern's messages keeps the five rules after the places before it. It does nothing: its
+    /// contract is the law.
     pub fn keeps_rules(&self)
-        ensures places { (earlier : List Place) (at : Place) (later : List Place) → places_of self.now ≡ earlier ++ at ∷ later → KeepsRules earlier at }
-        ensures tokens { (before : List (List Token)) (front : List Token) (token : Token) (back : List Token) (after : List (List Token)) → self.now.messages ≡ before ++ (front ++ token ∷ back) ∷ after → KeepsRules (places_before self.now before front) (place (turn_from Role.Initiator (length before)) (does token) (length before + 1) (length front)) }
+        ensures { TokensKeepRules self.now }
     {
         let _ = &self.pattern;
     }
@@ -62,7 +59,7 @@ impl ValidPattern {
         requires last { message ≤ length self.now.messages }
         ensures { result ≡ overhead_of self.now message }
     {
-        let index = message as usize - 1;
+        let index = usize::from(message) - 1;
         let messages = self.pattern.messages();
         let mut seen = Seen::new();
         seen.add_tokens(Role::Initiator, self.pattern.pre(Role::Initiator));
@@ -73,17 +70,15 @@ impl ValidPattern {
 }
 
 impl Pattern {
-    ghost use Rattle.noise_names.specs.Validity.{IsValid, IsFirstFault};
-    ghost use Rattle.noise_names.specs.Checking.{first_fault};
-    ghost use Rattle.noise_names.specs.Limits.{IsPattern};
+    ghost use Rattle.noise_names.specs.Validity.{IsValid, IsFirstFault, first_fault};
 
     /// The pattern as a valid one, or the first place that breaks a rule, with the lowest rule that it breaks. At a fault
     /// the pattern is gone: keep a clone where it is needed again.
     pub fn check(self) -> Result<ValidPattern, RuleFault>
-        ensures valid { IsOk result ↔ IsValid self }
+        ensures first { MatchResult result (λ _. first_fault self ≡ None) (λ fault. first_fault self ≡ Some fault) }
         ensures same { IfOk result (λ checked. checked ≡ self) }
+        ensures valid { IsOk result ↔ IsValid self }
         ensures fault { IfErr result (λ fault. IsFirstFault self fault) }
-        ensures message { IfErr result (λ fault. 1 ≤ fault.message) }
     {
         match self.walk() {
             Ok(()) => Ok(ValidPattern { pattern: self }),
@@ -93,8 +88,7 @@ impl Pattern {
 
     // Walks over the places as far as the first fault.
     fn walk(&self) -> Result<(), RuleFault>
-        ensures limits { IsPattern self.now }
-        ensures first { MatchResult result (λ _. first_fault self.now ≡ None) (λ fault. first_fault self.now ≡ Some fault) }
+        ensures { MatchResult result (λ _. first_fault self.now ≡ None) (λ fault. first_fault self.now ≡ Some fault) }
     {
         let messages = self.messages();
         let transport = messages.len() as u8 + 1;

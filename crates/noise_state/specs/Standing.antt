@@ -1,5 +1,6 @@
 -- What a symmetric state (Noise 5.2) stands for.
-use Rattle.std.specs.Prelude.{◌≡◌, ℕ, Bool, is_some}
+use Rattle.std.specs.Prelude.{◌≡◌, ℕ, Bool, List, Option, is_some}
+use Rattle.std.proofs.Common.{ap}
 use Rattle.noise_state.specs.declared.symmetric.SymmetricState.{SymmetricState}
 use Rattle.noise_state.specs.History.{History, chaining_key, hash, cipher_key, nonce}
 
@@ -17,3 +18,10 @@ pub record StateStands (s : SymmetricState) (r : History) : Type 0 where
   pub hash_is : s.hash ≡ hash r
   pub key_is : s.cipher.key ≡ cipher_key r
   pub nonce_is : s.cipher.nonce ≡ nonce r
+
+-- its key and nonce are the history's
+pub keyed-is : (s : SymmetricState) (r : History) → StateStands s r → keyed s ≡ is_some (cipher_key r)
+keyed-is s r h = ap (λ (k : Option (List ℕ)). is_some k) h.key_is
+
+pub nonce_now-is : (s : SymmetricState) (r : History) → StateStands s r → nonce_now s ≡ nonce r
+nonce_now-is s r h = h.nonce_is

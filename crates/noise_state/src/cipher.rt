@@ -1,6 +1,6 @@
 //! CipherState (Noise 5.1, 11.3): a key, or none, and the nonce that counts its use.
 
-ghost use Rattle.std.specs.Prelude.{◌≡◌, ◌≤◌, ◌<◌, ◌-◌, ◌+◌, ◌^◌, ◌++◌, ◌↔◌, ℕ, List, length, take, drop, is_some, IsOk, IsSome, IfOk, IfErr, IfSome, IfNone, OnOk, OnErr, Some, None};
+ghost use Rattle.std.specs.Prelude.{◌≡◌, ◌≤◌, ◌<◌, ◌-◌, ◌+◌, ◌^◌, ◌++◌, ◌↔◌, ℕ, List, length, take, drop, is_some, IsTrue, IsOk, IsSome, IsNone, IfOk, IfErr, IfSome, IfNone, OnOk, OnErr, Some, None};
 ghost use Rattle.std.specs.Option.{option_map};
 ghost use Rattle.noise_aead.specs.Sealing.{sealed, nonce_of, rekeyed};
 ghost use Rattle.noise_state.specs.History.{piece_under};
@@ -30,9 +30,9 @@ pub enum CipherFault {
 /// A key of 32 bytes, or none, and the nonce of its next use (Noise 5.1). Without a key a text
 /// passes as it is.
 ///
-/// It can be copied, since a symmetric state is. A copy must not be used beside the original: both
-/// would encrypt at the same nonce, and then the cipher protects neither text.
-#[derive(Clone, Copy)]
+/// It can't be copied: two states with one key would encrypt at the same nonce, and then the cipher
+/// protects neither text.
+#[derive(Drop)]
 pub struct CipherState {
     key: Option<[u8; 32]>,
     nonce: u64,
@@ -60,6 +60,16 @@ impl CipherState {
         CipherState {
             key: Some(key),
             nonce: 0,
+        }
+    }
+
+    // The same state again, for the trial of a symmetric state.
+    pub(crate) fn for_trial(&self) -> CipherState
+        ensures { result ≡ self.now }
+    {
+        CipherState {
+            key: self.key,
+            nonce: self.nonce,
         }
     }
 
@@ -137,6 +147,24 @@ impl CipherState {
         Ok(len + TAG_LEN)
     }
 
+    // Why so many bytes are not decrypted, whatever they are.
+    pub(crate) fn decrypt_fault(&self, len: usize) -> Option<CipherFault>
+        ensures none { IsNone result ↔ (HasNonce (keyed_in self.now) (nonce_in self.now)
+            × (len ≤ 65535) × (IsTrue (keyed_in self.now) → 16 ≤ len)) }
+        ensures refused { IfSome result (λ fault.
+            DecryptRefused (keyed_in self.now) (nonce_in self.now) len fault) }
+    {
+        if self.has_key() && self.nonce == RESERVED_NONCE {
+            Some(CipherFault::Exhausted)
+        } else if len > MAX_LEN {
+            Some(CipherFault::TooLong)
+        } else if self.has_key() && len < TAG_LEN {
+            Some(CipherFault::Short)
+        } else {
+            None
+        }
+    }
+
     /// Decrypts `buf` in place (DecryptWithAd). With a key its last 16 bytes are the tag, which
     /// stay as they are, and the nonce rises by one. The answer is the length of the text, which
     /// stands at the front.
@@ -161,22 +189,12 @@ impl CipherState {
         ensures unchanged { OnErr result (buf.new ≡ buf.old) }
         ensures same { OnErr result (self.new ≡ self.old) }
     {
+        if let Some(fault) = self.decrypt_fault(buf.len()) {
+            return Err(fault);
+        }
         let Some(key) = self.key else {
-            return if buf.len() > MAX_LEN {
-                Err(CipherFault::TooLong)
-            } else {
-                Ok(buf.len())
-            };
+            return Ok(buf.len());
         };
-        if self.nonce == RESERVED_NONCE {
-            return Err(CipherFault::Exhausted);
-        }
-        if buf.len() > MAX_LEN {
-            return Err(CipherFault::TooLong);
-        }
-        if buf.len() < TAG_LEN {
-            return Err(CipherFault::Short);
-        }
         let Some(len) = open(&key, self.nonce, ad, buf) else {
             return Err(CipherFault::Tag);
         };

@@ -34,10 +34,8 @@ fn hash_of_both(hash: &[u8; 32], text: &[u8]) -> [u8; 32]
 /// The state of a handshake's key schedule (Noise 5.2). It stands for a history: the protocol name,
 /// and what was mixed and encrypted since.
 ///
-/// It can be copied, so that a handshake can read a message in a copy, and put the copy in place of
-/// the original only once the whole message was accepted. A copy must not be used beside the
-/// original: both would encrypt at the same nonce, and then the cipher protects neither text.
-#[derive(Clone, Copy)]
+/// It can't be copied, but for the trial of a message (`for_trial`).
+#[derive(Drop)]
 pub struct SymmetricState {
     chaining_key: [u8; 32],
     hash: [u8; 32],
@@ -59,6 +57,21 @@ impl SymmetricState {
             chaining_key: hash,
             hash,
             cipher: CipherState::empty(),
+        }
+    }
+
+    /// The same state again, to read or write one message in: it takes the place of the original once
+    /// the whole message has succeeded, and is dropped otherwise.
+    ///
+    /// It isn't a second state to go on with. Two states of one key encrypt at the same nonce, and
+    /// then the cipher protects neither text.
+    pub fn for_trial(&self) -> SymmetricState
+        ensures { result ≡ self.now }
+    {
+        SymmetricState {
+            chaining_key: self.chaining_key,
+            hash: self.hash,
+            cipher: self.cipher.for_trial(),
         }
     }
 
@@ -117,14 +130,11 @@ impl SymmetricState {
             (take n buf.new ≡ piece r (take len buf.old))
             × StateStands self.new (and_then r (Part (piece r (take len buf.old))))) }
         ensures beyond { IfOk result (λ n. drop n buf.new ≡ drop n buf.old) }
-        ensures err { (r : History) → StateStands self.old r
-            → OnErr result (StateStands self.new r) }
         ensures unchanged { OnErr result (buf.new ≡ buf.old) }
         ensures same { OnErr result (self.new ≡ self.old) }
         ensures key { keyed self.new ≡ keyed self.old }
         ensures counted { OnOk result (
             nonce_now self.new ≡ next_nonce (keyed self.old) (nonce_now self.old)) }
-        ensures nonce { nonce_now self.new ≤ nonce_now self.old + 1 }
     {
         let sent = self.cipher.encrypt(&self.hash, buf, len)?;
         self.hash = hash_of_both(&self.hash, &buf[..sent]);
@@ -137,25 +147,24 @@ impl SymmetricState {
     ///
     /// At an `Err` nothing has changed.
     pub fn decrypt_and_hash(&mut self, buf: &mut [u8]) -> Result<usize, CipherFault>
-        ensures accepted { OnOk result (HasNonce (keyed self.old) (nonce_now self.old)
-            × (length buf.old ≤ 65535)) }
+        ensures accepts { (r : History) → StateStands self.old r → IsOk result ↔ (
+            (nonce r < 2 ^ 64 - 1) × (length buf.old ≤ 65535)
+            × ((plain : List ℕ) × (buf.old ≡ piece r plain))) }
         ensures refused { IfErr result (λ fault.
             DecryptRefused (keyed self.old) (nonce_now self.old) (length buf.old) fault) }
-        ensures range { IfOk result (λ n. n ≤ length buf.new) }
         ensures text { IfOk result (λ n. sealed_len (keyed self.old) n ≡ length buf.old) }
         ensures ok { (r : History) → StateStands self.old r → IfOk result (λ n.
             (buf.old ≡ piece r (take n buf.new)) × StateStands self.new (and_then r (Part buf.old))) }
         ensures beyond { IfOk result (λ n. drop n buf.new ≡ drop n buf.old) }
-        ensures err { (r : History) → StateStands self.old r
-            → nonce r < 2 ^ 64 - 1 → length buf.old ≤ 65535 → OnErr result (
-            ((plain : List ℕ) → buf.old ≡ piece r plain → ⊥) × StateStands self.new r) }
         ensures unchanged { OnErr result (buf.new ≡ buf.old) }
         ensures same { OnErr result (self.new ≡ self.old) }
         ensures key { keyed self.new ≡ keyed self.old }
         ensures counted { OnOk result (
             nonce_now self.new ≡ next_nonce (keyed self.old) (nonce_now self.old)) }
-        ensures nonce { nonce_now self.new ≤ nonce_now self.old + 1 }
     {
+        if let Some(fault) = self.cipher.decrypt_fault(buf.len()) {
+            return Err(fault);
+        }
         let hash = hash_of_both(&self.hash, buf);
         let len = self.cipher.decrypt(&self.hash, buf)?;
         self.hash = hash;

@@ -5,7 +5,7 @@ use Rattle.std.specs.List.{All, starts_with}
 use Rattle.std.proofs.lemmas.List.{append_cancel_left}
 use Rattle.hex.specs.Hex.{encode_lower}
 use Rattle.noise_names.specs.declared.token.Role.{Role}
-use Rattle.noise_handshake.specs.declared.table_keys.Entry.{Entry}
+use Rattle.noise_handshake.specs.Table.{TableEntry}
 use Rattle.noise_handshake.specs.Table as Tables
 use Rattle.noise_tool.specs.VectorFile.{AreKeys, IsEntry}
 use Rattle.noise_tool.specs.VectorText.{answer_words, key_word, key_words, line, lines_of, own_word, party_text, role_word}
@@ -25,13 +25,13 @@ lacks-key_words e s he hs =
 
 -- ---- an answer's line
 
-lacks-answer_keys : (entry : Entry) → IsEntry entry → lacks 10 (encode_lower entry.remote ++ 32 ∷ encode_lower entry.answer) ≡ true
+lacks-answer_keys : (entry : TableEntry) → IsEntry entry → lacks 10 (encode_lower entry.remote ++ 32 ∷ encode_lower entry.answer) ≡ true
 lacks-answer_keys entry h =
     lacks-append 10 (encode_lower entry.remote) (32 ∷ encode_lower entry.answer)
     (lacks-encode_lower 10 entry.remote (lit< tt) h.0.1) (lacks-encode_lower 10 entry.answer (lit< tt) h.1.1)
 
 -- which has no line feed
-pub lacks-answer_words : (entry : Entry) → IsEntry entry → lacks 10 (answer_words entry) ≡ true
+pub lacks-answer_words : (entry : TableEntry) → IsEntry entry → lacks 10 (answer_words entry) ≡ true
 lacks-answer_words entry h =
     lacks-append 10 (own_word entry.own) (32 ∷ (encode_lower entry.remote ++ 32 ∷ encode_lower entry.answer))
     (own_word-plain entry.own).0 (lacks-answer_keys entry h)
@@ -41,7 +41,7 @@ abbrev pub Splits : List ℕ → List ℕ → List ℕ → Type 0
 Splits text first behind = (b h : List ℕ) → lacks 32 b ≡ true → text ≡ b ++ 32 ∷ h → (first ≡ b) × (behind ≡ h)
 
 -- the keys behind the name of the key pair
-pub answer-keys : (line front rest own keys : List ℕ) (entry : Entry) → front ≡ codes "answer " → line ≡ front ++ rest → Splits rest own keys
+pub answer-keys : (line front rest own keys : List ℕ) (entry : TableEntry) → front ≡ codes "answer " → line ≡ front ++ rest → Splits rest own keys
     → line ≡ answer_words entry → keys ≡ encode_lower entry.remote ++ 32 ∷ encode_lower entry.answer
 answer-keys line front rest own keys entry front_is split every e =
     let whole : line ≡ codes "answer " ++ rest = split ∙ ap (λ (t : List ℕ). t ++ rest) front_is in

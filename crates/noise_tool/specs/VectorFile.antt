@@ -5,7 +5,7 @@ use Rattle.noise_names.specs.Fundamental.{fundamental_of}
 use Rattle.noise_names.specs.Limits.{IsPattern}
 use Rattle.noise_names.specs.Names.{IsSection, Section}
 use Rattle.noise_names.specs.Plan.{Plan}
-use Rattle.noise_handshake.specs.declared.table_keys.Entry.{Entry}
+use Rattle.noise_handshake.specs.Table.{TableEntry}
 use Rattle.noise_tool.specs.Cuts.{AreCuts}
 use Rattle.noise_tool.specs.OwnPattern.{HasName, pattern_of}
 use Rattle.noise_tool.specs.VectorText.{text_of}
@@ -30,7 +30,7 @@ abbrev pub ArePsks : List (List ℕ) → Type 0
 ArePsks psks = (length psks ≤ 9) × All IsKey psks
 
 -- the remote public key and the answer of a table's entry
-abbrev pub IsEntry : Entry → Type 0
+abbrev pub IsEntry : TableEntry → Type 0
 IsEntry entry = IsKey entry.remote × IsKey entry.answer
 
 -- the keys of a party; a table has at most 8 entries

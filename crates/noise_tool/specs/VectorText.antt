@@ -9,7 +9,7 @@ use Rattle.noise_names.specs.Plan.{Plan}
 use Rattle.noise_names.specs.Text as PatternText
 use Rattle.noise_handshake.specs.declared.keys.Own.{Own}
 use Rattle.noise_handshake.specs.declared.keys.Own.TheVariants.{Ephemeral, Static}
-use Rattle.noise_handshake.specs.declared.table_keys.Entry.{Entry}
+use Rattle.noise_handshake.specs.Table.{TableEntry}
 use Rattle.noise_tool.specs.HexWord.{hex_of}
 use Rattle.noise_tool.specs.declared.file_keys.FileKeys.{FileKeys}
 use Rattle.noise_tool.specs.declared.file_keys.FileKeys.TheVariants.{Xor, Table}
@@ -55,7 +55,7 @@ block_text (Some pattern) rest = PatternText.text_of pattern ++ line (codes "end
 abbrev pub psk_words : List ℕ → List ℕ
 psk_words psk = codes "psk " ++ encode_lower psk
 
-abbrev pub answer_words : Entry → List ℕ
+abbrev pub answer_words : TableEntry → List ℕ
 answer_words a = codes "answer " ++ (own_word a.own ++ 32 ∷ (encode_lower a.remote ++ 32 ∷ encode_lower a.answer))
 
 -- a party's line, and the answers of its table

@@ -2,25 +2,24 @@
 
 ghost use Rattle.std.specs.Prelude.{◌<◌, length};
 
-use crate::section::parse_section;
+use super::read::{first_word, is_pre_message, read_arrow, read_heading};
 use crate::{ProtocolName, Role, TextFault, TextFaultKind, Token};
 use arrayvec::ArrayVec;
 
 // The first fault of a text that spells no pattern: its lines are judged in order, and after them the whole. Where each line
 // is right, and the modifiers too, only the base is left to be wrong: it is that of another fundamental pattern.
 pub(crate) fn first_fault(text: &[u8]) -> TextFault {
-    if text.is_empty() {
-        return fault(1, TextFaultKind::Heading);
-    }
-    let heading = first_line(text);
-    let Some(name) = read_heading(heading.bytes) else {
+    let Some((name, behind)) = read_heading(text) else {
         return fault(1, TextFaultKind::Heading);
     };
-    if !heading.ended {
-        return fault(1, TextFaultKind::Ending);
-    }
-    let mut judged = Judged::new(&name, heading.behind);
-    let mut rest = heading.behind;
+    let Some(lines) = behind.strip_prefix(b"\n") else {
+        return match behind {
+            [] => fault(1, TextFaultKind::Ending),
+            _ => fault(1, TextFaultKind::Heading),
+        };
+    };
+    let mut judged = Judged::new(&name, lines);
+    let mut rest = lines;
     let mut number: usize = 2;
     while !rest.is_empty() {
         let line = first_line(rest);
@@ -68,14 +67,6 @@ fn first_line(text: &[u8]) -> Line<'_>
     }
 }
 
-// The name that a heading gives.
-fn read_heading(bytes: &[u8]) -> Option<ProtocolName> {
-    match parse_section(bytes.strip_suffix(b":")?) {
-        Ok(name) => Some(name),
-        Err(_) => None,
-    }
-}
-
 // The line that ends the pre-messages.
 fn is_dots(bytes: &[u8]) -> bool {
     bytes == b"  ...".as_slice()
@@ -120,7 +111,7 @@ impl Judged<'_> {
         if is_dots(bytes) {
             return self.judge_dots();
         }
-        let Some((role, list)) = split_arrow(bytes) else {
+        let Some((role, list)) = read_arrow(bytes) else {
             return Some(TextFaultKind::Arrow);
         };
         let Some(words) = Words::read(list) else {
@@ -146,7 +137,7 @@ impl Judged<'_> {
             Role::Initiator => self.initiator || self.responder,
             Role::Responder => self.responder,
         };
-        if stands || !words.are_pre_message() {
+        if stands || !is_pre_message(&words.first) {
             return Some(TextFaultKind::PreMessage);
         }
         match role {
@@ -190,15 +181,6 @@ impl Judged<'_> {
     }
 }
 
-// The party of a line, and the list of its tokens.
-fn split_arrow(bytes: &[u8]) -> Option<(Role, &[u8])> {
-    if let Some(list) = bytes.strip_prefix(b"  -> ") {
-        return Some((Role::Initiator, list));
-    }
-    let list = bytes.strip_prefix(b"  <- ")?;
-    Some((Role::Responder, list))
-}
-
 // The tokens of a line: the first ten, whether there are more, and how many of all are no psk, up to 255.
 #[derive(Drop)]
 struct Words {
@@ -208,7 +190,7 @@ struct Words {
 }
 
 impl Words {
-    // The tokens of a list. A token has no comma, so it ends where the first comma stands.
+    // The tokens of a list.
     fn read(list: &[u8]) -> Option<Words> {
         let mut words = Words {
             first: ArrayVec::new(),
@@ -217,9 +199,8 @@ impl Words {
         };
         let mut left = list;
         loop {
-            let len = left.iter().take_while(|b| **b != b',').count();
-            let (word, behind) = left.split_at(len);
-            words.add(Token::named(word)?);
+            let (token, behind) = first_word(left)?;
+            words.add(token);
             if behind.is_empty() {
                 return Some(words);
             }
@@ -236,13 +217,6 @@ impl Words {
         } else {
             self.first.push(token);
         }
-    }
-
-    fn are_pre_message(&self) -> bool {
-        matches!(
-            self.first.as_slice(),
-            [Token::E] | [Token::S] | [Token::E, Token::S]
-        )
     }
 
     // Whether a psk stands in front, or at the end, exactly if it has to, and nowhere else.

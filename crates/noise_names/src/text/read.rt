@@ -1,9 +1,11 @@
 #![tactic(auto)]
 
-ghost use Rattle.std.specs.Prelude.{◌≡◌, ◌↔◌, ◌≤◌, ◌<◌, ◌+◌, ◌++◌, ◌==◌, ℕ, List, [], ◌∷◌, Some, None, IfSome, MatchOption, IsTrue, IsFalse, not, codes, false, length, take_while, map};
+ghost use Rattle.std.specs.Prelude.{◌≡◌, ◌↔◌, ◌≤◌, ◌<◌, ◌+◌, ◌++◌, ◌==◌, ℕ, List, [], ◌∷◌, Some, None, IfSome, IfNone, MatchOption, IsTrue, IsFalse, not};
+ghost use Rattle.std.specs.Prelude.{codes, false, length, take_while, map};
 ghost use Rattle.std.specs.List.{list_any, list_all};
 ghost use Rattle.arrayvec.specs.ArrayVec.{array_vec_len};
 ghost use Rattle.noise_names.specs.declared.token.Token.{Token};
+ghost use Rattle.noise_names.specs.declared.token.Role.{Role};
 ghost use Rattle.noise_names.specs.declared.token.Role.TheVariants.{Initiator};
 ghost use Rattle.noise_names.specs.Tokens.{is_psk, own_tokens};
 ghost use Rattle.noise_names.specs.Plan.{Plan, plain_of, has_psk};
@@ -24,7 +26,8 @@ pub(crate) fn read(text: &[u8]) -> Option<Pattern>
     ensures spelled { IfSome result (λ pattern. Spells text.now pattern) }
     ensures every { (pattern : Plan) → Spells text.now pattern → result ≡ Some pattern }
 {
-    let (name, lines) = read_heading(text)?;
+    let (name, behind) = read_heading(text)?;
+    let lines = behind.strip_prefix(b"\n")?;
     let plain = read_plain(name.base(), lines)?;
     match Pattern::with_psks(&plain, name.places()) {
         Ok(pattern) => {
@@ -38,15 +41,16 @@ pub(crate) fn read(text: &[u8]) -> Option<Pattern>
     }
 }
 
-// The name that a heading gives, and the lines behind it.
-fn read_heading(text: &[u8]) -> Option<(ProtocolName, &[u8])>
+// The name that a heading gives, and what stands behind its colon.
+pub(super) fn read_heading(text: &[u8]) -> Option<(ProtocolName, &[u8])>
     ensures section { IfSome result (λ r. IsSection r.0) }
-    ensures every { (s : Section) (lines : List ℕ) → IsSection s → text.now ≡ line (section_bytes s.base s.places ++ codes ":") ++ lines → MatchOption result (Unit {0} → ⊥) (λ r. (r.0 ≡ s) × (r.1.now ≡ lines)) }
+    ensures every { (s : Section) (behind : List ℕ) → IsSection s → text.now ≡ (section_bytes s.base s.places ++ codes ":") ++ behind
+        → MatchOption result (Unit {0} → ⊥) (λ r. (r.0 ≡ s) × (r.1.now ≡ behind)) }
 {
-    let (section, behind) = text.split_at(section_len(text));
-    let lines = behind.strip_prefix(b":\n")?;
+    let (section, colon) = text.split_at(section_len(text));
+    let behind = colon.strip_prefix(b":")?;
     match parse_section(section) {
-        Ok(name) => Some((name, lines)),
+        Ok(name) => Some((name, behind)),
         Err(_) => None,
     }
 }
@@ -62,7 +66,8 @@ fn section_len(text: &[u8]) -> usize
 fn read_plain(base: &[u8], lines: &[u8]) -> Option<Pattern>
     requires { IsTrue (is_base base.now) }
     ensures plain { IfSome result (λ q. has_psk q ≡ false) }
-    ensures every { (p : Plan) → IsPattern p → p.base ≡ base.now → lines.now ≡ pre_lines p.initiator p.responder ++ message_lines Initiator p.messages → result ≡ Some (plain_of p) }
+    ensures every { (p : Plan) → IsPattern p → p.base ≡ base.now → lines.now ≡ pre_lines p.initiator p.responder ++ message_lines Initiator p.messages
+        → result ≡ Some (plain_of p) }
 {
     match fundamental(base) {
         Some(known) => Some(known),
@@ -75,7 +80,8 @@ fn read_lines(base: &[u8], lines: &[u8]) -> Option<Pattern>
     requires base { IsTrue (is_base base.now) }
     requires unknown { fundamental_of base.now ≡ None }
     ensures plain { IfSome result (λ q. has_psk q ≡ false) }
-    ensures every { (p : Plan) → IsPattern p → p.base ≡ base.now → lines.now ≡ pre_lines p.initiator p.responder ++ message_lines Initiator p.messages → result ≡ Some (plain_of p) }
+    ensures every { (p : Plan) → IsPattern p → p.base ≡ base.now → lines.now ≡ pre_lines p.initiator p.responder ++ message_lines Initiator p.messages
+        → result ≡ Some (plain_of p) }
 {
     let (initiator, responder, lines) = read_pre_messages(lines);
     let messages = read_messages(lines);
@@ -92,7 +98,8 @@ fn are_pre_messages(initiator: &[Token], responder: &[Token]) -> bool
     is_pre_message(initiator) && is_pre_message(responder)
 }
 
-fn is_pre_message(tokens: &[Token]) -> bool
+// Whether these are the tokens of a pre-message.
+pub(super) fn is_pre_message(tokens: &[Token]) -> bool
     ensures { result ≡ is_pre_message tokens.now }
 {
     matches!(tokens, [] | [Token::E] | [Token::S] | [Token::E, Token::S])
@@ -100,7 +107,9 @@ fn is_pre_message(tokens: &[Token]) -> bool
 
 // The pre-messages, empty where no line ends them, and the lines behind them.
 fn read_pre_messages(lines: &[u8]) -> (ArrayVec<Token, 8>, ArrayVec<Token, 8>, &[u8])
-    ensures { (i : List Token) (r : List Token) (ms : List (List Token)) → IsTrue (is_pre_message i) → IsTrue (is_pre_message r) → IsTrue (list_all has_few_tokens ms) → lines.now ≡ pre_lines i r ++ message_lines Initiator ms → (result.0.items ≡ i) × (result.1.items ≡ r) × (result.2.now ≡ message_lines Initiator ms) }
+    ensures { (i : List Token) (r : List Token) (ms : List (List Token)) → IsTrue (is_pre_message i) → IsTrue (is_pre_message r)
+        → IsTrue (list_all has_few_tokens ms) → lines.now ≡ pre_lines i r ++ message_lines Initiator ms
+        → (result.0.items ≡ i) × (result.1.items ≡ r) × (result.2.now ≡ message_lines Initiator ms) }
 {
     let (initiator, behind) = read_pre_message(Role::Initiator, lines);
     let (responder, behind) = read_pre_message(Role::Responder, behind);
@@ -112,7 +121,8 @@ fn read_pre_messages(lines: &[u8]) -> (ArrayVec<Token, 8>, ArrayVec<Token, 8>, &
 
 // The tokens of the party's line, none if this is no such line, and the lines behind it.
 fn read_pre_message(role: Role, lines: &[u8]) -> (ArrayVec<Token, 8>, &[u8])
-    ensures there { (t : Token) (ts : List Token) (more : List ℕ) → length (own_tokens (t ∷ ts)) ≤ 8 → lines.now ≡ token_line role (t ∷ ts) ++ more → (result.0.items ≡ own_tokens (t ∷ ts)) × (result.1.now ≡ more) }
+    ensures there { (t : Token) (ts : List Token) (more : List ℕ) → length (own_tokens (t ∷ ts)) ≤ 8 → lines.now ≡ token_line role (t ∷ ts) ++ more
+        → (result.0.items ≡ own_tokens (t ∷ ts)) × (result.1.now ≡ more) }
     ensures absent { ((rest : List ℕ) → lines.now ≡ codes "  " ++ (arrow_of role ++ rest) → ⊥) → (result.0.items ≡ []) × (result.1.now ≡ lines.now) }
 {
     match read_line(role, lines) {
@@ -126,7 +136,8 @@ fn read_messages(lines: &[u8]) -> ArrayVec<Message, 8>
     ensures plain { list_any (λ tokens. list_any is_psk tokens) result.items ≡ false }
     ensures sizes { IsTrue (list_all has_few_tokens result.items) }
     ensures few { array_vec_len result ≤ 8 }
-    ensures every { (ms : List (List Token)) → length ms ≤ 8 → IsTrue (list_all has_few_tokens ms) → lines.now ≡ message_lines Initiator ms → result.items ≡ map own_tokens ms }
+    ensures every { (ms : List (List Token)) → length ms ≤ 8 → IsTrue (list_all has_few_tokens ms) → lines.now ≡ message_lines Initiator ms
+        → result.items ≡ map own_tokens ms }
 {
     let mut messages = ArrayVec::new();
     let mut role = Role::Initiator;
@@ -147,21 +158,36 @@ fn read_line(role: Role, lines: &[u8]) -> Option<(ArrayVec<Token, 8>, &[u8])>
     ensures plain { IfSome result (λ r. list_any is_psk r.0.items ≡ false) }
     ensures shorter { IfSome result (λ r. length r.1.now < length lines.now) }
     ensures starts { IfSome result (λ r. (rest : List ℕ) × (lines.now ≡ codes "  " ++ (arrow_of role ++ rest))) }
-    ensures every { (t : Token) (ts : List Token) (more : List ℕ) → length (own_tokens (t ∷ ts)) ≤ 8 → lines.now ≡ token_line role (t ∷ ts) ++ more → MatchOption result (Unit {0} → ⊥) (λ r. (r.0.items ≡ own_tokens (t ∷ ts)) × (r.1.now ≡ more)) }
+    ensures every { (t : Token) (ts : List Token) (more : List ℕ) → length (own_tokens (t ∷ ts)) ≤ 8 → lines.now ≡ token_line role (t ∷ ts) ++ more
+        → MatchOption result (Unit {0} → ⊥) (λ r. (r.0.items ≡ own_tokens (t ∷ ts)) × (r.1.now ≡ more)) }
 {
-    let list = lines
-        .strip_prefix(b"  ")?
-        .strip_prefix(role.arrow())?
-        .strip_prefix(b" ")?;
+    let (party, list) = read_arrow(lines)?;
+    if party != role {
+        return None;
+    }
     let (tokens, behind) = read_words(list);
     Some((tokens, behind.strip_prefix(b"\n")?))
+}
+
+// The party whose arrow stands at the front of a line, and the list behind the arrow.
+pub(super) fn read_arrow(line: &[u8]) -> Option<(Role, &[u8])>
+    ensures front { IfSome result (λ r. line.now ≡ codes "  " ++ (arrow_of r.0 ++ (codes " " ++ r.1.now))) }
+    ensures shorter { IfSome result (λ r. length r.1.now < length line.now) }
+    ensures none { IfNone result ((role : Role) (list : List ℕ) → line.now ≡ codes "  " ++ (arrow_of role ++ (codes " " ++ list)) → ⊥) }
+{
+    if let Some(list) = line.strip_prefix(b"  -> ") {
+        return Some((Role::Initiator, list));
+    }
+    let list = line.strip_prefix(b"  <- ")?;
+    Some((Role::Responder, list))
 }
 
 // The tokens other than psk of a list, at most 8, and what stands behind the list.
 fn read_words(list: &[u8]) -> (ArrayVec<Token, 8>, &[u8])
     ensures plain { list_any is_psk result.0.items ≡ false }
     ensures shorter { length result.1.now ≤ length list.now }
-    ensures every { (t : Token) (ts : List Token) (more : List ℕ) → length (own_tokens (t ∷ ts)) ≤ 8 → list.now ≡ words (t ∷ ts) ++ 10 ∷ more → (result.0.items ≡ own_tokens (t ∷ ts)) × (result.1.now ≡ 10 ∷ more) }
+    ensures every { (t : Token) (ts : List Token) (more : List ℕ) → length (own_tokens (t ∷ ts)) ≤ 8 → list.now ≡ words (t ∷ ts) ++ 10 ∷ more
+        → (result.0.items ≡ own_tokens (t ∷ ts)) × (result.1.now ≡ 10 ∷ more) }
 {
     let mut tokens = ArrayVec::new();
     let mut left = list;
@@ -189,9 +215,10 @@ fn keep(tokens: &mut ArrayVec<Token, 8>, token: Token)
 }
 
 // The token whose word stands in front, and what stands behind that.
-fn first_word(list: &[u8]) -> Option<(Token, &[u8])>
+pub(super) fn first_word(list: &[u8]) -> Option<(Token, &[u8])>
     ensures shorter { IfSome result (λ r. length r.1.now ≤ length list.now) }
-    ensures every { (t : Token) (b : ℕ) (more : List ℕ) → is_lower b ≡ false → list.now ≡ word_of t ++ b ∷ more → MatchOption result (Unit {0} → ⊥) (λ r. (r.0 ≡ t) × (r.1.now ≡ b ∷ more)) }
+    ensures every { (t : Token) (b : ℕ) (more : List ℕ) → is_lower b ≡ false → list.now ≡ word_of t ++ b ∷ more
+        → MatchOption result (Unit {0} → ⊥) (λ r. (r.0 ≡ t) × (r.1.now ≡ b ∷ more)) }
 {
     let (word, behind) = list.split_at(word_len(list));
     Some((Token::named(word)?, behind))

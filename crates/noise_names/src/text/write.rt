@@ -10,7 +10,8 @@ use crate::name::push_modifiers;
 use crate::{Message, Pattern, PskPlaces, Role, Token};
 use arrayvec::ArrayVec;
 
-// The longest text: a heading of 55 bytes, 38 bytes of pre-messages, and 8 messages of at most 56 bytes.
+// Room for a text: a heading of at most 55 bytes, pre-messages of at most 38, and 8 messages of at most 56 each. The longest
+// text has 413.
 const TEXT_LEN: usize = 541;
 
 type Text = ArrayVec<u8, TEXT_LEN>;
@@ -19,6 +20,7 @@ type Text = ArrayVec<u8, TEXT_LEN>;
 pub(crate) fn text(pattern: &Pattern) -> Text
     ensures { result.items ≡ text_of pattern.now }
 {
+    let messages = pattern.messages();
     let mut out = Text::new();
     append(&mut out, &heading(pattern.base(), pattern.places()));
     push_pre_messages(
@@ -26,7 +28,7 @@ pub(crate) fn text(pattern: &Pattern) -> Text
         pattern.pre(Role::Initiator),
         pattern.pre(Role::Responder),
     );
-    push_messages(&mut out, pattern.messages());
+    push_messages(&mut out, messages);
     out
 }
 

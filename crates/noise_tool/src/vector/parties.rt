@@ -3,7 +3,7 @@
 ghost use Rattle.std.specs.Prelude.{◌≡◌, ◌≤◌, ◌∷◌, ◌++◌, ℕ, List, Option, IfErr, IfOk, IfSome, IsFalse, IsOk, IsSome, MatchOption, codes, length};
 ghost use Rattle.std.specs.Bool.{nat_eq};
 ghost use Rattle.std.specs.List.{All, starts_with};
-ghost use Rattle.noise_handshake.specs.declared.table_keys.Entry.{Entry};
+ghost use Rattle.noise_handshake.specs.Table.{TableEntry};
 ghost use Rattle.noise_tool.specs.Faults.{IsOfLine};
 ghost use Rattle.noise_tool.specs.VectorFile.{AreKeys, IsEntry};
 ghost use Rattle.noise_tool.specs.Words.{IsKey};
@@ -70,7 +70,7 @@ fn read_table(
 ) -> Result<TableKeys, Fault>
     ensures keys { IfOk result (λ table. (table.e ≡ e) × (table.s ≡ s)) }
     ensures text { IfOk result (λ table. lines.old.rest.now ≡ lines_of answer_words table.entries lines.new.rest.now) }
-    ensures every { (entries : List Entry) (rest : List ℕ) → length entries ≤ 8 → All IsEntry entries
+    ensures every { (entries : List TableEntry) (rest : List ℕ) → length entries ≤ 8 → All IsEntry entries
         → IsFalse (starts_with nat_eq rest (codes "answer "))
         → lines.old.rest.now ≡ lines_of answer_words entries rest
         → IsOk result × (lines.new.rest.now ≡ rest) }
@@ -95,7 +95,7 @@ fn read_table(
 // The key pair, the remote public key and the answer.
 fn read_answer(line: &[u8]) -> Option<(Own, [u8; 32], [u8; 32])>
     ensures text { IfSome result (λ answer. line.now ≡ answer_words (record { own = answer.0; remote = answer.1; answer = answer.2 })) }
-    ensures every { (entry : Entry) → IsEntry entry → line.now ≡ answer_words entry → IsSome result }
+    ensures every { (entry : TableEntry) → IsEntry entry → line.now ≡ answer_words entry → IsSome result }
 {
     let (own, keys) = split_once(line.strip_prefix(b"answer ".as_slice())?, b' ')?;
     let (remote, answer) = split_once(keys, b' ')?;

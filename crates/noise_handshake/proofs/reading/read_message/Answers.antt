@@ -1,44 +1,53 @@
-use Rattle.std.proofs.Common.{◌≡◌, ◌<◌, ◌^◌, ℕ, ◌+◌, ◌-◌, List, length, take, drop, slice_range, ap, sym, subst, ◌∙◌, arith, length-drop, length-take, take_all, nat_lt, if◌then◌else◌}
+use Rattle.std.proofs.Common.{◌≡◌, ◌<◌, ◌≤◌, ◌^◌, ℕ, ◌+◌, ◌-◌, List, length, take, drop, slice_range, ap, sym, subst, ◌∙◌, arith, length-drop, length-take, take_all, nat_lt, if◌then◌else◌}
 use borrow.Rule.Slice.PartMut.{put_mid}
-use Rattle.noise_state.specs.Standing.{StateStands}
-use Rattle.noise_state.proofs.Standing.{nonce_now-is}
+use Rattle.noise_state.specs.Standing.{StateStands, keyed}
+use Rattle.noise_state.specs.Standing.{nonce_now-is}
 use Rattle.noise_state.specs.History.{History, Part, and_then, piece, nonce}
 use Rattle.noise_handshake.specs.Line.{behind_front}
-use Rattle.noise_handshake.specs.View.{Reader}
+use Rattle.noise_handshake.specs.View.{Reader, Stops}
+use Rattle.noise_handshake.specs.inner.Layout.{tokens_of}
 use Rattle.noise_handshake.specs.declared.faults.Cause.TheVariants.{Short, Tag}
-use Rattle.noise_handshake.proofs.Apart.{reads-whole, stalls-last}
+use Rattle.noise_handshake.proofs.Tags.{sealed_len-tag}
+use Rattle.noise_handshake.proofs.Layouts.{length-tokens_of}
+use Rattle.noise_handshake.proofs.Apart.{reads-whole, stops-last}
 use Rattle.noise_handshake.proofs.Steps.{written-at}
 use Rattle.noise_handshake.proofs.reading.read_message.Goals as goal
 
 pub returns-in-Ok-decrypt_and_hash-clause-read : goal.returns-in-Ok-decrypt_and_hash-clause-read
 returns-in-Ok-decrypt_and_hash-clause-read g c r s =
-    let v : Reader = record { role = c.args.role; psks = c.args.psks; agree = g.K.Keys.agreement c.args.keys.now } in
+    let v : Reader = record { role = c.args.means.now.role; psks = c.args.means.now.psks; agree = g.K.Keys.agreement c.args.means.now.keys.now } in
     let m : List ℕ = c.args.message.now in
     let n : ℕ = c.in-Ok.from in
     let len : ℕ = c.in-Ok-decrypt_and_hash.len in
     let new : List ℕ = c.decrypt_and_hash.new.buf in
     let payload : List ℕ = slice_range (put_mid n (length m - n) m new) n (n + len) in
     let i = c.in-Ok.ensures.read r s in
-    let behind : History = behind_front c.args.psks r c.args.tokens.now i.0 in
+    let behind : History = behind_front c.args.means.now.psks r (tokens_of c.args.placed.now) i.0 in
     let d = c.in-Ok-decrypt_and_hash.ensures.ok behind i.2 in
     let goes : take (length m - n) (drop n m) ≡ drop n m = take_all (length m - n) (drop n m) (omega (arith, length-drop n m)) in
-    let q : payload ≡ take len new = written-at m new _ n len (omega (arith, c.in-Ok.ensures.range)) c.in-Ok-decrypt_and_hash.ensures.range in
+    let q : payload ≡ take len new = written-at m new _ n len (omega (arith, c.in-Ok.ensures.range))
+    (omega (arith, sealed_len-tag (keyed c.read_tokens.new.state) len, c.in-Ok-decrypt_and_hash.ensures.text)) in
     let e : take (length m - n) (drop n m) ≡ piece behind payload = d.0 ∙ ap (piece behind) (sym q) in (
       i.0,
-      reads-whole v c.args.known.now c.args.secrets.now r c.args.tokens.now m i.0 (drop n m) payload i.1 (sym goes ∙ e),
+      reads-whole v c.args.known.now c.args.secrets.now r (tokens_of c.args.placed.now) m i.0 (drop n m) payload i.1 (sym goes ∙ e),
       subst (λ (k : List ℕ). StateStands c.decrypt_and_hash.new.self (and_then behind (Part k))) e d.1,
       i.3,
     )
 
+pub returns-in-Err-Short-clause-stop : goal.returns-in-Err-Short-clause-stop
+returns-in-Err-Short-clause-stop g c = omega (arith, length-tokens_of c.args.placed.now)
+
 pub returns-in-Err-Short-clause-read : goal.returns-in-Err-Short-clause-read
 returns-in-Err-Short-clause-read g c r s =
-    let v : Reader = record { role = c.args.role; psks = c.args.psks; agree = g.K.Keys.agreement c.args.keys.now } in
+    let v : Reader = record { role = c.args.means.now.role; psks = c.args.means.now.psks; agree = g.K.Keys.agreement c.args.means.now.keys.now } in
     let m : List ℕ = c.args.message.now in
     let n : ℕ = c.in-Ok.from in
     let i = c.in-Ok.ensures.read r s in
-    let behind : History = behind_front c.args.psks r c.args.tokens.now i.0 in
+    let behind : History = behind_front c.args.means.now.psks r (tokens_of c.args.placed.now) i.0 in
     let nonces : nonce behind < 2 ^ 64 - 1 = omega (arith, nonce_now-is c.read_tokens.new.state behind i.2, c.read_tokens.ensures.nonce) in
-    let d = c.in-Err-Short.ensures.err behind i.2 nonces (omega (arith, length-drop n m, length-take (length m - n) (drop n m))) in
+    let fits : length (take (length m - n) (drop n m)) ≤ 65535 = omega (arith, length-drop n m, length-take (length m - n) (drop n m)) in
     let goes : take (length m - n) (drop n m) ≡ drop n m = take_all (length m - n) (drop n m) (omega (arith, length-drop n m)) in
-    stalls-last v c.args.known.now c.args.secrets.now r c.args.tokens.now m i.0 (drop n m) c.end_cause.result i.1 (λ payload e. d.0 payload (goes ∙ e))
-    (c.end_cause.ensures ∙ ap (λ (k : ℕ). if nat_lt k 16 then Short else Tag) (sym (length-drop n m)))
+    let last : Stops v c.args.known.now c.args.secrets.now r (tokens_of c.args.placed.now) m (length (tokens_of c.args.placed.now)) c.end_cause.result =
+    stops-last v c.args.known.now c.args.secrets.now r (tokens_of c.args.placed.now) m i.0 (drop n m) c.end_cause.result i.1 (λ payload e. let told = (c.in-Err-Short.ensures.accepts behind i.2).1 (nonces, fits, (payload, goes ∙ e)) in cc)
+    (c.end_cause.ensures ∙ ap (λ (k : ℕ). if nat_lt k 16 then Short else Tag) (sym (length-drop n m))) in
+    subst (λ (k : ℕ). Stops v c.args.known.now c.args.secrets.now r (tokens_of c.args.placed.now) m k c.end_cause.result) (length-tokens_of c.args.placed.now) last

@@ -1,10 +1,11 @@
 use Rattle.noise_state.specs.Standing.{StateStands, keyed}
-use Rattle.std.proofs.Common.{ℕ, ◌+◌, ◌-◌, ◌≤◌, List, ◌∷◌, length, take, drop, ◌∙◌, arith, length-take, length-drop}
+use Rattle.std.proofs.Common.{◌≡◌, ap, ℕ, ◌+◌, ◌-◌, ◌≤◌, List, ◌∷◌, length, take, drop, ◌∙◌, arith, length-take, length-drop}
 use Rattle.std.specs.Prelude.{Bool}
 use Rattle.noise_names.specs.declared.token.Token.{Token}
 use Rattle.noise_state.specs.History.{History}
 use Rattle.noise_handshake.specs.Line.{behind_token}
 use Rattle.noise_handshake.specs.Writing.{Writer}
+use Rattle.noise_handshake.specs.inner.Layout.{tokens_of}
 use Rattle.noise_handshake.proofs.Giving.{widths, given-on, front-on, behind-on, lacks-on}
 use Rattle.noise_handshake.proofs.Written.{joined, rest-behind}
 use Rattle.noise_handshake.proofs.writing.+write_tokens.Goals as goal
@@ -13,12 +14,12 @@ pub returns-in-Ok-clause-rest : goal.returns-in-Ok-clause-rest
 returns-in-Ok-clause-rest g t c =
     let n : ℕ = c.in-Some-write_token.n in
     let k : ℕ = c.in-Ok.more in
-    let token : Token = c.in-Some.token.now in
-    let later : List Token = c.in-Some.later.now in
+    let token : Token = c.in-Some.first.now.token in
+    let later : List Token = tokens_of c.in-Some.later.now in
     let key : Bool = keyed c.args.state.now in
-    let split = c.in-Some.ensures.cases.0 in
+    let split : tokens_of c.args.placed.now ≡ token ∷ later = ap tokens_of c.in-Some.ensures.cases.0 in
     let both : n + k ≤ length c.args.out.now =
-    widths c.args.psks key (keyed c.write_token.new.state) c.args.tokens.now later token n k (length c.args.out.now) split c.requires.room
+    widths c.args.means.now.psks key (keyed c.write_token.new.state) (tokens_of c.args.placed.now) later token n k (length c.args.out.now) split c.requires.room
     c.in-Some-write_token.ensures.width c.in-Some-write_token.ensures.keyed c.in-Ok.ensures.width in
     let fits : n ≤ length c.write_token.new.out = omega (arith, both) in
     let long : k ≤ length c.write_tokens.new.out = omega (arith, both, length-take (length c.write_token.new.out - n) (drop n c.write_token.new.out), length-drop n c.write_token.new.out) in
@@ -26,15 +27,15 @@ returns-in-Ok-clause-rest g t c =
 
 pub returns-in-Ok-clause-written : goal.returns-in-Ok-clause-written
 returns-in-Ok-clause-written g t c r s =
-    let w : Writer = record { role = c.args.role; psks = c.args.psks; own = g.K.Keys.public_of c.args.keys.now; agree = g.K.Keys.agreement c.args.keys.now } in
+    let w : Writer = record { role = c.args.means.now.role; psks = c.args.means.now.psks; own = g.K.Keys.public_of c.args.means.now.keys.now; agree = g.K.Keys.agreement c.args.means.now.keys.now } in
     let n : ℕ = c.in-Some-write_token.n in
     let k : ℕ = c.in-Ok.more in
-    let token : Token = c.in-Some.token.now in
-    let later : List Token = c.in-Some.later.now in
+    let token : Token = c.in-Some.first.now.token in
+    let later : List Token = tokens_of c.in-Some.later.now in
     let key : Bool = keyed c.args.state.now in
-    let split = c.in-Some.ensures.cases.0 in
+    let split : tokens_of c.args.placed.now ≡ token ∷ later = ap tokens_of c.in-Some.ensures.cases.0 in
     let both : n + k ≤ length c.args.out.now =
-    widths c.args.psks key (keyed c.write_token.new.state) c.args.tokens.now later token n k (length c.args.out.now) split c.requires.room
+    widths c.args.means.now.psks key (keyed c.write_token.new.state) (tokens_of c.args.placed.now) later token n k (length c.args.out.now) split c.requires.room
     c.in-Some-write_token.ensures.width c.in-Some-write_token.ensures.keyed c.in-Ok.ensures.width in
     let fits : n ≤ length c.write_token.new.out = omega (arith, both) in
     let long : k ≤ length c.write_tokens.new.out = omega (arith, both, length-take (length c.write_token.new.out - n) (drop n c.write_token.new.out), length-drop n c.write_token.new.out) in
@@ -42,20 +43,20 @@ returns-in-Ok-clause-written g t c r s =
     let secrets : List (List ℕ) = c.args.secrets.now in
     let others : List (List ℕ) = c.secrets_behind-others.result.now in
     let a = c.in-Some-write_token.ensures.written r s in
-    let next : History = behind_token c.args.psks r token a.0 in
+    let next : History = behind_token c.args.means.now.psks r token a.0 in
     let b = c.in-Ok.ensures.written next a.3 in (
       a.0 ∷ b.0,
-      given-on w known secrets others r c.args.tokens.now later token a.0 split a.1 c.secrets_behind-others.ensures b.0 b.1,
+      given-on w known secrets others r (tokens_of c.args.placed.now) later token a.0 split a.1 c.secrets_behind-others.ensures b.0 b.1,
       joined c.write_token.new.out c.write_tokens.new.out n k fits long (drop (length c.write_token.new.out - n) (drop n c.write_token.new.out))
-          ∙ front-on w known secrets others r c.args.tokens.now later token a.0 split a.1 c.secrets_behind-others.ensures b.0 (take n c.write_token.new.out) (take k c.write_tokens.new.out) a.2 b.2,
-      behind-on w known secrets others r c.args.tokens.now later token a.0 split a.1 c.secrets_behind-others.ensures StateStands c.write_tokens.new.state b.0 b.3,
+          ∙ front-on w known secrets others r (tokens_of c.args.placed.now) later token a.0 split a.1 c.secrets_behind-others.ensures b.0 (take n c.write_token.new.out) (take k c.write_tokens.new.out) a.2 b.2,
+      behind-on w known secrets others r (tokens_of c.args.placed.now) later token a.0 split a.1 c.secrets_behind-others.ensures StateStands c.write_tokens.new.state b.0 b.3,
     )
 
 pub returns-in-Err-clause-written : goal.returns-in-Err-clause-written
 returns-in-Err-clause-written g t c r s =
-    let w : Writer = record { role = c.args.role; psks = c.args.psks; own = g.K.Keys.public_of c.args.keys.now; agree = g.K.Keys.agreement c.args.keys.now } in
-    let token : Token = c.in-Some.token.now in
+    let w : Writer = record { role = c.args.means.now.role; psks = c.args.means.now.psks; own = g.K.Keys.public_of c.args.means.now.keys.now; agree = g.K.Keys.agreement c.args.means.now.keys.now } in
+    let token : Token = c.in-Some.first.now.token in
     let a = c.in-Some-write_token.ensures.written r s in
-    let next : History = behind_token c.args.psks r token a.0 in
-    lacks-on w c.args.known.now c.args.secrets.now c.secrets_behind-others.result.now r c.args.tokens.now c.in-Some.later.now token a.0
-    c.in-Some.ensures.cases.0 a.1 c.secrets_behind-others.ensures c.in-Err.k (c.in-Err.ensures.written next a.3)
+    let next : History = behind_token c.args.means.now.psks r token a.0 in
+    lacks-on w c.args.known.now c.args.secrets.now c.secrets_behind-others.result.now r (tokens_of c.args.placed.now) (tokens_of c.in-Some.later.now) token a.0
+    (ap tokens_of c.in-Some.ensures.cases.0) a.1 c.secrets_behind-others.ensures c.in-Err.k (c.in-Err.ensures.written next a.3)

@@ -1,6 +1,7 @@
 use Rattle.noise_state.specs.Standing.{keyed}
 use Rattle.std.proofs.Common.{ℕ, ◌+◌, ◌-◌, ◌≤◌, List, ◌++◌, length, take, drop, ap, ◌∙◌, arith, length-take, length-drop}
 use Rattle.noise_handshake.specs.Line.{front, behind_front}
+use Rattle.noise_handshake.specs.inner.Layout.{tokens_of}
 use Rattle.noise_handshake.proofs.Giving.{widths-last}
 use Rattle.noise_handshake.proofs.Written.{joined, rest-behind}
 use Rattle.noise_handshake.proofs.writing.write_message.Goals as goal
@@ -12,7 +13,7 @@ returns-clause-rest g c =
     let first : List ℕ = c.write_tokens.new.out in
     let second : List ℕ = c.write_part.new.out in
     let both : n + k ≤ length c.args.out.now =
-    widths-last c.args.psks (keyed c.args.state.now) (keyed c.write_tokens.new.state) c.args.tokens.now n k (length c.args.payload.now) (length c.args.out.now)
+    widths-last c.args.means.now.psks (keyed c.args.state.now) (keyed c.write_tokens.new.state) (tokens_of c.args.placed.now) n k (length c.args.payload.now) (length c.args.out.now)
     c.requires.room c.in-Ok.ensures.width c.in-Ok.ensures.keyed c.write_part.ensures.width in
     let fits : n ≤ length first = omega (arith, both) in
     let long : k ≤ length second = omega (arith, both, length-take (length first - n) (drop n first), length-drop n first) in
@@ -25,15 +26,15 @@ returns-clause-written g c r s =
     let first : List ℕ = c.write_tokens.new.out in
     let second : List ℕ = c.write_part.new.out in
     let both : n + k ≤ length c.args.out.now =
-    widths-last c.args.psks (keyed c.args.state.now) (keyed c.write_tokens.new.state) c.args.tokens.now n k (length c.args.payload.now) (length c.args.out.now)
+    widths-last c.args.means.now.psks (keyed c.args.state.now) (keyed c.write_tokens.new.state) (tokens_of c.args.placed.now) n k (length c.args.payload.now) (length c.args.out.now)
     c.requires.room c.in-Ok.ensures.width c.in-Ok.ensures.keyed c.write_part.ensures.width in
     let fits : n ≤ length first = omega (arith, both) in
     let long : k ≤ length second = omega (arith, both, length-take (length first - n) (drop n first), length-drop n first) in
     let a = c.in-Ok.ensures.written r s in
-    let b = c.write_part.ensures.written (behind_front c.args.psks r c.args.tokens.now a.0) a.3 in (
+    let b = c.write_part.ensures.written (behind_front c.args.means.now.psks r (tokens_of c.args.placed.now) a.0) a.3 in (
       a.0,
       a.1,
       joined first second n k fits long (drop (length first - n) (drop n first))
-          ∙ ap (λ (z : List ℕ). z ++ take k second) a.2 ∙ ap (λ (z : List ℕ). front c.args.psks r c.args.tokens.now a.0 ++ z) b.0,
+          ∙ ap (λ (z : List ℕ). z ++ take k second) a.2 ∙ ap (λ (z : List ℕ). front c.args.means.now.psks r (tokens_of c.args.placed.now) a.0 ++ z) b.0,
       b.1,
     )

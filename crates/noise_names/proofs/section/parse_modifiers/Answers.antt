@@ -1,4 +1,5 @@
-use Rattle.std.proofs.Common.{◌≡◌, ◌<◌, ◌↔◌, ℕ, List, [], ◌∷◌, ◌++◌, Bool, true, false, ◌&&◌, cond, MatchBool, length, length-append, map, take, drop, refl, sym, ap, ◌∙◌, subst, append_assoc, arith, Option, Some, None, Err, Ok, eqb}
+use Rattle.std.proofs.Common.{◌≡◌, ◌<◌, ◌↔◌, ℕ, List, [], ◌∷◌, ◌++◌, Bool, true, false, ◌&&◌, cond, MatchBool, length, length-append, map, take, drop, refl}
+use Rattle.std.proofs.Common.{sym, ap, ◌∙◌, subst, append_assoc, arith, Option, Some, None, Err, Ok, eqb}
 use Rattle.std.specs.Prelude.{IsSome, IfSome, IsTrue}
 use Rattle.std.specs.Option.{ok_or}
 use Rattle.std.specs.List.{join_with_byte}
@@ -8,7 +9,8 @@ use Rattle.arrayvec.specs.ArrayVec.{ArrayVec}
 use Rattle.noise_names.specs.declared.faults.NameFault.TheVariants.{ModifierOrder}
 use Rattle.noise_names.specs.Names.{modifier, are_places}
 use Rattle.noise_names.specs.Sections.{modifiers_read}
-use Rattle.noise_names.proofs.Modifiers.{fronts, fronts-push, join-push, are_numbers, are_numbers-push, refused_at, refused_behind, modifiers_read-all, too_many_places}
+use Rattle.noise_names.proofs.Modifiers.{fronts, fronts-push, join-push, are_numbers, are_numbers-push, refused_at, refused_behind, modifiers_read-all}
+use Rattle.noise_names.proofs.Modifiers.{too_many_places}
 use Rattle.noise_names.proofs.section.parse_modifiers.Goals as goal
 use Rattle.noise_names.proofs.section.parse_modifiers.Goals.{then-is_full, else-is_full}
 
@@ -24,7 +26,8 @@ is_nil [] e = refl
 is_nil (x ∷ xs) e = let none : length (x ∷ xs) ≡ 0 = same_from_test (length (x ∷ xs)) 0 e in absurd (omega arith)
 
 no_plus : (behind more : List ℕ) → pointwise eqb (take 1 behind) (43 ∷ []) ≡ false → behind ≡ 43 ∷ more → ⊥
-no_plus behind more h e = let t : pointwise eqb (take 1 (43 ∷ more)) (43 ∷ []) ≡ false = subst (λ (bs : List ℕ). pointwise eqb (take 1 bs) (43 ∷ []) ≡ false) e h in cc
+no_plus behind more h e = let t : pointwise eqb (take 1 (43 ∷ more)) (43 ∷ []) ≡ false =
+    subst (λ (bs : List ℕ). pointwise eqb (take 1 bs) (43 ∷ []) ≡ false) e h in cc
 
 plus : (behind more : List ℕ) → pointwise eqb (take 1 behind) (43 ∷ []) ≡ true → more ≡ drop 1 behind → behind ≡ 43 ∷ more
 plus [] more h e = absurd (cc)
@@ -34,13 +37,16 @@ plus (b ∷ bs) more h e = let b_is : b ≡ 43 = same_from_test b 43 (first (eqb
   first false h = h
 
 -- one modifier more is read
-read_more : (modifiers done rest behind more : List ℕ) (n : ℕ) → modifiers ≡ fronts done ++ rest → rest ≡ modifier n ++ behind → behind ≡ 43 ∷ more → modifiers ≡ fronts (done ++ n ∷ []) ++ more
+read_more : (modifiers done rest behind more : List ℕ) (n : ℕ) → modifiers ≡ fronts done ++ rest → rest ≡ modifier n ++ behind → behind ≡ 43 ∷ more
+    → modifiers ≡ fronts (done ++ n ∷ []) ++ more
 read_more modifiers done rest behind more n e f g =
     let here : rest ≡ (modifier n ++ 43 ∷ []) ++ more = f ∙ ap (λ (bs : List ℕ). modifier n ++ bs) g in
-    e ∙ ap (λ (bs : List ℕ). fronts done ++ bs) here ∙ sym (append_assoc (fronts done) (modifier n ++ 43 ∷ []) more) ∙ ap (λ (bs : List ℕ). bs ++ more) (sym (fronts-push done n))
+    e ∙ ap (λ (bs : List ℕ). fronts done ++ bs) here ∙ sym (append_assoc (fronts done) (modifier n ++ 43 ∷ []) more)
+    ∙ ap (λ (bs : List ℕ). bs ++ more) (sym (fronts-push done n))
 
 -- the last modifier is read
-read_last : (modifiers done rest behind : List ℕ) (n : ℕ) → modifiers ≡ fronts done ++ rest → rest ≡ modifier n ++ behind → behind ≡ [] → modifiers ≡ join_with_byte 43 (map modifier (done ++ n ∷ []))
+read_last : (modifiers done rest behind : List ℕ) (n : ℕ) → modifiers ≡ fronts done ++ rest → rest ≡ modifier n ++ behind → behind ≡ []
+    → modifiers ≡ join_with_byte 43 (map modifier (done ++ n ∷ []))
 read_last modifiers done rest behind n e f g =
     e ∙ ap (λ (bs : List ℕ). fronts done ++ bs) (f ∙ ap (λ (bs : List ℕ). modifier n ++ bs) g) ∙ sym (join-push done n)
 
@@ -52,12 +58,14 @@ kept_full : (old new : Bool) (done numbers after : List ℕ) (n : ℕ) → Kept 
 kept_full true new done numbers after n h k e = rw e (rw (length-append done (n ∷ [])) (omega arith))
 kept_full false new done numbers after n h k e = rw e (rw (length-append done (n ∷ [])) (omega (arith, ap length h)))
 
-kept_more : (old new : Bool) (done numbers after : List ℕ) (n : ℕ) → Kept old done numbers → after ≡ numbers ++ n ∷ [] → new ≡ old → Kept new (done ++ n ∷ []) after
+kept_more : (old new : Bool) (done numbers after : List ℕ) (n : ℕ) → Kept old done numbers → after ≡ numbers ++ n ∷ [] → new ≡ old
+    → Kept new (done ++ n ∷ []) after
 kept_more true new done numbers after n h k e = rw e (rw (length-append done (n ∷ [])) (omega arith))
 kept_more false new done numbers after n h k e = rw e (k ∙ ap (λ (bs : List ℕ). bs ++ n ∷ []) h)
 
 -- the numbers as places
-made : (o : Option (List ℕ)) (ns : List ℕ) → (IsSome o ↔ IsTrue (are_places ns)) → IfSome o (λ places. places ≡ ns) → ok_or o ModifierOrder ≡ cond (are_places ns) (Ok ns) (Err ModifierOrder)
+made : (o : Option (List ℕ)) (ns : List ℕ) → (IsSome o ↔ IsTrue (are_places ns)) → IfSome o (λ places. places ≡ ns)
+    → ok_or o ModifierOrder ≡ cond (are_places ns) (Ok ns) (Err ModifierOrder)
 made (Some places) ns only same = let yes : are_places ns ≡ true = only.0 refl in rw yes (ap (λ (p : List ℕ). Ok p) same)
 made None ns only same = at (are_places ns) refl where
   at : (b : Bool) → are_places ns ≡ b → Err ModifierOrder ≡ cond (are_places ns) (Ok ns) (Err ModifierOrder)
@@ -66,7 +74,8 @@ made None ns only same = at (are_places ns) refl where
 
 pub returns-in_default : goal.returns-in_default
 returns-in_default c =
-    rw (refused_at c.args.modifiers.now c.loop-number.rest.now c.loop-number.invariant.0 c.loop-number.invariant.1 (not_empty c.args.modifiers.now (sym c.if-is_empty.ensures)) c.in_default.ensures.none) refl
+    rw (refused_at c.args.modifiers.now c.loop-number.rest.now c.loop-number.invariant.0 c.loop-number.invariant.1
+    (not_empty c.args.modifiers.now (sym c.if-is_empty.ensures)) c.in_default.ensures.none) refl
 
 pub returns-in_default-strip_prefix : goal.returns-in_default-strip_prefix
 returns-in_default-strip_prefix c =
@@ -78,12 +87,17 @@ returns-in_default-strip_prefix c =
 pub loop-number-preserved : goal.loop-number-preserved
 loop-number-preserved c = (
   c.loop-number.invariant.0 ++ c.in-Some.number ∷ [],
-  read_more c.args.modifiers.now c.loop-number.invariant.0 c.loop-number.rest.now c.in-Some.behind.now c.in-Some-strip_prefix.more.now c.in-Some.number c.loop-number.invariant.1 c.in-Some.ensures.some.1
+  read_more c.args.modifiers.now c.loop-number.invariant.0 c.loop-number.rest.now c.in-Some.behind.now c.in-Some-strip_prefix.more.now c.in-Some.number
+      c.loop-number.invariant.1 c.in-Some.ensures.some.1
       (plus c.in-Some.behind.now c.in-Some-strip_prefix.more.now c.in-Some-strip_prefix.ensures.cases.0 c.in-Some-strip_prefix.ensures.cases.1),
   are_numbers-push c.loop-number.invariant.0 c.in-Some.number c.loop-number.invariant.2 c.in-Some.ensures.some.0,
   elim c.if-is_full.branch [
-    | then-is_full w ↦ kept_full c.loop-number.too_many c.if-is_full.too_many c.loop-number.invariant.0 c.loop-number.numbers.items c.if-is_full.numbers.items c.in-Some.number c.loop-number.invariant.3 (same_from_test (length c.loop-number.numbers.items) 9 (sym w.if-is_full.ensures.value)) w.too_many-is
-    | else-is_full w ↦ kept_more c.loop-number.too_many c.if-is_full.too_many c.loop-number.invariant.0 c.loop-number.numbers.items c.if-is_full.numbers.items c.in-Some.number c.loop-number.invariant.3 (ap (λ (v : ArrayVec ℕ). v.items) w.numbers-is ∙ w.push.ensures.items) w.too_many-is
+    | then-is_full w ↦ kept_full c.loop-number.too_many c.if-is_full.too_many c.loop-number.invariant.0 c.loop-number.numbers.items
+        c.if-is_full.numbers.items c.in-Some.number c.loop-number.invariant.3
+        (same_from_test (length c.loop-number.numbers.items) 9 (sym w.if-is_full.ensures.value)) w.too_many-is
+    | else-is_full w ↦ kept_more c.loop-number.too_many c.if-is_full.too_many c.loop-number.invariant.0 c.loop-number.numbers.items
+        c.if-is_full.numbers.items c.in-Some.number c.loop-number.invariant.3 (ap (λ (v : ArrayVec ℕ). v.items) w.numbers-is
+        ∙ w.push.ensures.items) w.too_many-is
   ],
 )
 
@@ -91,11 +105,16 @@ pub returns-then-too_many : goal.returns-then-too_many
 returns-then-too_many c =
     let done : List ℕ = c.loop-number.invariant.0 ++ c.in-Some.number ∷ [] in
     let read : c.args.modifiers.now ≡ join_with_byte 43 (map modifier done) =
-    read_last c.args.modifiers.now c.loop-number.invariant.0 c.loop-number.rest.now c.in-Some.behind.now c.in-Some.number c.loop-number.invariant.1 c.in-Some.ensures.some.1 (is_nil c.in-Some.behind.now (sym c.if-is_empty-2.ensures)) in
+    read_last c.args.modifiers.now c.loop-number.invariant.0 c.loop-number.rest.now c.in-Some.behind.now c.in-Some.number c.loop-number.invariant.1
+    c.in-Some.ensures.some.1 (is_nil c.in-Some.behind.now (sym c.if-is_empty-2.ensures)) in
     let numbers : are_numbers done ≡ true = are_numbers-push c.loop-number.invariant.0 c.in-Some.number c.loop-number.invariant.2 c.in-Some.ensures.some.0 in
     let kept : Kept c.if-is_full.too_many done c.if-is_full.numbers.items = elim c.if-is_full.branch [
-      | then-is_full w ↦ kept_full c.loop-number.too_many c.if-is_full.too_many c.loop-number.invariant.0 c.loop-number.numbers.items c.if-is_full.numbers.items c.in-Some.number c.loop-number.invariant.3 (same_from_test (length c.loop-number.numbers.items) 9 (sym w.if-is_full.ensures.value)) w.too_many-is
-      | else-is_full w ↦ kept_more c.loop-number.too_many c.if-is_full.too_many c.loop-number.invariant.0 c.loop-number.numbers.items c.if-is_full.numbers.items c.in-Some.number c.loop-number.invariant.3 (ap (λ (v : ArrayVec ℕ). v.items) w.numbers-is ∙ w.push.ensures.items) w.too_many-is
+      | then-is_full w ↦ kept_full c.loop-number.too_many c.if-is_full.too_many c.loop-number.invariant.0 c.loop-number.numbers.items
+          c.if-is_full.numbers.items c.in-Some.number c.loop-number.invariant.3
+          (same_from_test (length c.loop-number.numbers.items) 9 (sym w.if-is_full.ensures.value)) w.too_many-is
+      | else-is_full w ↦ kept_more c.loop-number.too_many c.if-is_full.too_many c.loop-number.invariant.0 c.loop-number.numbers.items
+          c.if-is_full.numbers.items c.in-Some.number c.loop-number.invariant.3 (ap (λ (v : ArrayVec ℕ). v.items) w.numbers-is
+          ∙ w.push.ensures.items) w.too_many-is
     ] in
     let many : 9 < length done = subst (λ (b : Bool). Kept b done c.if-is_full.numbers.items) c.if-too_many.true kept in
     sym (ap modifiers_read read ∙ modifiers_read-all done numbers ∙ rw (too_many_places done many) refl)
@@ -104,11 +123,16 @@ pub returns : goal.returns
 returns c =
     let done : List ℕ = c.loop-number.invariant.0 ++ c.in-Some.number ∷ [] in
     let read : c.args.modifiers.now ≡ join_with_byte 43 (map modifier done) =
-    read_last c.args.modifiers.now c.loop-number.invariant.0 c.loop-number.rest.now c.in-Some.behind.now c.in-Some.number c.loop-number.invariant.1 c.in-Some.ensures.some.1 (is_nil c.in-Some.behind.now (sym c.if-is_empty-2.ensures)) in
+    read_last c.args.modifiers.now c.loop-number.invariant.0 c.loop-number.rest.now c.in-Some.behind.now c.in-Some.number c.loop-number.invariant.1
+    c.in-Some.ensures.some.1 (is_nil c.in-Some.behind.now (sym c.if-is_empty-2.ensures)) in
     let numbers : are_numbers done ≡ true = are_numbers-push c.loop-number.invariant.0 c.in-Some.number c.loop-number.invariant.2 c.in-Some.ensures.some.0 in
     let kept : Kept c.if-is_full.too_many done c.if-is_full.numbers.items = elim c.if-is_full.branch [
-      | then-is_full w ↦ kept_full c.loop-number.too_many c.if-is_full.too_many c.loop-number.invariant.0 c.loop-number.numbers.items c.if-is_full.numbers.items c.in-Some.number c.loop-number.invariant.3 (same_from_test (length c.loop-number.numbers.items) 9 (sym w.if-is_full.ensures.value)) w.too_many-is
-      | else-is_full w ↦ kept_more c.loop-number.too_many c.if-is_full.too_many c.loop-number.invariant.0 c.loop-number.numbers.items c.if-is_full.numbers.items c.in-Some.number c.loop-number.invariant.3 (ap (λ (v : ArrayVec ℕ). v.items) w.numbers-is ∙ w.push.ensures.items) w.too_many-is
+      | then-is_full w ↦ kept_full c.loop-number.too_many c.if-is_full.too_many c.loop-number.invariant.0 c.loop-number.numbers.items
+          c.if-is_full.numbers.items c.in-Some.number c.loop-number.invariant.3
+          (same_from_test (length c.loop-number.numbers.items) 9 (sym w.if-is_full.ensures.value)) w.too_many-is
+      | else-is_full w ↦ kept_more c.loop-number.too_many c.if-is_full.too_many c.loop-number.invariant.0 c.loop-number.numbers.items
+          c.if-is_full.numbers.items c.in-Some.number c.loop-number.invariant.3 (ap (λ (v : ArrayVec ℕ). v.items) w.numbers-is
+          ∙ w.push.ensures.items) w.too_many-is
     ] in
     let same : c.if-is_full.numbers.items ≡ done = subst (λ (b : Bool). Kept b done c.if-is_full.numbers.items) c.if-too_many.false kept in
     let seen : c.deref.result.now ≡ done = c.deref.ensures.0 ∙ same in

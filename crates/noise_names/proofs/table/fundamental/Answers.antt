@@ -1,30 +1,14 @@
-use Rattle.std.proofs.Common.{◌≡◌, ℕ, ◌+◌, List, drop, sym, ap, ◌∙◌, refl, Some, cond, true, false, Bool, arith}
-use Rattle.std.specs.Prelude.{find, bytes_eq}
-use Rattle.noise_names.specs.Plan.{Plan}
-use Rattle.noise_names.specs.Fundamental.{fundamentals, fundamental_of}
-use Rattle.noise_names.proofs.Fundamentals.{find-drop, find-past}
+use Rattle.std.proofs.Common.{◌≡◌, ℕ, List, Option, Some, None, sym, ◌∙◌}
+use Rattle.std.specs.Prelude.{IfSome, IsFalse}
+use Rattle.noise_names.specs.Plan.{Plan, has_psk}
+use Rattle.noise_names.specs.Fundamental.{fundamental_of}
+use Rattle.noise_names.proofs.Reading.{known-plain}
 use Rattle.noise_names.proofs.table.fundamental.Goals as goal
 
-pub loop-index-init : goal.loop-index-init
-unfolding fundamental_of
-loop-index-init c = refl
+plain-found : (base : List ℕ) (found : Option Plan) → found ≡ fundamental_of base → IfSome found (λ p. IsFalse (has_psk p))
+plain-found base None e = tt
+plain-found base (Some p) e = known-plain base p (sym e)
 
--- the row's base is the one that is looked for, or is not
-tested : (row : Plan) (base other : List ℕ) (eq : Bool) → base ≡ row.base → eq ≡ bytes_eq base other → bytes_eq row.base other ≡ eq
-tested row base other eq same e = ap (λ (b : List ℕ). bytes_eq b other) (sym same) ∙ sym e
-
-pub returns-then-eq : goal.returns-then-eq
-returns-then-eq c = sym (
-    c.loop-index.invariant
-    ∙ find-drop (λ p. bytes_eq p.base c.args.base.now) fundamentals c.loop-index.index c.row-pattern.result c.row-pattern.ensures
-    ∙ ap (λ (b : Bool). cond b (Some c.row-pattern.result) (find (λ p. bytes_eq p.base c.args.base.now) (drop (c.loop-index.index + 1) fundamentals))) (tested c.row-pattern.result c.base.result.now c.args.base.now true c.base.ensures.same c.if-eq.ensures)
-    )
-
-pub loop-index-preserved : goal.loop-index-preserved
-loop-index-preserved c =
-    c.loop-index.invariant
-    ∙ find-drop (λ p. bytes_eq p.base c.args.base.now) fundamentals c.loop-index.index c.row-pattern.result c.row-pattern.ensures
-    ∙ ap (λ (b : Bool). cond b (Some c.row-pattern.result) (find (λ p. bytes_eq p.base c.args.base.now) (drop (c.loop-index.index + 1) fundamentals))) (tested c.row-pattern.result c.base.result.now c.args.base.now false c.base.ensures.same c.if-eq.ensures)
-
-pub returns : goal.returns
-returns c = sym (c.loop-index.invariant ∙ find-past (λ p. bytes_eq p.base c.args.base.now) c.loop-index.index (omega arith))
+pub returns-clause-plain : goal.returns-clause-plain
+returns-clause-plain c =
+    plain-found c.args.base.now c.fundamental_at.result (c.fundamental_at.ensures ∙ c.in_ok-place_of.ensures)

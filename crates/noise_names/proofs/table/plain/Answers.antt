@@ -7,13 +7,25 @@ use Rattle.noise_names.proofs.table.plain.Goals as goal
 
 pub of-requires : goal.of-requires
 of-requires c =
-    let plan : Plan = record { base = c.args.base.now; places = []; initiator = c.args.initiator.now; responder = c.args.responder.now; messages = map (λ m. m.now) c.args.messages.now } in
+    let plan : Plan = record {
+      base = c.args.base.now;
+      places = [];
+      initiator = c.args.initiator.now;
+      responder = c.args.responder.now;
+      messages = map (λ m. m.now) c.args.messages.now;
+    } in
     let short : length (get_or plan.messages c.loop-tokens.tokens-index []) ≤ 10 = known_is_short c.args.base.now plan c.loop-tokens.tokens-index c.requires in
     subst (λ (ts : List Token). length ts ≤ 10) (get_or-map (λ m. m.now) c.args.messages.now c.loop-tokens.tokens-index _ [] c.loop-tokens-test.true) short
 
 pub push-requires : goal.push-requires
 push-requires c =
-    let plan : Plan = record { base = c.args.base.now; places = []; initiator = c.args.initiator.now; responder = c.args.responder.now; messages = map (λ m. m.now) c.args.messages.now } in
+    let plan : Plan = record {
+      base = c.args.base.now;
+      places = [];
+      initiator = c.args.initiator.now;
+      responder = c.args.responder.now;
+      messages = map (λ m. m.now) c.args.messages.now;
+    } in
     let few : length plan.messages ≤ 8 = known_is_few c.args.base.now plan c.requires in
     (omega arith, omega (arith, few, length-map c.args.messages.now (λ m. m.now)))
 
@@ -27,11 +39,19 @@ loop-tokens-preserved c = (
 
 pub of-requires-2 : goal.of-requires-2
 of-requires-2 c =
-    let plan : Plan = record { base = c.args.base.now; places = []; initiator = c.args.initiator.now; responder = c.args.responder.now; messages = map (λ m. m.now) c.args.messages.now } in
-    let all : c.loop-tokens.kept.items ≡ plan.messages = c.loop-tokens.invariant.0 ∙ ap (λ ms. map (λ m. m.now) ms) (take_all c.loop-tokens.tokens-index c.args.messages.now c.loop-tokens-test.false) in
+    let plan : Plan = record {
+      base = c.args.base.now;
+      places = [];
+      initiator = c.args.initiator.now;
+      responder = c.args.responder.now;
+      messages = map (λ m. m.now) c.args.messages.now;
+    } in
+    let all : c.loop-tokens.kept.items ≡ plan.messages = c.loop-tokens.invariant.0
+    ∙ ap (λ ms. map (λ m. m.now) ms) (take_all c.loop-tokens.tokens-index c.args.messages.now c.loop-tokens-test.false) in
     rw (c.none.ensures, all) (known_is_pattern c.args.base.now plan c.requires)
 
 pub returns : goal.returns
 returns c =
-    let all : c.loop-tokens.kept.items ≡ map (λ m. m.now) c.args.messages.now = c.loop-tokens.invariant.0 ∙ ap (λ ms. map (λ m. m.now) ms) (take_all c.loop-tokens.tokens-index c.args.messages.now c.loop-tokens-test.false) in
+    let all : c.loop-tokens.kept.items ≡ map (λ m. m.now) c.args.messages.now = c.loop-tokens.invariant.0
+    ∙ ap (λ ms. map (λ m. m.now) ms) (take_all c.loop-tokens.tokens-index c.args.messages.now c.loop-tokens-test.false) in
     c.of-2.ensures ∙ rw (c.none.ensures, all) refl

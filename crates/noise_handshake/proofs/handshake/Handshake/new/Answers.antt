@@ -3,11 +3,13 @@ use Rattle.std.specs.Prelude.{Bool, not, false, None}
 use Rattle.noise_names.specs.declared.token.Role.TheVariants.{Initiator, Responder}
 use Rattle.noise_names.specs.Plan.{Plan, has_psk}
 use Rattle.noise_handshake.specs.declared.remote.Remote.{Remote}
-use Rattle.noise_handshake.specs.Setup.{HasPre, keys_of, setup_fault, secrets_of}
-use Rattle.noise_handshake.specs.Sound.{IsSound}
+use Rattle.noise_handshake.specs.Setup.{keys_of, setup_fault, secrets_of}
+use Rattle.noise_handshake.specs.inner.PreMessage.{HasPre}
+use Rattle.noise_handshake.specs.inner.Sound.{IsSound}
+use Rattle.noise_handshake.specs.inner.Layout.{LaysOut}
 use Rattle.noise_names.specs.declared.token.Token.TheVariants.{E, S}
 use Rattle.noise_names.specs.Tokens.{other}
-use Rattle.noise_handshake.specs.Known.{KnowsRemote}
+use Rattle.noise_handshake.specs.inner.Known.{KnowsRemote}
 use Rattle.noise_handshake.proofs.Knowing.{stands-start}
 use Rattle.noise_handshake.proofs.Setting.{flips, has-pre, other-pre, counted, own-e, own-s}
 use Rattle.noise_handshake.proofs.handshake.Handshake.new.Goals as goal
@@ -85,4 +87,6 @@ invariant_of-result g c =
             e = λ l. pre.e (sym (stands-start plan (other c.args.role) E) ∙ l);
             s = λ l. pre.s (sym (stands-start plan (other c.args.role) S) ∙ l);
           })),
+      subst (λ (z : Plan). LaysOut z c.lay_out-layout.result.items) q c.lay_out-layout.ensures,
+      c.pattern-plan.ensures.valid,
     )

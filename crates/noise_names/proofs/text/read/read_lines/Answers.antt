@@ -11,7 +11,8 @@ pub of-requires : goal.of-requires
 of-requires c =
     let pre = c.if-not-are_pre_messages.ensures.0 refl in
     rw (c.none-places.ensures, c.deref-2.ensures.0, c.deref-3.ensures.0)
-    (plain-pattern c.args.base.now c.read_pre_messages-initiator.result.0.items c.read_pre_messages-initiator.result.1.items c.read_messages-messages.result.items
+    (plain-pattern c.args.base.now c.read_pre_messages-initiator.result.0.items c.read_pre_messages-initiator.result.1.items
+    c.read_messages-messages.result.items
     c.requires.base c.requires.unknown
     (ap is_pre_message (sym c.deref.ensures.0) ∙ pre.0)
     (ap is_pre_message (sym c.deref-else-is_empty.ensures.0) ∙ pre.1)
@@ -24,10 +25,20 @@ returns-then-is_empty-clause-every c = λ p h same e.
     let some = counted p h in
     let messages = c.read_messages-messages.ensures.every p.messages some.1 h.sizes read.2 in
     absurd (elim c.then-is_empty.branch [
-      | then-is_empty-via-then-is_empty w ↦ omega (arith, equal_from_test _ _ 0 c.is_empty.ensures w.if-is_empty.true, some.0, ap length messages, length-own p.messages)
+      | then-is_empty-via-then-is_empty w ↦ omega (
+        arith,
+        equal_from_test _ _ 0 c.is_empty.ensures w.if-is_empty.true,
+        some.0,
+        ap length messages,
+        length-own p.messages,
+      )
       | then-is_empty-via-else-is_empty+then-not-are_pre_messages w ↦
           true-not-false _
-          (w.are_pre_messages.ensures.1 (ap is_pre_message (w.deref.ensures.0 ∙ read.0) ∙ h.initiator, ap is_pre_message (w.deref-else-is_empty.ensures.0 ∙ read.1) ∙ h.responder))
+          (w.are_pre_messages.ensures.1 (
+            ap is_pre_message (w.deref.ensures.0 ∙ read.0)
+                ∙ h.initiator,
+            ap is_pre_message (w.deref-else-is_empty.ensures.0 ∙ read.1) ∙ h.responder,
+          ))
           w.if-not-are_pre_messages.true
     ])
 
@@ -36,4 +47,5 @@ returns-clause-every c = λ p h same e.
     let read = c.read_pre_messages-initiator.ensures p.initiator p.responder p.messages h.initiator h.responder h.sizes e in
     let messages = c.read_messages-messages.ensures.every p.messages (counted p h).1 h.sizes read.2 in
     ap (λ (q : Plan). Some q)
-    (c.of.ensures ∙ plan-same _ p.base _ [] _ p.initiator _ p.responder _ (map own_tokens p.messages) (sym same) c.none-places.ensures (c.deref-2.ensures.0 ∙ read.0) (c.deref-3.ensures.0 ∙ read.1) messages)
+    (c.of.ensures ∙ plan-same _ p.base _ [] _ p.initiator _ p.responder _ (map own_tokens p.messages) (sym same) c.none-places.ensures (c.deref-2.ensures.0
+    ∙ read.0) (c.deref-3.ensures.0 ∙ read.1) messages)

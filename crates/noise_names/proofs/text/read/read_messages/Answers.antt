@@ -8,13 +8,25 @@ returns-then-is_empty-clause-every c = λ ms few sizes e.
     let next = next-line _ _ _ _ _ _ (c.loop-tokens.invariant.every ms few sizes e) c.in-Some.ensures.shorter c.in-Some.ensures.every in
     elim c.then-is_empty.branch [
       | then-is_empty-via-then-is_empty w ↦ absurd (omega (arith, equal_from_test _ _ 0 c.is_empty.ensures w.if-is_empty.true, next.some))
-      | then-is_empty-via-else-is_empty+then-is_full w ↦ absurd (omega (arith, equal_from_test _ _ 8 w.is_full.ensures.value w.if-is_full.true, next.room, length-own ms))
+      | then-is_empty-via-else-is_empty+then-is_full w ↦ absurd
+          (omega (arith, equal_from_test _ _ 8 w.is_full.ensures.value w.if-is_full.true, next.room, length-own ms))
     ]
 
 pub loop-tokens-preserved : goal.loop-tokens-preserved
 loop-tokens-preserved c = record {
-  plain = rw (c.push.ensures.items, c.of.ensures, c.as_slice.ensures.value) (plain-push c.loop-tokens.messages.items c.in-Some.tokens.items c.loop-tokens.invariant.plain c.in-Some.ensures.plain);
-  sizes = rw (c.push.ensures.items, c.of.ensures, c.as_slice.ensures.value) (sizes-push c.loop-tokens.messages.items c.in-Some.tokens.items c.loop-tokens.invariant.sizes c.in-Some.ensures.plain (omega (arith, differ_from_test _ _ 0 c.is_empty.ensures c.if-is_empty.false)) (omega (arith, c.as_slice.ensures.fits, ap length c.as_slice.ensures.value)));
+  plain = rw (
+    c.push.ensures.items,
+    c.of.ensures,
+    c.as_slice.ensures.value,
+  ) (plain-push c.loop-tokens.messages.items c.in-Some.tokens.items c.loop-tokens.invariant.plain c.in-Some.ensures.plain);
+  sizes = rw (
+    c.push.ensures.items,
+    c.of.ensures,
+    c.as_slice.ensures.value,
+  )
+      (sizes-push c.loop-tokens.messages.items c.in-Some.tokens.items c.loop-tokens.invariant.sizes c.in-Some.ensures.plain
+      (omega (arith, differ_from_test _ _ 0 c.is_empty.ensures c.if-is_empty.false))
+      (omega (arith, c.as_slice.ensures.fits, ap length c.as_slice.ensures.value)));
   few = omega (arith, c.push.ensures.len, differ_from_test _ _ 8 c.is_full.ensures.value c.if-is_full.false, c.is_full.ensures.fits);
   every = λ ms few sizes e.
       let next = next-line _ _ _ _ _ _ (c.loop-tokens.invariant.every ms few sizes e) c.in-Some.ensures.shorter c.in-Some.ensures.every in

@@ -13,7 +13,8 @@ invariant-loop-tokens l = record {
   plain : list_any (λ tokens. list_any is_psk tokens) l.messages.items ≡ false;
   sizes : list_all has_few_tokens l.messages.items ≡ true;
   few : length l.messages.items ≤ 8;
-  every : (ms : List (List Token)) → length ms ≤ 8 → list_all has_few_tokens ms ≡ true → l.lines ≡ message_lines Initiator ms → AreLeft l.messages.items l.role l.left (map own_tokens ms);
+  every : (ms : List (List Token)) → length ms ≤ 8 → list_all has_few_tokens ms ≡ true → l.lines ≡ message_lines Initiator ms
+      → AreLeft l.messages.items l.role l.left (map own_tokens ms);
 }
 
 abbrev pub decreases-loop-tokens : goal.decreases-loop-tokens

@@ -1,11 +1,9 @@
 use Rattle.std.proofs.Common.{sym, ◌∙◌, ap}
 use Rattle.std.specs.Prelude.{Some}
 use Rattle.noise_names.specs.Plan.{Plan}
-use Rattle.noise_names.proofs.Reading.{known-plain, known-same}
+use Rattle.noise_names.proofs.Reading.{known-same}
 use Rattle.noise_names.proofs.text.read.read_plain.Goals as goal
 
-pub returns-in-Some-clause-plain : goal.returns-in-Some-clause-plain
-returns-in-Some-clause-plain c = known-plain c.args.base.now c.in-Some.known (sym c.fundamental.ensures ∙ c.in-Some.is)
-
 pub returns-in-Some-clause-every : goal.returns-in-Some-clause-every
-returns-in-Some-clause-every c = λ p h same e. ap (λ (q : Plan). Some q) (known-same p c.in-Some.known c.args.base.now h same (sym c.fundamental.ensures ∙ c.in-Some.is))
+returns-in-Some-clause-every c =
+    λ p h same e. ap (λ (q : Plan). Some q) (known-same p c.in-Some.known c.args.base.now h same (sym c.fundamental.ensures.same ∙ c.in-Some.is))

@@ -2,7 +2,7 @@ use Rattle.std.proofs.Common.{rules, ◌≡◌, ◌∙◌, ◌+◌, ap, sym, ref
 use Rattle.std.specs.Prelude.{IsTrue}
 use Rattle.std.proofs.lemmas.List.{length-append}
 use Rattle.noise_handshake.specs.Table.{Table}
-use Rattle.noise_handshake.specs.declared.table_keys.Entry.{Entry}
+use Rattle.noise_handshake.specs.Table.{TableEntry}
 use Rattle.noise_tool.specs.VectorText.{answer_words, line, lines_of}
 use Rattle.noise_tool.proofs.LineLemmas.{lines_of-more, FirstLine-room, FirstLine-step, LinesLeft-begun, LinesLeft-end}
 use Rattle.noise_tool.proofs.PartyLemmas.{begins, lacks-answer_words}
@@ -38,7 +38,7 @@ pub loop-lines-preserved : goal.loop-lines-preserved
 loop-lines-preserved c =
     let starts : begins c.loop-lines.lines.rest.now ≡ true = search rules in
     let ended : IsTrue c.next.new.self.is_ended = search rules in
-    let found : Entry = record { own = c.in-Some.found.0; remote = c.in-Some.found.1; answer = c.in-Some.found.2 } in
+    let found : TableEntry = record { own = c.in-Some.found.0; remote = c.in-Some.found.1; answer = c.in-Some.found.2 } in
     let added : c.add.new.self ≡ record c.loop-lines.table { entries = c.loop-lines.table.entries ++ found ∷ [] } = search rules in
     let one : length c.add.new.self.entries ≡ length c.loop-lines.table.entries + 1 =
     ap (λ (t : Table). length t.entries) added ∙ length-append c.loop-lines.table.entries (found ∷ []) in
@@ -57,6 +57,6 @@ loop-lines-preserved c =
 pub returns-clause-every : goal.returns-clause-every
 returns-clause-every c =
     let over : begins c.loop-lines.lines.rest.now ≡ false = search rules in
-    let none : (entry : Entry) (behind : List ℕ) → ¬ (c.loop-lines.lines.rest.now ≡ line (answer_words entry) behind) =
+    let none : (entry : TableEntry) (behind : List ℕ) → ¬ (c.loop-lines.lines.rest.now ≡ line (answer_words entry) behind) =
     λ entry behind e. true≢false (sym (ap begins e) ∙ over) in
     λ entries rest few are other is. (refl, LinesLeft-end (c.loop-lines.invariant.every entries rest few are other is) none)

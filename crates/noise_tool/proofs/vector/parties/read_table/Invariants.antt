@@ -1,6 +1,6 @@
 use Rattle.std.proofs.Common.{◌≡◌, ◌≤◌, ℕ, List, false, length}
 use Rattle.std.specs.List.{All}
-use Rattle.noise_handshake.specs.declared.table_keys.Entry.{Entry}
+use Rattle.noise_handshake.specs.Table.{TableEntry}
 use Rattle.noise_tool.specs.VectorFile.{IsEntry}
 use Rattle.noise_tool.specs.VectorText.{answer_words, lines_of}
 use Rattle.noise_tool.proofs.LineLemmas.{LinesLeft}
@@ -12,7 +12,7 @@ invariant-loop-lines l = record {
   e : l.table.e ≡ l.fn.e;
   s : l.table.s ≡ l.fn.s;
   text : l.fn.lines.rest.now ≡ lines_of answer_words l.table.entries l.lines.rest.now;
-  every : (entries : List Entry) (rest : List ℕ) → length entries ≤ 8 → All IsEntry entries → begins rest ≡ false
+  every : (entries : List TableEntry) (rest : List ℕ) → length entries ≤ 8 → All IsEntry entries → begins rest ≡ false
       → l.fn.lines.rest.now ≡ lines_of answer_words entries rest → LinesLeft answer_words IsEntry 8 (length l.table.entries) l.lines.rest.now rest;
 }
 

@@ -1,0 +1,17 @@
+use Rattle.noise_handshake.proofs.Owned.{stands-place}
+use Rattle.noise_handshake.proofs.Uses.{before-stands}
+use Rattle.noise_handshake.proofs.Counterparts.{occurs-of}
+use Rattle.noise_handshake.proofs.Meeting.{dh-stands}
+use Rattle.noise_handshake.proofs.laws.tokens_stand.Goals as goal
+
+pub returns-clause-before : goal.returns-clause-before
+returns-clause-before c = before-stands
+
+pub returns-clause-sent : goal.returns-clause-sent
+returns-clause-sent c p n t = stands-place p t n
+
+pub returns-clause-occurs : goal.returns-clause-occurs
+returns-clause-occurs c = occurs-of
+
+pub returns-clause-keys : goal.returns-clause-keys
+returns-clause-keys c = dh-stands

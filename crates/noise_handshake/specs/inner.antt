@@ -1,0 +1,7 @@
+-- What only private functions and proofs of this crate need: no public clause names any of it.
+pub mod Known
+pub mod Layout
+pub mod Listening
+pub mod PreMessage
+pub mod Sound
+pub mod Speaking

@@ -1,0 +1,48 @@
+-- The layout of a pattern's messages: the places, widths and keys of Noise 5.3, token by token.
+use Rattle.std.specs.Prelude.{◌≡◌, ℕ, ◌+◌, ◌<◌, Bool, List, [], ◌∷◌, length, map, count_by}
+use Rattle.std.proofs.Common.{get_or}
+use Rattle.noise_names.specs.declared.token.Token.{Token}
+use Rattle.noise_names.specs.Tokens.{is_psk}
+use Rattle.noise_names.specs.Plan.{Plan, has_psk}
+use Rattle.noise_names.specs.Overhead.{has_key}
+use Rattle.noise_handshake.specs.declared.layout.PlacedToken.{PlacedToken}
+use Rattle.noise_handshake.specs.declared.layout.MessageLayout.{MessageLayout}
+use Rattle.noise_handshake.specs.Length.{keyed_behind, keyed_behind_tokens, token_width, tokens_width, added_width}
+use Rattle.noise_handshake.specs.Passed.{passed_places}
+use Rattle.noise_handshake.specs.View.{tokens_at}
+
+-- the tokens of a message, or of its rest from this place on
+abbrev pub placed_from : Bool → Bool → ℕ → List Token → List PlacedToken
+placed_from psks keyed place [] = []
+placed_from psks keyed place (t ∷ ts) =
+    record { token = t; place = place; width = token_width keyed t; keyed = keyed } ∷ placed_from psks (keyed_behind psks keyed t) (place + token_width keyed t) ts
+
+abbrev pub tokens_of : List PlacedToken → List Token
+tokens_of [] = []
+tokens_of (p ∷ ps) = p.token ∷ tokens_of ps
+
+-- These tokens stand one behind another from this place on, each as wide as it travels, where there is a key or not.
+abbrev pub ArePlaced : Bool → Bool → ℕ → List PlacedToken → Type 0
+ArePlaced psks keyed place [] = Unit {0}
+ArePlaced psks keyed place (p ∷ ps) =
+    (p.place ≡ place) × (p.width ≡ token_width keyed p.token) × (p.keyed ≡ keyed) × ArePlaced psks (keyed_behind psks keyed p.token) (place + p.width) ps
+
+-- The layout of a message of these tokens, where there is a key before it or not.
+pub record IsLaid (psks keyed : Bool) (ts : List Token) (laid : MessageLayout) : Type 0 where
+  pub tokens : laid.tokens.items ≡ placed_from psks keyed 0 ts
+  pub payload : laid.payload ≡ tokens_width psks keyed ts
+  pub overhead : laid.overhead ≡ added_width psks keyed ts
+  pub secrets : laid.secrets ≡ count_by is_psk ts
+
+-- the same of messages one after another
+abbrev pub AreLaid : Bool → Bool → List (List Token) → List MessageLayout → Type 0
+AreLaid psks keyed [] [] = Unit {0}
+AreLaid psks keyed [] (laid ∷ more) = ⊥
+AreLaid psks keyed (ts ∷ messages) [] = ⊥
+AreLaid psks keyed (ts ∷ messages) (laid ∷ more) = IsLaid psks keyed ts laid × AreLaid psks (keyed_behind_tokens psks keyed ts) messages more
+
+-- The layout of a pattern: each message's, by the key that there is when it comes.
+pub record LaysOut (p : Plan) (layout : List MessageLayout) : Type 0 where
+  pub count : length layout ≡ length p.messages
+  pub each : (n : ℕ) (laid : MessageLayout) → n < length p.messages → laid ≡ get_or layout n laid
+      → IsLaid (has_psk p) (has_key p (passed_places p n)) (tokens_at p.messages n) laid

@@ -1,0 +1,29 @@
+-- What the private functions of reading say of a party that listens.
+use Rattle.std.specs.Prelude.{◌≡◌, ℕ, List, ◌++◌, Bool, Option, is_some, if◌then◌else◌}
+use Rattle.noise_names.specs.declared.token.Token.{Token}
+use Rattle.noise_names.specs.declared.token.Role.{Role}
+use Rattle.noise_names.specs.Plan.{has_psk}
+use Rattle.noise_state.specs.History.{History, cipher_key}
+use Rattle.noise_handshake.specs.declared.keys.Own.{Own}
+use Rattle.noise_handshake.specs.declared.remote.Remote.{Remote}
+use Rattle.noise_handshake.specs.Line.{token_piece}
+use Rattle.noise_handshake.specs.View.{View, Reader, Fits, Listens, tokens_now}
+
+-- no text of token t fits here
+abbrev pub Fails : Reader → Remote → List (List ℕ) → History → Token → List ℕ → Type 0
+Fails v known secrets r t m = (x rest : List ℕ) → Fits v known secrets t x → m ≡ token_piece r t x ++ rest → ⊥
+
+-- how many bytes a static key takes
+abbrev pub width_of_key : History → ℕ
+width_of_key r = if is_some (cipher_key r) then 48 else 32
+
+-- A party that listens, with these parts, for a view.
+pub record Listening (v : View) (role : Role) (psks : Bool) (agree : Own → List ℕ → Option (List ℕ))
+    (secrets : List (List ℕ)) (known : Remote) (tokens : List Token) : Type 0 where
+  pub listens : Listens v
+  pub role_is : role ≡ v.role
+  pub psks_is : psks ≡ has_psk v.pattern
+  pub agree_is : agree ≡ v.agree
+  pub secrets_are : secrets ≡ v.secrets
+  pub known_is : known ≡ v.remote
+  pub tokens_are : tokens ≡ tokens_now v
