@@ -1,7 +1,6 @@
 -- Whether there is a key along the places of a pattern, and how much longer than its payload a message is.
-use Rattle.std.proofs.Common.{◌≡◌, ℕ, ◌+◌, ◌<◌, List, [], ◌∷◌, ◌++◌, length, take, drop, refl, ap, sym, ◌∙◌, arith, append_assoc, append-nil, length-take}
-use Rattle.std.specs.Prelude.{Bool, true, false, ◌||◌, ◌&&◌, ◌==◌, if◌then◌else◌}
-use Rattle.std.proofs.lemmas.Bool.Decides.{nat_tests}
+use Rattle.std.proofs.Common.{◌≡◌, ℕ, ◌+◌, ◌-◌, ◌<◌, List, [], ◌∷◌, ◌++◌, length, get_or, take, refl, ap, sym, ◌∙◌, arith, append_assoc, append-nil}
+use Rattle.std.specs.Prelude.{Bool, true, false, ◌||◌, ◌&&◌}
 use Rattle.std.proofs.lemmas.List.{take_more}
 use Rattle.std.proofs.lemmas.List.Folds.{list_any-append}
 use Rattle.noise_names.specs.declared.token.Role.{Role}
@@ -12,8 +11,8 @@ use Rattle.noise_names.specs.Tokens.{turn_from}
 use Rattle.noise_names.specs.Plan.{Plan, does, payload, Place, place, token_places, message_places, has_psk}
 use Rattle.noise_names.specs.Validity.{is_at, occurs}
 use Rattle.noise_names.specs.Overhead.{has_key, added_len, overhead_from, overhead_of}
-use Rattle.noise_names.proofs.Lengths.{overhead_of-at, messages-split, message_places-append}
-use Rattle.noise_handshake.specs.Length.{keyed_behind, keyed_behind_tokens, tag_width, token_width, added_width}
+use Rattle.noise_names.specs.Facts.{message_places-append}
+use Rattle.noise_handshake.specs.Length.{keyed_behind, keyed_behind_tokens, token_width, added_width}
 use Rattle.noise_handshake.specs.Passed.{passed_places}
 use Rattle.noise_handshake.specs.View.{tokens_at}
 use Rattle.noise_handshake.proofs.Views.{tokens_at-read}
@@ -72,13 +71,6 @@ module _ (plan : Plan) where
       ap (has_key plan) (sym (append_assoc earlier (token_places party n 0 ts) (place party payload n (length ts) ∷ [])))
       ∙ has_key-payload (earlier ++ token_places party n 0 ts) party n (length ts) ∙ has_key-tokens earlier party n 0 ts
 
-  same : (n : ℕ) → (n == n) ≡ true
-  same n = grind (arith, nat_tests)
-
-  -- what a place of the message adds
-  here : (n k : ℕ) → (if n == n then k else 0) ≡ k
-  here n k = rw (same n)
-
   added-token : (earlier : List Place) (t : Token) → added_len plan earlier (does t) ≡ token_width (has_key plan earlier) t
   added-token earlier E = refl
   added-token earlier S = refl
@@ -90,14 +82,14 @@ module _ (plan : Plan) where
 
   -- what the places of a message add
   overhead-message : (n : ℕ) (earlier : List Place) (party : Role) (i k : ℕ) (ts : List Token)
-      → overhead_from plan n earlier (token_places party n i ts ++ place party payload n k ∷ []) ≡ added_width (has_psk plan) (has_key plan earlier) ts
-  overhead-message n earlier party i k [] = ap (λ (a : ℕ). a + 0) (here n (tag_width (has_key plan earlier))) ∙ omega arith
+      → overhead_from plan earlier (token_places party n i ts ++ place party payload n k ∷ []) ≡ added_width (has_psk plan) (has_key plan earlier) ts
+  overhead-message n earlier party i k [] = omega arith
   overhead-message n earlier party i k (t ∷ ts) =
       let p : Place = place party (does t) n i in
-      let first : (if n == n then added_len plan earlier (does t) else 0) ≡ token_width (has_key plan earlier) t = here n (added_len plan earlier (does t)) ∙ added-token earlier t in
-      let later : overhead_from plan n (earlier ++ p ∷ []) (token_places party n (i + 1) ts ++ place party payload n k ∷ []) ≡ added_width (has_psk plan) (keyed_behind (has_psk plan) (has_key plan earlier) t) ts =
+      let later : overhead_from plan (earlier ++ p ∷ []) (token_places party n (i + 1) ts ++ place party payload n k ∷ [])
+      ≡ added_width (has_psk plan) (keyed_behind (has_psk plan) (has_key plan earlier) t) ts =
       overhead-message n (earlier ++ p ∷ []) party (i + 1) k ts ∙ ap (λ (b : Bool). added_width (has_psk plan) b ts) (has_key-token earlier party t n i) in
-      omega (arith, first, later)
+      omega (arith, added-token earlier t, later)
 
   -- what the pre-messages make of it
   pub has_key-start : has_key plan (passed_places plan 0) ≡ keyed_behind_tokens (has_psk plan) (keyed_behind_tokens (has_psk plan) false plan.initiator) plan.responder
@@ -126,7 +118,8 @@ module _ (plan : Plan) where
   pub overhead-is : (n : ℕ) → n < length plan.messages → overhead_of plan (n + 1) ≡ added_width (has_psk plan) (has_key plan (passed_places plan n)) (tokens_at plan.messages n)
   overhead-is n h =
       let m : List Token = tokens_at plan.messages n in
-      let before : List (List Token) = take n plan.messages in
-      let count : length before ≡ n = length-take n plan.messages ∙ omega arith in
-      overhead_of-at plan before m (drop (n + 1) plan.messages) (n + 1) (messages-split plan.messages n m h (sym (tokens_at-read plan.messages n m h))) (omega arith)
-      ∙ overhead-message (n + 1) (passed_places plan n) (turn_from Initiator (length before)) 0 (length m) m
+      let whole : ℕ → List Token → ℕ =
+      λ k ts. overhead_from plan (passed_places plan k) (message_places (turn_from Initiator k) (n + 1) (ts ∷ [])) in
+      let back : (n + 1) - 1 ≡ n = omega arith in
+      ap (λ (k : ℕ). whole k (get_or plan.messages k [])) back ∙ ap (whole n) (tokens_at-read plan.messages n [] h)
+      ∙ overhead-message (n + 1) (passed_places plan n) (turn_from Initiator n) 0 (length m) m

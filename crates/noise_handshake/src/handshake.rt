@@ -20,8 +20,8 @@ const MAX_LEN: usize = 65535;
 
 /// One party of a handshake (Noise, 5.3), in either role of any valid pattern. It asks for no memory.
 ///
-/// Messages are written and read in turn, the initiator's first. A message goes on in a copy of the symmetric state, so
-/// that a fault leaves what the messages before it made.
+/// Messages are written and read in turn, the initiator's first. A message goes on in a trial of the symmetric state, so
+/// that a fault leaves what the messages before it made. The pattern is laid out once, when the handshake is made.
 #[derive(Drop)]
 pub struct Handshake<K: Keys> {
     pattern: ValidPattern,
@@ -48,9 +48,28 @@ impl<K: Keys> Model for Handshake<K> {
 
     ghost Value = { Held K };
 
-    ghost view = { λ a. record { pattern = a.pattern; role = a.role; keys = a.keys; remote = a.remote; secrets = drop a.used a.secrets.items; passed = a.passed; ended = a.ended; state = a.state } };
+    ghost view = { λ a. record {
+      pattern = a.pattern;
+      role = a.role;
+      keys = a.keys;
+      remote = a.remote;
+      secrets = drop a.used a.secrets.items;
+      passed = a.passed;
+      ended = a.ended;
+      state = a.state;
+    } };
 
-    ghost invariant = { λ a. let h : Held K = record { pattern = a.pattern; role = a.role; keys = a.keys; remote = a.remote; secrets = drop a.used a.secrets.items; passed = a.passed; ended = a.ended; state = a.state } in (a.psks ≡ has_psk a.pattern) × (a.used ≤ length a.secrets.items) × IsSound K.public_of h × KnowsRemote h × LaysOut a.pattern a.layout.items × IsValid a.pattern };
+    ghost invariant = { λ a. let h : Held K = record {
+      pattern = a.pattern;
+      role = a.role;
+      keys = a.keys;
+      remote = a.remote;
+      secrets = drop a.used a.secrets.items;
+      passed = a.passed;
+      ended = a.ended;
+      state = a.state;
+    } in
+        (a.psks ≡ has_psk a.pattern) × (a.used ≤ length a.secrets.items) × IsSound K.public_of h × KnowsRemote h × LaysOut a.pattern a.layout.items × IsValid a.pattern };
 }
 
 impl<K: Keys> Handshake<K> {
@@ -83,7 +102,8 @@ impl<K: Keys> Handshake<K> {
     ) -> Result<Handshake<K>, SetupFault>
         requires { length prologue.now ≤ 65535 }
         ensures fault { MatchOption (setup_fault pattern role (K.public_of keys) remote (length psks.now)) (IsOk result) (λ fault. result ≡ Err fault) }
-        ensures stands { IfOk result (λ h. Stands K.public_of K.agreement h (begun pattern role prologue.now (K.public_of keys) (K.agreement keys) remote psks.now)) }
+        ensures stands { IfOk result
+            (λ h. Stands K.public_of K.agreement h (begun pattern role prologue.now (K.public_of keys) (K.agreement keys) remote psks.now)) }
         ensures parts { IfOk result (λ h. (h.pattern ≡ pattern) × (h.role ≡ role) × (h.keys ≡ keys) × (h.passed ≡ 0) × (h.ended ≡ false)) }
     {
         let plan = pattern.pattern();
@@ -163,7 +183,8 @@ impl<K: Keys> Handshake<K> {
     // The layout of the next message.
     fn next_layout(&self) -> &MessageLayout
         requires { self.now.passed < length self.now.pattern.messages }
-        ensures laid { IsLaid (has_psk self.now.pattern) (has_key self.now.pattern (passed_places self.now.pattern self.now.passed)) (tokens_at self.now.pattern.messages self.now.passed) result.now }
+        ensures laid { let p = self.now.pattern in let n = self.now.passed in
+            IsLaid (has_psk p) (has_key p (passed_places p n)) (tokens_at p.messages n) result.now }
         ensures valid { IsValid self.now.pattern }
     {
         &self.layout[self.passed as usize]
@@ -204,7 +225,8 @@ impl<K: Keys> Handshake<K> {
         ensures fault { MatchOption (read_fault self.old) (IfErr result IsRefusal) (λ fault. result ≡ Err fault) }
         ensures state { MatchResult result (λ _. Advances self.old self.new) (λ fault. self.new ≡ behind_read_fault self.old fault) }
         ensures reads { (v : View) → Stands K.public_of K.agreement self.old v → MatchResult result
-            (λ place. let payload = slice_range message.new place.0 place.1 in (xs : List (List ℕ)) × Accepts v message.old xs payload × Stands K.public_of K.agreement self.new (behind_message v xs payload))
+            (λ place. let payload = slice_range message.new place.0 place.1 in (xs : List (List ℕ)) × Accepts v message.old xs payload
+            × Stands K.public_of K.agreement self.new (behind_message v xs payload))
             (λ fault. Declines v message.old fault × Stands K.public_of K.agreement self.new (behind_declined v fault)) }
     {
         if let Some(fault) = self.read_fault() {
@@ -250,7 +272,8 @@ impl<K: Keys> Handshake<K> {
     /// other faults leave it as it was.
     pub fn read<'a>(&mut self, message: &'a mut [u8]) -> Result<&'a mut [u8], ReadFault>
         requires { length message.old ≤ 65535 }
-        ensures part { IfOk result (λ payload. (from : ℕ) × (payload.ref_ptr ≡ (message.entry.ref_ptr.0, message.entry.ref_ptr.1 + from)) × (from + length payload.now ≤ length message.old)) }
+        ensures part { IfOk result (λ payload. (from : ℕ) × (payload.ref_ptr ≡ (message.entry.ref_ptr.0, message.entry.ref_ptr.1 + from))
+            × (from + length payload.now ≤ length message.old)) }
         ensures fault { MatchOption (read_fault self.old) (IfErr result IsRefusal) (λ fault. result ≡ Err fault) }
         ensures state { MatchResult result (λ _. Advances self.old self.new) (λ fault. self.new ≡ behind_read_fault self.old fault) }
         ensures reads { (v : View) → Stands K.public_of K.agreement self.old v → MatchResult result
@@ -305,7 +328,8 @@ impl<K: Keys> Handshake<K> {
     pub fn write(&mut self, payload: &[u8], out: &mut [u8]) -> Result<usize, WriteFault>
         requires { ForSome (message_len_of self.old (length payload.now)) (λ n. n ≤ length out.old) }
         ensures len { IfOk result (λ n. (message_len_of self.old (length payload.now) ≡ Some n) × (n ≤ length out.new)) }
-        ensures fault { MatchOption (write_fault self.old (length payload.now)) (IfErr result IsAgreement) (λ fault. (result ≡ Err fault) × (out.new ≡ out.old)) }
+        ensures fault { MatchOption (write_fault self.old (length payload.now)) (IfErr result IsAgreement) (λ fault. (result ≡ Err fault)
+            × (out.new ≡ out.old)) }
         ensures state { MatchResult result (λ _. Advances self.old self.new) (λ fault. self.new ≡ behind_write_fault self.old fault) }
         ensures beyond { IfOk result (λ n. drop n out.new ≡ drop n out.old) }
         ensures writes { (v : View) → Stands K.public_of K.agreement self.old v → MatchResult result

@@ -22,12 +22,10 @@ pub(crate) struct PlacedToken {
     pub(crate) keyed: bool,
 }
 
-// A message: its tokens, the place of its payload, and how much longer than the payload it is, in bytes, and how many
-// secrets it takes.
+// A message: its tokens, how much longer than its payload it is, in bytes, and how many secrets it takes.
 #[derive(Default, Drop)]
 pub(crate) struct MessageLayout {
     pub(crate) tokens: ArrayVec<PlacedToken, 10>,
-    pub(crate) payload: u16,
     pub(crate) overhead: u16,
     pub(crate) secrets: usize,
 }
@@ -96,7 +94,6 @@ fn lay_message(tokens: &[Token], psks: bool, keyed: bool) -> (MessageLayout, boo
     let tag = if behind { 16 } else { 0 };
     let laid = MessageLayout {
         tokens: placed,
-        payload,
         overhead: payload + tag,
         secrets: psk_count(tokens),
     };

@@ -118,7 +118,8 @@ fn lacks_key(pre: &[Token], remote: &Remote) -> bool
 
 // Whether a key is there that isn't in this pre-message.
 fn has_other_key(pre: &[Token], remote: &Remote) -> bool
-    ensures { result ≡ ((is_some remote.now.e && not (list_any (λ t. same_token t E) pre.now)) || (is_some remote.now.s && not (list_any (λ t. same_token t S) pre.now))) }
+    ensures { result ≡ ((is_some remote.now.e && not (list_any (λ t. same_token t E) pre.now)) || (is_some remote.now.s && not (list_any
+        (λ t. same_token t S) pre.now))) }
 {
     (remote.e.is_some() && !has_token(pre, Own::Ephemeral))
         || (remote.s.is_some() && !has_token(pre, Own::Static))

@@ -49,7 +49,8 @@ fn write_part(state: &mut SymmetricState, text: &[u8], out: &mut [u8]) -> usize
     ensures rest { drop result out.new ≡ drop result out.old }
     ensures keyed { keyed state.new ≡ keyed state.old }
     ensures used { nonce_now state.new ≤ nonce_now state.old + 1 }
-    ensures written { (r : History) → StateStands state.old r → (take result out.new ≡ piece r text.now) × StateStands state.new (and_then r (Part (piece r text.now))) }
+    ensures written { (r : History) → StateStands state.old r → (take result out.new ≡ piece r text.now)
+        × StateStands state.new (and_then r (Part (piece r text.now))) }
 {
     let len = put(text, out);
     let width = len + tag_width(state);
@@ -90,9 +91,17 @@ fn write_token<K: Keys>(
     ensures rest { IfSome result (λ n. drop n out.new ≡ drop n out.old) }
     ensures keyed { IfSome result (λ _. keyed state.new ≡ keyed_behind means.now.psks (keyed state.old) token) }
     ensures used { nonce_now state.new ≤ nonce_now state.old + 1 }
-    ensures written { (r : History) → StateStands state.old r → let w : Writer = record { role = means.now.role; psks = means.now.psks; own = K.public_of means.now.keys.now; agree = K.agreement means.now.keys.now } in MatchOption result
+    ensures written { (r : History) → StateStands state.old r
+        → let w : Writer = record {
+          role = means.now.role;
+          psks = means.now.psks;
+          own = K.public_of means.now.keys.now;
+          agree = K.agreement means.now.keys.now;
+        } in
+        MatchOption result
         ((x : List ℕ) → Gives w known.now secrets.now token x → ⊥)
-        (λ n. (x : List ℕ) × Gives w known.now secrets.now token x × (take n out.new ≡ token_piece r token x) × StateStands state.new (behind_token means.now.psks r token x)) }
+        (λ n. (x : List ℕ) × Gives w known.now secrets.now token x × (take n out.new ≡ token_piece r token x)
+        × StateStands state.new (behind_token means.now.psks r token x)) }
 {
     match token {
         Token::E => match means.keys.public(Own::Ephemeral) {
@@ -129,12 +138,22 @@ fn write_tokens<K: Keys>(
     requires known { IsTrue (list_all (is_known means.now.role (is_some known.now.e) (is_some known.now.s)) (tokens_of placed.now)) }
     requires room { tokens_width means.now.psks (keyed state.old) (tokens_of placed.now) ≤ length out.old }
     requires nonces { nonce_now state.old + length (tokens_of placed.now) < 2 ^ 64 - 1 }
-    ensures width { MatchResult result (λ n. n ≡ tokens_width means.now.psks (keyed state.old) (tokens_of placed.now)) (λ k. k < length (tokens_of placed.now)) }
+    ensures width { MatchResult result (λ n. n ≡ tokens_width means.now.psks (keyed state.old) (tokens_of placed.now))
+        (λ k. k < length (tokens_of placed.now)) }
     ensures rest { IfOk result (λ n. drop n out.new ≡ drop n out.old) }
     ensures keyed { IfOk result (λ _. keyed state.new ≡ keyed_behind_tokens means.now.psks (keyed state.old) (tokens_of placed.now)) }
     ensures used { nonce_now state.new ≤ nonce_now state.old + length (tokens_of placed.now) }
-    ensures written { (r : History) → StateStands state.old r → let w : Writer = record { role = means.now.role; psks = means.now.psks; own = K.public_of means.now.keys.now; agree = K.agreement means.now.keys.now } in MatchResult result
-        (λ n. (xs : List (List ℕ)) × Given w known.now secrets.now (tokens_of placed.now) xs × (take n out.new ≡ front means.now.psks r (tokens_of placed.now) xs) × StateStands state.new (behind_front means.now.psks r (tokens_of placed.now) xs))
+    ensures written { (r : History) → StateStands state.old r
+        → let w : Writer = record {
+          role = means.now.role;
+          psks = means.now.psks;
+          own = K.public_of means.now.keys.now;
+          agree = K.agreement means.now.keys.now;
+        } in
+        MatchResult result
+        (λ n. (xs : List (List ℕ)) × Given w known.now secrets.now (tokens_of placed.now) xs
+        × (take n out.new ≡ front means.now.psks r (tokens_of placed.now) xs)
+        × StateStands state.new (behind_front means.now.psks r (tokens_of placed.now) xs))
         (λ k. LacksAt w known.now secrets.now (tokens_of placed.now) k) }
 {
     let Some((first, later)) = placed.split_first() else {
@@ -167,12 +186,22 @@ pub(crate) fn write_message<K: Keys>(
     requires room { added_width means.now.psks (keyed state.old) (tokens_of placed.now) + length payload.now ≤ length out.old }
     requires most { added_width means.now.psks (keyed state.old) (tokens_of placed.now) + length payload.now ≤ 65535 }
     requires nonces { nonce_now state.old + length (tokens_of placed.now) < 2 ^ 64 - 1 }
-    ensures width { MatchResult result (λ n. n ≡ added_width means.now.psks (keyed state.old) (tokens_of placed.now) + length payload.now) (λ k. k < length (tokens_of placed.now)) }
+    ensures width { MatchResult result (λ n. n ≡ added_width means.now.psks (keyed state.old) (tokens_of placed.now) + length payload.now)
+        (λ k. k < length (tokens_of placed.now)) }
     ensures rest { IfOk result (λ n. drop n out.new ≡ drop n out.old) }
     ensures keyed { IfOk result (λ _. keyed state.new ≡ keyed_behind_tokens means.now.psks (keyed state.old) (tokens_of placed.now)) }
     ensures used { nonce_now state.new ≤ nonce_now state.old + length (tokens_of placed.now) + 1 }
-    ensures written { (r : History) → StateStands state.old r → let w : Writer = record { role = means.now.role; psks = means.now.psks; own = K.public_of means.now.keys.now; agree = K.agreement means.now.keys.now } in MatchResult result
-        (λ n. (xs : List (List ℕ)) × Given w known.now secrets.now (tokens_of placed.now) xs × (take n out.new ≡ line means.now.psks r (tokens_of placed.now) xs payload.now) × StateStands state.new (behind_line means.now.psks r (tokens_of placed.now) xs payload.now))
+    ensures written { (r : History) → StateStands state.old r
+        → let w : Writer = record {
+          role = means.now.role;
+          psks = means.now.psks;
+          own = K.public_of means.now.keys.now;
+          agree = K.agreement means.now.keys.now;
+        } in
+        MatchResult result
+        (λ n. (xs : List (List ℕ)) × Given w known.now secrets.now (tokens_of placed.now) xs
+        × (take n out.new ≡ line means.now.psks r (tokens_of placed.now) xs payload.now)
+        × StateStands state.new (behind_line means.now.psks r (tokens_of placed.now) xs payload.now))
         (λ k. LacksAt w known.now secrets.now (tokens_of placed.now) k) }
 {
     let from = match write_tokens(state, known, means, secrets, placed, out) {

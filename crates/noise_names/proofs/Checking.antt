@@ -277,38 +277,6 @@ pub one_way_places : (plan : Plan) (initiator responder : List Token) (messages 
     ++ place Initiator transport (length messages + 1) 0 ∷ [] ≡ places_of plan
 one_way_places plan initiator responder messages a b c d = rw (a, b, c, d) refl
 
-no_rules : (rules others : List ℕ) → rules ++ others ≡ [] → (rules ≡ []) × (others ≡ [])
-no_rules [] others h = (refl, h)
-no_rules (r ∷ rs) others h = absurd (cc)
-
-kept_of : (n : ℕ) (kept : Bool) → unless_kept n kept ≡ [] → kept ≡ true
-kept_of n true h = refl
-kept_of n false h = absurd (cc)
-
--- the five rules at a place that breaks none
-pub keeps_rules : (earlier : List Place) (p : Place) → broken_rules earlier p ≡ [] → KeepsRules earlier p
-keeps_rules earlier p h =
-    by_tests (keys_stand earlier p.step) (key_is_first earlier p.party p.step) (dh_is_first earlier p.step)
-    (comes_with (encrypts p.step) (dh_is_fresh earlier p.party)) (comes_with (encrypts p.step) (psk_is_fresh earlier p.party)) refl refl refl refl refl h where
-      by_tests : (a b c d e : Bool) → keys_stand earlier p.step ≡ a → key_is_first earlier p.party p.step ≡ b → dh_is_first earlier p.step ≡ c
-          → comes_with (encrypts p.step) (dh_is_fresh earlier p.party) ≡ d → comes_with (encrypts p.step) (psk_is_fresh earlier p.party) ≡ e
-          → (((unless_kept 1 a ++ unless_kept 2 b) ++ unless_kept 3 c) ++ unless_kept 4 d) ++ unless_kept 5 e ≡ [] → KeepsRules earlier p
-      by_tests a b c d e ka kb kc kd ke h =
-          let fifth : ((((unless_kept 1 a ++ unless_kept 2 b) ++ unless_kept 3 c) ++ unless_kept 4 d) ≡ []) × (unless_kept 5 e ≡ []) =
-          no_rules (((unless_kept 1 a ++ unless_kept 2 b) ++ unless_kept 3 c) ++ unless_kept 4 d) (unless_kept 5 e) h in
-          let fourth : (((unless_kept 1 a ++ unless_kept 2 b) ++ unless_kept 3 c) ≡ []) × (unless_kept 4 d ≡ []) =
-          no_rules ((unless_kept 1 a ++ unless_kept 2 b) ++ unless_kept 3 c) (unless_kept 4 d) fifth.0 in
-          let third : ((unless_kept 1 a ++ unless_kept 2 b) ≡ []) × (unless_kept 3 c ≡ []) =
-          no_rules (unless_kept 1 a ++ unless_kept 2 b) (unless_kept 3 c) fourth.0 in
-          let second : (unless_kept 1 a ≡ []) × (unless_kept 2 b ≡ []) = no_rules (unless_kept 1 a) (unless_kept 2 b) third.0 in
-          record {
-            keys = ka ∙ kept_of 1 a second.0;
-            key = kb ∙ kept_of 2 b second.1;
-            dh = kc ∙ kept_of 3 c third.1;
-            fresh_dh = kd ∙ kept_of 4 d fourth.1;
-            fresh_psk = ke ∙ kept_of 5 e fifth.1;
-          }
-
 -- one place more is kept
 pub seen-more : (earlier done : List Place) (old new : Seen) (q : Place) → old ≡ seen_of (earlier ++ done) → new ≡ with_place old q
     → new ≡ seen_of (earlier ++ (done ++ q ∷ []))

@@ -8,5 +8,4 @@ pub mod ProtocolNames
 pub mod PskTokens
 pub mod Reading
 pub mod Sections
-pub mod Standing
 pub mod Writing

@@ -1,5 +1,5 @@
 -- A pattern section and a protocol name are read exactly if they are spelled so.
-use Rattle.std.proofs.Common.{◌≡◌, ℕ, suc, ◌+◌, ◌<◌, ◌≤◌, Bool, true, false, ◌&&◌, ◌||◌, not, cond, eqb, leb, ltb, List, [], ◌∷◌, ◌++◌, Result, Ok, Err, refl}
+use Rattle.std.proofs.Common.{◌≡◌, ℕ, suc, ◌+◌, ◌<◌, ◌≤◌, Bool, true, false, ◌&&◌, not, cond, ltb, List, [], ◌∷◌, ◌++◌, Result, Ok, Err, refl}
 use Rattle.std.proofs.Common.{ap, sym, ◌∙◌, subst, append-nil, map, length, take, drop, take_while, arith}
 use Rattle.std.specs.List.{list_all, join_with_byte, prefix_len}
 use Rattle.std.proofs.lemmas.Bool.Decides.{nat_tests}
@@ -10,7 +10,7 @@ use Rattle.noise_names.specs.Names.{Section, IsSection, is_base_byte, is_upper, 
 use Rattle.noise_names.specs.Names.{rises, are_places, section_bytes}
 use Rattle.noise_names.specs.Sections.{numbers_in, modifiers_read, unless_section_fault, section_in, section_read}
 use Rattle.std.proofs.lemmas.List.Splits.{join_with_byte-slice_split}
-use Rattle.noise_names.proofs.Modifiers.{are_numbers, le_from_test, all_modifiers, pieces_of-modifiers, are_modifiers, digits_rise, same_numbers, places_rise}
+use Rattle.noise_names.proofs.Modifiers.{are_numbers, all_modifiers, pieces_of-modifiers, are_modifiers, digits_rise, same_numbers, places_rise}
 
 both : (x y : Bool) → x && y ≡ true → (x ≡ true) × (y ≡ true)
 both true y h = (refl, h)

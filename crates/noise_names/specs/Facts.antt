@@ -1,5 +1,5 @@
 -- Facts on the definitions, for proofs of other crates.
-use Rattle.std.proofs.Common.{◌≡◌, ℕ, suc, ◌+◌, ◌≤◌, ◌<◌, ◌==◌, Bool, true, false, ◌&&◌, ◌||◌, nat_le, nat_lt, List, [], ◌∷◌, ◌++◌, length, map, refl, ap, sym}
+use Rattle.std.proofs.Common.{◌≡◌, ℕ, suc, ◌+◌, true, false, ◌&&◌, nat_le, nat_lt, List, [], ◌∷◌, ◌++◌, length, map, refl, ap, sym}
 use Rattle.std.proofs.Common.{◌∙◌, append_assoc, arith}
 use Rattle.std.specs.Prelude.{IsTrue}
 use Rattle.std.specs.List.{list_all, join_with_byte}
@@ -10,7 +10,7 @@ use Rattle.noise_names.specs.declared.token.Role.{Role}
 use Rattle.noise_names.specs.declared.token.Token.{Token}
 use Rattle.noise_names.specs.Tokens.{other, turn_from}
 use Rattle.noise_names.specs.Plan.{Place, payload, place, token_places, message_places}
-use Rattle.noise_names.specs.Names.{Section, IsSection, is_base, is_base_byte, is_upper, is_section_byte, rises, are_places, modifier, section_bytes}
+use Rattle.noise_names.specs.Names.{Section, IsSection, is_base, is_base_byte, is_upper, is_section_byte, rises, modifier, section_bytes}
 
 -- the places of some messages and of further ones
 pub message_places-append : (party : Role) (n : ℕ) (xs ys : List (List Token)) →

@@ -10,4 +10,5 @@ pub mod Overhead
 pub mod Checking
 pub mod Reading
 pub mod Facts
+pub mod Rules
 pub mod Examples

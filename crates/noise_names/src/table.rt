@@ -2,7 +2,7 @@
 
 ghost use Rattle.std.specs.Prelude.{◌≡◌, ◌<◌, Some, None, slice_get, map, [], IfSome, IsFalse, MatchOption};
 ghost use Rattle.noise_names.specs.Plan.{has_psk};
-ghost use Rattle.noise_names.specs.Fundamental.{fundamentals, fundamental_of};
+ghost use Rattle.noise_names.specs.Fundamental.{fundamentals, fundamental_of, plain};
 
 use crate::{Message, Pattern, PskPlaces, Token};
 use arrayvec::ArrayVec;
@@ -76,9 +76,8 @@ fn row(place: u8) -> Pattern
 
 // The fundamental pattern that has these parts.
 fn plain(base: &[u8], initiator: &[Token], responder: &[Token], messages: &[&[Token]]) -> Pattern
-    requires { fundamental_of base.now
-        ≡ Some (record { base = base.now; places = []; initiator = initiator.now; responder = responder.now; messages = map (λ m. m.now) messages.now }) }
-    ensures { result ≡ record { base = base.now; places = []; initiator = initiator.now; responder = responder.now; messages = map (λ m. m.now) messages.now } }
+    requires { fundamental_of base.now ≡ Some (plain base.now initiator.now responder.now (map (λ m. m.now) messages.now)) }
+    ensures { result ≡ plain base.now initiator.now responder.now (map (λ m. m.now) messages.now) }
 {
     let mut kept = ArrayVec::new();
     for tokens in messages {

@@ -1,5 +1,5 @@
 -- The layout of a pattern's messages: the places, widths and keys of Noise 5.3, token by token.
-use Rattle.std.specs.Prelude.{◌≡◌, ℕ, ◌+◌, ◌<◌, Bool, List, [], ◌∷◌, length, map, count_by}
+use Rattle.std.specs.Prelude.{◌≡◌, ℕ, ◌+◌, ◌<◌, Bool, List, [], ◌∷◌, length, count_by}
 use Rattle.std.proofs.Common.{get_or}
 use Rattle.noise_names.specs.declared.token.Token.{Token}
 use Rattle.noise_names.specs.Tokens.{is_psk}
@@ -7,7 +7,7 @@ use Rattle.noise_names.specs.Plan.{Plan, has_psk}
 use Rattle.noise_names.specs.Overhead.{has_key}
 use Rattle.noise_handshake.specs.declared.layout.PlacedToken.{PlacedToken}
 use Rattle.noise_handshake.specs.declared.layout.MessageLayout.{MessageLayout}
-use Rattle.noise_handshake.specs.Length.{keyed_behind, keyed_behind_tokens, token_width, tokens_width, added_width}
+use Rattle.noise_handshake.specs.Length.{keyed_behind, keyed_behind_tokens, token_width, added_width}
 use Rattle.noise_handshake.specs.Passed.{passed_places}
 use Rattle.noise_handshake.specs.View.{tokens_at}
 
@@ -15,7 +15,8 @@ use Rattle.noise_handshake.specs.View.{tokens_at}
 abbrev pub placed_from : Bool → Bool → ℕ → List Token → List PlacedToken
 placed_from psks keyed place [] = []
 placed_from psks keyed place (t ∷ ts) =
-    record { token = t; place = place; width = token_width keyed t; keyed = keyed } ∷ placed_from psks (keyed_behind psks keyed t) (place + token_width keyed t) ts
+    record { token = t; place = place; width = token_width keyed t; keyed = keyed }
+    ∷ placed_from psks (keyed_behind psks keyed t) (place + token_width keyed t) ts
 
 abbrev pub tokens_of : List PlacedToken → List Token
 tokens_of [] = []
@@ -30,7 +31,6 @@ ArePlaced psks keyed place (p ∷ ps) =
 -- The layout of a message of these tokens, where there is a key before it or not.
 pub record IsLaid (psks keyed : Bool) (ts : List Token) (laid : MessageLayout) : Type 0 where
   pub tokens : laid.tokens.items ≡ placed_from psks keyed 0 ts
-  pub payload : laid.payload ≡ tokens_width psks keyed ts
   pub overhead : laid.overhead ≡ added_width psks keyed ts
   pub secrets : laid.secrets ≡ count_by is_psk ts
 

@@ -1,13 +1,46 @@
--- The rules at a token of a valid pattern.
-use Rattle.std.proofs.Common.{◌≡◌, ℕ, ◌+◌, List, [], ◌∷◌, ◌++◌, ap, ◌∙◌, append_assoc, arith, length}
+-- What validity says of a place and of a token, for proofs of other crates too.
+use Rattle.std.proofs.Common.{◌≡◌, ℕ, ◌+◌, List, [], ◌∷◌, ◌++◌, refl, ap, ◌∙◌, append_assoc, arith, length}
+use Rattle.std.specs.Prelude.{Bool, true, false}
 use Rattle.noise_names.specs.declared.token.Role.{Role}
 use Rattle.noise_names.specs.declared.token.Role.TheVariants.{Initiator, Responder}
 use Rattle.noise_names.specs.declared.token.Token.{Token}
 use Rattle.noise_names.specs.Tokens.{turn_from, other}
 use Rattle.noise_names.specs.Plan.{Plan, Place, does, payload, place, token_places, message_places, transport_places, places_of, places_before}
-use Rattle.noise_names.specs.Validity.{IsValid, KeepsRules}
-use Rattle.noise_names.proofs.Checking.{keeps_rules}
+use Rattle.noise_names.specs.Validity.{keys_stand, key_is_first, dh_is_first, comes_with, encrypts, dh_is_fresh, psk_is_fresh, unless_kept, broken_rules}
+use Rattle.noise_names.specs.Validity.{IsValid, KeepsRules, TokensKeepRules}
 use Rattle.noise_names.specs.Facts.{message_places-append}
+
+no_rules : (rules others : List ℕ) → rules ++ others ≡ [] → (rules ≡ []) × (others ≡ [])
+no_rules [] others h = (refl, h)
+no_rules (r ∷ rs) others h = absurd (cc)
+
+kept_of : (n : ℕ) (kept : Bool) → unless_kept n kept ≡ [] → kept ≡ true
+kept_of n true h = refl
+kept_of n false h = absurd (cc)
+
+-- the five rules at a place that breaks none
+pub keeps_rules : (earlier : List Place) (p : Place) → broken_rules earlier p ≡ [] → KeepsRules earlier p
+keeps_rules earlier p h =
+    by_tests (keys_stand earlier p.step) (key_is_first earlier p.party p.step) (dh_is_first earlier p.step)
+    (comes_with (encrypts p.step) (dh_is_fresh earlier p.party)) (comes_with (encrypts p.step) (psk_is_fresh earlier p.party)) refl refl refl refl refl h where
+      by_tests : (a b c d e : Bool) → keys_stand earlier p.step ≡ a → key_is_first earlier p.party p.step ≡ b → dh_is_first earlier p.step ≡ c
+          → comes_with (encrypts p.step) (dh_is_fresh earlier p.party) ≡ d → comes_with (encrypts p.step) (psk_is_fresh earlier p.party) ≡ e
+          → (((unless_kept 1 a ++ unless_kept 2 b) ++ unless_kept 3 c) ++ unless_kept 4 d) ++ unless_kept 5 e ≡ [] → KeepsRules earlier p
+      by_tests a b c d e ka kb kc kd ke h =
+          let fifth : ((((unless_kept 1 a ++ unless_kept 2 b) ++ unless_kept 3 c) ++ unless_kept 4 d) ≡ []) × (unless_kept 5 e ≡ []) =
+          no_rules (((unless_kept 1 a ++ unless_kept 2 b) ++ unless_kept 3 c) ++ unless_kept 4 d) (unless_kept 5 e) h in
+          let fourth : (((unless_kept 1 a ++ unless_kept 2 b) ++ unless_kept 3 c) ≡ []) × (unless_kept 4 d ≡ []) =
+          no_rules ((unless_kept 1 a ++ unless_kept 2 b) ++ unless_kept 3 c) (unless_kept 4 d) fifth.0 in
+          let third : ((unless_kept 1 a ++ unless_kept 2 b) ≡ []) × (unless_kept 3 c ≡ []) =
+          no_rules (unless_kept 1 a ++ unless_kept 2 b) (unless_kept 3 c) fourth.0 in
+          let second : (unless_kept 1 a ≡ []) × (unless_kept 2 b ≡ []) = no_rules (unless_kept 1 a) (unless_kept 2 b) third.0 in
+          record {
+            keys = ka ∙ kept_of 1 a second.0;
+            key = kb ∙ kept_of 2 b second.1;
+            dh = kc ∙ kept_of 3 c third.1;
+            fresh_dh = kd ∙ kept_of 4 d fourth.1;
+            fresh_psk = ke ∙ kept_of 5 e fifth.1;
+          }
 
 token_places-append : (party : Role) (n i : ℕ) (front rest : List Token)
     → token_places party n i (front ++ rest) ≡ token_places party n i front ++ token_places party n (i + length front) rest
@@ -18,7 +51,7 @@ token_places-append party n i (t ∷ front) rest =
     (token_places-append party n (i + 1) front rest ∙ ap (λ (k : ℕ). token_places party n (i + 1) front ++ token_places party n k rest) count)
 
 -- the list of places, cut at a token
-pub places-split : (plan : Plan) (before : List (List Token)) (front : List Token) (token : Token) (back : List Token) (after : List (List Token))
+places-split : (plan : Plan) (before : List (List Token)) (front : List Token) (token : Token) (back : List Token) (after : List (List Token))
     → plan.messages ≡ before ++ (front ++ token ∷ back) ∷ after →
     (later : List Place) × (places_of plan
     ≡ places_before plan before front ++ place (turn_from Initiator (length before)) (does token) (length before + 1) (length front) ∷ later)
@@ -46,11 +79,9 @@ places-split plan before front token back after split =
     regroup : (a b c : List Place) (p : Place) (d e f : List Place) → (a ++ (b ++ ((c ++ p ∷ d) ++ e))) ++ f ≡ ((a ++ b) ++ c) ++ p ∷ (d ++ (e ++ f))
     regroup a b c p d e f = simp append_assoc
 
--- the rules at a token of a valid pattern
-pub rules_at_token : (plan : Plan) (before : List (List Token)) (front : List Token) (token : Token) (back : List Token) (after : List (List Token))
-    → IsValid plan → plan.messages ≡ before ++ (front ++ token ∷ back) ∷ after →
-    KeepsRules (places_before plan before front) (place (turn_from Initiator (length before)) (does token) (length before + 1) (length front))
-rules_at_token plan before front token back after valid split =
+-- each token of a valid pattern keeps them
+pub tokens-keep-rules : (plan : Plan) → IsValid plan → TokensKeepRules plan
+tokens-keep-rules plan valid before front token back after split =
     let h = places-split plan before front token back after split in
     keeps_rules (places_before plan before front) (place (turn_from Initiator (length before)) (does token) (length before + 1) (length front))
     (valid _ _ h.0 h.1)
