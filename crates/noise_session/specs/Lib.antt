@@ -9,5 +9,6 @@ pub mod Ends
 pub mod Phases
 pub mod Taking
 pub mod Sending
+pub mod Outputs
 pub mod Outcomes
 pub mod Incoming

@@ -1,24 +1,27 @@
 //! One end of a session.
 #![tactic(auto)]
 
-ghost use Rattle.std.specs.Prelude.{◌≡◌, ◌≤◌, ◌+◌, ℕ, [], ⊤, length, take, drop, true, false, Some, None, Ok, Err, IsTrue, IfOk, IfErr, IfSome, MatchOption};
+ghost use Rattle.std.specs.Prelude.{◌≡◌, ◌≤◌, ◌+◌, ℕ, List, [], ⊤, length, take, drop, true, false, Some, None, Ok, Err, IsTrue, IfOk, IfErr, IfSome, MatchOption};
 ghost use Rattle.std.specs.Option.{ForSome};
 ghost use Rattle.noise_handshake.specs.View.{View};
 ghost use Rattle.noise_handshake.specs.Party.{Stands};
 ghost use Rattle.noise_session.specs.Frames.{IsPartial};
 ghost use Rattle.noise_session.specs.Progress.{role_of, stage_of, refusal, frame_len_of};
 ghost use Rattle.noise_session.specs.Steps.{told};
+ghost use Rattle.noise_session.specs.Counting.{inner_of, failures_of};
+ghost use Rattle.std.specs.Io.KnownBytes.{Appends};
 
+use crate::draining::write_out;
 use crate::incoming::{FRAME_MAX, Incoming};
 use crate::outcome::Outcome;
 use crate::phase::Phase;
-use crate::sending::write_message;
+use crate::sending::send;
 use crate::taking::advance;
-use crate::{SendFault, Stage, Step, Transport};
-use byteorder::{BigEndian, ByteOrder};
+use crate::{Counted, SendFault, Stage, Step, Transport};
 use noise_handshake::{Handshake, Keys};
 use noise_names::Role;
 use std::alloc::{AllocError, Global};
+use std::io::Write;
 use std::marker::Model;
 
 /// One end of a session: it takes the bytes of the other end's frames, and writes its own.
@@ -60,6 +63,7 @@ impl<K: Keys> End<K> {
     ghost use Rattle.noise_session.specs.Phases.{is_due, is_over};
     ghost use Rattle.noise_session.specs.Taking.{Takes};
     ghost use Rattle.noise_session.specs.Sending.{Sends, behind_fault};
+    ghost use Rattle.noise_session.specs.Outputs.{Puts, behind_output};
 
     /// An end of a session that begins with this handshake, which hasn't ended; it is open at once where all its messages
     /// have passed. In transport the key is renewed after each `interval` messages of a direction; 0 means never.
@@ -183,17 +187,34 @@ impl<K: Keys> End<K> {
         ensures err { (v : EndView) → EndStands K.public_of K.agreement self.old v → IfErr result (λ fault.
             Sends v payload.now (Err fault) (behind_fault v fault) × EndStands K.public_of K.agreement self.new (behind_fault v fault)) }
     {
-        let start = out.len().min(2);
-        match write_message(&mut self.phase, payload, &mut out[start..]) {
-            Ok(len) => {
-                BigEndian::write_u16(out, len as u16);
-                Ok(2 + len)
-            }
-            Err(fault) => {
-                if fault.ends() {
-                    self.incoming.clear();
-                }
-                Err(fault)
+        send(&mut self.phase, &mut self.incoming, payload, out)
+    }
+
+    /// Writes a payload as a frame to a writer, by as many writes as it takes, and tells the frame's length. It doesn't flush.
+    ///
+    /// Where a write fails, or takes none of the bytes that are left, the session has ended; so it has after a DH of the
+    /// handshake without an answer, and an exhausted nonce. The other faults change nothing.
+    pub fn write_to<W: Write>(
+        &mut self,
+        payload: &[u8],
+        out: &mut Counted<W>,
+    ) -> Result<usize, SendFault>
+        ensures failures { failures_of out.new ≡ behind_output (failures_of out.old) result }
+        ensures puts { (v : EndView) → EndStands K.public_of K.agreement self.old v → (bytes : List ℕ) × (next : EndView) × Puts v payload.now result bytes next
+            × Appends (W.contents (inner_of out.old)) (W.contents (inner_of out.new)) bytes × EndStands K.public_of K.agreement self.new next }
+    {
+        let len = send(
+            &mut self.phase,
+            &mut self.incoming,
+            payload,
+            &mut self.outgoing,
+        )?;
+        match write_out(out, &self.outgoing[..len]) {
+            Ok(()) => Ok(len),
+            Err(written) => {
+                self.phase.end();
+                self.incoming.clear();
+                Err(SendFault::Output { written })
             }
         }
     }
