@@ -1,5 +1,5 @@
 -- How far an end has come, by the view that it stands for.
-use Rattle.std.proofs.Common.{◌≡◌, ◌≢◌, ℕ, ◌+◌, ◌==◌, ◌≤◌, nat_lt, ◌&&◌, not, List, length, Bool, true, false, Option, Some, None, IsTrue, if◌then◌else◌, refl, sym, ◌∙◌, ap, subst, arith}
+use Rattle.std.proofs.Common.{◌≡◌, ◌≢◌, ℕ, ◌+◌, ◌==◌, ◌≤◌, nat_lt, ◌&&◌, not, List, length, Bool, true, false, Option, Some, None, IsTrue, if◌then◌else◌, refl, sym, ◌∙◌, ap, arith}
 use Rattle.std.proofs.lemmas.Bool.Decides.{nat_tests}
 use Rattle.noise_names.specs.declared.token.Role.{Role}
 use Rattle.noise_names.specs.Plan.{Plan, is_one_way}
@@ -16,9 +16,9 @@ use Rattle.noise_names.specs.Tokens.{same_role}
 use Rattle.noise_names.specs.Overhead.{overhead_of}
 use Rattle.noise_handshake.specs.Held.{is_turn}
 use Rattle.noise_session.specs.Progress.Progress.{Handshaking, Open, Closed}
-use Rattle.noise_session.specs.Ends.{EndView, HeldEnd, PhaseStands, EndStands, HandshakeStands, OpenStands, OverStands, progress_in, progress_of, session_hash, closed}
+use Rattle.noise_session.specs.Ends.{EndView, PhaseStands, OpenStands, progress_in, progress_of, session_hash, closed}
 use Rattle.noise_session.specs.Phases.{over_in}
-use Rattle.noise_session.specs.HeldTransport.{HeldTransport, TransportStands}
+use Rattle.noise_session.specs.HeldTransport.{HeldTransport}
 
 -- numbers are tested for being equal
 same-true : (a b : ℕ) → a ≡ b → (a == b) ≡ true

@@ -10,5 +10,6 @@ pub mod Phases
 pub mod Taking
 pub mod Sending
 pub mod Outputs
+pub mod Inputs
 pub mod Outcomes
 pub mod Incoming

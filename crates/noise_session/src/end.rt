@@ -1,27 +1,28 @@
 //! One end of a session.
 #![tactic(auto)]
 
-ghost use Rattle.std.specs.Prelude.{◌≡◌, ◌≤◌, ◌+◌, ℕ, List, [], ⊤, length, take, drop, true, false, Some, None, Ok, Err, IsTrue, IfOk, IfErr, IfSome, MatchOption};
+ghost use Rattle.std.specs.Prelude.{◌≡◌, ◌≤◌, ◌+◌, ℕ, List, [], ⊤, length, take, drop, true, false, Some, None, Ok, Err, IsTrue, IsSome, IfOk, IfErr, IfSome, MatchOption};
 ghost use Rattle.std.specs.Option.{ForSome};
 ghost use Rattle.noise_handshake.specs.View.{View};
 ghost use Rattle.noise_handshake.specs.Party.{Stands};
 ghost use Rattle.noise_session.specs.Frames.{IsPartial};
-ghost use Rattle.noise_session.specs.Progress.{role_of, stage_of, refusal, frame_len_of};
-ghost use Rattle.noise_session.specs.Steps.{told};
+ghost use Rattle.noise_session.specs.Progress.{role_of, stage_of, idle_step, refusal, frame_len_of};
+ghost use Rattle.noise_session.specs.Steps.{told, told_of};
 ghost use Rattle.noise_session.specs.Counting.{inner_of, failures_of};
-ghost use Rattle.std.specs.Io.KnownBytes.{Appends};
+ghost use Rattle.std.specs.Io.KnownBytes.{Appends, Consumes, IsAtEnd};
 
 use crate::draining::write_out;
 use crate::incoming::{FRAME_MAX, Incoming};
 use crate::outcome::Outcome;
 use crate::phase::Phase;
+use crate::receiving::receive_from;
 use crate::sending::send;
 use crate::taking::advance;
-use crate::{Counted, SendFault, Stage, Step, Transport};
+use crate::{Counted, ReceiveFault, SendFault, Stage, Step, Transport};
 use noise_handshake::{Handshake, Keys};
 use noise_names::Role;
 use std::alloc::{AllocError, Global};
-use std::io::Write;
+use std::io::{Read, Write};
 use std::marker::Model;
 
 /// One end of a session: it takes the bytes of the other end's frames, and writes its own.
@@ -63,6 +64,7 @@ impl<K: Keys> End<K> {
     ghost use Rattle.noise_session.specs.Phases.{is_due, is_over};
     ghost use Rattle.noise_session.specs.Taking.{Takes};
     ghost use Rattle.noise_session.specs.Sending.{Sends, behind_fault};
+    ghost use Rattle.noise_session.specs.Inputs.{Receives, is_end, behind_receiving};
     ghost use Rattle.noise_session.specs.Outputs.{Puts, behind_output};
 
     /// An end of a session that begins with this handshake, which hasn't ended; it is open at once where all its messages
@@ -162,6 +164,40 @@ impl<K: Keys> End<K> {
             Outcome::Dropped(cause) => (count, Step::Dropped(cause)),
             Outcome::Refused { token, cause } => (count, Step::Refused { token, cause }),
             Outcome::Exhausted => (count, Step::Exhausted),
+        }
+    }
+
+    /// Reads the missing bytes of one frame from a reader, and no more, and tells what the frame came to. Where this end
+    /// doesn't listen it reads nothing; `Ok(None)` is an end of the input between frames.
+    ///
+    /// At a fault the bytes that came are kept, and a later call goes on with them.
+    pub fn receive<R: Read>(
+        &mut self,
+        from: &mut Counted<R>,
+    ) -> Result<Option<Step<'_>>, ReceiveFault>
+        ensures unread { IsSome (idle_step (progress self.old)) → from.new ≡ from.old }
+        ensures end { is_end result ≡ true → IsAtEnd (R.remaining (inner_of from.new)) }
+        ensures failures { failures_of from.new ≡ behind_receiving (failures_of from.old) result }
+        ensures* receives { sem 𝓛 (follows_so (the_row K.row K.Keys) (the_row K.row K.Keys) self.entry.ghost_name none (λ _ _. ⊤)
+            (λ n. (v : EndView) → EndStands K.public_of K.agreement self.old v
+            → (bytes : List ℕ) × (next : EndView) × Receives v bytes (told_of result) next
+            × Consumes (R.remaining (inner_of from.old)) (R.remaining (inner_of from.new)) bytes × EndStands K.public_of K.agreement n next)) }
+    {
+        let found = receive_from(&mut self.phase, &mut self.incoming, from)?;
+        let Some(outcome) = found else {
+            return Ok(None);
+        };
+        match outcome {
+            Outcome::Ended => Ok(Some(Step::Ended)),
+            Outcome::YourTurn => Ok(Some(Step::YourTurn)),
+            Outcome::Silent => Ok(Some(Step::Silent)),
+            Outcome::More => Ok(Some(Step::More)),
+            Outcome::Payload { from, to } => {
+                Ok(Some(Step::Payload(&self.incoming.buffer[2 + from..2 + to])))
+            }
+            Outcome::Dropped(cause) => Ok(Some(Step::Dropped(cause))),
+            Outcome::Refused { token, cause } => Ok(Some(Step::Refused { token, cause })),
+            Outcome::Exhausted => Ok(Some(Step::Exhausted)),
         }
     }
 

@@ -1,4 +1,4 @@
-use Rattle.std.proofs.Common.{◌≡◌, ◌≤◌, ◌+◌, ◌-◌, ◌/◌, ◌%◌, ℕ, List, ◌∷◌, length, take, drop, None, Ok, sym, ap, subst, arith}
+use Rattle.std.proofs.Common.{◌≡◌, ◌≤◌, ◌+◌, ◌-◌, ◌/◌, ◌%◌, ℕ, List, ◌∷◌, length, drop, None, Ok, sym, ap, subst, arith}
 use Rattle.std.specs.Option.{ForSome}
 use borrow.Rule.Slice.PartMut.{put_mid}
 use Rattle.noise_session.specs.Progress.{Progress, refusal, message_length, length_unless, frame_len_of}

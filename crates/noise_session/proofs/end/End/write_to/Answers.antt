@@ -1,9 +1,9 @@
-use Rattle.std.proofs.Common.{◌≡◌, ◌≤◌, ◌<◌, ℕ, List, [], ◌++◌, length, take, Ok, Err, Result, refl, sym, ◌∙◌, ap, subst, arith, rules}
+use Rattle.std.proofs.Common.{◌≡◌, ◌≤◌, ◌<◌, ℕ, List, [], ◌++◌, length, take, Ok, Err, Result, sym, ◌∙◌, ap, subst, arith, rules}
 use Rattle.std.proofs.lemmas.List.{length-take-le, take-take, take-append-le}
 use Rattle.std.specs.Io.KnownBytes.{Appends}
 use Rattle.noise_session.specs.declared.faults.SendFault.{SendFault}
-use Rattle.noise_session.specs.Ends.{EndView, EndStands, PhaseStands, closed}
-use Rattle.noise_session.specs.Sending.{Sends, behind_fault}
+use Rattle.noise_session.specs.Ends.{EndStands, PhaseStands, closed}
+use Rattle.noise_session.specs.Sending.{behind_fault}
 use Rattle.noise_session.specs.Outputs.{Puts}
 use Rattle.noise_session.specs.Outputs.Puts.{whole, broken, refused}
 use Rattle.noise_session.proofs.Streaming.{appended_none}
