@@ -1,6 +1,7 @@
 //! The frames of two ends of NN, with values worked by hand.
 #![tactic(auto)]
 
+mod streams;
 mod transport;
 
 ghost use Rattle.std.specs.Prelude.{◌≡◌, IfOk, vec_len};
