@@ -1,7 +1,6 @@
 -- Whether there is a key along the places of a pattern, and how much longer than its payload a message is.
-use Rattle.std.proofs.Common.{◌≡◌, ℕ, ◌+◌, ◌-◌, ◌<◌, List, [], ◌∷◌, ◌++◌, length, get_or, take, drop, refl, ap, sym, ◌∙◌, arith, append_assoc, append-nil, length-take}
-use Rattle.std.specs.Prelude.{Bool, true, false, ◌||◌, ◌&&◌, ◌==◌, if◌then◌else◌}
-use Rattle.std.proofs.lemmas.Bool.Decides.{nat_tests}
+use Rattle.std.proofs.Common.{◌≡◌, ℕ, ◌+◌, ◌-◌, ◌<◌, List, [], ◌∷◌, ◌++◌, length, get_or, take, refl, ap, sym, ◌∙◌, arith, append_assoc, append-nil}
+use Rattle.std.specs.Prelude.{Bool, true, false, ◌||◌, ◌&&◌}
 use Rattle.std.proofs.lemmas.List.{take_more}
 use Rattle.std.proofs.lemmas.List.Folds.{list_any-append}
 use Rattle.noise_names.specs.declared.token.Role.{Role}
@@ -13,7 +12,7 @@ use Rattle.noise_names.specs.Plan.{Plan, does, payload, Place, place, token_plac
 use Rattle.noise_names.specs.Validity.{is_at, occurs}
 use Rattle.noise_names.specs.Overhead.{has_key, added_len, overhead_from, overhead_of}
 use Rattle.noise_names.specs.Facts.{message_places-append}
-use Rattle.noise_handshake.specs.Length.{keyed_behind, keyed_behind_tokens, tag_width, token_width, added_width}
+use Rattle.noise_handshake.specs.Length.{keyed_behind, keyed_behind_tokens, token_width, added_width}
 use Rattle.noise_handshake.specs.Passed.{passed_places}
 use Rattle.noise_handshake.specs.View.{tokens_at}
 use Rattle.noise_handshake.proofs.Views.{tokens_at-read}
