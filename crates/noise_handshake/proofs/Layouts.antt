@@ -67,6 +67,11 @@ module _ (p : Plan) where
         (laid-at (has_psk p) (has_key p (passed_places p 0)) p.messages layout n laid h a e);
   }
 
+-- the first of them
+pub first-placed : (psks key : Bool) (place : ℕ) (placed : List PlacedToken) (first : PlacedToken) (later : List PlacedToken) → placed ≡ first ∷ later → ArePlaced psks key place placed
+    → (first.place ≡ place) × (first.width ≡ token_width key first.token) × (first.keyed ≡ key) × ArePlaced psks (keyed_behind psks key first.token) (place + first.width) later
+first-placed psks key place placed first later e a = subst (λ (ps : List PlacedToken). ArePlaced psks key place ps) e a
+
 pub length-tokens_of : (ps : List PlacedToken) → length (tokens_of ps) ≡ length ps
 length-tokens_of [] = refl
 length-tokens_of (p ∷ ps) = ap suc (length-tokens_of ps)
@@ -79,10 +84,10 @@ module _ (p : Plan) (n : ℕ) (laid : MessageLayout) (l : IsLaid (has_psk p) (ha
   tokens-laid = ap tokens_of (d ∙ l.tokens) ∙ tokens_of-placed_from (has_psk p) (has_key p (passed_places p n)) 0 (tokens_at p.messages n)
 
   -- they stand one behind another from the message's start on
-  pub places-laid : (psks key : Bool) → psks ≡ has_psk p → key ≡ has_key p (passed_places p n) → (place : ℕ) × ArePlaced psks key place placed
+  pub places-laid : (psks key : Bool) → psks ≡ has_psk p → key ≡ has_key p (passed_places p n) → ArePlaced psks key 0 placed
   places-laid psks key b k =
       let all : ArePlaced (has_psk p) (has_key p (passed_places p n)) 0 placed =
       subst (λ (ps : List PlacedToken). ArePlaced (has_psk p) (has_key p (passed_places p n)) 0 ps) (sym (d ∙ l.tokens))
       (placed_from-placed (has_psk p) (has_key p (passed_places p n)) 0 (tokens_at p.messages n)) in
       let by_psks : ArePlaced psks (has_key p (passed_places p n)) 0 placed = subst (λ (x : Bool). ArePlaced x (has_key p (passed_places p n)) 0 placed) (sym b) all in
-      (0, subst (λ (x : Bool). ArePlaced psks x 0 placed) (sym k) by_psks)
+      subst (λ (x : Bool). ArePlaced psks x 0 placed) (sym k) by_psks

@@ -29,6 +29,7 @@ fn read_e(
     known: &mut Remote,
     message: &[u8],
 ) -> Result<usize, Cause>
+    ensures width { IfOk result (λ n. n ≡ 32) }
     ensures range { IfOk result (λ n. n ≤ length message.now) }
     ensures key { OnOk result (keyed state.new ≡ keyed_behind psks (keyed state.old) Token.E) }
     ensures known { OnOk result ((is_some known.new.e ≡ true) × (known.new.s ≡ known.old.s)) }
@@ -82,6 +83,7 @@ fn read_s(
 ) -> Result<usize, Cause>
     requires nonces { nonce_now state.old < 2 ^ 64 - 1 }
     requires width { width ≡ token_width (keyed state.old) Token.S }
+    ensures width { IfOk result (λ n. n ≡ width) }
     ensures range { IfOk result (λ n. n ≤ length message.now) }
     ensures key { keyed state.new ≡ keyed state.old }
     ensures known { OnOk result ((known.new.e ≡ known.old.e) × (is_some known.new.s ≡ true)) }
@@ -119,6 +121,7 @@ fn read_token<K: Keys>(
     requires width { placed.width ≡ token_width (keyed state.old) placed.token }
     requires nonces { nonce_now state.old < 2 ^ 64 - 1 }
     requires known { IsTrue (is_known means.now.role (is_some known.old.e) (is_some known.old.s) placed.token) }
+    ensures width { IfOk result (λ n. n ≡ token_width (keyed state.old) placed.token) }
     ensures range { IfOk result (λ n. n ≤ length message.now) }
     ensures key { OnOk result (keyed state.new ≡ keyed_behind means.now.psks (keyed state.old) placed.token) }
     ensures e { OnOk result (is_some known.new.e ≡ e_behind (is_some known.old.e) placed.token) }
@@ -147,7 +150,15 @@ fn read_token<K: Keys>(
     }
 }
 
-// Reads the tokens from the front of a message, and tells how many bytes they took.
+// The bytes of a message from a place on.
+fn bytes_from(message: &[u8], place: u16) -> &[u8]
+    requires { place ≤ length message.now }
+    ensures { result.now ≡ drop place message.now }
+{
+    &message[place as usize..]
+}
+
+// Reads tokens at their places in a message, and tells how many bytes they took.
 fn read_tokens<K: Keys>(
     state: &mut SymmetricState,
     known: &mut Remote,
@@ -156,31 +167,36 @@ fn read_tokens<K: Keys>(
     placed: &[PlacedToken],
     message: &[u8],
 ) -> Result<usize, (usize, Cause)>
-    requires placed { (place : ℕ) × ArePlaced means.now.psks (keyed state.old) place placed.now }
+    requires placed { (place : ℕ) × (place ≤ length message.now) × ArePlaced means.now.psks (keyed state.old) place placed.now }
     requires secrets { count_by is_psk (tokens_of placed.now) ≤ length secrets.now }
     requires nonces { nonce_now state.old + length (tokens_of placed.now) < 2 ^ 64 - 1 }
     requires known { IsTrue (are_known means.now.role (is_some known.old.e) (is_some known.old.s) (tokens_of placed.now)) }
-    ensures range { MatchResult result (λ n. n ≤ length message.now) (λ stop. stop.0 < length (tokens_of placed.now)) }
+    ensures within { IfOk result (λ n. n ≤ length message.now) }
+    ensures range { (place : ℕ) → place ≤ length message.now → ArePlaced means.now.psks (keyed state.old) place placed.now
+        → IfOk result (λ n. place + n ≤ length message.now) }
+    ensures stop { IfErr result (λ stop. stop.0 < length (tokens_of placed.now)) }
     ensures key { OnOk result (keyed state.new ≡ keyed_behind_tokens means.now.psks (keyed state.old) (tokens_of placed.now)) }
     ensures e { OnOk result (is_some known.new.e ≡ e_behind_tokens (is_some known.old.e) (tokens_of placed.now)) }
     ensures s { OnOk result (is_some known.new.s ≡ s_behind_tokens (is_some known.old.s) (tokens_of placed.now)) }
     ensures nonce { nonce_now state.new ≤ nonce_now state.old + length (tokens_of placed.now) }
-    ensures read { (r : History) → StateStands state.old r
+    ensures read { (r : History) (place : ℕ) → StateStands state.old r → place ≤ length message.now
+        → ArePlaced means.now.psks (keyed state.old) place placed.now
         → let v : Reader = record { role = means.now.role; psks = means.now.psks; agree = K.agreement means.now.keys.now } in
         let tokens : List Token = tokens_of placed.now in MatchResult result
-        (λ n. (xs : List (List ℕ)) × Leads v known.old secrets.now r tokens xs message.now (drop n message.now)
+        (λ n. (xs : List (List ℕ)) × Leads v known.old secrets.now r tokens xs (drop place message.now) (drop (place + n) message.now)
         × StateStands state.new (behind_front means.now.psks r tokens xs) × (known.new ≡ learned known.old tokens xs))
-        (λ stop. Stops v known.old secrets.now r tokens message.now stop.0 stop.1) }
+        (λ stop. Stops v known.old secrets.now r tokens (drop place message.now) stop.0 stop.1) }
 {
     let Some((first, later)) = placed.split_first() else {
         return Ok(0);
     };
-    let n = match read_token(state, known, means, secrets, *first, message) {
+    let rest = bytes_from(message, first.place);
+    let n = match read_token(state, known, means, secrets, *first, rest) {
         Ok(n) => n,
         Err(cause) => return Err((0, cause)),
     };
     let others = secrets_behind(secrets, first.token);
-    match read_tokens(state, known, means, others, later, &message[n..]) {
+    match read_tokens(state, known, means, others, later, message) {
         Ok(more) => Ok(n + more),
         Err((k, cause)) => Err((k + 1, cause)),
     }
@@ -195,7 +211,7 @@ pub(crate) fn read_message<K: Keys>(
     placed: &[PlacedToken],
     message: &mut [u8],
 ) -> Result<(usize, usize), (usize, Cause)>
-    requires placed { (place : ℕ) × ArePlaced means.now.psks (keyed state.old) place placed.now }
+    requires placed { ArePlaced means.now.psks (keyed state.old) 0 placed.now }
     requires secrets { count_by is_psk (tokens_of placed.now) ≤ length secrets.now }
     requires fits { length message.old ≤ 65535 }
     requires nonces { nonce_now state.old + length (tokens_of placed.now) < 2 ^ 64 - 1 }

@@ -6,7 +6,7 @@ use Rattle.std.proofs.lemmas.Bool.Decides.{nat_tests}
 use Rattle.sha2.specs.Sha256.{sha256}
 use Rattle.sha2.proofs.Facts256.{length-sha256}
 use Rattle.noise_aead.specs.Sealing.{nonce_of}
-use Rattle.noise_aead.proofs.Sealed.{length-sealed, sealed-same}
+use Rattle.noise_aead.specs.Sealed.{length-sealed, sealed-same}
 use Rattle.noise_kdf.specs.Hkdf.{second_output}
 use Rattle.noise_state.specs.Cipher.{sealed_len}
 use Rattle.noise_state.specs.History.{History, Entry, Mix, Part, Key, KeyHash, start_value, chaining_key_of, hash_of, cipher_key, nonce, hash, piece_under, piece}

@@ -1,4 +1,4 @@
-use Rattle.std.proofs.Common.{◌≡◌, List, ℕ, ◌++◌, [], length, refl, sym, ◌∙◌, subst, append_assoc}
+use Rattle.std.proofs.Common.{◌≡◌, List, ℕ, ◌++◌, [], length, sym, subst, append_assoc}
 use Rattle.std.specs.Int.{w64, to_le_bytes}
 use Rattle.noise_poly.specs.State.{Holds}
 use Rattle.noise_aead.specs.Sealing.{padding, authenticated}

@@ -1,51 +1,188 @@
-use Rattle.noise_state.specs.Standing.{StateStands}
-use Rattle.std.proofs.Common.{◌≡◌, ap, ℕ, ◌-◌, List, ◌∷◌, length, take, drop, sym, subst, arith, length-drop, take_all}
+use Rattle.std.proofs.Common.{◌≡◌, ap, ℕ, ◌+◌, ◌-◌, ◌≤◌, List, ◌∷◌, ◌++◌, length, drop, sym, subst, ◌∙◌, arith, length-drop, drop-drop}
+use Rattle.std.specs.Prelude.{Bool, is_some}
 use Rattle.noise_names.specs.declared.token.Token.{Token}
-use Rattle.noise_handshake.specs.Line.{behind_token, behind_front}
-use Rattle.noise_handshake.specs.View.{Reader}
-use Rattle.noise_handshake.specs.inner.Layout.{tokens_of}
+use Rattle.noise_state.specs.Standing.{StateStands, keyed}
+use Rattle.noise_state.specs.History.{cipher_key}
+use Rattle.noise_handshake.specs.declared.layout.PlacedToken.{PlacedToken}
+use Rattle.noise_handshake.specs.Line.{token_piece, behind_token, behind_front}
+use Rattle.noise_handshake.specs.View.{Reader, Leads, cause_of}
+use Rattle.noise_handshake.specs.inner.Layout.{tokens_of, ArePlaced}
+use Rattle.noise_handshake.specs.inner.Listening.{Fails}
+use Rattle.noise_handshake.proofs.Layouts.{first-placed}
 use Rattle.noise_handshake.proofs.Views.{no-items}
 use Rattle.noise_handshake.proofs.Steps.{led-none, stopped, led, learned-on, stopped-later}
 use Rattle.noise_handshake.proofs.reading.+read_tokens.Goals as goal
 
-pub returns-in-Err-clause-read : goal.returns-in-Err-clause-read
-returns-in-Err-clause-read g t c r s =
-    let v : Reader = record { role = c.args.means.now.role; psks = c.args.means.now.psks; agree = g.K.Keys.agreement c.args.means.now.keys.now } in
-    let d = c.in-Err.ensures.read r s in
-    stopped v c.args.known.now c.args.secrets.now r (tokens_of c.args.placed.now) (tokens_of c.in-Some.later.now) c.in-Some.first.now.token c.args.message.now c.in-Err.cause (ap tokens_of c.in-Some.ensures.cases.0) d.0 d.1
-
-pub returns-in-Ok-read_tokens-clause-read : goal.returns-in-Ok-read_tokens-clause-read
-returns-in-Ok-read_tokens-clause-read g t c r s =
-    let v : Reader = record { role = c.args.means.now.role; psks = c.args.means.now.psks; agree = g.K.Keys.agreement c.args.means.now.keys.now } in
+pub bytes_from-rest-requires : goal.bytes_from-rest-requires
+bytes_from-rest-requires g t c =
+    let place : ℕ = c.requires.placed.0 in
+    let within : place ≤ length c.args.message.now = c.requires.placed.1 in
+    let are = c.requires.placed.2 in
+    let psks : Bool = c.args.means.now.psks in
+    let key : Bool = keyed c.args.state.now in
     let m : List ℕ = c.args.message.now in
+    let first : PlacedToken = c.in-Some.first.now in
+    let u = first-placed psks key place c.args.placed.now first c.in-Some.later.now c.in-Some.ensures.cases.0 are in
+    omega (arith, u.0, within)
+
+pub read_token-requires-clause-width : goal.read_token-requires-clause-width
+read_token-requires-clause-width g t c =
+    let place : ℕ = c.requires.placed.0 in
+    let within : place ≤ length c.args.message.now = c.requires.placed.1 in
+    let are = c.requires.placed.2 in
+    let psks : Bool = c.args.means.now.psks in
+    let key : Bool = keyed c.args.state.now in
+    let m : List ℕ = c.args.message.now in
+    let first : PlacedToken = c.in-Some.first.now in
+    let u = first-placed psks key place c.args.placed.now first c.in-Some.later.now c.in-Some.ensures.cases.0 are in
+    u.1
+
+pub overflow_add-result : goal.overflow_add-result
+overflow_add-result g t c =
+    let place : ℕ = c.requires.placed.0 in
+    let within : place ≤ length c.args.message.now = c.requires.placed.1 in
+    let are = c.requires.placed.2 in
+    let psks : Bool = c.args.means.now.psks in
+    let key : Bool = keyed c.args.state.now in
+    let m : List ℕ = c.args.message.now in
+    let first : PlacedToken = c.in-Some.first.now in
+    let u = first-placed psks key place c.args.placed.now first c.in-Some.later.now c.in-Some.ensures.cases.0 are in
     let n : ℕ = c.in-Ok.n in
-    let token : Token = c.in-Some.first.now.token in
+    let wide : n ≡ first.width = c.in-Ok.ensures.width ∙ sym u.1 in
+    let count : length c.bytes_from-rest.result.now ≡ length m - place =
+    ap length (c.bytes_from-rest.ensures ∙ ap (λ (k : ℕ). drop k m) u.0) ∙ length-drop place m in
+    let next : place + first.width ≤ length m = omega (arith, within, count, wide, c.in-Ok.ensures.range) in
+    let placed : ArePlaced psks (keyed c.read_token.new.state) (place + first.width) c.in-Some.later.now =
+    subst (λ (b : Bool). ArePlaced psks b (place + first.width) c.in-Some.later.now) (sym c.in-Ok.ensures.key) u.3 in
+    omega (arith, wide, c.in-Ok-read_tokens.ensures.range (place + first.width) next placed)
+
+pub returns-in-Ok-read_tokens-clause-within : goal.returns-in-Ok-read_tokens-clause-within
+returns-in-Ok-read_tokens-clause-within g t c =
+    let place : ℕ = c.requires.placed.0 in
+    let within : place ≤ length c.args.message.now = c.requires.placed.1 in
+    let are = c.requires.placed.2 in
+    let psks : Bool = c.args.means.now.psks in
+    let key : Bool = keyed c.args.state.now in
+    let m : List ℕ = c.args.message.now in
+    let first : PlacedToken = c.in-Some.first.now in
+    let u = first-placed psks key place c.args.placed.now first c.in-Some.later.now c.in-Some.ensures.cases.0 are in
+    let n : ℕ = c.in-Ok.n in
+    let wide : n ≡ first.width = c.in-Ok.ensures.width ∙ sym u.1 in
+    let count : length c.bytes_from-rest.result.now ≡ length m - place =
+    ap length (c.bytes_from-rest.ensures ∙ ap (λ (k : ℕ). drop k m) u.0) ∙ length-drop place m in
+    let next : place + first.width ≤ length m = omega (arith, within, count, wide, c.in-Ok.ensures.range) in
+    let placed : ArePlaced psks (keyed c.read_token.new.state) (place + first.width) c.in-Some.later.now =
+    subst (λ (b : Bool). ArePlaced psks b (place + first.width) c.in-Some.later.now) (sym c.in-Ok.ensures.key) u.3 in
+    omega (arith, wide, c.in-Ok-read_tokens.ensures.range (place + first.width) next placed)
+
+pub returns-in-Ok-read_tokens-clause-range : goal.returns-in-Ok-read_tokens-clause-range
+returns-in-Ok-read_tokens-clause-range g t c place within are =
+    let psks : Bool = c.args.means.now.psks in
+    let key : Bool = keyed c.args.state.now in
+    let m : List ℕ = c.args.message.now in
+    let first : PlacedToken = c.in-Some.first.now in
+    let u = first-placed psks key place c.args.placed.now first c.in-Some.later.now c.in-Some.ensures.cases.0 are in
+    let n : ℕ = c.in-Ok.n in
+    let wide : n ≡ first.width = c.in-Ok.ensures.width ∙ sym u.1 in
+    let count : length c.bytes_from-rest.result.now ≡ length m - place =
+    ap length (c.bytes_from-rest.ensures ∙ ap (λ (k : ℕ). drop k m) u.0) ∙ length-drop place m in
+    let next : place + first.width ≤ length m = omega (arith, within, count, wide, c.in-Ok.ensures.range) in
+    let placed : ArePlaced psks (keyed c.read_token.new.state) (place + first.width) c.in-Some.later.now =
+    subst (λ (b : Bool). ArePlaced psks b (place + first.width) c.in-Some.later.now) (sym c.in-Ok.ensures.key) u.3 in
+    omega (arith, wide, c.in-Ok-read_tokens.ensures.range (place + first.width) next placed)
+
+pub returns-in-Err-clause-read : goal.returns-in-Err-clause-read
+returns-in-Err-clause-read g t c r place s within are =
+    let v : Reader = record { role = c.args.means.now.role; psks = c.args.means.now.psks; agree = g.K.Keys.agreement c.args.means.now.keys.now } in
+    let psks : Bool = c.args.means.now.psks in
+    let key : Bool = keyed c.args.state.now in
+    let m : List ℕ = c.args.message.now in
+    let first : PlacedToken = c.in-Some.first.now in
+    let token : Token = first.token in
     let later : List Token = tokens_of c.in-Some.later.now in
     let split : tokens_of c.args.placed.now ≡ token ∷ later = ap tokens_of c.in-Some.ensures.cases.0 in
+    let u = first-placed psks key place c.args.placed.now first c.in-Some.later.now c.in-Some.ensures.cases.0 are in
+    let here : c.bytes_from-rest.result.now ≡ drop place m = c.bytes_from-rest.ensures ∙ ap (λ (k : ℕ). drop k m) u.0 in
+    let d = c.in-Err.ensures.read r s in
+    stopped v c.args.known.now c.args.secrets.now r (tokens_of c.args.placed.now) later token (drop place m) c.in-Err.cause split
+    (subst (λ (z : List ℕ). Fails v c.args.known.now c.args.secrets.now r token z) here d.0)
+    (subst (λ (z : List ℕ). c.in-Err.cause ≡ cause_of (is_some (cipher_key r)) token z) here d.1)
+
+pub returns-in-Ok-read_tokens-clause-read : goal.returns-in-Ok-read_tokens-clause-read
+returns-in-Ok-read_tokens-clause-read g t c r place s within are =
+    let v : Reader = record { role = c.args.means.now.role; psks = c.args.means.now.psks; agree = g.K.Keys.agreement c.args.means.now.keys.now } in
+    let psks : Bool = c.args.means.now.psks in
+    let key : Bool = keyed c.args.state.now in
+    let m : List ℕ = c.args.message.now in
+    let first : PlacedToken = c.in-Some.first.now in
+    let token : Token = first.token in
+    let later : List Token = tokens_of c.in-Some.later.now in
+    let split : tokens_of c.args.placed.now ≡ token ∷ later = ap tokens_of c.in-Some.ensures.cases.0 in
+    let u = first-placed psks key place c.args.placed.now first c.in-Some.later.now c.in-Some.ensures.cases.0 are in
+    let here : c.bytes_from-rest.result.now ≡ drop place m = c.bytes_from-rest.ensures ∙ ap (λ (k : ℕ). drop k m) u.0 in
+    let n : ℕ = c.in-Ok.n in
+    let wide : n ≡ first.width = c.in-Ok.ensures.width ∙ sym u.1 in
+    let count : length c.bytes_from-rest.result.now ≡ length m - place =
+    ap length (c.bytes_from-rest.ensures ∙ ap (λ (k : ℕ). drop k m) u.0) ∙ length-drop place m in
+    let next : place + first.width ≤ length m = omega (arith, within, count, wide, c.in-Ok.ensures.range) in
+    let placed : ArePlaced psks (keyed c.read_token.new.state) (place + first.width) c.in-Some.later.now =
+    subst (λ (b : Bool). ArePlaced psks b (place + first.width) c.in-Some.later.now) (sym c.in-Ok.ensures.key) u.3 in
+    let rest : List ℕ = drop place m in
     let d = c.in-Ok.ensures.read r s in
-    let i = c.in-Ok-read_tokens.ensures.read (behind_token c.args.means.now.psks r token d.0) d.3 in
-    let goes = take_all (length m - n) (drop n m) (omega (arith, length-drop n m)) in (
+    let spelled : rest ≡ token_piece r token d.0 ++ drop n rest = subst (λ (z : List ℕ). z ≡ token_piece r token d.0 ++ drop n z) here d.2 in
+    let goes : drop (place + first.width) m ≡ drop n rest = ap (λ (k : ℕ). drop (place + k) m) (sym wide) ∙ sym (drop-drop n place m) in
+    let more : ℕ = c.in-Ok-read_tokens.more in
+    let known2 = c.read_token.new.known in
+    let others : List (List ℕ) = c.secrets_behind-others.result.now in
+    let i = c.in-Ok-read_tokens.ensures.read (behind_token psks r token d.0) (place + first.width) d.3 next placed in
+    let leads : Leads v known2 others (behind_token psks r token d.0) later i.0 (drop (place + first.width) m) (drop more (drop (place + first.width) m)) =
+    subst (λ (z : List ℕ). Leads v known2 others (behind_token psks r token d.0) later i.0 (drop (place + first.width) m) z) (sym (drop-drop more (place + first.width) m)) i.1 in
+    let whole = led v c.args.known.now known2 c.args.secrets.now others r (tokens_of c.args.placed.now) later token d.0 rest (drop (place + first.width) m) n
+    split d.1 spelled d.4 c.secrets_behind-others.ensures goes i.0 more leads in (
       d.0 ∷ i.0,
-      led v c.args.known.now c.read_token.new.known c.args.secrets.now c.secrets_behind-others.result.now r (tokens_of c.args.placed.now) later token d.0 m (take (length m - n) (drop n m)) n
-          split d.1 d.2 d.4 c.secrets_behind-others.ensures goes i.0 c.in-Ok-read_tokens.more i.1,
-      subst (λ (us : List Token). StateStands c.read_tokens.new.state (behind_front c.args.means.now.psks r us (d.0 ∷ i.0))) (sym split) i.2,
-      learned-on v c.args.known.now c.read_token.new.known c.args.secrets.now c.secrets_behind-others.result.now r (tokens_of c.args.placed.now) later token d.0 m (take (length m - n) (drop n m)) n
-          split d.1 d.2 d.4 c.secrets_behind-others.ensures goes i.0 c.read_tokens.new.known i.3,
+      subst (λ (z : List ℕ). Leads v c.args.known.now c.args.secrets.now r (tokens_of c.args.placed.now) (d.0 ∷ i.0) rest z) (drop-drop (n + more) place m) whole,
+      subst (λ (us : List Token). StateStands c.read_tokens.new.state (behind_front psks r us (d.0 ∷ i.0))) (sym split) i.2,
+      learned-on v c.args.known.now known2 c.args.secrets.now others r (tokens_of c.args.placed.now) later token d.0 rest (drop (place + first.width) m) n
+          split d.1 spelled d.4 c.secrets_behind-others.ensures goes i.0 c.read_tokens.new.known i.3,
     )
 
 pub returns-in-Err-read_tokens-clause-read : goal.returns-in-Err-read_tokens-clause-read
-returns-in-Err-read_tokens-clause-read g t c r s =
+returns-in-Err-read_tokens-clause-read g t c r place s within are =
     let v : Reader = record { role = c.args.means.now.role; psks = c.args.means.now.psks; agree = g.K.Keys.agreement c.args.means.now.keys.now } in
+    let psks : Bool = c.args.means.now.psks in
+    let key : Bool = keyed c.args.state.now in
     let m : List ℕ = c.args.message.now in
+    let first : PlacedToken = c.in-Some.first.now in
+    let token : Token = first.token in
+    let later : List Token = tokens_of c.in-Some.later.now in
+    let split : tokens_of c.args.placed.now ≡ token ∷ later = ap tokens_of c.in-Some.ensures.cases.0 in
+    let u = first-placed psks key place c.args.placed.now first c.in-Some.later.now c.in-Some.ensures.cases.0 are in
+    let here : c.bytes_from-rest.result.now ≡ drop place m = c.bytes_from-rest.ensures ∙ ap (λ (k : ℕ). drop k m) u.0 in
     let n : ℕ = c.in-Ok.n in
-    let token : Token = c.in-Some.first.now.token in
+    let wide : n ≡ first.width = c.in-Ok.ensures.width ∙ sym u.1 in
+    let count : length c.bytes_from-rest.result.now ≡ length m - place =
+    ap length (c.bytes_from-rest.ensures ∙ ap (λ (k : ℕ). drop k m) u.0) ∙ length-drop place m in
+    let next : place + first.width ≤ length m = omega (arith, within, count, wide, c.in-Ok.ensures.range) in
+    let placed : ArePlaced psks (keyed c.read_token.new.state) (place + first.width) c.in-Some.later.now =
+    subst (λ (b : Bool). ArePlaced psks b (place + first.width) c.in-Some.later.now) (sym c.in-Ok.ensures.key) u.3 in
+    let rest : List ℕ = drop place m in
     let d = c.in-Ok.ensures.read r s in
-    let i = c.in-Err-read_tokens.ensures.read (behind_token c.args.means.now.psks r token d.0) d.3 in
-    let goes = take_all (length m - n) (drop n m) (omega (arith, length-drop n m)) in
-    stopped-later v c.args.known.now c.read_token.new.known c.args.secrets.now c.secrets_behind-others.result.now r (tokens_of c.args.placed.now) (tokens_of c.in-Some.later.now) token d.0 m (take (length m - n) (drop n m)) n
-    (ap tokens_of c.in-Some.ensures.cases.0) d.1 d.2 d.4 c.secrets_behind-others.ensures goes c.in-Err-read_tokens.k c.in-Err-read_tokens.cause c.in-Err-read_tokens.ensures.range i
+    let spelled : rest ≡ token_piece r token d.0 ++ drop n rest = subst (λ (z : List ℕ). z ≡ token_piece r token d.0 ++ drop n z) here d.2 in
+    let goes : drop (place + first.width) m ≡ drop n rest = ap (λ (k : ℕ). drop (place + k) m) (sym wide) ∙ sym (drop-drop n place m) in
+    let i = c.in-Err-read_tokens.ensures.read (behind_token psks r token d.0) (place + first.width) d.3 next placed in
+    stopped-later v c.args.known.now c.read_token.new.known c.args.secrets.now c.secrets_behind-others.result.now r (tokens_of c.args.placed.now) later token d.0
+    rest (drop (place + first.width) m) n split d.1 spelled d.4 c.secrets_behind-others.ensures goes
+    c.in-Err-read_tokens.k c.in-Err-read_tokens.cause c.in-Err-read_tokens.ensures.stop i
 
 pub returns-in_default-clause-read : goal.returns-in_default-clause-read
-returns-in_default-clause-read g t c r s =
+returns-in_default-clause-read g t c r place s within are =
     let v : Reader = record { role = c.args.means.now.role; psks = c.args.means.now.psks; agree = g.K.Keys.agreement c.args.means.now.keys.now } in
-    led-none v c.args.known.now c.args.secrets.now r (tokens_of c.args.placed.now) c.args.message.now c.args.state.now (ap tokens_of (no-items c.args.placed.now c.in_default.ensures.cases)) s
+    let m : List ℕ = c.args.message.now in
+    let d = led-none v c.args.known.now c.args.secrets.now r (tokens_of c.args.placed.now) (drop place m) c.args.state.now
+    (ap tokens_of (no-items c.args.placed.now c.in_default.ensures.cases)) s in
+    let none : place ≡ place + 0 = omega arith in (
+      d.0,
+      subst (λ (k : ℕ). Leads v c.args.known.now c.args.secrets.now r (tokens_of c.args.placed.now) d.0 (drop place m) (drop k m)) none d.1,
+      d.2,
+      d.3,
+    )

@@ -4,7 +4,7 @@ use Rattle.noise_state.specs.Standing.{StateStands, keyed}
 use Rattle.noise_state.specs.Standing.{nonce_now-is}
 use Rattle.noise_state.specs.History.{History, Part, and_then, piece, nonce}
 use Rattle.noise_handshake.specs.Line.{behind_front}
-use Rattle.noise_handshake.specs.View.{Reader, Stops}
+use Rattle.noise_handshake.specs.View.{Reader, Leads, Stops}
 use Rattle.noise_handshake.specs.inner.Layout.{tokens_of}
 use Rattle.noise_handshake.specs.declared.faults.Cause.TheVariants.{Short, Tag}
 use Rattle.noise_handshake.proofs.Tags.{sealed_len-tag}
@@ -12,6 +12,9 @@ use Rattle.noise_handshake.proofs.Layouts.{length-tokens_of}
 use Rattle.noise_handshake.proofs.Apart.{reads-whole, stops-last}
 use Rattle.noise_handshake.proofs.Steps.{written-at}
 use Rattle.noise_handshake.proofs.reading.read_message.Goals as goal
+
+pub read_tokens-requires-clause-placed : goal.read_tokens-requires-clause-placed
+read_tokens-requires-clause-placed g c = (0, omega arith, c.requires.placed)
 
 pub returns-in-Ok-decrypt_and_hash-clause-read : goal.returns-in-Ok-decrypt_and_hash-clause-read
 returns-in-Ok-decrypt_and_hash-clause-read g c r s =
@@ -21,17 +24,20 @@ returns-in-Ok-decrypt_and_hash-clause-read g c r s =
     let len : ℕ = c.in-Ok-decrypt_and_hash.len in
     let new : List ℕ = c.decrypt_and_hash.new.buf in
     let payload : List ℕ = slice_range (put_mid n (length m - n) m new) n (n + len) in
-    let i = c.in-Ok.ensures.read r s in
-    let behind : History = behind_front c.args.means.now.psks r (tokens_of c.args.placed.now) i.0 in
-    let d = c.in-Ok-decrypt_and_hash.ensures.ok behind i.2 in
+    let start = c.in-Ok.ensures.read r 0 s (omega arith) c.requires.placed in
+    let none : 0 + n ≡ n = omega arith in
+    let i1 : Leads v c.args.known.now c.args.secrets.now r (tokens_of c.args.placed.now) start.0 m (drop n m) =
+    subst (λ (k : ℕ). Leads v c.args.known.now c.args.secrets.now r (tokens_of c.args.placed.now) start.0 m (drop k m)) none start.1 in
+    let behind : History = behind_front c.args.means.now.psks r (tokens_of c.args.placed.now) start.0 in
+    let d = c.in-Ok-decrypt_and_hash.ensures.ok behind start.2 in
     let goes : take (length m - n) (drop n m) ≡ drop n m = take_all (length m - n) (drop n m) (omega (arith, length-drop n m)) in
-    let q : payload ≡ take len new = written-at m new _ n len (omega (arith, c.in-Ok.ensures.range))
+    let q : payload ≡ take len new = written-at m new _ n len (omega (arith, c.in-Ok.ensures.within))
     (omega (arith, sealed_len-tag (keyed c.read_tokens.new.state) len, c.in-Ok-decrypt_and_hash.ensures.text)) in
     let e : take (length m - n) (drop n m) ≡ piece behind payload = d.0 ∙ ap (piece behind) (sym q) in (
-      i.0,
-      reads-whole v c.args.known.now c.args.secrets.now r (tokens_of c.args.placed.now) m i.0 (drop n m) payload i.1 (sym goes ∙ e),
+      start.0,
+      reads-whole v c.args.known.now c.args.secrets.now r (tokens_of c.args.placed.now) m start.0 (drop n m) payload i1 (sym goes ∙ e),
       subst (λ (k : List ℕ). StateStands c.decrypt_and_hash.new.self (and_then behind (Part k))) e d.1,
-      i.3,
+      start.3,
     )
 
 pub returns-in-Err-Short-clause-stop : goal.returns-in-Err-Short-clause-stop
@@ -42,12 +48,18 @@ returns-in-Err-Short-clause-read g c r s =
     let v : Reader = record { role = c.args.means.now.role; psks = c.args.means.now.psks; agree = g.K.Keys.agreement c.args.means.now.keys.now } in
     let m : List ℕ = c.args.message.now in
     let n : ℕ = c.in-Ok.from in
-    let i = c.in-Ok.ensures.read r s in
-    let behind : History = behind_front c.args.means.now.psks r (tokens_of c.args.placed.now) i.0 in
-    let nonces : nonce behind < 2 ^ 64 - 1 = omega (arith, nonce_now-is c.read_tokens.new.state behind i.2, c.read_tokens.ensures.nonce) in
+    let start = c.in-Ok.ensures.read r 0 s (omega arith) c.requires.placed in
+    let none : 0 + n ≡ n = omega arith in
+    let i1 : Leads v c.args.known.now c.args.secrets.now r (tokens_of c.args.placed.now) start.0 m (drop n m) =
+    subst (λ (k : ℕ). Leads v c.args.known.now c.args.secrets.now r (tokens_of c.args.placed.now) start.0 m (drop k m)) none start.1 in
+    let behind : History = behind_front c.args.means.now.psks r (tokens_of c.args.placed.now) start.0 in
+    let nonces : nonce behind < 2 ^ 64 - 1 = omega (arith, nonce_now-is c.read_tokens.new.state behind start.2, c.read_tokens.ensures.nonce) in
     let fits : length (take (length m - n) (drop n m)) ≤ 65535 = omega (arith, length-drop n m, length-take (length m - n) (drop n m)) in
     let goes : take (length m - n) (drop n m) ≡ drop n m = take_all (length m - n) (drop n m) (omega (arith, length-drop n m)) in
     let last : Stops v c.args.known.now c.args.secrets.now r (tokens_of c.args.placed.now) m (length (tokens_of c.args.placed.now)) c.end_cause.result =
-    stops-last v c.args.known.now c.args.secrets.now r (tokens_of c.args.placed.now) m i.0 (drop n m) c.end_cause.result i.1 (λ payload e. let told = (c.in-Err-Short.ensures.accepts behind i.2).1 (nonces, fits, (payload, goes ∙ e)) in cc)
+    stops-last v c.args.known.now c.args.secrets.now r (tokens_of c.args.placed.now) m start.0 (drop n m) c.end_cause.result i1 (λ payload e. let told = (c.in-Err-Short.ensures.accepts behind start.2).1 (nonces, fits, (payload, goes ∙ e)) in cc)
     (c.end_cause.ensures ∙ ap (λ (k : ℕ). if nat_lt k 16 then Short else Tag) (sym (length-drop n m))) in
     subst (λ (k : ℕ). Stops v c.args.known.now c.args.secrets.now r (tokens_of c.args.placed.now) m k c.end_cause.result) (length-tokens_of c.args.placed.now) last
+
+pub returns-in-Err-clause-read : goal.returns-in-Err-clause-read
+returns-in-Err-clause-read g c r s = c.in-Err.ensures.read r 0 s (omega arith) c.requires.placed
