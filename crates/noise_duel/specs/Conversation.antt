@@ -1,0 +1,156 @@
+-- A whole conversation, in which no party has a state: what all messages are, from both parties' public keys, the DH answers and the secrets.
+use Rattle.std.specs.Prelude.{◌≡◌, ℕ, ◌+◌, ◌≤◌, ◌<◌, List, [], ◌∷◌, ◌++◌, length, drop, take, count_by, map, Some, true, if◌then◌else◌, IsTrue, ⊤, None, nat_lt, MatchBool}
+use Rattle.noise_names.specs.declared.token.Role.{Role}
+use Rattle.noise_names.specs.declared.token.Role.TheVariants.{Initiator, Responder}
+use Rattle.noise_names.specs.declared.token.Token.{Token}
+use Rattle.noise_names.specs.declared.token.Token.TheVariants.{E, S, Psk}
+use Rattle.noise_names.specs.Tokens.{is_psk, other, same_role, turn_from}
+use Rattle.noise_names.specs.Plan.{Plan, has_psk, is_one_way, places_of}
+use Rattle.noise_names.specs.Names.{name_bytes}
+use Rattle.noise_names.specs.Overhead.{overhead_of}
+use Rattle.noise_names.specs.Validity.{stands, occurs, IsValid}
+use Rattle.noise_names.specs.Limits.{IsPattern}
+use Rattle.noise_state.specs.History.{History}
+use Rattle.noise_handshake.specs.declared.keys.Own.{Own}
+use Rattle.noise_handshake.specs.declared.keys.Own.TheVariants.{Ephemeral, Static}
+use Rattle.noise_handshake.specs.declared.remote.Remote.{Remote}
+use Rattle.noise_handshake.specs.Line.{line, behind_line}
+use Rattle.noise_handshake.specs.View.{start, tokens_at, first_secret, other_secrets, own_at, remote_at, answered}
+use Rattle.noise_handshake.specs.Setup.{has_before, token_of}
+use Rattle.noise_handshake.specs.Counterparts.{is_dh, Counterparts}
+use Rattle.noise_session.specs.Ends.{end_of}
+use Rattle.noise_session.specs.Steps.Told.{Payload}
+use Rattle.noise_session.specs.Frames.{frame}
+use Rattle.noise_session.specs.Transport.{packet, last_nonce}
+use Rattle.noise_duel.specs.Talk.{Passing, Start, begun_as, messages_of}
+use Rattle.noise_duel.specs.Sides.{Sides, side, fresh}
+use Rattle.noise_duel.specs.Events.{Event, Say, Note, Wrote, Heard}
+use Rattle.noise_duel.specs.Runs.{Run}
+
+-- the public keys of both parties, one answer for each DH token, and the secrets of the psk tokens, in their order
+pub record World : Type 0 where
+  pub public : Role → Own → List ℕ
+  pub answer : Token → List ℕ
+  pub secrets : List (List ℕ)
+
+-- what the tokens of a message carry
+abbrev pub said_by : World → Role → List (List ℕ) → List Token → List (List ℕ)
+said_by w party secrets [] = []
+said_by w party secrets (E ∷ ts) = w.public party Ephemeral ∷ said_by w party secrets ts
+said_by w party secrets (S ∷ ts) = w.public party Static ∷ said_by w party secrets ts
+said_by w party secrets (Psk ∷ ts) = first_secret secrets ∷ said_by w party (other_secrets secrets) ts
+said_by w party secrets (t ∷ ts) = w.answer t ∷ said_by w party secrets ts
+
+-- the messages from number n on, counted from 0, with these payloads
+abbrev pub conversation : World → Plan → ℕ → List (List ℕ) → History → List (List ℕ) → List Passing
+conversation w p n secrets r [] = []
+conversation w p n secrets r (payload ∷ payloads) =
+    record {
+      message = line (has_psk p) r (tokens_at p.messages n) (said_by w (turn_from Initiator n) secrets (tokens_at p.messages n)) payload;
+      carried = said_by w (turn_from Initiator n) secrets (tokens_at p.messages n);
+      payload = payload;
+    }
+    ∷ conversation w p (n + 1) (drop (count_by is_psk (tokens_at p.messages n)) secrets)
+    (behind_line (has_psk p) r (tokens_at p.messages n) (said_by w (turn_from Initiator n) secrets (tokens_at p.messages n)) payload) payloads
+
+-- the history behind them
+abbrev pub behind_conversation : World → Plan → ℕ → List (List ℕ) → History → List (List ℕ) → History
+behind_conversation w p n secrets r [] = r
+behind_conversation w p n secrets r (payload ∷ payloads) =
+    behind_conversation w p (n + 1) (drop (count_by is_psk (tokens_at p.messages n)) secrets)
+    (behind_line (has_psk p) r (tokens_at p.messages n) (said_by w (turn_from Initiator n) secrets (tokens_at p.messages n)) payload) payloads
+
+abbrev pub public_keys_in : World → Role → Remote
+public_keys_in w party = record { e = Some (w.public party Ephemeral); s = Some (w.public party Static) }
+
+abbrev pub start_in : World → Plan → List ℕ → History
+start_in w p prologue = start (name_bytes (record { base = p.base; places = p.places })) p prologue (public_keys_in w Initiator) (public_keys_in w Responder)
+
+-- A party starts from its part of the world: it has its own keys that the pattern asks for, the other party's of its pre-message, an answer for
+-- each DH, and the secrets.
+pub record IsPart (w : World) (p : Plan) (role : Role) (prologue : List ℕ) (s : Start) : Type 0 where
+  pub prologue_is : s.prologue ≡ prologue
+  pub own : (k : Own) → stands role (token_of k) (places_of p) ≡ true → s.own k ≡ Some (w.public role k)
+  pub remote_e : s.remote.e ≡ (if has_before p (other role) E then Some (w.public (other role) Ephemeral) else None)
+  pub remote_s : s.remote.s ≡ (if has_before p (other role) S then Some (w.public (other role) Static) else None)
+  pub answers : (t : Token) → is_dh t ≡ true → occurs t (places_of p) ≡ true → answered s.agree (own_at role t) (remote_at role (public_keys_in w (other role)) t) ≡ Some (w.answer t)
+  pub secrets : s.secrets ≡ w.secrets
+
+-- lines in turn that fit, from message n on
+abbrev pub InTurn : Plan → ℕ → List (Role × List ℕ) → Type 0
+InTurn p n [] = ⊤
+InTurn p n (l ∷ lines) =
+    MatchBool (nat_lt n (length p.messages))
+    ((l.0 ≡ turn_from Initiator n) × (overhead_of p (n + 1) + length l.1 ≤ 65535))
+    ((IsTrue (is_one_way p) → l.0 ≡ Initiator) × (length l.1 ≤ 65519) × (n < last_nonce))
+    × InTurn p (n + 1) lines
+
+-- what is noted of lines that all come through, when each party has written so many frames
+abbrev pub come_through : ℕ → ℕ → List (Role × List ℕ) → List (Role × Note)
+come_through i j [] = []
+come_through i j (l ∷ lines) =
+    (if same_role l.0 Initiator
+    then (Initiator, Wrote i) ∷ (Responder, Heard (Payload l.1)) ∷ come_through (i + 1) j lines
+    else (Responder, Wrote j) ∷ (Initiator, Heard (Payload l.1)) ∷ come_through i (j + 1) lines)
+
+abbrev pub said : List (Role × List ℕ) → List Event
+said lines = map (λ l. Say l.0 l.1) lines
+
+-- ---- the frames
+
+-- messages with their writers, who take turns, from number n on
+abbrev pub in_turn : ℕ → List (List ℕ) → List (Role × List ℕ)
+in_turn n [] = []
+in_turn n (m ∷ ms) = (turn_from Initiator n, m) ∷ in_turn (n + 1) ms
+
+-- the transport messages of lines with their writers, behind a history and so many packets of each
+abbrev pub packets_of : History → ℕ → ℕ → ℕ → List (Role × List ℕ) → List (Role × List ℕ)
+packets_of r interval i j [] = []
+packets_of r interval i j (l ∷ lines) =
+    (if same_role l.0 Initiator
+    then (Initiator, packet r Initiator interval i l.1) ∷ packets_of r interval (i + 1) j lines
+    else (Responder, packet r Responder interval j l.1) ∷ packets_of r interval i (j + 1) lines)
+
+-- the frames of a role among messages with their writers
+abbrev pub frames_by : Role → List (Role × List ℕ) → List (List ℕ)
+frames_by role [] = []
+frames_by role (m ∷ ms) = (if same_role m.0 role then frame m.1 ∷ [] else []) ++ frames_by role ms
+
+-- the payloads of the first k lines
+abbrev pub payloads_in : ℕ → List (Role × List ℕ) → List (List ℕ)
+payloads_in k lines = map (λ l. l.1) (take k lines)
+
+-- all messages of lines with their writers, the handshake's and then the packets
+abbrev pub transcript : World → Plan → List ℕ → ℕ → List (Role × List ℕ) → List (Role × List ℕ)
+transcript w p prologue interval lines =
+    in_turn 0 (messages_of (conversation w p 0 w.secrets (start_in w p prologue) (payloads_in (length p.messages) lines)))
+    ++ packets_of (behind_conversation w p 0 w.secrets (start_in w p prologue) (payloads_in (length p.messages) lines)) interval 0 0 (drop (length p.messages) lines)
+
+-- two new ends of one pattern
+abbrev pub facing : Plan → Start → Start → ℕ → ℕ → Sides
+facing p a b i j = record { initiator = fresh (end_of (begun_as p Initiator a) i); responder = fresh (end_of (begun_as p Responder b) j) }
+
+-- Each end has written the frames of the transcript that are its own, and what the one wrote the other has accepted. As many handshake messages have passed as
+-- there were lines for, the history is that of their payloads, and the parties are counterparts: they have one history, and each knows the keys that the other has shown.
+pub record ComeThrough (w : World) (p : Plan) (prologue : List ℕ) (interval : ℕ) (lines : List (Role × List ℕ)) (d : Sides) : Type 0 where
+  pub frames : (role : Role) → (side d role).frames ≡ frames_by role (transcript w p prologue interval lines)
+  pub initiator : d.initiator.passed ≡ conversation w p 0 w.secrets (start_in w p prologue) (payloads_in (length p.messages) lines)
+  pub responder : d.responder.passed ≡ d.initiator.passed
+  pub history : d.initiator.view.party.history ≡ behind_conversation w p 0 w.secrets (start_in w p prologue) (payloads_in (length p.messages) lines)
+  pub count : d.initiator.view.party.passed ≡ length (payloads_in (length p.messages) lines)
+  pub counterparts : Counterparts d.initiator.view.party d.responder.view.party
+  pub there : d.responder.received ≡ d.initiator.sent
+  pub back : d.initiator.received ≡ d.responder.sent
+
+-- Lines in turn between two parts of one world come through.
+abbrev pub LinesComeThrough : Type 0
+LinesComeThrough = (w : World) (p : Plan) (prologue : List ℕ) (a b : Start) (interval : ℕ) (lines : List (Role × List ℕ)) (notes : List (Role × Note)) (d : Sides)
+    → IsPattern p → IsValid p → ((role : Role) (k : Own) → length (w.public role k) ≡ 32) → IsPart w p Initiator prologue a → IsPart w p Responder prologue b → InTurn p 0 lines
+    → Run (facing p a b interval interval) (said lines) notes d
+    → (notes ≡ come_through 0 0 lines) × ComeThrough w p prologue interval lines d
+
+-- There is such a run.
+abbrev pub LinesRun : Type 0
+LinesRun = (w : World) (p : Plan) (prologue : List ℕ) (a b : Start) (interval : ℕ) (lines : List (Role × List ℕ))
+    → IsPattern p → IsValid p → ((role : Role) (k : Own) → length (w.public role k) ≡ 32) → IsPart w p Initiator prologue a → IsPart w p Responder prologue b → InTurn p 0 lines
+    → (notes : List (Role × Note)) × (d : Sides) × Run (facing p a b interval interval) (said lines) notes d

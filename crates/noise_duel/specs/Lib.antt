@@ -1,0 +1,13 @@
+pub mod Below
+pub mod Clash
+pub mod Talk
+pub mod Events
+pub mod Sides
+pub mod Runs
+pub mod Conversation
+pub mod Agreement
+pub mod Behind
+pub mod Forging
+pub mod Network
+pub mod Worlds
+pub mod Written
