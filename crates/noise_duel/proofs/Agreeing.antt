@@ -16,12 +16,12 @@ use Rattle.noise_handshake.specs.Line.{token_piece, behind_token, behind_front, 
 use Rattle.noise_handshake.specs.View.{View, Reader, Fit, Fits, reader, known_behind, learned, secrets_behind, tokens_at, tokens_now, answered, own_at, remote_at}
 use Rattle.noise_handshake.specs.Writing.{Writer, Given, Gives, writer}
 use Rattle.noise_handshake.specs.Party.{behind_own, behind_message}
-use Rattle.noise_duel.specs.Talk.{Passing, Passes, Start}
-use Rattle.noise_duel.specs.Talk.Passes.{none, wrote, took}
+use Rattle.noise_duel.specs.Messages.{HandshakeMessage, Exchanged, Start}
+use Rattle.noise_duel.specs.Messages.Exchanged.{none, wrote, took}
 use Rattle.noise_duel.specs.Agreement.{KeysAgree, Knows}
-use Rattle.noise_duel.proofs.Walk.{Alike}
-use Rattle.noise_duel.proofs.Talks.{AreLines, AllAlike}
-use Rattle.noise_duel.proofs.Forward.{SecretAt, SecretsFit, UseSecrets, passing-same}
+use Rattle.noise_duel.proofs.HashedTexts.{Alike}
+use Rattle.noise_duel.proofs.HashedMessages.{AreLines, AllAlike}
+use Rattle.noise_duel.proofs.Forward.{SecretAt, SecretsFit, UseSecrets, message-same}
 
 cons-same : {X : Type 0} (x y : X) (xs ys : List X) → x ≡ y → xs ≡ ys → (x ∷ xs) ≡ (y ∷ ys)
 cons-same x y xs ys e f = cc
@@ -55,7 +55,7 @@ known_behind_all false known ts xs = learned known ts xs
 abbrev pub writes_now : Role → ℕ → Bool
 writes_now role n = same_role (turn_from Initiator n) role
 
-abbrev pub UsesAll : Plan → Role → (Own → Option (List ℕ)) → (Own → List ℕ → Option (List ℕ)) → ℕ → Remote → List Passing → Type 0
+abbrev pub UsesAll : Plan → Role → (Own → Option (List ℕ)) → (Own → List ℕ → Option (List ℕ)) → ℕ → Remote → List HandshakeMessage → Type 0
 UsesAll p role own agree n known [] = Unit {0}
 UsesAll p role own agree n known (m ∷ ms) =
     Uses (writes_now role n) role own agree known (tokens_at p.messages n) m.carried
@@ -97,7 +97,7 @@ pub same-other : (r : Role) → same_role (other r) r ≡ false
 same-other Initiator = refl
 same-other Responder = refl
 
-pub passes-uses : (v w : View) (ps : List Passing) → Passes v ps w → UsesAll v.pattern v.role v.own v.agree v.passed v.remote ps
+pub passes-uses : (v w : View) (ps : List HandshakeMessage) → Exchanged v ps w → UsesAll v.pattern v.role v.own v.agree v.passed v.remote ps
 passes-uses v w [] (none _) = tt
 passes-uses v w (p ∷ ps) (wrote _ _ _ _ here more) =
     let mine : writes_now v.role v.passed ≡ true = ap (λ (r : Role). same_role r v.role) here.speaks.turn ∙ same-self v.role in
@@ -194,7 +194,7 @@ module _ (a b : Start) (agrees : KeysAgree a b) where
         (front-agree mine (known_after mine ka t x) (known_after (not mine) kb t y) (secrets_behind secrets t) (behind_token psks r t x) ts xs ys knows.0 knows.1 u.1 w.1 m.1 n.1
         (subst (λ (z : List ℕ). Alike psks (behind_token psks r t x) (behind_token psks r t z) ts xs ys) (sym e) h.1))
 
-  pub all-agree : (p : Plan) (n : ℕ) (ka kb : Remote) (secrets : List (List ℕ)) (r : History) (ps qs : List Passing) → Knows ka b.own → Knows kb a.own
+  pub all-agree : (p : Plan) (n : ℕ) (ka kb : Remote) (secrets : List (List ℕ)) (r : History) (ps qs : List HandshakeMessage) → Knows ka b.own → Knows kb a.own
       → UsesAll p Initiator a.own a.agree n ka ps → UsesAll p Responder b.own b.agree n kb qs → UseSecrets p n secrets ps → UseSecrets p n secrets qs
       → AreLines p n r ps → AreLines p n r qs → AllAlike p n r r ps qs → ps ≡ qs
   all-agree p n ka kb secrets r [] [] f g u w m k c d h = refl
@@ -210,9 +210,9 @@ module _ (a b : Start) (agrees : KeysAgree a b) where
       (h.0.1 ∙ ap (λ (zs : List (List ℕ)). piece (behind_front (has_psk p) r ts zs) y.payload) (sym here.texts)) in
       let message : x.message ≡ y.message =
       c.0.1 ∙ ap (λ (zs : List (List ℕ)). line (has_psk p) r ts zs x.payload) here.texts ∙ ap (line (has_psk p) r ts y.carried) payload ∙ sym d.0.1 in
-      let one : x ≡ y = passing-same x y message here.texts payload in
+      let one : x ≡ y = message-same x y message here.texts payload in
       let behind : behind_line (has_psk p) r ts x.carried x.payload ≡ behind_line (has_psk p) r ts y.carried y.payload =
-      ap (λ (z : Passing). behind_line (has_psk p) r ts z.carried z.payload) one in
+      ap (λ (z : HandshakeMessage). behind_line (has_psk p) r ts z.carried z.payload) one in
       cons-same x y xs ys one
       (all-agree p (n + 1) (known_behind_all mine ka ts x.carried) (known_behind_all (not mine) kb ts y.carried) (drop (count_by is_psk ts) secrets) (behind_line (has_psk p) r ts x.carried x.payload) xs ys
       here.left here.right u.1 turned.1 m.1 k.1 c.1

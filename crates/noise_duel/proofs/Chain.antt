@@ -1,10 +1,10 @@
--- A chain of hashes: where two of one length and one start end alike, they hashed the same, or two of their texts clash.
+-- A chain of hashes: where two of one length and one start end alike, they hashed the same, or two of their texts collide.
 use Rattle.std.proofs.Common.{◌≡◌, ◌≢◌, ℕ, zero, suc, List, [], ◌∷◌, ◌++◌, length, refl, ap, sym, subst, take, drop, ◌∙◌, arith, inl, inr, ◌⊎◌, slice_get, Some, length-append}
 use Rattle.std.proofs.Math.Seq.{take-append_seam, drop-append_seam}
 use Rattle.std.proofs.lemmas.Bool.Decides.{eqb_tells}
 use Rattle.sha2.specs.Sha256.{sha256}
 use Rattle.sha2.proofs.Facts256.{length-sha256}
-use Rattle.noise_duel.specs.Clash.{ClashAt}
+use Rattle.noise_duel.specs.Collision.{CollisionAt}
 
 -- two texts that begin with parts of one length
 pub split-apart : (a b p q : List ℕ) → length a ≡ length b → a ++ p ≡ b ++ q → (a ≡ b) × (p ≡ q)
@@ -60,8 +60,8 @@ get-longer [] ys i x h = cc
 get-longer (y ∷ xs) ys zero x h = h
 get-longer (y ∷ xs) ys (suc i) x h = get-longer xs ys i x h
 
-pub clash-longer : (a b more others : List (List ℕ)) (i : ℕ) → ClashAt a b i → ClashAt (a ++ more) (b ++ others) i
-clash-longer a b more others i c = record {
+pub collision-longer : (a b more others : List (List ℕ)) (i : ℕ) → CollisionAt a b i → CollisionAt (a ++ more) (b ++ others) i
+collision-longer a b more others i c = record {
   left = c.left;
   right = c.right;
   at_left = get-longer a more i c.left c.at_left;
@@ -72,15 +72,15 @@ clash-longer a b more others i c = record {
 
 -- Two chains from one start, of one length, with one end.
 pub chains-alike : (start : List ℕ) (xs ys : List (List ℕ)) → length start ≡ 32 → length xs ≡ length ys → chained start xs ≡ chained start ys
-    → (xs ≡ ys) ⊎ ((i : ℕ) × ClashAt (chain_texts start xs) (chain_texts start ys) i)
+    → (xs ≡ ys) ⊎ ((i : ℕ) × CollisionAt (chain_texts start xs) (chain_texts start ys) i)
 chains-alike start [] [] long n e = inl refl
 chains-alike start [] (y ∷ ys) long n e = cc
 chains-alike start (x ∷ xs) [] long n e = cc
 chains-alike start (x ∷ xs) (y ∷ ys) long n e = go (same-or (chained start xs ++ x) (chained start ys ++ y)) (chains-alike start xs ys long (omega (arith, n)))
   where
     go : ((chained start xs ++ x) ≡ (chained start ys ++ y)) ⊎ ((chained start xs ++ x) ≢ (chained start ys ++ y))
-        → (chained start xs ≡ chained start ys → (xs ≡ ys) ⊎ ((i : ℕ) × ClashAt (chain_texts start xs) (chain_texts start ys) i))
-        → ((x ∷ xs) ≡ (y ∷ ys)) ⊎ ((i : ℕ) × ClashAt (chain_texts start (x ∷ xs)) (chain_texts start (y ∷ ys)) i)
+        → (chained start xs ≡ chained start ys → (xs ≡ ys) ⊎ ((i : ℕ) × CollisionAt (chain_texts start xs) (chain_texts start ys) i))
+        → ((x ∷ xs) ≡ (y ∷ ys)) ⊎ ((i : ℕ) × CollisionAt (chain_texts start (x ∷ xs)) (chain_texts start (y ∷ ys)) i)
     go (inr d) older = inr (
       length (chain_texts start xs),
       record {
@@ -97,5 +97,5 @@ chains-alike start (x ∷ xs) (y ∷ ys) long n e = go (same-or (chained start x
         let apart = split-apart (chained start xs) (chained start ys) x y (length-chained start xs long ∙ sym (length-chained start ys long)) same in
         elim (older apart.0) [
           | inl rest ↦ inl (cons-same x y xs ys apart.1 rest)
-          | inr c ↦ inr (c.0, clash-longer (chain_texts start xs) (chain_texts start ys) ((chained start xs ++ x) ∷ []) ((chained start ys ++ y) ∷ []) c.0 c.1)
+          | inr c ↦ inr (c.0, collision-longer (chain_texts start xs) (chain_texts start ys) ((chained start xs ++ x) ∷ []) ((chained start ys ++ y) ∷ []) c.0 c.1)
         ]

@@ -15,12 +15,12 @@ use Rattle.noise_handshake.specs.View.{View, Reader, Fit, Fits, reader, known_be
 use Rattle.noise_handshake.specs.Writing.{Writer, Given, Gives, writer}
 use Rattle.noise_handshake.specs.Party.{behind_own, behind_message}
 use Rattle.noise_handshake.specs.Setup.{public_keys}
-use Rattle.noise_duel.specs.Clash.{hashed}
-use Rattle.noise_duel.specs.Talk.{Passing, Passes, begun_as, answers, answers_from, pre_keys}
-use Rattle.noise_duel.specs.Talk.Passes.{none, wrote, took}
+use Rattle.noise_duel.specs.Collision.{hashed}
+use Rattle.noise_duel.specs.Messages.{HandshakeMessage, Exchanged, begun_as, answers, answers_from, pre_keys}
+use Rattle.noise_duel.specs.Messages.Exchanged.{none, wrote, took}
 use Rattle.noise_duel.specs.Agreement.{SecretsTell}
-use Rattle.noise_duel.proofs.Walk.{Alike, pre-back}
-use Rattle.noise_duel.proofs.Talks.{behind_all, AreLines, AllAlike, passes-lines}
+use Rattle.noise_duel.proofs.HashedTexts.{Alike, pre-back}
+use Rattle.noise_duel.proofs.HashedMessages.{behind_all, AreLines, AllAlike, passes-lines}
 use Rattle.noise_duel.proofs.HashTells.{SameBytes, bytes-or}
 
 heads : {X : Type 0} (x y : X) (xs ys : List X) → (x ∷ xs) ≡ (y ∷ ys) → x ≡ y
@@ -44,7 +44,7 @@ SecretsFit secrets [] xs = Unit {0}
 SecretsFit secrets (t ∷ ts) [] = Unit {0}
 SecretsFit secrets (t ∷ ts) (x ∷ xs) = SecretAt secrets t x × SecretsFit (secrets_behind secrets t) ts xs
 
-abbrev pub UseSecrets : Plan → ℕ → List (List ℕ) → List Passing → Type 0
+abbrev pub UseSecrets : Plan → ℕ → List (List ℕ) → List HandshakeMessage → Type 0
 UseSecrets p n secrets [] = Unit {0}
 UseSecrets p n secrets (m ∷ ms) = SecretsFit secrets (tokens_at p.messages n) m.carried × UseSecrets p (n + 1) (drop (count_by is_psk (tokens_at p.messages n)) secrets) ms
 
@@ -66,7 +66,7 @@ given-secrets w known secrets [] xs h = tt
 given-secrets w known secrets (t ∷ ts) [] h = tt
 given-secrets w known secrets (t ∷ ts) (x ∷ xs) h = (gives-secret w known secrets t x h.0, given-secrets w known (secrets_behind secrets t) ts xs h.1)
 
-pub passes-secrets : (v w : View) (ps : List Passing) → Passes v ps w → UseSecrets v.pattern v.passed v.secrets ps
+pub passes-secrets : (v w : View) (ps : List HandshakeMessage) → Exchanged v ps w → UseSecrets v.pattern v.passed v.secrets ps
 passes-secrets v w [] (none _) = tt
 passes-secrets v w (p ∷ ps) (wrote _ _ _ _ here more) =
     (given-secrets (writer v) v.remote v.secrets (tokens_now v) p.carried here.given, passes-secrets (behind_own v p.carried p.payload) w ps more)
@@ -100,13 +100,13 @@ module _ (psks : Bool) where
       (subst (λ (z : List ℕ). Alike psks (behind_token psks r t x) (behind_token psks r t z) ts xs ys) (sym here.0) a.1) f.1 g.1 here.1 in
       (cons-same x y xs ys here.0 later.0, later.1)
 
-pub passing-same : (m q : Passing) → m.message ≡ q.message → m.carried ≡ q.carried → m.payload ≡ q.payload → m ≡ q
-passing-same m q e f g =
+pub message-same : (m q : HandshakeMessage) → m.message ≡ q.message → m.carried ≡ q.carried → m.payload ≡ q.payload → m ≡ q
+message-same m q e f g =
     ap (λ (z : List ℕ). record { message = z; carried = m.carried; payload = m.payload }) e
     ∙ ap (λ (z : List (List ℕ)). record { message = q.message; carried = z; payload = m.payload }) f
     ∙ ap (λ (z : List ℕ). record { message = q.message; carried = q.carried; payload = z }) g
 
-all-on : (p : Plan) (n : ℕ) (r : History) (secrets : List (List ℕ)) (ps qs : List Passing) → AllAlike p n r r ps qs → AreLines p n r ps → AreLines p n r qs
+all-on : (p : Plan) (n : ℕ) (r : History) (secrets : List (List ℕ)) (ps qs : List HandshakeMessage) → AllAlike p n r r ps qs → AreLines p n r ps → AreLines p n r qs
     → UseSecrets p n secrets ps → UseSecrets p n secrets qs → answers_from p n ps ≡ answers_from p n qs → ps ≡ qs
 all-on p n r secrets [] [] a b c f g h = refl
 all-on p n r secrets [] (q ∷ qs) a b c f g h = absurd a
@@ -119,9 +119,9 @@ all-on p n r secrets (m ∷ ms) (q ∷ qs) a b c f g h =
     (a.0.1 ∙ ap (λ (zs : List (List ℕ)). piece (behind_front (has_psk p) r ts zs) q.payload) (sym here.0)) in
     let message : m.message ≡ q.message =
     b.0.1 ∙ ap (λ (zs : List (List ℕ)). line (has_psk p) r ts zs m.payload) here.0 ∙ ap (line (has_psk p) r ts q.carried) payload ∙ sym c.0.1 in
-    let one : m ≡ q = passing-same m q message here.0 payload in
+    let one : m ≡ q = message-same m q message here.0 payload in
     let behind : behind_line (has_psk p) r ts m.carried m.payload ≡ behind_line (has_psk p) r ts q.carried q.payload =
-    ap (λ (z : Passing). behind_line (has_psk p) r ts z.carried z.payload) one in
+    ap (λ (z : HandshakeMessage). behind_line (has_psk p) r ts z.carried z.payload) one in
     let later = all-on p (n + 1) (behind_line (has_psk p) r ts m.carried m.payload) (drop (count_by is_psk ts) secrets) ms qs
     (subst (λ (s : History). AllAlike p (n + 1) (behind_line (has_psk p) r ts m.carried m.payload) s ms qs) (sym behind) a.1) b.1
     (subst (λ (s : History). AreLines p (n + 1) s qs) (sym behind) c.1) f.1 g.1 here.1 in

@@ -1,4 +1,4 @@
--- Keys that agree and equal psks: one conversation and one history, or a clash.
+-- Keys that agree and equal psks: one conversation and one history, or a collide.
 use Rattle.std.proofs.Common.{◌≡◌, ℕ, List, [], ◌∷◌, length, refl, ap, sym, subst, ◌∙◌, inl, inr}
 use Rattle.std.specs.Prelude.{Bool, true, false, not, ◌&&◌, ◌||◌, ◌==◌, Option, Some, None, is_some, unwrap_or, if◌then◌else◌}
 use Rattle.noise_names.specs.declared.token.Role.{Role}
@@ -14,9 +14,9 @@ use Rattle.noise_handshake.specs.declared.remote.Remote.{Remote}
 use Rattle.noise_handshake.specs.declared.keys.Own.{Own}
 use Rattle.noise_handshake.specs.Setup.{public_keys, has_before, has_token, token_of}
 use Rattle.noise_duel.specs.Below.{LawsBelow}
-use Rattle.noise_duel.specs.Talk.{Start, begun_as, pre_keys}
+use Rattle.noise_duel.specs.Messages.{Start, begun_as, pre_keys}
 use Rattle.noise_duel.specs.Agreement.{IsSetUp, KeysTell, Knows}
-use Rattle.noise_duel.proofs.Talks.{behind_all, AreLines, AllAlike, passes-lines}
+use Rattle.noise_duel.proofs.HashedMessages.{behind_all, AreLines, AllAlike, passes-lines}
 use Rattle.noise_duel.proofs.HashTells.{SameBytes, bytes-or, starts-back}
 use Rattle.noise_duel.proofs.Forward.{UseSecrets, passes-secrets, starts-same}
 use Rattle.noise_duel.proofs.Agreeing.{all-agree, passes-uses}

@@ -10,17 +10,17 @@ use Rattle.noise_handshake.specs.declared.remote.Remote.{Remote}
 use Rattle.noise_handshake.specs.View.{View, tokens_at, tokens_now}
 use Rattle.noise_handshake.specs.Party.{behind_own, behind_message}
 use Rattle.noise_duel.specs.Below.{LawsBelow}
-use Rattle.noise_duel.specs.Talk.{Passing, Passes, Start, begun_as}
-use Rattle.noise_duel.specs.Talk.Passes.{none, wrote, took}
+use Rattle.noise_duel.specs.Messages.{HandshakeMessage, Exchanged, Start, begun_as}
+use Rattle.noise_duel.specs.Messages.Exchanged.{none, wrote, took}
 use Rattle.noise_duel.specs.Agreement.{Knows, KnowEachOther}
 use Rattle.noise_duel.proofs.Agreeing.{UsesAt, Uses, UsesAll, known_after, known_behind_all, writes_now, same-self, same-other, is-own, learns, turns-apart, passes-uses}
 use Rattle.noise_duel.proofs.KeysTell.{knows-first}
 
-abbrev known_all : Plan → Role → ℕ → Remote → List Passing → Remote
+abbrev known_all : Plan → Role → ℕ → Remote → List HandshakeMessage → Remote
 known_all p role n known [] = known
 known_all p role n known (m ∷ ms) = known_all p role (n + 1) (known_behind_all (writes_now role n) known (tokens_at p.messages n) m.carried) ms
 
-remote-is : (v w : View) (ps : List Passing) → Passes v ps w → w.remote ≡ known_all v.pattern v.role v.passed v.remote ps
+remote-is : (v w : View) (ps : List HandshakeMessage) → Exchanged v ps w → w.remote ≡ known_all v.pattern v.role v.passed v.remote ps
 remote-is v w [] (none _) = refl
 remote-is v w (p ∷ ps) (wrote _ _ _ _ here more) =
     let mine : writes_now v.role v.passed ≡ true = ap (λ (r : Role). same_role r v.role) here.speaks.turn ∙ same-self v.role in
@@ -54,7 +54,7 @@ module _ (a b : Start) where
   front-known false ka kb (t ∷ ts) (x ∷ xs) f g u w =
       let k = token-known false ka kb t x f g u.0 w.0 in front-known false (known_after false ka t x) (known_after true kb t x) ts xs k.0 k.1 u.1 w.1
 
-  all-known : (p : Plan) (n : ℕ) (ka kb : Remote) (ps : List Passing) → Knows ka b.own → Knows kb a.own → UsesAll p Initiator a.own a.agree n ka ps → UsesAll p Responder b.own b.agree n kb ps
+  all-known : (p : Plan) (n : ℕ) (ka kb : Remote) (ps : List HandshakeMessage) → Knows ka b.own → Knows kb a.own → UsesAll p Initiator a.own a.agree n ka ps → UsesAll p Responder b.own b.agree n kb ps
       → Knows (known_all p Initiator n ka ps) b.own × Knows (known_all p Responder n kb ps) a.own
   all-known p n ka kb [] f g u w = (f, g)
   all-known p n ka kb (m ∷ ms) f g u w =

@@ -1,5 +1,5 @@
--- What the laws of the handshake say, as one premise of this crate's lemmas.
-use Rattle.std.specs.Prelude.{◌≡◌, ◌<◌, ◌≤◌, ◌+◌, ℕ, List, length, Bool, true, is_some, Option, Some, None}
+-- What the laws of the handshake and of an end say, as one premise of this crate's lemmas.
+use Rattle.std.specs.Prelude.{◌≡◌, ◌<◌, ◌≤◌, ◌+◌, ℕ, List, length, Bool, true, is_some, Option, Some, None, Result}
 use Rattle.noise_names.specs.declared.token.Role.{Role}
 use Rattle.noise_names.specs.declared.token.Role.TheVariants.{Initiator, Responder}
 use Rattle.noise_names.specs.declared.token.Token.{Token}
@@ -21,14 +21,19 @@ use Rattle.noise_handshake.specs.Writing.{Writes, Lacks}
 use Rattle.noise_handshake.specs.Party.{IsKeyed, behind_message, behind_own}
 use Rattle.noise_handshake.specs.Setup.{begun, has_before, has_token, public_keys, setup_fault, token_of}
 use Rattle.noise_handshake.specs.Counterparts.{Counterparts, AnswersMeet, IsEquipped, is_dh, keys_if, shown_after, shown_before}
+use Rattle.noise_session.specs.declared.faults.SendFault.{SendFault}
+use Rattle.noise_session.specs.Ends.{EndView}
+use Rattle.noise_session.specs.Sending.{Sends}
 
 pub record LawsBelow : Type 0 where
   -- a message is accepted, refused and written in one way
   pub accepted_once : (v : View) (message : List ℕ) (xs ys : List (List ℕ)) (p q : List ℕ)
       → Accepts v message xs p → Accepts v message ys q → (xs ≡ ys) × (p ≡ q)
   pub not_refused : (v : View) (message : List ℕ) (xs : List (List ℕ)) (p : List ℕ) (k : ℕ) (c : Cause) → Accepts v message xs p → Refuses v message k c → ⊥
+  pub refused_once : (v : View) (message : List ℕ) (k j : ℕ) (c d : Cause) → Refuses v message k c → Refuses v message j d → (k ≡ j) × (c ≡ d)
   pub written_once : (v : View) (payload m n : List ℕ) (xs ys : List (List ℕ)) → Writes v payload xs m → Writes v payload ys n → (xs ≡ ys) × (m ≡ n)
   pub not_lacking : (v : View) (payload m : List ℕ) (xs : List (List ℕ)) (k : ℕ) → Writes v payload xs m → Lacks v k → ⊥
+  pub sent_once : (v x y : EndView) (payload : List ℕ) (r s : Result (List ℕ) SendFault) → Sends v payload r x → Sends v payload s y → (r ≡ s) × (x ≡ y)
   -- where there is a key, and what a message carries
   pub keyed_first : (name prologue : List ℕ) (p : Plan) (initiator responder : Remote) → IsPattern p
       → is_some (cipher_key (start name p prologue initiator responder)) ≡ has_key p (passed_places p 0)

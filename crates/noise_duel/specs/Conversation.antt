@@ -22,53 +22,53 @@ use Rattle.noise_session.specs.Ends.{end_of}
 use Rattle.noise_session.specs.Steps.Told.{Payload}
 use Rattle.noise_session.specs.Frames.{frame}
 use Rattle.noise_session.specs.Transport.{packet, last_nonce}
-use Rattle.noise_duel.specs.Talk.{Passing, Start, begun_as, messages_of}
-use Rattle.noise_duel.specs.Sides.{Sides, side, fresh}
-use Rattle.noise_duel.specs.Events.{Event, Say, Note, Wrote, Heard}
+use Rattle.noise_duel.specs.Messages.{HandshakeMessage, Start, begun_as, messages_of}
+use Rattle.noise_duel.specs.Sides.{Sides, side, new_side}
+use Rattle.noise_duel.specs.Events.{Event, Say, Note, Wrote, Judged}
 use Rattle.noise_duel.specs.Runs.{Run}
 
 -- the public keys of both parties, one answer for each DH token, and the secrets of the psk tokens, in their order
-pub record World : Type 0 where
+pub record KeyMaterial : Type 0 where
   pub public : Role → Own → List ℕ
   pub answer : Token → List ℕ
   pub secrets : List (List ℕ)
 
 -- what the tokens of a message carry
-abbrev pub said_by : World → Role → List (List ℕ) → List Token → List (List ℕ)
-said_by w party secrets [] = []
-said_by w party secrets (E ∷ ts) = w.public party Ephemeral ∷ said_by w party secrets ts
-said_by w party secrets (S ∷ ts) = w.public party Static ∷ said_by w party secrets ts
-said_by w party secrets (Psk ∷ ts) = first_secret secrets ∷ said_by w party (other_secrets secrets) ts
-said_by w party secrets (t ∷ ts) = w.answer t ∷ said_by w party secrets ts
+abbrev pub carried_by : KeyMaterial → Role → List (List ℕ) → List Token → List (List ℕ)
+carried_by w party secrets [] = []
+carried_by w party secrets (E ∷ ts) = w.public party Ephemeral ∷ carried_by w party secrets ts
+carried_by w party secrets (S ∷ ts) = w.public party Static ∷ carried_by w party secrets ts
+carried_by w party secrets (Psk ∷ ts) = first_secret secrets ∷ carried_by w party (other_secrets secrets) ts
+carried_by w party secrets (t ∷ ts) = w.answer t ∷ carried_by w party secrets ts
 
 -- the messages from number n on, counted from 0, with these payloads
-abbrev pub conversation : World → Plan → ℕ → List (List ℕ) → History → List (List ℕ) → List Passing
+abbrev pub conversation : KeyMaterial → Plan → ℕ → List (List ℕ) → History → List (List ℕ) → List HandshakeMessage
 conversation w p n secrets r [] = []
 conversation w p n secrets r (payload ∷ payloads) =
     record {
-      message = line (has_psk p) r (tokens_at p.messages n) (said_by w (turn_from Initiator n) secrets (tokens_at p.messages n)) payload;
-      carried = said_by w (turn_from Initiator n) secrets (tokens_at p.messages n);
+      message = line (has_psk p) r (tokens_at p.messages n) (carried_by w (turn_from Initiator n) secrets (tokens_at p.messages n)) payload;
+      carried = carried_by w (turn_from Initiator n) secrets (tokens_at p.messages n);
       payload = payload;
     }
     ∷ conversation w p (n + 1) (drop (count_by is_psk (tokens_at p.messages n)) secrets)
-    (behind_line (has_psk p) r (tokens_at p.messages n) (said_by w (turn_from Initiator n) secrets (tokens_at p.messages n)) payload) payloads
+    (behind_line (has_psk p) r (tokens_at p.messages n) (carried_by w (turn_from Initiator n) secrets (tokens_at p.messages n)) payload) payloads
 
 -- the history behind them
-abbrev pub behind_conversation : World → Plan → ℕ → List (List ℕ) → History → List (List ℕ) → History
+abbrev pub behind_conversation : KeyMaterial → Plan → ℕ → List (List ℕ) → History → List (List ℕ) → History
 behind_conversation w p n secrets r [] = r
 behind_conversation w p n secrets r (payload ∷ payloads) =
     behind_conversation w p (n + 1) (drop (count_by is_psk (tokens_at p.messages n)) secrets)
-    (behind_line (has_psk p) r (tokens_at p.messages n) (said_by w (turn_from Initiator n) secrets (tokens_at p.messages n)) payload) payloads
+    (behind_line (has_psk p) r (tokens_at p.messages n) (carried_by w (turn_from Initiator n) secrets (tokens_at p.messages n)) payload) payloads
 
-abbrev pub public_keys_in : World → Role → Remote
+abbrev pub public_keys_in : KeyMaterial → Role → Remote
 public_keys_in w party = record { e = Some (w.public party Ephemeral); s = Some (w.public party Static) }
 
-abbrev pub start_in : World → Plan → List ℕ → History
+abbrev pub start_in : KeyMaterial → Plan → List ℕ → History
 start_in w p prologue = start (name_bytes (record { base = p.base; places = p.places })) p prologue (public_keys_in w Initiator) (public_keys_in w Responder)
 
 -- A party starts from its part of the world: it has its own keys that the pattern asks for, the other party's of its pre-message, an answer for
 -- each DH, and the secrets.
-pub record IsPart (w : World) (p : Plan) (role : Role) (prologue : List ℕ) (s : Start) : Type 0 where
+pub record IsPart (w : KeyMaterial) (p : Plan) (role : Role) (prologue : List ℕ) (s : Start) : Type 0 where
   pub prologue_is : s.prologue ≡ prologue
   pub own : (k : Own) → stands role (token_of k) (places_of p) ≡ true → s.own k ≡ Some (w.public role k)
   pub remote_e : s.remote.e ≡ (if has_before p (other role) E then Some (w.public (other role) Ephemeral) else None)
@@ -86,15 +86,15 @@ InTurn p n (l ∷ lines) =
     × InTurn p (n + 1) lines
 
 -- what is noted of lines that all come through, when each party has written so many frames
-abbrev pub come_through : ℕ → ℕ → List (Role × List ℕ) → List (Role × Note)
-come_through i j [] = []
-come_through i j (l ∷ lines) =
+abbrev pub notes_of_lines : ℕ → ℕ → List (Role × List ℕ) → List (Role × Note)
+notes_of_lines i j [] = []
+notes_of_lines i j (l ∷ lines) =
     (if same_role l.0 Initiator
-    then (Initiator, Wrote i) ∷ (Responder, Heard (Payload l.1)) ∷ come_through (i + 1) j lines
-    else (Responder, Wrote j) ∷ (Initiator, Heard (Payload l.1)) ∷ come_through i (j + 1) lines)
+    then (Initiator, Wrote i) ∷ (Responder, Judged (Payload l.1)) ∷ notes_of_lines (i + 1) j lines
+    else (Responder, Wrote j) ∷ (Initiator, Judged (Payload l.1)) ∷ notes_of_lines i (j + 1) lines)
 
-abbrev pub said : List (Role × List ℕ) → List Event
-said lines = map (λ l. Say l.0 l.1) lines
+abbrev pub say_events : List (Role × List ℕ) → List Event
+say_events lines = map (λ l. Say l.0 l.1) lines
 
 -- ---- the frames
 
@@ -121,18 +121,18 @@ abbrev pub payloads_in : ℕ → List (Role × List ℕ) → List (List ℕ)
 payloads_in k lines = map (λ l. l.1) (take k lines)
 
 -- all messages of lines with their writers, the handshake's and then the packets
-abbrev pub transcript : World → Plan → List ℕ → ℕ → List (Role × List ℕ) → List (Role × List ℕ)
+abbrev pub transcript : KeyMaterial → Plan → List ℕ → ℕ → List (Role × List ℕ) → List (Role × List ℕ)
 transcript w p prologue interval lines =
     in_turn 0 (messages_of (conversation w p 0 w.secrets (start_in w p prologue) (payloads_in (length p.messages) lines)))
     ++ packets_of (behind_conversation w p 0 w.secrets (start_in w p prologue) (payloads_in (length p.messages) lines)) interval 0 0 (drop (length p.messages) lines)
 
 -- two new ends of one pattern
 abbrev pub facing : Plan → Start → Start → ℕ → ℕ → Sides
-facing p a b i j = record { initiator = fresh (end_of (begun_as p Initiator a) i); responder = fresh (end_of (begun_as p Responder b) j) }
+facing p a b i j = record { initiator = new_side (end_of (begun_as p Initiator a) i); responder = new_side (end_of (begun_as p Responder b) j) }
 
 -- Each end has written the frames of the transcript that are its own, and what the one wrote the other has accepted. As many handshake messages have passed as
 -- there were lines for, the history is that of their payloads, and the parties are counterparts: they have one history, and each knows the keys that the other has shown.
-pub record ComeThrough (w : World) (p : Plan) (prologue : List ℕ) (interval : ℕ) (lines : List (Role × List ℕ)) (d : Sides) : Type 0 where
+pub record ComeThrough (w : KeyMaterial) (p : Plan) (prologue : List ℕ) (interval : ℕ) (lines : List (Role × List ℕ)) (d : Sides) : Type 0 where
   pub frames : (role : Role) → (side d role).frames ≡ frames_by role (transcript w p prologue interval lines)
   pub initiator : d.initiator.passed ≡ conversation w p 0 w.secrets (start_in w p prologue) (payloads_in (length p.messages) lines)
   pub responder : d.responder.passed ≡ d.initiator.passed
@@ -144,13 +144,13 @@ pub record ComeThrough (w : World) (p : Plan) (prologue : List ℕ) (interval : 
 
 -- Lines in turn between two parts of one world come through.
 abbrev pub LinesComeThrough : Type 0
-LinesComeThrough = (w : World) (p : Plan) (prologue : List ℕ) (a b : Start) (interval : ℕ) (lines : List (Role × List ℕ)) (notes : List (Role × Note)) (d : Sides)
+LinesComeThrough = (w : KeyMaterial) (p : Plan) (prologue : List ℕ) (a b : Start) (interval : ℕ) (lines : List (Role × List ℕ)) (notes : List (Role × Note)) (d : Sides)
     → IsPattern p → IsValid p → ((role : Role) (k : Own) → length (w.public role k) ≡ 32) → IsPart w p Initiator prologue a → IsPart w p Responder prologue b → InTurn p 0 lines
-    → Run (facing p a b interval interval) (said lines) notes d
-    → (notes ≡ come_through 0 0 lines) × ComeThrough w p prologue interval lines d
+    → Run (facing p a b interval interval) (say_events lines) notes d
+    → (notes ≡ notes_of_lines 0 0 lines) × ComeThrough w p prologue interval lines d
 
 -- There is such a run.
 abbrev pub LinesRun : Type 0
-LinesRun = (w : World) (p : Plan) (prologue : List ℕ) (a b : Start) (interval : ℕ) (lines : List (Role × List ℕ))
+LinesRun = (w : KeyMaterial) (p : Plan) (prologue : List ℕ) (a b : Start) (interval : ℕ) (lines : List (Role × List ℕ))
     → IsPattern p → IsValid p → ((role : Role) (k : Own) → length (w.public role k) ≡ 32) → IsPart w p Initiator prologue a → IsPart w p Responder prologue b → InTurn p 0 lines
-    → (notes : List (Role × Note)) × (d : Sides) × Run (facing p a b interval interval) (said lines) notes d
+    → (notes : List (Role × Note)) × (d : Sides) × Run (facing p a b interval interval) (say_events lines) notes d

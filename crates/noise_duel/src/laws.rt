@@ -1,14 +1,16 @@
 //! Laws of two ends over any network.
 #![tactic(auto)]
 
-ghost use Rattle.noise_duel.specs.Agreement.{HashTells, SecretsTell, KeysTell, KnowEachOther, LooksMakeOne};
+ghost use Rattle.noise_duel.specs.Agreement.{HashTells, SecretsTell, KeysTell, KnowEachOther, VisiblyEqualIsOne};
 ghost use Rattle.noise_duel.specs.Below.{LawsBelow};
-ghost use Rattle.noise_duel.specs.Behind.{EndsStand};
+ghost use Rattle.noise_duel.specs.Invariant.{EndsStand};
 ghost use Rattle.noise_duel.specs.Conversation.{LinesComeThrough, LinesRun};
-ghost use Rattle.noise_duel.specs.Written.{EndsFrame};
-ghost use Rattle.noise_duel.specs.Worlds.{AlikeAreParts};
-ghost use Rattle.noise_duel.specs.Network.{HashesTell, LooksGiveOneHash, SecretsMakeOne, PayloadsCome};
+ghost use Rattle.noise_duel.specs.OwnFrames.{EndsFrame};
+ghost use Rattle.noise_duel.specs.Runs.{RunOnce};
+ghost use Rattle.noise_duel.specs.SetUpAlike.{AlikeAreParts};
+ghost use Rattle.noise_duel.specs.Networks.{HashesTell, VisiblyEqualGivesOne, SecretsMakeOne, PayloadsCome};
 
+use noise_session::sent_once;
 use noise_handshake::{
     accepted_once, due_is_written, keys_carried, overhead_added, refused_once, setup_is_whole,
     shown_is_known, starts_are_counterparts, tokens_stand, written_is_accepted, written_once,
@@ -21,6 +23,7 @@ fn laws_below()
     accepted_once();
     refused_once();
     written_once();
+    sent_once();
     overhead_added();
     keys_carried();
     tokens_stand();
@@ -31,14 +34,21 @@ fn laws_below()
     due_is_written();
 }
 
-/// Two parties of one pattern with one hash had the same conversation as far as it can be seen, or two of their texts clash; with the same secrets
+/// Two parties of one pattern with one hash had the same conversation as far as it can be seen, or two of their texts collision; with the same secrets
 /// and DH answers it is the same as a whole.
 pub fn hash_tells()
     ensures seen { HashTells }
     ensures whole { SecretsTell }
     ensures keys { KeysTell }
-    ensures back { LooksMakeOne }
+    ensures back { VisiblyEqualIsOne }
     ensures known { KnowEachOther }
+{
+    laws_below();
+}
+
+/// A run is determined: of two ends and a list of events one list of notes and one pair of ends comes.
+pub fn run_once()
+    ensures { RunOnce }
 {
     laws_below();
 }
@@ -49,12 +59,12 @@ pub fn ends_stand()
     ensures frame { EndsFrame }
 {}
 
-/// Where both ends of a run have opened with one hash, the conversation was the same as far as it can be seen, or there is a clash; with the same
+/// Where both ends of a run have opened with one hash, the conversation was the same as far as it can be seen, or there is a collision; with the same
 /// secrets and DH answers they have all of it in common, and with equal intervals each end's accepted payloads are a front of those that the other
 /// wrote, up to a forged message.
 pub fn ends_agree()
     ensures seen { HashesTell }
-    ensures back { LooksGiveOneHash }
+    ensures back { VisiblyEqualGivesOne }
     ensures one { SecretsMakeOne }
     ensures payloads { PayloadsCome }
 {

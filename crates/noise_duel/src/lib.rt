@@ -3,4 +3,4 @@
 
 mod laws;
 
-pub use laws::{alike_are_parts, ends_agree, ends_stand, hash_tells, lines_come_through};
+pub use laws::{alike_are_parts, ends_agree, ends_stand, hash_tells, lines_come_through, run_once};

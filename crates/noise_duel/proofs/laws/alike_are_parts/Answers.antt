@@ -1,4 +1,4 @@
-use Rattle.noise_duel.proofs.Worlds.{alike-are-parts}
+use Rattle.noise_duel.proofs.SetUpAlike.{alike-are-parts}
 use Rattle.noise_duel.proofs.laws.alike_are_parts.Goals as goal
 
 pub returns : goal.returns

@@ -1,4 +1,4 @@
-use Rattle.noise_duel.proofs.Network.{hashes-tell, looks-give-one-hash, secrets-make-one, payloads-come}
+use Rattle.noise_duel.proofs.Networks.{hashes-tell, visibly-equal-gives-one, secrets-make-one, payloads-come}
 use Rattle.noise_duel.proofs.laws.ends_agree.Goals as goal
 
 pub returns-clause-seen : goal.returns-clause-seen
@@ -11,4 +11,4 @@ pub returns-clause-payloads : goal.returns-clause-payloads
 returns-clause-payloads c = payloads-come c.laws_below.ensures
 
 pub returns-clause-back : goal.returns-clause-back
-returns-clause-back c = looks-give-one-hash c.laws_below.ensures
+returns-clause-back c = visibly-equal-gives-one c.laws_below.ensures

@@ -3,9 +3,11 @@ use Rattle.noise_duel.proofs.laws.laws_below.Goals as goal
 pub returns : goal.returns
 returns c = record {
   accepted_once = c.accepted_once.ensures;
+  refused_once = c.refused_once.ensures.one;
   not_refused = c.refused_once.ensures.apart;
   written_once = c.written_once.ensures.message;
   not_lacking = c.written_once.ensures.apart;
+  sent_once = c.sent_once.ensures;
   keyed_first = c.overhead_added.ensures.first;
   keyed_next = c.overhead_added.ensures.next;
   written_carries = c.keys_carried.ensures.written;

@@ -1,4 +1,4 @@
-use Rattle.noise_duel.proofs.Through.{lines-come-through, lines-run}
+use Rattle.noise_duel.proofs.Transcripts.{lines-come-through, lines-run}
 use Rattle.noise_duel.proofs.laws.lines_come_through.Goals as goal
 
 pub returns-clause-come : goal.returns-clause-come

@@ -9,8 +9,8 @@ use Rattle.noise_handshake.specs.declared.remote.Remote.{Remote}
 use Rattle.noise_handshake.specs.Line.{with_ephemeral, token_piece, behind_token, front, behind_front, behind_line}
 use Rattle.noise_handshake.specs.Length.{keyed_behind, keyed_behind_tokens}
 use Rattle.noise_handshake.specs.View.{with_premessage}
-use Rattle.noise_duel.specs.Clash.{hashed}
-use Rattle.noise_duel.specs.Talk.{OneEach, open_keys, pre_keys}
+use Rattle.noise_duel.specs.Collision.{hashed}
+use Rattle.noise_duel.specs.Messages.{OneEach, clear_keys, pre_keys}
 
 heads : {X : Type 0} (x y : X) (xs ys : List X) → (x ∷ xs) ≡ (y ∷ ys) → x ≡ y
 heads x y xs ys e = cc
@@ -158,10 +158,10 @@ module _ (psks : Bool) where
   static-same false r s x y older others a b e f = cons-same x y older others (sym (plain_piece r x a) ∙ e ∙ plain_piece s y b) f
 
   open-token : (keyed : Bool) (r s : History) (t : Token) (ts : List Token) (x y : List ℕ) (xs ys : List (List ℕ)) → is_some (cipher_key r) ≡ keyed → is_some (cipher_key s) ≡ keyed
-      → token_piece r t x ≡ token_piece s t y → open_keys psks (keyed_behind psks keyed t) ts xs ≡ open_keys psks (keyed_behind psks keyed t) ts ys
-      → open_keys psks keyed (t ∷ ts) (x ∷ xs) ≡ open_keys psks keyed (t ∷ ts) (y ∷ ys)
-  open-token keyed r s E ts x y xs ys a b e f = cons-same x y (open_keys psks (keyed_behind psks keyed E) ts xs) (open_keys psks (keyed_behind psks keyed E) ts ys) e f
-  open-token keyed r s S ts x y xs ys a b e f = static-same keyed r s x y (open_keys psks keyed ts xs) (open_keys psks keyed ts ys) a b e f
+      → token_piece r t x ≡ token_piece s t y → clear_keys psks (keyed_behind psks keyed t) ts xs ≡ clear_keys psks (keyed_behind psks keyed t) ts ys
+      → clear_keys psks keyed (t ∷ ts) (x ∷ xs) ≡ clear_keys psks keyed (t ∷ ts) (y ∷ ys)
+  open-token keyed r s E ts x y xs ys a b e f = cons-same x y (clear_keys psks (keyed_behind psks keyed E) ts xs) (clear_keys psks (keyed_behind psks keyed E) ts ys) e f
+  open-token keyed r s S ts x y xs ys a b e f = static-same keyed r s x y (clear_keys psks keyed ts xs) (clear_keys psks keyed ts ys) a b e f
   open-token keyed r s Ee ts x y xs ys a b e f = f
   open-token keyed r s Es ts x y xs ys a b e f = f
   open-token keyed r s Se ts x y xs ys a b e f = f
@@ -170,7 +170,7 @@ module _ (psks : Bool) where
 
   -- the public keys that travel as they are
   pub open-same : (keyed : Bool) (r s : History) (ts : List Token) (xs ys : List (List ℕ)) → is_some (cipher_key r) ≡ keyed → is_some (cipher_key s) ≡ keyed
-      → Alike r s ts xs ys → open_keys psks keyed ts xs ≡ open_keys psks keyed ts ys
+      → Alike r s ts xs ys → clear_keys psks keyed ts xs ≡ clear_keys psks keyed ts ys
   open-same keyed r s [] [] [] a b h = refl
   open-same keyed r s [] [] (y ∷ ys) a b h = absurd h
   open-same keyed r s [] (x ∷ xs) ys a b h = absurd h

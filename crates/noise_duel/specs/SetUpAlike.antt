@@ -9,9 +9,9 @@ use Rattle.noise_handshake.specs.declared.keys.Own.{Own}
 use Rattle.noise_handshake.specs.View.{answered, own_at, remote_at}
 use Rattle.noise_handshake.specs.Setup.{public_keys}
 use Rattle.noise_handshake.specs.Counterparts.{is_dh, shown_before}
-use Rattle.noise_duel.specs.Talk.{Start}
+use Rattle.noise_duel.specs.Messages.{Start}
 use Rattle.noise_duel.specs.Agreement.{KeysAgree, IsSetUp}
-use Rattle.noise_duel.specs.Conversation.{World, IsPart}
+use Rattle.noise_duel.specs.Conversation.{KeyMaterial, IsPart}
 
 -- Two parties set up alike: without a fault, with one prologue and the same psks, each with the keys of the other's pre-message and no others; and the keys agree.
 pub record AreSetUpAlike (p : Plan) (prologue : List ℕ) (a b : Start) : Type 0 where
@@ -34,7 +34,7 @@ HasAnswers p a b = (t : Token) → is_dh t ≡ true → occurs t (places_of p) �
 
 -- a world, with keys of 32 bytes, of which both are parts
 pub record AreParts (p : Plan) (prologue : List ℕ) (a b : Start) : Type 0 where
-  pub world : World
+  pub world : KeyMaterial
   pub long : (role : Role) (k : Own) → length (world.public role k) ≡ 32
   pub initiator : IsPart world p Initiator prologue a
   pub responder : IsPart world p Responder prologue b

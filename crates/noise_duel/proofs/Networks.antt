@@ -7,33 +7,33 @@ use Rattle.noise_names.specs.Plan.{Plan}
 use Rattle.noise_state.specs.History.{History, hash}
 use Rattle.noise_handshake.specs.View.{View}
 use Rattle.noise_handshake.specs.Party.{behind_own, behind_message}
-use Rattle.noise_duel.specs.Clash.{Clash}
-use Rattle.noise_duel.specs.Talk.{Passing, Passes, Start, begun_as}
-use Rattle.noise_duel.specs.Talk.Passes.{none, wrote, took}
-use Rattle.noise_duel.specs.Sides.{Sides, Parcel}
+use Rattle.noise_duel.specs.Collision.{Collision}
+use Rattle.noise_duel.specs.Messages.{HandshakeMessage, Exchanged, Start, begun_as}
+use Rattle.noise_duel.specs.Messages.Exchanged.{none, wrote, took}
+use Rattle.noise_duel.specs.Sides.{Sides, TransportMessage}
 use Rattle.noise_duel.specs.Events.{Event, Note}
 use Rattle.noise_duel.specs.Runs.{Run}
 use Rattle.noise_duel.specs.Conversation.{facing}
-use Rattle.noise_duel.specs.Behind.{StandsBehind, ArePackets}
-use Rattle.noise_duel.specs.Agreement.{LookAlike}
-use Rattle.noise_duel.specs.Network.{Meet, TheyClash, ShareSecrets, AreOne, Fronts, HashesTell, SecretsMakeOne, PayloadsCome, LooksGiveOneHash}
+use Rattle.noise_duel.specs.Invariant.{ComesOfMessages, ArePackets}
+use Rattle.noise_duel.specs.Agreement.{VisiblyEqual}
+use Rattle.noise_duel.specs.Networks.{HaveOneHash, HistoriesCollide, ShareSecrets, HaveOneHistory, PayloadsAgree, HashesTell, SecretsMakeOne, PayloadsCome, VisiblyEqualGivesOne}
 use Rattle.noise_session.specs.Ends.{EndView, session_hash}
 use Rattle.std.specs.Prelude.{Bool, true, false, Some, None, ◌==◌, if◌then◌else◌}
 use Rattle.std.proofs.lemmas.Bool.Decides.{nat_tests}
 use Rattle.noise_duel.specs.Below.{LawsBelow}
-use Rattle.noise_duel.proofs.Behind.{ends-stand}
+use Rattle.noise_duel.proofs.Invariant.{ends-stand}
 use Rattle.noise_duel.proofs.HashTells.{hash-tells}
 use Rattle.noise_duel.proofs.Forward.{secrets-tell}
 use Rattle.noise_duel.proofs.KeysTell.{keys-tell}
-use Rattle.noise_duel.proofs.Looks.{looks-make-one}
-use Rattle.noise_duel.proofs.Fronts.{front-or-forged}
+use Rattle.noise_duel.proofs.Converse.{visibly-equal-is-one}
+use Rattle.noise_duel.proofs.Prefixes.{prefix-or-forged}
 
-passes-pattern : (v w : View) (ps : List Passing) → Passes v ps w → w.pattern ≡ v.pattern
+passes-pattern : (v w : View) (ps : List HandshakeMessage) → Exchanged v ps w → w.pattern ≡ v.pattern
 passes-pattern v w [] (none _) = refl
 passes-pattern v w (p ∷ ps) (wrote _ _ _ _ here more) = passes-pattern (behind_own v p.carried p.payload) w ps more
 passes-pattern v w (p ∷ ps) (took _ _ _ _ here more) = passes-pattern (behind_message v p.carried p.payload) w ps more
 
-passes-role : (v w : View) (ps : List Passing) → Passes v ps w → w.role ≡ v.role
+passes-role : (v w : View) (ps : List HandshakeMessage) → Exchanged v ps w → w.role ≡ v.role
 passes-role v w [] (none _) = refl
 passes-role v w (p ∷ ps) (wrote _ _ _ _ here more) = passes-role (behind_own v p.carried p.payload) w ps more
 passes-role v w (p ∷ ps) (took _ _ _ _ here more) = passes-role (behind_message v p.carried p.payload) w ps more
@@ -53,11 +53,11 @@ opened-is v h e = go (v.party.passed == length v.party.pattern.messages) refl e
     go true f g = record { all = grind (arith, nat_tests); is = some-same (hash v.party.history) h g }
     go false f g = cc
 
-module _ (laws : LawsBelow) (p : Plan) (a b : Start) (i j : ℕ) (events : List Event) (notes : List (Role × Note)) (d : Sides) (run : Run (facing p a b i j) events notes d) (meet : Meet d) where
-  left : StandsBehind (begun_as p Initiator a) i d.initiator
+module _ (laws : LawsBelow) (p : Plan) (a b : Start) (i j : ℕ) (events : List Event) (notes : List (Role × Note)) (d : Sides) (run : Run (facing p a b i j) events notes d) (meet : HaveOneHash d) where
+  left : ComesOfMessages (begun_as p Initiator a) i d.initiator
   left = (ends-stand p a b i j events notes d run).0
 
-  right : StandsBehind (begun_as p Responder b) j d.responder
+  right : ComesOfMessages (begun_as p Responder b) j d.responder
   right = (ends-stand p a b i j events notes d run).1
 
   left-history : d.initiator.view.party.history ≡ left.last.history
@@ -76,38 +76,38 @@ module _ (laws : LawsBelow) (p : Plan) (a b : Start) (i j : ℕ) (events : List 
   same-hash : hash left.last.history ≡ hash right.last.history
   same-hash = sym (ap hash left-history) ∙ (opened-is d.initiator.view meet.hash meet.initiator).is ∙ sym (opened-is d.responder.view meet.hash meet.responder).is ∙ ap hash right-history
 
-  clash : (k : ℕ) → Clash left.last.history right.last.history k → TheyClash d
-  clash k c =
-      (k, subst (λ (r : History). Clash r d.responder.view.party.history k) (sym left-history) (subst (λ (s : History). Clash left.last.history s k) (sym right-history) c))
+  collision : (k : ℕ) → Collision left.last.history right.last.history k → HistoriesCollide d
+  collision k c =
+      (k, subst (λ (r : History). Collision r d.responder.view.party.history k) (sym left-history) (subst (λ (s : History). Collision left.last.history s k) (sym right-history) c))
 
-  pub hashes : LookAlike p a b d.initiator.passed d.responder.passed ⊎ TheyClash d
-  hashes = elim (hash-tells p a b d.initiator.passed d.responder.passed left.last right.last left.passes right.passes same-count same-hash) [ inl h ↦ inl h | inr c ↦ inr (clash c.0 c.1) ]
+  pub hashes : VisiblyEqual p a b d.initiator.passed d.responder.passed ⊎ HistoriesCollide d
+  hashes = elim (hash-tells p a b d.initiator.passed d.responder.passed left.last right.last left.passes right.passes same-count same-hash) [ inl h ↦ inl h | inr c ↦ inr (collision c.0 c.1) ]
 
-  ones : ((d.initiator.passed ≡ d.responder.passed) × (left.last.history ≡ right.last.history)) ⊎ ((k : ℕ) × Clash left.last.history right.last.history k) → AreOne d ⊎ TheyClash d
+  ones : ((d.initiator.passed ≡ d.responder.passed) × (left.last.history ≡ right.last.history)) ⊎ ((k : ℕ) × Collision left.last.history right.last.history k) → HaveOneHistory d ⊎ HistoriesCollide d
   ones (inl h) = inl (record { passed = h.0; history = left-history ∙ h.1 ∙ sym right-history })
-  ones (inr c) = inr (clash c.0 c.1)
+  ones (inr c) = inr (collision c.0 c.1)
 
-  pub makes-one : ShareSecrets p a b d → AreOne d ⊎ TheyClash d
+  pub makes-one : ShareSecrets p a b d → HaveOneHistory d ⊎ HistoriesCollide d
   makes-one (inl s) = ones (secrets-tell p a b d.initiator.passed d.responder.passed left.last right.last left.passes right.passes same-count same-hash s.psks s.answers)
   makes-one (inr s) = ones (keys-tell laws p a b d.initiator.passed d.responder.passed left.last right.last s.initiator s.responder left.passes right.passes same-count same-hash s.psks s.keys)
 
   -- an end's packets, by its own history and role
-  packets : (last : View) (r : History) (writer role : Role) (k : ℕ) (ps : List Parcel) → last.history ≡ r → role ≡ writer → ArePackets last.history role k 0 ps → ArePackets r writer k 0 ps
+  packets : (last : View) (r : History) (writer role : Role) (k : ℕ) (ps : List TransportMessage) → last.history ≡ r → role ≡ writer → ArePackets last.history role k 0 ps → ArePackets r writer k 0 ps
   packets last r writer role k ps e f h =
       subst (λ (w : Role). ArePackets r w k 0 ps) f (subst (λ (s : History). ArePackets s role k 0 ps) e h)
 
-  pub fronts : i ≡ j → AreOne d → Fronts i d
-  fronts same one =
+  pub payloads-agree : i ≡ j → HaveOneHistory d → PayloadsAgree i d
+  payloads-agree same one =
       let li : left.last.role ≡ Initiator = passes-role (begun_as p Initiator a) left.last d.initiator.passed left.passes in
       let ri : right.last.role ≡ Responder = passes-role (begun_as p Responder b) right.last d.responder.passed right.passes in
       let r : History = d.initiator.view.party.history in
       let s : History = d.responder.view.party.history in
       record {
-        there = front-or-forged r Initiator i d.initiator.sent d.responder.received
+        there = prefix-or-forged r Initiator i d.initiator.sent d.responder.received
             (packets left.last r Initiator left.last.role i d.initiator.sent (sym left-history) li left.sent)
             (subst (λ (k : ℕ). ArePackets r Initiator k 0 d.responder.received) (sym same)
             (packets right.last r Initiator (other right.last.role) j d.responder.received (sym right-history ∙ sym one.history) (ap other ri) right.received));
-        back = front-or-forged s Responder i d.responder.sent d.initiator.received
+        back = prefix-or-forged s Responder i d.responder.sent d.initiator.received
             (subst (λ (k : ℕ). ArePackets s Responder k 0 d.responder.sent) (sym same)
             (packets right.last s Responder right.last.role j d.responder.sent (sym right-history) ri right.sent))
             (packets left.last s Responder (other left.last.role) i d.initiator.received (sym left-history ∙ one.history) (ap other li) left.received);
@@ -121,12 +121,12 @@ secrets-make-one = makes-one
 
 pub payloads-come : LawsBelow → PayloadsCome
 payloads-come laws p a b interval events notes d run meet share =
-    elim (makes-one laws p a b interval interval events notes d run meet share) [ inl one ↦ inl (fronts laws p a b interval interval events notes d run meet refl one) | inr c ↦ inr c ]
+    elim (makes-one laws p a b interval interval events notes d run meet share) [ inl one ↦ inl (payloads-agree laws p a b interval interval events notes d run meet refl one) | inr c ↦ inr c ]
 
-pub looks-give-one-hash : LawsBelow → LooksGiveOneHash
-looks-give-one-hash laws p a b i j events notes d run prologue before messages used =
+pub visibly-equal-gives-one : LawsBelow → VisiblyEqualGivesOne
+visibly-equal-gives-one laws p a b i j events notes d run prologue before messages used =
     let stand = ends-stand p a b i j events notes d run in
     let l = stand.0 in
     let r = stand.1 in
-    let one = looks-make-one laws p a b d.initiator.passed d.responder.passed l.last r.last l.passes r.passes prologue before messages used.psks used.answers in
+    let one = visibly-equal-is-one laws p a b d.initiator.passed d.responder.passed l.last r.last l.passes r.passes prologue before messages used.psks used.answers in
     record { passed = one.0; history = ap (λ (v : View). v.history) l.party ∙ one.1 ∙ sym (ap (λ (v : View). v.history) r.party) }

@@ -15,10 +15,10 @@ use Rattle.noise_handshake.specs.Setup.{has_before, public_keys, token_of}
 use Rattle.noise_handshake.specs.Counterparts.{is_dh, AnswersMeet}
 use Rattle.noise_duel.specs.Below.{LawsBelow}
 use Rattle.noise_duel.proofs.Parts.{remote-own}
-use Rattle.noise_duel.specs.Talk.{Start}
+use Rattle.noise_duel.specs.Messages.{Start}
 use Rattle.noise_duel.specs.Agreement.{IsSetUp}
-use Rattle.noise_duel.specs.Conversation.{World, IsPart, public_keys_in}
-use Rattle.noise_duel.specs.Worlds.{AreSetUpAlike, HasLongKeys, HasAnswers, AlikeAreParts}
+use Rattle.noise_duel.specs.Conversation.{KeyMaterial, IsPart, public_keys_in}
+use Rattle.noise_duel.specs.SetUpAlike.{AreSetUpAlike, HasLongKeys, HasAnswers, AlikeAreParts}
 
 abbrev zeros : List ℕ
 zeros = 0 ∷ 0 ∷ 0 ∷ 0 ∷ 0 ∷ 0 ∷ 0 ∷ 0 ∷ 0 ∷ 0 ∷ 0 ∷ 0 ∷ 0 ∷ 0 ∷ 0 ∷ 0 ∷ 0 ∷ 0 ∷ 0 ∷ 0 ∷ 0 ∷ 0 ∷ 0 ∷ 0 ∷ 0 ∷ 0 ∷ 0 ∷ 0 ∷ 0 ∷ 0 ∷ 0 ∷ 0 ∷ []
@@ -56,7 +56,7 @@ module _ (laws : LawsBelow) (p : Plan) (prologue : List ℕ) (a b : Start) (vali
   public_in Initiator x = true-key a x
   public_in Responder x = true-key b x
 
-  abbrev world : World
+  abbrev world : KeyMaterial
   world = record { public = public_in; answer = λ t. unwrap_or (answer-at t) []; secrets = a.secrets }
 
   own-a : (x : Own) → stands Initiator (token_of x) (places_of p) ≡ true → a.own x ≡ Some (true-key a x)

@@ -23,15 +23,15 @@ use Rattle.noise_handshake.specs.Counterparts.{Counterparts, shown_before}
 use Rattle.noise_duel.specs.Below.{LawsBelow}
 use Rattle.noise_session.specs.Transport.{last_nonce}
 use Rattle.noise_session.specs.Steps.Told.{Payload}
-use Rattle.noise_duel.specs.Talk.{Passing, Start, begun_as, messages_of}
-use Rattle.noise_duel.specs.Sides.{Parcel, Side, Sides, side, with_side, wrote_passing, took_passing, wrote_parcel, took_parcel}
-use Rattle.noise_duel.specs.Events.{Say, Note, Wrote, Heard}
-use Rattle.noise_duel.specs.Runs.{Does, Run}
+use Rattle.noise_duel.specs.Messages.{HandshakeMessage, Start, begun_as, messages_of}
+use Rattle.noise_duel.specs.Sides.{TransportMessage, Side, Sides, side, with_side, wrote_handshake, accepted_handshake, wrote_transport, accepted_transport}
+use Rattle.noise_duel.specs.Events.{Say, Note, Wrote, Judged}
+use Rattle.noise_duel.specs.Runs.{Happens, Run}
 use Rattle.noise_duel.specs.Runs.Run.{ends, begins}
-use Rattle.noise_duel.specs.Conversation.{World, conversation, behind_conversation, public_keys_in, start_in, IsPart, InTurn, come_through, said, facing, in_turn, packets_of, frames_by, payloads_in, LinesComeThrough, LinesRun}
-use Rattle.noise_duel.proofs.Parts.{InWorld, answers-meet}
-use Rattle.noise_duel.proofs.OneLine.{does-can}
-use Rattle.noise_duel.proofs.Abreast.{Abreast, due_of, behind_due, passing, HandshakeLine, speak-at, handshake-line, parcel, TransportLine, send-at, transport-line}
+use Rattle.noise_duel.specs.Conversation.{KeyMaterial, conversation, behind_conversation, public_keys_in, start_in, IsPart, InTurn, notes_of_lines, say_events, facing, in_turn, packets_of, frames_by, payloads_in, LinesComeThrough, LinesRun}
+use Rattle.noise_duel.proofs.Parts.{HasMaterial, answers-meet}
+use Rattle.noise_duel.proofs.Lines.{say-can}
+use Rattle.noise_duel.proofs.EquallyFar.{EquallyFar, due_of, behind_due, handshake_message, HandshakeLine, handshake-at, handshake-line, transport_message, TransportLine, transport-at, transport-line}
 
 -- ---- all lines
 
@@ -44,24 +44,24 @@ drop-none zero = refl
 drop-none (suc k) = refl
 
 noted-on : (role : Role) (payload : List ℕ) (d next : Sides) (now later : List (Role × Note)) (lines : List (Role × List ℕ))
-    → now ≡ (role, Wrote (length (side d role).frames)) ∷ (other role, Heard (Payload payload)) ∷ []
+    → now ≡ (role, Wrote (length (side d role).frames)) ∷ (other role, Judged (Payload payload)) ∷ []
     → length (side next role).frames ≡ length (side d role).frames + 1 → (side next (other role)).frames ≡ (side d (other role)).frames
-    → later ≡ come_through (length next.initiator.frames) (length next.responder.frames) lines
+    → later ≡ notes_of_lines (length next.initiator.frames) (length next.responder.frames) lines
     → now ++ later ≡ (if same_role role Initiator
-    then (Initiator, Wrote (length d.initiator.frames)) ∷ (Responder, Heard (Payload payload)) ∷ come_through (length d.initiator.frames + 1) (length d.responder.frames) lines
-    else (Responder, Wrote (length d.responder.frames)) ∷ (Initiator, Heard (Payload payload)) ∷ come_through (length d.initiator.frames) (length d.responder.frames + 1) lines)
+    then (Initiator, Wrote (length d.initiator.frames)) ∷ (Responder, Judged (Payload payload)) ∷ notes_of_lines (length d.initiator.frames + 1) (length d.responder.frames) lines
+    else (Responder, Wrote (length d.responder.frames)) ∷ (Initiator, Judged (Payload payload)) ∷ notes_of_lines (length d.initiator.frames) (length d.responder.frames + 1) lines)
 noted-on Initiator payload d next now later lines e f g h =
     ap (λ (ns : List (Role × Note)). ns ++ later) e
-    ∙ ap (λ (ns : List (Role × Note)). (Initiator, Wrote (length d.initiator.frames)) ∷ (Responder, Heard (Payload payload)) ∷ ns)
-    (h ∙ ap (λ (i : ℕ). come_through i (length next.responder.frames) lines) f ∙ ap (λ (fs : List (List ℕ)). come_through (length d.initiator.frames + 1) (length fs) lines) g)
+    ∙ ap (λ (ns : List (Role × Note)). (Initiator, Wrote (length d.initiator.frames)) ∷ (Responder, Judged (Payload payload)) ∷ ns)
+    (h ∙ ap (λ (i : ℕ). notes_of_lines i (length next.responder.frames) lines) f ∙ ap (λ (fs : List (List ℕ)). notes_of_lines (length d.initiator.frames + 1) (length fs) lines) g)
 noted-on Responder payload d next now later lines e f g h =
     ap (λ (ns : List (Role × Note)). ns ++ later) e
-    ∙ ap (λ (ns : List (Role × Note)). (Responder, Wrote (length d.responder.frames)) ∷ (Initiator, Heard (Payload payload)) ∷ ns)
-    (h ∙ ap (λ (i : ℕ). come_through (length next.initiator.frames) i lines) f ∙ ap (λ (fs : List (List ℕ)). come_through (length fs) (length d.responder.frames + 1) lines) g)
+    ∙ ap (λ (ns : List (Role × Note)). (Responder, Wrote (length d.responder.frames)) ∷ (Initiator, Judged (Payload payload)) ∷ ns)
+    (h ∙ ap (λ (i : ℕ). notes_of_lines (length next.initiator.frames) i lines) f ∙ ap (λ (fs : List (List ℕ)). notes_of_lines (length fs) (length d.responder.frames + 1) lines) g)
 
-module _ (laws : LawsBelow) (w : World) where
+module _ (laws : LawsBelow) (w : KeyMaterial) where
   -- the messages and the history from a party's view on
-  abbrev from : View → List (List ℕ) → List Passing
+  abbrev from : View → List (List ℕ) → List HandshakeMessage
   from v ps = conversation w v.pattern v.passed v.secrets v.history ps
 
   abbrev behind : View → List (List ℕ) → History
@@ -83,14 +83,14 @@ module _ (laws : LawsBelow) (w : World) where
       → p ≡ q → n ≡ m → s ≡ t → r ≡ u → k ≡ l → i ≡ j → x ≡ y → xs ≡ ys → vs ≡ ws → coming p n s r k i x xs vs ≡ coming q m t u l j y ys ws
   coming-same p q n m s t r u k l i j x y xs ys vs ws a b c d e f g h o = cc
 
-  record Comes (n : ℕ) (lines : List (Role × List ℕ)) (d e : Sides) (notes : List (Role × Note)) : Type 0 where
-    noted : notes ≡ come_through (length d.initiator.frames) (length d.responder.frames) lines
+  record AfterLines (n : ℕ) (lines : List (Role × List ℕ)) (d e : Sides) (notes : List (Role × Note)) : Type 0 where
+    noted : notes ≡ notes_of_lines (length d.initiator.frames) (length d.responder.frames) lines
     passed : e.initiator.passed ≡ d.initiator.passed ++ from d.initiator.view.party (payloads_in (left d.initiator.view.party) lines)
     history : e.initiator.view.party.history ≡ behind d.initiator.view.party (payloads_in (left d.initiator.view.party) lines)
     frames : (r : Role) → (side e r).frames ≡ (side d r).frames ++ frames_by r (to_come d lines)
     count : e.initiator.view.party.passed ≡ d.initiator.view.party.passed + length (payloads_in (left d.initiator.view.party) lines)
     last : ℕ
-    abreast : Abreast w last e
+    equally_far : EquallyFar w last e
 
   from-same : (p q : Plan) (n m : ℕ) (s t : List (List ℕ)) (r u : History) (xs ys : List (List ℕ)) → p ≡ q → n ≡ m → s ≡ t → r ≡ u → xs ≡ ys → conversation w p n s r xs ≡ conversation w q m t u ys
   from-same p q n m s t r u xs ys e f g h i = cc
@@ -99,7 +99,7 @@ module _ (laws : LawsBelow) (w : World) where
   behind-same p q n m s t r u xs ys e f g h i = cc
 
   module _ (long : (role : Role) (k : Own) → length (w.public role k) ≡ 32) where
-    come : (lines : List (Role × List ℕ)) (n : ℕ) (d e : Sides) (notes : List (Role × Note)) → Abreast w n d → InTurn d.initiator.view.party.pattern n lines → Run d (said lines) notes e → Comes n lines d e notes
+    come : (lines : List (Role × List ℕ)) (n : ℕ) (d e : Sides) (notes : List (Role × Note)) → EquallyFar w n d → InTurn d.initiator.view.party.pattern n lines → Run d (say_events lines) notes e → AfterLines n lines d e notes
     come [] n d e notes a h (ends _) =
         let v : View = d.initiator.view.party in
         let none : payloads_in (left v) [] ≡ [] = ap (λ (ls : List (Role × List ℕ)). map (λ l. l.1) ls) (take-none (left v)) in
@@ -113,11 +113,11 @@ module _ (laws : LawsBelow) (w : World) where
               ∙ append-nil (side d r).frames);
           count = omega (arith, ap length none);
           last = n;
-          abreast = a;
+          equally_far = a;
         }
     come (l ∷ lines) n d e notes a h (begins _ next _ _ _ now later does run) = go (nat_lt n (length d.initiator.view.party.pattern.messages)) refl h.0 (come lines (n + 1) next e later) run does
       where
-        hand : n < length d.initiator.view.party.pattern.messages → HandshakeLine laws w long n l.0 l.1 d next now → Comes (n + 1) lines next e later → Comes n (l ∷ lines) d e (now ++ later)
+        hand : n < length d.initiator.view.party.pattern.messages → HandshakeLine laws w long n l.0 l.1 d next now → AfterLines (n + 1) lines next e later → AfterLines n (l ∷ lines) d e (now ++ later)
         hand more step ih =
             let u : View = next.initiator.view.party in
             let o : View = d.initiator.view.party in
@@ -129,12 +129,12 @@ module _ (laws : LawsBelow) (w : World) where
             let all : payloads_in (left o) (l ∷ lines) ≡ l.1 ∷ ps = ap (λ (k : ℕ). payloads_in k (l ∷ lines)) one in
             let same : payloads_in (left u) lines ≡ ps = ap (λ (k : ℕ). payloads_in k lines) rest in
             record {
-              noted = noted-on l.0 l.1 d next now later lines step.noted step.heeded.frames step.heeded.others ih.noted;
+              noted = noted-on l.0 l.1 d next now later lines step.noted step.after_line.frames step.after_line.others ih.noted;
               passed =
                   ih.passed
-                  ∙ ap (λ (ms : List Passing). ms ++ from u (payloads_in (left u) lines)) hs.passed
+                  ∙ ap (λ (ms : List HandshakeMessage). ms ++ from u (payloads_in (left u) lines)) hs.passed
                   ∙ append_assoc d.initiator.passed (due_of w o l.1 ∷ []) (from u (payloads_in (left u) lines))
-                  ∙ ap (λ (ms : List Passing). d.initiator.passed ++ due_of w o l.1 ∷ ms)
+                  ∙ ap (λ (ms : List HandshakeMessage). d.initiator.passed ++ due_of w o l.1 ∷ ms)
                   (from-same u.pattern o.pattern u.passed (o.passed + 1) u.secrets (drop (count_by is_psk (tokens_now o)) o.secrets) u.history (behind_due w o l.1) (payloads_in (left u) lines) ps hs.pattern hs.count hs.secrets hs.history same)
                   ∙ ap (λ (qs : List (List ℕ)). d.initiator.passed ++ from o qs) (sym all);
               history =
@@ -146,15 +146,15 @@ module _ (laws : LawsBelow) (w : World) where
                   ∙ ap (λ (ms : List (Role × List ℕ)). (side next r).frames ++ frames_by r ms)
                   (coming-same u.pattern o.pattern u.passed (o.passed + 1) u.secrets (drop (count_by is_psk (tokens_now o)) o.secrets) u.history (behind_due w o l.1) next.initiator.view.interval d.initiator.view.interval
                   next.initiator.view.sent d.initiator.view.sent next.responder.view.sent d.responder.view.sent (payloads_in (left u) lines) ps (drop (left u) lines) (drop (length o.pattern.messages - (o.passed + 1)) lines)
-                  hs.pattern hs.count hs.secrets hs.history step.heeded.interval hs.sent hs.sent_there same (ap (λ (k : ℕ). drop k lines) rest))
+                  hs.pattern hs.count hs.secrets hs.history step.after_line.interval hs.sent hs.sent_there same (ap (λ (k : ℕ). drop k lines) rest))
                   ∙ sym (hs.frames r (coming o.pattern (o.passed + 1) (drop (count_by is_psk (tokens_now o)) o.secrets) (behind_due w o l.1) d.initiator.view.interval d.initiator.view.sent d.responder.view.sent ps (drop (length o.pattern.messages - (o.passed + 1)) lines)))
                   ∙ sym (ap (λ (k : ℕ). (side d r).frames ++ frames_by r (coming o.pattern o.passed o.secrets o.history d.initiator.view.interval d.initiator.view.sent d.responder.view.sent (payloads_in k (l ∷ lines)) (drop k (l ∷ lines)))) one);
               count = omega (arith, ih.count, hs.count, ap length same, ap length all);
               last = ih.last;
-              abreast = ih.abreast;
+              equally_far = ih.equally_far;
             }
 
-        open-on : length d.initiator.view.party.pattern.messages ≤ n → TransportLine w n l.0 l.1 d next now → Comes (n + 1) lines next e later → Comes n (l ∷ lines) d e (now ++ later)
+        open-on : length d.initiator.view.party.pattern.messages ≤ n → TransportLine w n l.0 l.1 d next now → AfterLines (n + 1) lines next e later → AfterLines n (l ∷ lines) d e (now ++ later)
         open-on over step ih =
             let o : View = d.initiator.view.party in
             let u : View = next.initiator.view.party in
@@ -162,9 +162,9 @@ module _ (laws : LawsBelow) (w : World) where
             let zero_left : left o ≡ 0 = omega (arith, a.beyond over) in
             let none : payloads_in (left o) lines ≡ payloads_in (left o) (l ∷ lines) = ap (λ (k : ℕ). payloads_in k lines) zero_left ∙ sym (ap (λ (k : ℕ). payloads_in k (l ∷ lines)) zero_left) in
             record {
-              noted = noted-on l.0 l.1 d next now later lines step.noted step.heeded.frames step.heeded.others ih.noted;
+              noted = noted-on l.0 l.1 d next now later lines step.noted step.after_line.frames step.after_line.others ih.noted;
               passed =
-                  ih.passed ∙ ap (λ (ms : List Passing). ms ++ from next.initiator.view.party (payloads_in (left next.initiator.view.party) lines)) tr.passed
+                  ih.passed ∙ ap (λ (ms : List HandshakeMessage). ms ++ from next.initiator.view.party (payloads_in (left next.initiator.view.party) lines)) tr.passed
                   ∙ ap (λ (z : View). d.initiator.passed ++ from z (payloads_in (left z) lines)) tr.party ∙ ap (λ (qs : List (List ℕ)). d.initiator.passed ++ from o qs) none;
               history = ih.history ∙ ap (λ (z : View). behind z (payloads_in (left z) lines)) tr.party ∙ ap (behind o) none;
               frames = λ r.
@@ -175,7 +175,7 @@ module _ (laws : LawsBelow) (w : World) where
                   ∙ sym (ap (λ (k : ℕ). (side d r).frames ++ frames_by r (coming o.pattern o.passed o.secrets o.history d.initiator.view.interval d.initiator.view.sent d.responder.view.sent (payloads_in k (l ∷ lines)) (drop k (l ∷ lines)))) zero_left);
               count = ih.count ∙ ap (λ (z : View). z.passed + length (payloads_in (left z) lines)) tr.party ∙ ap (λ (qs : List (List ℕ)). o.passed + length qs) none;
               last = ih.last;
-              abreast = ih.abreast;
+              equally_far = ih.equally_far;
             }
 
         less : (n m : ℕ) → nat_lt n m ≡ true → n < m
@@ -186,23 +186,23 @@ module _ (laws : LawsBelow) (w : World) where
 
         go : (b : Bool) → nat_lt n (length d.initiator.view.party.pattern.messages) ≡ b
             → MatchBool b ((l.0 ≡ turn_from Initiator n) × (overhead_of d.initiator.view.party.pattern (n + 1) + length l.1 ≤ 65535)) ((IsTrue (is_one_way d.initiator.view.party.pattern) → l.0 ≡ Initiator) × (length l.1 ≤ 65519) × (n < last_nonce))
-            → (Abreast w (n + 1) next → InTurn next.initiator.view.party.pattern (n + 1) lines → Run next (said lines) later e → Comes (n + 1) lines next e later) → Run next (said lines) later e → Does d (Say l.0 l.1) now next → Comes n (l ∷ lines) d e (now ++ later)
+            → (EquallyFar w (n + 1) next → InTurn next.initiator.view.party.pattern (n + 1) lines → Run next (say_events lines) later e → AfterLines (n + 1) lines next e later) → Run next (say_events lines) later e → Happens d (Say l.0 l.1) now next → AfterLines n (l ∷ lines) d e (now ++ later)
         go true is m rest run does =
             let more : n < length d.initiator.view.party.pattern.messages = less n (length d.initiator.view.party.pattern.messages) is in
             let step = handshake-line laws w long n l.0 l.1 d next now a more m.0 m.1 does in
-            hand more step (rest step.heeded.abreast (subst (λ (q : Plan). InTurn q (n + 1) lines) (sym step.handshake.pattern) h.1) run)
+            hand more step (rest step.after_line.equally_far (subst (λ (q : Plan). InTurn q (n + 1) lines) (sym step.handshake.pattern) h.1) run)
         go false is m rest run does =
             let over : length d.initiator.view.party.pattern.messages ≤ n = most n (length d.initiator.view.party.pattern.messages) is in
             let step = transport-line w n l.0 l.1 d next now a over m.0 m.1 m.2 does in
-            open-on over step (rest step.heeded.abreast (subst (λ (q : Plan). InTurn q (n + 1) lines) (sym (ap (λ (z : View). z.pattern) step.transport.party)) h.1) run)
+            open-on over step (rest step.after_line.equally_far (subst (λ (q : Plan). InTurn q (n + 1) lines) (sym (ap (λ (z : View). z.pattern) step.transport.party)) h.1) run)
 
 -- ---- there is a run of them
 
-module _ (laws : LawsBelow) (w : World) (long : (role : Role) (k : Own) → length (w.public role k) ≡ 32) where
+module _ (laws : LawsBelow) (w : KeyMaterial) (long : (role : Role) (k : Own) → length (w.public role k) ≡ 32) where
   abbrev HasRun : List (Role × List ℕ) → Sides → Type 0
-  HasRun lines d = (notes : List (Role × Note)) × (e : Sides) × Run d (said lines) notes e
+  HasRun lines d = (notes : List (Role × Note)) × (e : Sides) × Run d (say_events lines) notes e
 
-  can : (lines : List (Role × List ℕ)) (n : ℕ) (d : Sides) → Abreast w n d → InTurn d.initiator.view.party.pattern n lines → HasRun lines d
+  can : (lines : List (Role × List ℕ)) (n : ℕ) (d : Sides) → EquallyFar w n d → InTurn d.initiator.view.party.pattern n lines → HasRun lines d
   can [] n d a h = ([], d, ends d)
   can (l ∷ lines) n d a h = go (nat_lt n (length d.initiator.view.party.pattern.messages)) refl h.0 (λ next. can lines (n + 1) next)
     where
@@ -212,32 +212,32 @@ module _ (laws : LawsBelow) (w : World) (long : (role : Role) (k : Own) → leng
       most : (n m : ℕ) → nat_lt n m ≡ false → m ≤ n
       most n m k = grind (arith, nat_tests)
 
-      first : (next : Sides) (now : List (Role × Note)) → Does d (Say l.0 l.1) now next → HasRun lines next → HasRun (l ∷ lines) d
-      first next now does more = (now ++ more.0, more.1, begins d next more.1 (Say l.0 l.1) (said lines) now more.0 does more.2)
+      first : (next : Sides) (now : List (Role × Note)) → Happens d (Say l.0 l.1) now next → HasRun lines next → HasRun (l ∷ lines) d
+      first next now does more = (now ++ more.0, more.1, begins d next more.1 (Say l.0 l.1) (say_events lines) now more.0 does more.2)
 
       go : (b : Bool) → nat_lt n (length d.initiator.view.party.pattern.messages) ≡ b
           → MatchBool b ((l.0 ≡ turn_from Initiator n) × (overhead_of d.initiator.view.party.pattern (n + 1) + length l.1 ≤ 65535)) ((IsTrue (is_one_way d.initiator.view.party.pattern) → l.0 ≡ Initiator) × (length l.1 ≤ 65519) × (n < last_nonce))
-          → ((next : Sides) → Abreast w (n + 1) next → InTurn next.initiator.view.party.pattern (n + 1) lines → HasRun lines next) → HasRun (l ∷ lines) d
+          → ((next : Sides) → EquallyFar w (n + 1) next → InTurn next.initiator.view.party.pattern (n + 1) lines → HasRun lines next) → HasRun (l ∷ lines) d
       go true is m rest =
           let more : n < length d.initiator.view.party.pattern.messages = less n (length d.initiator.view.party.pattern.messages) is in
-          let sp = speak-at laws w long n l.0 l.1 d a more m.0 m.1 in
-          let passed : Passing = passing l.1 sp.message sp.carried in
-          let after : Side = wrote_passing (side d l.0) passed in
-          let heard : Side = took_passing (side d (other l.0)) passed in
+          let sp = handshake-at laws w long n l.0 l.1 d a more m.0 m.1 in
+          let passed : HandshakeMessage = handshake_message l.1 sp.message sp.carried in
+          let after : Side = wrote_handshake (side d l.0) passed in
+          let heard : Side = accepted_handshake (side d (other l.0)) passed in
           let next : Sides = with_side (with_side d l.0 after) (other l.0) heard in
-          let does = does-can d l.0 l.1 sp.message after heard sp.can_put refl sp.can_hear in
+          let does = say-can d l.0 l.1 sp.message after heard sp.can_write refl sp.can_receive in
           let step = handshake-line laws w long n l.0 l.1 d next _ a more m.0 m.1 does in
-          first next _ does (rest next step.heeded.abreast (subst (λ (q : Plan). InTurn q (n + 1) lines) (sym step.handshake.pattern) h.1))
+          first next _ does (rest next step.after_line.equally_far (subst (λ (q : Plan). InTurn q (n + 1) lines) (sym step.handshake.pattern) h.1))
       go false is m rest =
           let over : length d.initiator.view.party.pattern.messages ≤ n = most n (length d.initiator.view.party.pattern.messages) is in
-          let sp = send-at w n l.0 l.1 d a over m.0 m.1 m.2 in
-          let sent : Parcel = parcel sp.message l.1 in
-          let after : Side = wrote_parcel (side d l.0) sent in
-          let heard : Side = took_parcel (side d (other l.0)) sent in
+          let sp = transport-at w n l.0 l.1 d a over m.0 m.1 m.2 in
+          let sent : TransportMessage = transport_message sp.message l.1 in
+          let after : Side = wrote_transport (side d l.0) sent in
+          let heard : Side = accepted_transport (side d (other l.0)) sent in
           let next : Sides = with_side (with_side d l.0 after) (other l.0) heard in
-          let does = does-can d l.0 l.1 sp.message after heard sp.can_put refl sp.can_hear in
+          let does = say-can d l.0 l.1 sp.message after heard sp.can_write refl sp.can_receive in
           let step = transport-line w n l.0 l.1 d next _ a over m.0 m.1 m.2 does in
-          first next _ does (rest next step.heeded.abreast (subst (λ (q : Plan). InTurn q (n + 1) lines) (sym (ap (λ (z : View). z.pattern) step.transport.party)) h.1))
+          first next _ does (rest next step.after_line.equally_far (subst (λ (q : Plan). InTurn q (n + 1) lines) (sym (ap (λ (z : View). z.pattern) step.transport.party)) h.1))
 
 -- ---- the start
 
@@ -267,7 +267,7 @@ if-same : (b : Bool) (o q : Option (List ℕ)) → (b ≡ true → o ≡ q) → 
 if-same true o q f = f refl
 if-same false o q f = refl
 
-module _ (laws : LawsBelow) (w : World) (p : Plan) (prologue : List ℕ) (a b : Start) (i : IsPart w p Initiator prologue a) (j : IsPart w p Responder prologue b) where
+module _ (laws : LawsBelow) (w : KeyMaterial) (p : Plan) (prologue : List ℕ) (a b : Start) (i : IsPart w p Initiator prologue a) (j : IsPart w p Responder prologue b) where
   -- a key of a pre-message is the party's own
   before-own : (party : Role) (x : Own) → has_before p party (token_of x) ≡ true → stands party (token_of x) (places_of p) ≡ true
   before-own party x h = laws.before_stands p party (token_of x) h
@@ -284,10 +284,10 @@ module _ (laws : LawsBelow) (w : World) (p : Plan) (prologue : List ℕ) (a b : 
       ∙ ap (λ (o : Option (List ℕ)). keyed_by (if has_before p Initiator E then a.own Ephemeral else None) o)
       (j.remote_s ∙ if-same (has_before p Initiator S) (Some (w.public Initiator Static)) (a.own Static) (λ h. sym (i.own Static (before-own Initiator Static h))))
 
-  mine_in : InWorld w p Initiator a.own a.agree
+  mine_in : HasMaterial w p Initiator a.own a.agree
   mine_in = record { keys = i.own; answers = i.answers }
 
-  theirs_in : InWorld w p Responder b.own b.agree
+  theirs_in : HasMaterial w p Responder b.own b.agree
   theirs_in = record { keys = j.own; answers = j.answers }
 
   starts : IsValid p → Counterparts (begun_as p Initiator a) (begun_as p Responder b)
@@ -307,8 +307,8 @@ module _ (laws : LawsBelow) (w : World) (p : Plan) (prologue : List ℕ) (a b : 
       ∙ pre-agree (has_psk p) a.remote (public_keys_in w Responder) p.responder (with_premessage (has_psk p) (public_keys_in w Initiator) p.initiator (first prologue))
       (λ h. i.remote_e ∙ if-true (has_before p Responder E) (Some (w.public Responder Ephemeral)) h) (λ h. i.remote_s ∙ if-true (has_before p Responder S) (Some (w.public Responder Static)) h)
 
-  abreast-first : (interval : ℕ) → IsPattern p → IsValid p → Abreast w 0 (facing p a b interval interval)
-  abreast-first interval pattern valid = record {
+  equally-far-first : (interval : ℕ) → IsPattern p → IsValid p → EquallyFar w 0 (facing p a b interval interval)
+  equally-far-first interval pattern valid = record {
     valid = valid;
     role = refl;
     counterparts = starts valid;
@@ -331,7 +331,7 @@ module _ (laws : LawsBelow) (w : World) (p : Plan) (prologue : List ℕ) (a b : 
 
 pub lines-come-through : LawsBelow → LinesComeThrough
 lines-come-through laws w p prologue a b interval lines notes d pattern valid long i j turns run =
-    let c = come laws w long lines 0 (facing p a b interval interval) d notes (abreast-first laws w p prologue a b i j interval pattern valid) turns run in
+    let c = come laws w long lines 0 (facing p a b interval interval) d notes (equally-far-first laws w p prologue a b i j interval pattern valid) turns run in
     let v : View = begun_as p Initiator a in
     let all : payloads_in (length p.messages - 0) lines ≡ payloads_in (length p.messages) lines = ap (λ (k : ℕ). payloads_in k lines) (omega arith) in
     let whole : d.initiator.passed ≡ conversation w p 0 w.secrets (start_in w p prologue) (payloads_in (length p.messages) lines) =
@@ -339,15 +339,15 @@ lines-come-through laws w p prologue a b interval lines notes d pattern valid lo
       c.noted,
       record {
         initiator = whole;
-        responder = c.abreast.passed;
+        responder = c.equally_far.passed;
         frames = λ role. c.frames role ∙ ap (λ (fs : List (List ℕ)). fs ++ frames_by role (to_come laws w (facing p a b interval interval) lines)) (none-yet role) ∙ ap (frames_by role)
             (coming-same laws w p p 0 0 a.secrets w.secrets v.history (start_in w p prologue) interval interval 0 0 0 0 (payloads_in (length p.messages - 0) lines) (payloads_in (length p.messages) lines)
             (drop (length p.messages - 0) lines) (drop (length p.messages) lines) refl refl i.secrets (start-is laws w p prologue a b i j) refl refl refl all (ap (λ (k : ℕ). drop k lines) (omega arith)));
         history = c.history ∙ behind-same laws w p p 0 0 a.secrets w.secrets v.history (start_in w p prologue) (payloads_in (length p.messages - 0) lines) (payloads_in (length p.messages) lines) refl refl i.secrets (start-is laws w p prologue a b i j) all;
         count = omega (arith, c.count, ap length all);
-        counterparts = c.abreast.counterparts;
-        there = c.abreast.there;
-        back = c.abreast.back;
+        counterparts = c.equally_far.counterparts;
+        there = c.equally_far.there;
+        back = c.equally_far.back;
       },
     )
   where
@@ -357,4 +357,4 @@ lines-come-through laws w p prologue a b interval lines notes d pattern valid lo
 
 pub lines-run : LawsBelow → LinesRun
 lines-run laws w p prologue a b interval lines pattern valid long i j turns =
-    can laws w long lines 0 (facing p a b interval interval) (abreast-first laws w p prologue a b i j interval pattern valid) turns
+    can laws w long lines 0 (facing p a b interval interval) (equally-far-first laws w p prologue a b i j interval pattern valid) turns

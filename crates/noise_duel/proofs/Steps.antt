@@ -26,13 +26,13 @@ use Rattle.noise_session.specs.Progress.{Progress, is_open, idle_step, refusal}
 use Rattle.noise_session.specs.Progress.Progress.{Handshaking, Open}
 use Rattle.noise_duel.specs.Below.{LawsBelow}
 use Rattle.noise_session.specs.Ends.{EndView, progress_of}
-use Rattle.noise_duel.specs.Sides.{Side, wrote_passing, took_passing, wrote_parcel, took_parcel}
-use Rattle.noise_duel.specs.Events.{Note, Wrote, WriteFault, Heard}
-use Rattle.noise_duel.specs.Runs.{Puts, Hears}
-use Rattle.noise_duel.specs.Runs.Puts.{puts_handshake, puts_transport}
-use Rattle.noise_duel.specs.Runs.Weighs.{accepts as weigh_accepts, opens as weigh_opens}
-use Rattle.noise_duel.proofs.Behind.{all-passed}
-use Rattle.noise_duel.proofs.OneLine.{puts-no-fault, puts-message, puts-packet, weighs-message, weighs-packet, hears-one, hears-can}
+use Rattle.noise_duel.specs.Sides.{Side, wrote_handshake, accepted_handshake, wrote_transport, accepted_transport}
+use Rattle.noise_duel.specs.Events.{Note, Wrote, WriteFault, Judged}
+use Rattle.noise_duel.specs.Runs.{SideWrites, SideReceives}
+use Rattle.noise_duel.specs.Runs.SideWrites.{writes_handshake, writes_transport}
+use Rattle.noise_duel.specs.Runs.SideReads.{accepts_handshake, accepts_transport}
+use Rattle.noise_duel.proofs.Invariant.{all-passed}
+use Rattle.noise_duel.proofs.Lines.{writes-no-fault, writes-message, writes-packet, reads-message, reads-packet, receives-one, receives-can}
 
 same-self : (r : Role) → same_role r r ≡ true
 same-self Initiator = refl
@@ -82,23 +82,23 @@ listens-now t h =
 
 -- ---- what one party says in the handshake
 
-pub record Spoken (s t : Side) (payload : List ℕ) : Type 0 where
+pub record HandshakeStep (s t : Side) (payload : List ℕ) : Type 0 where
   pub carried : List (List ℕ)
   pub message : List ℕ
   pub writes : Writes s.view.party payload carried message
   pub accepts : Accepts t.view.party message carried payload
   pub counterparts : Counterparts (behind_own s.view.party carried payload) (behind_message t.view.party carried payload)
-  pub lacks : (why : SendFault) (next : Side) → Puts s payload (WriteFault why) next → ⊥
-  pub puts : (k : ℕ) (next : Side) → Puts s payload (Wrote k) next → (next ≡ wrote_passing s (record { message = message; carried = carried; payload = payload })) × (k ≡ length s.frames)
-  pub can_put : Puts s payload (Wrote (length s.frames)) (wrote_passing s (record { message = message; carried = carried; payload = payload }))
-  pub can_hear : Hears t (frame message) (Heard (Payload payload) ∷ []) (took_passing t (record { message = message; carried = carried; payload = payload }))
-  pub hears : (ns : List Note) (last : Side) → Hears t (frame message) ns last → (ns ≡ Heard (Payload payload) ∷ []) × (last ≡ took_passing t (record { message = message; carried = carried; payload = payload }))
+  pub lacks : (why : SendFault) (next : Side) → SideWrites s payload (WriteFault why) next → ⊥
+  pub written : (k : ℕ) (next : Side) → SideWrites s payload (Wrote k) next → (next ≡ wrote_handshake s (record { message = message; carried = carried; payload = payload })) × (k ≡ length s.frames)
+  pub can_write : SideWrites s payload (Wrote (length s.frames)) (wrote_handshake s (record { message = message; carried = carried; payload = payload }))
+  pub can_receive : SideReceives t (frame message) (Judged (Payload payload) ∷ []) (accepted_handshake t (record { message = message; carried = carried; payload = payload }))
+  pub receives : (ns : List Note) (last : Side) → SideReceives t (frame message) ns last → (ns ≡ Judged (Payload payload) ∷ []) × (last ≡ accepted_handshake t (record { message = message; carried = carried; payload = payload }))
 
-pub speak : LawsBelow → (s t : Side) (payload : List ℕ) → IsValid s.view.party.pattern → Counterparts s.view.party t.view.party
+pub step-handshake : LawsBelow → (s t : Side) (payload : List ℕ) → IsValid s.view.party.pattern → Counterparts s.view.party t.view.party
     → IsEquipped s.view.party.pattern s.view.party.role s.view.party.own s.view.party.agree t.view.party.own → Speaks s.view.party
     → is_some (cipher_key s.view.party.history) ≡ has_key s.view.party.pattern (passed_places s.view.party.pattern s.view.party.passed)
-    → overhead_of s.view.party.pattern (s.view.party.passed + 1) + length payload ≤ 65535 → t.view.held ≡ [] → Spoken s t payload
-speak laws s t payload valid m has speaks keyed room empty =
+    → overhead_of s.view.party.pattern (s.view.party.passed + 1) + length payload ≤ 65535 → t.view.held ≡ [] → HandshakeStep s t payload
+step-handshake laws s t payload valid m has speaks keyed room empty =
     let v : View = s.view.party in
     let u : View = t.view.party in
     let d = laws.due v u payload valid m has speaks keyed room in
@@ -111,24 +111,24 @@ speak laws s t payload valid m has speaks keyed room empty =
       writes = d.2;
       accepts = a;
       counterparts = laws.next v u payload d.1 d.0 valid m d.2;
-      lacks = λ why next. puts-no-fault s next payload why (speaks-unrefused s.view (length payload) speaks room) (λ k l. laws.not_lacking v payload d.1 d.0 k d.2 l);
-      puts = λ k next. puts-message laws s next payload d.1 d.0 k closed_s d.2;
-      can_put = puts_handshake s d.1 payload d.0 (speaks-unrefused s.view (length payload) speaks room) d.2;
-      can_hear = hears-can t (took_passing t (record { message = d.1; carried = d.0; payload = payload })) d.1 payload (listens-now t.view a.listens) empty refl a.fits (weigh_accepts t d.1 payload d.0 a);
-      hears = λ ns last. hears-one t (took_passing t (record { message = d.1; carried = d.0; payload = payload })) last d.1 payload ns (listens-now t.view a.listens) empty refl a.fits
-          (weighs-message laws t d.1 payload d.0 closed_t a);
+      lacks = λ why next. writes-no-fault s next payload why (speaks-unrefused s.view (length payload) speaks room) (λ k l. laws.not_lacking v payload d.1 d.0 k d.2 l);
+      written = λ k next. writes-message laws s next payload d.1 d.0 k closed_s d.2;
+      can_write = writes_handshake s d.1 payload d.0 (speaks-unrefused s.view (length payload) speaks room) d.2;
+      can_receive = receives-can t (accepted_handshake t (record { message = d.1; carried = d.0; payload = payload })) d.1 payload (listens-now t.view a.listens) empty refl a.fits (accepts_handshake t d.1 payload d.0 a);
+      receives = λ ns last. receives-one t (accepted_handshake t (record { message = d.1; carried = d.0; payload = payload })) last d.1 payload ns (listens-now t.view a.listens) empty refl a.fits
+          (reads-message laws t d.1 payload d.0 closed_t a);
     }
 
 -- ---- what one party sends behind the handshake
 
-pub record Sent (s t : Side) (payload : List ℕ) : Type 0 where
+pub record TransportStep (s t : Side) (payload : List ℕ) : Type 0 where
   pub message : List ℕ
   pub is : message ≡ packet s.view.party.history s.view.party.role s.view.interval s.view.sent payload
-  pub lacks : (why : SendFault) (next : Side) → Puts s payload (WriteFault why) next → ⊥
-  pub puts : (k : ℕ) (next : Side) → Puts s payload (Wrote k) next → (next ≡ wrote_parcel s (record { message = message; payload = payload })) × (k ≡ length s.frames)
-  pub can_put : Puts s payload (Wrote (length s.frames)) (wrote_parcel s (record { message = message; payload = payload }))
-  pub can_hear : Hears t (frame message) (Heard (Payload payload) ∷ []) (took_parcel t (record { message = message; payload = payload }))
-  pub hears : (ns : List Note) (last : Side) → Hears t (frame message) ns last → (ns ≡ Heard (Payload payload) ∷ []) × (last ≡ took_parcel t (record { message = message; payload = payload }))
+  pub lacks : (why : SendFault) (next : Side) → SideWrites s payload (WriteFault why) next → ⊥
+  pub written : (k : ℕ) (next : Side) → SideWrites s payload (Wrote k) next → (next ≡ wrote_transport s (record { message = message; payload = payload })) × (k ≡ length s.frames)
+  pub can_write : SideWrites s payload (Wrote (length s.frames)) (wrote_transport s (record { message = message; payload = payload }))
+  pub can_receive : SideReceives t (frame message) (Judged (Payload payload) ∷ []) (accepted_transport t (record { message = message; payload = payload }))
+  pub receives : (ns : List Note) (last : Side) → SideReceives t (frame message) ns last → (ns ≡ Judged (Payload payload) ∷ []) × (last ≡ accepted_transport t (record { message = message; payload = payload }))
 
 pub none-below : (done b : Bool) → done ≡ false → (done && b) ≡ false
 none-below true b e = cc
@@ -156,12 +156,12 @@ open-unrefused role one_way sent received n free room low = rw (free, in-room (n
 open-listens : (role : Role) (one_way : Bool) (sent received : ℕ) → (one_way && same_role role Initiator) ≡ false → idle_step (Open role one_way sent received) ≡ None
 open-listens role one_way sent received free = rw free refl
 
-pub send : (s t : Side) (payload : List ℕ) → s.view.party.passed ≡ length s.view.party.pattern.messages → t.view.party.passed ≡ length t.view.party.pattern.messages
+pub step-transport : (s t : Side) (payload : List ℕ) → s.view.party.passed ≡ length s.view.party.pattern.messages → t.view.party.passed ≡ length t.view.party.pattern.messages
     → (is_one_way s.view.party.pattern && same_role s.view.party.role Responder) ≡ false → (is_one_way t.view.party.pattern && same_role t.view.party.role Initiator) ≡ false
     → s.view.party.ended ≡ false → t.view.party.ended ≡ false
     → length payload ≤ 65519 → s.view.sent < last_nonce → t.view.received ≡ s.view.sent → t.view.party.history ≡ s.view.party.history → t.view.interval ≡ s.view.interval
-    → other t.view.party.role ≡ s.view.party.role → t.view.held ≡ [] → Sent s t payload
-send s t payload all all_t ones onet going going_t short low count history interval role empty =
+    → other t.view.party.role ≡ s.view.party.role → t.view.held ≡ [] → TransportStep s t payload
+step-transport s t payload all all_t ones onet going going_t short low count history interval role empty =
     let p : progress_of s.view ≡ Open s.view.party.role (is_one_way s.view.party.pattern) s.view.sent s.view.received = opened-now s.view going all in
     let q : progress_of t.view ≡ Open t.view.party.role (is_one_way t.view.party.pattern) t.view.sent t.view.received = opened-now t.view going_t all_t in
     let es : is_open (progress_of s.view) ≡ true = ap is_open p in
@@ -183,12 +183,12 @@ send s t payload all all_t ones onet going going_t short low count history inter
     record {
       message = m;
       is = refl;
-      lacks = λ why next. puts-no-fault s next payload why free (λ k l. behind-all s.view es l.speaks.more);
-      puts = λ k next. puts-packet s next payload k es;
-      can_put = puts_transport s m payload free es refl;
-      can_hear = hears-can t (took_parcel t (record { message = m; payload = payload })) m payload idle empty refl (omega (arith, size, short)) (weigh_opens t m payload et below_last is);
-      hears = λ ns last. hears-one t (took_parcel t (record { message = m; payload = payload })) last m payload ns idle empty refl (omega (arith, size, short))
-          (weighs-packet t m payload et below_last is);
+      lacks = λ why next. writes-no-fault s next payload why free (λ k l. behind-all s.view es l.speaks.more);
+      written = λ k next. writes-packet s next payload k es;
+      can_write = writes_transport s m payload free es refl;
+      can_receive = receives-can t (accepted_transport t (record { message = m; payload = payload })) m payload idle empty refl (omega (arith, size, short)) (accepts_transport t m payload et below_last is);
+      receives = λ ns last. receives-one t (accepted_transport t (record { message = m; payload = payload })) last m payload ns idle empty refl (omega (arith, size, short))
+          (reads-packet t m payload et below_last is);
     }
   where
     behind-all : (v : EndView) → IsTrue (is_open (progress_of v)) → v.party.passed < length v.party.pattern.messages → ⊥

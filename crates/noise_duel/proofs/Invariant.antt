@@ -21,36 +21,36 @@ use Rattle.noise_session.specs.Taking.{Judges}
 use Rattle.noise_session.specs.Taking.Judges.{accepted, refused, opened, dropped, exhausted}
 use Rattle.noise_session.specs.Sending.{Sends, behind_fault}
 use Rattle.noise_session.specs.Sending.Sends.{refuses, lacks_answer}
-use Rattle.noise_duel.specs.Talk.{Passing, Passes, begun_as}
-use Rattle.noise_duel.specs.Talk.Passes.{none, wrote, took}
-use Rattle.noise_duel.specs.Sides.{Parcel, Side, Sides, fresh, seen_as}
+use Rattle.noise_duel.specs.Messages.{HandshakeMessage, Exchanged, begun_as}
+use Rattle.noise_duel.specs.Messages.Exchanged.{none, wrote, took}
+use Rattle.noise_duel.specs.Sides.{TransportMessage, Side, Sides, new_side, with_view}
 use Rattle.noise_duel.specs.Events.{Event, Note}
-use Rattle.noise_duel.specs.Runs.{Puts, Weighs, Hears, Does, Run, IsBad}
-use Rattle.noise_duel.specs.Runs.Puts.{withholds, puts_handshake, puts_transport}
-use Rattle.noise_duel.specs.Runs.Weighs.{accepts, opens, rejects}
-use Rattle.noise_duel.specs.Runs.Hears.{stops, waits, goes_on}
-use Rattle.noise_duel.specs.Runs.Does.{writes, says_nothing, says, delivers, misses, injects}
+use Rattle.noise_duel.specs.Runs.{SideWrites, SideReads, SideReceives, Happens, Run, GivesNoPayload}
+use Rattle.noise_duel.specs.Runs.SideWrites.{writes_nothing, writes_handshake, writes_transport}
+use Rattle.noise_duel.specs.Runs.SideReads.{accepts_handshake, accepts_transport, refuses_message}
+use Rattle.noise_duel.specs.Runs.SideReceives.{is_idle, waits, reads_frame}
+use Rattle.noise_duel.specs.Runs.Happens.{writes, says_nothing, says, delivers, misses, injects}
 use Rattle.noise_duel.specs.Runs.Run.{ends as run_ends, begins}
 use Rattle.noise_duel.specs.Conversation.{facing}
-use Rattle.noise_duel.specs.Behind.{ArePackets, StandsBehind, EndsStand}
+use Rattle.noise_duel.specs.Invariant.{ArePackets, ComesOfMessages, EndsStand}
 
 -- ---- one message more
 
-passes-wrote : (v w : View) (ps : List Passing) (p : Passing) → Passes v ps w → Writes w p.payload p.carried p.message → Passes v (ps ++ p ∷ []) (behind_own w p.carried p.payload)
+passes-wrote : (v w : View) (ps : List HandshakeMessage) (p : HandshakeMessage) → Exchanged v ps w → Writes w p.payload p.carried p.message → Exchanged v (ps ++ p ∷ []) (behind_own w p.carried p.payload)
 passes-wrote v w [] p (none _) h = wrote v (behind_own v p.carried p.payload) p [] h (none (behind_own v p.carried p.payload))
 passes-wrote v w (q ∷ qs) p (wrote _ _ _ _ here more) h =
     wrote v (behind_own w p.carried p.payload) q (qs ++ p ∷ []) here (passes-wrote (behind_own v q.carried q.payload) w qs p more h)
 passes-wrote v w (q ∷ qs) p (took _ _ _ _ here more) h =
     took v (behind_own w p.carried p.payload) q (qs ++ p ∷ []) here (passes-wrote (behind_message v q.carried q.payload) w qs p more h)
 
-passes-took : (v w : View) (ps : List Passing) (p : Passing) → Passes v ps w → Accepts w p.message p.carried p.payload → Passes v (ps ++ p ∷ []) (behind_message w p.carried p.payload)
+passes-took : (v w : View) (ps : List HandshakeMessage) (p : HandshakeMessage) → Exchanged v ps w → Accepts w p.message p.carried p.payload → Exchanged v (ps ++ p ∷ []) (behind_message w p.carried p.payload)
 passes-took v w [] p (none _) h = took v (behind_message v p.carried p.payload) p [] h (none (behind_message v p.carried p.payload))
 passes-took v w (q ∷ qs) p (wrote _ _ _ _ here more) h =
     wrote v (behind_message w p.carried p.payload) q (qs ++ p ∷ []) here (passes-took (behind_own v q.carried q.payload) w qs p more h)
 passes-took v w (q ∷ qs) p (took _ _ _ _ here more) h =
     took v (behind_message w p.carried p.payload) q (qs ++ p ∷ []) here (passes-took (behind_message v q.carried q.payload) w qs p more h)
 
-packets-more : (r : History) (writer : Role) (interval n : ℕ) (ps : List Parcel) (m : Parcel) → ArePackets r writer interval n ps → m.message ≡ packet r writer interval (n + length ps) m.payload
+packets-more : (r : History) (writer : Role) (interval n : ℕ) (ps : List TransportMessage) (m : TransportMessage) → ArePackets r writer interval n ps → m.message ≡ packet r writer interval (n + length ps) m.payload
     → ArePackets r writer interval n (ps ++ m ∷ [])
 packets-more r writer interval n [] m h e =
     let here : m.message ≡ packet r writer interval n m.payload = subst (λ (k : ℕ). m.message ≡ packet r writer interval k m.payload) (omega arith) e in (here, tt)
@@ -80,8 +80,8 @@ length-more xs x n e = omega (arith, length-append xs (x ∷ []))
 
 module _ (first : View) (interval : ℕ) where
   -- the same party, ended or not, and the same counts
-  seen : (s : Side) (next : EndView) → StandsBehind first interval s → record (next.party) { ended = false } ≡ record (s.view.party) { ended = false }
-      → next.interval ≡ s.view.interval → next.sent ≡ s.view.sent → next.received ≡ s.view.received → StandsBehind first interval (seen_as s next)
+  seen : (s : Side) (next : EndView) → ComesOfMessages first interval s → record (next.party) { ended = false } ≡ record (s.view.party) { ended = false }
+      → next.interval ≡ s.view.interval → next.sent ≡ s.view.sent → next.received ≡ s.view.received → ComesOfMessages first interval (with_view s next)
   seen s next h party i m n = record {
     last = h.last;
     passes = h.passes;
@@ -94,14 +94,14 @@ module _ (first : View) (interval : ℕ) where
     received = h.received;
   }
 
-  refusal-seen : (s : Side) (why : SendFault) → StandsBehind first interval s → StandsBehind first interval (seen_as s (behind_fault s.view why))
+  refusal-seen : (s : Side) (why : SendFault) → ComesOfMessages first interval s → ComesOfMessages first interval (with_view s (behind_fault s.view why))
   refusal-seen s why h = by (ends why)
     where
-      by : (b : Bool) → StandsBehind first interval (seen_as s (if b then closed s.view else s.view))
+      by : (b : Bool) → ComesOfMessages first interval (with_view s (if b then closed s.view else s.view))
       by true = seen s (closed s.view) h refl refl refl refl
       by false = seen s s.view h refl refl refl refl
 
-  unsent : (s : Side) (h : StandsBehind first interval s) → s.view.party.passed < length s.view.party.pattern.messages → (s.sent ≡ []) × (s.received ≡ [])
+  unsent : (s : Side) (h : ComesOfMessages first interval s) → s.view.party.passed < length s.view.party.pattern.messages → (s.sent ≡ []) × (s.received ≡ [])
   unsent s h less = go h.opened
     where
       go : ((s.sent ≡ []) × (s.received ≡ [])) ⊎ (h.last.passed ≡ length h.last.pattern.messages) → (s.sent ≡ []) × (s.received ≡ [])
@@ -112,11 +112,11 @@ module _ (first : View) (interval : ℕ) where
           let bad : ⊥ = omega (arith, less, all, passed, count) in
           absurd bad
 
-  none-packets : (r : History) (writer : Role) (ps : List Parcel) → ps ≡ [] → ArePackets r writer interval 0 ps
-  none-packets r writer ps e = subst (λ (qs : List Parcel). ArePackets r writer interval 0 qs) (sym e) tt
+  none-packets : (r : History) (writer : Role) (ps : List TransportMessage) → ps ≡ [] → ArePackets r writer interval 0 ps
+  none-packets r writer ps e = subst (λ (qs : List TransportMessage). ArePackets r writer interval 0 qs) (sym e) tt
 
   -- a packet of the end's view is one of the view that it stands for
-  packet-of : (s : Side) (payload : List ℕ) (h : StandsBehind first interval s) (writer : Role) (n m : ℕ) (role : Role) → writer ≡ role → n ≡ m
+  packet-of : (s : Side) (payload : List ℕ) (h : ComesOfMessages first interval s) (writer : Role) (n m : ℕ) (role : Role) → writer ≡ role → n ≡ m
       → packet s.view.party.history writer s.view.interval n payload ≡ packet h.last.history role interval (0 + m) payload
   packet-of s payload h writer n m role e f =
       let zeros : n ≡ 0 + m = omega (arith, f) in
@@ -125,14 +125,14 @@ module _ (first : View) (interval : ℕ) where
       ∙ ap (λ (k : ℕ). packet h.last.history writer interval k payload) zeros
       ∙ ap (λ (w : Role). packet h.last.history w interval (0 + m) payload) e
 
-  pub puts-stands : (s t : Side) (payload : List ℕ) (note : Note) → StandsBehind first interval s → Puts s payload note t → StandsBehind first interval t
-  puts-stands s t payload note h (withholds _ _ why next sends) = go why next sends
+  pub writes-stands : (s t : Side) (payload : List ℕ) (note : Note) → ComesOfMessages first interval s → SideWrites s payload note t → ComesOfMessages first interval t
+  writes-stands s t payload note h (writes_nothing _ _ why next sends) = go why next sends
     where
-      go : (why : SendFault) (next : EndView) → Sends s.view payload (Err why) next → StandsBehind first interval (seen_as s next)
+      go : (why : SendFault) (next : EndView) → Sends s.view payload (Err why) next → ComesOfMessages first interval (with_view s next)
       go why next (refuses _ _ _ e) = refusal-seen s why h
       go why next (lacks_answer _ _ k e lacks) = seen s (closed s.view) h refl refl refl refl
-  puts-stands s t payload note h (puts_handshake _ message _ xs e w) =
-      let p : Passing = record { message = message; carried = xs; payload = payload } in
+  writes-stands s t payload note h (writes_handshake _ message _ xs e w) =
+      let p : HandshakeMessage = record { message = message; carried = xs; payload = payload } in
       let same : s.view.party ≡ h.last = unended s.view.party h.last h.party w.speaks.going in
       let empty = unsent s h w.speaks.more in
       record {
@@ -146,8 +146,8 @@ module _ (first : View) (interval : ℕ) where
         sent = none-packets (behind_own h.last xs payload).history h.last.role s.sent empty.0;
         received = none-packets (behind_own h.last xs payload).history (other h.last.role) s.received empty.1;
       }
-  puts-stands s t payload note h (puts_transport _ message _ e due is) =
-      let m : Parcel = record { message = message; payload = payload } in
+  writes-stands s t payload note h (writes_transport _ message _ e due is) =
+      let m : TransportMessage = record { message = message; payload = payload } in
       let passed : h.last.passed ≡ length h.last.pattern.messages =
       sym (ap (λ (v : View). v.passed) h.party) ∙ all-passed s.view due ∙ ap (λ (v : View). length v.pattern.messages) h.party in
       record {
@@ -162,9 +162,9 @@ module _ (first : View) (interval : ℕ) where
         received = h.received;
       }
 
-  pub weighs-stands : (s t : Side) (message : List ℕ) (step : Told) → StandsBehind first interval s → Weighs s message step t → StandsBehind first interval t
-  weighs-stands s t message step h (accepts _ _ payload xs a) =
-      let p : Passing = record { message = message; carried = xs; payload = payload } in
+  pub reads-stands : (s t : Side) (message : List ℕ) (step : Told) → ComesOfMessages first interval s → SideReads s message step t → ComesOfMessages first interval t
+  reads-stands s t message step h (accepts_handshake _ _ payload xs a) =
+      let p : HandshakeMessage = record { message = message; carried = xs; payload = payload } in
       let same : s.view.party ≡ h.last = unended s.view.party h.last h.party a.listens.going in
       let empty = unsent s h a.listens.more in
       record {
@@ -178,8 +178,8 @@ module _ (first : View) (interval : ℕ) where
         sent = none-packets (behind_message h.last xs payload).history h.last.role s.sent empty.0;
         received = none-packets (behind_message h.last xs payload).history (other h.last.role) s.received empty.1;
       }
-  weighs-stands s t message step h (opens _ _ payload due low is) =
-      let m : Parcel = record { message = message; payload = payload } in
+  reads-stands s t message step h (accepts_transport _ _ payload due low is) =
+      let m : TransportMessage = record { message = message; payload = payload } in
       let passed : h.last.passed ≡ length h.last.pattern.messages =
       sym (ap (λ (v : View). v.passed) h.party) ∙ all-passed s.view due ∙ ap (λ (v : View). length v.pattern.messages) h.party in
       record {
@@ -194,48 +194,48 @@ module _ (first : View) (interval : ℕ) where
         received = packets-more h.last.history (other h.last.role) interval 0 s.received m h.received
             (is ∙ packet-of s payload h (other s.view.party.role) s.view.received (length s.received) (other h.last.role) (ap (λ (v : View). other v.role) h.party) h.receiving);
       }
-  weighs-stands s t message step h (rejects _ _ _ next bad judges) = go step next bad judges
+  reads-stands s t message step h (refuses_message _ _ _ next bad judges) = go step next bad judges
     where
-      go : (step : Told) (next : EndView) → IsBad step → Judges s.view message step next → StandsBehind first interval (seen_as s next)
+      go : (step : Told) (next : EndView) → GivesNoPayload step → Judges s.view message step next → ComesOfMessages first interval (with_view s next)
       go step next bad (accepted _ _ payload xs a) = absurd bad
       go step next bad (refused _ _ token cause r) = seen s (closed s.view) h refl refl refl refl
       go step next bad (opened _ _ payload due low is) = absurd bad
       go step next bad (dropped _ _ due low never) = seen s next h refl refl refl refl
       go step next bad (exhausted _ _ due full) = seen s (closed s.view) h refl refl refl refl
 
-  pub hears-stands : (s t : Side) (bytes : List ℕ) (notes : List Note) → StandsBehind first interval s → Hears s bytes notes t → StandsBehind first interval t
-  hears-stands s t bytes notes h (stops _ _ step e) = h
-  hears-stands s t bytes notes h (waits _ _ e partial) = seen s (record (s.view) { held = s.view.held ++ bytes }) h refl refl refl refl
-  hears-stands s t bytes notes h (goes_on _ next _ _ message rest step more e is short weighs on) =
-      hears-stands next t rest more (weighs-stands s next message step h weighs) on
+  pub receives-stands : (s t : Side) (bytes : List ℕ) (notes : List Note) → ComesOfMessages first interval s → SideReceives s bytes notes t → ComesOfMessages first interval t
+  receives-stands s t bytes notes h (is_idle _ _ step e) = h
+  receives-stands s t bytes notes h (waits _ _ e partial) = seen s (record (s.view) { held = s.view.held ++ bytes }) h refl refl refl refl
+  receives-stands s t bytes notes h (reads_frame _ next _ _ message rest step more e is short reads on) =
+      receives-stands next t rest more (reads-stands s next message step h reads) on
 
 -- ---- both ends
 
 module _ (first second : View) (i j : ℕ) where
   abbrev pub BothStand : Sides → Type 0
-  BothStand d = StandsBehind first i d.initiator × StandsBehind second j d.responder
+  BothStand d = ComesOfMessages first i d.initiator × ComesOfMessages second j d.responder
 
-  event-stands : (d e : Sides) (event : Event) (notes : List (Role × Note)) → BothStand d → Does d event notes e → BothStand e
-  event-stands d e event notes h (writes _ Initiator payload note next puts) = (puts-stands first i d.initiator next payload note h.0 puts, h.1)
-  event-stands d e event notes h (writes _ Responder payload note next puts) = (h.0, puts-stands second j d.responder next payload note h.1 puts)
-  event-stands d e event notes h (says_nothing _ Initiator payload why next puts) = (puts-stands first i d.initiator next payload _ h.0 puts, h.1)
-  event-stands d e event notes h (says_nothing _ Responder payload why next puts) = (h.0, puts-stands second j d.responder next payload _ h.1 puts)
-  event-stands d e event notes h (says _ Initiator payload bytes n more next heard puts frame hears) =
-      (puts-stands first i d.initiator next payload _ h.0 puts, hears-stands second j d.responder heard bytes more h.1 hears)
-  event-stands d e event notes h (says _ Responder payload bytes n more next heard puts frame hears) =
-      (hears-stands first i d.initiator heard bytes more h.0 hears, puts-stands second j d.responder next payload _ h.1 puts)
-  event-stands d e event notes h (delivers _ Initiator n bytes more heard frame hears) = (hears-stands first i d.initiator heard bytes more h.0 hears, h.1)
-  event-stands d e event notes h (delivers _ Responder n bytes more heard frame hears) = (h.0, hears-stands second j d.responder heard bytes more h.1 hears)
+  event-stands : (d e : Sides) (event : Event) (notes : List (Role × Note)) → BothStand d → Happens d event notes e → BothStand e
+  event-stands d e event notes h (writes _ Initiator payload note next written) = (writes-stands first i d.initiator next payload note h.0 written, h.1)
+  event-stands d e event notes h (writes _ Responder payload note next written) = (h.0, writes-stands second j d.responder next payload note h.1 written)
+  event-stands d e event notes h (says_nothing _ Initiator payload why next written) = (writes-stands first i d.initiator next payload _ h.0 written, h.1)
+  event-stands d e event notes h (says_nothing _ Responder payload why next written) = (h.0, writes-stands second j d.responder next payload _ h.1 written)
+  event-stands d e event notes h (says _ Initiator payload bytes n more next heard written frame receives) =
+      (writes-stands first i d.initiator next payload _ h.0 written, receives-stands second j d.responder heard bytes more h.1 receives)
+  event-stands d e event notes h (says _ Responder payload bytes n more next heard written frame receives) =
+      (receives-stands first i d.initiator heard bytes more h.0 receives, writes-stands second j d.responder next payload _ h.1 written)
+  event-stands d e event notes h (delivers _ Initiator n bytes more heard frame receives) = (receives-stands first i d.initiator heard bytes more h.0 receives, h.1)
+  event-stands d e event notes h (delivers _ Responder n bytes more heard frame receives) = (h.0, receives-stands second j d.responder heard bytes more h.1 receives)
   event-stands d e event notes h (misses _ role n missing) = h
-  event-stands d e event notes h (injects _ Initiator bytes more heard hears) = (hears-stands first i d.initiator heard bytes more h.0 hears, h.1)
-  event-stands d e event notes h (injects _ Responder bytes more heard hears) = (h.0, hears-stands second j d.responder heard bytes more h.1 hears)
+  event-stands d e event notes h (injects _ Initiator bytes more heard receives) = (receives-stands first i d.initiator heard bytes more h.0 receives, h.1)
+  event-stands d e event notes h (injects _ Responder bytes more heard receives) = (h.0, receives-stands second j d.responder heard bytes more h.1 receives)
 
   pub run-stands : (d e : Sides) (events : List Event) (notes : List (Role × Note)) → BothStand d → Run d events notes e → BothStand e
   run-stands d e events notes h (run_ends _) = h
   run-stands d e events notes h (begins _ next _ event later now more does run) =
       run-stands next e later more (event-stands d next event now h does) run
 
-fresh-stands : (v : View) (interval : ℕ) → v.ended ≡ false → StandsBehind v interval (fresh (end_of v interval))
+fresh-stands : (v : View) (interval : ℕ) → v.ended ≡ false → ComesOfMessages v interval (new_side (end_of v interval))
 fresh-stands v interval going = record {
   last = v;
   passes = none v;
