@@ -1,4 +1,4 @@
--- What looks alike, with the same secrets and answers, is one conversation.
+-- Conversations that are the same as far as they can be seen, with the same secrets and answers, are one.
 use Rattle.std.proofs.Common.{◌≡◌, ℕ, ◌+◌, List, [], ◌∷◌, ◌++◌, length, drop, count_by, refl, ap, sym, subst, ◌∙◌, append_assoc}
 use Rattle.std.specs.Prelude.{Bool, is_some, if◌then◌else◌}
 use Rattle.noise_names.specs.declared.token.Role.TheVariants.{Initiator, Responder}

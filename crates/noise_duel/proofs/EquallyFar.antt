@@ -55,7 +55,7 @@ pub record EquallyFar (w : KeyMaterial) (n : ℕ) (d : Sides) : Type 0 where
   pub there : d.responder.received ≡ d.initiator.sent
   pub back : d.initiator.received ≡ d.responder.sent
 
--- the message that is due, as the world has it
+-- the message that is due, by the key material
 abbrev pub due_of : KeyMaterial → View → List ℕ → HandshakeMessage
 due_of w v payload = record {
   message = line (has_psk v.pattern) v.history (tokens_now v) (carried_by w (turn_from Initiator v.passed) v.secrets (tokens_now v)) payload;
@@ -99,7 +99,7 @@ message-same : (payload m : List ℕ) (xs ys : List (List ℕ)) (v : View) → x
 message-same payload m xs ys v e f =
     ap (λ (z : List ℕ). handshake_message payload z xs) f ∙ ap (λ (zs : List (List ℕ)). handshake_message payload (line (has_psk v.pattern) v.history (tokens_now v) zs payload) zs) e
 
--- what a party of the world carries
+-- what a party's message carries is that of the key material
 carried-is : LawsBelow → (w : KeyMaterial) (v u : View) (role : Role) (xs : List (List ℕ)) → IsValid v.pattern → Counterparts v u → v.role ≡ role → turn_from Initiator v.passed ≡ role
     → HasMaterial w v.pattern role v.own v.agree → HasMaterial w v.pattern (other role) u.own u.agree → Given (writer v) v.remote v.secrets (tokens_now v) xs
     → xs ≡ carried_by w role v.secrets (tokens_now v)

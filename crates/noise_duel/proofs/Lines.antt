@@ -110,7 +110,7 @@ receives-nothing t last bytes notes none empty (reads_frame _ next _ _ message r
     let partial : IsPartial [] = omega arith in
     absurd (frame-whole message rest small (subst (λ (b : List ℕ). IsPartial b) (sym none ∙ ap (λ (h : List ℕ). h ++ bytes) (sym empty) ∙ is) partial))
 
--- one frame comes to an end that holds none, and whose message can be weighed in one way
+-- one frame comes to an end that holds none, and whose message can be read in one way
 pub receives-one : (t after last : Side) (message payload : List ℕ) (notes : List Note) → idle_step (progress_of t.view) ≡ None → t.view.held ≡ [] → after.view.held ≡ [] → length message ≤ 65535
     → ((step : Told) (next : Side) → SideReads t message step next → (step ≡ Payload payload) × (next ≡ after))
     → SideReceives t (frame message) notes last → (notes ≡ Judged (Payload payload) ∷ []) × (last ≡ after)

@@ -1,4 +1,4 @@
--- The parts of one world: what they carry, and that their answers meet.
+-- Two parties with their parts of one key material: what their messages carry, and that their answers meet.
 use Rattle.std.proofs.Common.{◌≡◌, ℕ, List, [], ◌∷◌, length, refl, ap, sym, ◌∙◌}
 use Rattle.std.specs.Prelude.{Bool, true, false, ◌||◌, Option, Some}
 use Rattle.noise_names.specs.declared.token.Role.{Role}
@@ -44,7 +44,7 @@ remote-own Responder theirs Se = refl
 remote-own Responder theirs Ss = refl
 remote-own Responder theirs Psk = refl
 
--- a role has these keys and answers in the world
+-- a role has the keys and answers of the key material
 pub record HasMaterial (w : KeyMaterial) (p : Plan) (role : Role) (own : Own → Option (List ℕ)) (agree : Own → List ℕ → Option (List ℕ)) : Type 0 where
   pub keys : (x : Own) → stands role (token_of x) (places_of p) ≡ true → own x ≡ Some (w.public role x)
   pub answers : (t : Token) → is_dh t ≡ true → occurs t (places_of p) ≡ true → answered agree (own_at role t) (remote_at role (public_keys_in w (other role)) t) ≡ Some (w.answer t)
@@ -70,7 +70,7 @@ module _ (laws : LawsBelow) (w : KeyMaterial) (p : Plan) (valid : IsValid p) whe
   answers-meet own theirs agree their_agree i j t d h =
       true-answer Initiator own theirs agree their_agree i j t d h ∙ sym (true-answer Responder theirs own their_agree agree j i t d h)
 
--- what is given is what the world says
+-- what a writer's tokens carry is that of the key material
 module _ (laws : LawsBelow) (w : KeyMaterial) (psks : Bool) (role : Role) (own theirs : Own → Option (List ℕ)) (agree : Own → List ℕ → Option (List ℕ)) (e s : Bool) where
   abbrev gives : Writer
   gives = record { role = role; psks = psks; own = own; agree = agree }

@@ -1,4 +1,4 @@
--- Accepted payloads are a front of the written ones, or the first that isn't was forged.
+-- Accepted payloads are the first of the written ones, or the first that isn't was forged.
 use Rattle.std.proofs.Common.{◌≡◌, ◌≢◌, ℕ, suc, ◌+◌, List, [], ◌∷◌, ◌++◌, take, refl, ap, sym, subst, ◌∙◌, arith, inl, inr, ◌⊎◌, slice_get, Some}
 use Rattle.noise_names.specs.declared.token.Role.{Role}
 use Rattle.noise_state.specs.History.{History, rekeyed_times}
@@ -21,10 +21,10 @@ first-of w m e = cc
 
 module _ (r : History) (writer : Role) (interval : ℕ) where
   record ForgedFrom (n : ℕ) (written accepted : List TransportMessage) (i : ℕ) : Type 0 where
-    transport_message : TransportMessage
-    came : slice_get accepted i ≡ Some transport_message
-    unwritten : (m : TransportMessage) → slice_get written i ≡ Some m → m.message ≢ transport_message.message
-    packet_at : transport_message.message ≡ packet r writer interval (n + i) transport_message.payload
+    forged : TransportMessage
+    came : slice_get accepted i ≡ Some forged
+    unwritten : (m : TransportMessage) → slice_get written i ≡ Some m → m.message ≢ forged.message
+    packet_at : forged.message ≡ packet r writer interval (n + i) forged.payload
 
   abbrev PrefixFrom : ℕ → List TransportMessage → List TransportMessage → Type 0
   PrefixFrom n written accepted =
@@ -37,7 +37,7 @@ module _ (r : History) (writer : Role) (interval : ℕ) where
     0,
     refl,
     record {
-      transport_message = a;
+      forged = a;
       came = refl;
       unwritten = λ m e. cc;
       packet_at = subst (λ (k : ℕ). a.message ≡ packet r writer interval k a.payload) (omega arith) g.0;
@@ -47,10 +47,10 @@ module _ (r : History) (writer : Role) (interval : ℕ) where
     where
       shift : (i : ℕ) → ForgedFrom (n + 1) ws more i → ForgedFrom n (w ∷ ws) (a ∷ more) (suc i)
       shift i c = record {
-        transport_message = c.transport_message;
+        forged = c.forged;
         came = c.came;
         unwritten = c.unwritten;
-        packet_at = subst (λ (k : ℕ). c.transport_message.message ≡ packet r writer interval k c.transport_message.payload) (omega arith) c.packet_at;
+        packet_at = subst (λ (k : ℕ). c.forged.message ≡ packet r writer interval k c.forged.payload) (omega arith) c.packet_at;
       }
 
       go : ((w.payload ≡ a.payload) ⊎ (w.payload ≢ a.payload)) → PrefixFrom (n + 1) ws more → PrefixFrom n (w ∷ ws) (a ∷ more)
@@ -58,7 +58,7 @@ module _ (r : History) (writer : Role) (interval : ℕ) where
         0,
         refl,
         record {
-          transport_message = a;
+          forged = a;
           came = refl;
           unwritten = λ m e same. differ (packet-same r writer interval n w.payload a.payload (sym f.0 ∙ ap (λ (z : TransportMessage). z.message) (first-of w m e) ∙ same ∙ g.0));
           packet_at = subst (λ (k : ℕ). a.message ≡ packet r writer interval k a.payload) (omega arith) g.0;
@@ -74,10 +74,10 @@ module _ (r : History) (writer : Role) (interval : ℕ) where
       c.0,
       c.1,
       record {
-        transport_message = c.2.transport_message;
+        forged = c.2.forged;
         came = c.2.came;
         unwritten = c.2.unwritten;
-        packet_at = subst (λ (k : ℕ). c.2.transport_message.message ≡ packet r writer interval k c.2.transport_message.payload) (omega arith) c.2.packet_at;
+        packet_at = subst (λ (k : ℕ). c.2.forged.message ≡ packet r writer interval k c.2.forged.payload) (omega arith) c.2.packet_at;
       },
     )
   ]

@@ -1,4 +1,4 @@
--- Two parties that are set up alike are parts of one world.
+-- Two parties that are set up alike have their parts of one key material.
 use Rattle.std.proofs.Common.{◌≡◌, ℕ, List, [], ◌∷◌, length, refl, ap, sym, ◌∙◌}
 use Rattle.std.specs.Prelude.{Bool, true, false, ◌||◌, Option, Some, None, is_some, unwrap_or, if◌then◌else◌}
 use Rattle.noise_names.specs.declared.token.Role.{Role}
@@ -56,8 +56,8 @@ module _ (laws : LawsBelow) (p : Plan) (prologue : List ℕ) (a b : Start) (vali
   public_in Initiator x = true-key a x
   public_in Responder x = true-key b x
 
-  abbrev world : KeyMaterial
-  world = record { public = public_in; answer = λ t. unwrap_or (answer-at t) []; secrets = a.secrets }
+  abbrev material : KeyMaterial
+  material = record { public = public_in; answer = λ t. unwrap_or (answer-at t) []; secrets = a.secrets }
 
   own-a : (x : Own) → stands Initiator (token_of x) (places_of p) ≡ true → a.own x ≡ Some (true-key a x)
   own-a x h = there-is (a.own x) zeros (set-own laws p Initiator a alike.initiator x h)
@@ -75,19 +75,19 @@ module _ (laws : LawsBelow) (p : Plan) (prologue : List ℕ) (a b : Start) (vali
       (set-own laws p Responder b alike.responder y (laws.dh_stands p Responder t valid d h))
       ∙ ap (answered b.agree y) (sym (remote-own Responder a.own t))
 
-  answers-a : (t : Token) → is_dh t ≡ true → occurs t (places_of p) ≡ true → answered a.agree (own_at Initiator t) (remote_at Initiator (public_keys_in world Responder) t) ≡ Some (unwrap_or (answer-at t) [])
+  answers-a : (t : Token) → is_dh t ≡ true → occurs t (places_of p) ≡ true → answered a.agree (own_at Initiator t) (remote_at Initiator (public_keys_in material Responder) t) ≡ Some (unwrap_or (answer-at t) [])
   answers-a t d h =
       ap (answered a.agree (own_at Initiator t))
       (remote-own Initiator (λ x. Some (true-key b x)) t ∙ sym (own-b (own_at Responder t) (laws.dh_stands p Responder t valid d h)) ∙ sym (remote-own Initiator b.own t))
       ∙ there-is (answer-at t) [] (answers t d h)
 
-  answers-b : (t : Token) → is_dh t ≡ true → occurs t (places_of p) ≡ true → answered b.agree (own_at Responder t) (remote_at Responder (public_keys_in world Initiator) t) ≡ Some (unwrap_or (answer-at t) [])
+  answers-b : (t : Token) → is_dh t ≡ true → occurs t (places_of p) ≡ true → answered b.agree (own_at Responder t) (remote_at Responder (public_keys_in material Initiator) t) ≡ Some (unwrap_or (answer-at t) [])
   answers-b t d h =
       ap (answered b.agree (own_at Responder t))
       (remote-own Responder (λ x. Some (true-key a x)) t ∙ sym (own-a (own_at Initiator t) (laws.dh_stands p Initiator t valid d h)) ∙ sym (remote-own Responder a.own t))
       ∙ sym (meets t d h) ∙ there-is (answer-at t) [] (answers t d h)
 
-  part-a : IsPart world p Initiator prologue a
+  part-a : IsPart material p Initiator prologue a
   part-a = record {
     prologue_is = alike.prologue_is;
     own = own-a;
@@ -97,7 +97,7 @@ module _ (laws : LawsBelow) (p : Plan) (prologue : List ℕ) (a b : Start) (vali
     secrets = refl;
   }
 
-  part-b : IsPart world p Responder prologue b
+  part-b : IsPart material p Responder prologue b
   part-b = record {
     prologue_is = alike.prologue_too;
     own = own-b;
@@ -113,7 +113,7 @@ module _ (laws : LawsBelow) (p : Plan) (prologue : List ℕ) (a b : Start) (vali
 
 pub alike-are-parts : LawsBelow → AlikeAreParts
 alike-are-parts laws p prologue a b valid alike f g answers = record {
-  world = world laws p prologue a b valid alike answers;
+  material = material laws p prologue a b valid alike answers;
   long = long-in laws p prologue a b valid alike answers f g;
   initiator = part-a laws p prologue a b valid alike answers;
   responder = part-b laws p prologue a b valid alike answers;

@@ -1,4 +1,4 @@
--- What one party says to another one that listens, in the handshake and behind it.
+-- A message from one end to the other one, which listens: in the handshake, and in transport.
 use Rattle.std.proofs.Common.{◌≡◌, ◌≢◌, ℕ, ◌+◌, ◌<◌, ◌≤◌, List, [], ◌∷◌, length, refl, ap, sym, subst, ◌∙◌, arith, Some, None}
 use Rattle.std.proofs.lemmas.Bool.Decides.{nat_tests}
 use Rattle.std.specs.Prelude.{Bool, true, false, not, ◌&&◌, ◌==◌, nat_lt, IsTrue, if◌then◌else◌, is_some}
@@ -80,7 +80,7 @@ listens-now : (t : EndView) → Listens t.party → idle_step (progress_of t) �
 listens-now t h =
     ap idle_step (handshaking t h.going h.more) ∙ rw (ap (λ (r : Role). same_role r t.party.role) h.turn ∙ same-other t.party.role) refl
 
--- ---- what one party says in the handshake
+-- ---- a handshake message
 
 pub record HandshakeStep (s t : Side) (payload : List ℕ) : Type 0 where
   pub carried : List (List ℕ)
@@ -119,7 +119,7 @@ step-handshake laws s t payload valid m has speaks keyed room empty =
           (reads-message laws t d.1 payload d.0 closed_t a);
     }
 
--- ---- what one party sends behind the handshake
+-- ---- a transport message
 
 pub record TransportStep (s t : Side) (payload : List ℕ) : Type 0 where
   pub message : List ℕ
@@ -148,7 +148,7 @@ pub not-true : (b : Bool) → (b ≡ true → ⊥) → b ≡ false
 not-true true h = absurd (h refl)
 not-true false h = refl
 
--- a bound on both: an open end that may write does, and one that may hear listens
+-- an open end that may write isn't refused, and one that may read listens
 open-unrefused : (role : Role) (one_way : Bool) (sent received n : ℕ) → (one_way && same_role role Responder) ≡ false → n + 16 ≤ 65535 → sent < last_nonce
     → refusal (Open role one_way sent received) n ≡ None
 open-unrefused role one_way sent received n free room low = rw (free, in-room (n + 16) room, below sent last_nonce low) refl

@@ -1,4 +1,4 @@
--- Lines in turn between two parts of one world come through.
+-- Lines in turn between two parties with their parts of one key material come through.
 use Rattle.std.proofs.Common.{◌≡◌, ℕ, zero, suc, ◌+◌, ◌-◌, ◌<◌, ◌≤◌, List, [], ◌∷◌, ◌++◌, length, take, drop, map, count_by, refl, ap, sym, subst, ◌∙◌, arith, append-nil, append_assoc, Some, None}
 use Rattle.std.proofs.lemmas.Bool.Decides.{nat_tests}
 use Rattle.std.specs.Prelude.{Bool, true, false, ◌||◌, nat_lt, IsTrue, Option, if◌then◌else◌, MatchBool, unwrap_or}
@@ -297,7 +297,7 @@ module _ (laws : LawsBelow) (w : KeyMaterial) (p : Plan) (prologue : List ℕ) (
       subst (λ (z : List (List ℕ)). Counterparts (begun_as p Initiator a) (begun p Responder b.prologue b.own b.agree b.remote z)) (i.secrets ∙ sym j.secrets)
       (subst (λ (z : List ℕ). Counterparts (begun_as p Initiator a) (begun p Responder z b.own b.agree b.remote a.secrets)) (i.prologue_is ∙ sym j.prologue_is) first)
 
-  -- the history at the start is that of the world
+  -- the history at the start is that of the key material
   start-is : (begun_as p Initiator a).history ≡ start_in w p prologue
   start-is =
       let first : List ℕ → History = λ z. and_then (record { name = name_bytes (record { base = p.base; places = p.places }); entries = [] }) (Mix z) in
@@ -330,8 +330,10 @@ module _ (laws : LawsBelow) (w : KeyMaterial) (p : Plan) (prologue : List ℕ) (
   }
 
 pub lines-come-through : LawsBelow → LinesComeThrough
-lines-come-through laws w p prologue a b interval lines notes d pattern valid long i j turns run =
-    let c = come laws w long lines 0 (facing p a b interval interval) d notes (equally-far-first laws w p prologue a b i j interval pattern valid) turns run in
+lines-come-through laws w p prologue a b interval lines notes d parts turns run =
+    let i : IsPart w p Initiator prologue a = parts.initiator in
+    let j : IsPart w p Responder prologue b = parts.responder in
+    let c = come laws w parts.long lines 0 (facing p a b interval interval) d notes (equally-far-first laws w p prologue a b i j interval parts.pattern parts.valid) turns run in
     let v : View = begun_as p Initiator a in
     let all : payloads_in (length p.messages - 0) lines ≡ payloads_in (length p.messages) lines = ap (λ (k : ℕ). payloads_in k lines) (omega arith) in
     let whole : d.initiator.passed ≡ conversation w p 0 w.secrets (start_in w p prologue) (payloads_in (length p.messages) lines) =
@@ -356,5 +358,6 @@ lines-come-through laws w p prologue a b interval lines notes d pattern valid lo
     none-yet Responder = refl
 
 pub lines-run : LawsBelow → LinesRun
-lines-run laws w p prologue a b interval lines pattern valid long i j turns =
-    can laws w long lines 0 (facing p a b interval interval) (equally-far-first laws w p prologue a b i j interval pattern valid) turns
+lines-run laws w p prologue a b interval lines parts turns =
+    can laws w parts.long lines 0 (facing p a b interval interval)
+    (equally-far-first laws w p prologue a b parts.initiator parts.responder interval parts.pattern parts.valid) turns

@@ -1,4 +1,4 @@
--- What two new ends of one pattern agree on over any network, once both have opened with one hash.
+-- What two new ends of one pattern agree on over any network, once both have opened with one hash (Noise 11.2).
 use Rattle.std.specs.Prelude.{◌≡◌, ◌⊎◌, ℕ, List, Some}
 use Rattle.noise_names.specs.declared.token.Role.{Role}
 use Rattle.noise_names.specs.declared.token.Role.TheVariants.{Initiator, Responder}
@@ -39,9 +39,10 @@ pub record HaveSameSecrets (p : Plan) (a b : Start) : Type 0 where
 abbrev pub ShareSecrets : Plan → Start → Start → Sides → Type 0
 ShareSecrets p a b d = UsedSameSecrets p a b d ⊎ HaveSameSecrets p a b
 
--- equal hashes: the same conversation as far as it can be seen, or a collide
+-- with equal hashes: all that can be seen of the conversation is the same, or there is a collision
 abbrev pub HashesTell : Type 0
-HashesTell = (p : Plan) (a b : Start) (i j : ℕ) (events : List Event) (notes : List (Role × Note)) (d : Sides) → Run (facing p a b i j) events notes d → HaveOneHash d
+HashesTell = (p : Plan) (a b : Start) (i j : ℕ) (events : List Event) (notes : List (Role × Note)) (d : Sides)
+    → Run (facing p a b i j) events notes d → HaveOneHash d
     → VisiblyEqual p a b d.initiator.passed d.responder.passed ⊎ HistoriesCollide d
 
 -- all of the conversation, what travelled encrypted too, and one history: one hash, one chaining key, the same transport keys
@@ -49,22 +50,26 @@ pub record HaveOneHistory (d : Sides) : Type 0 where
   pub passed : d.initiator.passed ≡ d.responder.passed
   pub history : d.initiator.view.party.history ≡ d.responder.view.party.history
 
--- The other way round: two opened ends whose conversations look alike, with the same psks and answers, have one hash.
+-- The other way round: two opened ends whose conversations are the same as far as they can be seen, with the same psks and answers, have one hash.
 abbrev pub VisiblyEqualGivesOne : Type 0
-VisiblyEqualGivesOne = (p : Plan) (a b : Start) (i j : ℕ) (events : List Event) (notes : List (Role × Note)) (d : Sides) → Run (facing p a b i j) events notes d
+VisiblyEqualGivesOne = (p : Plan) (a b : Start) (i j : ℕ) (events : List Event) (notes : List (Role × Note)) (d : Sides)
+    → Run (facing p a b i j) events notes d
     → a.prologue ≡ b.prologue → ((party : Role) → keys_before p Initiator a party ≡ keys_before p Responder b party)
     → messages_of d.initiator.passed ≡ messages_of d.responder.passed → UsedSameSecrets p a b d → HaveOneHistory d
 
--- with the same secrets: all of it, or a collide
+-- with equal hashes and the same secrets: all of it, or there is a collision
 abbrev pub SecretsMakeOne : Type 0
-SecretsMakeOne = (p : Plan) (a b : Start) (i j : ℕ) (events : List Event) (notes : List (Role × Note)) (d : Sides) → Run (facing p a b i j) events notes d → HaveOneHash d
+SecretsMakeOne = (p : Plan) (a b : Start) (i j : ℕ) (events : List Event) (notes : List (Role × Note)) (d : Sides)
+    → Run (facing p a b i j) events notes d → HaveOneHash d
     → ShareSecrets p a b d → HaveOneHistory d ⊎ HistoriesCollide d
 
--- and with equal intervals, in each direction: the accepted payloads are a front of the written ones, or a forged message came, or there is a collide
+-- in each direction the accepted payloads are the first of the written ones, in order, or a forged message was accepted
 pub record PayloadsAgree (interval : ℕ) (d : Sides) : Type 0 where
   pub there : PrefixOrForged d.initiator.view.party.history Initiator interval d.initiator.sent d.responder.received
   pub back : PrefixOrForged d.responder.view.party.history Responder interval d.responder.sent d.initiator.received
 
+-- with equal hashes, the same secrets and equal intervals: so it is, or there is a collision
 abbrev pub PayloadsCome : Type 0
-PayloadsCome = (p : Plan) (a b : Start) (interval : ℕ) (events : List Event) (notes : List (Role × Note)) (d : Sides) → Run (facing p a b interval interval) events notes d → HaveOneHash d
+PayloadsCome = (p : Plan) (a b : Start) (interval : ℕ) (events : List Event) (notes : List (Role × Note)) (d : Sides)
+    → Run (facing p a b interval interval) events notes d → HaveOneHash d
     → ShareSecrets p a b d → PayloadsAgree interval d ⊎ HistoriesCollide d

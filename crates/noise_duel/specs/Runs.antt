@@ -16,7 +16,7 @@ use Rattle.noise_session.specs.Sending.{Sends}
 use Rattle.noise_duel.specs.Sides.{Side, Sides, side, with_side, wrote_handshake, accepted_handshake, wrote_transport, accepted_transport, with_view}
 use Rattle.noise_duel.specs.Events.{Event, Write, Say, Deliver, Raw, Note, Wrote, WriteFault, Judged, Missing, left_note, held_note, noted_by}
 
--- An end writes a payload, or doesn't.
+-- An end writes a payload as a frame, or doesn't (Noise 5.3, 11.3 and 13).
 pub data SideWrites : Side → List ℕ → Note → Side → Type 0 where
   writes_nothing : (s : Side) (payload : List ℕ) (why : SendFault) (next : EndView) → Sends s.view payload (Err why) next
       → SideWrites s payload (WriteFault why) (with_view s next)
@@ -33,7 +33,7 @@ abbrev pub GivesNoPayload : Told → Type 0
 GivesNoPayload (Payload bytes) = ⊥
 GivesNoPayload _ = ⊤
 
--- An end accepts a whole message, or doesn't.
+-- An end accepts a whole message, or doesn't (Noise 5.3 and 11.3).
 pub data SideReads : Side → List ℕ → Told → Side → Type 0 where
   accepts_handshake : (s : Side) (message payload : List ℕ) (xs : List (List ℕ)) → Accepts s.view.party message xs payload
       → SideReads s message (Payload payload) (accepted_handshake s (record { message = message; carried = xs; payload = payload }))
@@ -43,8 +43,8 @@ pub data SideReads : Side → List ℕ → Told → Side → Type 0 where
   refuses_message : (s : Side) (message : List ℕ) (step : Told) (next : EndView) → GivesNoPayload step → Judges s.view message step next
       → SideReads s message step (with_view s next)
 
--- Bytes come to an end: behind those that it holds they are cut into frames, and each frame's message is weighed, until the bytes end or the
--- end doesn't listen.
+-- Bytes come to an end: behind those that it holds they are cut into frames, and each frame's message is read, until the bytes end or the
+-- end doesn't listen (Noise 13).
 pub data SideReceives : Side → List ℕ → List Note → Side → Type 0 where
   is_idle : (s : Side) (bytes : List ℕ) (step : Told) → idle_step (progress_of s.view) ≡ Some step
       → SideReceives s bytes (left_note step (length bytes)) s
@@ -54,23 +54,23 @@ pub data SideReceives : Side → List ℕ → List Note → Side → Type 0 wher
       → s.view.held ++ bytes ≡ frame message ++ rest → length message ≤ 65535 → SideReads s message step next → SideReceives next rest notes last
       → SideReceives s bytes (Judged step ∷ notes) last
 
--- One event.
+-- One event, what is noted of it, and the two ends behind it.
 pub data Happens : Sides → Event → List (Role × Note) → Sides → Type 0 where
   writes : (d : Sides) (role : Role) (payload : List ℕ) (note : Note) (next : Side) → SideWrites (side d role) payload note next
       → Happens d (Write role payload) ((role, note) ∷ []) (with_side d role next)
   says_nothing : (d : Sides) (role : Role) (payload : List ℕ) (why : SendFault) (next : Side) → SideWrites (side d role) payload (WriteFault why) next
       → Happens d (Say role payload) ((role, WriteFault why) ∷ []) (with_side d role next)
-  says : (d : Sides) (role : Role) (payload bytes : List ℕ) (n : ℕ) (notes : List Note) (next heard : Side) → SideWrites (side d role) payload (Wrote n) next
-      → slice_get next.frames n ≡ Some bytes → SideReceives (side d (other role)) bytes notes heard
-      → Happens d (Say role payload) ((role, Wrote n) ∷ noted_by (other role) (notes ++ held_note (length heard.view.held)))
-      (with_side (with_side d role next) (other role) heard)
-  delivers : (d : Sides) (role : Role) (n : ℕ) (bytes : List ℕ) (notes : List Note) (heard : Side)
-      → slice_get (side d (other role)).frames n ≡ Some bytes → SideReceives (side d role) bytes notes heard
-      → Happens d (Deliver role n) (noted_by role (notes ++ held_note (length heard.view.held))) (with_side d role heard)
+  says : (d : Sides) (role : Role) (payload bytes : List ℕ) (n : ℕ) (notes : List Note) (next reader : Side)
+      → SideWrites (side d role) payload (Wrote n) next → slice_get next.frames n ≡ Some bytes → SideReceives (side d (other role)) bytes notes reader
+      → Happens d (Say role payload) ((role, Wrote n) ∷ noted_by (other role) (notes ++ held_note (length reader.view.held)))
+      (with_side (with_side d role next) (other role) reader)
+  delivers : (d : Sides) (role : Role) (n : ℕ) (bytes : List ℕ) (notes : List Note) (reader : Side)
+      → slice_get (side d (other role)).frames n ≡ Some bytes → SideReceives (side d role) bytes notes reader
+      → Happens d (Deliver role n) (noted_by role (notes ++ held_note (length reader.view.held))) (with_side d role reader)
   misses : (d : Sides) (role : Role) (n : ℕ) → slice_get (side d (other role)).frames n ≡ None
       → Happens d (Deliver role n) ((role, Missing n) ∷ []) d
-  injects : (d : Sides) (role : Role) (bytes : List ℕ) (notes : List Note) (heard : Side) → SideReceives (side d role) bytes notes heard
-      → Happens d (Raw role bytes) (noted_by role (notes ++ held_note (length heard.view.held))) (with_side d role heard)
+  injects : (d : Sides) (role : Role) (bytes : List ℕ) (notes : List Note) (reader : Side) → SideReceives (side d role) bytes notes reader
+      → Happens d (Raw role bytes) (noted_by role (notes ++ held_note (length reader.view.held))) (with_side d role reader)
 
 -- Events, one after another.
 pub data Run : Sides → List Event → List (Role × Note) → Sides → Type 0 where

@@ -1,4 +1,4 @@
--- When two parties are the parts of one world.
+-- When two parties are set up with the key material of one conversation.
 use Rattle.std.specs.Prelude.{◌≡◌, ℕ, List, length, Some, true, is_some}
 use Rattle.noise_names.specs.declared.token.Role.{Role}
 use Rattle.noise_names.specs.declared.token.Role.TheVariants.{Initiator, Responder}
@@ -13,7 +13,8 @@ use Rattle.noise_duel.specs.Messages.{Start}
 use Rattle.noise_duel.specs.Agreement.{KeysAgree, IsSetUp}
 use Rattle.noise_duel.specs.Conversation.{KeyMaterial, IsPart}
 
--- Two parties set up alike: without a fault, with one prologue and the same psks, each with the keys of the other's pre-message and no others; and the keys agree.
+-- Two parties set up alike: without a fault, with one prologue and the same psks, each with the keys of the other's pre-message and no others;
+-- and the keys agree.
 pub record AreSetUpAlike (p : Plan) (prologue : List ℕ) (a b : Start) : Type 0 where
   pub initiator : IsSetUp p Initiator a
   pub responder : IsSetUp p Responder b
@@ -30,15 +31,17 @@ HasLongKeys s = (x : Own) (k : List ℕ) → s.own x ≡ Some k → length k ≡
 
 -- the initiator has an answer at each DH of the pattern
 abbrev pub HasAnswers : Plan → Start → Start → Type 0
-HasAnswers p a b = (t : Token) → is_dh t ≡ true → occurs t (places_of p) ≡ true → is_some (answered a.agree (own_at Initiator t) (remote_at Initiator (public_keys b.own) t)) ≡ true
+HasAnswers p a b = (t : Token) → is_dh t ≡ true → occurs t (places_of p) ≡ true
+    → is_some (answered a.agree (own_at Initiator t) (remote_at Initiator (public_keys b.own) t)) ≡ true
 
--- a world, with keys of 32 bytes, of which both are parts
+-- key material, with public keys of 32 bytes, of which each party has its part
 pub record AreParts (p : Plan) (prologue : List ℕ) (a b : Start) : Type 0 where
-  pub world : KeyMaterial
-  pub long : (role : Role) (k : Own) → length (world.public role k) ≡ 32
-  pub initiator : IsPart world p Initiator prologue a
-  pub responder : IsPart world p Responder prologue b
+  pub material : KeyMaterial
+  pub long : (role : Role) (k : Own) → length (material.public role k) ≡ 32
+  pub initiator : IsPart material p Initiator prologue a
+  pub responder : IsPart material p Responder prologue b
 
--- Two parties of a valid pattern that are set up alike are parts of one world.
+-- Two parties of a valid pattern that are set up alike have their parts of one key material.
 abbrev pub AlikeAreParts : Type 0
-AlikeAreParts = (p : Plan) (prologue : List ℕ) (a b : Start) → IsValid p → AreSetUpAlike p prologue a b → HasLongKeys a → HasLongKeys b → HasAnswers p a b → AreParts p prologue a b
+AlikeAreParts = (p : Plan) (prologue : List ℕ) (a b : Start) → IsValid p → AreSetUpAlike p prologue a b
+    → HasLongKeys a → HasLongKeys b → HasAnswers p a b → AreParts p prologue a b

@@ -34,8 +34,9 @@ fn laws_below()
     due_is_written();
 }
 
-/// Two parties of one pattern with one hash had the same conversation as far as it can be seen, or two of their texts collision; with the same secrets
-/// and DH answers it is the same as a whole.
+/// Two parties of one pattern with one hash had the same conversation as far as it can be seen: prologue, public keys of pre-messages, messages, and
+/// public keys sent in clear; or two texts that they hashed collide. With the same secrets and DH answers, or with keys that agree, all of it is the
+/// same (Noise 11.2).
 pub fn hash_tells()
     ensures seen { HashTells }
     ensures whole { SecretsTell }
@@ -53,15 +54,15 @@ pub fn run_once()
     laws_below();
 }
 
-/// In every run each of two new ends stands behind what it wrote and accepted, and its frames are those of what it wrote.
+/// In every run each of two new ends is what the messages made of it that it wrote and accepted, and its frames are those of its own messages.
 pub fn ends_stand()
     ensures stand { EndsStand }
     ensures frame { EndsFrame }
 {}
 
-/// Where both ends of a run have opened with one hash, the conversation was the same as far as it can be seen, or there is a collision; with the same
-/// secrets and DH answers they have all of it in common, and with equal intervals each end's accepted payloads are a front of those that the other
-/// wrote, up to a forged message.
+/// Where both ends of a run have opened with one hash, the conversation was the same as far as it can be seen, or there is a collision. With the same
+/// secrets they have all of it in common; with equal intervals too each end's accepted payloads are the first of those that the other wrote, in order,
+/// up to a forged message (Noise 11.2, 12.3).
 pub fn ends_agree()
     ensures seen { HashesTell }
     ensures back { VisiblyEqualGivesOne }
@@ -71,8 +72,8 @@ pub fn ends_agree()
     laws_below();
 }
 
-/// Lines in turn that fit, between two new ends that are parts of one world, all come through: each frame that is written is the transcript's, each payload is
-/// heard at once at the other end, and both ends have one history and the same packets.
+/// Lines in turn that fit, between two new ends with their parts of one key material, all come through: each frame is that of the transcript, each
+/// payload is accepted at once at the other end, and both ends have one history and the same packets. For all such lines there is a run.
 pub fn lines_come_through()
     ensures come { LinesComeThrough }
     ensures can { LinesRun }
@@ -80,7 +81,7 @@ pub fn lines_come_through()
     laws_below();
 }
 
-/// Two parties of a valid pattern that are set up alike, with keys that agree and have an answer at each DH, are parts of one world.
+/// Two parties of a valid pattern that are set up alike, with keys that agree and an answer at each DH token, have their parts of one key material.
 pub fn alike_are_parts()
     ensures { AlikeAreParts }
 {
