@@ -10,11 +10,11 @@ ghost use Rattle.noise_duel.specs.Runs.{RunOnce};
 ghost use Rattle.noise_duel.specs.SetUpAlike.{AlikeAreParts};
 ghost use Rattle.noise_duel.specs.Networks.{HashesTell, VisiblyEqualGivesOne, SecretsMakeOne, PayloadsCome};
 
-use noise_session::sent_once;
 use noise_handshake::{
     accepted_once, due_is_written, keys_carried, overhead_added, refused_once, setup_is_whole,
     shown_is_known, starts_are_counterparts, tokens_stand, written_is_accepted, written_once,
 };
+use noise_session::sent_once;
 
 // What the laws of the handshake say, in one.
 fn laws_below()
