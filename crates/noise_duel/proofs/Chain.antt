@@ -1,5 +1,6 @@
 -- A chain of hashes: where two of one length and one start end alike, they hashed the same, or two of their texts collide.
-use Rattle.std.proofs.Common.{◌≡◌, ◌≢◌, ℕ, zero, suc, List, [], ◌∷◌, ◌++◌, length, refl, ap, sym, subst, take, drop, ◌∙◌, arith, inl, inr, ◌⊎◌, slice_get, Some, length-append}
+use Rattle.std.proofs.Common.{◌≡◌, ◌≢◌, ℕ, zero, suc, List, [], ◌∷◌, ◌++◌, length, refl, ap, sym, subst, take, drop, ◌∙◌, arith, inl, inr, ◌⊎◌, slice_get}
+use Rattle.std.proofs.Common.{Some, length-append}
 use Rattle.std.proofs.Math.Seq.{take-append_seam, drop-append_seam}
 use Rattle.std.proofs.lemmas.Bool.Decides.{eqb_tells}
 use Rattle.sha2.specs.Sha256.{sha256}
@@ -97,5 +98,9 @@ chains-alike start (x ∷ xs) (y ∷ ys) long n e = go (same-or (chained start x
         let apart = split-apart (chained start xs) (chained start ys) x y (length-chained start xs long ∙ sym (length-chained start ys long)) same in
         elim (older apart.0) [
           | inl rest ↦ inl (cons-same x y xs ys apart.1 rest)
-          | inr c ↦ inr (c.0, collision-longer (chain_texts start xs) (chain_texts start ys) ((chained start xs ++ x) ∷ []) ((chained start ys ++ y) ∷ []) c.0 c.1)
+          | inr c ↦ inr (
+            c.0,
+            collision-longer (chain_texts start xs) (chain_texts start ys) ((chained start xs ++ x) ∷ []) ((chained start ys ++ y) ∷ []) c.0
+                c.1,
+          )
         ]

@@ -44,12 +44,14 @@ passes-carry laws v w (p ∷ ps) (wrote _ _ _ _ here more) =
 passes-carry laws v w (p ∷ ps) (took _ _ _ _ here more) =
     (laws.accepted_carries v p.payload p.message p.carried here, passes-carry laws (behind_message v p.carried p.payload) w ps more)
 
-token-equal : (r : History) (secrets : List (List ℕ)) (t : Token) (ts : List Token) (x y p q : List ℕ) (xs ys others rest : List (List ℕ)) → Carries t x → Carries t y
+token-equal : (r : History) (secrets : List (List ℕ)) (t : Token) (ts : List Token) (x y p q : List ℕ) (xs ys others rest : List (List ℕ)) → Carries t x
+    → Carries t y
     → SecretAt secrets t x → SecretAt secrets t y → answers (t ∷ ts) (x ∷ xs) ++ others ≡ answers (t ∷ ts) (y ∷ ys) ++ rest
     → token_piece r t x ++ p ≡ token_piece r t y ++ q → (x ≡ y) × (p ≡ q) × (answers ts xs ++ others ≡ answers ts ys ++ rest)
 token-equal r secrets E ts x y p q xs ys others rest c d f g h e = let z = split-apart x y p q (c ∙ sym d) e in (z.0, z.1, h)
 token-equal r secrets S ts x y p q xs ys others rest c d f g h e =
-    let n : length (piece r x) ≡ length (piece r y) = length-piece r x ∙ ap (λ (k : ℕ). if is_some (cipher_key r) then k + 16 else k) (c ∙ sym d) ∙ sym (length-piece r y) in
+    let n : length (piece r x) ≡ length (piece r y) =
+    length-piece r x ∙ ap (λ (k : ℕ). if is_some (cipher_key r) then k + 16 else k) (c ∙ sym d) ∙ sym (length-piece r y) in
     let z = split-apart (piece r x) (piece r y) p q n e in
     (piece-same r x y z.0, z.1, h)
 token-equal r secrets Psk ts x y p q xs ys others rest c d f g h e = (f ∙ sym g, e, h)
@@ -58,7 +60,8 @@ token-equal r secrets Es ts x y p q xs ys others rest c d f g h e = (heads x y _
 token-equal r secrets Se ts x y p q xs ys others rest c d f g h e = (heads x y _ _ h, e, tails x y _ _ h)
 token-equal r secrets Ss ts x y p q xs ys others rest c d f g h e = (heads x y _ _ h, e, tails x y _ _ h)
 
-front-equal : (psks : Bool) (r : History) (secrets : List (List ℕ)) (ts : List Token) (xs ys : List (List ℕ)) (p q : List ℕ) (others rest : List (List ℕ)) → Carry ts xs → Carry ts ys
+front-equal : (psks : Bool) (r : History) (secrets : List (List ℕ)) (ts : List Token) (xs ys : List (List ℕ)) (p q : List ℕ) (others rest : List (List ℕ))
+    → Carry ts xs → Carry ts ys
     → SecretsFit secrets ts xs → SecretsFit secrets ts ys → answers ts xs ++ others ≡ answers ts ys ++ rest
     → front psks r ts xs ++ p ≡ front psks r ts ys ++ q → (xs ≡ ys) × (p ≡ q) × (others ≡ rest)
 front-equal psks r secrets [] [] [] p q others rest c d f g h e = (refl, e, h)
@@ -75,7 +78,8 @@ front-equal psks r secrets (t ∷ ts) (x ∷ xs) (y ∷ ys) p q others rest c d 
     (here.1 ∙ ap (λ (z : List ℕ). front psks (behind_token psks r t z) ts ys ++ q) (sym here.0)) in
     (cons-same x y xs ys here.0 later.0, later.1, later.2)
 
-all-equal : (p : Plan) (n : ℕ) (r : History) (secrets : List (List ℕ)) (ps qs : List HandshakeMessage) → messages_of ps ≡ messages_of qs → AllCarry p n ps → AllCarry p n qs
+all-equal : (p : Plan) (n : ℕ) (r : History) (secrets : List (List ℕ)) (ps qs : List HandshakeMessage) → messages_of ps ≡ messages_of qs → AllCarry p n ps
+    → AllCarry p n qs
     → AreLines p n r ps → AreLines p n r qs → UseSecrets p n secrets ps → UseSecrets p n secrets qs → answers_from p n ps ≡ answers_from p n qs → ps ≡ qs
 all-equal p n r secrets [] [] a k l b c f g h = refl
 all-equal p n r secrets [] (q ∷ qs) a k l b c f g h = cc
@@ -83,7 +87,8 @@ all-equal p n r secrets (m ∷ ms) [] a k l b c f g h = cc
 all-equal p n r secrets (m ∷ ms) (q ∷ qs) a k l b c f g h =
     let ts : List Token = tokens_at p.messages n in
     let bytes : m.message ≡ q.message = heads m.message q.message (messages_of ms) (messages_of qs) a in
-    let here = front-equal (has_psk p) r secrets ts m.carried q.carried (piece (behind_front (has_psk p) r ts m.carried) m.payload) (piece (behind_front (has_psk p) r ts q.carried) q.payload)
+    let here = front-equal (has_psk p) r secrets ts m.carried q.carried (piece (behind_front (has_psk p) r ts m.carried) m.payload)
+    (piece (behind_front (has_psk p) r ts q.carried) q.payload)
     (answers_from p (n + 1) ms) (answers_from p (n + 1) qs) k.0 l.0 f.0 g.0 h (sym b.0.1 ∙ bytes ∙ c.0.1) in
     let payload : m.payload ≡ q.payload =
     piece-same (behind_front (has_psk p) r ts m.carried) m.payload q.payload
@@ -92,7 +97,8 @@ all-equal p n r secrets (m ∷ ms) (q ∷ qs) a k l b c f g h =
     let behind : behind_line (has_psk p) r ts m.carried m.payload ≡ behind_line (has_psk p) r ts q.carried q.payload =
     ap (λ (z : HandshakeMessage). behind_line (has_psk p) r ts z.carried z.payload) one in
     cons-same m q ms qs one
-    (all-equal p (n + 1) (behind_line (has_psk p) r ts m.carried m.payload) (drop (count_by is_psk ts) secrets) ms qs (tails m.message q.message (messages_of ms) (messages_of qs) a) k.1 l.1 b.1
+    (all-equal p (n + 1) (behind_line (has_psk p) r ts m.carried m.payload) (drop (count_by is_psk ts) secrets) ms qs
+    (tails m.message q.message (messages_of ms) (messages_of qs) a) k.1 l.1 b.1
     (subst (λ (s : History). AreLines p (n + 1) s qs) (sym behind) c.1) f.1 g.1 here.2)
 
 pub visibly-equal-is-one : LawsBelow → VisiblyEqualIsOne
@@ -103,8 +109,10 @@ visibly-equal-is-one laws p a b ps qs v w left right prologue before messages se
     let r : History = and_then (record { name = name; entries = [] }) (Mix a.prologue) in
     let s : History = and_then (record { name = name; entries = [] }) (Mix b.prologue) in
     let first : r0 ≡ s0 =
-    pre-same (has_psk p) a.remote (public_keys b.own) (pre_of Responder p) (with_premessage (has_psk p) (public_keys a.own) (pre_of Initiator p) r) (with_premessage (has_psk p) b.remote (pre_of Initiator p) s)
-    (pre-same (has_psk p) (public_keys a.own) b.remote (pre_of Initiator p) r s (ap (λ (z : List ℕ). and_then (record { name = name; entries = [] }) (Mix z)) prologue) (before Initiator)) (before Responder) in
+    pre-same (has_psk p) a.remote (public_keys b.own) (pre_of Responder p) (with_premessage (has_psk p) (public_keys a.own) (pre_of Initiator p) r)
+    (with_premessage (has_psk p) b.remote (pre_of Initiator p) s)
+    (pre-same (has_psk p) (public_keys a.own) b.remote (pre_of Initiator p) r s
+    (ap (λ (z : List ℕ). and_then (record { name = name; entries = [] }) (Mix z)) prologue) (before Initiator)) (before Responder) in
     let l = passes-lines (begun_as p Initiator a) v ps left in
     let m = passes-lines (begun_as p Responder b) w qs right in
     let one : ps ≡ qs = all-equal p 0 r0 a.secrets ps qs messages

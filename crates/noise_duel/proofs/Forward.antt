@@ -11,7 +11,8 @@ use Rattle.noise_state.specs.History.{History, Mix, and_then, piece}
 use Rattle.noise_state.specs.Pieces.{piece-same}
 use Rattle.noise_handshake.specs.declared.remote.Remote.{Remote}
 use Rattle.noise_handshake.specs.Line.{token_piece, behind_token, behind_front, line, behind_line, with_ephemeral}
-use Rattle.noise_handshake.specs.View.{View, Reader, Fit, Fits, reader, known_behind, secrets_behind, first_secret, tokens_at, tokens_now, with_premessage, start}
+use Rattle.noise_handshake.specs.View.{View, Reader, Fit, Fits, reader, known_behind, secrets_behind, first_secret, tokens_at, tokens_now, with_premessage}
+use Rattle.noise_handshake.specs.View.{start}
 use Rattle.noise_handshake.specs.Writing.{Writer, Given, Gives, writer}
 use Rattle.noise_handshake.specs.Party.{behind_own, behind_message}
 use Rattle.noise_handshake.specs.Setup.{public_keys}
@@ -46,7 +47,8 @@ SecretsFit secrets (t ∷ ts) (x ∷ xs) = SecretAt secrets t x × SecretsFit (s
 
 abbrev pub UseSecrets : Plan → ℕ → List (List ℕ) → List HandshakeMessage → Type 0
 UseSecrets p n secrets [] = Unit {0}
-UseSecrets p n secrets (m ∷ ms) = SecretsFit secrets (tokens_at p.messages n) m.carried × UseSecrets p (n + 1) (drop (count_by is_psk (tokens_at p.messages n)) secrets) ms
+UseSecrets p n secrets (m ∷ ms) =
+    SecretsFit secrets (tokens_at p.messages n) m.carried × UseSecrets p (n + 1) (drop (count_by is_psk (tokens_at p.messages n)) secrets) ms
 
 fits-secret : (v : Reader) (known : Remote) (secrets : List (List ℕ)) (t : Token) (x : List ℕ) → Fits v known secrets t x → SecretAt secrets t x
 fits-secret v known secrets Psk x h = h
@@ -56,12 +58,15 @@ gives-secret : (w : Writer) (known : Remote) (secrets : List (List ℕ)) (t : To
 gives-secret w known secrets Psk x h = h
 gives-secret w known secrets _ x h = tt
 
-fit-secrets : (v : Reader) (known : Remote) (secrets : List (List ℕ)) (ts : List Token) (xs : List (List ℕ)) → Fit v known secrets ts xs → SecretsFit secrets ts xs
+fit-secrets : (v : Reader) (known : Remote) (secrets : List (List ℕ)) (ts : List Token) (xs : List (List ℕ)) → Fit v known secrets ts xs
+    → SecretsFit secrets ts xs
 fit-secrets v known secrets [] xs h = tt
 fit-secrets v known secrets (t ∷ ts) [] h = tt
-fit-secrets v known secrets (t ∷ ts) (x ∷ xs) h = (fits-secret v known secrets t x h.0, fit-secrets v (known_behind known t x) (secrets_behind secrets t) ts xs h.1)
+fit-secrets v known secrets (t ∷ ts) (x ∷ xs) h =
+    (fits-secret v known secrets t x h.0, fit-secrets v (known_behind known t x) (secrets_behind secrets t) ts xs h.1)
 
-given-secrets : (w : Writer) (known : Remote) (secrets : List (List ℕ)) (ts : List Token) (xs : List (List ℕ)) → Given w known secrets ts xs → SecretsFit secrets ts xs
+given-secrets : (w : Writer) (known : Remote) (secrets : List (List ℕ)) (ts : List Token) (xs : List (List ℕ)) → Given w known secrets ts xs
+    → SecretsFit secrets ts xs
 given-secrets w known secrets [] xs h = tt
 given-secrets w known secrets (t ∷ ts) [] h = tt
 given-secrets w known secrets (t ∷ ts) (x ∷ xs) h = (gives-secret w known secrets t x h.0, given-secrets w known (secrets_behind secrets t) ts xs h.1)
@@ -76,7 +81,8 @@ passes-secrets v w (p ∷ ps) (took _ _ _ _ here more) =
 -- ---- forward along a message
 
 module _ (psks : Bool) where
-  token-on : (r : History) (secrets : List (List ℕ)) (t : Token) (ts : List Token) (x y : List ℕ) (xs ys others rest : List (List ℕ)) → token_piece r t x ≡ token_piece r t y
+  token-on : (r : History) (secrets : List (List ℕ)) (t : Token) (ts : List Token) (x y : List ℕ) (xs ys others rest : List (List ℕ))
+      → token_piece r t x ≡ token_piece r t y
       → SecretAt secrets t x → SecretAt secrets t y → answers (t ∷ ts) (x ∷ xs) ++ others ≡ answers (t ∷ ts) (y ∷ ys) ++ rest
       → (x ≡ y) × (answers ts xs ++ others ≡ answers ts ys ++ rest)
   token-on r secrets E ts x y xs ys others rest e f g h = (e, h)
@@ -87,7 +93,8 @@ module _ (psks : Bool) where
   token-on r secrets Se ts x y xs ys others rest e f g h = (heads x y _ _ h, tails x y _ _ h)
   token-on r secrets Ss ts x y xs ys others rest e f g h = (heads x y _ _ h, tails x y _ _ h)
 
-  front-on : (r : History) (secrets : List (List ℕ)) (ts : List Token) (xs ys others rest : List (List ℕ)) → Alike psks r r ts xs ys → SecretsFit secrets ts xs → SecretsFit secrets ts ys
+  front-on : (r : History) (secrets : List (List ℕ)) (ts : List Token) (xs ys others rest : List (List ℕ)) → Alike psks r r ts xs ys
+      → SecretsFit secrets ts xs → SecretsFit secrets ts ys
       → answers ts xs ++ others ≡ answers ts ys ++ rest → (xs ≡ ys) × (others ≡ rest)
   front-on r secrets [] [] [] others rest a f g h = (refl, h)
   front-on r secrets [] [] (y ∷ ys) others rest a f g h = absurd a
@@ -106,7 +113,8 @@ message-same m q e f g =
     ∙ ap (λ (z : List (List ℕ)). record { message = q.message; carried = z; payload = m.payload }) f
     ∙ ap (λ (z : List ℕ). record { message = q.message; carried = q.carried; payload = z }) g
 
-all-on : (p : Plan) (n : ℕ) (r : History) (secrets : List (List ℕ)) (ps qs : List HandshakeMessage) → AllAlike p n r r ps qs → AreLines p n r ps → AreLines p n r qs
+all-on : (p : Plan) (n : ℕ) (r : History) (secrets : List (List ℕ)) (ps qs : List HandshakeMessage) → AllAlike p n r r ps qs → AreLines p n r ps
+    → AreLines p n r qs
     → UseSecrets p n secrets ps → UseSecrets p n secrets qs → answers_from p n ps ≡ answers_from p n qs → ps ≡ qs
 all-on p n r secrets [] [] a b c f g h = refl
 all-on p n r secrets [] (q ∷ qs) a b c f g h = absurd a
@@ -129,7 +137,8 @@ all-on p n r secrets (m ∷ ms) (q ∷ qs) a b c f g h =
 
 -- ---- the start
 
-pub pre-same : (psks : Bool) (k l : Remote) (ts : List Token) (r s : History) → r ≡ s → pre_keys k ts ≡ pre_keys l ts → with_premessage psks k ts r ≡ with_premessage psks l ts s
+pub pre-same : (psks : Bool) (k l : Remote) (ts : List Token) (r s : History) → r ≡ s → pre_keys k ts ≡ pre_keys l ts
+    → with_premessage psks k ts r ≡ with_premessage psks l ts s
 pre-same psks k l [] r s e f = e
 pre-same psks k l (E ∷ ts) r s e f =
     let x : List ℕ = unwrap_or k.e [] in
@@ -145,11 +154,13 @@ pre-same psks k l (S ∷ ts) r s e f =
     (ap (λ (h : History). and_then h (Mix x)) e ∙ ap (λ (z : List ℕ). and_then s (Mix z)) same) (tails x y (pre_keys k ts) (pre_keys l ts) f)
 pre-same psks k l (_ ∷ ts) r s e f = pre-same psks k l ts r s e f
 
-pub starts-same : (name : List ℕ) (p : Plan) (a b : List ℕ) (i j k l : Remote) → hashed (start name p a i j) ≡ hashed (start name p b k l) → start name p a i j ≡ start name p b k l
+pub starts-same : (name : List ℕ) (p : Plan) (a b : List ℕ) (i j k l : Remote) → hashed (start name p a i j) ≡ hashed (start name p b k l)
+    → start name p a i j ≡ start name p b k l
 starts-same name p a b i j k l e =
     let r : History = and_then (record { name = name; entries = [] }) (Mix a) in
     let s : History = and_then (record { name = name; entries = [] }) (Mix b) in
-    let later = pre-back (has_psk p) (with_premessage (has_psk p) i (pre_of Initiator p) r) (with_premessage (has_psk p) k (pre_of Initiator p) s) j l (pre_of Responder p) e in
+    let later = pre-back (has_psk p) (with_premessage (has_psk p) i (pre_of Initiator p) r) (with_premessage (has_psk p) k (pre_of Initiator p) s) j l
+    (pre_of Responder p) e in
     let here = pre-back (has_psk p) r s i k (pre_of Initiator p) later.0 in
     let prologue : a ≡ b = heads a b [] [] here.0 in
     let first : r ≡ s = ap (λ (z : List ℕ). and_then (record { name = name; entries = [] }) (Mix z)) prologue in

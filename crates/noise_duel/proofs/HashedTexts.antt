@@ -37,7 +37,8 @@ ephemeral-keyed true r x = refl
 ephemeral-keyed false r x = refl
 
 -- there is a key behind a token where its kind says so
-pub token-keyed : (psks : Bool) (r : History) (t : Token) (x : List ℕ) → is_some (cipher_key (behind_token psks r t x)) ≡ keyed_behind psks (is_some (cipher_key r)) t
+pub token-keyed : (psks : Bool) (r : History) (t : Token) (x : List ℕ)
+    → is_some (cipher_key (behind_token psks r t x)) ≡ keyed_behind psks (is_some (cipher_key r)) t
 token-keyed psks r E x = ephemeral-keyed psks r x
 token-keyed psks r S x = refl
 token-keyed psks r Ee x = refl
@@ -46,7 +47,8 @@ token-keyed psks r Se x = refl
 token-keyed psks r Ss x = refl
 token-keyed psks r Psk x = refl
 
-pub front-keyed : (psks : Bool) (r : History) (ts : List Token) (xs : List (List ℕ)) → OneEach ts xs → is_some (cipher_key (behind_front psks r ts xs)) ≡ keyed_behind_tokens psks (is_some (cipher_key r)) ts
+pub front-keyed : (psks : Bool) (r : History) (ts : List Token) (xs : List (List ℕ)) → OneEach ts xs
+    → is_some (cipher_key (behind_front psks r ts xs)) ≡ keyed_behind_tokens psks (is_some (cipher_key r)) ts
 front-keyed psks r [] [] h = refl
 front-keyed psks r [] (x ∷ xs) h = refl
 front-keyed psks r (t ∷ ts) [] h = absurd h
@@ -62,7 +64,8 @@ module _ (psks : Bool) where
 
   -- ---- as many texts
 
-  token-many : (r s : History) (t : Token) (x y : List ℕ) → length (hashed r) ≡ length (hashed s) → length (hashed (behind_token psks r t x)) ≡ length (hashed (behind_token psks s t y))
+  token-many : (r s : History) (t : Token) (x y : List ℕ) → length (hashed r) ≡ length (hashed s)
+      → length (hashed (behind_token psks r t x)) ≡ length (hashed (behind_token psks s t y))
   token-many r s E x y n = ap length (ephemeral-hashed psks r x) ∙ omega (arith, n) ∙ sym (ap length (ephemeral-hashed psks s y))
   token-many r s S x y n = omega (arith, n)
   token-many r s Ee x y n = n
@@ -78,20 +81,24 @@ module _ (psks : Bool) where
   front-many r s (t ∷ ts) (x ∷ xs) [] f g n = absurd g
   front-many r s (t ∷ ts) (x ∷ xs) (y ∷ ys) f g n = front-many (behind_token psks r t x) (behind_token psks s t y) ts xs ys f g (token-many r s t x y n)
 
-  pub line-many : (r s : History) (ts : List Token) (xs ys : List (List ℕ)) (p q : List ℕ) → OneEach ts xs → OneEach ts ys → length (hashed r) ≡ length (hashed s)
+  pub line-many : (r s : History) (ts : List Token) (xs ys : List (List ℕ)) (p q : List ℕ) → OneEach ts xs → OneEach ts ys
+      → length (hashed r) ≡ length (hashed s)
       → length (hashed (behind_line psks r ts xs p)) ≡ length (hashed (behind_line psks s ts ys q))
   line-many r s ts xs ys p q f g n = omega (arith, front-many r s ts xs ys f g n)
 
   pub pre-many : (r s : History) (k l : Remote) (ts : List Token) → length (hashed r) ≡ length (hashed s)
       → length (hashed (with_premessage psks k ts r)) ≡ length (hashed (with_premessage psks l ts s))
   pre-many r s k l [] n = n
-  pre-many r s k l (E ∷ ts) n = pre-many (with_ephemeral psks r (unwrap_or k.e [])) (with_ephemeral psks s (unwrap_or l.e [])) k l ts (token-many r s E (unwrap_or k.e []) (unwrap_or l.e []) n)
+  pre-many r s k l (E ∷ ts) n =
+      pre-many (with_ephemeral psks r (unwrap_or k.e [])) (with_ephemeral psks s (unwrap_or l.e [])) k l ts
+      (token-many r s E (unwrap_or k.e []) (unwrap_or l.e []) n)
   pre-many r s k l (S ∷ ts) n = pre-many (and_then r (Mix (unwrap_or k.s []))) (and_then s (Mix (unwrap_or l.s []))) k l ts (omega (arith, n))
   pre-many r s k l (_ ∷ ts) n = pre-many r s k l ts n
 
   -- ---- back along a message
 
-  token-back : (r s : History) (t : Token) (x y : List ℕ) → hashed (behind_token psks r t x) ≡ hashed (behind_token psks s t y) → (hashed r ≡ hashed s) × (token_piece r t x ≡ token_piece s t y)
+  token-back : (r s : History) (t : Token) (x y : List ℕ) → hashed (behind_token psks r t x) ≡ hashed (behind_token psks s t y)
+      → (hashed r ≡ hashed s) × (token_piece r t x ≡ token_piece s t y)
   token-back r s E x y e =
       let f : (x ∷ hashed r) ≡ (y ∷ hashed s) = sym (ephemeral-hashed psks r x) ∙ e ∙ ephemeral-hashed psks s y in
       (tails x y (hashed r) (hashed s) f, heads x y (hashed r) (hashed s) f)
@@ -102,7 +109,8 @@ module _ (psks : Bool) where
   token-back r s Ss x y e = (e, refl)
   token-back r s Psk x y e = (tails (second_output (chaining_key r) x) (second_output (chaining_key s) y) (hashed r) (hashed s) e, refl)
 
-  front-back : (r s : History) (ts : List Token) (xs ys : List (List ℕ)) → OneEach ts xs → OneEach ts ys → hashed (behind_front psks r ts xs) ≡ hashed (behind_front psks s ts ys)
+  front-back : (r s : History) (ts : List Token) (xs ys : List (List ℕ)) → OneEach ts xs → OneEach ts ys
+      → hashed (behind_front psks r ts xs) ≡ hashed (behind_front psks s ts ys)
       → (hashed r ≡ hashed s) × Alike r s ts xs ys
   front-back r s [] [] [] f g e = (e, tt)
   front-back r s [] [] (y ∷ ys) f g e = absurd g
@@ -152,15 +160,18 @@ module _ (psks : Bool) where
       ap (λ (b : List ℕ). b ++ front psks (behind_token psks r t x) ts xs) h.0
       ∙ ap (λ (b : List ℕ). token_piece s t y ++ b) (front-same (behind_token psks r t x) (behind_token psks s t y) ts xs ys h.1)
 
-  static-same : (keyed : Bool) (r s : History) (x y : List ℕ) (older others : List (List ℕ)) → is_some (cipher_key r) ≡ keyed → is_some (cipher_key s) ≡ keyed → piece r x ≡ piece s y → older ≡ others
+  static-same : (keyed : Bool) (r s : History) (x y : List ℕ) (older others : List (List ℕ)) → is_some (cipher_key r) ≡ keyed → is_some (cipher_key s) ≡ keyed
+      → piece r x ≡ piece s y → older ≡ others
       → (if keyed then [] else x ∷ []) ++ older ≡ (if keyed then [] else y ∷ []) ++ others
   static-same true r s x y older others a b e f = f
   static-same false r s x y older others a b e f = cons-same x y older others (sym (plain_piece r x a) ∙ e ∙ plain_piece s y b) f
 
-  open-token : (keyed : Bool) (r s : History) (t : Token) (ts : List Token) (x y : List ℕ) (xs ys : List (List ℕ)) → is_some (cipher_key r) ≡ keyed → is_some (cipher_key s) ≡ keyed
+  open-token : (keyed : Bool) (r s : History) (t : Token) (ts : List Token) (x y : List ℕ) (xs ys : List (List ℕ)) → is_some (cipher_key r) ≡ keyed
+      → is_some (cipher_key s) ≡ keyed
       → token_piece r t x ≡ token_piece s t y → clear_keys psks (keyed_behind psks keyed t) ts xs ≡ clear_keys psks (keyed_behind psks keyed t) ts ys
       → clear_keys psks keyed (t ∷ ts) (x ∷ xs) ≡ clear_keys psks keyed (t ∷ ts) (y ∷ ys)
-  open-token keyed r s E ts x y xs ys a b e f = cons-same x y (clear_keys psks (keyed_behind psks keyed E) ts xs) (clear_keys psks (keyed_behind psks keyed E) ts ys) e f
+  open-token keyed r s E ts x y xs ys a b e f =
+      cons-same x y (clear_keys psks (keyed_behind psks keyed E) ts xs) (clear_keys psks (keyed_behind psks keyed E) ts ys) e f
   open-token keyed r s S ts x y xs ys a b e f = static-same keyed r s x y (clear_keys psks keyed ts xs) (clear_keys psks keyed ts ys) a b e f
   open-token keyed r s Ee ts x y xs ys a b e f = f
   open-token keyed r s Es ts x y xs ys a b e f = f

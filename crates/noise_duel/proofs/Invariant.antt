@@ -36,26 +36,31 @@ use Rattle.noise_duel.specs.Invariant.{ArePackets, ComesOfMessages, EndsStand}
 
 -- ---- one message more
 
-passes-wrote : (v w : View) (ps : List HandshakeMessage) (p : HandshakeMessage) → Exchanged v ps w → Writes w p.payload p.carried p.message → Exchanged v (ps ++ p ∷ []) (behind_own w p.carried p.payload)
+passes-wrote : (v w : View) (ps : List HandshakeMessage) (p : HandshakeMessage) → Exchanged v ps w → Writes w p.payload p.carried p.message
+    → Exchanged v (ps ++ p ∷ []) (behind_own w p.carried p.payload)
 passes-wrote v w [] p (none _) h = wrote v (behind_own v p.carried p.payload) p [] h (none (behind_own v p.carried p.payload))
 passes-wrote v w (q ∷ qs) p (wrote _ _ _ _ here more) h =
     wrote v (behind_own w p.carried p.payload) q (qs ++ p ∷ []) here (passes-wrote (behind_own v q.carried q.payload) w qs p more h)
 passes-wrote v w (q ∷ qs) p (took _ _ _ _ here more) h =
     took v (behind_own w p.carried p.payload) q (qs ++ p ∷ []) here (passes-wrote (behind_message v q.carried q.payload) w qs p more h)
 
-passes-took : (v w : View) (ps : List HandshakeMessage) (p : HandshakeMessage) → Exchanged v ps w → Accepts w p.message p.carried p.payload → Exchanged v (ps ++ p ∷ []) (behind_message w p.carried p.payload)
+passes-took : (v w : View) (ps : List HandshakeMessage) (p : HandshakeMessage) → Exchanged v ps w → Accepts w p.message p.carried p.payload
+    → Exchanged v (ps ++ p ∷ []) (behind_message w p.carried p.payload)
 passes-took v w [] p (none _) h = took v (behind_message v p.carried p.payload) p [] h (none (behind_message v p.carried p.payload))
 passes-took v w (q ∷ qs) p (wrote _ _ _ _ here more) h =
     wrote v (behind_message w p.carried p.payload) q (qs ++ p ∷ []) here (passes-took (behind_own v q.carried q.payload) w qs p more h)
 passes-took v w (q ∷ qs) p (took _ _ _ _ here more) h =
     took v (behind_message w p.carried p.payload) q (qs ++ p ∷ []) here (passes-took (behind_message v q.carried q.payload) w qs p more h)
 
-packets-more : (r : History) (writer : Role) (interval n : ℕ) (ps : List TransportMessage) (m : TransportMessage) → ArePackets r writer interval n ps → m.message ≡ packet r writer interval (n + length ps) m.payload
+packets-more : (r : History) (writer : Role) (interval n : ℕ) (ps : List TransportMessage) (m : TransportMessage) → ArePackets r writer interval n ps
+    → m.message ≡ packet r writer interval (n + length ps) m.payload
     → ArePackets r writer interval n (ps ++ m ∷ [])
 packets-more r writer interval n [] m h e =
-    let here : m.message ≡ packet r writer interval n m.payload = subst (λ (k : ℕ). m.message ≡ packet r writer interval k m.payload) (omega arith) e in (here, tt)
+    let here : m.message ≡ packet r writer interval n m.payload =
+    subst (λ (k : ℕ). m.message ≡ packet r writer interval k m.payload) (omega arith) e in (here, tt)
 packets-more r writer interval n (p ∷ ps) m h e =
-    let later : m.message ≡ packet r writer interval (n + 1 + length ps) m.payload = subst (λ (k : ℕ). m.message ≡ packet r writer interval k m.payload) (omega arith) e in
+    let later : m.message ≡ packet r writer interval (n + 1 + length ps) m.payload =
+    subst (λ (k : ℕ). m.message ≡ packet r writer interval k m.payload) (omega arith) e in
     (h.0, packets-more r writer interval (n + 1) ps m h.1 later)
 
 -- ---- the parts of an end
@@ -125,7 +130,8 @@ module _ (first : View) (interval : ℕ) where
       ∙ ap (λ (k : ℕ). packet h.last.history writer interval k payload) zeros
       ∙ ap (λ (w : Role). packet h.last.history w interval (0 + m) payload) e
 
-  pub writes-stands : (s t : Side) (payload : List ℕ) (note : Note) → ComesOfMessages first interval s → SideWrites s payload note t → ComesOfMessages first interval t
+  pub writes-stands : (s t : Side) (payload : List ℕ) (note : Note) → ComesOfMessages first interval s → SideWrites s payload note t
+      → ComesOfMessages first interval t
   writes-stands s t payload note h (writes_nothing _ _ why next sends) = go why next sends
     where
       go : (why : SendFault) (next : EndView) → Sends s.view payload (Err why) next → ComesOfMessages first interval (with_view s next)
@@ -138,7 +144,8 @@ module _ (first : View) (interval : ℕ) where
       record {
         last = behind_own h.last xs payload;
         passes = passes-wrote first h.last s.passed p h.passes (subst (λ (v : View). Writes v payload xs message) same w);
-        party = ap (λ (v : View). record (behind_own v xs payload) { ended = false }) same ∙ ap (λ (v : View). record (behind_own h.last xs payload) { ended = v.ended }) h.party;
+        party = ap (λ (v : View). record (behind_own v xs payload) { ended = false }) same
+            ∙ ap (λ (v : View). record (behind_own h.last xs payload) { ended = v.ended }) h.party;
         interval_is = h.interval_is;
         sending = h.sending;
         receiving = h.receiving;
@@ -158,11 +165,13 @@ module _ (first : View) (interval : ℕ) where
         sending = length-more s.sent m s.view.sent h.sending;
         receiving = h.receiving;
         opened = inr passed;
-        sent = packets-more h.last.history h.last.role interval 0 s.sent m h.sent (is ∙ packet-of s payload h s.view.party.role s.view.sent (length s.sent) h.last.role (ap (λ (v : View). v.role) h.party) h.sending);
+        sent = packets-more h.last.history h.last.role interval 0 s.sent m h.sent
+            (is ∙ packet-of s payload h s.view.party.role s.view.sent (length s.sent) h.last.role (ap (λ (v : View). v.role) h.party) h.sending);
         received = h.received;
       }
 
-  pub reads-stands : (s t : Side) (message : List ℕ) (step : Told) → ComesOfMessages first interval s → SideReads s message step t → ComesOfMessages first interval t
+  pub reads-stands : (s t : Side) (message : List ℕ) (step : Told) → ComesOfMessages first interval s → SideReads s message step t
+      → ComesOfMessages first interval t
   reads-stands s t message step h (accepts_handshake _ _ payload xs a) =
       let p : HandshakeMessage = record { message = message; carried = xs; payload = payload } in
       let same : s.view.party ≡ h.last = unended s.view.party h.last h.party a.listens.going in
@@ -170,7 +179,8 @@ module _ (first : View) (interval : ℕ) where
       record {
         last = behind_message h.last xs payload;
         passes = passes-took first h.last s.passed p h.passes (subst (λ (v : View). Accepts v message xs payload) same a);
-        party = ap (λ (v : View). record (behind_message v xs payload) { ended = false }) same ∙ ap (λ (v : View). record (behind_message h.last xs payload) { ended = v.ended }) h.party;
+        party = ap (λ (v : View). record (behind_message v xs payload) { ended = false }) same
+            ∙ ap (λ (v : View). record (behind_message h.last xs payload) { ended = v.ended }) h.party;
         interval_is = h.interval_is;
         sending = h.sending;
         receiving = h.receiving;
@@ -192,7 +202,8 @@ module _ (first : View) (interval : ℕ) where
         opened = inr passed;
         sent = h.sent;
         received = packets-more h.last.history (other h.last.role) interval 0 s.received m h.received
-            (is ∙ packet-of s payload h (other s.view.party.role) s.view.received (length s.received) (other h.last.role) (ap (λ (v : View). other v.role) h.party) h.receiving);
+            (is ∙ packet-of s payload h (other s.view.party.role) s.view.received (length s.received) (other h.last.role)
+            (ap (λ (v : View). other v.role) h.party) h.receiving);
       }
   reads-stands s t message step h (refuses_message _ _ _ next bad judges) = go step next bad judges
     where
@@ -203,7 +214,8 @@ module _ (first : View) (interval : ℕ) where
       go step next bad (dropped _ _ due low never) = seen s next h refl refl refl refl
       go step next bad (exhausted _ _ due full) = seen s (closed s.view) h refl refl refl refl
 
-  pub receives-stands : (s t : Side) (bytes : List ℕ) (notes : List Note) → ComesOfMessages first interval s → SideReceives s bytes notes t → ComesOfMessages first interval t
+  pub receives-stands : (s t : Side) (bytes : List ℕ) (notes : List Note) → ComesOfMessages first interval s → SideReceives s bytes notes t
+      → ComesOfMessages first interval t
   receives-stands s t bytes notes h (is_idle _ _ step e) = h
   receives-stands s t bytes notes h (waits _ _ e partial) = seen s (record (s.view) { held = s.view.held ++ bytes }) h refl refl refl refl
   receives-stands s t bytes notes h (reads_frame _ next _ _ message rest step more e is short reads on) =
@@ -224,8 +236,10 @@ module _ (first second : View) (i j : ℕ) where
       (writes-stands first i d.initiator next payload _ h.0 written, receives-stands second j d.responder heard bytes more h.1 receives)
   event-stands d e event notes h (says _ Responder payload bytes n more next heard written frame receives) =
       (receives-stands first i d.initiator heard bytes more h.0 receives, writes-stands second j d.responder next payload _ h.1 written)
-  event-stands d e event notes h (delivers _ Initiator n bytes more heard frame receives) = (receives-stands first i d.initiator heard bytes more h.0 receives, h.1)
-  event-stands d e event notes h (delivers _ Responder n bytes more heard frame receives) = (h.0, receives-stands second j d.responder heard bytes more h.1 receives)
+  event-stands d e event notes h (delivers _ Initiator n bytes more heard frame receives) =
+      (receives-stands first i d.initiator heard bytes more h.0 receives, h.1)
+  event-stands d e event notes h (delivers _ Responder n bytes more heard frame receives) =
+      (h.0, receives-stands second j d.responder heard bytes more h.1 receives)
   event-stands d e event notes h (misses _ role n missing) = h
   event-stands d e event notes h (injects _ Initiator bytes more heard receives) = (receives-stands first i d.initiator heard bytes more h.0 receives, h.1)
   event-stands d e event notes h (injects _ Responder bytes more heard receives) = (h.0, receives-stands second j d.responder heard bytes more h.1 receives)

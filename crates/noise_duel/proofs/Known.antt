@@ -13,7 +13,8 @@ use Rattle.noise_duel.specs.Below.{LawsBelow}
 use Rattle.noise_duel.specs.Messages.{HandshakeMessage, Exchanged, Start, begun_as}
 use Rattle.noise_duel.specs.Messages.Exchanged.{none, wrote, took}
 use Rattle.noise_duel.specs.Agreement.{Knows, KnowEachOther}
-use Rattle.noise_duel.proofs.Agreeing.{UsesAt, Uses, UsesAll, known_after, known_behind_all, writes_now, same-self, same-other, is-own, learns, turns-apart, passes-uses}
+use Rattle.noise_duel.proofs.Agreeing.{UsesAt, Uses, UsesAll, known_after, known_behind_all, writes_now, same-self, same-other, is-own, learns, turns-apart}
+use Rattle.noise_duel.proofs.Agreeing.{passes-uses}
 use Rattle.noise_duel.proofs.KeysTell.{knows-first}
 
 abbrev known_all : Plan → Role → ℕ → Remote → List HandshakeMessage → Remote
@@ -38,7 +39,8 @@ module _ (a b : Start) where
   token-known true ka kb t x f g u w = (f, learns kb a.own t x x g refl (is-own Initiator a.own a.agree ka t x u))
   token-known false ka kb t x f g u w = (learns ka b.own t x x f refl (is-own Responder b.own b.agree kb t x w), g)
 
-  here-known : (mine : Bool) (ka kb : Remote) → Knows ka b.own → Knows kb a.own → Knows (known_behind_all mine ka [] []) b.own × Knows (known_behind_all (not mine) kb [] []) a.own
+  here-known : (mine : Bool) (ka kb : Remote) → Knows ka b.own → Knows kb a.own
+      → Knows (known_behind_all mine ka [] []) b.own × Knows (known_behind_all (not mine) kb [] []) a.own
   here-known true ka kb f g = (f, g)
   here-known false ka kb f g = (f, g)
 
@@ -54,16 +56,22 @@ module _ (a b : Start) where
   front-known false ka kb (t ∷ ts) (x ∷ xs) f g u w =
       let k = token-known false ka kb t x f g u.0 w.0 in front-known false (known_after false ka t x) (known_after true kb t x) ts xs k.0 k.1 u.1 w.1
 
-  all-known : (p : Plan) (n : ℕ) (ka kb : Remote) (ps : List HandshakeMessage) → Knows ka b.own → Knows kb a.own → UsesAll p Initiator a.own a.agree n ka ps → UsesAll p Responder b.own b.agree n kb ps
+  all-known : (p : Plan) (n : ℕ) (ka kb : Remote) (ps : List HandshakeMessage) → Knows ka b.own → Knows kb a.own → UsesAll p Initiator a.own a.agree n ka ps
+      → UsesAll p Responder b.own b.agree n kb ps
       → Knows (known_all p Initiator n ka ps) b.own × Knows (known_all p Responder n kb ps) a.own
   all-known p n ka kb [] f g u w = (f, g)
   all-known p n ka kb (m ∷ ms) f g u w =
       let mine : Bool = writes_now Initiator n in
       let apart : writes_now Responder n ≡ not mine = turns-apart (turn_from Initiator n) in
-      let turned = subst (λ (z : Bool). Uses z Responder b.own b.agree kb (tokens_at p.messages n) m.carried × UsesAll p Responder b.own b.agree (n + 1) (known_behind_all z kb (tokens_at p.messages n) m.carried) ms) apart w in
+      let turned = subst (λ (z : Bool). Uses z Responder b.own b.agree kb (tokens_at p.messages n) m.carried
+      × UsesAll p Responder b.own b.agree (n + 1) (known_behind_all z kb (tokens_at p.messages n) m.carried) ms) apart w in
       let k = front-known mine ka kb (tokens_at p.messages n) m.carried f g u.0 turned.0 in
-      let later = all-known p (n + 1) (known_behind_all mine ka (tokens_at p.messages n) m.carried) (known_behind_all (not mine) kb (tokens_at p.messages n) m.carried) ms k.0 k.1 u.1 turned.1 in
-      (later.0, subst (λ (z : Bool). Knows (known_all p Responder (n + 1) (known_behind_all z kb (tokens_at p.messages n) m.carried) ms) a.own) (sym apart) later.1)
+      let later = all-known p (n + 1) (known_behind_all mine ka (tokens_at p.messages n) m.carried)
+      (known_behind_all (not mine) kb (tokens_at p.messages n) m.carried) ms k.0 k.1 u.1 turned.1 in (
+        later.0,
+        subst (λ (z : Bool). Knows (known_all p Responder (n + 1) (known_behind_all z kb (tokens_at p.messages n) m.carried) ms) a.own) (sym apart)
+            later.1,
+      )
 
 pub know-each-other : LawsBelow → KnowEachOther
 know-each-other laws p a b ps v w sa sb left right before =

@@ -31,15 +31,18 @@ use Rattle.noise_duel.proofs.Prefixes.{packet-same}
 -- ---- writing
 
 -- nothing keeps the end from writing
-sends-no-fault : (v next : EndView) (payload : List ℕ) (why : SendFault) → refusal (progress_of v) (length payload) ≡ None → ((k : ℕ) → Lacks v.party k → ⊥) → Sends v payload (Err why) next → ⊥
+sends-no-fault : (v next : EndView) (payload : List ℕ) (why : SendFault) → refusal (progress_of v) (length payload) ≡ None → ((k : ℕ) → Lacks v.party k → ⊥)
+    → Sends v payload (Err why) next → ⊥
 sends-no-fault v next payload why e lacks (refuses _ _ _ f) = cc
 sends-no-fault v next payload why e lacks (lacks_answer _ _ k f l) = lacks k l
 
-pub writes-no-fault : (s next : Side) (payload : List ℕ) (why : SendFault) → refusal (progress_of s.view) (length payload) ≡ None → ((k : ℕ) → Lacks s.view.party k → ⊥)
+pub writes-no-fault : (s next : Side) (payload : List ℕ) (why : SendFault) → refusal (progress_of s.view) (length payload) ≡ None
+    → ((k : ℕ) → Lacks s.view.party k → ⊥)
     → SideWrites s payload (WriteFault why) next → ⊥
 writes-no-fault s next payload why e lacks (writes_nothing _ _ _ after sends) = sends-no-fault s.view after payload why e lacks sends
 
-pub writes-message : LawsBelow → (s next : Side) (payload message : List ℕ) (xs : List (List ℕ)) (k : ℕ) → is_open (progress_of s.view) ≡ false → Writes s.view.party payload xs message
+pub writes-message : LawsBelow → (s next : Side) (payload message : List ℕ) (xs : List (List ℕ)) (k : ℕ) → is_open (progress_of s.view) ≡ false
+    → Writes s.view.party payload xs message
     → SideWrites s payload (Wrote k) next → (next ≡ wrote_handshake s (record { message = message; carried = xs; payload = payload })) × (k ≡ length s.frames)
 writes-message laws s next payload message xs k shut w (writes_handshake _ m _ ys e here) =
     let same = laws.written_once s.view.party payload m message ys xs here w in (
@@ -51,7 +54,8 @@ writes-message laws s next payload message xs k shut w (writes_transport _ m _ e
 
 pub writes-packet : (s next : Side) (payload : List ℕ) (k : ℕ) → IsTrue (is_open (progress_of s.view))
     → SideWrites s payload (Wrote k) next
-    → (next ≡ wrote_transport s (record { message = packet s.view.party.history s.view.party.role s.view.interval s.view.sent payload; payload = payload })) × (k ≡ length s.frames)
+    → (next ≡ wrote_transport s (record { message = packet s.view.party.history s.view.party.role s.view.interval s.view.sent payload; payload = payload }))
+    × (k ≡ length s.frames)
 writes-packet s next payload k open-now (writes_handshake _ m _ ys e here) =
     let bad : ⊥ = omega (arith, here.speaks.more, all-passed s.view open-now) in absurd bad
 writes-packet s next payload k open-now (writes_transport _ m _ e due is) =
@@ -59,15 +63,18 @@ writes-packet s next payload k open-now (writes_transport _ m _ e due is) =
 
 -- ---- hearing
 
-judges-no-fault : LawsBelow → (v next : EndView) (message : List ℕ) (step : Told) → GivesNoPayload step → (xs : List (List ℕ)) (payload : List ℕ) → is_open (progress_of v) ≡ false → Accepts v.party message xs payload → Judges v message step next → ⊥
+judges-no-fault : LawsBelow → (v next : EndView) (message : List ℕ) (step : Told) → GivesNoPayload step → (xs : List (List ℕ)) (payload : List ℕ)
+    → is_open (progress_of v) ≡ false → Accepts v.party message xs payload → Judges v message step next → ⊥
 judges-no-fault laws v next message step bad xs payload shut a (accepted _ _ p ys b) = bad
 judges-no-fault laws v next message step bad xs payload shut a (refused _ _ token cause r) = laws.not_refused v.party message xs payload token cause a r
 judges-no-fault laws v next message step bad xs payload shut a (opened _ _ p due low is) = bad
 judges-no-fault laws v next message step bad xs payload shut a (dropped _ _ due low never) = cc
 judges-no-fault laws v next message step bad xs payload shut a (exhausted _ _ due full) = cc
 
-pub reads-message : LawsBelow → (t : Side) (message payload : List ℕ) (xs : List (List ℕ)) → is_open (progress_of t.view) ≡ false → Accepts t.view.party message xs payload
-    → (step : Told) (next : Side) → SideReads t message step next → (step ≡ Payload payload) × (next ≡ accepted_handshake t (record { message = message; carried = xs; payload = payload }))
+pub reads-message : LawsBelow → (t : Side) (message payload : List ℕ) (xs : List (List ℕ)) → is_open (progress_of t.view) ≡ false
+    → Accepts t.view.party message xs payload
+    → (step : Told) (next : Side) → SideReads t message step next
+    → (step ≡ Payload payload) × (next ≡ accepted_handshake t (record { message = message; carried = xs; payload = payload }))
 reads-message laws t message payload xs shut a step next (accepts_handshake _ _ p ys b) =
     let same = laws.accepted_once t.view.party message ys xs p payload b a in (
       ap Payload same.1,
@@ -75,9 +82,11 @@ reads-message laws t message payload xs shut a step next (accepts_handshake _ _ 
           ∙ ap (λ (z : List ℕ). accepted_handshake t (record { message = message; carried = xs; payload = z })) same.1,
     )
 reads-message laws t message payload xs shut a step next (accepts_transport _ _ p due low is) = cc
-reads-message laws t message payload xs shut a step next (refuses_message _ _ _ after bad j) = absurd (judges-no-fault laws t.view after message step bad xs payload shut a j)
+reads-message laws t message payload xs shut a step next (refuses_message _ _ _ after bad j) =
+    absurd (judges-no-fault laws t.view after message step bad xs payload shut a j)
 
-packets-no-fault : (v next : EndView) (message payload : List ℕ) (step : Told) → GivesNoPayload step → IsTrue (is_open (progress_of v)) → v.received ≢ last_nonce
+packets-no-fault : (v next : EndView) (message payload : List ℕ) (step : Told) → GivesNoPayload step → IsTrue (is_open (progress_of v))
+    → v.received ≢ last_nonce
     → message ≡ packet v.party.history (other v.party.role) v.interval v.received payload → Judges v message step next → ⊥
 packets-no-fault v next message payload step bad due low is (accepted _ _ p ys b) = bad
 packets-no-fault v next message payload step bad due low is (refused _ _ token cause r) = omega (arith, r.listens.more, all-passed v due)
@@ -87,13 +96,15 @@ packets-no-fault v next message payload step bad due low is (exhausted _ _ d ful
 
 pub reads-packet : (t : Side) (message payload : List ℕ) → IsTrue (is_open (progress_of t.view)) → t.view.received ≢ last_nonce
     → message ≡ packet t.view.party.history (other t.view.party.role) t.view.interval t.view.received payload
-    → (step : Told) (next : Side) → SideReads t message step next → (step ≡ Payload payload) × (next ≡ accepted_transport t (record { message = message; payload = payload }))
+    → (step : Told) (next : Side) → SideReads t message step next
+    → (step ≡ Payload payload) × (next ≡ accepted_transport t (record { message = message; payload = payload }))
 reads-packet t message payload due low is step next (accepts_handshake _ _ p ys b) =
     let bad : ⊥ = omega (arith, b.listens.more, all-passed t.view due) in absurd bad
 reads-packet t message payload due low is step next (accepts_transport _ _ p d l i) =
     let same : p ≡ payload = packet-same t.view.party.history (other t.view.party.role) t.view.interval t.view.received p payload (sym i ∙ is) in
     (ap Payload same, ap (λ (z : List ℕ). accepted_transport t (record { message = message; payload = z })) same)
-reads-packet t message payload due low is step next (refuses_message _ _ _ after bad j) = absurd (packets-no-fault t.view after message payload step bad due low is j)
+reads-packet t message payload due low is step next (refuses_message _ _ _ after bad j) =
+    absurd (packets-no-fault t.view after message payload step bad due low is j)
 
 -- nothing more comes
 receives-end : (s : Side) → idle_step (progress_of s.view) ≡ None → IsPartial s.view.held → SideReceives s [] [] s
@@ -102,21 +113,27 @@ receives-end s due partial =
     (waits s [] due (subst (λ (held : List ℕ). IsPartial held) (sym (append-nil s.view.held)) partial))
 
 -- no bytes come to an end that holds none
-receives-nothing : (t last : Side) (bytes : List ℕ) (notes : List Note) → bytes ≡ [] → t.view.held ≡ [] → SideReceives t bytes notes last → (notes ≡ []) × (last ≡ t)
+receives-nothing : (t last : Side) (bytes : List ℕ) (notes : List Note) → bytes ≡ [] → t.view.held ≡ [] → SideReceives t bytes notes last
+    → (notes ≡ []) × (last ≡ t)
 receives-nothing t last bytes notes none empty (is_idle _ _ step e) = (ap (λ (b : List ℕ). left_note step (length b)) none, refl)
-receives-nothing t last bytes notes none empty (waits _ _ e partial) =
-    (refl, ap (λ (b : List ℕ). with_view t (record (t.view) { held = t.view.held ++ b })) none ∙ ap (λ (h : List ℕ). with_view t (record (t.view) { held = h })) (append-nil t.view.held))
+receives-nothing t last bytes notes none empty (waits _ _ e partial) = (
+  refl,
+  ap (λ (b : List ℕ). with_view t (record (t.view) { held = t.view.held ++ b })) none
+      ∙ ap (λ (h : List ℕ). with_view t (record (t.view) { held = h })) (append-nil t.view.held),
+)
 receives-nothing t last bytes notes none empty (reads_frame _ next _ _ message rest step more e is small reads on) =
     let partial : IsPartial [] = omega arith in
     absurd (frame-whole message rest small (subst (λ (b : List ℕ). IsPartial b) (sym none ∙ ap (λ (h : List ℕ). h ++ bytes) (sym empty) ∙ is) partial))
 
 -- one frame comes to an end that holds none, and whose message can be read in one way
-pub receives-one : (t after last : Side) (message payload : List ℕ) (notes : List Note) → idle_step (progress_of t.view) ≡ None → t.view.held ≡ [] → after.view.held ≡ [] → length message ≤ 65535
+pub receives-one : (t after last : Side) (message payload : List ℕ) (notes : List Note) → idle_step (progress_of t.view) ≡ None → t.view.held ≡ []
+    → after.view.held ≡ [] → length message ≤ 65535
     → ((step : Told) (next : Side) → SideReads t message step next → (step ≡ Payload payload) × (next ≡ after))
     → SideReceives t (frame message) notes last → (notes ≡ Judged (Payload payload) ∷ []) × (last ≡ after)
 receives-one t after last message payload notes idle empty bare short one (is_idle _ _ step e) = cc
 receives-one t after last message payload notes idle empty bare short one (waits _ _ e partial) =
-    absurd (frame-whole message [] short (subst (λ (b : List ℕ). IsPartial b) (ap (λ (h : List ℕ). h ++ frame message) empty ∙ sym (append-nil (frame message))) partial))
+    absurd (frame-whole message [] short
+    (subst (λ (b : List ℕ). IsPartial b) (ap (λ (h : List ℕ). h ++ frame message) empty ∙ sym (append-nil (frame message))) partial))
 receives-one t after last message payload notes idle empty bare short one (reads_frame _ next _ _ m rest step more e is small reads on) =
     let same = frame-same message m [] rest short small (append-nil (frame message) ∙ ap (λ (h : List ℕ). h ++ frame message) (sym empty) ∙ is) in
     let found = one step next (subst (λ (z : List ℕ). SideReads t z step next) (sym same.0) reads) in
@@ -139,14 +156,17 @@ pub say-happens : (d e : Sides) (role : Role) (payload message : List ℕ) (note
     → ((ns : List Note) (last : Side) → SideReceives (side d (other role)) (frame message) ns last → (ns ≡ Judged (Payload payload) ∷ []) × (last ≡ heard))
     → heard.view.held ≡ []
     → Happens d (Say role payload) notes e
-    → (notes ≡ (role, Wrote (length (side d role).frames)) ∷ (other role, Judged (Payload payload)) ∷ []) × (e ≡ with_side (with_side d role after) (other role) heard)
+    → (notes ≡ (role, Wrote (length (side d role).frames)) ∷ (other role, Judged (Payload payload)) ∷ [])
+    × (e ≡ with_side (with_side d role after) (other role) heard)
 say-happens d e role payload message notes after heard lacks put frames hear bare (says_nothing _ _ _ why next written) = absurd (lacks why next written)
 say-happens d e role payload message notes after heard lacks put frames hear bare (says _ _ _ bytes n ns next last written got receives) =
     let one = put n next written in
     let is : bytes ≡ frame message =
-    get-last (side d role).frames (frame message) bytes n one.1 (ap (λ (fs : List (List ℕ)). slice_get fs n) (sym frames ∙ ap (λ (s : Side). s.frames) (sym one.0)) ∙ got) in
+    get-last (side d role).frames (frame message) bytes n one.1
+    (ap (λ (fs : List (List ℕ)). slice_get fs n) (sym frames ∙ ap (λ (s : Side). s.frames) (sym one.0)) ∙ got) in
     let two = hear ns last (subst (λ (b : List ℕ). SideReceives (side d (other role)) b ns last) is receives) in
-    let quiet : held_note (length last.view.held) ≡ [] = ap (λ (s : Side). held_note (length s.view.held)) two.1 ∙ ap (λ (h : List ℕ). held_note (length h)) bare in (
+    let quiet : held_note (length last.view.held) ≡ [] =
+    ap (λ (s : Side). held_note (length s.view.held)) two.1 ∙ ap (λ (h : List ℕ). held_note (length h)) bare in (
       ap (λ (k : ℕ). (role, Wrote k) ∷ noted_by (other role) (ns ++ held_note (length last.view.held))) one.1
           ∙ ap (λ (ms : List Note). (role, Wrote (length (side d role).frames)) ∷ noted_by (other role) (ns ++ ms)) quiet
           ∙ ap (λ (ms : List Note). (role, Wrote (length (side d role).frames)) ∷ noted_by (other role) (ms ++ [])) two.0,
@@ -163,18 +183,23 @@ rests s bare = go (idle_step (progress_of s.view)) refl
     go None e =
         let partial : IsPartial [] = omega arith in receives-end s e (subst (λ (b : List ℕ). IsPartial b) (sym bare) partial)
 
-pub receives-can : (t after : Side) (message payload : List ℕ) → idle_step (progress_of t.view) ≡ None → t.view.held ≡ [] → after.view.held ≡ [] → length message ≤ 65535
+pub receives-can : (t after : Side) (message payload : List ℕ) → idle_step (progress_of t.view) ≡ None → t.view.held ≡ [] → after.view.held ≡ []
+    → length message ≤ 65535
     → SideReads t message (Payload payload) after → SideReceives t (frame message) (Judged (Payload payload) ∷ []) after
 receives-can t after message payload idle empty bare short reads =
-    reads_frame t after after (frame message) message [] (Payload payload) [] idle (ap (λ (h : List ℕ). h ++ frame message) empty ∙ sym (append-nil (frame message))) short reads (rests after bare)
+    reads_frame t after after (frame message) message [] (Payload payload) [] idle
+    (ap (λ (h : List ℕ). h ++ frame message) empty ∙ sym (append-nil (frame message))) short reads (rests after bare)
 
 last-there : (fs : List (List ℕ)) (f : List ℕ) → slice_get (fs ++ f ∷ []) (length fs) ≡ Some f
 last-there [] f = refl
 last-there (x ∷ fs) f = last-there fs f
 
-pub say-can : (d : Sides) (role : Role) (payload message : List ℕ) (after heard : Side) → SideWrites (side d role) payload (Wrote (length (side d role).frames)) after
+pub say-can : (d : Sides) (role : Role) (payload message : List ℕ) (after heard : Side)
+    → SideWrites (side d role) payload (Wrote (length (side d role).frames)) after
     → after.frames ≡ (side d role).frames ++ frame message ∷ [] → SideReceives (side d (other role)) (frame message) (Judged (Payload payload) ∷ []) heard
-    → Happens d (Say role payload) ((role, Wrote (length (side d role).frames)) ∷ noted_by (other role) ((Judged (Payload payload) ∷ []) ++ held_note (length heard.view.held))) (with_side (with_side d role after) (other role) heard)
+    → Happens d (Say role payload)
+    ((role, Wrote (length (side d role).frames)) ∷ noted_by (other role) ((Judged (Payload payload) ∷ []) ++ held_note (length heard.view.held)))
+    (with_side (with_side d role after) (other role) heard)
 say-can d role payload message after heard written frames receives =
     says d role payload (frame message) (length (side d role).frames) (Judged (Payload payload) ∷ []) after heard written
     (ap (λ (fs : List (List ℕ)). slice_get fs (length (side d role).frames)) frames ∙ last-there (side d role).frames (frame message)) receives

@@ -16,7 +16,8 @@ use Rattle.noise_duel.specs.Runs.{Run}
 use Rattle.noise_duel.specs.Conversation.{facing}
 use Rattle.noise_duel.specs.Invariant.{ComesOfMessages, ArePackets}
 use Rattle.noise_duel.specs.Agreement.{VisiblyEqual}
-use Rattle.noise_duel.specs.Networks.{HaveOneHash, HistoriesCollide, ShareSecrets, HaveOneHistory, PayloadsAgree, HashesTell, SecretsMakeOne, PayloadsCome, VisiblyEqualGivesOne}
+use Rattle.noise_duel.specs.Networks.{HaveOneHash, HistoriesCollide, ShareSecrets, HaveOneHistory, PayloadsAgree, HashesTell, SecretsMakeOne, PayloadsCome}
+use Rattle.noise_duel.specs.Networks.{VisiblyEqualGivesOne}
 use Rattle.noise_session.specs.Ends.{EndView, session_hash}
 use Rattle.std.specs.Prelude.{Bool, true, false, Some, None, ◌==◌, if◌then◌else◌}
 use Rattle.std.proofs.lemmas.Bool.Decides.{nat_tests}
@@ -53,7 +54,8 @@ opened-is v h e = go (v.party.passed == length v.party.pattern.messages) refl e
     go true f g = record { all = grind (arith, nat_tests); is = some-same (hash v.party.history) h g }
     go false f g = cc
 
-module _ (laws : LawsBelow) (p : Plan) (a b : Start) (i j : ℕ) (events : List Event) (notes : List (Role × Note)) (d : Sides) (run : Run (facing p a b i j) events notes d) (meet : HaveOneHash d) where
+module _ (laws : LawsBelow) (p : Plan) (a b : Start) (i j : ℕ) (events : List Event) (notes : List (Role × Note)) (d : Sides)
+    (run : Run (facing p a b i j) events notes d) (meet : HaveOneHash d) where
   left : ComesOfMessages (begun_as p Initiator a) i d.initiator
   left = (ends-stand p a b i j events notes d run).0
 
@@ -70,29 +72,42 @@ module _ (laws : LawsBelow) (p : Plan) (a b : Start) (i j : ℕ) (events : List 
   same-count =
       sym (ap (λ (v : View). v.passed) left.party) ∙ (opened-is d.initiator.view meet.hash meet.initiator).all
       ∙ ap (λ (v : View). length v.pattern.messages) left.party
-      ∙ ap (λ (q : Plan). length q.messages) (passes-pattern (begun_as p Initiator a) left.last d.initiator.passed left.passes ∙ sym (passes-pattern (begun_as p Responder b) right.last d.responder.passed right.passes))
-      ∙ sym ((opened-is d.responder.view meet.hash meet.responder).all ∙ ap (λ (v : View). length v.pattern.messages) right.party) ∙ ap (λ (v : View). v.passed) right.party
+      ∙ ap (λ (q : Plan). length q.messages)
+      (passes-pattern (begun_as p Initiator a) left.last d.initiator.passed left.passes
+      ∙ sym (passes-pattern (begun_as p Responder b) right.last d.responder.passed right.passes))
+      ∙ sym ((opened-is d.responder.view meet.hash meet.responder).all ∙ ap (λ (v : View). length v.pattern.messages) right.party)
+      ∙ ap (λ (v : View). v.passed) right.party
 
   same-hash : hash left.last.history ≡ hash right.last.history
-  same-hash = sym (ap hash left-history) ∙ (opened-is d.initiator.view meet.hash meet.initiator).is ∙ sym (opened-is d.responder.view meet.hash meet.responder).is ∙ ap hash right-history
+  same-hash = sym (ap hash left-history) ∙ (opened-is d.initiator.view meet.hash meet.initiator).is
+      ∙ sym (opened-is d.responder.view meet.hash meet.responder).is ∙ ap hash right-history
 
   collision : (k : ℕ) → Collision left.last.history right.last.history k → HistoriesCollide d
-  collision k c =
-      (k, subst (λ (r : History). Collision r d.responder.view.party.history k) (sym left-history) (subst (λ (s : History). Collision left.last.history s k) (sym right-history) c))
+  collision k c = (
+    k,
+    subst (λ (r : History). Collision r d.responder.view.party.history k) (sym left-history)
+        (subst (λ (s : History). Collision left.last.history s k) (sym right-history) c),
+  )
 
   pub hashes : VisiblyEqual p a b d.initiator.passed d.responder.passed ⊎ HistoriesCollide d
-  hashes = elim (hash-tells p a b d.initiator.passed d.responder.passed left.last right.last left.passes right.passes same-count same-hash) [ inl h ↦ inl h | inr c ↦ inr (collision c.0 c.1) ]
+  hashes = elim (hash-tells p a b d.initiator.passed d.responder.passed left.last right.last left.passes right.passes same-count same-hash)
+      [ inl h ↦ inl h | inr c ↦ inr (collision c.0 c.1) ]
 
-  ones : ((d.initiator.passed ≡ d.responder.passed) × (left.last.history ≡ right.last.history)) ⊎ ((k : ℕ) × Collision left.last.history right.last.history k) → HaveOneHistory d ⊎ HistoriesCollide d
+  ones : ((d.initiator.passed ≡ d.responder.passed) × (left.last.history ≡ right.last.history)) ⊎ ((k : ℕ) × Collision left.last.history right.last.history k)
+      → HaveOneHistory d ⊎ HistoriesCollide d
   ones (inl h) = inl (record { passed = h.0; history = left-history ∙ h.1 ∙ sym right-history })
   ones (inr c) = inr (collision c.0 c.1)
 
   pub makes-one : ShareSecrets p a b d → HaveOneHistory d ⊎ HistoriesCollide d
-  makes-one (inl s) = ones (secrets-tell p a b d.initiator.passed d.responder.passed left.last right.last left.passes right.passes same-count same-hash s.psks s.answers)
-  makes-one (inr s) = ones (keys-tell laws p a b d.initiator.passed d.responder.passed left.last right.last s.initiator s.responder left.passes right.passes same-count same-hash s.psks s.keys)
+  makes-one (inl s) = ones
+      (secrets-tell p a b d.initiator.passed d.responder.passed left.last right.last left.passes right.passes same-count same-hash s.psks s.answers)
+  makes-one (inr s) = ones
+      (keys-tell laws p a b d.initiator.passed d.responder.passed left.last right.last s.initiator s.responder left.passes right.passes same-count same-hash
+      s.psks s.keys)
 
   -- an end's packets, by its own history and role
-  packets : (last : View) (r : History) (writer role : Role) (k : ℕ) (ps : List TransportMessage) → last.history ≡ r → role ≡ writer → ArePackets last.history role k 0 ps → ArePackets r writer k 0 ps
+  packets : (last : View) (r : History) (writer role : Role) (k : ℕ) (ps : List TransportMessage) → last.history ≡ r → role ≡ writer
+      → ArePackets last.history role k 0 ps → ArePackets r writer k 0 ps
   packets last r writer role k ps e f h =
       subst (λ (w : Role). ArePackets r w k 0 ps) f (subst (λ (s : History). ArePackets s role k 0 ps) e h)
 
@@ -121,12 +136,14 @@ secrets-make-one = makes-one
 
 pub payloads-come : LawsBelow → PayloadsCome
 payloads-come laws p a b interval events notes d run meet share =
-    elim (makes-one laws p a b interval interval events notes d run meet share) [ inl one ↦ inl (payloads-agree laws p a b interval interval events notes d run meet refl one) | inr c ↦ inr c ]
+    elim (makes-one laws p a b interval interval events notes d run meet share)
+    [ inl one ↦ inl (payloads-agree laws p a b interval interval events notes d run meet refl one) | inr c ↦ inr c ]
 
 pub visibly-equal-gives-one : LawsBelow → VisiblyEqualGivesOne
 visibly-equal-gives-one laws p a b i j events notes d run prologue before messages used =
     let stand = ends-stand p a b i j events notes d run in
     let l = stand.0 in
     let r = stand.1 in
-    let one = visibly-equal-is-one laws p a b d.initiator.passed d.responder.passed l.last r.last l.passes r.passes prologue before messages used.psks used.answers in
+    let one = visibly-equal-is-one laws p a b d.initiator.passed d.responder.passed l.last r.last l.passes r.passes prologue before messages used.psks
+    used.answers in
     record { passed = one.0; history = ap (λ (v : View). v.history) l.party ∙ one.1 ∙ sym (ap (λ (v : View). v.history) r.party) }

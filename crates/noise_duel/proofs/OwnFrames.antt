@@ -36,7 +36,8 @@ same-other Initiator = refl
 same-other Responder = refl
 
 -- one message more
-own-more : (role : Role) (n : ℕ) (ps : List HandshakeMessage) (p : HandshakeMessage) → own_messages role n (ps ++ p ∷ []) ≡ own_messages role n ps ++ (if same_role (turn_from Initiator (n + length ps)) role then p.message ∷ [] else [])
+own-more : (role : Role) (n : ℕ) (ps : List HandshakeMessage) (p : HandshakeMessage)
+    → own_messages role n (ps ++ p ∷ []) ≡ own_messages role n ps ++ (if same_role (turn_from Initiator (n + length ps)) role then p.message ∷ [] else [])
 own-more role n [] p =
     let same : n ≡ n + length {A = HandshakeMessage} [] = omega arith in
     append-nil (if same_role (turn_from Initiator n) role then p.message ∷ [] else [])
@@ -64,7 +65,8 @@ module _ (s : Side) (k : Kept s) where
   abbrev packets : List (List ℕ)
   packets = map (λ (m : TransportMessage). m.message) s.sent
 
-  due-more : (p : HandshakeMessage) (r : Role) → turn_from Initiator s.view.party.passed ≡ r → own_messages role 0 (s.passed ++ p ∷ []) ≡ mine ++ (if same_role r role then p.message ∷ [] else [])
+  due-more : (p : HandshakeMessage) (r : Role) → turn_from Initiator s.view.party.passed ≡ r
+      → own_messages role 0 (s.passed ++ p ∷ []) ≡ mine ++ (if same_role r role then p.message ∷ [] else [])
   due-more p r turn =
       let at : 0 + length s.passed ≡ s.view.party.passed = omega (arith, k.count) in
       own-more role 0 s.passed p ∙ ap (λ (q : Role). mine ++ (if same_role q role then p.message ∷ [] else [])) (ap (turn_from Initiator) at ∙ turn)
@@ -72,7 +74,8 @@ module _ (s : Side) (k : Kept s) where
   counted : (p : HandshakeMessage) → length (s.passed ++ p ∷ []) ≡ s.view.party.passed + 1
   counted p = omega (arith, length-append s.passed (p ∷ []), k.count)
 
-  wrote-kept : (p : HandshakeMessage) → turn_from Initiator s.view.party.passed ≡ role → s.view.party.passed < length s.view.party.pattern.messages → Kept (wrote_handshake s p)
+  wrote-kept : (p : HandshakeMessage) → turn_from Initiator s.view.party.passed ≡ role → s.view.party.passed < length s.view.party.pattern.messages
+      → Kept (wrote_handshake s p)
   wrote-kept p turn more =
       let none : s.sent ≡ [] = k.unsent more in
       let before : s.frames ≡ map frame mine =
@@ -83,12 +86,14 @@ module _ (s : Side) (k : Kept s) where
         own =
             ap (λ (fs : List (List ℕ)). fs ++ frame p.message ∷ []) before ∙ sym (map-append frame mine (p.message ∷ [])) ∙ ap (map frame) (sym more_own)
             ∙ sym (ap (map frame) (append-nil (own_messages role 0 (s.passed ++ p ∷ []))))
-            ∙ sym (ap (λ (ms : List TransportMessage). map frame (own_messages role 0 (s.passed ++ p ∷ []) ++ map (λ (m : TransportMessage). m.message) ms)) none);
+            ∙ sym (ap (λ (ms : List TransportMessage). map frame (own_messages role 0 (s.passed ++ p ∷ []) ++ map (λ (m : TransportMessage). m.message) ms))
+            none);
         count = counted p;
         unsent = λ h. none;
       }
 
-  took-kept : (p : HandshakeMessage) → turn_from Initiator s.view.party.passed ≡ other role → s.view.party.passed < length s.view.party.pattern.messages → (xs : List (List ℕ)) → Kept (accepted_handshake s p)
+  took-kept : (p : HandshakeMessage) → turn_from Initiator s.view.party.passed ≡ other role → s.view.party.passed < length s.view.party.pattern.messages
+      → (xs : List (List ℕ)) → Kept (accepted_handshake s p)
   took-kept p turn more xs =
       let same : own_messages role 0 (s.passed ++ p ∷ []) ≡ mine =
       due-more p (other role) turn ∙ ap (λ (b : Bool). mine ++ (if b then p.message ∷ [] else [])) (same-other role) ∙ append-nil mine in
@@ -102,7 +107,8 @@ module _ (s : Side) (k : Kept s) where
   sent-kept m all = record {
     own =
         ap (λ (fs : List (List ℕ)). fs ++ frame m.message ∷ []) k.own ∙ sym (map-append frame (mine ++ packets) (m.message ∷ []))
-        ∙ ap (map frame) (append_assoc mine packets (m.message ∷ []) ∙ ap (λ (ms : List (List ℕ)). mine ++ ms) (sym (map-append (λ (z : TransportMessage). z.message) s.sent (m ∷ []))));
+        ∙ ap (map frame) (append_assoc mine packets (m.message ∷ [])
+        ∙ ap (λ (ms : List (List ℕ)). mine ++ ms) (sym (map-append (λ (z : TransportMessage). z.message) s.sent (m ∷ []))));
     count = k.count;
     unsent = λ h. absurd (omega (arith, h, all));
   }
@@ -120,11 +126,13 @@ module _ (s : Side) (k : Kept s) where
       go : (why : SendFault) (next : EndView) → Sends s.view payload (Err why) next → Kept (with_view s next)
       go why next (refuses _ _ _ e) = refusal-kept why
       go why next (lacks_answer _ _ token e lacks) = record { own = k.own; count = k.count; unsent = k.unsent }
-  writes-kept payload t note (writes_handshake _ message _ xs e w) = wrote-kept (record { message = message; carried = xs; payload = payload }) w.speaks.turn w.speaks.more
+  writes-kept payload t note (writes_handshake _ message _ xs e w) =
+      wrote-kept (record { message = message; carried = xs; payload = payload }) w.speaks.turn w.speaks.more
   writes-kept payload t note (writes_transport _ message _ e due is) = sent-kept (record { message = message; payload = payload }) (all-passed s.view due)
 
   reads-kept : (message : List ℕ) (t : Side) (step : Told) → SideReads s message step t → Kept t
-  reads-kept message t step (accepts_handshake _ _ payload xs a) = took-kept (record { message = message; carried = xs; payload = payload }) a.listens.turn a.listens.more xs
+  reads-kept message t step (accepts_handshake _ _ payload xs a) =
+      took-kept (record { message = message; carried = xs; payload = payload }) a.listens.turn a.listens.more xs
   reads-kept message t step (accepts_transport _ _ payload due low is) = record { own = k.own; count = k.count; unsent = k.unsent }
   reads-kept message t step (refuses_message _ _ _ next bad judges) = go step next bad judges
     where
@@ -138,7 +146,8 @@ module _ (s : Side) (k : Kept s) where
 receives-kept : (s t : Side) (bytes : List ℕ) (notes : List Note) → Kept s → SideReceives s bytes notes t → Kept t
 receives-kept s t bytes notes k (is_idle _ _ step e) = k
 receives-kept s t bytes notes k (waits _ _ e partial) = record { own = k.own; count = k.count; unsent = k.unsent }
-receives-kept s t bytes notes k (reads_frame _ next _ _ message rest step more e is short reads on) = receives-kept next t rest more (reads-kept s k message next step reads) on
+receives-kept s t bytes notes k (reads_frame _ next _ _ message rest step more e is short reads on) =
+    receives-kept next t rest more (reads-kept s k message next step reads) on
 
 abbrev BothKept : Sides → Type 0
 BothKept d = Kept d.initiator × Kept d.responder
@@ -164,5 +173,6 @@ run-kept d e events notes h (begins _ next _ event later now more does run) = ru
 
 pub ends-frame : EndsFrame
 ends-frame p a b i j events notes d run =
-    let new : BothKept (facing p a b i j) = (record { own = refl; count = refl; unsent = λ h. refl }, record { own = refl; count = refl; unsent = λ h. refl }) in
+    let new : BothKept (facing p a b i j) =
+    (record { own = refl; count = refl; unsent = λ h. refl }, record { own = refl; count = refl; unsent = λ h. refl }) in
     let k = run-kept (facing p a b i j) d events notes new run in (k.0.own, k.1.own)

@@ -60,14 +60,16 @@ module _ (r : History) (writer : Role) (interval : ℕ) where
         record {
           forged = a;
           came = refl;
-          unwritten = λ m e same. differ (packet-same r writer interval n w.payload a.payload (sym f.0 ∙ ap (λ (z : TransportMessage). z.message) (first-of w m e) ∙ same ∙ g.0));
+          unwritten = λ m e same. differ
+              (packet-same r writer interval n w.payload a.payload (sym f.0 ∙ ap (λ (z : TransportMessage). z.message) (first-of w m e) ∙ same ∙ g.0));
           packet_at = subst (λ (k : ℕ). a.message ≡ packet r writer interval k a.payload) (omega arith) g.0;
         },
       )
       go (inl same) (inl rest) = inl (rest.0, cons-same w.payload a.payload (contents ws) (contents more ++ rest.0) same rest.1)
       go (inl same) (inr c) = inr (suc c.0, cons-same a.payload w.payload (take c.0 (contents more)) (take c.0 (contents ws)) (sym same) c.1, shift c.0 c.2)
 
-  pub prefix-or-forged : (written accepted : List TransportMessage) → ArePackets r writer interval 0 written → ArePackets r writer interval 0 accepted → PrefixOrForged r writer interval written accepted
+  pub prefix-or-forged : (written accepted : List TransportMessage) → ArePackets r writer interval 0 written → ArePackets r writer interval 0 accepted
+      → PrefixOrForged r writer interval written accepted
   prefix-or-forged written accepted f g = elim (prefixes-from 0 written accepted f g) [
     | inl rest ↦ inl rest
     | inr c ↦ inr (

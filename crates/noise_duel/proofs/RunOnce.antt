@@ -48,11 +48,15 @@ module _ (laws : LawsBelow) where
   -- a message is judged in one way
   judged-once : (v x y : EndView) (m : List ℕ) (s t : Told) → Judges v m s x → Judges v m t y → (s ≡ t) × (x ≡ y)
   judged-once v x y m s t (accepted _ _ p xs a) (accepted _ _ q ys b) =
-      let one = laws.accepted_once v.party m xs ys p q a b in
-      (ap Payload one.1, ap (λ (zs : List (List ℕ)). record v { party = behind_message v.party zs p; held = [] }) one.0 ∙ ap (λ (r : List ℕ). record v { party = behind_message v.party ys r; held = [] }) one.1)
+      let one = laws.accepted_once v.party m xs ys p q a b in (
+        ap Payload one.1,
+        ap (λ (zs : List (List ℕ)). record v { party = behind_message v.party zs p; held = [] }) one.0
+            ∙ ap (λ (r : List ℕ). record v { party = behind_message v.party ys r; held = [] }) one.1,
+      )
   judged-once v x y m s t (accepted _ _ p xs a) (refused _ _ k c b) = absurd (laws.not_refused v.party m xs p k c a b)
   judged-once v x y m s t (accepted _ _ p xs a) (opened _ _ q opens low is) = let more = a.listens.more in let all = all-passed v opens in absurd (omega arith)
-  judged-once v x y m s t (accepted _ _ p xs a) (dropped _ _ opens low never) = let more = a.listens.more in let all = all-passed v opens in absurd (omega arith)
+  judged-once v x y m s t (accepted _ _ p xs a) (dropped _ _ opens low never) = let more = a.listens.more in let all =
+      all-passed v opens in absurd (omega arith)
   judged-once v x y m s t (accepted _ _ p xs a) (exhausted _ _ opens last) = let more = a.listens.more in let all = all-passed v opens in absurd (omega arith)
   judged-once v x y m s t (refused _ _ k c a) (accepted _ _ p xs b) = absurd (laws.not_refused v.party m xs p k c b a)
   judged-once v x y m s t (refused _ _ k c a) (refused _ _ j d b) =
@@ -67,7 +71,8 @@ module _ (laws : LawsBelow) where
       (ap Payload (packet-same v.party.history (other v.party.role) v.interval v.received p q (sym is ∙ be)), refl)
   judged-once v x y m s t (opened _ _ p opens low is) (dropped _ _ other_opens other_low never) = absurd (never p is)
   judged-once v x y m s t (opened _ _ p opens low is) (exhausted _ _ other_opens last) = absurd (low last)
-  judged-once v x y m s t (dropped _ _ opens low never) (accepted _ _ q xs a) = let more = a.listens.more in let all = all-passed v opens in absurd (omega arith)
+  judged-once v x y m s t (dropped _ _ opens low never) (accepted _ _ q xs a) = let more = a.listens.more in let all =
+      all-passed v opens in absurd (omega arith)
   judged-once v x y m s t (dropped _ _ opens low never) (refused _ _ k c a) = let more = a.listens.more in let all = all-passed v opens in absurd (omega arith)
   judged-once v x y m s t (dropped _ _ opens low never) (opened _ _ q other_opens other_low is) = absurd (never q is)
   judged-once v x y m s t (dropped _ _ opens low never) (dropped _ _ other_opens other_low other_never) = (refl, refl)
@@ -145,7 +150,8 @@ module _ (laws : LawsBelow) where
   receives-once s x y bytes ms ns (reads_frame _ _ _ _ m rest _ more e is short reads on) (is_idle _ _ step f) = absurd (some-none _ step f e)
   receives-once s x y bytes ms ns (reads_frame _ _ _ _ m rest _ more e is short reads on) (waits _ _ f partial) =
       absurd (frame-whole m rest short (subst (λ (z : List ℕ). IsPartial z) is partial))
-  receives-once s x y bytes ms ns (reads_frame _ next _ _ m rest step more e is short reads on) (reads_frame _ after _ _ n left told rest_notes f be small judges later) =
+  receives-once s x y bytes ms ns (reads_frame _ next _ _ m rest step more e is short reads on)
+      (reads_frame _ after _ _ n left told rest_notes f be small judges later) =
       let same = frame-same m n rest left short small (sym is ∙ be) in
       let one = reads-once s next after m step told reads (subst (λ (z : List ℕ). SideReads s z told after) (sym same.0) judges) in
       let on_from : SideReceives next rest rest_notes y =

@@ -35,7 +35,8 @@ if-same : (b : Bool) (o q : Option (List ℕ)) → (b ≡ true → o ≡ q) → 
 if-same true o q f = f refl
 if-same false o q f = refl
 
-set-own : LawsBelow → (p : Plan) (role : Role) (s : Start) → IsSetUp p role s → (x : Own) → stands role (token_of x) (places_of p) ≡ true → is_some (s.own x) ≡ true
+set-own : LawsBelow → (p : Plan) (role : Role) (s : Start) → IsSetUp p role s → (x : Own) → stands role (token_of x) (places_of p) ≡ true
+    → is_some (s.own x) ≡ true
 set-own laws p role s h x k = laws.set_own p role s.own s.remote (length s.secrets) h x k
 
 answers-same : (agree their_agree : Own → List ℕ → Option (List ℕ)) (x y : Own) (mine theirs : Option (List ℕ))
@@ -48,7 +49,8 @@ answers-same agree their_agree x y (Some k) (Some l) f g h = f k l refl refl
 abbrev true-key : (s : Start) → Own → List ℕ
 true-key s x = unwrap_or (s.own x) zeros
 
-module _ (laws : LawsBelow) (p : Plan) (prologue : List ℕ) (a b : Start) (valid : IsValid p) (alike : AreSetUpAlike p prologue a b) (answers : HasAnswers p a b) where
+module _ (laws : LawsBelow) (p : Plan) (prologue : List ℕ) (a b : Start) (valid : IsValid p) (alike : AreSetUpAlike p prologue a b)
+    (answers : HasAnswers p a b) where
   abbrev answer-at : Token → Option (List ℕ)
   answer-at t = answered a.agree (own_at Initiator t) (remote_at Initiator (public_keys b.own) t)
 
@@ -75,24 +77,30 @@ module _ (laws : LawsBelow) (p : Plan) (prologue : List ℕ) (a b : Start) (vali
       (set-own laws p Responder b alike.responder y (laws.dh_stands p Responder t valid d h))
       ∙ ap (answered b.agree y) (sym (remote-own Responder a.own t))
 
-  answers-a : (t : Token) → is_dh t ≡ true → occurs t (places_of p) ≡ true → answered a.agree (own_at Initiator t) (remote_at Initiator (public_keys_in material Responder) t) ≡ Some (unwrap_or (answer-at t) [])
+  answers-a : (t : Token) → is_dh t ≡ true → occurs t (places_of p) ≡ true
+      → answered a.agree (own_at Initiator t) (remote_at Initiator (public_keys_in material Responder) t) ≡ Some (unwrap_or (answer-at t) [])
   answers-a t d h =
       ap (answered a.agree (own_at Initiator t))
-      (remote-own Initiator (λ x. Some (true-key b x)) t ∙ sym (own-b (own_at Responder t) (laws.dh_stands p Responder t valid d h)) ∙ sym (remote-own Initiator b.own t))
+      (remote-own Initiator (λ x. Some (true-key b x)) t ∙ sym (own-b (own_at Responder t) (laws.dh_stands p Responder t valid d h))
+      ∙ sym (remote-own Initiator b.own t))
       ∙ there-is (answer-at t) [] (answers t d h)
 
-  answers-b : (t : Token) → is_dh t ≡ true → occurs t (places_of p) ≡ true → answered b.agree (own_at Responder t) (remote_at Responder (public_keys_in material Initiator) t) ≡ Some (unwrap_or (answer-at t) [])
+  answers-b : (t : Token) → is_dh t ≡ true → occurs t (places_of p) ≡ true
+      → answered b.agree (own_at Responder t) (remote_at Responder (public_keys_in material Initiator) t) ≡ Some (unwrap_or (answer-at t) [])
   answers-b t d h =
       ap (answered b.agree (own_at Responder t))
-      (remote-own Responder (λ x. Some (true-key a x)) t ∙ sym (own-a (own_at Initiator t) (laws.dh_stands p Initiator t valid d h)) ∙ sym (remote-own Responder a.own t))
+      (remote-own Responder (λ x. Some (true-key a x)) t ∙ sym (own-a (own_at Initiator t) (laws.dh_stands p Initiator t valid d h))
+      ∙ sym (remote-own Responder a.own t))
       ∙ sym (meets t d h) ∙ there-is (answer-at t) [] (answers t d h)
 
   part-a : IsPart material p Initiator prologue a
   part-a = record {
     prologue_is = alike.prologue_is;
     own = own-a;
-    remote_e = ap (λ (r : Remote). r.e) alike.known ∙ if-same (has_before p Responder E) (b.own Ephemeral) (Some (true-key b Ephemeral)) (λ h. own-b Ephemeral (laws.before_stands p Responder E h));
-    remote_s = ap (λ (r : Remote). r.s) alike.known ∙ if-same (has_before p Responder S) (b.own Static) (Some (true-key b Static)) (λ h. own-b Static (laws.before_stands p Responder S h));
+    remote_e = ap (λ (r : Remote). r.e) alike.known
+        ∙ if-same (has_before p Responder E) (b.own Ephemeral) (Some (true-key b Ephemeral)) (λ h. own-b Ephemeral (laws.before_stands p Responder E h));
+    remote_s = ap (λ (r : Remote). r.s) alike.known
+        ∙ if-same (has_before p Responder S) (b.own Static) (Some (true-key b Static)) (λ h. own-b Static (laws.before_stands p Responder S h));
     answers = answers-a;
     secrets = refl;
   }
@@ -101,8 +109,10 @@ module _ (laws : LawsBelow) (p : Plan) (prologue : List ℕ) (a b : Start) (vali
   part-b = record {
     prologue_is = alike.prologue_too;
     own = own-b;
-    remote_e = ap (λ (r : Remote). r.e) alike.known_too ∙ if-same (has_before p Initiator E) (a.own Ephemeral) (Some (true-key a Ephemeral)) (λ h. own-a Ephemeral (laws.before_stands p Initiator E h));
-    remote_s = ap (λ (r : Remote). r.s) alike.known_too ∙ if-same (has_before p Initiator S) (a.own Static) (Some (true-key a Static)) (λ h. own-a Static (laws.before_stands p Initiator S h));
+    remote_e = ap (λ (r : Remote). r.e) alike.known_too
+        ∙ if-same (has_before p Initiator E) (a.own Ephemeral) (Some (true-key a Ephemeral)) (λ h. own-a Ephemeral (laws.before_stands p Initiator E h));
+    remote_s = ap (λ (r : Remote). r.s) alike.known_too
+        ∙ if-same (has_before p Initiator S) (a.own Static) (Some (true-key a Static)) (λ h. own-a Static (laws.before_stands p Initiator S h));
     answers = answers-b;
     secrets = alike.secrets;
   }

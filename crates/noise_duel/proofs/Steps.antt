@@ -89,10 +89,13 @@ pub record HandshakeStep (s t : Side) (payload : List ℕ) : Type 0 where
   pub accepts : Accepts t.view.party message carried payload
   pub counterparts : Counterparts (behind_own s.view.party carried payload) (behind_message t.view.party carried payload)
   pub lacks : (why : SendFault) (next : Side) → SideWrites s payload (WriteFault why) next → ⊥
-  pub written : (k : ℕ) (next : Side) → SideWrites s payload (Wrote k) next → (next ≡ wrote_handshake s (record { message = message; carried = carried; payload = payload })) × (k ≡ length s.frames)
+  pub written : (k : ℕ) (next : Side) → SideWrites s payload (Wrote k) next
+      → (next ≡ wrote_handshake s (record { message = message; carried = carried; payload = payload })) × (k ≡ length s.frames)
   pub can_write : SideWrites s payload (Wrote (length s.frames)) (wrote_handshake s (record { message = message; carried = carried; payload = payload }))
-  pub can_receive : SideReceives t (frame message) (Judged (Payload payload) ∷ []) (accepted_handshake t (record { message = message; carried = carried; payload = payload }))
-  pub receives : (ns : List Note) (last : Side) → SideReceives t (frame message) ns last → (ns ≡ Judged (Payload payload) ∷ []) × (last ≡ accepted_handshake t (record { message = message; carried = carried; payload = payload }))
+  pub can_receive : SideReceives t (frame message) (Judged (Payload payload) ∷ [])
+      (accepted_handshake t (record { message = message; carried = carried; payload = payload }))
+  pub receives : (ns : List Note) (last : Side) → SideReceives t (frame message) ns last
+      → (ns ≡ Judged (Payload payload) ∷ []) × (last ≡ accepted_handshake t (record { message = message; carried = carried; payload = payload }))
 
 pub step-handshake : LawsBelow → (s t : Side) (payload : List ℕ) → IsValid s.view.party.pattern → Counterparts s.view.party t.view.party
     → IsEquipped s.view.party.pattern s.view.party.role s.view.party.own s.view.party.agree t.view.party.own → Speaks s.view.party
@@ -111,11 +114,14 @@ step-handshake laws s t payload valid m has speaks keyed room empty =
       writes = d.2;
       accepts = a;
       counterparts = laws.next v u payload d.1 d.0 valid m d.2;
-      lacks = λ why next. writes-no-fault s next payload why (speaks-unrefused s.view (length payload) speaks room) (λ k l. laws.not_lacking v payload d.1 d.0 k d.2 l);
+      lacks = λ why next. writes-no-fault s next payload why (speaks-unrefused s.view (length payload) speaks room)
+          (λ k l. laws.not_lacking v payload d.1 d.0 k d.2 l);
       written = λ k next. writes-message laws s next payload d.1 d.0 k closed_s d.2;
       can_write = writes_handshake s d.1 payload d.0 (speaks-unrefused s.view (length payload) speaks room) d.2;
-      can_receive = receives-can t (accepted_handshake t (record { message = d.1; carried = d.0; payload = payload })) d.1 payload (listens-now t.view a.listens) empty refl a.fits (accepts_handshake t d.1 payload d.0 a);
-      receives = λ ns last. receives-one t (accepted_handshake t (record { message = d.1; carried = d.0; payload = payload })) last d.1 payload ns (listens-now t.view a.listens) empty refl a.fits
+      can_receive = receives-can t (accepted_handshake t (record { message = d.1; carried = d.0; payload = payload })) d.1 payload
+          (listens-now t.view a.listens) empty refl a.fits (accepts_handshake t d.1 payload d.0 a);
+      receives = λ ns last. receives-one t (accepted_handshake t (record { message = d.1; carried = d.0; payload = payload })) last d.1 payload ns
+          (listens-now t.view a.listens) empty refl a.fits
           (reads-message laws t d.1 payload d.0 closed_t a);
     }
 
@@ -125,10 +131,12 @@ pub record TransportStep (s t : Side) (payload : List ℕ) : Type 0 where
   pub message : List ℕ
   pub is : message ≡ packet s.view.party.history s.view.party.role s.view.interval s.view.sent payload
   pub lacks : (why : SendFault) (next : Side) → SideWrites s payload (WriteFault why) next → ⊥
-  pub written : (k : ℕ) (next : Side) → SideWrites s payload (Wrote k) next → (next ≡ wrote_transport s (record { message = message; payload = payload })) × (k ≡ length s.frames)
+  pub written : (k : ℕ) (next : Side) → SideWrites s payload (Wrote k) next
+      → (next ≡ wrote_transport s (record { message = message; payload = payload })) × (k ≡ length s.frames)
   pub can_write : SideWrites s payload (Wrote (length s.frames)) (wrote_transport s (record { message = message; payload = payload }))
   pub can_receive : SideReceives t (frame message) (Judged (Payload payload) ∷ []) (accepted_transport t (record { message = message; payload = payload }))
-  pub receives : (ns : List Note) (last : Side) → SideReceives t (frame message) ns last → (ns ≡ Judged (Payload payload) ∷ []) × (last ≡ accepted_transport t (record { message = message; payload = payload }))
+  pub receives : (ns : List Note) (last : Side) → SideReceives t (frame message) ns last
+      → (ns ≡ Judged (Payload payload) ∷ []) × (last ≡ accepted_transport t (record { message = message; payload = payload }))
 
 pub none-below : (done b : Bool) → done ≡ false → (done && b) ≡ false
 none-below true b e = cc
@@ -153,13 +161,17 @@ open-unrefused : (role : Role) (one_way : Bool) (sent received n : ℕ) → (one
     → refusal (Open role one_way sent received) n ≡ None
 open-unrefused role one_way sent received n free room low = rw (free, in-room (n + 16) room, below sent last_nonce low) refl
 
-open-listens : (role : Role) (one_way : Bool) (sent received : ℕ) → (one_way && same_role role Initiator) ≡ false → idle_step (Open role one_way sent received) ≡ None
+open-listens : (role : Role) (one_way : Bool) (sent received : ℕ) → (one_way && same_role role Initiator) ≡ false
+    → idle_step (Open role one_way sent received) ≡ None
 open-listens role one_way sent received free = rw free refl
 
-pub step-transport : (s t : Side) (payload : List ℕ) → s.view.party.passed ≡ length s.view.party.pattern.messages → t.view.party.passed ≡ length t.view.party.pattern.messages
-    → (is_one_way s.view.party.pattern && same_role s.view.party.role Responder) ≡ false → (is_one_way t.view.party.pattern && same_role t.view.party.role Initiator) ≡ false
+pub step-transport : (s t : Side) (payload : List ℕ) → s.view.party.passed ≡ length s.view.party.pattern.messages
+    → t.view.party.passed ≡ length t.view.party.pattern.messages
+    → (is_one_way s.view.party.pattern && same_role s.view.party.role Responder) ≡ false
+    → (is_one_way t.view.party.pattern && same_role t.view.party.role Initiator) ≡ false
     → s.view.party.ended ≡ false → t.view.party.ended ≡ false
-    → length payload ≤ 65519 → s.view.sent < last_nonce → t.view.received ≡ s.view.sent → t.view.party.history ≡ s.view.party.history → t.view.interval ≡ s.view.interval
+    → length payload ≤ 65519 → s.view.sent < last_nonce → t.view.received ≡ s.view.sent → t.view.party.history ≡ s.view.party.history
+    → t.view.interval ≡ s.view.interval
     → other t.view.party.role ≡ s.view.party.role → t.view.held ≡ [] → TransportStep s t payload
 step-transport s t payload all all_t ones onet going going_t short low count history interval role empty =
     let p : progress_of s.view ≡ Open s.view.party.role (is_one_way s.view.party.pattern) s.view.sent s.view.received = opened-now s.view going all in
@@ -186,8 +198,10 @@ step-transport s t payload all all_t ones onet going going_t short low count his
       lacks = λ why next. writes-no-fault s next payload why free (λ k l. behind-all s.view es l.speaks.more);
       written = λ k next. writes-packet s next payload k es;
       can_write = writes_transport s m payload free es refl;
-      can_receive = receives-can t (accepted_transport t (record { message = m; payload = payload })) m payload idle empty refl (omega (arith, size, short)) (accepts_transport t m payload et below_last is);
-      receives = λ ns last. receives-one t (accepted_transport t (record { message = m; payload = payload })) last m payload ns idle empty refl (omega (arith, size, short))
+      can_receive = receives-can t (accepted_transport t (record { message = m; payload = payload })) m payload idle empty refl (omega (arith, size, short))
+          (accepts_transport t m payload et below_last is);
+      receives = λ ns last. receives-one t (accepted_transport t (record { message = m; payload = payload })) last m payload ns idle empty refl
+          (omega (arith, size, short))
           (reads-packet t m payload et below_last is);
     }
   where
