@@ -1,0 +1,235 @@
+-- Keys that agree give the same answers, token by token.
+use Rattle.std.proofs.Common.{◌≡◌, ℕ, ◌+◌, List, [], ◌∷◌, drop, count_by, refl, ap, sym, subst, ◌∙◌}
+use Rattle.std.specs.Prelude.{Bool, true, false, not, Option, Some, None}
+use Rattle.noise_names.specs.declared.token.Role.{Role}
+use Rattle.noise_names.specs.declared.token.Role.TheVariants.{Initiator, Responder}
+use Rattle.noise_names.specs.declared.token.Token.{Token}
+use Rattle.noise_names.specs.declared.token.Token.TheVariants.{E, S, Ee, Es, Se, Ss, Psk}
+use Rattle.noise_names.specs.Tokens.{is_psk, same_role, turn_from, other}
+use Rattle.noise_names.specs.Plan.{Plan, has_psk}
+use Rattle.noise_state.specs.History.{History, piece}
+use Rattle.noise_state.specs.Pieces.{piece-same}
+use Rattle.noise_handshake.specs.declared.keys.Own.{Own}
+use Rattle.noise_handshake.specs.declared.keys.Own.TheVariants.{Ephemeral, Static}
+use Rattle.noise_handshake.specs.declared.remote.Remote.{Remote}
+use Rattle.noise_handshake.specs.Line.{token_piece, behind_token, behind_front, line, behind_line}
+use Rattle.noise_handshake.specs.View.{View, Reader, Fit, Fits, reader, known_behind, learned, secrets_behind, tokens_at, tokens_now, answered, own_at}
+use Rattle.noise_handshake.specs.View.{remote_at}
+use Rattle.noise_handshake.specs.Writing.{Writer, Given, Gives, writer}
+use Rattle.noise_handshake.specs.Party.{behind_own, behind_message}
+use Rattle.noise_duel.specs.Messages.{HandshakeMessage, Exchanged, Start}
+use Rattle.noise_duel.specs.Messages.Exchanged.{none, wrote, took}
+use Rattle.noise_duel.specs.Agreement.{KeysAgree, Knows}
+use Rattle.noise_duel.proofs.HashedTexts.{Alike}
+use Rattle.noise_duel.proofs.HashedMessages.{AreLines, AllAlike}
+use Rattle.noise_duel.proofs.Forward.{SecretAt, SecretsFit, UseSecrets, message-same}
+
+cons-same : {X : Type 0} (x y : X) (xs ys : List X) → x ≡ y → xs ≡ ys → (x ∷ xs) ≡ (y ∷ ys)
+cons-same x y xs ys e f = cc
+
+-- ---- what a party's texts are, whether it wrote them or not
+
+abbrev pub IsOwnIf : Bool → Option (List ℕ) → List ℕ → Type 0
+IsOwnIf true key x = key ≡ Some x
+IsOwnIf false key x = Unit {0}
+
+-- what a token of a message carries; `mine`: the party wrote it
+abbrev pub UsesAt : Bool → Role → (Own → Option (List ℕ)) → (Own → List ℕ → Option (List ℕ)) → Remote → Token → List ℕ → Type 0
+UsesAt mine role own agree known E x = IsOwnIf mine (own Ephemeral) x
+UsesAt mine role own agree known S x = IsOwnIf mine (own Static) x
+UsesAt mine role own agree known Psk x = Unit {0}
+UsesAt mine role own agree known dh x = answered agree (own_at role dh) (remote_at role known dh) ≡ Some x
+
+abbrev pub known_after : Bool → Remote → Token → List ℕ → Remote
+known_after true known t x = known
+known_after false known t x = known_behind known t x
+
+abbrev pub Uses : Bool → Role → (Own → Option (List ℕ)) → (Own → List ℕ → Option (List ℕ)) → Remote → List Token → List (List ℕ) → Type 0
+Uses mine role own agree known [] xs = Unit {0}
+Uses mine role own agree known (t ∷ ts) [] = Unit {0}
+Uses mine role own agree known (t ∷ ts) (x ∷ xs) = UsesAt mine role own agree known t x × Uses mine role own agree (known_after mine known t x) ts xs
+
+abbrev pub known_behind_all : Bool → Remote → List Token → List (List ℕ) → Remote
+known_behind_all true known ts xs = known
+known_behind_all false known ts xs = learned known ts xs
+
+abbrev pub writes_now : Role → ℕ → Bool
+writes_now role n = same_role (turn_from Initiator n) role
+
+abbrev pub UsesAll : Plan → Role → (Own → Option (List ℕ)) → (Own → List ℕ → Option (List ℕ)) → ℕ → Remote → List HandshakeMessage → Type 0
+UsesAll p role own agree n known [] = Unit {0}
+UsesAll p role own agree n known (m ∷ ms) =
+    Uses (writes_now role n) role own agree known (tokens_at p.messages n) m.carried
+    × UsesAll p role own agree (n + 1) (known_behind_all (writes_now role n) known (tokens_at p.messages n) m.carried) ms
+
+gives-uses : (w : Writer) (known : Remote) (secrets : List (List ℕ)) (t : Token) (x : List ℕ) → Gives w known secrets t x
+    → UsesAt true w.role w.own w.agree known t x
+gives-uses w known secrets E x h = h.0
+gives-uses w known secrets S x h = h.0
+gives-uses w known secrets Psk x h = tt
+gives-uses w known secrets Ee x h = h
+gives-uses w known secrets Es x h = h
+gives-uses w known secrets Se x h = h
+gives-uses w known secrets Ss x h = h
+
+fits-uses : (v : Reader) (own : Own → Option (List ℕ)) (known : Remote) (secrets : List (List ℕ)) (t : Token) (x : List ℕ) → Fits v known secrets t x
+    → UsesAt false v.role own v.agree known t x
+fits-uses v own known secrets E x h = tt
+fits-uses v own known secrets S x h = tt
+fits-uses v own known secrets Psk x h = tt
+fits-uses v own known secrets Ee x h = h
+fits-uses v own known secrets Es x h = h
+fits-uses v own known secrets Se x h = h
+fits-uses v own known secrets Ss x h = h
+
+given-uses : (w : Writer) (known : Remote) (secrets : List (List ℕ)) (ts : List Token) (xs : List (List ℕ)) → Given w known secrets ts xs
+    → Uses true w.role w.own w.agree known ts xs
+given-uses w known secrets [] xs h = tt
+given-uses w known secrets (t ∷ ts) [] h = tt
+given-uses w known secrets (t ∷ ts) (x ∷ xs) h = (gives-uses w known secrets t x h.0, given-uses w known (secrets_behind secrets t) ts xs h.1)
+
+fit-uses : (v : Reader) (own : Own → Option (List ℕ)) (known : Remote) (secrets : List (List ℕ)) (ts : List Token) (xs : List (List ℕ))
+    → Fit v known secrets ts xs → Uses false v.role own v.agree known ts xs
+fit-uses v own known secrets [] xs h = tt
+fit-uses v own known secrets (t ∷ ts) [] h = tt
+fit-uses v own known secrets (t ∷ ts) (x ∷ xs) h =
+    (fits-uses v own known secrets t x h.0, fit-uses v own (known_behind known t x) (secrets_behind secrets t) ts xs h.1)
+
+pub same-self : (r : Role) → same_role r r ≡ true
+same-self Initiator = refl
+same-self Responder = refl
+
+pub same-other : (r : Role) → same_role (other r) r ≡ false
+same-other Initiator = refl
+same-other Responder = refl
+
+pub passes-uses : (v w : View) (ps : List HandshakeMessage) → Exchanged v ps w → UsesAll v.pattern v.role v.own v.agree v.passed v.remote ps
+passes-uses v w [] (none _) = tt
+passes-uses v w (p ∷ ps) (wrote _ _ _ _ here more) =
+    let mine : writes_now v.role v.passed ≡ true = ap (λ (r : Role). same_role r v.role) here.speaks.turn ∙ same-self v.role in
+    subst (λ (b : Bool). Uses b v.role v.own v.agree v.remote (tokens_now v) p.carried
+    × UsesAll v.pattern v.role v.own v.agree (v.passed + 1) (known_behind_all b v.remote (tokens_now v) p.carried) ps) (sym mine)
+    (given-uses (writer v) v.remote v.secrets (tokens_now v) p.carried here.given, passes-uses (behind_own v p.carried p.payload) w ps more)
+passes-uses v w (p ∷ ps) (took _ _ _ _ here more) =
+    let mine : writes_now v.role v.passed ≡ false = ap (λ (r : Role). same_role r v.role) here.listens.turn ∙ same-other v.role in
+    subst (λ (b : Bool). Uses b v.role v.own v.agree v.remote (tokens_now v) p.carried
+    × UsesAll v.pattern v.role v.own v.agree (v.passed + 1) (known_behind_all b v.remote (tokens_now v) p.carried) ps) (sym mine)
+    (fit-uses (reader v) v.own v.remote v.secrets (tokens_now v) p.carried here.reads.fit, passes-uses (behind_message v p.carried p.payload) w ps more)
+
+-- ---- two parties
+
+-- the writer's own key
+abbrev pub IsOwn : (Own → Option (List ℕ)) → Token → List ℕ → Type 0
+IsOwn own E x = own Ephemeral ≡ Some x
+IsOwn own S x = own Static ≡ Some x
+IsOwn own _ x = Unit {0}
+
+pub is-own : (role : Role) (own : Own → Option (List ℕ)) (agree : Own → List ℕ → Option (List ℕ)) (known : Remote) (t : Token) (x : List ℕ)
+    → UsesAt true role own agree known t x → IsOwn own t x
+is-own role own agree known E x u = u
+is-own role own agree known S x u = u
+is-own role own agree known _ x u = tt
+
+-- what the reader of a token comes to know is right
+pub learns : (known : Remote) (own : Own → Option (List ℕ)) (t : Token) (x y : List ℕ) → Knows known own → x ≡ y → IsOwn own t x
+    → Knows (known_behind known t y) own
+learns known own E x y f e u = record { e = λ k g. u ∙ ap Some e ∙ g; s = f.s }
+learns known own S x y f e u = record { e = f.e; s = λ k g. u ∙ ap Some e ∙ g }
+learns known own _ x y f e u = f
+
+pub turns-apart : (r : Role) → same_role r Responder ≡ not (same_role r Initiator)
+turns-apart Initiator = refl
+turns-apart Responder = refl
+
+module _ (a b : Start) (agrees : KeysAgree a b) where
+  dh-same : (x y : Own) (known other : Option (List ℕ)) (s t : List ℕ) → ((k : List ℕ) → known ≡ Some k → b.own y ≡ Some k)
+      → ((k : List ℕ) → other ≡ Some k → a.own x ≡ Some k)
+      → answered a.agree x known ≡ Some s → answered b.agree y other ≡ Some t → s ≡ t
+  dh-same x y None other s t f g h i = cc
+  dh-same x y (Some k) None s t f g h i = cc
+  dh-same x y (Some k) (Some l) s t f g h i = some-same s t (sym h ∙ agrees x y l k (g l refl) (f k refl) ∙ i)
+    where
+      some-same : (s t : List ℕ) → Some s ≡ Some t → s ≡ t
+      some-same s t e = cc
+
+  module _ (psks : Bool) where
+    text-same : (mine : Bool) (ka kb : Remote) (secrets : List (List ℕ)) (r : History) (t : Token) (x y : List ℕ) → Knows ka b.own → Knows kb a.own
+        → UsesAt mine Initiator a.own a.agree ka t x → UsesAt (not mine) Responder b.own b.agree kb t y → SecretAt secrets t x → SecretAt secrets t y
+        → token_piece r t x ≡ token_piece r t y → x ≡ y
+    text-same mine ka kb secrets r E x y f g u w m n e = e
+    text-same mine ka kb secrets r S x y f g u w m n e = piece-same r x y e
+    text-same mine ka kb secrets r Psk x y f g u w m n e = m ∙ sym n
+    text-same mine ka kb secrets r Ee x y f g u w m n e = dh-same Ephemeral Ephemeral ka.e kb.e x y f.e g.e u w
+    text-same mine ka kb secrets r Es x y f g u w m n e = dh-same Ephemeral Static ka.s kb.e x y f.s g.e u w
+    text-same mine ka kb secrets r Se x y f g u w m n e = dh-same Static Ephemeral ka.e kb.s x y f.e g.s u w
+    text-same mine ka kb secrets r Ss x y f g u w m n e = dh-same Static Static ka.s kb.s x y f.s g.s u w
+
+    -- what each of them knows behind a token
+    knows-token : (mine : Bool) (ka kb : Remote) (t : Token) (x y : List ℕ) → Knows ka b.own → Knows kb a.own → x ≡ y
+        → UsesAt mine Initiator a.own a.agree ka t x → UsesAt (not mine) Responder b.own b.agree kb t y
+        → Knows (known_after mine ka t x) b.own × Knows (known_after (not mine) kb t y) a.own
+    knows-token true ka kb t x y f g e u w = (f, learns kb a.own t x y g e (is-own Initiator a.own a.agree ka t x u))
+    knows-token false ka kb t x y f g e u w = (learns ka b.own t y x f (sym e) (is-own Responder b.own b.agree kb t y w), g)
+
+    record Same (mine : Bool) (ka kb : Remote) (ts : List Token) (xs ys : List (List ℕ)) : Type 0 where
+      texts : xs ≡ ys
+      left : Knows (known_behind_all mine ka ts xs) b.own
+      right : Knows (known_behind_all (not mine) kb ts ys) a.own
+
+    -- behind one token more
+    wider : (mine : Bool) (ka kb : Remote) (t : Token) (ts : List Token) (x y : List ℕ) (xs ys : List (List ℕ)) → x ≡ y
+        → Same mine (known_after mine ka t x) (known_after (not mine) kb t y) ts xs ys → Same mine ka kb (t ∷ ts) (x ∷ xs) (y ∷ ys)
+    wider true ka kb t ts x y xs ys e h = record { texts = cons-same x y xs ys e h.texts; left = h.left; right = h.right }
+    wider false ka kb t ts x y xs ys e h = record { texts = cons-same x y xs ys e h.texts; left = h.left; right = h.right }
+
+    front-agree : (mine : Bool) (ka kb : Remote) (secrets : List (List ℕ)) (r : History) (ts : List Token) (xs ys : List (List ℕ)) → Knows ka b.own
+        → Knows kb a.own
+        → Uses mine Initiator a.own a.agree ka ts xs → Uses (not mine) Responder b.own b.agree kb ts ys → SecretsFit secrets ts xs → SecretsFit secrets ts ys
+        → Alike psks r r ts xs ys → Same mine ka kb ts xs ys
+    front-agree mine ka kb secrets r [] [] [] f g u w m n h = record { texts = refl; left = none-left mine; right = none-right mine }
+      where
+        none-left : (mine : Bool) → Knows (known_behind_all mine ka [] []) b.own
+        none-left true = f
+        none-left false = f
+
+        none-right : (mine : Bool) → Knows (known_behind_all (not mine) kb [] []) a.own
+        none-right true = g
+        none-right false = g
+    front-agree mine ka kb secrets r [] [] (y ∷ ys) f g u w m n h = absurd h
+    front-agree mine ka kb secrets r [] (x ∷ xs) ys f g u w m n h = absurd h
+    front-agree mine ka kb secrets r (t ∷ ts) [] ys f g u w m n h = absurd h
+    front-agree mine ka kb secrets r (t ∷ ts) (x ∷ xs) [] f g u w m n h = absurd h
+    front-agree mine ka kb secrets r (t ∷ ts) (x ∷ xs) (y ∷ ys) f g u w m n h =
+        let e : x ≡ y = text-same mine ka kb secrets r t x y f g u.0 w.0 m.0 n.0 h.0 in
+        let knows = knows-token mine ka kb t x y f g e u.0 w.0 in
+        wider mine ka kb t ts x y xs ys e
+        (front-agree mine (known_after mine ka t x) (known_after (not mine) kb t y) (secrets_behind secrets t) (behind_token psks r t x) ts xs ys knows.0
+        knows.1 u.1 w.1 m.1 n.1
+        (subst (λ (z : List ℕ). Alike psks (behind_token psks r t x) (behind_token psks r t z) ts xs ys) (sym e) h.1))
+
+  pub all-agree : (p : Plan) (n : ℕ) (ka kb : Remote) (secrets : List (List ℕ)) (r : History) (ps qs : List HandshakeMessage) → Knows ka b.own → Knows kb a.own
+      → UsesAll p Initiator a.own a.agree n ka ps → UsesAll p Responder b.own b.agree n kb qs → UseSecrets p n secrets ps → UseSecrets p n secrets qs
+      → AreLines p n r ps → AreLines p n r qs → AllAlike p n r r ps qs → ps ≡ qs
+  all-agree p n ka kb secrets r [] [] f g u w m k c d h = refl
+  all-agree p n ka kb secrets r [] (q ∷ qs) f g u w m k c d h = absurd h
+  all-agree p n ka kb secrets r (x ∷ xs) [] f g u w m k c d h = absurd h
+  all-agree p n ka kb secrets r (x ∷ xs) (y ∷ ys) f g u w m k c d h =
+      let ts : List Token = tokens_at p.messages n in
+      let mine : Bool = writes_now Initiator n in
+      let turned = subst (λ (z : Bool). Uses z Responder b.own b.agree kb ts y.carried
+      × UsesAll p Responder b.own b.agree (n + 1) (known_behind_all z kb ts y.carried) ys) (turns-apart (turn_from Initiator n)) w in
+      let here = front-agree (has_psk p) mine ka kb secrets r ts x.carried y.carried f g u.0 turned.0 m.0 k.0 h.0.0 in
+      let payload : x.payload ≡ y.payload =
+      piece-same (behind_front (has_psk p) r ts x.carried) x.payload y.payload
+      (h.0.1 ∙ ap (λ (zs : List (List ℕ)). piece (behind_front (has_psk p) r ts zs) y.payload) (sym here.texts)) in
+      let message : x.message ≡ y.message =
+      c.0.1 ∙ ap (λ (zs : List (List ℕ)). line (has_psk p) r ts zs x.payload) here.texts ∙ ap (line (has_psk p) r ts y.carried) payload ∙ sym d.0.1 in
+      let one : x ≡ y = message-same x y message here.texts payload in
+      let behind : behind_line (has_psk p) r ts x.carried x.payload ≡ behind_line (has_psk p) r ts y.carried y.payload =
+      ap (λ (z : HandshakeMessage). behind_line (has_psk p) r ts z.carried z.payload) one in
+      cons-same x y xs ys one
+      (all-agree p (n + 1) (known_behind_all mine ka ts x.carried) (known_behind_all (not mine) kb ts y.carried) (drop (count_by is_psk ts) secrets)
+      (behind_line (has_psk p) r ts x.carried x.payload) xs ys
+      here.left here.right u.1 turned.1 m.1 k.1 c.1
+      (subst (λ (s : History). AreLines p (n + 1) s ys) (sym behind) d.1)
+      (subst (λ (s : History). AllAlike p (n + 1) (behind_line (has_psk p) r ts x.carried x.payload) s xs ys) (sym behind) h.1))

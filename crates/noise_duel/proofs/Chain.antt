@@ -1,0 +1,106 @@
+-- A chain of hashes: where two of one length and one start end alike, they hashed the same, or two of their texts collide.
+use Rattle.std.proofs.Common.{◌≡◌, ◌≢◌, ℕ, zero, suc, List, [], ◌∷◌, ◌++◌, length, refl, ap, sym, subst, take, drop, ◌∙◌, arith, inl, inr, ◌⊎◌, slice_get}
+use Rattle.std.proofs.Common.{Some, length-append}
+use Rattle.std.proofs.Math.Seq.{take-append_seam, drop-append_seam}
+use Rattle.std.proofs.lemmas.Bool.Decides.{eqb_tells}
+use Rattle.sha2.specs.Sha256.{sha256}
+use Rattle.sha2.proofs.Facts256.{length-sha256}
+use Rattle.noise_duel.specs.Collision.{CollisionAt}
+
+-- two texts that begin with parts of one length
+pub split-apart : (a b p q : List ℕ) → length a ≡ length b → a ++ p ≡ b ++ q → (a ≡ b) × (p ≡ q)
+split-apart a b p q n e = (
+  sym (take-append_seam a p) ∙ ap (take (length a)) e ∙ ap (λ (k : ℕ). take k (b ++ q)) n ∙ take-append_seam b q,
+  sym (drop-append_seam a p) ∙ ap (drop (length a)) e ∙ ap (λ (k : ℕ). drop k (b ++ q)) n ∙ drop-append_seam b q,
+)
+
+heads : {X : Type 0} (x y : X) (xs ys : List X) → (x ∷ xs) ≡ (y ∷ ys) → x ≡ y
+heads x y xs ys e = cc
+
+tails : {X : Type 0} (x y : X) (xs ys : List X) → (x ∷ xs) ≡ (y ∷ ys) → xs ≡ ys
+tails x y xs ys e = cc
+
+cons-same : {X : Type 0} (x y : X) (xs ys : List X) → x ≡ y → xs ≡ ys → (x ∷ xs) ≡ (y ∷ ys)
+cons-same x y xs ys e f = cc
+
+-- two texts are the same or not
+pub same-or : (xs ys : List ℕ) → (xs ≡ ys) ⊎ (xs ≢ ys)
+same-or [] [] = inl refl
+same-or [] (y ∷ ys) = inr (λ e. cc)
+same-or (x ∷ xs) [] = inr (λ e. cc)
+same-or (x ∷ xs) (y ∷ ys) = elim (eqb_tells x y) [ inl h ↦ behind h.1 (same-or xs ys) | inr h ↦ inr (λ e. h.1 (heads x y xs ys e)) ]
+  where
+    behind : x ≡ y → (xs ≡ ys) ⊎ (xs ≢ ys) → ((x ∷ xs) ≡ (y ∷ ys)) ⊎ ((x ∷ xs) ≢ (y ∷ ys))
+    behind e (inl f) = inl (cons-same x y xs ys e f)
+    behind e (inr f) = inr (λ g. f (tails x y xs ys g))
+
+abbrev pub chained : List ℕ → List (List ℕ) → List ℕ
+chained start [] = start
+chained start (x ∷ xs) = sha256 (chained start xs ++ x)
+
+abbrev pub chain_texts : List ℕ → List (List ℕ) → List (List ℕ)
+chain_texts start [] = []
+chain_texts start (x ∷ xs) = chain_texts start xs ++ (chained start xs ++ x) ∷ []
+
+length-chained : (start : List ℕ) (xs : List (List ℕ)) → length start ≡ 32 → length (chained start xs) ≡ 32
+length-chained start [] h = h
+length-chained start (x ∷ xs) h = length-sha256 (chained start xs ++ x)
+
+length-texts : (start : List ℕ) (xs : List (List ℕ)) → length (chain_texts start xs) ≡ length xs
+length-texts start [] = refl
+length-texts start (x ∷ xs) = length-append (chain_texts start xs) ((chained start xs ++ x) ∷ []) ∙ omega (arith, length-texts start xs)
+
+-- the last of a list
+get-last : {X : Type 0} (xs : List X) (x : X) → slice_get (xs ++ x ∷ []) (length xs) ≡ Some x
+get-last [] x = refl
+get-last (y ∷ xs) x = get-last xs x
+
+-- what stands in a list stands in a longer one
+pub get-longer : {X : Type 0} (xs ys : List X) (i : ℕ) (x : X) → slice_get xs i ≡ Some x → slice_get (xs ++ ys) i ≡ Some x
+get-longer [] ys i x h = cc
+get-longer (y ∷ xs) ys zero x h = h
+get-longer (y ∷ xs) ys (suc i) x h = get-longer xs ys i x h
+
+pub collision-longer : (a b more others : List (List ℕ)) (i : ℕ) → CollisionAt a b i → CollisionAt (a ++ more) (b ++ others) i
+collision-longer a b more others i c = record {
+  left = c.left;
+  right = c.right;
+  at_left = get-longer a more i c.left c.at_left;
+  at_right = get-longer b others i c.right c.at_right;
+  differ = c.differ;
+  same = c.same;
+}
+
+-- Two chains from one start, of one length, with one end.
+pub chains-alike : (start : List ℕ) (xs ys : List (List ℕ)) → length start ≡ 32 → length xs ≡ length ys → chained start xs ≡ chained start ys
+    → (xs ≡ ys) ⊎ ((i : ℕ) × CollisionAt (chain_texts start xs) (chain_texts start ys) i)
+chains-alike start [] [] long n e = inl refl
+chains-alike start [] (y ∷ ys) long n e = cc
+chains-alike start (x ∷ xs) [] long n e = cc
+chains-alike start (x ∷ xs) (y ∷ ys) long n e = go (same-or (chained start xs ++ x) (chained start ys ++ y)) (chains-alike start xs ys long (omega (arith, n)))
+  where
+    go : ((chained start xs ++ x) ≡ (chained start ys ++ y)) ⊎ ((chained start xs ++ x) ≢ (chained start ys ++ y))
+        → (chained start xs ≡ chained start ys → (xs ≡ ys) ⊎ ((i : ℕ) × CollisionAt (chain_texts start xs) (chain_texts start ys) i))
+        → ((x ∷ xs) ≡ (y ∷ ys)) ⊎ ((i : ℕ) × CollisionAt (chain_texts start (x ∷ xs)) (chain_texts start (y ∷ ys)) i)
+    go (inr d) older = inr (
+      length (chain_texts start xs),
+      record {
+        left = chained start xs ++ x;
+        right = chained start ys ++ y;
+        at_left = get-last (chain_texts start xs) (chained start xs ++ x);
+        at_right = subst (λ (i : ℕ). slice_get (chain_texts start (y ∷ ys)) i ≡ Some (chained start ys ++ y))
+            (omega (arith, length-texts start xs, length-texts start ys, n)) (get-last (chain_texts start ys) (chained start ys ++ y));
+        differ = d;
+        same = e;
+      },
+    )
+    go (inl same) older =
+        let apart = split-apart (chained start xs) (chained start ys) x y (length-chained start xs long ∙ sym (length-chained start ys long)) same in
+        elim (older apart.0) [
+          | inl rest ↦ inl (cons-same x y xs ys apart.1 rest)
+          | inr c ↦ inr (
+            c.0,
+            collision-longer (chain_texts start xs) (chain_texts start ys) ((chained start xs ++ x) ∷ []) ((chained start ys ++ y) ∷ []) c.0
+                c.1,
+          )
+        ]

@@ -1,0 +1,120 @@
+-- Two parties with their parts of one key material: what their messages carry, and that their answers meet.
+use Rattle.std.proofs.Common.{◌≡◌, ℕ, List, [], ◌∷◌, length, refl, ap, sym, ◌∙◌}
+use Rattle.std.specs.Prelude.{Bool, true, false, ◌||◌, Option, Some}
+use Rattle.noise_names.specs.declared.token.Role.{Role}
+use Rattle.noise_names.specs.declared.token.Role.TheVariants.{Initiator, Responder}
+use Rattle.noise_names.specs.declared.token.Token.{Token}
+use Rattle.noise_names.specs.declared.token.Token.TheVariants.{E, S, Ee, Es, Se, Ss, Psk}
+use Rattle.noise_names.specs.Tokens.{other, same_token}
+use Rattle.noise_names.specs.Plan.{Plan, places_of}
+use Rattle.noise_names.specs.Validity.{stands, occurs, IsValid}
+use Rattle.noise_handshake.specs.declared.keys.Own.{Own}
+use Rattle.noise_handshake.specs.declared.keys.Own.TheVariants.{Ephemeral, Static}
+use Rattle.noise_handshake.specs.View.{answered, own_at, remote_at, first_secret, other_secrets}
+use Rattle.noise_handshake.specs.Writing.{Writer, Given}
+use Rattle.noise_handshake.specs.Setup.{public_keys, has_token, token_of}
+use Rattle.noise_handshake.specs.Counterparts.{is_dh, keys_if, AnswersMeet, IsEquipped}
+use Rattle.noise_duel.specs.Below.{LawsBelow}
+use Rattle.noise_duel.specs.Conversation.{KeyMaterial, carried_by, public_keys_in}
+
+or-right : (a b : Bool) → b ≡ true → (a || b) ≡ true
+or-right true b e = refl
+or-right false b e = e
+
+some-same : (o : Option (List ℕ)) (x y : List ℕ) → o ≡ Some x → o ≡ Some y → x ≡ y
+some-same o x y f g = cc
+
+cons-same : (x y : List ℕ) (xs ys : List (List ℕ)) → x ≡ y → xs ≡ ys → (x ∷ xs) ≡ (y ∷ ys)
+cons-same x y xs ys e f = cc
+
+-- the key that a DH asks of the other party
+pub remote-own : (role : Role) (theirs : Own → Option (List ℕ)) (t : Token) → remote_at role (public_keys theirs) t ≡ theirs (own_at (other role) t)
+remote-own Initiator theirs E = refl
+remote-own Initiator theirs S = refl
+remote-own Initiator theirs Ee = refl
+remote-own Initiator theirs Es = refl
+remote-own Initiator theirs Se = refl
+remote-own Initiator theirs Ss = refl
+remote-own Initiator theirs Psk = refl
+remote-own Responder theirs E = refl
+remote-own Responder theirs S = refl
+remote-own Responder theirs Ee = refl
+remote-own Responder theirs Es = refl
+remote-own Responder theirs Se = refl
+remote-own Responder theirs Ss = refl
+remote-own Responder theirs Psk = refl
+
+-- a role has the keys and answers of the key material
+pub record HasMaterial (w : KeyMaterial) (p : Plan) (role : Role) (own : Own → Option (List ℕ)) (agree : Own → List ℕ → Option (List ℕ)) : Type 0 where
+  pub keys : (x : Own) → stands role (token_of x) (places_of p) ≡ true → own x ≡ Some (w.public role x)
+  pub answers : (t : Token) → is_dh t ≡ true → occurs t (places_of p) ≡ true
+      → answered agree (own_at role t) (remote_at role (public_keys_in w (other role)) t) ≡ Some (w.answer t)
+
+module _ (laws : LawsBelow) (w : KeyMaterial) (p : Plan) (valid : IsValid p) where
+  -- with the other party's true keys
+  pub true-answer : (role : Role) (own theirs : Own → Option (List ℕ)) (agree their_agree : Own → List ℕ → Option (List ℕ)) → HasMaterial w p role own agree
+      → HasMaterial w p (other role) theirs their_agree
+      → (t : Token) → is_dh t ≡ true → occurs t (places_of p) ≡ true
+      → answered agree (own_at role t) (remote_at role (public_keys theirs) t) ≡ Some (w.answer t)
+  true-answer role own theirs agree their_agree i j t d h =
+      ap (answered agree (own_at role t))
+      (remote-own role theirs t ∙ j.keys (own_at (other role) t) (laws.dh_stands p (other role) t valid d h)
+      ∙ sym (remote-own role (λ x. Some (w.public (other role) x)) t))
+      ∙ i.answers t d h
+
+  pub equipped : (role : Role) (own theirs : Own → Option (List ℕ)) (agree their_agree : Own → List ℕ → Option (List ℕ))
+      → ((party : Role) (x : Own) → length (w.public party x) ≡ 32)
+      → HasMaterial w p role own agree → HasMaterial w p (other role) theirs their_agree → IsEquipped p role own agree theirs
+  equipped role own theirs agree their_agree long i j = record {
+    keys = λ x h. (w.public role x, i.keys x h, long role x);
+    answers = λ t d h. (w.answer t, true-answer role own theirs agree their_agree i j t d h);
+  }
+
+  pub answers-meet : (own theirs : Own → Option (List ℕ)) (agree their_agree : Own → List ℕ → Option (List ℕ)) → HasMaterial w p Initiator own agree
+      → HasMaterial w p Responder theirs their_agree
+      → AnswersMeet p Initiator own agree theirs their_agree
+  answers-meet own theirs agree their_agree i j t d h =
+      true-answer Initiator own theirs agree their_agree i j t d h ∙ sym (true-answer Responder theirs own their_agree agree j i t d h)
+
+-- what a writer's tokens carry is that of the key material
+module _ (laws : LawsBelow) (w : KeyMaterial) (psks : Bool) (role : Role) (own theirs : Own → Option (List ℕ)) (agree : Own → List ℕ → Option (List ℕ))
+    (e s : Bool) where
+  abbrev gives : Writer
+  gives = record { role = role; psks = psks; own = own; agree = agree }
+
+  abbrev IsCarried : List Token → Type 0
+  IsCarried ts = ((x : Own) → has_token (token_of x) ts ≡ true → own x ≡ Some (w.public role x))
+      × ((t : Token) → has_token t ts ≡ true → is_dh t ≡ true → answered agree (own_at role t) (remote_at role (public_keys theirs) t) ≡ Some (w.answer t))
+
+  on : (t : Token) (ts : List Token) → IsCarried (t ∷ ts) → IsCarried ts
+  on t ts h = (
+    λ x k. h.0 x (or-right (same_token t (token_of x)) (has_token (token_of x) ts) k),
+    λ u k d. h.1 u (or-right (same_token t u) (has_token u ts) k) d,
+  )
+
+  dh-carried : (t : Token) (x : List ℕ) → answered agree (own_at role t) (remote_at role (keys_if e s theirs) t) ≡ Some x
+      → answered agree (own_at role t) (remote_at role (public_keys theirs) t) ≡ Some (w.answer t) → x ≡ w.answer t
+  dh-carried t x g h = some-same (answered agree (own_at role t) (remote_at role (public_keys theirs) t)) x (w.answer t)
+      (laws.answer agree (own_at role t) role e s theirs t x g) h
+
+  pub given-carried : (secrets : List (List ℕ)) (ts : List Token) (xs : List (List ℕ)) → IsCarried ts → Given gives (keys_if e s theirs) secrets ts xs
+      → xs ≡ carried_by w role secrets ts
+  given-carried secrets [] [] h g = refl
+  given-carried secrets [] (x ∷ xs) h g = absurd g
+  given-carried secrets (t ∷ ts) [] h g = absurd g
+  given-carried secrets (E ∷ ts) (x ∷ xs) h g =
+      cons-same x (w.public role Ephemeral) xs (carried_by w role secrets ts)
+      (some-same (own Ephemeral) x (w.public role Ephemeral) g.0.0 (h.0 Ephemeral refl)) (given-carried secrets ts xs (on E ts h) g.1)
+  given-carried secrets (S ∷ ts) (x ∷ xs) h g =
+      cons-same x (w.public role Static) xs (carried_by w role secrets ts) (some-same (own Static) x (w.public role Static) g.0.0 (h.0 Static refl))
+      (given-carried secrets ts xs (on S ts h) g.1)
+  given-carried secrets (Psk ∷ ts) (x ∷ xs) h g =
+      cons-same x (first_secret secrets) xs (carried_by w role (other_secrets secrets) ts) g.0 (given-carried (other_secrets secrets) ts xs (on Psk ts h) g.1)
+  given-carried secrets (Ee ∷ ts) (x ∷ xs) h g =
+      cons-same x (w.answer Ee) xs (carried_by w role secrets ts) (dh-carried Ee x g.0 (h.1 Ee refl refl)) (given-carried secrets ts xs (on Ee ts h) g.1)
+  given-carried secrets (Es ∷ ts) (x ∷ xs) h g =
+      cons-same x (w.answer Es) xs (carried_by w role secrets ts) (dh-carried Es x g.0 (h.1 Es refl refl)) (given-carried secrets ts xs (on Es ts h) g.1)
+  given-carried secrets (Se ∷ ts) (x ∷ xs) h g =
+      cons-same x (w.answer Se) xs (carried_by w role secrets ts) (dh-carried Se x g.0 (h.1 Se refl refl)) (given-carried secrets ts xs (on Se ts h) g.1)
+  given-carried secrets (Ss ∷ ts) (x ∷ xs) h g =
+      cons-same x (w.answer Ss) xs (carried_by w role secrets ts) (dh-carried Ss x g.0 (h.1 Ss refl refl)) (given-carried secrets ts xs (on Ss ts h) g.1)

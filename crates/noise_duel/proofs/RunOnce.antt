@@ -1,0 +1,209 @@
+-- A run is determined: of two ends and a list of events one list of notes and one pair of ends comes.
+use Rattle.std.proofs.Common.{◌≡◌, ◌≢◌, ℕ, ◌+◌, ◌<◌, List, [], ◌∷◌, ◌++◌, length, refl, ap, sym, subst, ◌∙◌, arith, Some, None, slice_get}
+use Rattle.std.specs.Prelude.{Option, Err, Result, IsTrue}
+use Rattle.noise_names.specs.declared.token.Role.{Role}
+use Rattle.noise_names.specs.Tokens.{other}
+use Rattle.noise_handshake.specs.Party.{behind_message}
+use Rattle.noise_session.specs.declared.faults.SendFault.{SendFault}
+use Rattle.noise_session.specs.Frames.{IsPartial}
+use Rattle.noise_session.specs.Steps.{Told}
+use Rattle.noise_session.specs.Steps.Told.{Payload, Refused}
+use Rattle.noise_session.specs.Progress.{is_open}
+use Rattle.noise_session.specs.Ends.{EndView, progress_of}
+use Rattle.noise_session.specs.Taking.{Judges}
+use Rattle.noise_session.specs.Taking.Judges.{accepted, refused, opened, dropped, exhausted}
+use Rattle.noise_duel.specs.Below.{LawsBelow}
+use Rattle.noise_duel.specs.Sides.{Side, Sides, side, with_side, with_view, wrote_handshake, accepted_handshake, wrote_transport, accepted_transport}
+use Rattle.noise_duel.specs.Events.{Event, Note, Wrote, WriteFault, Judged, left_note, held_note, noted_by}
+use Rattle.noise_duel.specs.Runs.{SideWrites, SideReads, SideReceives, Happens, Run, GivesNoPayload, RunOnce}
+use Rattle.noise_duel.specs.Runs.SideWrites.{writes_nothing, writes_handshake, writes_transport}
+use Rattle.noise_duel.specs.Runs.SideReads.{accepts_handshake, accepts_transport, refuses_message}
+use Rattle.noise_duel.specs.Runs.SideReceives.{is_idle, waits, reads_frame}
+use Rattle.noise_duel.specs.Runs.Happens.{writes, says_nothing, says, delivers, misses, injects}
+use Rattle.noise_duel.specs.Runs.Run.{ends, begins}
+use Rattle.noise_duel.proofs.Framing.{frame-whole, frame-same}
+use Rattle.noise_duel.proofs.Invariant.{all-passed}
+use Rattle.noise_duel.proofs.Prefixes.{packet-same}
+use Rattle.noise_duel.proofs.Lines.{writes-no-fault}
+
+some-same : {X : Type 0} (x y : X) → Some x ≡ Some y → x ≡ y
+some-same x y e = cc
+
+abbrev refused_with : SendFault → Result (List ℕ) SendFault
+refused_with why = Err why
+
+err-same : (x y : SendFault) → refused_with x ≡ refused_with y → x ≡ y
+err-same x y e = cc
+
+wrote-same : (m n : ℕ) → Wrote m ≡ Wrote n → m ≡ n
+wrote-same m n e = cc
+
+not-both : (why : SendFault) (n : ℕ) → WriteFault why ≡ Wrote n → ⊥
+not-both why n e = cc
+
+some-none : {X : Type 0} (o : Option X) (x : X) → o ≡ Some x → o ≡ None → ⊥
+some-none o x e f = cc
+
+module _ (laws : LawsBelow) where
+  -- a message is judged in one way
+  judged-once : (v x y : EndView) (m : List ℕ) (s t : Told) → Judges v m s x → Judges v m t y → (s ≡ t) × (x ≡ y)
+  judged-once v x y m s t (accepted _ _ p xs a) (accepted _ _ q ys b) =
+      let one = laws.accepted_once v.party m xs ys p q a b in (
+        ap Payload one.1,
+        ap (λ (zs : List (List ℕ)). record v { party = behind_message v.party zs p; held = [] }) one.0
+            ∙ ap (λ (r : List ℕ). record v { party = behind_message v.party ys r; held = [] }) one.1,
+      )
+  judged-once v x y m s t (accepted _ _ p xs a) (refused _ _ k c b) = absurd (laws.not_refused v.party m xs p k c a b)
+  judged-once v x y m s t (accepted _ _ p xs a) (opened _ _ q opens low is) = let more = a.listens.more in let all = all-passed v opens in absurd (omega arith)
+  judged-once v x y m s t (accepted _ _ p xs a) (dropped _ _ opens low never) = let more = a.listens.more in let all =
+      all-passed v opens in absurd (omega arith)
+  judged-once v x y m s t (accepted _ _ p xs a) (exhausted _ _ opens last) = let more = a.listens.more in let all = all-passed v opens in absurd (omega arith)
+  judged-once v x y m s t (refused _ _ k c a) (accepted _ _ p xs b) = absurd (laws.not_refused v.party m xs p k c b a)
+  judged-once v x y m s t (refused _ _ k c a) (refused _ _ j d b) =
+      let one = laws.refused_once v.party m k j c d a b in
+      (ap (λ (i : ℕ). Refused i c) one.0 ∙ ap (Refused j) one.1, refl)
+  judged-once v x y m s t (refused _ _ k c a) (opened _ _ q opens low is) = let more = a.listens.more in let all = all-passed v opens in absurd (omega arith)
+  judged-once v x y m s t (refused _ _ k c a) (dropped _ _ opens low never) = let more = a.listens.more in let all = all-passed v opens in absurd (omega arith)
+  judged-once v x y m s t (refused _ _ k c a) (exhausted _ _ opens last) = let more = a.listens.more in let all = all-passed v opens in absurd (omega arith)
+  judged-once v x y m s t (opened _ _ p opens low is) (accepted _ _ q xs a) = let more = a.listens.more in let all = all-passed v opens in absurd (omega arith)
+  judged-once v x y m s t (opened _ _ p opens low is) (refused _ _ k c a) = let more = a.listens.more in let all = all-passed v opens in absurd (omega arith)
+  judged-once v x y m s t (opened _ _ p opens low is) (opened _ _ q other_opens other_low be) =
+      (ap Payload (packet-same v.party.history (other v.party.role) v.interval v.received p q (sym is ∙ be)), refl)
+  judged-once v x y m s t (opened _ _ p opens low is) (dropped _ _ other_opens other_low never) = absurd (never p is)
+  judged-once v x y m s t (opened _ _ p opens low is) (exhausted _ _ other_opens last) = absurd (low last)
+  judged-once v x y m s t (dropped _ _ opens low never) (accepted _ _ q xs a) = let more = a.listens.more in let all =
+      all-passed v opens in absurd (omega arith)
+  judged-once v x y m s t (dropped _ _ opens low never) (refused _ _ k c a) = let more = a.listens.more in let all = all-passed v opens in absurd (omega arith)
+  judged-once v x y m s t (dropped _ _ opens low never) (opened _ _ q other_opens other_low is) = absurd (never q is)
+  judged-once v x y m s t (dropped _ _ opens low never) (dropped _ _ other_opens other_low other_never) = (refl, refl)
+  judged-once v x y m s t (dropped _ _ opens low never) (exhausted _ _ other_opens last) = absurd (low last)
+  judged-once v x y m s t (exhausted _ _ opens last) (accepted _ _ q xs a) = let more = a.listens.more in let all = all-passed v opens in absurd (omega arith)
+  judged-once v x y m s t (exhausted _ _ opens last) (refused _ _ k c a) = let more = a.listens.more in let all = all-passed v opens in absurd (omega arith)
+  judged-once v x y m s t (exhausted _ _ opens last) (opened _ _ q other_opens low is) = absurd (low last)
+  judged-once v x y m s t (exhausted _ _ opens last) (dropped _ _ other_opens low never) = absurd (low last)
+  judged-once v x y m s t (exhausted _ _ opens last) (exhausted _ _ other_opens other_last) = (refl, refl)
+
+  -- no handshake message is due at an end that is open
+  not-due : (s : Side) → IsTrue (is_open (progress_of s.view)) → s.view.party.passed < length s.view.party.pattern.messages → ⊥
+  not-due s due more = let all = all-passed s.view due in omega arith
+
+  -- a message is read in one way
+  reads-once : (s x y : Side) (m : List ℕ) (a b : Told) → SideReads s m a x → SideReads s m b y → (a ≡ b) × (x ≡ y)
+  reads-once s x y m a b (accepts_handshake _ _ p xs h) (accepts_handshake _ _ q ys k) =
+      let one = laws.accepted_once s.view.party m xs ys p q h k in (
+        ap Payload one.1,
+        ap (λ (zs : List (List ℕ)). accepted_handshake s (record { message = m; carried = zs; payload = p })) one.0
+            ∙ ap (λ (r : List ℕ). accepted_handshake s (record { message = m; carried = ys; payload = r })) one.1,
+      )
+  reads-once s x y m a b (accepts_handshake _ _ p xs h) (accepts_transport _ _ q due low is) =
+      let more = h.listens.more in let all = all-passed s.view due in absurd (omega arith)
+  reads-once s x y m a b (accepts_handshake _ _ p xs h) (refuses_message _ _ _ next bad j) =
+      absurd (subst GivesNoPayload (sym (judged-once s.view _ next m (Payload p) b (accepted s.view m p xs h) j).0) bad)
+  reads-once s x y m a b (accepts_transport _ _ p due low is) (accepts_handshake _ _ q ys k) =
+      let more = k.listens.more in let all = all-passed s.view due in absurd (omega arith)
+  reads-once s x y m a b (accepts_transport _ _ p due low is) (accepts_transport _ _ q d l be) =
+      let same : p ≡ q = packet-same s.view.party.history (other s.view.party.role) s.view.interval s.view.received p q (sym is ∙ be) in
+      (ap Payload same, ap (λ (z : List ℕ). accepted_transport s (record { message = m; payload = z })) same)
+  reads-once s x y m a b (accepts_transport _ _ p due low is) (refuses_message _ _ _ next bad j) =
+      absurd (subst GivesNoPayload (sym (judged-once s.view _ next m (Payload p) b (opened s.view m p due low is) j).0) bad)
+  reads-once s x y m a b (refuses_message _ _ _ next bad j) (accepts_handshake _ _ q ys k) =
+      absurd (subst GivesNoPayload (judged-once s.view next _ m a (Payload q) j (accepted s.view m q ys k)).0 bad)
+  reads-once s x y m a b (refuses_message _ _ _ next bad j) (accepts_transport _ _ q d l be) =
+      absurd (subst GivesNoPayload (judged-once s.view next _ m a (Payload q) j (opened s.view m q d l be)).0 bad)
+  reads-once s x y m a b (refuses_message _ _ _ next bad j) (refuses_message _ _ _ after worse k) =
+      let one = judged-once s.view next after m a b j k in (one.0, ap (with_view s) one.1)
+
+  -- a payload is written in one way
+  writes-once : (s x y : Side) (payload : List ℕ) (a b : Note) → SideWrites s payload a x → SideWrites s payload b y → (a ≡ b) × (x ≡ y)
+  writes-once s x y payload a b (writes_nothing _ _ why next h) (writes_nothing _ _ other_why after k) =
+      let one = laws.sent_once s.view next after payload (Err why) (Err other_why) h k in
+      (ap WriteFault (err-same why other_why one.0), ap (with_view s) one.1)
+  writes-once s x y payload a b (writes_nothing _ _ why next h) (writes_handshake _ m _ ys e w) =
+      absurd (writes-no-fault s x payload why e (λ k l. laws.not_lacking s.view.party payload m ys k w l) (writes_nothing s payload why next h))
+  writes-once s x y payload a b (writes_nothing _ _ why next h) (writes_transport _ m _ e due is) =
+      absurd (writes-no-fault s x payload why e (λ k l. not-due s due l.speaks.more) (writes_nothing s payload why next h))
+  writes-once s x y payload a b (writes_handshake _ m _ xs e w) (writes_nothing _ _ why next h) =
+      absurd (writes-no-fault s y payload why e (λ k l. laws.not_lacking s.view.party payload m xs k w l) (writes_nothing s payload why next h))
+  writes-once s x y payload a b (writes_handshake _ m _ xs e w) (writes_handshake _ n _ ys f z) =
+      let one = laws.written_once s.view.party payload m n xs ys w z in (
+        refl,
+        ap (λ (zs : List (List ℕ)). wrote_handshake s (record { message = m; carried = zs; payload = payload })) one.0
+            ∙ ap (λ (r : List ℕ). wrote_handshake s (record { message = r; carried = ys; payload = payload })) one.1,
+      )
+  writes-once s x y payload a b (writes_handshake _ m _ xs e w) (writes_transport _ n _ f due is) = absurd (not-due s due w.speaks.more)
+  writes-once s x y payload a b (writes_transport _ m _ e due is) (writes_nothing _ _ why next h) =
+      absurd (writes-no-fault s y payload why e (λ k l. not-due s due l.speaks.more) (writes_nothing s payload why next h))
+  writes-once s x y payload a b (writes_transport _ m _ e due is) (writes_handshake _ n _ ys f w) = absurd (not-due s due w.speaks.more)
+  writes-once s x y payload a b (writes_transport _ m _ e due is) (writes_transport _ n _ f d be) =
+      (refl, ap (λ (r : List ℕ). wrote_transport s (record { message = r; payload = payload })) (is ∙ sym be))
+
+  -- bytes are received in one way
+  receives-once : (s x y : Side) (bytes : List ℕ) (ms ns : List Note) → SideReceives s bytes ms x → SideReceives s bytes ns y → (ms ≡ ns) × (x ≡ y)
+  receives-once s x y bytes ms ns (is_idle _ _ step e) (is_idle _ _ other_step f) =
+      (ap (λ (z : Told). left_note z (length bytes)) (some-same step other_step (sym e ∙ f)), refl)
+  receives-once s x y bytes ms ns (is_idle _ _ step e) (waits _ _ f partial) = absurd (some-none _ step e f)
+  receives-once s x y bytes ms ns (is_idle _ _ step e) (reads_frame _ _ _ _ m rest _ more f is short reads on) = absurd (some-none _ step e f)
+  receives-once s x y bytes ms ns (waits _ _ e partial) (is_idle _ _ step f) = absurd (some-none _ step f e)
+  receives-once s x y bytes ms ns (waits _ _ e partial) (waits _ _ f part) = (refl, refl)
+  receives-once s x y bytes ms ns (waits _ _ e partial) (reads_frame _ _ _ _ m rest _ more f is short reads on) =
+      absurd (frame-whole m rest short (subst (λ (z : List ℕ). IsPartial z) is partial))
+  receives-once s x y bytes ms ns (reads_frame _ _ _ _ m rest _ more e is short reads on) (is_idle _ _ step f) = absurd (some-none _ step f e)
+  receives-once s x y bytes ms ns (reads_frame _ _ _ _ m rest _ more e is short reads on) (waits _ _ f partial) =
+      absurd (frame-whole m rest short (subst (λ (z : List ℕ). IsPartial z) is partial))
+  receives-once s x y bytes ms ns (reads_frame _ next _ _ m rest step more e is short reads on)
+      (reads_frame _ after _ _ n left told rest_notes f be small judges later) =
+      let same = frame-same m n rest left short small (sym is ∙ be) in
+      let one = reads-once s next after m step told reads (subst (λ (z : List ℕ). SideReads s z told after) (sym same.0) judges) in
+      let on_from : SideReceives next rest rest_notes y =
+      subst (λ (z : List ℕ). SideReceives next z rest_notes y) (sym same.1) (subst (λ (z : Side). SideReceives z left rest_notes y) (sym one.1) later) in
+      let two = receives-once next x y rest more rest_notes on on_from in
+      (ap (λ (z : Told). Judged z ∷ more) one.0 ∙ ap (λ (zs : List Note). Judged told ∷ zs) two.0, two.1)
+
+  -- what is noted of bytes, with what is held behind them
+  abbrev all_noted : Role → List Note → Side → List (Role × Note)
+  all_noted role notes s = noted_by role (notes ++ held_note (length s.view.held))
+
+  all-noted-same : (role : Role) (ms ns : List Note) (s t : Side) → ms ≡ ns → s ≡ t → all_noted role ms s ≡ all_noted role ns t
+  all-noted-same role ms ns s t e f = cc
+
+  -- one event
+  happens-once : (d x y : Sides) (event : Event) (ms ns : List (Role × Note)) → Happens d event ms x → Happens d event ns y → (ms ≡ ns) × (x ≡ y)
+  happens-once d x y event ms ns (writes _ role payload note next h) (writes _ _ _ other_note after k) =
+      let one = writes-once (side d role) next after payload note other_note h k in
+      (ap (λ (z : Note). (role, z) ∷ []) one.0, ap (with_side d role) one.1)
+  happens-once d x y event ms ns (says_nothing _ role payload why next h) (says_nothing _ _ _ other_why after k) =
+      let one = writes-once (side d role) next after payload (WriteFault why) (WriteFault other_why) h k in
+      (ap (λ (z : Note). (role, z) ∷ []) one.0, ap (with_side d role) one.1)
+  happens-once d x y event ms ns (says_nothing _ role payload why next h) (says _ _ _ bytes n notes after heard k at receives) =
+      absurd (not-both why n (writes-once (side d role) next after payload (WriteFault why) (Wrote n) h k).0)
+  happens-once d x y event ms ns (says _ role payload bytes n notes next heard h at receives) (says_nothing _ _ _ why after k) =
+      absurd (not-both why n (writes-once (side d role) after next payload (WriteFault why) (Wrote n) k h).0)
+  happens-once d x y event ms ns (says _ role payload bytes n notes next heard h at receives) (says _ _ _ others k more after hears w from gets) =
+      let one = writes-once (side d role) next after payload (Wrote n) (Wrote k) h w in
+      let number : n ≡ k = wrote-same n k one.0 in
+      let there : slice_get next.frames n ≡ Some others = ap (slice_get next.frames) number ∙ ap (λ (z : Side). slice_get z.frames k) one.1 ∙ from in
+      let same : bytes ≡ others = some-same bytes others (sym at ∙ there) in
+      let two = receives-once (side d (other role)) heard hears bytes notes more receives
+      (subst (λ (z : List ℕ). SideReceives (side d (other role)) z more hears) (sym same) gets) in (
+        ap (λ (z : ℕ). (role, Wrote z) ∷ all_noted (other role) notes heard) number
+            ∙ ap (λ (zs : List (Role × Note)). (role, Wrote k) ∷ zs) (all-noted-same (other role) notes more heard hears two.0 two.1),
+        ap (λ (z : Side). with_side (with_side d role z) (other role) heard) one.1 ∙ ap (with_side (with_side d role after) (other role)) two.1,
+      )
+  happens-once d x y event ms ns (delivers _ role n bytes notes heard at receives) (delivers _ _ _ others more hears from gets) =
+      let same : bytes ≡ others = some-same bytes others (sym at ∙ from) in
+      let two = receives-once (side d role) heard hears bytes notes more receives
+      (subst (λ (z : List ℕ). SideReceives (side d role) z more hears) (sym same) gets) in
+      (all-noted-same role notes more heard hears two.0 two.1, ap (with_side d role) two.1)
+  happens-once d x y event ms ns (delivers _ role n bytes notes heard at receives) (misses _ _ _ none) = absurd (some-none _ bytes at none)
+  happens-once d x y event ms ns (misses _ role n none) (delivers _ _ _ bytes notes heard at receives) = absurd (some-none _ bytes at none)
+  happens-once d x y event ms ns (misses _ role n none) (misses _ _ _ missing) = (refl, refl)
+  happens-once d x y event ms ns (injects _ role bytes notes heard receives) (injects _ _ _ more hears gets) =
+      let two = receives-once (side d role) heard hears bytes notes more receives gets in
+      (all-noted-same role notes more heard hears two.0 two.1, ap (with_side d role) two.1)
+
+  pub run-once : RunOnce
+  run-once d x y events ms ns (ends _) (ends _) = (refl, refl)
+  run-once d x y events ms ns (begins _ next _ event later now more h run) (begins _ after _ _ _ first rest k on) =
+      let one = happens-once d next after event now first h k in
+      let two = run-once next x y later more rest run (subst (λ (z : Sides). Run z later rest y) (sym one.1) on) in
+      (ap (λ (zs : List (Role × Note)). zs ++ more) one.0 ∙ ap (λ (zs : List (Role × Note)). first ++ zs) two.0, two.1)

@@ -1,0 +1,130 @@
+-- Two parties that are set up alike have their parts of one key material.
+use Rattle.std.proofs.Common.{◌≡◌, ℕ, List, [], ◌∷◌, length, refl, ap, sym, ◌∙◌}
+use Rattle.std.specs.Prelude.{Bool, true, false, ◌||◌, Option, Some, None, is_some, unwrap_or, if◌then◌else◌}
+use Rattle.noise_names.specs.declared.token.Role.{Role}
+use Rattle.noise_names.specs.declared.token.Role.TheVariants.{Initiator, Responder}
+use Rattle.noise_names.specs.declared.token.Token.{Token}
+use Rattle.noise_names.specs.declared.token.Token.TheVariants.{E, S}
+use Rattle.noise_names.specs.Plan.{Plan, places_of, message_places, pre_of}
+use Rattle.noise_names.specs.Validity.{stands, occurs, IsValid}
+use Rattle.noise_handshake.specs.declared.keys.Own.{Own}
+use Rattle.noise_handshake.specs.declared.keys.Own.TheVariants.{Ephemeral, Static}
+use Rattle.noise_handshake.specs.declared.remote.Remote.{Remote}
+use Rattle.noise_handshake.specs.View.{answered, own_at, remote_at}
+use Rattle.noise_handshake.specs.Setup.{has_before, public_keys, token_of}
+use Rattle.noise_handshake.specs.Counterparts.{is_dh, AnswersMeet}
+use Rattle.noise_duel.specs.Below.{LawsBelow}
+use Rattle.noise_duel.proofs.Parts.{remote-own}
+use Rattle.noise_duel.specs.Messages.{Start}
+use Rattle.noise_duel.specs.Agreement.{IsSetUp}
+use Rattle.noise_duel.specs.Conversation.{KeyMaterial, IsPart, public_keys_in}
+use Rattle.noise_duel.specs.SetUpAlike.{AreSetUpAlike, HasLongKeys, HasAnswers, AlikeAreParts}
+
+abbrev zeros : List ℕ
+zeros = 0 ∷ 0 ∷ 0 ∷ 0 ∷ 0 ∷ 0 ∷ 0 ∷ 0 ∷ 0 ∷ 0 ∷ 0 ∷ 0 ∷ 0 ∷ 0 ∷ 0 ∷ 0 ∷ 0 ∷ 0 ∷ 0 ∷ 0 ∷ 0 ∷ 0 ∷ 0 ∷ 0 ∷ 0 ∷ 0 ∷ 0 ∷ 0 ∷ 0 ∷ 0 ∷ 0 ∷ 0 ∷ []
+
+there-is : (o : Option (List ℕ)) (d : List ℕ) → is_some o ≡ true → o ≡ Some (unwrap_or o d)
+there-is None d h = cc
+there-is (Some x) d h = refl
+
+long-or : (o : Option (List ℕ)) → ((k : List ℕ) → o ≡ Some k → length k ≡ 32) → length (unwrap_or o zeros) ≡ 32
+long-or None f = refl
+long-or (Some k) f = f k refl
+
+if-same : (b : Bool) (o q : Option (List ℕ)) → (b ≡ true → o ≡ q) → (if b then o else None) ≡ (if b then q else None)
+if-same true o q f = f refl
+if-same false o q f = refl
+
+set-own : LawsBelow → (p : Plan) (role : Role) (s : Start) → IsSetUp p role s → (x : Own) → stands role (token_of x) (places_of p) ≡ true
+    → is_some (s.own x) ≡ true
+set-own laws p role s h x k = laws.set_own p role s.own s.remote (length s.secrets) h x k
+
+answers-same : (agree their_agree : Own → List ℕ → Option (List ℕ)) (x y : Own) (mine theirs : Option (List ℕ))
+    → ((k l : List ℕ) → mine ≡ Some k → theirs ≡ Some l → agree x l ≡ their_agree y k)
+    → is_some mine ≡ true → is_some theirs ≡ true → answered agree x theirs ≡ answered their_agree y mine
+answers-same agree their_agree x y None theirs f g h = cc
+answers-same agree their_agree x y (Some k) None f g h = cc
+answers-same agree their_agree x y (Some k) (Some l) f g h = f k l refl refl
+
+abbrev true-key : (s : Start) → Own → List ℕ
+true-key s x = unwrap_or (s.own x) zeros
+
+module _ (laws : LawsBelow) (p : Plan) (prologue : List ℕ) (a b : Start) (valid : IsValid p) (alike : AreSetUpAlike p prologue a b)
+    (answers : HasAnswers p a b) where
+  abbrev answer-at : Token → Option (List ℕ)
+  answer-at t = answered a.agree (own_at Initiator t) (remote_at Initiator (public_keys b.own) t)
+
+  abbrev public_in : Role → Own → List ℕ
+  public_in Initiator x = true-key a x
+  public_in Responder x = true-key b x
+
+  abbrev material : KeyMaterial
+  material = record { public = public_in; answer = λ t. unwrap_or (answer-at t) []; secrets = a.secrets }
+
+  own-a : (x : Own) → stands Initiator (token_of x) (places_of p) ≡ true → a.own x ≡ Some (true-key a x)
+  own-a x h = there-is (a.own x) zeros (set-own laws p Initiator a alike.initiator x h)
+
+  own-b : (x : Own) → stands Responder (token_of x) (places_of p) ≡ true → b.own x ≡ Some (true-key b x)
+  own-b x h = there-is (b.own x) zeros (set-own laws p Responder b alike.responder x h)
+
+  meets : AnswersMeet p Initiator a.own a.agree b.own b.agree
+  meets t d h =
+      let x : Own = own_at Initiator t in
+      let y : Own = own_at Responder t in
+      ap (answered a.agree x) (remote-own Initiator b.own t)
+      ∙ answers-same a.agree b.agree x y (a.own x) (b.own y) (alike.keys x y)
+      (set-own laws p Initiator a alike.initiator x (laws.dh_stands p Initiator t valid d h))
+      (set-own laws p Responder b alike.responder y (laws.dh_stands p Responder t valid d h))
+      ∙ ap (answered b.agree y) (sym (remote-own Responder a.own t))
+
+  answers-a : (t : Token) → is_dh t ≡ true → occurs t (places_of p) ≡ true
+      → answered a.agree (own_at Initiator t) (remote_at Initiator (public_keys_in material Responder) t) ≡ Some (unwrap_or (answer-at t) [])
+  answers-a t d h =
+      ap (answered a.agree (own_at Initiator t))
+      (remote-own Initiator (λ x. Some (true-key b x)) t ∙ sym (own-b (own_at Responder t) (laws.dh_stands p Responder t valid d h))
+      ∙ sym (remote-own Initiator b.own t))
+      ∙ there-is (answer-at t) [] (answers t d h)
+
+  answers-b : (t : Token) → is_dh t ≡ true → occurs t (places_of p) ≡ true
+      → answered b.agree (own_at Responder t) (remote_at Responder (public_keys_in material Initiator) t) ≡ Some (unwrap_or (answer-at t) [])
+  answers-b t d h =
+      ap (answered b.agree (own_at Responder t))
+      (remote-own Responder (λ x. Some (true-key a x)) t ∙ sym (own-a (own_at Initiator t) (laws.dh_stands p Initiator t valid d h))
+      ∙ sym (remote-own Responder a.own t))
+      ∙ sym (meets t d h) ∙ there-is (answer-at t) [] (answers t d h)
+
+  part-a : IsPart material p Initiator prologue a
+  part-a = record {
+    prologue_is = alike.prologue_is;
+    own = own-a;
+    remote_e = ap (λ (r : Remote). r.e) alike.known
+        ∙ if-same (has_before p Responder E) (b.own Ephemeral) (Some (true-key b Ephemeral)) (λ h. own-b Ephemeral (laws.before_stands p Responder E h));
+    remote_s = ap (λ (r : Remote). r.s) alike.known
+        ∙ if-same (has_before p Responder S) (b.own Static) (Some (true-key b Static)) (λ h. own-b Static (laws.before_stands p Responder S h));
+    answers = answers-a;
+    secrets = refl;
+  }
+
+  part-b : IsPart material p Responder prologue b
+  part-b = record {
+    prologue_is = alike.prologue_too;
+    own = own-b;
+    remote_e = ap (λ (r : Remote). r.e) alike.known_too
+        ∙ if-same (has_before p Initiator E) (a.own Ephemeral) (Some (true-key a Ephemeral)) (λ h. own-a Ephemeral (laws.before_stands p Initiator E h));
+    remote_s = ap (λ (r : Remote). r.s) alike.known_too
+        ∙ if-same (has_before p Initiator S) (a.own Static) (Some (true-key a Static)) (λ h. own-a Static (laws.before_stands p Initiator S h));
+    answers = answers-b;
+    secrets = alike.secrets;
+  }
+
+  long-in : HasLongKeys a → HasLongKeys b → (role : Role) (k : Own) → length (public_in role k) ≡ 32
+  long-in f g Initiator k = long-or (a.own k) (f k)
+  long-in f g Responder k = long-or (b.own k) (g k)
+
+pub alike-are-parts : LawsBelow → AlikeAreParts
+alike-are-parts laws p prologue a b valid alike f g answers = record {
+  material = material laws p prologue a b valid alike answers;
+  long = long-in laws p prologue a b valid alike answers f g;
+  initiator = part-a laws p prologue a b valid alike answers;
+  responder = part-b laws p prologue a b valid alike answers;
+}

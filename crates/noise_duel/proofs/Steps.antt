@@ -1,0 +1,209 @@
+-- A message from one end to the other one, which listens: in the handshake, and in transport.
+use Rattle.std.proofs.Common.{◌≡◌, ◌≢◌, ℕ, ◌+◌, ◌<◌, ◌≤◌, List, [], ◌∷◌, length, refl, ap, sym, subst, ◌∙◌, arith, Some, None}
+use Rattle.std.proofs.lemmas.Bool.Decides.{nat_tests}
+use Rattle.std.specs.Prelude.{Bool, true, false, not, ◌&&◌, ◌==◌, nat_lt, IsTrue, if◌then◌else◌, is_some}
+use Rattle.noise_names.specs.declared.token.Role.{Role}
+use Rattle.noise_names.specs.declared.token.Role.TheVariants.{Initiator, Responder}
+use Rattle.noise_names.specs.Tokens.{other, same_role, turn_from}
+use Rattle.noise_names.specs.Plan.{is_one_way}
+use Rattle.noise_names.specs.Overhead.{has_key, overhead_of}
+use Rattle.noise_names.specs.Validity.{IsValid}
+use Rattle.noise_state.specs.History.{History, cipher_key}
+use Rattle.noise_handshake.specs.Passed.{passed_places}
+use Rattle.noise_handshake.specs.View.{View, Accepts, Listens, Speaks}
+use Rattle.noise_handshake.specs.Writing.{Writes}
+use Rattle.noise_handshake.specs.Party.{behind_own, behind_message}
+use Rattle.noise_handshake.specs.Counterparts.{Counterparts, IsEquipped}
+use Rattle.noise_aead.specs.Sealing.{nonce_of}
+use Rattle.noise_aead.specs.Sealed.{length-sealed}
+use Rattle.noise_state.specs.History.{rekeyed_times}
+use Rattle.noise_session.specs.declared.faults.SendFault.{SendFault}
+use Rattle.noise_session.specs.declared.faults.SendFault.TheVariants as fault
+use Rattle.noise_session.specs.Frames.{frame}
+use Rattle.noise_session.specs.Transport.{packet, last_nonce, renewals, split_key}
+use Rattle.noise_session.specs.Steps.Told.{Payload, Ended, Silent, YourTurn}
+use Rattle.noise_session.specs.Progress.{Progress, is_open, idle_step, refusal}
+use Rattle.noise_session.specs.Progress.Progress.{Handshaking, Open}
+use Rattle.noise_duel.specs.Below.{LawsBelow}
+use Rattle.noise_session.specs.Ends.{EndView, progress_of}
+use Rattle.noise_duel.specs.Sides.{Side, wrote_handshake, accepted_handshake, wrote_transport, accepted_transport}
+use Rattle.noise_duel.specs.Events.{Note, Wrote, WriteFault, Judged}
+use Rattle.noise_duel.specs.Runs.{SideWrites, SideReceives}
+use Rattle.noise_duel.specs.Runs.SideWrites.{writes_handshake, writes_transport}
+use Rattle.noise_duel.specs.Runs.SideReads.{accepts_handshake, accepts_transport}
+use Rattle.noise_duel.proofs.Invariant.{all-passed}
+use Rattle.noise_duel.proofs.Lines.{writes-no-fault, writes-message, writes-packet, reads-message, reads-packet, receives-one, receives-can}
+
+same-self : (r : Role) → same_role r r ≡ true
+same-self Initiator = refl
+same-self Responder = refl
+
+same-other : (r : Role) → same_role (other r) r ≡ false
+same-other Initiator = refl
+same-other Responder = refl
+
+-- ---- no refusal, and not idle
+
+pub below : (a b : ℕ) → a < b → (a == b) ≡ false
+below a b h = grind (arith, nat_tests)
+
+pub apart : (a b : ℕ) → a < b → a ≢ b
+apart a b h e = omega (arith, h, e)
+
+equal : (a b : ℕ) → a ≡ b → (a == b) ≡ true
+equal a b e = grind (arith, nat_tests)
+
+in-room : (n : ℕ) → n ≤ 65535 → nat_lt 65535 n ≡ false
+in-room n h = grind (arith, nat_tests)
+
+-- how far an end has come of whose handshake messages are to come, or all have passed
+pub handshaking : (v : EndView) → v.party.ended ≡ false → v.party.passed < length v.party.pattern.messages
+    → progress_of v ≡ Handshaking v.party.pattern v.party.role v.party.passed
+handshaking v going more = rw (going, below v.party.passed (length v.party.pattern.messages) more) refl
+
+pub opened-now : (v : EndView) → v.party.ended ≡ false → v.party.passed ≡ length v.party.pattern.messages
+    → progress_of v ≡ Open v.party.role (is_one_way v.party.pattern) v.sent v.received
+opened-now v going all = rw (going, equal v.party.passed (length v.party.pattern.messages) all) refl
+
+-- a party whose turn it is in the handshake isn't refused
+speaks-unrefused : (s : EndView) (n : ℕ) → Speaks s.party → overhead_of s.party.pattern (s.party.passed + 1) + n ≤ 65535 → refusal (progress_of s) n ≡ None
+speaks-unrefused s n h room =
+    ap (λ (p : Progress). refusal p n) (handshaking s h.going h.more)
+    ∙ ap (λ (r : Role). refusal (Handshaking s.party.pattern r s.party.passed) n) (sym h.turn)
+    ∙ own-turn (turn_from Initiator s.party.passed) refl
+  where
+    own-turn : (r : Role) → turn_from Initiator s.party.passed ≡ r → refusal (Handshaking s.party.pattern r s.party.passed) n ≡ None
+    own-turn r e = rw (ap (λ (q : Role). same_role q r) e ∙ same-self r, in-room (overhead_of s.party.pattern (s.party.passed + 1) + n) room) refl
+
+-- one whose turn it isn't listens
+listens-now : (t : EndView) → Listens t.party → idle_step (progress_of t) ≡ None
+listens-now t h =
+    ap idle_step (handshaking t h.going h.more) ∙ rw (ap (λ (r : Role). same_role r t.party.role) h.turn ∙ same-other t.party.role) refl
+
+-- ---- a handshake message
+
+pub record HandshakeStep (s t : Side) (payload : List ℕ) : Type 0 where
+  pub carried : List (List ℕ)
+  pub message : List ℕ
+  pub writes : Writes s.view.party payload carried message
+  pub accepts : Accepts t.view.party message carried payload
+  pub counterparts : Counterparts (behind_own s.view.party carried payload) (behind_message t.view.party carried payload)
+  pub lacks : (why : SendFault) (next : Side) → SideWrites s payload (WriteFault why) next → ⊥
+  pub written : (k : ℕ) (next : Side) → SideWrites s payload (Wrote k) next
+      → (next ≡ wrote_handshake s (record { message = message; carried = carried; payload = payload })) × (k ≡ length s.frames)
+  pub can_write : SideWrites s payload (Wrote (length s.frames)) (wrote_handshake s (record { message = message; carried = carried; payload = payload }))
+  pub can_receive : SideReceives t (frame message) (Judged (Payload payload) ∷ [])
+      (accepted_handshake t (record { message = message; carried = carried; payload = payload }))
+  pub receives : (ns : List Note) (last : Side) → SideReceives t (frame message) ns last
+      → (ns ≡ Judged (Payload payload) ∷ []) × (last ≡ accepted_handshake t (record { message = message; carried = carried; payload = payload }))
+
+pub step-handshake : LawsBelow → (s t : Side) (payload : List ℕ) → IsValid s.view.party.pattern → Counterparts s.view.party t.view.party
+    → IsEquipped s.view.party.pattern s.view.party.role s.view.party.own s.view.party.agree t.view.party.own → Speaks s.view.party
+    → is_some (cipher_key s.view.party.history) ≡ has_key s.view.party.pattern (passed_places s.view.party.pattern s.view.party.passed)
+    → overhead_of s.view.party.pattern (s.view.party.passed + 1) + length payload ≤ 65535 → t.view.held ≡ [] → HandshakeStep s t payload
+step-handshake laws s t payload valid m has speaks keyed room empty =
+    let v : View = s.view.party in
+    let u : View = t.view.party in
+    let d = laws.due v u payload valid m has speaks keyed room in
+    let a : Accepts u d.1 d.0 payload = laws.accepts v u payload d.1 d.0 valid m d.2 in
+    let closed_s : is_open (progress_of s.view) ≡ false = ap is_open (handshaking s.view speaks.going speaks.more) in
+    let closed_t : is_open (progress_of t.view) ≡ false = ap is_open (handshaking t.view a.listens.going a.listens.more) in
+    record {
+      carried = d.0;
+      message = d.1;
+      writes = d.2;
+      accepts = a;
+      counterparts = laws.next v u payload d.1 d.0 valid m d.2;
+      lacks = λ why next. writes-no-fault s next payload why (speaks-unrefused s.view (length payload) speaks room)
+          (λ k l. laws.not_lacking v payload d.1 d.0 k d.2 l);
+      written = λ k next. writes-message laws s next payload d.1 d.0 k closed_s d.2;
+      can_write = writes_handshake s d.1 payload d.0 (speaks-unrefused s.view (length payload) speaks room) d.2;
+      can_receive = receives-can t (accepted_handshake t (record { message = d.1; carried = d.0; payload = payload })) d.1 payload
+          (listens-now t.view a.listens) empty refl a.fits (accepts_handshake t d.1 payload d.0 a);
+      receives = λ ns last. receives-one t (accepted_handshake t (record { message = d.1; carried = d.0; payload = payload })) last d.1 payload ns
+          (listens-now t.view a.listens) empty refl a.fits
+          (reads-message laws t d.1 payload d.0 closed_t a);
+    }
+
+-- ---- a transport message
+
+pub record TransportStep (s t : Side) (payload : List ℕ) : Type 0 where
+  pub message : List ℕ
+  pub is : message ≡ packet s.view.party.history s.view.party.role s.view.interval s.view.sent payload
+  pub lacks : (why : SendFault) (next : Side) → SideWrites s payload (WriteFault why) next → ⊥
+  pub written : (k : ℕ) (next : Side) → SideWrites s payload (Wrote k) next
+      → (next ≡ wrote_transport s (record { message = message; payload = payload })) × (k ≡ length s.frames)
+  pub can_write : SideWrites s payload (Wrote (length s.frames)) (wrote_transport s (record { message = message; payload = payload }))
+  pub can_receive : SideReceives t (frame message) (Judged (Payload payload) ∷ []) (accepted_transport t (record { message = message; payload = payload }))
+  pub receives : (ns : List Note) (last : Side) → SideReceives t (frame message) ns last
+      → (ns ≡ Judged (Payload payload) ∷ []) × (last ≡ accepted_transport t (record { message = message; payload = payload }))
+
+pub none-below : (done b : Bool) → done ≡ false → (done && b) ≡ false
+none-below true b e = cc
+none-below false b e = refl
+
+pub none-right : (done b : Bool) → b ≡ false → (done && b) ≡ false
+none-right true b e = e
+none-right false b e = refl
+
+pub below-too : (a n b : ℕ) → a ≤ n → n < b → a < b
+below-too a n b h k = omega (arith, h, k)
+
+pub not-both : Responder ≡ Initiator → ⊥
+not-both e = let bad : true ≡ false = ap (λ (r : Role). same_role r Responder) e in cc
+
+pub not-true : (b : Bool) → (b ≡ true → ⊥) → b ≡ false
+not-true true h = absurd (h refl)
+not-true false h = refl
+
+-- an open end that may write isn't refused, and one that may read listens
+open-unrefused : (role : Role) (one_way : Bool) (sent received n : ℕ) → (one_way && same_role role Responder) ≡ false → n + 16 ≤ 65535 → sent < last_nonce
+    → refusal (Open role one_way sent received) n ≡ None
+open-unrefused role one_way sent received n free room low = rw (free, in-room (n + 16) room, below sent last_nonce low) refl
+
+open-listens : (role : Role) (one_way : Bool) (sent received : ℕ) → (one_way && same_role role Initiator) ≡ false
+    → idle_step (Open role one_way sent received) ≡ None
+open-listens role one_way sent received free = rw free refl
+
+pub step-transport : (s t : Side) (payload : List ℕ) → s.view.party.passed ≡ length s.view.party.pattern.messages
+    → t.view.party.passed ≡ length t.view.party.pattern.messages
+    → (is_one_way s.view.party.pattern && same_role s.view.party.role Responder) ≡ false
+    → (is_one_way t.view.party.pattern && same_role t.view.party.role Initiator) ≡ false
+    → s.view.party.ended ≡ false → t.view.party.ended ≡ false
+    → length payload ≤ 65519 → s.view.sent < last_nonce → t.view.received ≡ s.view.sent → t.view.party.history ≡ s.view.party.history
+    → t.view.interval ≡ s.view.interval
+    → other t.view.party.role ≡ s.view.party.role → t.view.held ≡ [] → TransportStep s t payload
+step-transport s t payload all all_t ones onet going going_t short low count history interval role empty =
+    let p : progress_of s.view ≡ Open s.view.party.role (is_one_way s.view.party.pattern) s.view.sent s.view.received = opened-now s.view going all in
+    let q : progress_of t.view ≡ Open t.view.party.role (is_one_way t.view.party.pattern) t.view.sent t.view.received = opened-now t.view going_t all_t in
+    let es : is_open (progress_of s.view) ≡ true = ap is_open p in
+    let et : is_open (progress_of t.view) ≡ true = ap is_open q in
+    let key : List ℕ = rekeyed_times (renewals s.view.interval s.view.sent) (split_key s.view.party.history s.view.party.role) in
+    let m : List ℕ = packet s.view.party.history s.view.party.role s.view.interval s.view.sent payload in
+    let free : refusal (progress_of s.view) (length payload) ≡ None =
+    ap (λ (x : Progress). refusal x (length payload)) p
+    ∙ open-unrefused s.view.party.role (is_one_way s.view.party.pattern) s.view.sent s.view.received (length payload) ones (omega (arith, short)) low in
+    let idle : idle_step (progress_of t.view) ≡ None =
+    ap idle_step q ∙ open-listens t.view.party.role (is_one_way t.view.party.pattern) t.view.sent t.view.received onet in
+    let is : m ≡ packet t.view.party.history (other t.view.party.role) t.view.interval t.view.received payload =
+    ap (λ (r : History). packet r s.view.party.role s.view.interval s.view.sent payload) (sym history)
+    ∙ ap (λ (r : Role). packet t.view.party.history r s.view.interval s.view.sent payload) (sym role)
+    ∙ ap (λ (k : ℕ). packet t.view.party.history (other t.view.party.role) k s.view.sent payload) (sym interval)
+    ∙ ap (λ (k : ℕ). packet t.view.party.history (other t.view.party.role) t.view.interval k payload) (sym count) in
+    let size : length m ≡ length payload + 16 = length-sealed key (nonce_of s.view.sent) [] payload in
+    let below_last : t.view.received ≢ last_nonce = apart t.view.received last_nonce (subst (λ (k : ℕ). k < last_nonce) (sym count) low) in
+    record {
+      message = m;
+      is = refl;
+      lacks = λ why next. writes-no-fault s next payload why free (λ k l. behind-all s.view es l.speaks.more);
+      written = λ k next. writes-packet s next payload k es;
+      can_write = writes_transport s m payload free es refl;
+      can_receive = receives-can t (accepted_transport t (record { message = m; payload = payload })) m payload idle empty refl (omega (arith, size, short))
+          (accepts_transport t m payload et below_last is);
+      receives = λ ns last. receives-one t (accepted_transport t (record { message = m; payload = payload })) last m payload ns idle empty refl
+          (omega (arith, size, short))
+          (reads-packet t m payload et below_last is);
+    }
+  where
+    behind-all : (v : EndView) → IsTrue (is_open (progress_of v)) → v.party.passed < length v.party.pattern.messages → ⊥
+    behind-all v h less = omega (arith, less, all-passed v h)

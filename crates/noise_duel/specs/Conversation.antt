@@ -1,0 +1,175 @@
+-- A whole conversation, in which no party has a state: what all messages are, from both parties' public keys, the DH answers and the secrets
+-- (Noise 5.3, 9.2 and 13).
+use Rattle.std.specs.Prelude.{◌≡◌, ℕ, ◌+◌, ◌≤◌, ◌<◌, List, [], ◌∷◌, ◌++◌, length, drop, take, count_by, map, Some, true, if◌then◌else◌, IsTrue, ⊤, None}
+use Rattle.std.specs.Prelude.{nat_lt, MatchBool}
+use Rattle.noise_names.specs.declared.token.Role.{Role}
+use Rattle.noise_names.specs.declared.token.Role.TheVariants.{Initiator, Responder}
+use Rattle.noise_names.specs.declared.token.Token.{Token}
+use Rattle.noise_names.specs.declared.token.Token.TheVariants.{E, S, Psk}
+use Rattle.noise_names.specs.Tokens.{is_psk, other, same_role, turn_from}
+use Rattle.noise_names.specs.Plan.{Plan, has_psk, is_one_way, places_of}
+use Rattle.noise_names.specs.Names.{name_bytes}
+use Rattle.noise_names.specs.Overhead.{overhead_of}
+use Rattle.noise_names.specs.Validity.{stands, occurs, IsValid}
+use Rattle.noise_names.specs.Limits.{IsPattern}
+use Rattle.noise_state.specs.History.{History}
+use Rattle.noise_handshake.specs.declared.keys.Own.{Own}
+use Rattle.noise_handshake.specs.declared.keys.Own.TheVariants.{Ephemeral, Static}
+use Rattle.noise_handshake.specs.declared.remote.Remote.{Remote}
+use Rattle.noise_handshake.specs.Line.{line, behind_line}
+use Rattle.noise_handshake.specs.View.{start, tokens_at, first_secret, other_secrets, own_at, remote_at, answered}
+use Rattle.noise_handshake.specs.Setup.{has_before, token_of}
+use Rattle.noise_handshake.specs.Counterparts.{is_dh, Counterparts}
+use Rattle.noise_session.specs.Ends.{end_of}
+use Rattle.noise_session.specs.Steps.Told.{Payload}
+use Rattle.noise_session.specs.Frames.{frame}
+use Rattle.noise_session.specs.Transport.{packet, last_nonce}
+use Rattle.noise_duel.specs.Messages.{HandshakeMessage, Start, begun_as, messages_of}
+use Rattle.noise_duel.specs.Sides.{Sides, side, new_side}
+use Rattle.noise_duel.specs.Events.{Event, Say, Note, Wrote, Judged}
+use Rattle.noise_duel.specs.Runs.{Run}
+
+-- the public keys of both parties, one answer for each DH token, and the secrets of the psk tokens, in their order
+pub record KeyMaterial : Type 0 where
+  pub public : Role → Own → List ℕ
+  pub answer : Token → List ℕ
+  pub secrets : List (List ℕ)
+
+-- what the tokens of a party's message carry (Noise 5.3, 9.2)
+abbrev pub carried_by : KeyMaterial → Role → List (List ℕ) → List Token → List (List ℕ)
+carried_by w party secrets [] = []
+carried_by w party secrets (E ∷ ts) = w.public party Ephemeral ∷ carried_by w party secrets ts
+carried_by w party secrets (S ∷ ts) = w.public party Static ∷ carried_by w party secrets ts
+carried_by w party secrets (Psk ∷ ts) = first_secret secrets ∷ carried_by w party (other_secrets secrets) ts
+carried_by w party secrets (t ∷ ts) = w.answer t ∷ carried_by w party secrets ts
+
+-- the handshake messages from number n on, counted from 0, with these payloads (Noise 5.3)
+abbrev pub conversation : KeyMaterial → Plan → ℕ → List (List ℕ) → History → List (List ℕ) → List HandshakeMessage
+conversation w p n secrets r [] = []
+conversation w p n secrets r (payload ∷ payloads) =
+    record {
+      message = line (has_psk p) r (tokens_at p.messages n) (carried_by w (turn_from Initiator n) secrets (tokens_at p.messages n)) payload;
+      carried = carried_by w (turn_from Initiator n) secrets (tokens_at p.messages n);
+      payload = payload;
+    }
+    ∷ conversation w p (n + 1) (drop (count_by is_psk (tokens_at p.messages n)) secrets)
+    (behind_line (has_psk p) r (tokens_at p.messages n) (carried_by w (turn_from Initiator n) secrets (tokens_at p.messages n)) payload) payloads
+
+-- the history behind them (Noise 5.3)
+abbrev pub behind_conversation : KeyMaterial → Plan → ℕ → List (List ℕ) → History → List (List ℕ) → History
+behind_conversation w p n secrets r [] = r
+behind_conversation w p n secrets r (payload ∷ payloads) =
+    behind_conversation w p (n + 1) (drop (count_by is_psk (tokens_at p.messages n)) secrets)
+    (behind_line (has_psk p) r (tokens_at p.messages n) (carried_by w (turn_from Initiator n) secrets (tokens_at p.messages n)) payload) payloads
+
+-- a party's public keys
+abbrev pub public_keys_in : KeyMaterial → Role → Remote
+public_keys_in w party = record { e = Some (w.public party Ephemeral); s = Some (w.public party Static) }
+
+-- the history at the start (Noise 5.3)
+abbrev pub start_in : KeyMaterial → Plan → List ℕ → History
+start_in w p prologue =
+    start (name_bytes (record { base = p.base; places = p.places })) p prologue (public_keys_in w Initiator) (public_keys_in w Responder)
+
+-- A party starts from its part of the key material: it has its own keys that the pattern asks for, the other party's of its pre-message, the answer
+-- at each DH token, and the secrets.
+pub record IsPart (w : KeyMaterial) (p : Plan) (role : Role) (prologue : List ℕ) (s : Start) : Type 0 where
+  pub prologue_is : s.prologue ≡ prologue
+  pub own : (k : Own) → stands role (token_of k) (places_of p) ≡ true → s.own k ≡ Some (w.public role k)
+  pub remote_e : s.remote.e ≡ (if has_before p (other role) E then Some (w.public (other role) Ephemeral) else None)
+  pub remote_s : s.remote.s ≡ (if has_before p (other role) S then Some (w.public (other role) Static) else None)
+  pub answers : (t : Token) → is_dh t ≡ true → occurs t (places_of p) ≡ true
+      → answered s.agree (own_at role t) (remote_at role (public_keys_in w (other role)) t) ≡ Some (w.answer t)
+  pub secrets : s.secrets ≡ w.secrets
+
+-- Lines, a role and a payload each, in turn and not too long, from message n on: the handshake messages, and then transport messages, which in a
+-- one-way pattern the initiator alone writes (Noise 3, 7.4).
+abbrev pub InTurn : Plan → ℕ → List (Role × List ℕ) → Type 0
+InTurn p n [] = ⊤
+InTurn p n (l ∷ lines) =
+    MatchBool (nat_lt n (length p.messages))
+    ((l.0 ≡ turn_from Initiator n) × (overhead_of p (n + 1) + length l.1 ≤ 65535))
+    ((IsTrue (is_one_way p) → l.0 ≡ Initiator) × (length l.1 ≤ 65519) × (n < last_nonce))
+    × InTurn p (n + 1) lines
+
+-- what is noted of lines that all come through, when each party has written so many frames
+abbrev pub notes_of_lines : ℕ → ℕ → List (Role × List ℕ) → List (Role × Note)
+notes_of_lines i j [] = []
+notes_of_lines i j (l ∷ lines) =
+    (if same_role l.0 Initiator
+    then (Initiator, Wrote i) ∷ (Responder, Judged (Payload l.1)) ∷ notes_of_lines (i + 1) j lines
+    else (Responder, Wrote j) ∷ (Initiator, Judged (Payload l.1)) ∷ notes_of_lines i (j + 1) lines)
+
+-- a Say event for each line
+abbrev pub say_events : List (Role × List ℕ) → List Event
+say_events lines = map (λ l. Say l.0 l.1) lines
+
+-- ---- the frames
+
+-- messages with their writers, who take turns, from number n on
+abbrev pub in_turn : ℕ → List (List ℕ) → List (Role × List ℕ)
+in_turn n [] = []
+in_turn n (m ∷ ms) = (turn_from Initiator n, m) ∷ in_turn (n + 1) ms
+
+-- the transport messages of lines with their writers, behind a history and so many packets of each (Noise 5.2)
+abbrev pub packets_of : History → ℕ → ℕ → ℕ → List (Role × List ℕ) → List (Role × List ℕ)
+packets_of r interval i j [] = []
+packets_of r interval i j (l ∷ lines) =
+    (if same_role l.0 Initiator
+    then (Initiator, packet r Initiator interval i l.1) ∷ packets_of r interval (i + 1) j lines
+    else (Responder, packet r Responder interval j l.1) ∷ packets_of r interval i (j + 1) lines)
+
+-- the frames of a role among messages with their writers
+abbrev pub frames_by : Role → List (Role × List ℕ) → List (List ℕ)
+frames_by role [] = []
+frames_by role (m ∷ ms) = (if same_role m.0 role then frame m.1 ∷ [] else []) ++ frames_by role ms
+
+-- the payloads of the first k lines
+abbrev pub payloads_in : ℕ → List (Role × List ℕ) → List (List ℕ)
+payloads_in k lines = map (λ l. l.1) (take k lines)
+
+-- all messages of lines with their writers, the handshake's and then the packets
+abbrev pub transcript : KeyMaterial → Plan → List ℕ → ℕ → List (Role × List ℕ) → List (Role × List ℕ)
+transcript w p prologue interval lines =
+    in_turn 0 (messages_of (conversation w p 0 w.secrets (start_in w p prologue) (payloads_in (length p.messages) lines)))
+    ++ packets_of (behind_conversation w p 0 w.secrets (start_in w p prologue) (payloads_in (length p.messages) lines)) interval 0 0
+    (drop (length p.messages) lines)
+
+-- two new ends of one pattern, with these intervals
+abbrev pub facing : Plan → Start → Start → ℕ → ℕ → Sides
+facing p a b i j =
+    record { initiator = new_side (end_of (begun_as p Initiator a) i); responder = new_side (end_of (begun_as p Responder b) j) }
+
+-- Each end has written the frames of the transcript that are its own, and what the one wrote the other has accepted. As many handshake messages have
+-- passed as there were lines for, the history is that of their payloads, and the parties are counterparts: they have one history, and each knows the
+-- keys that the other has sent.
+pub record ComeThrough (w : KeyMaterial) (p : Plan) (prologue : List ℕ) (interval : ℕ) (lines : List (Role × List ℕ)) (d : Sides) : Type 0 where
+  pub frames : (role : Role) → (side d role).frames ≡ frames_by role (transcript w p prologue interval lines)
+  pub initiator : d.initiator.passed ≡ conversation w p 0 w.secrets (start_in w p prologue) (payloads_in (length p.messages) lines)
+  pub responder : d.responder.passed ≡ d.initiator.passed
+  pub history : d.initiator.view.party.history ≡ behind_conversation w p 0 w.secrets (start_in w p prologue) (payloads_in (length p.messages) lines)
+  pub count : d.initiator.view.party.passed ≡ length (payloads_in (length p.messages) lines)
+  pub counterparts : Counterparts d.initiator.view.party d.responder.view.party
+  pub there : d.responder.received ≡ d.initiator.sent
+  pub back : d.initiator.received ≡ d.responder.sent
+
+-- key material with public keys of 32 bytes, and two parties with their parts of it, in a valid pattern
+pub record HaveParts (w : KeyMaterial) (p : Plan) (prologue : List ℕ) (a b : Start) : Type 0 where
+  pub pattern : IsPattern p
+  pub valid : IsValid p
+  pub long : (role : Role) (k : Own) → length (w.public role k) ≡ 32
+  pub initiator : IsPart w p Initiator prologue a
+  pub responder : IsPart w p Responder prologue b
+
+-- Lines in turn between two such parties come through.
+abbrev pub LinesComeThrough : Type 0
+LinesComeThrough = (w : KeyMaterial) (p : Plan) (prologue : List ℕ) (a b : Start) (interval : ℕ) (lines : List (Role × List ℕ))
+    (notes : List (Role × Note)) (d : Sides) → HaveParts w p prologue a b → InTurn p 0 lines
+    → Run (facing p a b interval interval) (say_events lines) notes d
+    → (notes ≡ notes_of_lines 0 0 lines) × ComeThrough w p prologue interval lines d
+
+-- There is such a run.
+abbrev pub LinesRun : Type 0
+LinesRun = (w : KeyMaterial) (p : Plan) (prologue : List ℕ) (a b : Start) (interval : ℕ) (lines : List (Role × List ℕ))
+    → HaveParts w p prologue a b → InTurn p 0 lines
+    → (notes : List (Role × Note)) × (d : Sides) × Run (facing p a b interval interval) (say_events lines) notes d

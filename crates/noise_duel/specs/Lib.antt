@@ -1,0 +1,13 @@
+pub mod Below
+pub mod Collision
+pub mod Messages
+pub mod Events
+pub mod Sides
+pub mod Runs
+pub mod Conversation
+pub mod Agreement
+pub mod Invariant
+pub mod Forgery
+pub mod Networks
+pub mod SetUpAlike
+pub mod OwnFrames
