@@ -1,5 +1,5 @@
 -- What is left of a vector file's text where its lines are read one after the other.
-use Rattle.std.proofs.Common.{◌≡◌, refl, subst, sym, false, ℕ, List, [], ◌∷◌, ◌++◌, Option, Some, None, codes, decimal}
+use Rattle.std.proofs.Common.{◌≡◌, refl, subst, sym, false, ℕ, List, [], ◌∷◌, ◌++◌, Option, codes, decimal}
 use Rattle.std.specs.Bool.{nat_eq}
 use Rattle.std.specs.List.{starts_with}
 use Rattle.noise_names.specs.declared.token.Role.TheVariants.{Initiator, Responder}
