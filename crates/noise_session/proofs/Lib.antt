@@ -11,3 +11,4 @@ pub mod Growing
 pub mod Once
 pub mod Cutting
 pub mod SentOnce
+pub mod Counterparts

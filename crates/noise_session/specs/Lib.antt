@@ -6,6 +6,7 @@ pub mod Faults
 pub mod Steps
 pub mod Progress
 pub mod Ends
+pub mod Counterparts
 pub mod Phases
 pub mod Taking
 pub mod Sending

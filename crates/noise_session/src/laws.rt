@@ -1,16 +1,18 @@
 //! Laws of taking and writing.
 #![tactic(auto)]
 
-ghost use Rattle.std.specs.Prelude.{◌≡◌, ◌+◌, ℕ, List, ◌++◌, length, Result};
+ghost use Rattle.std.specs.Prelude.{◌≡◌, ◌+◌, ℕ, List, ◌++◌, length, Result, Ok};
 ghost use Rattle.noise_session.specs.Ends.{EndView};
 ghost use Rattle.noise_session.specs.Steps.{Told};
-ghost use Rattle.noise_session.specs.Steps.Told.{More};
+ghost use Rattle.noise_names.specs.Validity.{IsValid};
+ghost use Rattle.noise_session.specs.Counterparts.{EndCounterparts};
+ghost use Rattle.noise_session.specs.Steps.Told.{More, Payload};
 ghost use Rattle.noise_session.specs.Taking.{Takes};
 ghost use Rattle.noise_session.specs.Sending.{Sends};
 ghost use Rattle.noise_session.specs.declared.faults.SendFault.{SendFault};
 
 use crate::packets::packet_same;
-use noise_handshake::{accepted_once, refused_once, written_once};
+use noise_handshake::{accepted_once, refused_once, written_is_accepted, written_once};
 
 /// A piece comes to one thing at an end: so many bytes, one step, and one view behind it.
 pub fn taken_once()
@@ -31,4 +33,13 @@ pub fn sent_once()
     ensures { (v x y : EndView) (payload : List ℕ) (r s : Result (List ℕ) SendFault) → Sends v payload r x → Sends v payload s y → (r ≡ s) × (x ≡ y) }
 {
     written_once();
+}
+
+/// What one of two ends of a session writes the other one takes: between ends that have come equally far, in a valid pattern, each frame that is
+/// written of a payload is taken whole, as that payload, and behind it they have come equally far again, in the handshake and once open.
+pub fn written_is_taken()
+    ensures { (v w x : EndView) (payload frame : List ℕ) → IsValid v.party.pattern → EndCounterparts v w → Sends v payload (Ok frame) x
+        → (y : EndView) × Takes w frame (length frame) (Payload payload) y × EndCounterparts x y }
+{
+    written_is_accepted();
 }
