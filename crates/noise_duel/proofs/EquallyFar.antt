@@ -15,7 +15,7 @@ use Rattle.noise_handshake.specs.declared.remote.Remote.{Remote}
 use Rattle.noise_handshake.specs.Length.{Carry}
 use Rattle.noise_handshake.specs.Line.{line, behind_line}
 use Rattle.noise_handshake.specs.Passed.{passed_places}
-use Rattle.noise_handshake.specs.View.{View, Speaks, tokens_at, tokens_now, reader}
+use Rattle.noise_handshake.specs.View.{View, Speaks, tokens_at, tokens_now}
 use Rattle.noise_handshake.specs.Writing.{Given, writer}
 use Rattle.noise_handshake.specs.Party.{behind_own, behind_message}
 use Rattle.noise_handshake.specs.Setup.{token_of}
