@@ -5,6 +5,7 @@ pub mod Events
 pub mod Sides
 pub mod Runs
 pub mod Conversation
+pub mod Cuts
 pub mod Agreement
 pub mod Invariant
 pub mod Forgery

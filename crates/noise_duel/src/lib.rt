@@ -1,6 +1,8 @@
 //! Two ends of a session, under any schedule of events.
 #![tactic(auto)]
 
+mod cuts;
 mod laws;
 
+pub use cuts::Cuts;
 pub use laws::{alike_are_parts, ends_agree, ends_stand, hash_tells, lines_come_through, run_once};
