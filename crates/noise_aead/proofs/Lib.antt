@@ -1,3 +1,4 @@
+mod Beginning
 mod Blocks
 mod Masking
 mod Numbers

@@ -31,7 +31,8 @@ pub fn open_in_place(
     ensures ok { OnOk result (buf.old ++ tag.now ≡ sealed key.now nonce.now ad.now buf.new) }
     ensures err { OnErr result (buf.new ≡ buf.old) }
 {
-    let (one_time_key, mut words) = keystream::begin(key, nonce);
+    let mut words = keystream::generator(key, nonce, 0);
+    let one_time_key = keystream::half_block(&mut words);
     let expected = authenticator::tag(&one_time_key, ad, buf);
     if authenticator::is_same(&expected, tag) {
         keystream::apply(&mut words, buf);

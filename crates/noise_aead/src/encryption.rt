@@ -21,7 +21,8 @@ pub fn seal_in_place(key: &[u8; 32], nonce: &[u8; 12], ad: &[u8], buf: &mut [u8]
     requires buf_fits { length buf.old ≤ 65535 }
     ensures sealed { buf.new ++ result ≡ sealed key.now nonce.now ad.now buf.old }
 {
-    let (one_time_key, mut words) = keystream::begin(key, nonce);
+    let mut words = keystream::generator(key, nonce, 0);
+    let one_time_key = keystream::half_block(&mut words);
     keystream::apply(&mut words, buf);
     authenticator::tag(&one_time_key, ad, buf)
 }

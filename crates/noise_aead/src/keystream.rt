@@ -1,7 +1,7 @@
 //! The keystream of a key and a nonce (RFC 8439, 2.3 and 2.4), in blocks of 64 bytes.
 ghost use Rattle.std.specs.Prelude.{◌≡◌, ◌+◌, ◌*◌, ◌^◌, ◌<◌, ◌≤◌, ℕ, length, bit_xor};
 ghost use Rattle.std.specs.Simd.Lanes.{zip2, number_l, digits_l};
-ghost use Rattle.noise_aead.specs.Sealing.{byte_from, bytes_from, generator_at, stream_bytes, xored};
+ghost use Rattle.noise_aead.specs.Sealing.{byte_from, bytes_from, generator_at, xored};
 
 use byteorder::{ByteOrder, LittleEndian};
 use rand_chacha::ChaCha20Rng;
@@ -10,17 +10,6 @@ use rand_core::utils::NextWord;
 use std::simd::{u8x64, u32x16};
 
 const BLOCK_LEN: usize = 64;
-
-/// The one-time key of a message, which is the first half of block 0, and the generator at block 1.
-pub fn begin(key: &[u8; 32], nonce: &[u8; 12]) -> ([u8; 32], ChaCha20Rng)
-    ensures key { result.0 ≡ stream_bytes key.now nonce.now 0 32 }
-    ensures words { result.1 ≡ generator_at key.now nonce.now 1 }
-    ensures room { result.1.word_pos + 2 ^ 34 ≤ 2 ^ 68 }
-{
-    let mut words = generator(key, nonce, 0);
-    let one_time_key = half_block(&mut words);
-    (one_time_key, words)
-}
 
 /// The generator at this word of the keystream. A block has 16 words.
 ///

@@ -8,7 +8,7 @@ use Rattle.noise_names.specs.declared.token.Token.TheVariants.{E, S}
 use Rattle.noise_names.specs.Tokens.{other, same_role, turn_from, is_psk}
 use Rattle.noise_names.specs.Plan.{Plan, places_of, has_psk, is_one_way}
 use Rattle.noise_names.specs.Overhead.{has_key, overhead_of}
-use Rattle.noise_names.specs.Validity.{stands, IsValid}
+use Rattle.noise_names.specs.Validity.{is_among, IsValid}
 use Rattle.noise_state.specs.History.{History, cipher_key}
 use Rattle.noise_handshake.specs.declared.keys.Own.{Own}
 use Rattle.noise_handshake.specs.declared.remote.Remote.{Remote}
@@ -110,8 +110,8 @@ carried-is : LawsBelow → (w : KeyMaterial) (v u : View) (role : Role) (xs : Li
     → xs ≡ carried_by w role v.secrets (tokens_now v)
 carried-is laws w v u role xs valid m is turn mine theirs given =
     let p : Plan = v.pattern in
-    let at : (t : Token) → stands (turn_from Initiator v.passed) t (places_of p) ≡ true → stands role t (places_of p) ≡ true =
-    λ t h. subst (λ (r : Role). stands r t (places_of p) ≡ true) turn h in
+    let at : (t : Token) → is_among (turn_from Initiator v.passed) t (places_of p) ≡ true → is_among role t (places_of p) ≡ true =
+    λ t h. subst (λ (r : Role). is_among r t (places_of p) ≡ true) turn h in
     let shown : Given (writer v) (shown_after p (other role) v.passed u.own) v.secrets (tokens_now v) xs =
     subst (λ (z : Remote). Given (writer v) z v.secrets (tokens_now v) xs) (laws.known v u m ∙ ap (λ (r : Role). shown_after p (other r) v.passed u.own) is)
     given in
@@ -119,8 +119,8 @@ carried-is laws w v u role xs valid m is turn mine theirs given =
     (tokens_now v) xs =
     subst (λ (r : Role). Given (record { role = r; psks = has_psk p; own = v.own; agree = v.agree }) (shown_after p (other role) v.passed u.own) v.secrets
     (tokens_now v) xs) is shown in
-    given-carried laws w (has_psk p) role v.own u.own v.agree (stands (other role) E (passed_places p v.passed))
-    (stands (other role) S (passed_places p v.passed)) v.secrets (tokens_now v) xs (
+    given-carried laws w (has_psk p) role v.own u.own v.agree (is_among (other role) E (passed_places p v.passed))
+    (is_among (other role) S (passed_places p v.passed)) v.secrets (tokens_now v) xs (
       λ x h. mine.keys x (at (token_of x) (laws.sent_stands p v.passed (token_of x) h)),
       λ t h d. true-answer laws w p valid role v.own u.own v.agree u.agree mine theirs t d
           (laws.stands_occurs (turn_from Initiator v.passed) t (places_of p) (laws.sent_stands p v.passed t h)),

@@ -7,7 +7,7 @@ use Rattle.noise_names.specs.declared.token.Token.{Token}
 use Rattle.noise_names.specs.declared.token.Token.TheVariants.{E, S, Ee, Es, Se, Ss, Psk}
 use Rattle.noise_names.specs.Tokens.{other, same_token}
 use Rattle.noise_names.specs.Plan.{Plan, places_of}
-use Rattle.noise_names.specs.Validity.{stands, occurs, IsValid}
+use Rattle.noise_names.specs.Validity.{is_among, occurs, IsValid}
 use Rattle.noise_handshake.specs.declared.keys.Own.{Own}
 use Rattle.noise_handshake.specs.declared.keys.Own.TheVariants.{Ephemeral, Static}
 use Rattle.noise_handshake.specs.View.{answered, own_at, remote_at, first_secret, other_secrets}
@@ -46,7 +46,7 @@ remote-own Responder theirs Psk = refl
 
 -- a role has the keys and answers of the key material
 pub record HasMaterial (w : KeyMaterial) (p : Plan) (role : Role) (own : Own → Option (List ℕ)) (agree : Own → List ℕ → Option (List ℕ)) : Type 0 where
-  pub keys : (x : Own) → stands role (token_of x) (places_of p) ≡ true → own x ≡ Some (w.public role x)
+  pub keys : (x : Own) → is_among role (token_of x) (places_of p) ≡ true → own x ≡ Some (w.public role x)
   pub answers : (t : Token) → is_dh t ≡ true → occurs t (places_of p) ≡ true
       → answered agree (own_at role t) (remote_at role (public_keys_in w (other role)) t) ≡ Some (w.answer t)
 

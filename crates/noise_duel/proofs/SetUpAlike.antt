@@ -6,7 +6,7 @@ use Rattle.noise_names.specs.declared.token.Role.TheVariants.{Initiator, Respond
 use Rattle.noise_names.specs.declared.token.Token.{Token}
 use Rattle.noise_names.specs.declared.token.Token.TheVariants.{E, S}
 use Rattle.noise_names.specs.Plan.{Plan, places_of}
-use Rattle.noise_names.specs.Validity.{stands, occurs, IsValid}
+use Rattle.noise_names.specs.Validity.{is_among, occurs, IsValid}
 use Rattle.noise_handshake.specs.declared.keys.Own.{Own}
 use Rattle.noise_handshake.specs.declared.keys.Own.TheVariants.{Ephemeral, Static}
 use Rattle.noise_handshake.specs.declared.remote.Remote.{Remote}
@@ -35,7 +35,7 @@ if-same : (b : Bool) (o q : Option (List ℕ)) → (b ≡ true → o ≡ q) → 
 if-same true o q f = f refl
 if-same false o q f = refl
 
-set-own : LawsBelow → (p : Plan) (role : Role) (s : Start) → IsSetUp p role s → (x : Own) → stands role (token_of x) (places_of p) ≡ true
+set-own : LawsBelow → (p : Plan) (role : Role) (s : Start) → IsSetUp p role s → (x : Own) → is_among role (token_of x) (places_of p) ≡ true
     → is_some (s.own x) ≡ true
 set-own laws p role s h x k = laws.set_own p role s.own s.remote (length s.secrets) h x k
 
@@ -61,10 +61,10 @@ module _ (laws : LawsBelow) (p : Plan) (prologue : List ℕ) (a b : Start) (vali
   abbrev material : KeyMaterial
   material = record { public = public_in; answer = λ t. unwrap_or (answer-at t) []; secrets = a.secrets }
 
-  own-a : (x : Own) → stands Initiator (token_of x) (places_of p) ≡ true → a.own x ≡ Some (true-key a x)
+  own-a : (x : Own) → is_among Initiator (token_of x) (places_of p) ≡ true → a.own x ≡ Some (true-key a x)
   own-a x h = there-is (a.own x) zeros (set-own laws p Initiator a alike.initiator x h)
 
-  own-b : (x : Own) → stands Responder (token_of x) (places_of p) ≡ true → b.own x ≡ Some (true-key b x)
+  own-b : (x : Own) → is_among Responder (token_of x) (places_of p) ≡ true → b.own x ≡ Some (true-key b x)
   own-b x h = there-is (b.own x) zeros (set-own laws p Responder b alike.responder x h)
 
   meets : AnswersMeet p Initiator a.own a.agree b.own b.agree

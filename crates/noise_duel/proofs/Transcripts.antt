@@ -10,7 +10,7 @@ use Rattle.noise_names.specs.declared.token.Token.TheVariants.{E, S, Ee, Es, Se,
 use Rattle.noise_names.specs.Tokens.{other, same_role, turn_from, is_psk}
 use Rattle.noise_names.specs.Plan.{Plan, places_of, has_psk, is_one_way}
 use Rattle.noise_names.specs.Overhead.{overhead_of}
-use Rattle.noise_names.specs.Validity.{stands, IsValid}
+use Rattle.noise_names.specs.Validity.{is_among, IsValid}
 use Rattle.noise_names.specs.Limits.{IsPattern}
 use Rattle.noise_names.specs.Names.{name_bytes}
 use Rattle.noise_state.specs.History.{History, Mix, and_then}
@@ -312,7 +312,7 @@ if-same false o q f = refl
 module _ (laws : LawsBelow) (w : KeyMaterial) (p : Plan) (prologue : List ℕ) (a b : Start) (i : IsPart w p Initiator prologue a)
     (j : IsPart w p Responder prologue b) where
   -- a key of a pre-message is the party's own
-  before-own : (party : Role) (x : Own) → has_before p party (token_of x) ≡ true → stands party (token_of x) (places_of p) ≡ true
+  before-own : (party : Role) (x : Own) → has_before p party (token_of x) ≡ true → is_among party (token_of x) (places_of p) ≡ true
   before-own party x h = laws.before_stands p party (token_of x) h
 
   remote_a : a.remote ≡ shown_before p Responder b.own

@@ -5,7 +5,7 @@ use Rattle.noise_names.specs.declared.token.Role.TheVariants.{Initiator, Respond
 use Rattle.noise_names.specs.declared.token.Token.{Token}
 use Rattle.noise_names.specs.declared.token.Token.TheVariants.{E, S}
 use Rattle.noise_names.specs.Tokens.{other, turn_from}
-use Rattle.noise_names.specs.Validity.{IsValid, stands, occurs}
+use Rattle.noise_names.specs.Validity.{IsValid, is_among, occurs}
 use Rattle.noise_names.specs.Plan.{Plan, Place, places_of, has_psk}
 use Rattle.noise_names.specs.Overhead.{has_key, overhead_of}
 use Rattle.noise_names.specs.Limits.{IsPattern}
@@ -43,14 +43,14 @@ pub record LawsBelow : Type 0 where
   pub written_carries : (v : View) (payload message : List ℕ) (xs : List (List ℕ)) → Writes v payload xs message → Carry (tokens_now v) xs
   pub accepted_carries : (v : View) (payload message : List ℕ) (xs : List (List ℕ)) → Accepts v message xs payload → Carry (tokens_now v) xs
   -- which tokens stand in a pattern
-  pub before_stands : (p : Plan) (party : Role) (t : Token) → has_before p party t ≡ true → stands party t (places_of p) ≡ true
-  pub sent_stands : (p : Plan) (n : ℕ) (t : Token) → has_token t (tokens_at p.messages n) ≡ true → stands (turn_from Initiator n) t (places_of p) ≡ true
-  pub stands_occurs : (party : Role) (t : Token) (places : List Place) → stands party t places ≡ true → occurs t places ≡ true
+  pub before_stands : (p : Plan) (party : Role) (t : Token) → has_before p party t ≡ true → is_among party t (places_of p) ≡ true
+  pub sent_stands : (p : Plan) (n : ℕ) (t : Token) → has_token t (tokens_at p.messages n) ≡ true → is_among (turn_from Initiator n) t (places_of p) ≡ true
+  pub stands_occurs : (party : Role) (t : Token) (places : List Place) → is_among party t places ≡ true → occurs t places ≡ true
   pub dh_stands : (p : Plan) (role : Role) (t : Token) → IsValid p → is_dh t ≡ true → occurs t (places_of p) ≡ true
-      → stands role (token_of (own_at role t)) (places_of p) ≡ true
+      → is_among role (token_of (own_at role t)) (places_of p) ≡ true
   -- what a setup without a fault has
   pub set_own : (p : Plan) (role : Role) (own : Own → Option (List ℕ)) (known : Remote) (n : ℕ) → setup_fault p role own known n ≡ None
-      → (x : Own) → stands role (token_of x) (places_of p) ≡ true → is_some (own x) ≡ true
+      → (x : Own) → is_among role (token_of x) (places_of p) ≡ true → is_some (own x) ≡ true
   pub set_remote : (p : Plan) (role : Role) (own : Own → Option (List ℕ)) (known : Remote) (n : ℕ) → setup_fault p role own known n ≡ None
       → (is_some known.e ≡ has_before p (other role) E) × (is_some known.s ≡ has_before p (other role) S)
   -- counterparts

@@ -10,7 +10,7 @@ use Rattle.noise_names.specs.Tokens.{is_psk, other, same_role, turn_from}
 use Rattle.noise_names.specs.Plan.{Plan, has_psk, is_one_way, places_of}
 use Rattle.noise_names.specs.Names.{name_bytes}
 use Rattle.noise_names.specs.Overhead.{overhead_of}
-use Rattle.noise_names.specs.Validity.{stands, occurs, IsValid}
+use Rattle.noise_names.specs.Validity.{is_among, occurs, IsValid}
 use Rattle.noise_names.specs.Limits.{IsPattern}
 use Rattle.noise_state.specs.History.{History}
 use Rattle.noise_handshake.specs.declared.keys.Own.{Own}
@@ -75,7 +75,7 @@ start_in w p prologue =
 -- at each DH token, and the secrets.
 pub record IsPart (w : KeyMaterial) (p : Plan) (role : Role) (prologue : List ℕ) (s : Start) : Type 0 where
   pub prologue_is : s.prologue ≡ prologue
-  pub own : (k : Own) → stands role (token_of k) (places_of p) ≡ true → s.own k ≡ Some (w.public role k)
+  pub own : (k : Own) → is_among role (token_of k) (places_of p) ≡ true → s.own k ≡ Some (w.public role k)
   pub remote_e : s.remote.e ≡ (if has_before p (other role) E then Some (w.public (other role) Ephemeral) else None)
   pub remote_s : s.remote.s ≡ (if has_before p (other role) S then Some (w.public (other role) Static) else None)
   pub answers : (t : Token) → is_dh t ≡ true → occurs t (places_of p) ≡ true

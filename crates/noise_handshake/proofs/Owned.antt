@@ -9,7 +9,7 @@ use Rattle.noise_names.specs.declared.token.Token.{Token}
 use Rattle.noise_names.specs.declared.token.Token.TheVariants.{E, S, Ee, Es, Se, Ss, Psk}
 use Rattle.noise_names.specs.Tokens.{other, same_role, same_token, turn_from}
 use Rattle.noise_names.specs.Plan.{Plan, Place, place, payload, token_places, message_places, transport_places, places_of}
-use Rattle.noise_names.specs.Validity.{is_at, stands}
+use Rattle.noise_names.specs.Validity.{is_at, is_among}
 use Rattle.noise_handshake.specs.declared.keys.Own.{Own}
 use Rattle.noise_handshake.specs.declared.keys.Own.TheVariants.{Ephemeral, Static}
 use Rattle.noise_handshake.specs.Setup.{has_token}
@@ -41,34 +41,34 @@ by_self true party e = same_role-self party
 by_self false party e = cc
 
 -- a token of a message stands among its places, among those of the messages, and among all
-stands-tokens : (party : Role) (t : Token) (m i : ℕ) (ts : List Token) → has_token t ts ≡ true → stands party t (token_places party m i ts) ≡ true
+stands-tokens : (party : Role) (t : Token) (m i : ℕ) (ts : List Token) → has_token t ts ≡ true → is_among party t (token_places party m i ts) ≡ true
 stands-tokens party t m i [] e = cc
 stands-tokens party t m i (u ∷ ts) e =
-    or-both (same_token u t) (has_token t ts) (same_token u t && same_role party party) (stands party t (token_places party m (i + 1) ts))
+    or-both (same_token u t) (has_token t ts) (same_token u t && same_role party party) (is_among party t (token_places party m (i + 1) ts))
     (by_self (same_token u t) party) (stands-tokens party t m (i + 1) ts) e
 
 stands-messages : (party : Role) (t : Token) (k : ℕ) (ms : List (List Token)) (n : ℕ) → has_token t (tokens_at ms n) ≡ true
-    → stands (turn_from party n) t (message_places party k ms) ≡ true
+    → is_among (turn_from party n) t (message_places party k ms) ≡ true
 stands-messages party t k [] n e = cc
 stands-messages party t k (ts ∷ ms) zero e =
     let rest : List Place = place party payload k (length ts) ∷ message_places (other party) (k + 1) ms in
     list_any-append (λ q. is_at t q.step && same_role q.party party) (token_places party k 0 ts) rest
-    ∙ or-left (stands party t (token_places party k 0 ts)) (stands party t rest) (stands-tokens party t k 0 ts e)
+    ∙ or-left (is_among party t (token_places party k 0 ts)) (is_among party t rest) (stands-tokens party t k 0 ts e)
 stands-messages party t k (ts ∷ ms) (suc n) e =
     let whose : Role = turn_from (other party) n in
     let rest : List Place = place party payload k (length ts) ∷ message_places (other party) (k + 1) ms in
     list_any-append (λ q. is_at t q.step && same_role q.party whose) (token_places party k 0 ts) rest
-    ∙ or-right (stands whose t (token_places party k 0 ts)) (stands whose t rest) (stands-messages (other party) t (k + 1) ms n e)
+    ∙ or-right (is_among whose t (token_places party k 0 ts)) (is_among whose t rest) (stands-messages (other party) t (k + 1) ms n e)
 
-pub stands-place : (p : Plan) (t : Token) (n : ℕ) → has_token t (tokens_at p.messages n) ≡ true → stands (turn_from Initiator n) t (places_of p) ≡ true
+pub stands-place : (p : Plan) (t : Token) (n : ℕ) → has_token t (tokens_at p.messages n) ≡ true → is_among (turn_from Initiator n) t (places_of p) ≡ true
 stands-place p t n e =
     let whose : Role = turn_from Initiator n in
     let pre : List Place = token_places Initiator 0 0 p.initiator ++ token_places Responder 0 0 p.responder in
     let all : List Place = message_places Initiator 1 p.messages in
     list_any-append (λ q. is_at t q.step && same_role q.party whose) (pre ++ all) (transport_places p)
-    ∙ or-left (stands whose t (pre ++ all)) (stands whose t (transport_places p))
+    ∙ or-left (is_among whose t (pre ++ all)) (is_among whose t (transport_places p))
     (list_any-append (λ q. is_at t q.step && same_role q.party whose) pre all
-    ∙ or-right (stands whose t pre) (stands whose t all) (stands-messages Initiator t 1 p.messages n e))
+    ∙ or-right (is_among whose t pre) (is_among whose t all) (stands-messages Initiator t 1 p.messages n e))
 
 module _ (own : Own → Option (List ℕ)) where
   all-own : (ts : List Token) → (has_token E ts ≡ true → is_some (own Ephemeral) ≡ true) → (has_token S ts ≡ true → is_some (own Static) ≡ true)
@@ -84,9 +84,9 @@ module _ (own : Own → Option (List ℕ)) where
 
   -- the keys that the pattern asks of a party are enough for each message of its own
   pub owned : (p : Plan) (role : Role) (n : ℕ) → turn_from Initiator n ≡ role
-      → (stands role E (places_of p) ≡ true → is_some (own Ephemeral) ≡ true) → (stands role S (places_of p) ≡ true → is_some (own Static) ≡ true)
+      → (is_among role E (places_of p) ≡ true → is_some (own Ephemeral) ≡ true) → (is_among role S (places_of p) ≡ true → is_some (own Static) ≡ true)
       → IsTrue (list_all (has_own own) (tokens_at p.messages n))
   owned p role n turn e s =
       all-own (tokens_at p.messages n)
-      (λ h. e (subst (λ (r : Role). stands r E (places_of p) ≡ true) turn (stands-place p E n h)))
-      (λ h. s (subst (λ (r : Role). stands r S (places_of p) ≡ true) turn (stands-place p S n h)))
+      (λ h. e (subst (λ (r : Role). is_among r E (places_of p) ≡ true) turn (stands-place p E n h)))
+      (λ h. s (subst (λ (r : Role). is_among r S (places_of p) ≡ true) turn (stands-place p S n h)))

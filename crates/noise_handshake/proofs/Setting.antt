@@ -8,7 +8,7 @@ use Rattle.noise_names.specs.declared.token.Token.{Token}
 use Rattle.noise_names.specs.declared.token.Token.TheVariants.{E, S}
 use Rattle.noise_names.specs.Tokens.{other}
 use Rattle.noise_names.specs.Plan.{Plan, places_of, message_places}
-use Rattle.noise_names.specs.Validity.{stands}
+use Rattle.noise_names.specs.Validity.{is_among}
 use Rattle.noise_handshake.specs.declared.keys.Own.{Own}
 use Rattle.noise_handshake.specs.declared.keys.Own.TheVariants.{Ephemeral, Static}
 use Rattle.noise_handshake.specs.declared.remote.Remote.{Remote}
@@ -79,16 +79,16 @@ module _ (p : Plan) (role : Role) (own : Own → Option (List ℕ)) (remote : Re
   tests = no-fault (lacks_own p role E (own Ephemeral)) (lacks_own p role S (own Static)) (lacks_remote p role remote) (has_unexpected p role remote)
       (not (n == secrets_of p.messages)) none
 
-  pub own-e : stands role E (places_of p) ≡ true → is_some (own Ephemeral) ≡ true
-  own-e = implied (stands role E (places_of p)) (own Ephemeral) tests.first
+  pub own-e : is_among role E (places_of p) ≡ true → is_some (own Ephemeral) ≡ true
+  own-e = implied (is_among role E (places_of p)) (own Ephemeral) tests.first
 
-  pub own-s : stands role S (places_of p) ≡ true → is_some (own Static) ≡ true
-  own-s = implied (stands role S (places_of p)) (own Static) tests.second
+  pub own-s : is_among role S (places_of p) ≡ true → is_some (own Static) ≡ true
+  own-s = implied (is_among role S (places_of p)) (own Static) tests.second
 
   pub counted : n ≡ secrets_of p.messages
   counted = same-count n (secrets_of p.messages) tests.fifth
 
-  pub own-there : (x : Own) → stands role (token_of x) (places_of p) ≡ true → is_some (own x) ≡ true
+  pub own-there : (x : Own) → is_among role (token_of x) (places_of p) ≡ true → is_some (own x) ≡ true
   own-there Ephemeral = own-e
   own-there Static = own-s
 
@@ -105,8 +105,8 @@ module _ (p : Plan) (role : Role) (own : Own → Option (List ℕ)) (remote : Re
 
   own-pre : HasPre p role (public_keys own)
   own-pre = record {
-    e = λ h. own-e (stands-places_of p role E ∙ ap (λ (b : Bool). b || stands role E (message_places Initiator 1 p.messages)) h);
-    s = λ h. own-s (stands-places_of p role S ∙ ap (λ (b : Bool). b || stands role S (message_places Initiator 1 p.messages)) h);
+    e = λ h. own-e (stands-places_of p role E ∙ ap (λ (b : Bool). b || is_among role E (message_places Initiator 1 p.messages)) h);
+    s = λ h. own-s (stands-places_of p role S ∙ ap (λ (b : Bool). b || is_among role S (message_places Initiator 1 p.messages)) h);
   }
 
   pub other-pre : HasPre p (other role) remote

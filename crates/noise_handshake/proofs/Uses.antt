@@ -8,7 +8,7 @@ use Rattle.noise_names.specs.declared.token.Role.TheVariants.{Initiator, Respond
 use Rattle.noise_names.specs.declared.token.Token.{Token}
 use Rattle.noise_names.specs.Tokens.{other, same_role, same_token}
 use Rattle.noise_names.specs.Plan.{Plan, Place, place, payload, transport, pre_of, is_one_way, token_places, message_places, transport_places, places_of}
-use Rattle.noise_names.specs.Validity.{is_at, stands}
+use Rattle.noise_names.specs.Validity.{is_at, is_among}
 use Rattle.noise_handshake.specs.Setup.{has_before, has_token}
 
 shared : (s a b : Bool) → (a && s) || (s && b) ≡ s && (a || b)
@@ -23,7 +23,7 @@ nothing false = refl
 
 -- among the tokens of one party
 pub stands-token_places : (party role : Role) (t : Token) (m i : ℕ) (ts : List Token)
-    → stands role t (token_places party m i ts) ≡ same_role party role && has_token t ts
+    → is_among role t (token_places party m i ts) ≡ same_role party role && has_token t ts
 stands-token_places party role t m i [] = nothing (same_role party role)
 stands-token_places party role t m i (u ∷ ts) =
     ap (λ (b : Bool). (same_token u t && same_role party role) || b) (stands-token_places party role t m (i + 1) ts)
@@ -31,32 +31,32 @@ stands-token_places party role t m i (u ∷ ts) =
 
 -- among messages
 pub stands-message_places : (party role : Role) (t : Token) (n : ℕ) (ts : List Token) (ms : List (List Token))
-    → stands role t (message_places party n (ts ∷ ms)) ≡ (same_role party role && has_token t ts) || stands role t (message_places (other party) (n + 1) ms)
+    → is_among role t (message_places party n (ts ∷ ms)) ≡ (same_role party role && has_token t ts) || is_among role t (message_places (other party) (n + 1) ms)
 stands-message_places party role t n ts ms =
     list_any-append (λ q. is_at t q.step && same_role q.party role) (token_places party n 0 ts)
     (place party payload n (length ts) ∷ message_places (other party) (n + 1) ms)
-    ∙ ap (λ (b : Bool). b || stands role t (message_places (other party) (n + 1) ms)) (stands-token_places party role t n 0 ts)
+    ∙ ap (λ (b : Bool). b || is_among role t (message_places (other party) (n + 1) ms)) (stands-token_places party role t n 0 ts)
 
 -- a walk finds one at once, or goes on
 pub found-here : (party role : Role) (t : Token) (n : ℕ) (ts : List Token) (ms all : List (List Token)) (b : Bool) → all ≡ ts ∷ ms
     → b ≡ (same_role party role && has_token t ts) → b ≡ true
-    → true ≡ stands role t (message_places party n all)
+    → true ≡ is_among role t (message_places party n all)
 found-here party role t n ts ms all b split e h =
-    ap (λ (x : Bool). x || stands role t (message_places (other party) (n + 1) ms)) (sym h ∙ e)
-    ∙ sym (stands-message_places party role t n ts ms) ∙ ap (λ (zs : List (List Token)). stands role t (message_places party n zs)) (sym split)
+    ap (λ (x : Bool). x || is_among role t (message_places (other party) (n + 1) ms)) (sym h ∙ e)
+    ∙ sym (stands-message_places party role t n ts ms) ∙ ap (λ (zs : List (List Token)). is_among role t (message_places party n zs)) (sym split)
 
 pub found-later : (party role : Role) (t : Token) (n : ℕ) (ts : List Token) (ms all : List (List Token)) (b rest : Bool) → all ≡ ts ∷ ms
     → b ≡ (same_role party role && has_token t ts) → b ≡ false
-    → rest ≡ stands role t (message_places (other party) (n + 1) ms) → rest ≡ stands role t (message_places party n all)
+    → rest ≡ is_among role t (message_places (other party) (n + 1) ms) → rest ≡ is_among role t (message_places party n all)
 found-later party role t n ts ms all b rest split e h k =
-    k ∙ ap (λ (x : Bool). x || stands role t (message_places (other party) (n + 1) ms)) (sym h ∙ e)
-    ∙ sym (stands-message_places party role t n ts ms) ∙ ap (λ (zs : List (List Token)). stands role t (message_places party n zs)) (sym split)
+    k ∙ ap (λ (x : Bool). x || is_among role t (message_places (other party) (n + 1) ms)) (sym h ∙ e)
+    ∙ sym (stands-message_places party role t n ts ms) ∙ ap (λ (zs : List (List Token)). is_among role t (message_places party n zs)) (sym split)
 
 or-false : (b : Bool) → b || false ≡ b
 or-false true = refl
 or-false false = refl
 
-no-transport : (p : Plan) (role : Role) (t : Token) → stands role t (transport_places p) ≡ false
+no-transport : (p : Plan) (role : Role) (t : Token) → is_among role t (transport_places p) ≡ false
 no-transport p role t = by (is_one_way p) where
   by : (b : Bool) → list_any (λ q. is_at t q.step && same_role q.party role) (if b then [] else place Responder transport (length p.messages + 1) 1 ∷ [])
       ≡ false
@@ -70,7 +70,7 @@ pre-tokens p Responder t = refl
 
 -- in a pre-message or a message
 pub stands-places_of : (p : Plan) (role : Role) (t : Token)
-    → stands role t (places_of p) ≡ has_token t (pre_of role p) || stands role t (message_places Initiator 1 p.messages)
+    → is_among role t (places_of p) ≡ has_token t (pre_of role p) || is_among role t (message_places Initiator 1 p.messages)
 stands-places_of p role t =
     let test : Place → Bool = λ q. is_at t q.step && same_role q.party role in
     let a : List Place = token_places Initiator 0 0 p.initiator in
@@ -85,5 +85,5 @@ stands-places_of p role t =
     ∙ ap (λ (x : Bool). (same_role Initiator role && has_token t p.initiator) || x) (stands-token_places Responder role t 0 0 p.responder)
     ∙ pre-tokens p role t)
 
-pub before-stands : (p : Plan) (party : Role) (t : Token) → has_before p party t ≡ true → stands party t (places_of p) ≡ true
-before-stands p party t e = stands-places_of p party t ∙ ap (λ (b : Bool). b || stands party t (message_places Initiator 1 p.messages)) e
+pub before-stands : (p : Plan) (party : Role) (t : Token) → has_before p party t ≡ true → is_among party t (places_of p) ≡ true
+before-stands p party t e = stands-places_of p party t ∙ ap (λ (b : Bool). b || is_among party t (message_places Initiator 1 p.messages)) e

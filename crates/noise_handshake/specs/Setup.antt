@@ -8,7 +8,7 @@ use Rattle.noise_names.specs.declared.token.Token.TheVariants.{E, S}
 use Rattle.noise_names.specs.Tokens.{other, is_psk, same_role, same_token}
 use Rattle.noise_names.specs.Plan.{Plan, pre_of, places_of}
 use Rattle.noise_names.specs.Names.{name_bytes}
-use Rattle.noise_names.specs.Validity.{stands}
+use Rattle.noise_names.specs.Validity.{is_among}
 use Rattle.noise_state.specs.History.{History}
 use Rattle.noise_handshake.specs.declared.keys.Own.{Own}
 use Rattle.noise_handshake.specs.declared.keys.Own.TheVariants.{Ephemeral, Static}
@@ -56,7 +56,7 @@ token_of Static = S
 
 -- whether the party's token t stands in the pattern, pre-messages counted, and the key isn't there
 abbrev pub lacks_own : Plan → Role → Token → Option (List ℕ) → Bool
-lacks_own p role t key = stands role t (places_of p) && is_none key
+lacks_own p role t key = is_among role t (places_of p) && is_none key
 
 -- whether a token is among these
 abbrev pub has_token : Token → List Token → Bool

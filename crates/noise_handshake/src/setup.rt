@@ -5,7 +5,7 @@ ghost use Rattle.std.specs.Prelude.{◌≡◌, ◌≤◌, ◌*◌, ◌||◌, ◌
 ghost use Rattle.std.specs.List.{list_any};
 ghost use Rattle.noise_names.specs.Tokens.{is_psk, same_role, same_token};
 ghost use Rattle.noise_names.specs.Plan.{places_of, message_places};
-ghost use Rattle.noise_names.specs.Validity.{stands};
+ghost use Rattle.noise_names.specs.Validity.{is_among};
 ghost use Rattle.noise_names.specs.Overhead.{has_key};
 ghost use Rattle.noise_names.specs.declared.token.Token.TheVariants.{E, S};
 ghost use Rattle.noise_state.specs.Standing.{StateStands, keyed, nonce_now};
@@ -57,7 +57,7 @@ fn sends_as(tokens: &[Token], party: Role, role: Role, own: Own) -> bool
 
 // Whether a role sends such a key in one of these messages, the first of which the party writes.
 fn sends_in(messages: &[Message], party: Role, role: Role, own: Own) -> bool
-    ensures { (n : ℕ) → result ≡ stands role (token_of own) (message_places party n messages.now) }
+    ensures { (n : ℕ) → result ≡ is_among role (token_of own) (message_places party n messages.now) }
 {
     let Some((message, later)) = messages.split_first() else {
         return false;
@@ -70,7 +70,7 @@ fn sends_in(messages: &[Message], party: Role, role: Role, own: Own) -> bool
 
 // Whether a role sends such a key in its pre-message or a message.
 fn uses(pattern: &Pattern, role: Role, own: Own) -> bool
-    ensures { result ≡ stands role (token_of own) (places_of pattern.now) }
+    ensures { result ≡ is_among role (token_of own) (places_of pattern.now) }
 {
     let before = has_token(pattern.pre(role), own);
     if before {

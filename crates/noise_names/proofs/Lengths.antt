@@ -6,7 +6,7 @@ use Rattle.noise_names.specs.declared.token.Token.TheVariants.{E, S, Ee, Es, Se,
 use Rattle.noise_names.specs.declared.seen.Seen.{Seen}
 use Rattle.noise_names.specs.Tokens.{same_role}
 use Rattle.noise_names.specs.Plan.{Plan, Step, does, payload, transport, Place, has_psk}
-use Rattle.noise_names.specs.Validity.{is_at, stands, occurs}
+use Rattle.noise_names.specs.Validity.{is_at, is_among, occurs}
 use Rattle.noise_names.specs.Overhead.{has_key, added_len, overhead_from}
 use Rattle.noise_names.specs.Checking.{seen_of, key_by, added_by}
 
@@ -18,10 +18,10 @@ by_party Responder true false b = refl
 by_party Responder false a b = refl
 
 -- an e is of either party
-occurs-e : (places : List Place) → occurs E places ≡ stands Initiator E places || stands Responder E places
+occurs-e : (places : List Place) → occurs E places ≡ is_among Initiator E places || is_among Responder E places
 occurs-e [] = refl
 occurs-e (p ∷ places) = ap (λ (b : Bool). is_at E p.step || b) (occurs-e places)
-    ∙ by_party p.party (is_at E p.step) (stands Initiator E places) (stands Responder E places)
+    ∙ by_party p.party (is_at E p.step) (is_among Initiator E places) (is_among Responder E places)
 
 key_by-seen_of : (plan : Plan) (earlier : List Place) → key_by (seen_of earlier) (has_psk plan) ≡ has_key plan earlier
 unfolding seen_of

@@ -7,15 +7,15 @@ use Rattle.noise_names.specs.declared.faults.RuleFault.{RuleFault}
 use Rattle.noise_names.specs.declared.seen.Seen.{Seen}
 use Rattle.noise_names.specs.Tokens.{same_role}
 use Rattle.noise_names.specs.Plan.{Place, Step, does, payload, transport}
-use Rattle.noise_names.specs.Validity.{stands, occurs, is_at, unless_kept, comes_with, first_fault_from}
+use Rattle.noise_names.specs.Validity.{is_among, occurs, is_at, unless_kept, comes_with, first_fault_from}
 
 -- what is kept of the places that were passed
 unfoldable pub seen_of : List Place → Seen
 seen_of places = record {
-  initiator_e = stands Initiator E places;
-  initiator_s = stands Initiator S places;
-  responder_e = stands Responder E places;
-  responder_s = stands Responder S places;
+  initiator_e = is_among Initiator E places;
+  initiator_s = is_among Initiator S places;
+  responder_e = is_among Responder E places;
+  responder_s = is_among Responder S places;
   ee = occurs Ee places;
   es = occurs Es places;
   se = occurs Se places;

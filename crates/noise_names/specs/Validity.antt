@@ -15,9 +15,9 @@ is_at t (does u) = same_token u t
 is_at t payload = false
 is_at t transport = false
 
--- whether the party's token t stands among the places
-abbrev pub stands : Role → Token → List Place → Bool
-stands party t places = list_any (λ p. is_at t p.step && same_role p.party party) places
+-- whether the party's token t is among the places
+abbrev pub is_among : Role → Token → List Place → Bool
+is_among party t places = list_any (λ p. is_at t p.step && same_role p.party party) places
 
 -- whether token t stands among the places, whoever's it is
 abbrev pub occurs : Token → List Place → Bool
@@ -29,16 +29,16 @@ comes_with first second = not first || second
 
 -- rule 1: both public keys of a DH token stand earlier (7.3, first rule)
 abbrev pub keys_stand : List Place → Step → Bool
-keys_stand earlier (does Ee) = stands Initiator E earlier && stands Responder E earlier
-keys_stand earlier (does Es) = stands Initiator E earlier && stands Responder S earlier
-keys_stand earlier (does Se) = stands Initiator S earlier && stands Responder E earlier
-keys_stand earlier (does Ss) = stands Initiator S earlier && stands Responder S earlier
+keys_stand earlier (does Ee) = is_among Initiator E earlier && is_among Responder E earlier
+keys_stand earlier (does Es) = is_among Initiator E earlier && is_among Responder S earlier
+keys_stand earlier (does Se) = is_among Initiator S earlier && is_among Responder E earlier
+keys_stand earlier (does Ss) = is_among Initiator S earlier && is_among Responder S earlier
 keys_stand earlier _ = true
 
 -- rule 2: a party has one ephemeral and one static key (7.3, second rule)
 abbrev pub key_is_first : List Place → Role → Step → Bool
-key_is_first earlier party (does E) = not (stands party E earlier)
-key_is_first earlier party (does S) = not (stands party S earlier)
+key_is_first earlier party (does E) = not (is_among party E earlier)
+key_is_first earlier party (does S) = not (is_among party S earlier)
 key_is_first earlier party _ = true
 
 -- rule 3: a DH is done once (7.3, third rule)
@@ -58,7 +58,7 @@ dh_is_fresh earlier Responder =
 
 -- the same as far as psks go: one comes with an ephemeral key of the party (9.3)
 abbrev pub psk_is_fresh : List Place → Role → Bool
-psk_is_fresh earlier party = comes_with (occurs Psk earlier) (stands party E earlier)
+psk_is_fresh earlier party = comes_with (occurs Psk earlier) (is_among party E earlier)
 
 -- a place that encrypts, if there is a key: a static key, a payload, transport
 abbrev pub encrypts : Step → Bool

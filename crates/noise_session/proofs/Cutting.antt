@@ -1,5 +1,5 @@
 -- Where a piece is cut makes no difference.
-use Rattle.std.proofs.Common.{◌≡◌, ℕ, ◌+◌, List, ◌++◌, length, Bool, true, false, ◌&&◌, Option, Some, None, if◌then◌else◌, refl, sym, ◌∙◌, ap, subst, arith, append_assoc, length-append}
+use Rattle.std.proofs.Common.{◌≡◌, ℕ, ◌+◌, List, ◌++◌, length, Bool, true, false, ◌&&◌, Some, None, if◌then◌else◌, refl, sym, ◌∙◌, ap, subst, arith, append_assoc, length-append}
 use Rattle.noise_session.specs.Frames.{IsPartial}
 use Rattle.noise_session.specs.Steps.{Told}
 use Rattle.noise_session.specs.Steps.Told.{YourTurn, Silent, More}
@@ -26,13 +26,13 @@ silent-not : (silent : Bool) → (if silent then Some Silent else None) ≡ Some
 silent-not true e = cc
 silent-not false e = cc
 
-idles-not : (p : Progress) → idle_step p ≡ Some More → ⊥
+pub idles-not : (p : Progress) → idle_step p ≡ Some More → ⊥
 idles-not (Handshaking pattern role passed) e = turn-not (is_turn role passed) e
 idles-not (Open role one_way sent received) e = silent-not (one_way && same_role role Initiator) e
 idles-not (Closed role) e = cc
 
 -- nor does a whole message come to More
-judged-not : (v x : EndView) (m : List ℕ) (s : Told) → s ≡ More → Judges v m s x → ⊥
+pub judged-not : (v x : EndView) (m : List ℕ) (s : Told) → s ≡ More → Judges v m s x → ⊥
 judged-not v x m s e (accepted _ _ p xs a) = cc
 judged-not v x m s e (refused _ _ k c a) = cc
 judged-not v x m s e (opened _ _ p opens low is) = cc

@@ -1,19 +1,17 @@
 -- A message is judged as an open transport judges it.
-use Rattle.std.proofs.Common.{◌≡◌, ◌≢◌, ℕ, ◌-◌, ◌==◌, ◌&&◌, nat_lt, ◌+◌, List, [], length, take, Bool, true, false, Option, Some, None, Result, Ok, Err, MatchOption, IfErr, IsTrue, if◌then◌else◌, refl, sym, ◌∙◌, ap, subst, arith}
+use Rattle.std.proofs.Common.{◌≡◌, ◌≢◌, ℕ, ◌-◌, ◌==◌, ◌&&◌, nat_lt, ◌+◌, List, [], length, take, Bool, true, false, Option, Some, None, Result, Ok, Err, MatchOption, IfErr, if◌then◌else◌, refl, sym, ◌∙◌, ap, subst, arith}
 use Rattle.std.proofs.lemmas.Bool.Decides.{nat_tests}
 use Rattle.std.specs.Prelude.{slice_range}
 use Rattle.noise_names.specs.declared.token.Role.TheVariants.{Initiator}
-use Rattle.noise_names.specs.Tokens.{same_role, other}
-use Rattle.noise_state.specs.History.{hash}
-use Rattle.noise_handshake.specs.declared.keys.Own.{Own}
+use Rattle.noise_names.specs.Tokens.{same_role}
 use Rattle.noise_handshake.specs.declared.faults.Cause.{Cause}
 use Rattle.noise_handshake.specs.declared.faults.Cause.TheVariants.{Short, Tag}
 use Rattle.noise_session.specs.declared.faults.OpenFault.{OpenFault}
 use Rattle.noise_session.specs.declared.faults.OpenFault.TheVariants as unopened
 use Rattle.noise_session.specs.Steps.Told.{Payload, Dropped, Exhausted}
-use Rattle.noise_session.specs.Transport.{packet, last_nonce}
-use Rattle.noise_session.specs.HeldTransport.{HeldTransport, TransportStands, open_fault, no_packet, due_packet}
-use Rattle.noise_session.specs.Ends.{EndView, OpenStands, OverStands, transport_in, closed, session_hash}
+use Rattle.noise_session.specs.Transport.{last_nonce}
+use Rattle.noise_session.specs.HeldTransport.{HeldTransport, open_fault, no_packet, due_packet}
+use Rattle.noise_session.specs.Ends.{EndView, OpenStands, OverStands, transport_in, closed}
 use Rattle.noise_session.specs.Taking.{Judges}
 use Rattle.noise_session.specs.Taking.Judges.{opened, dropped, exhausted}
 use Rattle.noise_session.proofs.Views.{is-open, whole-hash}

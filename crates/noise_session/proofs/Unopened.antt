@@ -1,5 +1,5 @@
 -- A message that isn't decrypted is no packet.
-use Rattle.std.proofs.Common.{◌≡◌, ◌≢◌, ℕ, List, [], Result, Ok, Err, refl}
+use Rattle.std.proofs.Common.{◌≡◌, ℕ, List, [], Result, Err}
 use Rattle.std.specs.Prelude.{IsOk}
 use Rattle.noise_state.specs.History.{piece_under}
 use Rattle.noise_session.specs.HeldTransport.{HeldTransport, TransportView, TransportStands, due_packet}

@@ -1,5 +1,5 @@
 -- How far an end has come, by the view that it stands for.
-use Rattle.std.proofs.Common.{◌≡◌, ◌≢◌, ℕ, ◌==◌, List, length, Bool, true, false, Option, Some, None, IsTrue, if◌then◌else◌, refl, sym, ◌∙◌, ap, subst, arith}
+use Rattle.std.proofs.Common.{◌≡◌, ◌≢◌, ℕ, ◌+◌, ◌==◌, ◌≤◌, nat_lt, ◌&&◌, not, List, length, Bool, true, false, Option, Some, None, IsTrue, if◌then◌else◌, refl, sym, ◌∙◌, ap, arith}
 use Rattle.std.proofs.lemmas.Bool.Decides.{nat_tests}
 use Rattle.noise_names.specs.declared.token.Role.{Role}
 use Rattle.noise_names.specs.Plan.{Plan, is_one_way}
@@ -7,10 +7,18 @@ use Rattle.noise_state.specs.History.{hash}
 use Rattle.noise_handshake.specs.declared.keys.Own.{Own}
 use Rattle.noise_session.specs.declared.phase.Phase.{Phase}
 use Rattle.noise_session.specs.declared.phase.Phase.TheVariants as phase
-use Rattle.noise_session.specs.Progress.{Progress, is_open}
+use Rattle.noise_session.specs.Progress.{Progress, is_open, length_unless, frame_len_of}
+use Rattle.noise_session.specs.declared.faults.SendFault.TheVariants as fault
+use Rattle.noise_session.specs.Transport.{last_nonce}
+use Rattle.std.specs.Option.{ForSome}
+use Rattle.noise_names.specs.declared.token.Role.TheVariants.{Responder}
+use Rattle.noise_names.specs.Tokens.{same_role}
+use Rattle.noise_names.specs.Overhead.{overhead_of}
+use Rattle.noise_handshake.specs.Held.{is_turn}
 use Rattle.noise_session.specs.Progress.Progress.{Handshaking, Open, Closed}
-use Rattle.noise_session.specs.Ends.{EndView, HeldEnd, PhaseStands, EndStands, HandshakeStands, OpenStands, OverStands, progress_in, progress_of, session_hash, closed}
-use Rattle.noise_session.specs.HeldTransport.{HeldTransport, TransportStands}
+use Rattle.noise_session.specs.Ends.{EndView, PhaseStands, OpenStands, progress_in, progress_of, session_hash, closed}
+use Rattle.noise_session.specs.Phases.{over_in}
+use Rattle.noise_session.specs.HeldTransport.{HeldTransport}
 
 -- numbers are tested for being equal
 same-true : (a b : ℕ) → a ≡ b → (a == b) ≡ true
@@ -81,3 +89,35 @@ module _ {K : Type 0} (public_of : K → Own → Option (List ℕ)) (agreement :
       record { party = s.party; interval = s.interval; going = s.going; more = s.more; sent = s.sent; received = s.received }
   phase-held (phase.Open t) v held s = record { going = s.going; all = s.all; transport = s.transport }
   phase-held (phase.Ended role told) v held s = record { over = s.over; role = s.role; hash = s.hash }
+
+  -- what is left of it where the session ends
+  pub phase-over : (p : Phase K) (v : EndView) → PhaseStands public_of agreement p v → PhaseStands public_of agreement (over_in p) (closed v)
+  phase-over (phase.Handshaking h every) v s = record { over = refl; role = s.party.role; hash = sym (no-hash v s.more) }
+  phase-over (phase.Open t) v s =
+      record { over = refl; role = s.transport.role; hash = ap (λ (h : List ℕ). Some h) s.transport.hash ∙ sym (whole-hash v s.all) }
+  phase-over (phase.Ended role told) v s = record { over = refl; role = s.role; hash = s.hash }
+
+-- a frame has at most 65537 bytes
+most-by : (n : ℕ) (turn long : Bool) → (long ≡ false → n ≤ 65535)
+    → ForSome (length_unless (if not turn then Some fault.NotYourTurn else if long then Some fault.TooLong else None) (2 + n)) (λ k. k ≤ 65537)
+most-by n false long fits = λ x e. cc
+most-by n true true fits = λ x e. cc
+most-by n true false fits = λ x e. let low = fits refl in let is : 2 + n ≡ x = cc in omega arith
+
+most-open : (n : ℕ) (deaf long last : Bool) → (long ≡ false → n ≤ 65535)
+    → ForSome (length_unless (if deaf then Some fault.OneWay else if long then Some fault.TooLong else if last then Some fault.Exhausted else None) (2 + n)) (λ k. k ≤ 65537)
+most-open n true long last fits = λ x e. cc
+most-open n false true last fits = λ x e. cc
+most-open n false false true fits = λ x e. cc
+most-open n false false false fits = λ x e. let low = fits refl in let is : 2 + n ≡ x = cc in omega arith
+
+not-long : (n : ℕ) → nat_lt 65535 n ≡ false → n ≤ 65535
+not-long n e = grind (arith, nat_tests)
+
+pub frame-most : (p : Progress) (n : ℕ) → ForSome (frame_len_of p n) (λ k. k ≤ 65537)
+frame-most (Handshaking pattern role passed) n =
+    let m = overhead_of pattern (passed + 1) + n in
+    most-by m (is_turn role passed) (nat_lt 65535 m) (not-long m)
+frame-most (Open role one_way sent received) n =
+    most-open (n + 16) (one_way && same_role role Responder) (nat_lt 65535 (n + 16)) (sent == last_nonce) (not-long (n + 16))
+frame-most (Closed role) n = λ x e. cc

@@ -9,5 +9,7 @@ pub mod Ends
 pub mod Phases
 pub mod Taking
 pub mod Sending
+pub mod Outputs
+pub mod Inputs
 pub mod Outcomes
 pub mod Incoming

@@ -1,5 +1,6 @@
 -- A step by the places of its payload in the message.
-use Rattle.std.specs.Prelude.{⊤, ℕ, ◌≤◌, List, length, slice_range}
+use Rattle.std.specs.Prelude.{⊤, ℕ, ◌≤◌, List, length, Option, Some, None, Result, Ok, Err, slice_range}
+use Rattle.noise_session.specs.declared.faults.ReceiveFault.{ReceiveFault}
 use Rattle.noise_session.specs.declared.outcome.Outcome.{Outcome}
 use Rattle.noise_session.specs.declared.outcome.Outcome.TheVariants as outcome
 use Rattle.noise_session.specs.Steps.{Told}
@@ -20,3 +21,9 @@ tells message outcome.Exhausted = Exhausted
 abbrev pub StandsIn : List ℕ → Outcome → Type 0
 StandsIn message (outcome.Payload from to) = (from ≤ to) × (to ≤ length message)
 StandsIn message _ = ⊤
+
+-- what a reader's bytes came to
+abbrev pub received : List ℕ → Result (Option Outcome) ReceiveFault → Result (Option Told) ReceiveFault
+received message (Ok None) = Ok None
+received message (Ok (Some outcome)) = Ok (Some (tells message outcome))
+received message (Err fault) = Err fault

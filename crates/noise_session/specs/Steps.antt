@@ -1,5 +1,6 @@
 -- What a step tells.
-use Rattle.std.specs.Prelude.{ℕ, List}
+use Rattle.std.specs.Prelude.{ℕ, List, Option, Some, None, Result, Ok, Err}
+use Rattle.noise_session.specs.declared.faults.ReceiveFault.{ReceiveFault}
 use Rattle.noise_handshake.specs.declared.faults.Cause.{Cause}
 use Rattle.noise_session.specs.declared.step.Step.{Step}
 use Rattle.noise_session.specs.declared.step.Step.TheVariants as step
@@ -24,3 +25,9 @@ told (step.Payload bytes) = Payload bytes.now
 told (step.Dropped cause) = Dropped cause
 told (step.Refused token cause) = Refused token cause
 told step.Exhausted = Exhausted
+
+-- what a reader's bytes came to
+abbrev pub told_of : Result (Option Step) ReceiveFault → Result (Option Told) ReceiveFault
+told_of (Ok None) = Ok None
+told_of (Ok (Some x)) = Ok (Some (told x))
+told_of (Err fault) = Err fault

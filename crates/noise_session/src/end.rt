@@ -1,24 +1,28 @@
 //! One end of a session.
 #![tactic(auto)]
 
-ghost use Rattle.std.specs.Prelude.{◌≡◌, ◌≤◌, ◌+◌, ℕ, [], ⊤, length, take, drop, true, false, Some, None, Ok, Err, IsTrue, IfOk, IfErr, IfSome, MatchOption};
+ghost use Rattle.std.specs.Prelude.{◌≡◌, ◌≤◌, ◌+◌, ℕ, List, [], ⊤, length, take, drop, true, false, Some, None, Ok, Err, IsTrue, IsSome, IfOk, IfErr, IfSome, MatchOption};
 ghost use Rattle.std.specs.Option.{ForSome};
 ghost use Rattle.noise_handshake.specs.View.{View};
 ghost use Rattle.noise_handshake.specs.Party.{Stands};
 ghost use Rattle.noise_session.specs.Frames.{IsPartial};
-ghost use Rattle.noise_session.specs.Progress.{role_of, stage_of, refusal, frame_len_of};
-ghost use Rattle.noise_session.specs.Steps.{told};
+ghost use Rattle.noise_session.specs.Progress.{role_of, stage_of, idle_step, refusal, frame_len_of};
+ghost use Rattle.noise_session.specs.Steps.{told, told_of};
+ghost use Rattle.noise_session.specs.Counting.{inner_of, failures_of};
+ghost use Rattle.std.specs.Io.KnownBytes.{Appends, Consumes, IsAtEnd};
 
+use crate::draining::write_out;
 use crate::incoming::{FRAME_MAX, Incoming};
 use crate::outcome::Outcome;
 use crate::phase::Phase;
-use crate::sending::write_message;
+use crate::receiving::receive_from;
+use crate::sending::send;
 use crate::taking::advance;
-use crate::{SendFault, Stage, Step, Transport};
-use byteorder::{BigEndian, ByteOrder};
+use crate::{Counted, ReceiveFault, SendFault, Stage, Step, Transport};
 use noise_handshake::{Handshake, Keys};
 use noise_names::Role;
 use std::alloc::{AllocError, Global};
+use std::io::{Read, Write};
 use std::marker::Model;
 
 /// One end of a session: it takes the bytes of the other end's frames, and writes its own.
@@ -60,6 +64,8 @@ impl<K: Keys> End<K> {
     ghost use Rattle.noise_session.specs.Phases.{is_due, is_over};
     ghost use Rattle.noise_session.specs.Taking.{Takes};
     ghost use Rattle.noise_session.specs.Sending.{Sends, behind_fault};
+    ghost use Rattle.noise_session.specs.Inputs.{Receives, is_end, behind_receiving};
+    ghost use Rattle.noise_session.specs.Outputs.{Puts, behind_output};
 
     /// An end of a session that begins with this handshake, which hasn't ended; it is open at once where all its messages
     /// have passed. In transport the key is renewed after each `interval` messages of a direction; 0 means never.
@@ -161,6 +167,40 @@ impl<K: Keys> End<K> {
         }
     }
 
+    /// Reads the missing bytes of one frame from a reader, and no more, and tells what the frame came to. Where this end
+    /// doesn't listen it reads nothing; `Ok(None)` is an end of the input between frames.
+    ///
+    /// At a fault the bytes that came are kept, and a later call goes on with them.
+    pub fn receive<R: Read>(
+        &mut self,
+        from: &mut Counted<R>,
+    ) -> Result<Option<Step<'_>>, ReceiveFault>
+        ensures unread { IsSome (idle_step (progress self.old)) → from.new ≡ from.old }
+        ensures end { is_end result ≡ true → IsAtEnd (R.remaining (inner_of from.new)) }
+        ensures failures { failures_of from.new ≡ behind_receiving (failures_of from.old) result }
+        ensures* receives { sem 𝓛 (follows_so (the_row K.row K.Keys) (the_row K.row K.Keys) self.entry.ghost_name none (λ _ _. ⊤)
+            (λ n. (v : EndView) → EndStands K.public_of K.agreement self.old v
+            → (bytes : List ℕ) × (next : EndView) × Receives v bytes (told_of result) next
+            × Consumes (R.remaining (inner_of from.old)) (R.remaining (inner_of from.new)) bytes × EndStands K.public_of K.agreement n next)) }
+    {
+        let found = receive_from(&mut self.phase, &mut self.incoming, from)?;
+        let Some(outcome) = found else {
+            return Ok(None);
+        };
+        match outcome {
+            Outcome::Ended => Ok(Some(Step::Ended)),
+            Outcome::YourTurn => Ok(Some(Step::YourTurn)),
+            Outcome::Silent => Ok(Some(Step::Silent)),
+            Outcome::More => Ok(Some(Step::More)),
+            Outcome::Payload { from, to } => {
+                Ok(Some(Step::Payload(&self.incoming.buffer[2 + from..2 + to])))
+            }
+            Outcome::Dropped(cause) => Ok(Some(Step::Dropped(cause))),
+            Outcome::Refused { token, cause } => Ok(Some(Step::Refused { token, cause })),
+            Outcome::Exhausted => Ok(Some(Step::Exhausted)),
+        }
+    }
+
     /// The length of the frame that `write_into` would write now; None where it would be refused before any DH.
     pub fn frame_len(&self, payload_len: usize) -> Option<usize>
         ensures value { result ≡ frame_len_of (progress self.now) payload_len }
@@ -183,17 +223,34 @@ impl<K: Keys> End<K> {
         ensures err { (v : EndView) → EndStands K.public_of K.agreement self.old v → IfErr result (λ fault.
             Sends v payload.now (Err fault) (behind_fault v fault) × EndStands K.public_of K.agreement self.new (behind_fault v fault)) }
     {
-        let start = out.len().min(2);
-        match write_message(&mut self.phase, payload, &mut out[start..]) {
-            Ok(len) => {
-                BigEndian::write_u16(out, len as u16);
-                Ok(2 + len)
-            }
-            Err(fault) => {
-                if fault.ends() {
-                    self.incoming.clear();
-                }
-                Err(fault)
+        send(&mut self.phase, &mut self.incoming, payload, out)
+    }
+
+    /// Writes a payload as a frame to a writer, by as many writes as it takes, and tells the frame's length. It doesn't flush.
+    ///
+    /// Where a write fails, or takes none of the bytes that are left, the session has ended; so it has after a DH of the
+    /// handshake without an answer, and an exhausted nonce. The other faults change nothing.
+    pub fn write_to<W: Write>(
+        &mut self,
+        payload: &[u8],
+        out: &mut Counted<W>,
+    ) -> Result<usize, SendFault>
+        ensures failures { failures_of out.new ≡ behind_output (failures_of out.old) result }
+        ensures puts { (v : EndView) → EndStands K.public_of K.agreement self.old v → (bytes : List ℕ) × (next : EndView) × Puts v payload.now result bytes next
+            × Appends (W.contents (inner_of out.old)) (W.contents (inner_of out.new)) bytes × EndStands K.public_of K.agreement self.new next }
+    {
+        let len = send(
+            &mut self.phase,
+            &mut self.incoming,
+            payload,
+            &mut self.outgoing,
+        )?;
+        match write_out(out, &self.outgoing[..len]) {
+            Ok(()) => Ok(len),
+            Err(written) => {
+                self.phase.end();
+                self.incoming.clear();
+                Err(SendFault::Output { written })
             }
         }
     }

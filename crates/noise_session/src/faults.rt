@@ -1,4 +1,4 @@
-//! Why a payload isn't written, and why a transport message isn't opened.
+//! Why a payload isn't written, a transport message isn't opened, and nothing is received.
 #![tactic(auto)]
 
 /// Why a payload isn't written. Looked for in the order Ended, OneWay, NotYourTurn, TooLong, Exhausted, Agreement, Output.
@@ -46,4 +46,13 @@ pub enum OpenFault {
     Exhausted,
     /// This party is the initiator of a one-way session: nothing comes to it.
     OneWay,
+}
+
+/// Why nothing was received. The bytes that came so far are kept, and a later call goes on with them.
+#[derive(Clone, Copy, Debug, PartialEq, Eq)]
+pub enum ReceiveFault {
+    /// A read of the input failed.
+    Input,
+    /// The input ended inside a frame.
+    CutShort,
 }

@@ -1,12 +1,18 @@
 //! The frame that is coming.
 #![tactic(auto)]
 
-ghost use Rattle.std.specs.Prelude.{◌≡◌, ◌≢◌, ◌≤◌, ◌<◌, ◌+◌, ◌-◌, ◌++◌, [], length, take, IfOk, IfNone, IfSome};
+ghost use Rattle.std.specs.Prelude.{◌≡◌, ◌≢◌, ◌≤◌, ◌<◌, ◌+◌, ◌-◌, ◌++◌, ◌↔◌, ℕ, List, [], length, take, IfOk, IfNone, IfSome};
 ghost use Rattle.noise_session.specs.Frames.{IsPartial, IsWhole, frame_length};
 ghost use Rattle.byteorder.specs.Endian.{big_bytes};
+ghost use Rattle.std.specs.Io.KnownBytes.{Consumes, IsAtEnd};
+ghost use Rattle.noise_session.specs.Counting.{inner_of, failures_of, behind_filling};
+ghost use Rattle.noise_session.specs.declared.filling.Filling.TheVariants.{Filled, End};
 
+use crate::Counted;
+use crate::filling::{Filling, fill_from};
 use byteorder::{BigEndian, ByteOrder};
 use std::alloc::{AllocError, Global};
+use std::io::Read;
 
 /// The most bytes of a frame: a length of 2 bytes, and a message of 65535.
 pub(crate) const FRAME_MAX: usize = 65537;
@@ -25,7 +31,7 @@ pub(crate) struct Incoming {
 }
 
 impl Incoming {
-    ghost use Rattle.noise_session.specs.Incoming.{bytes_of};
+    ghost use Rattle.noise_session.specs.Incoming.{bytes_of, Leaves};
 
     pub(crate) fn new(alloc: Global) -> Result<Incoming, AllocError>
         ensures { IfOk result (λ incoming. bytes_of incoming ≡ []) }
@@ -73,6 +79,34 @@ impl Incoming {
         count
     }
 
+    // Reads the missing bytes of the frame's length, or of the frame once that is there.
+    fn read_up<R: Read>(&mut self, from: &mut Counted<R>) -> Filling
+        ensures bytes { (piece : List ℕ) × Consumes (R.remaining (inner_of from.old)) (R.remaining (inner_of from.new)) piece × (bytes_of self.new ≡ bytes_of self.old ++ piece) }
+        ensures filled { (result ≡ Filled) ↔ (length (bytes_of self.new) ≡ frame_length (bytes_of self.old)) }
+        ensures within { length (bytes_of self.new) ≤ frame_length (bytes_of self.old) }
+        ensures end { result ≡ End → IsAtEnd (R.remaining (inner_of from.new)) }
+        ensures failures { failures_of from.new ≡ behind_filling (failures_of from.old) result }
+    {
+        let (count, filling) = read_into(from, &mut self.buffer, self.held, self.whole);
+        let end = self.held + count;
+        self.whole = whole_behind(&self.buffer, self.whole, end);
+        self.held = end;
+        filling
+    }
+
+    // Reads the missing bytes of the frame, those of its length first.
+    pub(crate) fn fill_from<R: Read>(&mut self, from: &mut Counted<R>) -> Filling
+        ensures bytes { (piece : List ℕ) × Consumes (R.remaining (inner_of from.old)) (R.remaining (inner_of from.new)) piece × (bytes_of self.new ≡ bytes_of self.old ++ piece) }
+        ensures leaves { Leaves result (bytes_of self.new) }
+        ensures end { result ≡ End → IsAtEnd (R.remaining (inner_of from.new)) }
+        ensures failures { failures_of from.new ≡ behind_filling (failures_of from.old) result }
+    {
+        match self.read_up(from) {
+            Filling::Filled => self.read_up(from),
+            filling => filling,
+        }
+    }
+
     // Takes bytes of a piece up to the frame's end, and tells how many; None where the frame isn't whole with all of them.
     pub(crate) fn fill(&mut self, piece: &[u8]) -> Option<usize>
         ensures part { IfNone result ((bytes_of self.new ≡ bytes_of self.old ++ piece.now) × IsPartial (bytes_of self.new)) }
@@ -85,6 +119,26 @@ impl Incoming {
         }
         Some(count)
     }
+}
+
+// Reads bytes into a buffer, from one place to another, and tells how many.
+fn read_into<R: Read>(
+    from: &mut Counted<R>,
+    buffer: &mut Vec<u8>,
+    start: usize,
+    end: usize,
+) -> (usize, Filling)
+    requires order { start ≤ end }
+    requires room { end ≤ length buffer.old.items }
+    ensures room { length buffer.new.items ≡ length buffer.old.items }
+    ensures within { result.0 ≤ end - start }
+    ensures filled { (result.1 ≡ Filled) ↔ (result.0 ≡ end - start) }
+    ensures bytes { (piece : List ℕ) × Consumes (R.remaining (inner_of from.old)) (R.remaining (inner_of from.new)) piece
+        × (length piece ≡ result.0) × (take (start + result.0) buffer.new.items ≡ take start buffer.old.items ++ piece) }
+    ensures end { result.1 ≡ End → IsAtEnd (R.remaining (inner_of from.new)) }
+    ensures failures { failures_of from.new ≡ behind_filling (failures_of from.old) result.1 }
+{
+    fill_from(from, &mut buffer[start..end])
 }
 
 // Writes bytes into a buffer, from a place on.

@@ -12,6 +12,7 @@ mod outcome;
 mod packets;
 mod phase;
 mod reading;
+mod receiving;
 mod sending;
 mod stage;
 mod step;
@@ -20,7 +21,7 @@ mod transport;
 
 pub use counted::Counted;
 pub use end::End;
-pub use faults::{OpenFault, SendFault};
+pub use faults::{OpenFault, ReceiveFault, SendFault};
 pub use laws::{cuts_alike, sent_once, taken_once};
 pub use packets::{packet_is_due, packet_same};
 pub use stage::Stage;

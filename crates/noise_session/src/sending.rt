@@ -1,20 +1,25 @@
-//! An end makes a message of a payload.
+//! An end makes a frame of a payload.
 #![tactic(auto)]
 
-ghost use Rattle.std.specs.Prelude.{◌≡◌, ◌≤◌, ⊤, length, take, drop, true, false, None, Ok, Err, IsTrue, IfOk, IfErr, MatchOption};
-ghost use Rattle.noise_session.specs.Ends.{EndView, PhaseStands, progress_in};
-ghost use Rattle.noise_session.specs.Frames.{frame};
+ghost use Rattle.std.specs.Prelude.{◌≡◌, ◌≤◌, ℕ, [], ⊤, length, take, drop, true, false, Some, None, Ok, Err, IsTrue, IfOk, IfErr, MatchOption};
+ghost use Rattle.std.specs.Option.{ForSome};
+ghost use Rattle.noise_session.specs.Ends.{EndView, EndStands, PhaseStands, progress_in};
+ghost use Rattle.noise_session.specs.Frames.{IsPartial, frame};
+ghost use Rattle.noise_session.specs.Incoming.{bytes_of};
+ghost use Rattle.noise_session.specs.Outputs.{behind_output};
 ghost use Rattle.noise_session.specs.Phases.{is_due, is_over};
 ghost use Rattle.noise_session.specs.Progress.{refusal, message_length, frame_len_of};
 ghost use Rattle.noise_session.specs.Sending.{Sends, behind_fault};
 ghost use Rattle.noise_session.specs.Faults.{ends};
 
 use crate::SendFault;
+use crate::incoming::Incoming;
 use crate::phase::Phase;
+use byteorder::{BigEndian, ByteOrder};
 use noise_handshake::{Keys, WriteFault};
 
-// Writes the message of a payload into the first bytes of `out`, and tells how many.
-pub(crate) fn write_message<K: Keys>(
+// Writes a payload as a message into the first bytes of `out`, and tells how many.
+fn write_message<K: Keys>(
     phase: &mut Phase<K>,
     payload: &[u8],
     out: &mut [u8],
@@ -27,6 +32,7 @@ pub(crate) fn write_message<K: Keys>(
     ensures refused { MatchOption (refusal (progress_in phase.old) (length payload.now)) ⊤ (λ fault. (result ≡ Err fault) × (out.new ≡ out.old)) }
     ensures going { IfOk result (λ _. is_over phase.new ≡ false) }
     ensures kept { IfErr result (λ fault. ends fault ≡ false → phase.new ≡ phase.old) }
+    ensures inner { IfErr result (λ fault. (failures : ℕ) → behind_output failures (Err fault) ≡ failures) }
     ensures ok { (v : EndView) → PhaseStands K.public_of K.agreement phase.old v → IfOk result (λ n.
         (next : EndView) × Sends v payload.now (Ok (frame (take n out.new))) next × PhaseStands K.public_of K.agreement phase.new next × (next.held ≡ v.held)) }
     ensures err { (v : EndView) → PhaseStands K.public_of K.agreement phase.old v → IfErr result (λ fault.
@@ -57,5 +63,66 @@ pub(crate) fn write_message<K: Keys>(
             Err(_) => unreachable!(),
         },
         Phase::Ended { .. } => Err(SendFault::Ended),
+    }
+}
+
+// Writes a payload as a frame into the first bytes of `out`, and tells how many.
+fn write_frame<K: Keys>(
+    phase: &mut Phase<K>,
+    payload: &[u8],
+    out: &mut [u8],
+) -> Result<usize, SendFault>
+    requires due { IsTrue (is_due phase.old) }
+    requires room { ForSome (frame_len_of (progress_in phase.old) (length payload.now)) (λ n. n ≤ length out.old) }
+    ensures due { IsTrue (is_due phase.new) }
+    ensures len { IfOk result (λ n. (frame_len_of (progress_in phase.old) (length payload.now) ≡ Some n) × (n ≤ length out.new)) }
+    ensures rest { IfOk result (λ n. drop n out.new ≡ drop n out.old) }
+    ensures refused { MatchOption (refusal (progress_in phase.old) (length payload.now)) ⊤ (λ fault. (result ≡ Err fault) × (out.new ≡ out.old)) }
+    ensures going { IfOk result (λ _. is_over phase.new ≡ false) }
+    ensures kept { IfErr result (λ fault. ends fault ≡ false → phase.new ≡ phase.old) }
+    ensures inner { IfErr result (λ fault. (failures : ℕ) → behind_output failures (Err fault) ≡ failures) }
+    ensures ok { (v : EndView) → PhaseStands K.public_of K.agreement phase.old v → IfOk result (λ n.
+        (next : EndView) × Sends v payload.now (Ok (take n out.new)) next × PhaseStands K.public_of K.agreement phase.new next × (next.held ≡ v.held)) }
+    ensures err { (v : EndView) → PhaseStands K.public_of K.agreement phase.old v → IfErr result (λ fault.
+        Sends v payload.now (Err fault) (behind_fault v fault) × PhaseStands K.public_of K.agreement phase.new (behind_fault v fault)) }
+{
+    let start = out.len().min(2);
+    let len = write_message(phase, payload, &mut out[start..])?;
+    BigEndian::write_u16(out, len as u16);
+    Ok(2 + len)
+}
+
+// Writes a payload as a frame into the first bytes of `out`, and tells how many. Nothing is held where that ends the session.
+pub(crate) fn send<K: Keys>(
+    phase: &mut Phase<K>,
+    incoming: &mut Incoming,
+    payload: &[u8],
+    out: &mut [u8],
+) -> Result<usize, SendFault>
+    requires due { IsTrue (is_due phase.old) }
+    requires partial { IsPartial (bytes_of incoming.old) }
+    requires closed { is_over phase.old ≡ true → bytes_of incoming.old ≡ [] }
+    requires room { ForSome (frame_len_of (progress_in phase.old) (length payload.now)) (λ n. n ≤ length out.old) }
+    ensures due { IsTrue (is_due phase.new) }
+    ensures partial { IsPartial (bytes_of incoming.new) }
+    ensures closed { is_over phase.new ≡ true → bytes_of incoming.new ≡ [] }
+    ensures len { IfOk result (λ n. (frame_len_of (progress_in phase.old) (length payload.now) ≡ Some n) × (n ≤ length out.new)) }
+    ensures rest { IfOk result (λ n. drop n out.new ≡ drop n out.old) }
+    ensures refused { MatchOption (refusal (progress_in phase.old) (length payload.now)) ⊤ (λ fault. (result ≡ Err fault) × (out.new ≡ out.old)) }
+    ensures inner { IfErr result (λ fault. (failures : ℕ) → behind_output failures (Err fault) ≡ failures) }
+    ensures ok { (v : EndView) → EndStands K.public_of K.agreement (record { phase = phase.old; held = bytes_of incoming.old }) v → IfOk result (λ n.
+        (next : EndView) × Sends v payload.now (Ok (take n out.new)) next × EndStands K.public_of K.agreement (record { phase = phase.new; held = bytes_of incoming.new }) next) }
+    ensures err { (v : EndView) → EndStands K.public_of K.agreement (record { phase = phase.old; held = bytes_of incoming.old }) v → IfErr result (λ fault.
+        Sends v payload.now (Err fault) (behind_fault v fault)
+        × EndStands K.public_of K.agreement (record { phase = phase.new; held = bytes_of incoming.new }) (behind_fault v fault)) }
+{
+    match write_frame(phase, payload, out) {
+        Ok(len) => Ok(len),
+        Err(fault) => {
+            if fault.ends() {
+                incoming.clear();
+            }
+            Err(fault)
+        }
     }
 }

@@ -1,6 +1,7 @@
 //! The frames of two ends of NN, with values worked by hand.
 #![tactic(auto)]
 
+mod streams;
 mod transport;
 
 ghost use Rattle.std.specs.Prelude.{◌≡◌, IfOk, vec_len};
@@ -162,5 +163,100 @@ fn keeps_to_the_longest_frame(rt: HostRuntime) -> Result<(), Fail> {
     assert_eq!(rt; frame.get(0).copied(), Some(0xff));
     assert_eq!(rt; frame.get(1).copied(), Some(0xff));
     assert_eq!(rt; frame.get(2).copied(), Some(0x11));
+    Ok(())
+}
+
+// Both ends of NN behind their two handshake messages.
+fn new_pair(rt: &impl Abort, alloc: Global) -> Result<(End<XorKeys>, End<XorKeys>), Fail> {
+    let mut initiator = new_end(alloc, Role::Initiator, 0x11)?;
+    let mut responder = new_end(alloc, Role::Responder, 0x22)?;
+    let first = written(rt, alloc, &mut initiator, b"")?.map_err(|_| "refused")?;
+    takes(rt, &mut responder, &first, 34, Step::Payload(b""));
+    let second = written(rt, alloc, &mut responder, b"")?.map_err(|_| "refused")?;
+    takes(rt, &mut initiator, &second, 50, Step::Payload(b""));
+    Ok((initiator, responder))
+}
+
+#[test]
+fn opens_behind_the_last_message(rt: HostRuntime) -> Result<(), Fail> {
+    let (initiator, responder) = new_pair(&rt, rt.alloc())?;
+    let open = Stage::Transport {
+        send: 0,
+        receive: 0,
+    };
+    assert_eq!(rt; initiator.stage(), open);
+    assert_eq!(rt; responder.stage(), open);
+    assert!(rt; initiator.hash().is_some());
+    assert_eq!(rt; initiator.hash(), responder.hash());
+    assert_eq!(rt; initiator.remote_static(), None);
+    Ok(())
+}
+
+#[test]
+fn drops_what_is_no_packet(rt: HostRuntime) -> Result<(), Fail> {
+    let (mut initiator, mut responder) = new_pair(&rt, rt.alloc())?;
+    let empty = written(&rt, rt.alloc(), &mut initiator, b"")?.map_err(|_| "refused")?;
+    assert_eq!(rt; empty.len(), 18);
+    assert_eq!(rt; empty.get(0).copied(), Some(0x00));
+    assert_eq!(rt; empty.get(1).copied(), Some(0x10));
+    let next = written(&rt, rt.alloc(), &mut initiator, b"hi")?.map_err(|_| "refused")?;
+    takes(&rt, &mut responder, &[0, 0], 2, Step::Dropped(Cause::Short));
+    takes(&rt, &mut responder, &next, 20, Step::Dropped(Cause::Tag));
+    takes(&rt, &mut responder, &empty, 18, Step::Payload(b""));
+    takes(&rt, &mut responder, &empty, 18, Step::Dropped(Cause::Tag));
+    takes(&rt, &mut responder, &next, 20, Step::Payload(b"hi"));
+    assert_eq!(rt;
+        responder.stage(),
+        Stage::Transport {
+            send: 0,
+            receive: 2
+        }
+    );
+    let payload = zeros(rt.alloc(), 65520)?;
+    let unwritten = written(&rt, rt.alloc(), &mut responder, &payload)?;
+    assert_eq!(rt; unwritten.err(), Some(SendFault::TooLong));
+    Ok(())
+}
+
+// An end of N, in which only the initiator sends. The responder's static public key has this byte throughout.
+fn one_way_end(alloc: Global, role: Role, byte: u8) -> Result<End<XorKeys>, Fail> {
+    let pattern = fundamental(b"N").ok_or("no pattern")?.check()?;
+    let (keys, remote) = match role {
+        Role::Initiator => (
+            XorKeys {
+                e: Some([0x11; 32]),
+                s: None,
+            },
+            Remote {
+                e: None,
+                s: Some([byte; 32]),
+            },
+        ),
+        Role::Responder => (
+            XorKeys {
+                e: None,
+                s: Some([byte; 32]),
+            },
+            Remote { e: None, s: None },
+        ),
+    };
+    let handshake = Handshake::new(pattern, role, b"", keys, remote, &[])?;
+    Ok(End::new(alloc, handshake, 2)?)
+}
+
+#[test]
+fn one_way_ends_keep_to_it(rt: HostRuntime) -> Result<(), Fail> {
+    let mut initiator = one_way_end(rt.alloc(), Role::Initiator, 0x33)?;
+    let mut responder = one_way_end(rt.alloc(), Role::Responder, 0x33)?;
+    let first = written(&rt, rt.alloc(), &mut initiator, b"")?.map_err(|_| "refused")?;
+    takes(&rt, &mut responder, &first, 50, Step::Payload(b""));
+    let unwritten = written(&rt, rt.alloc(), &mut responder, b"hi")?;
+    assert_eq!(rt; unwritten.err(), Some(SendFault::OneWay));
+    takes(&rt, &mut initiator, &[0, 0], 0, Step::Silent);
+    for _ in 0..5 {
+        let frame = written(&rt, rt.alloc(), &mut initiator, b"hi")?.map_err(|_| "refused")?;
+        takes(&rt, &mut responder, &frame, 20, Step::Payload(b"hi"));
+    }
+    assert_eq!(rt; initiator.remote_static(), Some([0x33; 32]));
     Ok(())
 }

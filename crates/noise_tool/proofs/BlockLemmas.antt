@@ -11,12 +11,12 @@ use Rattle.noise_names.specs.declared.token.Role.TheVariants.{Initiator, Respond
 use Rattle.noise_names.specs.declared.token.Token.{Token}
 use Rattle.noise_names.specs.declared.token.Token.TheVariants.{E, S, Ee, Es, Se, Ss, Psk}
 use Rattle.noise_names.specs.Limits.{IsPattern}
-use Rattle.noise_names.specs.Names.{IsSection, Section, section_bytes}
+use Rattle.noise_names.specs.Names.{IsSection, Section, is_section_byte, section_bytes}
 use Rattle.noise_names.specs.Plan.{Plan}
 use Rattle.noise_names.specs.Text.{message_lines, pre_line, pre_lines, token_line, word_of, words}
 use Rattle.noise_names.specs.Text.{text_of as pattern_text}
 use Rattle.noise_names.specs.Tokens.{other}
-use Rattle.noise_names.proofs.Sections.{is_section_byte, section_all}
+use Rattle.noise_names.specs.Facts.{section_bytes-all}
 use Rattle.noise_tool.specs.Block.{IsInner, itself}
 use Rattle.noise_tool.specs.VectorText.{line, lines_of}
 use Rattle.noise_tool.specs.Words.{lacks}
@@ -112,7 +112,7 @@ not_end (b ∷ bs) h e =
 
 lined-heading : (s : Section) → IsSection s → Lined ((section_bytes s.base s.places ++ codes ":") ++ 10 ∷ [])
 lined-heading s h =
-    let bytes = section_all s h in
+    let bytes = section_bytes-all s h in
     let plain = all_weaker is_section_byte (λ b. not (b == 10)) (section_bytes s.base s.places) not_feed bytes in
     lined-one (section_bytes s.base s.places ++ codes ":") (
       lacks-append 10 (section_bytes s.base s.places) (codes ":") plain refl,

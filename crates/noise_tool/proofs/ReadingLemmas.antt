@@ -2,8 +2,8 @@
 use Rattle.std.proofs.Common.{arith, ◌≡◌, ◌<◌, ◌^◌, ◌==◌, not, Bool, true, false, refl, subst, lit<, ℕ, List, ◌++◌, codes}
 use Rattle.std.specs.Prelude.{decimal}
 use Rattle.std.proofs.lemmas.Bool.{eqb-true}
-use Rattle.noise_names.specs.Names.{IsSection, Section, name_bytes, section_bytes, suffix}
-use Rattle.noise_names.proofs.Sections.{is_section_byte, section_all}
+use Rattle.noise_names.specs.Names.{IsSection, Section, is_section_byte, name_bytes, section_bytes, suffix}
+use Rattle.noise_names.specs.Facts.{section_bytes-all}
 use Rattle.noise_tool.specs.HexWord.{hex_of}
 use Rattle.noise_tool.specs.VectorFile.{IsShort}
 use Rattle.noise_tool.specs.VectorText.{psk_words}
@@ -20,7 +20,7 @@ no_line_feed b h = at (b == 10) refl where
 pub protocol-plain : (name : Section) → IsSection name → lacks 10 (codes "protocol " ++ name_bytes name) ≡ true
 protocol-plain name h =
     let section = section_bytes name.base name.places in
-    lacks-append 10 section suffix (all_weaker is_section_byte (λ b. not (b == 10)) section no_line_feed (section_all name h)) refl
+    lacks-append 10 section suffix (all_weaker is_section_byte (λ b. not (b == 10)) section no_line_feed (section_bytes-all name h)) refl
 
 pub prologue-plain : (bytes : List ℕ) → IsShort bytes → lacks 10 (codes "prologue " ++ hex_of bytes) ≡ true
 prologue-plain bytes h = lacks-hex_of 10 bytes (omega arith) h.1

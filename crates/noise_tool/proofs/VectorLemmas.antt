@@ -1,13 +1,11 @@
 -- What is left of a vector file's text where its lines are read one after the other.
-use Rattle.std.proofs.Common.{arith, ◌≡◌, ◌≤◌, refl, subst, sym, false, ℕ, List, [], ◌∷◌, ◌++◌, Option, Some, None, codes, decimal, length}
-use Rattle.std.specs.Prelude.{IfSome}
+use Rattle.std.proofs.Common.{◌≡◌, refl, subst, sym, false, ℕ, List, [], ◌∷◌, ◌++◌, Option, codes, decimal}
 use Rattle.std.specs.Bool.{nat_eq}
 use Rattle.std.specs.List.{starts_with}
 use Rattle.noise_names.specs.declared.token.Role.TheVariants.{Initiator, Responder}
 use Rattle.noise_names.specs.Names.{Section, name_bytes}
 use Rattle.noise_names.specs.Plan.{Plan}
 use Rattle.noise_tool.specs.HexWord.{hex_of}
-use Rattle.noise_tool.specs.OwnPattern.{pattern_of}
 use Rattle.noise_tool.specs.VectorFile.{IsOwn}
 use Rattle.noise_tool.specs.VectorText.{block_text, line, lines_of, party_text, psk_words, say_words}
 use Rattle.noise_tool.specs.declared.file_keys.FileKeys.{FileKeys}
@@ -67,24 +65,8 @@ initiator-ends file = responder-no_answer file.responder (behind_responder file)
 pub responder-ends : (file : VectorFile) → starts_with nat_eq (behind_responder file) (codes "answer ") ≡ false
 responder-ends file = events-no_answer file.events.items
 
--- ---- the pattern, and how many events there are
+-- ---- the pattern
 
 -- the block fits the name that was read, which is the file's
 pub own-read : (name read : Section) (block : Option Plan) → IsOwn name block → read ≡ name → IsOwn read block
 own-read name read block own same = subst (λ (n : Section). IsOwn n block) (sym same) own
-
-counted : (pattern : Option Plan) (most count : ℕ) → ¬ (pattern ≡ None) → IfSome pattern (λ p. most ≡ length p.messages)
-    → IfSome pattern (λ p. count ≤ length p.messages) → count ≤ most
-counted None most count some is few = absurd (some refl)
-counted (Some p) most count some is few = omega (arith, is, few)
-
--- a name and a block of a right file have a pattern
-has_pattern : (name : Section) (block : Option Plan) → IsOwn name block → ¬ (pattern_of name block ≡ None)
-has_pattern name None own none = absurd (cc (own.0.1 none))
-has_pattern name (Some pattern) own none = cc (none)
-
--- no more than the messages of the pattern that was read
-pub events-few : (name read_name : Section) (block read : Option Plan) (most count : ℕ) → IsOwn name block → read_name ≡ name → read ≡ block
-    → IfSome (pattern_of read_name read) (λ p. most ≡ length p.messages) → IfSome (pattern_of name block) (λ p. count ≤ length p.messages) → count ≤ most
-events-few name read_name block read most count own same_name same is few =
-    counted (pattern_of name block) most count (has_pattern name block own) (rw (same_name, same) at is) few

@@ -7,7 +7,7 @@ use Rattle.noise_names.specs.Names.{IsSection, Section}
 use Rattle.noise_names.specs.Plan.{Plan}
 use Rattle.noise_handshake.specs.Table.{TableEntry}
 use Rattle.noise_tool.specs.Cuts.{AreCuts}
-use Rattle.noise_tool.specs.OwnPattern.{HasName, pattern_of}
+use Rattle.noise_tool.specs.OwnPattern.{HasName}
 use Rattle.noise_tool.specs.VectorText.{text_of}
 use Rattle.noise_tool.specs.Words.{IsKey}
 use Rattle.noise_tool.specs.declared.faults.Fault.{Fault}
@@ -42,7 +42,7 @@ AreKeys (Table keys) = IfSome keys.e IsKey × IfSome keys.s IsKey × (length key
 abbrev pub IsSay : Say → Type 0
 IsSay say = IsShort say.payload.items × AreCuts say.cuts
 
--- what a vector file says, with no more events than the pattern has messages
+-- what a vector file says
 pub record IsVectorFile (file : VectorFile) : Type 0 where
   pub protocol : IsSection file.protocol
   pub own : IsOwn file.protocol file.block
@@ -52,7 +52,6 @@ pub record IsVectorFile (file : VectorFile) : Type 0 where
   pub initiator : AreKeys file.initiator
   pub responder : AreKeys file.responder
   pub events : All IsSay file.events.items
-  pub few : IfSome (pattern_of file.protocol file.block) (λ pattern. length file.events.items ≤ length pattern.messages)
 
 -- why a text isn't read: it is that of no vector file, or memory ran out
 abbrev pub IsReadFault : List ℕ → Fault → Type 0

@@ -31,7 +31,10 @@ fn valid_pattern(text: &[u8]) -> Result<ValidPattern, Fault>
     ensures fault { IfErr result (λ fault. IsCheckFault text.now fault) }
 {
     let pattern = Pattern::parse_text(text).map_err(Fault::Text)?;
-    pattern.check().map_err(Fault::Rule)
+    match pattern.check() {
+        Ok(valid) => Ok(valid),
+        Err(fault) => Err(Fault::Rule(fault)),
+    }
 }
 
 // Appends the line that says that the pattern is valid.

@@ -1,7 +1,8 @@
 //! The command `talk`: two ends say to each other what a file says.
 
-ghost use Rattle.std.specs.Prelude.{◌≡◌, ◌⊎◌, ◌+◌, ◌<◌, ◌≤◌, IfErr, OnOk};
+ghost use Rattle.std.specs.Prelude.{◌≡◌, ◌⊎◌, ◌+◌, ◌<◌, ◌≤◌, ⊤, IfErr, MatchOption, OnOk, vec_len};
 ghost use Rattle.noise_session.specs.Ends.{progress};
+ghost use Rattle.noise_session.specs.Progress.{refusal};
 ghost use Rattle.noise_tool.specs.Ends.{AreEnds, IsStartFault};
 ghost use Rattle.noise_tool.specs.Faults.{status_of};
 ghost use Rattle.noise_tool.specs.declared.ends.Ends.{Ends};
@@ -67,8 +68,7 @@ pub fn talk<O: Write>(alloc: Global, file: VectorFile, out: &mut O) -> Result<()
     report.state(Role::Responder, responder.stage(), responder.hash())
 }
 
-// One end writes, and where it does, the other one is handed the frame. An end that is open writes nothing yet: a file has no more to say than
-// the handshake's messages.
+// One end writes, and where it does, the other one is handed the frame.
 fn say<K: Keys, O: Write>(
     alloc: Global,
     event: &Say,
@@ -77,13 +77,10 @@ fn say<K: Keys, O: Write>(
     report: &mut Report<'_, O>,
 ) -> Result<(), Fault>
     requires { from.old.frames < 18446744073709551615 }
-    ensures counted { from.new.frames + (progress from.old.end).passed ≡ from.old.frames + (progress from.new.end).passed }
     ensures one { from.new.frames ≤ from.old.frames + 1 }
+    ensures refused { MatchOption (refusal (progress from.old.end) (vec_len event.now.payload)) ⊤ (λ why. from.new.frames ≡ from.old.frames) }
     ensures fault { IfErr result (λ fault. status_of fault ≡ 3) }
 {
-    if from.end.is_open() {
-        return Ok(());
-    }
     let room = from.end.frame_len(event.payload.len()).unwrap_or(0);
     let mut frame = vec![in alloc; 0u8; room]?;
     match from.end.write_into(&event.payload, frame.as_mut_slice()) {
@@ -97,7 +94,7 @@ fn say<K: Keys, O: Write>(
     }
 }
 
-// Hands a frame over, in pieces. An open end is handed none.
+// Hands a frame over, in pieces.
 fn deliver<K: Keys, O: Write>(
     end: &mut End<K>,
     frame: &[u8],
@@ -110,7 +107,7 @@ fn deliver<K: Keys, O: Write>(
     let mut taken = 0;
     for index in 0..frame.len() + Cuts::MOST {
         let rest = &frame[taken..];
-        if rest.is_empty() || end.is_open() {
+        if rest.is_empty() {
             break;
         }
         let (count, step) = end.take(&rest[..cuts.piece_len(index, rest.len())]);

@@ -29,7 +29,6 @@ pub struct VectorFile {
     pub psks: ArrayVec<[u8; 32], 9>,
     pub initiator: FileKeys,
     pub responder: FileKeys,
-    /// No more of them than the pattern has messages.
     pub events: Vec<Say>,
     pub ghost short: { vec_len prologue ≤ 65535 },
 }

@@ -5,7 +5,7 @@ use Rattle.noise_names.specs.declared.token.Role.TheVariants.{Initiator, Respond
 use Rattle.noise_names.specs.declared.token.Token.{Token}
 use Rattle.noise_names.specs.declared.token.Token.TheVariants.{E, S, Es, Se, Ss, Psk}
 use Rattle.noise_names.specs.Tokens.{other}
-use Rattle.noise_names.specs.Validity.{stands}
+use Rattle.noise_names.specs.Validity.{is_among}
 use Rattle.noise_handshake.specs.Held.{Held}
 use Rattle.noise_handshake.specs.Passed.{passed_places}
 
@@ -49,5 +49,5 @@ are_known role e s (t ∷ ts) = is_known role e s t && are_known role (e_behind 
 
 -- A key of the other party is known if its token stands in its pre-message or in a message that has passed.
 pub record KnowsRemote {K : Type 0} (h : Held K) : Type 0 where
-  pub e : stands (other h.role) E (passed_places h.pattern h.passed) ≡ true → is_some h.remote.e ≡ true
-  pub s : stands (other h.role) S (passed_places h.pattern h.passed) ≡ true → is_some h.remote.s ≡ true
+  pub e : is_among (other h.role) E (passed_places h.pattern h.passed) ≡ true → is_some h.remote.e ≡ true
+  pub s : is_among (other h.role) S (passed_places h.pattern h.passed) ≡ true → is_some h.remote.s ≡ true

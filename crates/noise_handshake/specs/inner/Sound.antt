@@ -2,7 +2,7 @@
 use Rattle.std.specs.Prelude.{◌≡◌, ℕ, ◌*◌, ◌≤◌, List, length, drop, true, Option, is_some}
 use Rattle.noise_names.specs.declared.token.Token.TheVariants.{E, S}
 use Rattle.noise_names.specs.Plan.{places_of}
-use Rattle.noise_names.specs.Validity.{stands}
+use Rattle.noise_names.specs.Validity.{is_among}
 use Rattle.noise_names.specs.Overhead.{has_key}
 use Rattle.noise_state.specs.Standing.{keyed, nonce_now}
 use Rattle.noise_handshake.specs.declared.keys.Own.{Own}
@@ -17,7 +17,7 @@ pub record IsSound {K : Type 0} (public_of : K → Own → Option (List ℕ)) (h
   pub within : h.passed ≤ length h.pattern.messages
   pub few : length h.pattern.messages ≤ 8
   pub secrets : length h.secrets ≡ secrets_of (drop h.passed h.pattern.messages)
-  pub has_e : stands h.role E (places_of h.pattern) ≡ true → is_some (public_of h.keys Ephemeral) ≡ true
-  pub has_s : stands h.role S (places_of h.pattern) ≡ true → is_some (public_of h.keys Static) ≡ true
+  pub has_e : is_among h.role E (places_of h.pattern) ≡ true → is_some (public_of h.keys Ephemeral) ≡ true
+  pub has_s : is_among h.role S (places_of h.pattern) ≡ true → is_some (public_of h.keys Static) ≡ true
   pub keyed : keyed h.state ≡ has_key h.pattern (passed_places h.pattern h.passed)
   pub nonce : nonce_now h.state ≤ 11 * h.passed

@@ -3,7 +3,7 @@
 use super::{Run, tells};
 use std::test::Fail;
 
-const RUNS: [Run<'static>; 25] = [
+const RUNS: [Run<'static>; 24] = [
     (
         "list",
         "",
@@ -101,14 +101,6 @@ const RUNS: [Run<'static>; 25] = [
         2,
         "",
         "line 3 pattern\n",
-    ),
-    // No more events than messages.
-    (
-        "talk",
-        "vector 1\nprotocol Noise_N_25519_ChaChaPoly_SHA256\nprologue -\ninterval 0\ninitiator xor - -\nresponder xor - -\nsay initiator - -\nsay initiator - -\n",
-        2,
-        "",
-        "line 8 event\n",
     ),
     // The rule that a pattern breaks is told before what an end lacks.
     (

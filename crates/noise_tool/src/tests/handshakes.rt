@@ -21,7 +21,7 @@ state responder transport 0 0 038cf7ec616e3a3eb8131ce1d844fbcff37e9f3e17ad8035bd
 ";
 
 // Right files, and what a run of each prints.
-const RUNS: [(&str, &str); 11] = [
+const RUNS: [(&str, &str); 15] = [
     (N, N_TOLD),
     // Three messages with payloads, handed over in pieces.
     (
@@ -229,6 +229,118 @@ refused initiator 2 tag
 unwritten initiator ended
 state initiator ended
 state responder handshake 2
+",
+    ),
+    // A transport message.
+    (
+        "vector 1
+protocol Noise_NN_25519_ChaChaPoly_SHA256
+prologue -
+interval 1
+initiator xor 1111111111111111111111111111111111111111111111111111111111111111 -
+responder xor 2222222222222222222222222222222222222222222222222222222222222222 -
+say initiator - -
+say responder - -
+say initiator 6869 1
+",
+        "wrote initiator 0 00201111111111111111111111111111111111111111111111111111111111111111
+payload responder -
+wrote responder 0 0030222222222222222222222222222222222222222222222222222222222222222227fcdb52a02daaf97b96eb20f7029ced
+payload initiator -
+wrote initiator 1 0012648b37bda6fd75cbc53372a9cd1d777ffe73
+payload responder 6869
+state initiator transport 1 0 a40551f7a1d9e63611fc3269b125774f3301e1d1768bc761cebef4dee1c6beaf
+state responder transport 0 1 a40551f7a1d9e63611fc3269b125774f3301e1d1768bc761cebef4dee1c6beaf
+",
+    ),
+    // A one-way session, in which the responder is refused.
+    (
+        "vector 1
+protocol Noise_N_25519_ChaChaPoly_SHA256
+prologue -
+interval 0
+initiator xor 1111111111111111111111111111111111111111111111111111111111111111 -
+responder xor - 4444444444444444444444444444444444444444444444444444444444444444
+say initiator - -
+say responder - -
+",
+        "wrote initiator 0 00301111111111111111111111111111111111111111111111111111111111111111ea7df000183f68f559ca5562f348f1c3
+payload responder -
+unwritten responder one-way
+state initiator transport 0 0 038cf7ec616e3a3eb8131ce1d844fbcff37e9f3e17ad8035bd250a07acceb64d
+state responder transport 0 0 038cf7ec616e3a3eb8131ce1d844fbcff37e9f3e17ad8035bd250a07acceb64d
+",
+    ),
+    // Both directions, each with a key that is renewed after two messages.
+    (
+        "vector 1
+protocol Noise_XX_25519_ChaChaPoly_SHA256
+prologue 0102
+interval 2
+initiator xor 1111111111111111111111111111111111111111111111111111111111111111 3333333333333333333333333333333333333333333333333333333333333333
+responder xor 2222222222222222222222222222222222222222222222222222222222222222 4444444444444444444444444444444444444444444444444444444444444444
+say initiator - -
+say responder - -
+say initiator - -
+say responder 776f726c64 -
+say initiator 68656c6c6f 1,2,0,3
+say initiator - 2
+say initiator 6869 -
+say initiator 6869 1
+say initiator 6869 -
+say responder - -
+say responder 626965 0,1
+",
+        "wrote initiator 0 00201111111111111111111111111111111111111111111111111111111111111111
+payload responder -
+wrote responder 0 00602222222222222222222222222222222222222222222222222222222222222222024062932a82331cb7943eb5d61721a3954369945f86d74510869b1c99a467683287e7ad3d795561d5e6f6fc89910a00567e6db1b2ecc87c14f838364bc04842
+payload initiator -
+wrote initiator 1 00403cd6abae079b3ba9584f588bb5fafdf01089cbefceeda879d70a6d520100f6386c42c0581d4bba90937e2317536fe7efed9bc88bcbc9528c1a37b3475f2e6f9f
+payload responder -
+wrote responder 1 001570f26ce773255e7c6e2af9504b9636f0760b629bd5
+payload initiator 776f726c64
+wrote initiator 2 0015e0748b6b896f3646f9ceab3a491ed6f309ea5cb3be
+payload responder 68656c6c6f
+wrote initiator 3 00100783631eaf05344e0b2da1e0a31f9719
+payload responder -
+wrote initiator 4 00126e5cfdda2f9965378c3d87f2778146d818ae
+payload responder 6869
+wrote initiator 5 0012a5ccd3634851712f49930ab3472d3e3199b8
+payload responder 6869
+wrote initiator 6 001224c7ea45e67175128d5c168a92184330772a
+payload responder 6869
+wrote responder 2 001076cd5e1535e2d437d3340b04becc90ed
+payload initiator -
+wrote responder 3 0013d365ad85d575837d57d5a55b6b376a145b8a08
+payload initiator 626965
+state initiator transport 5 3 df81f887025a01aab2574c3db39bc90ffb61999b09982bd280eb2ae38983b9ae
+state responder transport 3 5 df81f887025a01aab2574c3db39bc90ffb61999b09982bd280eb2ae38983b9ae
+",
+    ),
+    // The responder is open and goes on, while the initiator has ended.
+    (
+        "vector 1
+protocol Noise_NN_25519_ChaChaPoly_SHA256
+prologue -
+interval 0
+initiator table 1111111111111111111111111111111111111111111111111111111111111111 -
+answer e 2222222222222222222222222222222222222222222222222222222222222222 5555555555555555555555555555555555555555555555555555555555555555
+responder table 2222222222222222222222222222222222222222222222222222222222222222 -
+answer e 1111111111111111111111111111111111111111111111111111111111111111 6666666666666666666666666666666666666666666666666666666666666666
+say initiator - -
+say responder - -
+say responder 6869 -
+say initiator - -
+",
+        "wrote initiator 0 00201111111111111111111111111111111111111111111111111111111111111111
+payload responder -
+wrote responder 0 003022222222222222222222222222222222222222222222222222222222222222223b4b1b52b8297b51182df923646e1f6c
+refused initiator 2 tag
+wrote responder 1 0012aa2eaa77536840d8b257fa22a3a12f0ac182
+left initiator ended 20
+unwritten initiator ended
+state initiator ended
+state responder transport 1 0 ac56f94d4246b06e1b69d3fc21d3f802cd4c75a04bbd62c6f4e322605c5f610f
 ",
     ),
 ];

@@ -1,6 +1,6 @@
 //! The lines of events.
 
-ghost use Rattle.std.specs.Prelude.{◌≡◌, ◌≤◌, ◌∷◌, ◌++◌, [], ℕ, List, IfErr, IfOk, IfSome, IsSome, IsTrue, MatchOption, codes, length, vec_len};
+ghost use Rattle.std.specs.Prelude.{◌≡◌, ◌∷◌, ◌++◌, [], ℕ, List, IfErr, IfOk, IfSome, IsSome, IsTrue, MatchOption, codes};
 ghost use Rattle.std.specs.List.{All};
 ghost use Rattle.noise_tool.specs.Faults.{IsOfLine};
 ghost use Rattle.noise_tool.specs.VectorFile.{IsSay};
@@ -15,11 +15,10 @@ use super::words::{read_bytes, read_role, split_once};
 use crate::faults::{Fault, LineKind};
 use std::alloc::{AllocError, Global};
 
-/// The events that the lines to the text's end are. One more than `most` is a fault.
-pub fn read_events(alloc: Global, lines: &mut Lines<'_>, most: usize) -> Result<Vec<Say>, Fault>
+/// The events that the lines to the text's end are.
+pub fn read_events(alloc: Global, lines: &mut Lines<'_>) -> Result<Vec<Say>, Fault>
     ensures text { IfOk result (λ events. lines.old.rest.now ≡ lines_of say_words events.items []) }
-    ensures few { IfOk result (λ events. vec_len events ≤ most) }
-    ensures every { (events : List Say) → length events ≤ most → All IsSay events
+    ensures every { (events : List Say) → All IsSay events
         → lines.old.rest.now ≡ lines_of say_words events []
         → IfErr result (λ fault. fault ≡ Memory) }
     ensures kind { IfErr result IsOfLine }
@@ -27,9 +26,6 @@ pub fn read_events(alloc: Global, lines: &mut Lines<'_>, most: usize) -> Result<
     let mut events = Vec::new(alloc);
     while !lines.is_empty() {
         let line = lines.next()?;
-        if events.len() >= most {
-            return Err(lines.fault(LineKind::Event));
-        }
         let Some(say) = read_say(alloc, line)? else {
             return Err(lines.fault(LineKind::Event));
         };

@@ -10,7 +10,7 @@ ghost use Rattle.noise_names.specs.Fundamental.{fundamental_of};
 ghost use Rattle.noise_tool.specs.Faults.{IsOfLine};
 ghost use Rattle.noise_tool.specs.HexWord.{hex_of};
 ghost use Rattle.noise_tool.specs.VectorText.{block_text, line, lines_of, psk_words, text_of};
-ghost use Rattle.noise_tool.specs.OwnPattern.{HasName, pattern_of};
+ghost use Rattle.noise_tool.specs.OwnPattern.{HasName};
 ghost use Rattle.noise_tool.specs.VectorFile.{ArePsks, IsOwn, IsShort, IsVectorFile};
 ghost use Rattle.noise_tool.specs.Words.{IsKey};
 ghost use Rattle.noise_tool.specs.declared.faults.Fault.TheVariants.{Memory};
@@ -34,9 +34,6 @@ pub fn read_vector(alloc: Global, text: &[u8]) -> Result<VectorFile, Fault>
     ensures own { IfOk result (λ file. IsSome file.block ↔ (fundamental_of file.protocol.base ≡ None)) }
     ensures named { IfOk result (λ file. IfSome file.block (λ pattern. HasName pattern file.protocol)) }
 
-    // There are no more events than messages.
-    ensures few { IfOk result (λ file. IfSome (pattern_of file.protocol file.block) (λ pattern. vec_len file.events ≤ length pattern.messages)) }
-
     // The text of a right file is refused only for want of memory.
     ensures every { (file : VectorFile) → IsVectorFile file → text.now ≡ text_of file
         → IfErr result (λ fault. fault ≡ Memory) }
@@ -45,13 +42,13 @@ pub fn read_vector(alloc: Global, text: &[u8]) -> Result<VectorFile, Fault>
     let mut lines = Lines::new(text);
     read_header(&mut lines)?;
     let protocol = read_protocol(&mut lines)?;
-    let (block, most) = read_own_pattern(&mut lines, &protocol)?;
+    let block = read_own_pattern(&mut lines, &protocol)?;
     let prologue = read_prologue(alloc, &mut lines)?;
     let interval = read_interval(&mut lines)?;
     let psks = read_psks(&mut lines)?;
     let initiator = read_party(&mut lines, Role::Initiator)?;
     let responder = read_party(&mut lines, Role::Responder)?;
-    let events = read_events(alloc, &mut lines, most)?;
+    let events = read_events(alloc, &mut lines)?;
     Ok(VectorFile {
         protocol,
         block,
@@ -101,27 +98,22 @@ fn protocol_of(line: &[u8]) -> Option<ProtocolName>
     ProtocolName::parse(line.strip_prefix(b"protocol ".as_slice())?).ok()
 }
 
-// The pattern that the file spells itself, where no fundamental one has this name's base, and the number of its messages, or of that one's.
+// The pattern that the file spells itself, where no fundamental one has this name's base.
 fn read_own_pattern(
     lines: &mut Lines<'_>,
     protocol: &ProtocolName,
-) -> Result<(Option<Pattern>, usize), Fault>
-    ensures text { IfOk result (λ own. lines.old.rest.now ≡ block_text own.0 lines.new.rest.now) }
-    ensures there { IfOk result (λ own. IsSome own.0 ↔ (fundamental_of protocol.now.base ≡ None)) }
-    ensures named { IfOk result (λ own. IfSome own.0 (λ pattern. HasName pattern protocol.now)) }
-    ensures count { IfOk result (λ own. IfSome (pattern_of protocol.now own.0) (λ pattern. own.1 ≡ length pattern.messages)) }
+) -> Result<Option<Pattern>, Fault>
+    ensures text { IfOk result (λ block. lines.old.rest.now ≡ block_text block lines.new.rest.now) }
+    ensures there { IfOk result (λ block. IsSome block ↔ (fundamental_of protocol.now.base ≡ None)) }
+    ensures named { IfOk result (λ block. IfSome block (λ pattern. HasName pattern protocol.now)) }
     ensures every { (block : Option Plan) (rest : List ℕ) → IsOwn protocol.now block
         → lines.old.rest.now ≡ block_text block rest
-        → MatchResult result (λ own. (own.0 ≡ block) × (lines.new.rest.now ≡ rest)) (λ fault. ⊥) }
+        → MatchResult result (λ found. (found ≡ block) × (lines.new.rest.now ≡ rest)) (λ fault. ⊥) }
     ensures kind { IfErr result IsOfLine }
 {
     match fundamental(protocol.base()) {
-        Some(pattern) => Ok((None, pattern.messages().len())),
-        None => {
-            let pattern = read_block(lines, protocol)?;
-            let most = pattern.messages().len();
-            Ok((Some(pattern), most))
-        }
+        Some(_) => Ok(None),
+        None => Ok(Some(read_block(lines, protocol)?)),
     }
 }
 

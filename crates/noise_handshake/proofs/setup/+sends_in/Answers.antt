@@ -5,7 +5,7 @@ use Rattle.noise_names.specs.declared.token.Token.{Token}
 use Rattle.noise_names.specs.declared.token.Role.{Role}
 use Rattle.noise_names.specs.Tokens.{same_role}
 use Rattle.noise_names.specs.Plan.{message_places}
-use Rattle.noise_names.specs.Validity.{stands}
+use Rattle.noise_names.specs.Validity.{is_among}
 use Rattle.std.specs.Prelude.{◌&&◌}
 use Rattle.noise_handshake.proofs.setup.+sends_in.Goals as goal
 
@@ -20,4 +20,4 @@ returns t c n =
     found-later c.args.party c.args.role (token_of c.args.own) n c.in-Some.message.now c.in-Some.later.now c.args.messages.now c.sends_as.result c.sends_in.result c.in-Some.ensures.cases.0
     (c.sends_as.ensures ∙ ap (λ (ts : List Token). same_role c.args.party c.args.role && has_token
     (token_of c.args.own) ts) c.tokens.ensures.same) c.if-sends_as.false
-    (c.sends_in.ensures (n + 1) ∙ ap (λ (r : Role). stands c.args.role (token_of c.args.own) (message_places r (n + 1) c.in-Some.later.now)) c.other.ensures)
+    (c.sends_in.ensures (n + 1) ∙ ap (λ (r : Role). is_among c.args.role (token_of c.args.own) (message_places r (n + 1) c.in-Some.later.now)) c.other.ensures)

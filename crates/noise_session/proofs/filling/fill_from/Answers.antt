@@ -1,4 +1,4 @@
-use Rattle.std.proofs.Common.{ℕ, List, rules, subst, arith}
+use Rattle.std.proofs.Common.{rules, subst}
 use Rattle.std.specs.Io.KnownBytes.{Consumes}
 use Rattle.noise_session.proofs.Streaming.{consumed, filled_more}
 use Rattle.noise_session.proofs.filling.fill_from.Goals as goal

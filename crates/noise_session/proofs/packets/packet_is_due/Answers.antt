@@ -1,4 +1,3 @@
-use Rattle.std.proofs.Common.{◌≡◌, ℕ, refl}
 use Rattle.noise_session.proofs.Facing.{due_is_next}
 use Rattle.noise_session.proofs.packets.packet_is_due.Goals as goal
 

@@ -1,4 +1,4 @@
-use Rattle.std.proofs.Common.{ℕ, List, []}
+use Rattle.std.proofs.Common.{[]}
 use Rattle.noise_aead.specs.Sealing.{nonce_of}
 use Rattle.noise_session.specs.Transport.{transport_key}
 use Rattle.noise_session.proofs.packets.packet_same.Goals as goal

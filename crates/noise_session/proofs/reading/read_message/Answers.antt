@@ -1,8 +1,7 @@
-use Rattle.std.proofs.Common.{◌≡◌, ℕ, ◌+◌, List, [], None, Some, refl, sym, ◌∙◌, ap, subst}
+use Rattle.std.proofs.Common.{◌+◌, [], None, Some, refl, sym, subst}
 use Rattle.std.specs.Prelude.{slice_range}
 use Rattle.noise_handshake.specs.Party.{behind_message}
 use Rattle.noise_session.specs.declared.phase.Phase.{Phase}
-use Rattle.noise_session.specs.declared.phase.Phase.TheVariants as phase
 use Rattle.noise_session.specs.HeldTransport.{HeldTransport, TransportStands}
 use Rattle.noise_session.specs.Ends.{EndView, PhaseStands, HandshakeStands, OpenStands, OverStands, transport_in, closed}
 use Rattle.noise_session.specs.Taking.Judges.{accepted, refused}

@@ -1,7 +1,7 @@
-use Rattle.std.proofs.Common.{◌≡◌, ℕ, ◌+◌, ◌++◌, List, [], length, take, drop, None, Some, sym, ◌∙◌, ap, subst, arith, rules, append_assoc, length-drop}
+use Rattle.std.proofs.Common.{◌≡◌, ℕ, ◌+◌, ◌++◌, List, length, take, drop, None, sym, ◌∙◌, ap, subst, arith, rules, append_assoc, length-drop}
 use Rattle.std.proofs.lemmas.List.{take-append-drop}
 use Rattle.noise_session.specs.Frames.{frame, IsPartial}
-use Rattle.noise_session.specs.Progress.{Progress, idle_step}
+use Rattle.noise_session.specs.Progress.{idle_step}
 use Rattle.noise_session.specs.Ends.{EndView, progress_of, progress_in}
 use Rattle.noise_session.specs.Taking.Takes.{idles, waits, judges}
 use Rattle.noise_session.specs.Incoming.{bytes_of}

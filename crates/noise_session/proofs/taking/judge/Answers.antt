@@ -1,4 +1,4 @@
-use Rattle.std.proofs.Common.{◌≡◌, ◌-◌, List, ℕ, take, drop, refl, sym, subst, arith}
+use Rattle.std.proofs.Common.{◌≡◌, ◌-◌, List, ℕ, take, drop, sym, subst, arith}
 use Rattle.noise_session.specs.Incoming.{bytes_of}
 use Rattle.noise_session.specs.Steps.{Told}
 use Rattle.noise_session.specs.Taking.{Judges}

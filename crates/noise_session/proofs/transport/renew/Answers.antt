@@ -1,4 +1,4 @@
-use Rattle.std.proofs.Common.{◌≡◌, ◌≢◌, ℕ, ◌+◌, ◌%◌, List, Option, Some, refl, sym, ◌∙◌, ap}
+use Rattle.std.proofs.Common.{◌≢◌, ℕ, ◌+◌, ◌%◌, Some, sym, ◌∙◌, ap}
 use Rattle.noise_state.specs.History.{rekeyed_times}
 use Rattle.noise_session.proofs.Renewing.{renewals-kept, renewals-never}
 use Rattle.noise_session.proofs.transport.renew.Goals.{else-interval-ne0-via-then-interval-ne0+else-nonce-interval-eq0, else-interval-ne0-via-else-interval-ne0}

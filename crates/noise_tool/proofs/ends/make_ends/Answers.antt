@@ -67,8 +67,8 @@ returns-clause-ends c =
       valid = c.in_ok-pattern.ensures.valid;
       initiator =
           subst (λ (v : View). EndStands public_of agreement_of c.in_ok-new.field-0 (end_of v file.interval)) start
-          (c.in_ok-new.ensures.stands _ c.in_ok-first.ensures.stands);
+          (c.in_ok-new.ensures _ c.in_ok-first.ensures.stands);
       responder =
           subst (λ (v : View). EndStands public_of agreement_of c.in_ok-new-2.field-0 (end_of v file.interval)) start-2
-          (c.in_ok-new-2.ensures.stands _ c.in_ok-second.ensures.stands);
+          (c.in_ok-new-2.ensures _ c.in_ok-second.ensures.stands);
     }

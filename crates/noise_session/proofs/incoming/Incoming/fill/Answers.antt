@@ -1,4 +1,4 @@
-use Rattle.std.proofs.Common.{◌≡◌, ℕ, ◌+◌, ◌-◌, List, ◌++◌, length, take, drop, refl, sym, ◌∙◌, ap, arith, length-drop}
+use Rattle.std.proofs.Common.{◌≡◌, ◌-◌, length, take, drop, ap, arith, length-drop}
 use Rattle.std.proofs.lemmas.List.{length-take-le, take_rest}
 use Rattle.noise_session.specs.Incoming.{bytes_of}
 use Rattle.noise_session.proofs.Growing.{two-parts}

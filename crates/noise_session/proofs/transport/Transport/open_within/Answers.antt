@@ -1,4 +1,4 @@
-use Rattle.std.proofs.Common.{◌≡◌, ℕ, List, [], length, sym, subst}
+use Rattle.std.proofs.Common.{◌≡◌, [], length, sym, subst}
 use Rattle.noise_state.specs.declared.cipher.CipherFault.{CipherFault}
 use Rattle.noise_state.specs.Cipher.{DecryptRefused, keyed_in, nonce_in}
 use Rattle.noise_state.specs.History.{piece_under}

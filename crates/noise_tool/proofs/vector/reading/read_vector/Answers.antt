@@ -1,11 +1,11 @@
-use Rattle.std.proofs.Common.{◌≡◌, ◌≤◌, ◌∙◌, length}
+use Rattle.std.proofs.Common.{◌≡◌, ◌∙◌}
 use Rattle.std.proofs.lemmas.Bool.{false≢true}
 use Rattle.std.proofs.lemmas.Result.{err_from_is_err_and}
 use Rattle.noise_tool.specs.VectorFile.{IsVectorFile}
 use Rattle.noise_tool.specs.VectorText.{text_of}
 use Rattle.noise_tool.specs.declared.vector.VectorFile.{VectorFile}
 use Rattle.noise_tool.proofs.VectorLemmas.{behind_block, behind_header, behind_initiator, behind_interval, behind_prologue, behind_protocol}
-use Rattle.noise_tool.proofs.VectorLemmas.{behind_psks, behind_responder, events-few, initiator-ends, own-read, psks-end, responder-ends}
+use Rattle.noise_tool.proofs.VectorLemmas.{behind_psks, behind_responder, initiator-ends, own-read, psks-end, responder-ends}
 use Rattle.noise_tool.proofs.vector.reading.read_vector.Goals.{After-read_party, After-read_prologue}
 use Rattle.noise_tool.proofs.vector.reading.read_vector.Goals as goal
 
@@ -87,6 +87,4 @@ returns-in_err-events-clause-every c =
     let psks = psks-read g.After-read_party file h pattern.2 in
     let initiator = c.in_ok-initiator.ensures.every file.initiator (behind_initiator file) h.initiator (initiator-ends file) psks in
     let responder = c.in_ok-responder.ensures.every file.responder (behind_responder file) h.responder (responder-ends file) initiator.1 in
-    let few : length file.events.items ≤ c.in_ok-block.most = events-few file.protocol c.in_ok-protocol.protocol file.block c.in_ok-block.block
-    c.in_ok-block.most (length file.events.items) h.own pattern.0 pattern.1 c.in_ok-block.ensures.count h.few in
-    rw (p.1, p.2) (c.in_err-events.ensures.every file.events.items few h.events responder.1)
+    rw (p.1, p.2) (c.in_err-events.ensures.every file.events.items h.events responder.1)

@@ -1,0 +1,117 @@
+//! Readers and writers that fail or end at each place of a frame.
+#![tactic(auto)]
+
+use super::{first_frame, new_end};
+use crate::{Counted, ReceiveFault, SendFault, Stage, Step};
+use noise_names::Role;
+use std::io::{Error, ErrorKind, Read, Result, Write};
+use std::test::Fail;
+
+// Gives a frame, a byte a read. Behind so many bytes it fails once and then goes on, or it has come to its end.
+#[derive(Drop)]
+struct Reader {
+    frame: [u8; 36],
+    at: usize,
+    left: usize,
+    fails: bool,
+}
+
+impl Read for Reader {
+    fn read(&mut self, buf: &mut [u8]) -> Result<usize> {
+        if self.left == 0 && self.fails {
+            self.fails = false;
+            self.left = 36;
+            return Err(Error::from(ErrorKind::Other));
+        }
+        if self.left == 0 || self.at >= 36 || buf.is_empty() {
+            return Ok(0);
+        }
+        buf[0] = self.frame[self.at];
+        self.at += 1;
+        self.left -= 1;
+        Ok(1)
+    }
+}
+
+// Takes so many bytes, a byte a write. Then it fails, or takes none.
+#[derive(Drop)]
+struct Writer {
+    left: usize,
+    fails: bool,
+}
+
+impl Write for Writer {
+    fn write(&mut self, buf: &[u8]) -> Result<usize> {
+        if self.left == 0 && self.fails {
+            return Err(Error::from(ErrorKind::Other));
+        }
+        let count = self.left.min(buf.len()).min(1);
+        self.left -= count;
+        Ok(count)
+    }
+
+    fn flush(&mut self) -> Result<()> {
+        Ok(())
+    }
+}
+
+fn frame_until(left: usize, fails: bool) -> Counted<Reader> {
+    Counted::new(Reader {
+        frame: first_frame(),
+        at: 0,
+        left,
+        fails,
+    })
+}
+
+#[test]
+fn goes_on_behind_a_failed_read(rt: HostRuntime) -> std::result::Result<(), Fail> {
+    for place in 0..36 {
+        let mut responder = new_end(rt.alloc(), Role::Responder, 0x22)?;
+        let mut from = frame_until(place, true);
+        let first = responder.receive(&mut from).err();
+        assert_eq!(rt; first, Some(ReceiveFault::Input));
+        assert_eq!(rt; responder.held(), place);
+        assert_eq!(rt; from.failures(), 1);
+        let whole = responder.receive(&mut from) == Ok(Some(Step::Payload(b"hi")));
+        assert!(rt; whole);
+        assert_eq!(rt; from.failures(), 1);
+    }
+    Ok(())
+}
+
+#[test]
+fn tells_where_the_input_ends(rt: HostRuntime) -> std::result::Result<(), Fail> {
+    for place in 0..36 {
+        let mut responder = new_end(rt.alloc(), Role::Responder, 0x22)?;
+        let mut from = frame_until(place, false);
+        let fault = responder.receive(&mut from).err();
+        let cut = (place > 0).then_some(ReceiveFault::CutShort);
+        assert_eq!(rt; fault, cut);
+        assert_eq!(rt; responder.held(), place);
+        assert_eq!(rt; from.failures(), 0);
+    }
+    Ok(())
+}
+
+#[test]
+fn ends_where_a_write_fails(rt: HostRuntime) -> std::result::Result<(), Fail> {
+    for place in 0..36 {
+        for fails in [true, false] {
+            let mut initiator = new_end(rt.alloc(), Role::Initiator, 0x11)?;
+            let mut out = Counted::new(Writer { left: place, fails });
+            let told = initiator.write_to(b"hi", &mut out);
+            assert_eq!(rt; told, Err(SendFault::Output { written: place }));
+            assert_eq!(rt; out.failures(), 1);
+            assert_eq!(rt; initiator.stage(), Stage::Ended);
+        }
+    }
+    let mut initiator = new_end(rt.alloc(), Role::Initiator, 0x11)?;
+    let mut out = Counted::new(Writer {
+        left: 36,
+        fails: true,
+    });
+    assert_eq!(rt; initiator.write_to(b"hi", &mut out), Ok(36));
+    assert_eq!(rt; out.failures(), 0);
+    Ok(())
+}
