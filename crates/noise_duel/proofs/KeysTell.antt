@@ -51,7 +51,7 @@ module _ (laws : LawsBelow) (p : Plan) (role : Role) (a b : Start) (set : IsSetU
   given = laws.set_remote p role a.own a.remote (length a.secrets) set
 
   own-before : (x : Own) → has_before p (other role) (token_of x) ≡ true → is_some (b.own x) ≡ true
-  own-before x h = laws.set_own p (other role) b.own b.remote (length b.secrets) there_set x (laws.before_stands p (other role) (token_of x) h)
+  own-before x h = laws.set_own p (other role) b.own b.remote (length b.secrets) there_set x (laws.before_is_among p (other role) (token_of x) h)
 
   pub knows-first : Knows a.remote b.own
   knows-first = record {

@@ -313,7 +313,7 @@ module _ (laws : LawsBelow) (w : KeyMaterial) (p : Plan) (prologue : List ℕ) (
     (j : IsPart w p Responder prologue b) where
   -- a key of a pre-message is the party's own
   before-own : (party : Role) (x : Own) → has_before p party (token_of x) ≡ true → is_among party (token_of x) (places_of p) ≡ true
-  before-own party x h = laws.before_stands p party (token_of x) h
+  before-own party x h = laws.before_is_among p party (token_of x) h
 
   remote_a : a.remote ≡ shown_before p Responder b.own
   remote_a =

@@ -2,6 +2,7 @@ pub mod Below
 pub mod Collision
 pub mod Messages
 pub mod Events
+pub mod Acts
 pub mod Sides
 pub mod Runs
 pub mod Conversation

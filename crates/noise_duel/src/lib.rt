@@ -2,7 +2,9 @@
 #![tactic(auto)]
 
 mod cuts;
+mod event;
 mod laws;
 
 pub use cuts::Cuts;
+pub use event::Event;
 pub use laws::{alike_are_parts, ends_agree, ends_stand, hash_tells, lines_come_through, run_once};
