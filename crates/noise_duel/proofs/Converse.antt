@@ -11,8 +11,7 @@ use Rattle.noise_state.specs.History.{History, Mix, and_then, cipher_key, piece}
 use Rattle.noise_state.specs.Pieces.{length-piece, piece-same}
 use Rattle.noise_handshake.specs.Line.{token_piece, behind_token, front, behind_front, behind_line}
 use Rattle.noise_handshake.specs.Length.{Carry, Carries}
-use Rattle.noise_handshake.specs.View.{View, reader, secrets_behind, tokens_at, tokens_now, with_premessage}
-use Rattle.noise_handshake.specs.Writing.{writer}
+use Rattle.noise_handshake.specs.View.{View, secrets_behind, tokens_at, with_premessage}
 use Rattle.noise_handshake.specs.Party.{behind_own, behind_message}
 use Rattle.noise_handshake.specs.Setup.{public_keys}
 use Rattle.noise_duel.proofs.Chain.{split-apart}

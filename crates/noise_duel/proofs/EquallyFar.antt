@@ -15,7 +15,7 @@ use Rattle.noise_handshake.specs.declared.remote.Remote.{Remote}
 use Rattle.noise_handshake.specs.Length.{Carry}
 use Rattle.noise_handshake.specs.Line.{line, behind_line}
 use Rattle.noise_handshake.specs.Passed.{passed_places}
-use Rattle.noise_handshake.specs.View.{View, Speaks, tokens_at, tokens_now, reader}
+use Rattle.noise_handshake.specs.View.{View, Speaks, tokens_at, tokens_now}
 use Rattle.noise_handshake.specs.Writing.{Given, writer}
 use Rattle.noise_handshake.specs.Party.{behind_own, behind_message}
 use Rattle.noise_handshake.specs.Setup.{token_of}
@@ -121,9 +121,9 @@ carried-is laws w v u role xs valid m is turn mine theirs given =
     (tokens_now v) xs) is shown in
     given-carried laws w (has_psk p) role v.own u.own v.agree (is_among (other role) E (passed_places p v.passed))
     (is_among (other role) S (passed_places p v.passed)) v.secrets (tokens_now v) xs (
-      λ x h. mine.keys x (at (token_of x) (laws.sent_stands p v.passed (token_of x) h)),
+      λ x h. mine.keys x (at (token_of x) (laws.sent_is_among p v.passed (token_of x) h)),
       λ t h d. true-answer laws w p valid role v.own u.own v.agree u.agree mine theirs t d
-          (laws.stands_occurs (turn_from Initiator v.passed) t (places_of p) (laws.sent_stands p v.passed t h)),
+          (laws.among_occurs (turn_from Initiator v.passed) t (places_of p) (laws.sent_is_among p v.passed t h)),
     )
     here
 

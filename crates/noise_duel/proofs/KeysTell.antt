@@ -1,6 +1,6 @@
 -- Keys that agree and equal psks: one conversation and one history, or two hashed texts collide.
-use Rattle.std.proofs.Common.{◌≡◌, ℕ, List, [], ◌∷◌, length, refl, ap, sym, subst, ◌∙◌, inl, inr}
-use Rattle.std.specs.Prelude.{Bool, true, false, not, ◌&&◌, ◌||◌, ◌==◌, Option, Some, None, is_some, unwrap_or, if◌then◌else◌}
+use Rattle.std.proofs.Common.{◌≡◌, ℕ, List, [], ◌∷◌, length, ap, sym, subst, ◌∙◌, inl, inr}
+use Rattle.std.specs.Prelude.{true, Option, Some, None, is_some, unwrap_or}
 use Rattle.noise_names.specs.declared.token.Role.{Role}
 use Rattle.noise_names.specs.declared.token.Role.TheVariants.{Initiator, Responder}
 use Rattle.noise_names.specs.declared.token.Token.{Token}
@@ -51,7 +51,7 @@ module _ (laws : LawsBelow) (p : Plan) (role : Role) (a b : Start) (set : IsSetU
   given = laws.set_remote p role a.own a.remote (length a.secrets) set
 
   own-before : (x : Own) → has_before p (other role) (token_of x) ≡ true → is_some (b.own x) ≡ true
-  own-before x h = laws.set_own p (other role) b.own b.remote (length b.secrets) there_set x (laws.before_stands p (other role) (token_of x) h)
+  own-before x h = laws.set_own p (other role) b.own b.remote (length b.secrets) there_set x (laws.before_is_among p (other role) (token_of x) h)
 
   pub knows-first : Knows a.remote b.own
   knows-first = record {

@@ -58,7 +58,7 @@ module _ (laws : LawsBelow) (w : KeyMaterial) (p : Plan) (valid : IsValid p) whe
       → answered agree (own_at role t) (remote_at role (public_keys theirs) t) ≡ Some (w.answer t)
   true-answer role own theirs agree their_agree i j t d h =
       ap (answered agree (own_at role t))
-      (remote-own role theirs t ∙ j.keys (own_at (other role) t) (laws.dh_stands p (other role) t valid d h)
+      (remote-own role theirs t ∙ j.keys (own_at (other role) t) (laws.dh_key_is_among p (other role) t valid d h)
       ∙ sym (remote-own role (λ x. Some (w.public (other role) x)) t))
       ∙ i.answers t d h
 

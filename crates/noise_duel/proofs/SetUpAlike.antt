@@ -1,11 +1,11 @@
 -- Two parties that are set up alike have their parts of one key material.
 use Rattle.std.proofs.Common.{◌≡◌, ℕ, List, [], ◌∷◌, length, refl, ap, sym, ◌∙◌}
-use Rattle.std.specs.Prelude.{Bool, true, false, ◌||◌, Option, Some, None, is_some, unwrap_or, if◌then◌else◌}
+use Rattle.std.specs.Prelude.{Bool, true, false, Option, Some, None, is_some, unwrap_or, if◌then◌else◌}
 use Rattle.noise_names.specs.declared.token.Role.{Role}
 use Rattle.noise_names.specs.declared.token.Role.TheVariants.{Initiator, Responder}
 use Rattle.noise_names.specs.declared.token.Token.{Token}
 use Rattle.noise_names.specs.declared.token.Token.TheVariants.{E, S}
-use Rattle.noise_names.specs.Plan.{Plan, places_of, message_places, pre_of}
+use Rattle.noise_names.specs.Plan.{Plan, places_of}
 use Rattle.noise_names.specs.Validity.{is_among, occurs, IsValid}
 use Rattle.noise_handshake.specs.declared.keys.Own.{Own}
 use Rattle.noise_handshake.specs.declared.keys.Own.TheVariants.{Ephemeral, Static}
@@ -73,15 +73,15 @@ module _ (laws : LawsBelow) (p : Plan) (prologue : List ℕ) (a b : Start) (vali
       let y : Own = own_at Responder t in
       ap (answered a.agree x) (remote-own Initiator b.own t)
       ∙ answers-same a.agree b.agree x y (a.own x) (b.own y) (alike.keys x y)
-      (set-own laws p Initiator a alike.initiator x (laws.dh_stands p Initiator t valid d h))
-      (set-own laws p Responder b alike.responder y (laws.dh_stands p Responder t valid d h))
+      (set-own laws p Initiator a alike.initiator x (laws.dh_key_is_among p Initiator t valid d h))
+      (set-own laws p Responder b alike.responder y (laws.dh_key_is_among p Responder t valid d h))
       ∙ ap (answered b.agree y) (sym (remote-own Responder a.own t))
 
   answers-a : (t : Token) → is_dh t ≡ true → occurs t (places_of p) ≡ true
       → answered a.agree (own_at Initiator t) (remote_at Initiator (public_keys_in material Responder) t) ≡ Some (unwrap_or (answer-at t) [])
   answers-a t d h =
       ap (answered a.agree (own_at Initiator t))
-      (remote-own Initiator (λ x. Some (true-key b x)) t ∙ sym (own-b (own_at Responder t) (laws.dh_stands p Responder t valid d h))
+      (remote-own Initiator (λ x. Some (true-key b x)) t ∙ sym (own-b (own_at Responder t) (laws.dh_key_is_among p Responder t valid d h))
       ∙ sym (remote-own Initiator b.own t))
       ∙ there-is (answer-at t) [] (answers t d h)
 
@@ -89,7 +89,7 @@ module _ (laws : LawsBelow) (p : Plan) (prologue : List ℕ) (a b : Start) (vali
       → answered b.agree (own_at Responder t) (remote_at Responder (public_keys_in material Initiator) t) ≡ Some (unwrap_or (answer-at t) [])
   answers-b t d h =
       ap (answered b.agree (own_at Responder t))
-      (remote-own Responder (λ x. Some (true-key a x)) t ∙ sym (own-a (own_at Initiator t) (laws.dh_stands p Initiator t valid d h))
+      (remote-own Responder (λ x. Some (true-key a x)) t ∙ sym (own-a (own_at Initiator t) (laws.dh_key_is_among p Initiator t valid d h))
       ∙ sym (remote-own Responder a.own t))
       ∙ sym (meets t d h) ∙ there-is (answer-at t) [] (answers t d h)
 
@@ -98,9 +98,9 @@ module _ (laws : LawsBelow) (p : Plan) (prologue : List ℕ) (a b : Start) (vali
     prologue_is = alike.prologue_is;
     own = own-a;
     remote_e = ap (λ (r : Remote). r.e) alike.known
-        ∙ if-same (has_before p Responder E) (b.own Ephemeral) (Some (true-key b Ephemeral)) (λ h. own-b Ephemeral (laws.before_stands p Responder E h));
+        ∙ if-same (has_before p Responder E) (b.own Ephemeral) (Some (true-key b Ephemeral)) (λ h. own-b Ephemeral (laws.before_is_among p Responder E h));
     remote_s = ap (λ (r : Remote). r.s) alike.known
-        ∙ if-same (has_before p Responder S) (b.own Static) (Some (true-key b Static)) (λ h. own-b Static (laws.before_stands p Responder S h));
+        ∙ if-same (has_before p Responder S) (b.own Static) (Some (true-key b Static)) (λ h. own-b Static (laws.before_is_among p Responder S h));
     answers = answers-a;
     secrets = refl;
   }
@@ -110,9 +110,9 @@ module _ (laws : LawsBelow) (p : Plan) (prologue : List ℕ) (a b : Start) (vali
     prologue_is = alike.prologue_too;
     own = own-b;
     remote_e = ap (λ (r : Remote). r.e) alike.known_too
-        ∙ if-same (has_before p Initiator E) (a.own Ephemeral) (Some (true-key a Ephemeral)) (λ h. own-a Ephemeral (laws.before_stands p Initiator E h));
+        ∙ if-same (has_before p Initiator E) (a.own Ephemeral) (Some (true-key a Ephemeral)) (λ h. own-a Ephemeral (laws.before_is_among p Initiator E h));
     remote_s = ap (λ (r : Remote). r.s) alike.known_too
-        ∙ if-same (has_before p Initiator S) (a.own Static) (Some (true-key a Static)) (λ h. own-a Static (laws.before_stands p Initiator S h));
+        ∙ if-same (has_before p Initiator S) (a.own Static) (Some (true-key a Static)) (λ h. own-a Static (laws.before_is_among p Initiator S h));
     answers = answers-b;
     secrets = alike.secrets;
   }

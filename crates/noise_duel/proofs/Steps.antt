@@ -1,7 +1,7 @@
 -- A message from one end to the other one, which listens: in the handshake, and in transport.
-use Rattle.std.proofs.Common.{◌≡◌, ◌≢◌, ℕ, ◌+◌, ◌<◌, ◌≤◌, List, [], ◌∷◌, length, refl, ap, sym, subst, ◌∙◌, arith, Some, None}
+use Rattle.std.proofs.Common.{◌≡◌, ◌≢◌, ℕ, ◌+◌, ◌<◌, ◌≤◌, List, [], ◌∷◌, length, refl, ap, sym, subst, ◌∙◌, arith, None}
 use Rattle.std.proofs.lemmas.Bool.Decides.{nat_tests}
-use Rattle.std.specs.Prelude.{Bool, true, false, not, ◌&&◌, ◌==◌, nat_lt, IsTrue, if◌then◌else◌, is_some}
+use Rattle.std.specs.Prelude.{Bool, true, false, ◌&&◌, ◌==◌, nat_lt, IsTrue, is_some}
 use Rattle.noise_names.specs.declared.token.Role.{Role}
 use Rattle.noise_names.specs.declared.token.Role.TheVariants.{Initiator, Responder}
 use Rattle.noise_names.specs.Tokens.{other, same_role, turn_from}
@@ -18,10 +18,9 @@ use Rattle.noise_aead.specs.Sealing.{nonce_of}
 use Rattle.noise_aead.specs.Sealed.{length-sealed}
 use Rattle.noise_state.specs.History.{rekeyed_times}
 use Rattle.noise_session.specs.declared.faults.SendFault.{SendFault}
-use Rattle.noise_session.specs.declared.faults.SendFault.TheVariants as fault
 use Rattle.noise_session.specs.Frames.{frame}
 use Rattle.noise_session.specs.Transport.{packet, last_nonce, renewals, split_key}
-use Rattle.noise_session.specs.Steps.Told.{Payload, Ended, Silent, YourTurn}
+use Rattle.noise_session.specs.Steps.Told.{Payload}
 use Rattle.noise_session.specs.Progress.{Progress, is_open, idle_step, refusal}
 use Rattle.noise_session.specs.Progress.Progress.{Handshaking, Open}
 use Rattle.noise_duel.specs.Below.{LawsBelow}

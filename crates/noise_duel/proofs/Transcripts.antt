@@ -2,13 +2,13 @@
 use Rattle.std.proofs.Common.{◌≡◌, ℕ, zero, suc, ◌+◌, ◌-◌, ◌<◌, ◌≤◌, List, [], ◌∷◌, ◌++◌, length, take, drop, map, count_by, refl, ap, sym, subst, ◌∙◌, arith}
 use Rattle.std.proofs.Common.{append-nil, append_assoc, Some, None}
 use Rattle.std.proofs.lemmas.Bool.Decides.{nat_tests}
-use Rattle.std.specs.Prelude.{Bool, true, false, ◌||◌, nat_lt, IsTrue, Option, if◌then◌else◌, MatchBool, unwrap_or}
+use Rattle.std.specs.Prelude.{Bool, true, false, nat_lt, IsTrue, Option, if◌then◌else◌, MatchBool, unwrap_or}
 use Rattle.noise_names.specs.declared.token.Role.{Role}
 use Rattle.noise_names.specs.declared.token.Role.TheVariants.{Initiator, Responder}
 use Rattle.noise_names.specs.declared.token.Token.{Token}
 use Rattle.noise_names.specs.declared.token.Token.TheVariants.{E, S, Ee, Es, Se, Ss, Psk}
 use Rattle.noise_names.specs.Tokens.{other, same_role, turn_from, is_psk}
-use Rattle.noise_names.specs.Plan.{Plan, places_of, message_places, pre_of, has_psk, is_one_way}
+use Rattle.noise_names.specs.Plan.{Plan, places_of, has_psk, is_one_way}
 use Rattle.noise_names.specs.Overhead.{overhead_of}
 use Rattle.noise_names.specs.Validity.{is_among, IsValid}
 use Rattle.noise_names.specs.Limits.{IsPattern}
@@ -313,7 +313,7 @@ module _ (laws : LawsBelow) (w : KeyMaterial) (p : Plan) (prologue : List ℕ) (
     (j : IsPart w p Responder prologue b) where
   -- a key of a pre-message is the party's own
   before-own : (party : Role) (x : Own) → has_before p party (token_of x) ≡ true → is_among party (token_of x) (places_of p) ≡ true
-  before-own party x h = laws.before_stands p party (token_of x) h
+  before-own party x h = laws.before_is_among p party (token_of x) h
 
   remote_a : a.remote ≡ shown_before p Responder b.own
   remote_a =

@@ -42,11 +42,11 @@ pub record LawsBelow : Type 0 where
       → is_some (cipher_key (behind_line (has_psk p) r (tokens_at p.messages n) xs payload)) ≡ has_key p (passed_places p (n + 1))
   pub written_carries : (v : View) (payload message : List ℕ) (xs : List (List ℕ)) → Writes v payload xs message → Carry (tokens_now v) xs
   pub accepted_carries : (v : View) (payload message : List ℕ) (xs : List (List ℕ)) → Accepts v message xs payload → Carry (tokens_now v) xs
-  -- which tokens stand in a pattern
-  pub before_stands : (p : Plan) (party : Role) (t : Token) → has_before p party t ≡ true → is_among party t (places_of p) ≡ true
-  pub sent_stands : (p : Plan) (n : ℕ) (t : Token) → has_token t (tokens_at p.messages n) ≡ true → is_among (turn_from Initiator n) t (places_of p) ≡ true
-  pub stands_occurs : (party : Role) (t : Token) (places : List Place) → is_among party t places ≡ true → occurs t places ≡ true
-  pub dh_stands : (p : Plan) (role : Role) (t : Token) → IsValid p → is_dh t ≡ true → occurs t (places_of p) ≡ true
+  -- which tokens are among the places of a pattern
+  pub before_is_among : (p : Plan) (party : Role) (t : Token) → has_before p party t ≡ true → is_among party t (places_of p) ≡ true
+  pub sent_is_among : (p : Plan) (n : ℕ) (t : Token) → has_token t (tokens_at p.messages n) ≡ true → is_among (turn_from Initiator n) t (places_of p) ≡ true
+  pub among_occurs : (party : Role) (t : Token) (places : List Place) → is_among party t places ≡ true → occurs t places ≡ true
+  pub dh_key_is_among : (p : Plan) (role : Role) (t : Token) → IsValid p → is_dh t ≡ true → occurs t (places_of p) ≡ true
       → is_among role (token_of (own_at role t)) (places_of p) ≡ true
   -- what a setup without a fault has
   pub set_own : (p : Plan) (role : Role) (own : Own → Option (List ℕ)) (known : Remote) (n : ℕ) → setup_fault p role own known n ≡ None

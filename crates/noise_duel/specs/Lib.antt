@@ -2,9 +2,11 @@ pub mod Below
 pub mod Collision
 pub mod Messages
 pub mod Events
+pub mod Acts
 pub mod Sides
 pub mod Runs
 pub mod Conversation
+pub mod Cuts
 pub mod Agreement
 pub mod Invariant
 pub mod Forgery

@@ -1,0 +1,14 @@
+-- The events of code, without their cuts, which change nothing.
+use Rattle.std.specs.Prelude.{List, map}
+use Rattle.noise_duel.specs.declared.event.Event.{Event as Given}
+use Rattle.noise_duel.specs.declared.event.Event.TheVariants as given
+use Rattle.noise_duel.specs.Events.{Event, Write, Say, Deliver, Raw}
+
+abbrev pub event_of : Given → Event
+event_of (given.Write role payload) = Write role payload.items
+event_of (given.Say role payload cuts) = Say role payload.items
+event_of (given.Deliver role frame cuts) = Deliver role frame
+event_of (given.Raw role bytes) = Raw role bytes.items
+
+abbrev pub events_of : List Given → List Event
+events_of events = map event_of events

@@ -1,0 +1,41 @@
+//! The pieces that bytes are handed over in.
+#![tactic(auto)]
+
+ghost use Rattle.std.specs.Prelude.{◌≡◌, Some, None, if◌then◌else◌};
+ghost use Rattle.noise_duel.specs.Cuts.{are_cuts};
+
+use arrayvec::ArrayVec;
+use std::marker::Model;
+
+/// The lengths in bytes of the pieces that a frame is handed over in, one after another; the last one is repeated to the frame's end. No lengths mean
+/// one piece.
+#[derive(Debug, Drop, PartialEq, Eq)]
+pub struct Cuts {
+    lengths: ArrayVec<u16, 8>,
+}
+
+impl Model for Cuts {
+    ghost use Rattle.std.specs.Prelude.{ℕ, List, ◌<◌, ◌-◌, length, slice_index_or};
+
+    ghost Value = { List ℕ };
+
+    ghost view = { λ c. c.lengths.items };
+
+    ghost invariant = { λ c. 0 < slice_index_or c.lengths.items (length c.lengths.items - 1) 1 };
+
+    ghost inverse = { λ ns. record { lengths = record { items = ns } } };
+}
+
+impl Cuts {
+    /// None for more than 8 lengths, or a last length of 0.
+    pub fn new(lengths: &[u16]) -> Option<Cuts>
+        ensures { result ≡ (if are_cuts lengths.now then Some lengths.now else None) }
+    {
+        if lengths.last() == Some(&0) {
+            return None;
+        }
+        let mut kept = ArrayVec::new();
+        kept.try_extend_from_slice(lengths).ok()?;
+        Some(Cuts { lengths: kept })
+    }
+}
