@@ -88,16 +88,15 @@ abbrev pub IsTaken : EndView → EndView → List ℕ → List ℕ → Type 0
 IsTaken x w payload f = (y : EndView) × Takes w f (length f) (Payload payload) y × EndCounterparts x y
 
 module _ (accepts : (v w : View) (payload message : List ℕ) (xs : List (List ℕ)) → IsValid v.pattern → Counterparts v w → Writes v payload xs message
-        → Accepts w message xs payload)
+    → Accepts w message xs payload)
     (next : (v w : View) (payload message : List ℕ) (xs : List (List ℕ)) → IsValid v.pattern → Counterparts v w → Writes v payload xs message
-        → Counterparts (behind_own v xs payload) (behind_message w xs payload)) where
+    → Counterparts (behind_own v xs payload) (behind_message w xs payload)) where
   handshake-taken : (v w : EndView) (payload message : List ℕ) (xs : List (List ℕ)) → IsValid v.party.pattern → EndCounterparts v w
       → Writes v.party payload xs message → IsTaken (record v { party = behind_own v.party xs payload }) w payload (frame message)
   handshake-taken v w payload message xs valid c writes =
       let a : Accepts w.party message xs payload = accepts v.party w.party payload message xs valid c.parties writes in
       let y : EndView = record w { party = behind_message w.party xs payload; held = [] } in
-      let all : w.held ++ frame message ≡ frame message ++ [] = ap (λ (h : List ℕ). h ++ frame message) c.held_there ∙ sym (append-nil (frame message)) in
-      (
+      let all : w.held ++ frame message ≡ frame message ++ [] = ap (λ (h : List ℕ). h ++ frame message) c.held_there ∙ sym (append-nil (frame message)) in (
         y,
         judges w y (frame message) message [] (length (frame message)) (Payload payload) (listens-now w a.listens) all a.fits (omega arith)
             (accepted w message payload xs a),
@@ -127,7 +126,7 @@ module _ (accepts : (v w : View) (payload message : List ℕ) (xs : List (List �
       let all_there : w.party.passed ≡ length w.party.pattern.messages = passed ∙ all ∙ ap (λ (q : Plan). length q.messages) (sym there) in
       let is : IsDue (is_one_way p) v.party.role v.sent (length payload) =
       due-open (is_one_way p) v.party.role v.sent v.received (length payload)
-          (ap (λ (q : Progress). refusal q (length payload)) (sym (progress-open v going all)) ∙ due) in
+      (ap (λ (q : Progress). refusal q (length payload)) (sym (progress-open v going all)) ∙ due) in
       let m : List ℕ = packet v.party.history v.party.role v.interval v.sent payload in
       let size : length m ≡ length payload + 16 =
       length-sealed (transport_key v.party.history v.party.role v.interval v.sent) (nonce_of v.sent) [] payload in
@@ -144,8 +143,7 @@ module _ (accepts : (v w : View) (payload message : List ℕ) (xs : List (List �
       ∙ ap (λ (k : ℕ). packet w.party.history (other w.party.role) k v.sent payload) (sym c.interval)
       ∙ ap (λ (k : ℕ). packet w.party.history (other w.party.role) w.interval k payload) (sym c.there) in
       let y : EndView = record w { received = w.received + 1; held = [] } in
-      let whole : w.held ++ frame m ≡ frame m ++ [] = ap (λ (h : List ℕ). h ++ frame m) c.held_there ∙ sym (append-nil (frame m)) in
-      (
+      let whole : w.held ++ frame m ≡ frame m ++ [] = ap (λ (h : List ℕ). h ++ frame m) c.held_there ∙ sym (append-nil (frame m)) in (
         y,
         judges w y (frame m) m [] (length (frame m)) (Payload payload) idle whole (omega (arith, size, short)) (omega arith)
             (opened w m payload (ap is_open q) low same),

@@ -12,6 +12,7 @@ use noise_names::{Role, fundamental};
 use std::alloc::{AllocError, Global};
 use std::process::Abort;
 use std::test::Fail;
+use transport::both_ways;
 
 // A new end of NN with an empty prologue. Its ephemeral public key has this byte throughout.
 fn new_end(alloc: Global, role: Role, byte: u8) -> Result<End<XorKeys>, Fail> {
@@ -212,9 +213,44 @@ fn drops_what_is_no_packet(rt: HostRuntime) -> Result<(), Fail> {
             receive: 2
         }
     );
+    takes(&rt, &mut responder, &[0], 1, Step::More);
+    assert_eq!(rt; responder.held(), 1);
     let payload = zeros(rt.alloc(), 65520)?;
     let unwritten = written(&rt, rt.alloc(), &mut responder, &payload)?;
     assert_eq!(rt; unwritten.err(), Some(SendFault::TooLong));
+    let payload = zeros(rt.alloc(), 65519)?;
+    let longest = written(&rt, rt.alloc(), &mut responder, &payload)?.map_err(|_| "refused")?;
+    assert_eq!(rt; longest.len(), 65537);
+    Ok(())
+}
+
+// An end that is open with a transport at these nonces.
+fn at_nonces(
+    rt: &impl Abort,
+    alloc: Global,
+    send: u64,
+    receive: u64,
+) -> Result<End<XorKeys>, Fail> {
+    let (mut transport, _) = both_ways(rt, 0);
+    assert_eq!(rt; transport.interval(), 0);
+    transport.set_nonces(send, receive);
+    Ok(End::from_transport(alloc, transport)?)
+}
+
+#[test]
+fn ends_at_the_reserved_nonce(rt: HostRuntime) -> Result<(), Fail> {
+    let mut writer = at_nonces(&rt, rt.alloc(), u64::MAX - 1, 0)?;
+    let last = written(&rt, rt.alloc(), &mut writer, b"")?.map_err(|_| "refused")?;
+    assert_eq!(rt; last.len(), 18);
+    let unwritten = written(&rt, rt.alloc(), &mut writer, b"")?;
+    assert_eq!(rt; unwritten.err(), Some(SendFault::Exhausted));
+    let unwritten = written(&rt, rt.alloc(), &mut writer, b"")?;
+    assert_eq!(rt; unwritten.err(), Some(SendFault::Ended));
+    let mut reader = at_nonces(&rt, rt.alloc(), 0, u64::MAX)?;
+    takes(&rt, &mut reader, &[0, 0], 2, Step::Exhausted);
+    takes(&rt, &mut reader, &[0, 0], 0, Step::Ended);
+    let mut reader = at_nonces(&rt, rt.alloc(), 0, u64::MAX)?;
+    takes(&rt, &mut reader, &[0], 1, Step::More);
     Ok(())
 }
 

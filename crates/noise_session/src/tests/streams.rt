@@ -3,6 +3,7 @@
 
 use super::{first_frame, new_end};
 use crate::{Counted, ReceiveFault, SendFault, Stage, Step};
+use noise_handshake::Cause;
 use noise_names::Role;
 use std::io::{Error, ErrorKind, Read, Result, Write};
 use std::test::Fail;
@@ -113,5 +114,54 @@ fn ends_where_a_write_fails(rt: HostRuntime) -> std::result::Result<(), Fail> {
     });
     assert_eq!(rt; initiator.write_to(b"hi", &mut out), Ok(36));
     assert_eq!(rt; out.failures(), 0);
+    Ok(())
+}
+
+// Gives these bytes, as many as it is asked for, and notes how many it was asked for in its first two reads.
+#[derive(Drop)]
+struct Noting {
+    bytes: [u8; 36],
+    at: usize,
+    asked: [usize; 2],
+    reads: usize,
+}
+
+impl Read for Noting {
+    fn read(&mut self, buf: &mut [u8]) -> Result<usize> {
+        if self.reads < 2 {
+            self.asked[self.reads] = buf.len();
+            self.reads += 1;
+        }
+        let at = self.at.min(36);
+        let count = buf.len().min(36 - at);
+        buf[..count].copy_from_slice(&self.bytes[at..at + count]);
+        self.at = at + count;
+        Ok(count)
+    }
+}
+
+fn note_reads(bytes: [u8; 36]) -> Counted<Noting> {
+    Counted::new(Noting {
+        bytes,
+        at: 0,
+        asked: [0; 2],
+        reads: 0,
+    })
+}
+
+#[test]
+fn asks_for_the_missing_bytes(rt: HostRuntime) -> std::result::Result<(), Fail> {
+    let mut responder = new_end(rt.alloc(), Role::Responder, 0x22)?;
+    let mut from = note_reads(first_frame());
+    assert!(rt; responder.receive(&mut from) == Ok(Some(Step::Payload(b"hi"))));
+    assert_eq!(rt; from.into_inner().asked, [2, 34]);
+    let mut responder = new_end(rt.alloc(), Role::Responder, 0x22)?;
+    let mut from = note_reads([0; 36]);
+    let refused = Step::Refused {
+        token: 0,
+        cause: Cause::Short,
+    };
+    assert!(rt; responder.receive(&mut from) == Ok(Some(refused)));
+    assert_eq!(rt; from.into_inner().asked, [2, 0]);
     Ok(())
 }

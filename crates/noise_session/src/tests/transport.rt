@@ -43,7 +43,7 @@ fn pass(rt: &impl Abort, from: &mut Handshake<XorKeys>, to: &mut Handshake<XorKe
 }
 
 // The transports of the two parties of NN.
-fn both_ways(rt: &impl Abort, interval: u64) -> (Transport, Transport) {
+pub fn both_ways(rt: &impl Abort, interval: u64) -> (Transport, Transport) {
     let mut initiator = party(rt, b"NN", Role::Initiator, Some([0x11; 32]), None, None);
     let mut responder = party(rt, b"NN", Role::Responder, Some([0x22; 32]), None, None);
     pass(rt, &mut initiator, &mut responder);
