@@ -202,6 +202,9 @@ fn drops_what_is_no_packet(rt: HostRuntime) -> Result<(), Fail> {
     assert_eq!(rt; empty.get(1).copied(), Some(0x10));
     let next = written(&rt, rt.alloc(), &mut initiator, b"hi")?.map_err(|_| "refused")?;
     takes(&rt, &mut responder, &[0, 0], 2, Step::Dropped(Cause::Short));
+    let mut short = [0; 17];
+    short[1] = 15;
+    takes(&rt, &mut responder, &short, 17, Step::Dropped(Cause::Short));
     takes(&rt, &mut responder, &next, 20, Step::Dropped(Cause::Tag));
     takes(&rt, &mut responder, &empty, 18, Step::Payload(b""));
     takes(&rt, &mut responder, &empty, 18, Step::Dropped(Cause::Tag));
