@@ -13,3 +13,5 @@ pub mod Forgery
 pub mod Networks
 pub mod SetUpAlike
 pub mod OwnFrames
+pub mod Entries
+pub mod OneEnd

@@ -16,7 +16,7 @@ use Rattle.noise_names.specs.Tokens.{same_role}
 use Rattle.noise_names.specs.Overhead.{overhead_of}
 use Rattle.noise_handshake.specs.Held.{is_turn}
 use Rattle.noise_session.specs.Progress.Progress.{Handshaking, Open, Closed}
-use Rattle.noise_session.specs.Ends.{EndView, PhaseStands, OpenStands, progress_in, progress_of, session_hash, closed}
+use Rattle.noise_session.specs.Ends.{HeldEnd, EndView, EndStands, IsToldBy, PhaseStands, OpenStands, hash_in, progress_in, progress_of, remote_static_in, session_hash, session_remote_static, closed}
 use Rattle.noise_session.specs.Phases.{over_in}
 use Rattle.noise_session.specs.HeldTransport.{HeldTransport}
 
@@ -82,6 +82,25 @@ module _ {K : Type 0} (public_of : K → Own → Option (List ℕ)) (agreement :
       open-fields t.role v.party.role t.one_way (is_one_way v.party.pattern) t.send_nonce v.sent t.receive_nonce v.received s.transport.role s.transport.one_way s.transport.send_nonce s.transport.receive_nonce
       ∙ sym (progress-open v s.going s.all)
   phase-progress (phase.Ended role told) v s = ap Closed s.role ∙ sym (progress-closed v s.over)
+
+  -- so are its hash, and the other party's static key
+  phase-hash : (p : Phase K) (v : EndView) → PhaseStands public_of agreement p v → hash_in p ≡ session_hash v
+  phase-hash (phase.Handshaking h every) v s = sym (no-hash v s.more)
+  phase-hash (phase.Open t) v s = ap (λ (h : List ℕ). Some h) s.transport.hash ∙ sym (whole-hash v s.all)
+  phase-hash (phase.Ended role told) v s = s.hash
+
+  phase-remote : (p : Phase K) (v : EndView) → PhaseStands public_of agreement p v → remote_static_in p ≡ session_remote_static v
+  phase-remote (phase.Handshaking h every) v s = rw (s.going, s.party.remote) refl
+  phase-remote (phase.Open t) v s = rw (s.going, s.transport.remote_static) refl
+  phase-remote (phase.Ended role told) v s = rw s.over refl
+
+  pub end-told : (e : HeldEnd K) (v : EndView) → EndStands public_of agreement e v → IsToldBy v e
+  end-told e v s = record {
+    progress = phase-progress e.phase v s.phase;
+    hash = phase-hash e.phase v s.phase;
+    remote_static = phase-remote e.phase v s.phase;
+    held = s.held;
+  }
 
   -- what is held of a frame doesn't count
   pub phase-held : (p : Phase K) (v : EndView) (held : List ℕ) → PhaseStands public_of agreement p v → PhaseStands public_of agreement p (record v { held = held })

@@ -65,6 +65,10 @@ closed v = record v { party = over v.party; held = [] }
 abbrev pub session_hash : EndView → Option (List ℕ)
 session_hash v = if v.party.passed == length v.party.pattern.messages then Some (hash v.party.history) else None
 
+-- the other party's static public key, as far as it is known, until the session has ended
+abbrev pub session_remote_static : EndView → Option (List ℕ)
+session_remote_static v = if v.party.ended then None else v.party.remote.s
+
 -- its transport
 abbrev pub transport_in : EndView → TransportView
 transport_in v = record (transport_of v.party v.interval) { sent = v.sent; received = v.received }
@@ -100,3 +104,10 @@ module _ {K : Type 0} (public_of : K → Own → Option (List ℕ)) (agreement :
   pub record EndStands (e : HeldEnd K) (v : EndView) : Type 0 where
     pub phase : PhaseStands e.phase v
     pub held : e.held ≡ v.held
+
+-- What an end tells of itself is what a view says.
+pub record IsToldBy {K : Type 0} (v : EndView) (e : HeldEnd K) : Type 0 where
+  pub progress : progress e ≡ progress_of v
+  pub hash : hash_in e.phase ≡ session_hash v
+  pub remote_static : remote_static_in e.phase ≡ session_remote_static v
+  pub held : e.held ≡ v.held

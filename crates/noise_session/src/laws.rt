@@ -2,7 +2,7 @@
 #![tactic(auto)]
 
 ghost use Rattle.std.specs.Prelude.{◌≡◌, ◌+◌, ℕ, List, ◌++◌, length, Result, Ok};
-ghost use Rattle.noise_session.specs.Ends.{EndView};
+ghost use Rattle.noise_session.specs.Ends.{EndView, HeldEnd, EndStands, IsToldBy};
 ghost use Rattle.noise_session.specs.Steps.{Told};
 ghost use Rattle.noise_names.specs.Validity.{IsValid};
 ghost use Rattle.noise_session.specs.Counterparts.{EndCounterparts};
@@ -12,7 +12,7 @@ ghost use Rattle.noise_session.specs.Sending.{Sends};
 ghost use Rattle.noise_session.specs.declared.faults.SendFault.{SendFault};
 
 use crate::packets::packet_same;
-use noise_handshake::{accepted_once, refused_once, written_is_accepted, written_once};
+use noise_handshake::{Keys, accepted_once, refused_once, written_is_accepted, written_once};
 
 /// A piece comes to one thing at an end: so many bytes, one step, and one view behind it.
 pub fn taken_once()
@@ -43,3 +43,9 @@ pub fn written_is_taken()
 {
     written_is_accepted();
 }
+
+/// What an end tells of itself, how far the session has come, the handshake's hash and the other party's static key, is what every view says that it
+/// stands for.
+pub fn end_is_told<K: Keys>()
+    ensures { (e : HeldEnd K) (v : EndView) → EndStands K.public_of K.agreement e v → IsToldBy v e }
+{}

@@ -22,7 +22,7 @@ mod transport;
 pub use counted::Counted;
 pub use end::End;
 pub use faults::{OpenFault, ReceiveFault, SendFault};
-pub use laws::{cuts_alike, sent_once, taken_once, written_is_taken};
+pub use laws::{cuts_alike, end_is_told, sent_once, taken_once, written_is_taken};
 pub use packets::{packet_is_due, packet_same};
 pub use stage::Stage;
 pub use step::Step;

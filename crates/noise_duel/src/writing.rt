@@ -1,0 +1,35 @@
+//! An end writes.
+#![tactic(auto)]
+
+ghost use Rattle.std.specs.Prelude.{◌≡◌, ℕ, List, length, IfOk};
+ghost use Rattle.noise_session.specs.Ends.{EndStands};
+ghost use Rattle.noise_duel.specs.Entries.{bytes_of};
+ghost use Rattle.noise_duel.specs.OneEnd.{HasWritten};
+ghost use Rattle.noise_duel.specs.Sides.{Side};
+
+use noise_handshake::Keys;
+use noise_session::{End, SendFault};
+use std::alloc::{AllocError, Global};
+
+/// Writes a payload at an end, keeps the frame behind those that it wrote before, and tells the frame's number.
+pub(crate) fn write<K: Keys>(
+    alloc: Global,
+    end: &mut End<K>,
+    payload: &[u8],
+    frames: &mut Vec<Vec<u8>>,
+) -> Result<Result<usize, SendFault>, AllocError>
+    ensures { (s : Side) → EndStands K.public_of K.agreement end.old s.view → bytes_of frames.old.items ≡ s.frames
+        → IfOk result (λ told. HasWritten K.public_of K.agreement s payload.now told end.new frames.new.items) }
+{
+    let room = end.frame_len(payload.len()).unwrap_or(0);
+    let mut frame = vec![in alloc; 0u8; room]?;
+    match end.write_into(payload, frame.as_mut_slice()) {
+        Ok(len) => {
+            let number = frames.len();
+            frame.truncate(len);
+            frames.push(frame)?;
+            Ok(Ok(number))
+        }
+        Err(fault) => Ok(Err(fault)),
+    }
+}
