@@ -14,4 +14,5 @@ pub mod Networks
 pub mod SetUpAlike
 pub mod OwnFrames
 pub mod Entries
+pub mod Receiving
 pub mod OneEnd
