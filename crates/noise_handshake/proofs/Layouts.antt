@@ -20,7 +20,7 @@ tokens_of-placed_from psks keyed place (t ∷ ts) =
 
 pub placed_from-placed : (psks keyed : Bool) (place : ℕ) (ts : List Token) → ArePlaced psks keyed place (placed_from psks keyed place ts)
 placed_from-placed psks keyed place [] = tt
-placed_from-placed psks keyed place (t ∷ ts) = (refl, refl, refl, placed_from-placed psks (keyed_behind psks keyed t) (place + token_width keyed t) ts)
+placed_from-placed psks keyed place (t ∷ ts) = (refl, refl, placed_from-placed psks (keyed_behind psks keyed t) (place + token_width keyed t) ts)
 
 -- whether there is a key before message n, by the messages before it
 abbrev key_before : Bool → Bool → List (List Token) → ℕ → Bool
@@ -69,7 +69,7 @@ module _ (p : Plan) where
 
 -- the first of them
 pub first-placed : (psks key : Bool) (place : ℕ) (placed : List PlacedToken) (first : PlacedToken) (later : List PlacedToken) → placed ≡ first ∷ later → ArePlaced psks key place placed
-    → (first.place ≡ place) × (first.width ≡ token_width key first.token) × (first.keyed ≡ key) × ArePlaced psks (keyed_behind psks key first.token) (place + first.width) later
+    → (first.place ≡ place) × (first.width ≡ token_width key first.token) × ArePlaced psks (keyed_behind psks key first.token) (place + first.width) later
 first-placed psks key place placed first later e a = subst (λ (ps : List PlacedToken). ArePlaced psks key place ps) e a
 
 pub length-tokens_of : (ps : List PlacedToken) → length (tokens_of ps) ≡ length ps

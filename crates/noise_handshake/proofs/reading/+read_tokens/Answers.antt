@@ -53,7 +53,7 @@ overflow_add-result g t c =
     ap length (c.bytes_from-rest.ensures ∙ ap (λ (k : ℕ). drop k m) u.0) ∙ length-drop place m in
     let next : place + first.width ≤ length m = omega (arith, within, count, wide, c.in-Ok.ensures.range) in
     let placed : ArePlaced psks (keyed c.read_token.new.state) (place + first.width) c.in-Some.later.now =
-    subst (λ (b : Bool). ArePlaced psks b (place + first.width) c.in-Some.later.now) (sym c.in-Ok.ensures.key) u.3 in
+    subst (λ (b : Bool). ArePlaced psks b (place + first.width) c.in-Some.later.now) (sym c.in-Ok.ensures.key) u.2 in
     omega (arith, wide, c.in-Ok-read_tokens.ensures.range (place + first.width) next placed)
 
 pub returns-in-Ok-read_tokens-clause-within : goal.returns-in-Ok-read_tokens-clause-within
@@ -72,7 +72,7 @@ returns-in-Ok-read_tokens-clause-within g t c =
     ap length (c.bytes_from-rest.ensures ∙ ap (λ (k : ℕ). drop k m) u.0) ∙ length-drop place m in
     let next : place + first.width ≤ length m = omega (arith, within, count, wide, c.in-Ok.ensures.range) in
     let placed : ArePlaced psks (keyed c.read_token.new.state) (place + first.width) c.in-Some.later.now =
-    subst (λ (b : Bool). ArePlaced psks b (place + first.width) c.in-Some.later.now) (sym c.in-Ok.ensures.key) u.3 in
+    subst (λ (b : Bool). ArePlaced psks b (place + first.width) c.in-Some.later.now) (sym c.in-Ok.ensures.key) u.2 in
     omega (arith, wide, c.in-Ok-read_tokens.ensures.range (place + first.width) next placed)
 
 pub returns-in-Ok-read_tokens-clause-range : goal.returns-in-Ok-read_tokens-clause-range
@@ -88,7 +88,7 @@ returns-in-Ok-read_tokens-clause-range g t c place within are =
     ap length (c.bytes_from-rest.ensures ∙ ap (λ (k : ℕ). drop k m) u.0) ∙ length-drop place m in
     let next : place + first.width ≤ length m = omega (arith, within, count, wide, c.in-Ok.ensures.range) in
     let placed : ArePlaced psks (keyed c.read_token.new.state) (place + first.width) c.in-Some.later.now =
-    subst (λ (b : Bool). ArePlaced psks b (place + first.width) c.in-Some.later.now) (sym c.in-Ok.ensures.key) u.3 in
+    subst (λ (b : Bool). ArePlaced psks b (place + first.width) c.in-Some.later.now) (sym c.in-Ok.ensures.key) u.2 in
     omega (arith, wide, c.in-Ok-read_tokens.ensures.range (place + first.width) next placed)
 
 pub returns-in-Err-clause-read : goal.returns-in-Err-clause-read
@@ -126,7 +126,7 @@ returns-in-Ok-read_tokens-clause-read g t c r place s within are =
     ap length (c.bytes_from-rest.ensures ∙ ap (λ (k : ℕ). drop k m) u.0) ∙ length-drop place m in
     let next : place + first.width ≤ length m = omega (arith, within, count, wide, c.in-Ok.ensures.range) in
     let placed : ArePlaced psks (keyed c.read_token.new.state) (place + first.width) c.in-Some.later.now =
-    subst (λ (b : Bool). ArePlaced psks b (place + first.width) c.in-Some.later.now) (sym c.in-Ok.ensures.key) u.3 in
+    subst (λ (b : Bool). ArePlaced psks b (place + first.width) c.in-Some.later.now) (sym c.in-Ok.ensures.key) u.2 in
     let rest : List ℕ = drop place m in
     let d = c.in-Ok.ensures.read r s in
     let spelled : rest ≡ token_piece r token d.0 ++ drop n rest = subst (λ (z : List ℕ). z ≡ token_piece r token d.0 ++ drop n z) here d.2 in
@@ -164,7 +164,7 @@ returns-in-Err-read_tokens-clause-read g t c r place s within are =
     ap length (c.bytes_from-rest.ensures ∙ ap (λ (k : ℕ). drop k m) u.0) ∙ length-drop place m in
     let next : place + first.width ≤ length m = omega (arith, within, count, wide, c.in-Ok.ensures.range) in
     let placed : ArePlaced psks (keyed c.read_token.new.state) (place + first.width) c.in-Some.later.now =
-    subst (λ (b : Bool). ArePlaced psks b (place + first.width) c.in-Some.later.now) (sym c.in-Ok.ensures.key) u.3 in
+    subst (λ (b : Bool). ArePlaced psks b (place + first.width) c.in-Some.later.now) (sym c.in-Ok.ensures.key) u.2 in
     let rest : List ℕ = drop place m in
     let d = c.in-Ok.ensures.read r s in
     let spelled : rest ≡ token_piece r token d.0 ++ drop n rest = subst (λ (z : List ℕ). z ≡ token_piece r token d.0 ++ drop n z) here d.2 in
