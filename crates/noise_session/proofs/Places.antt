@@ -5,7 +5,7 @@ use borrow.Rule.Slice.PartMut.{put_mid}
 use Rattle.noise_session.specs.declared.outcome.Outcome.{Outcome}
 use Rattle.noise_session.specs.declared.outcome.Outcome.TheVariants as outcome
 use Rattle.noise_session.specs.Frames.{frame}
-use Rattle.noise_session.specs.Outcomes.{tells, StandsIn}
+use Rattle.noise_session.specs.inner.Outcomes.{tells, StandsIn}
 use Rattle.noise_session.specs.Steps.Told.{Payload}
 use Rattle.std.specs.Prelude.{slice_range}
 

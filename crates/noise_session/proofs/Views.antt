@@ -17,7 +17,7 @@ use Rattle.noise_names.specs.Overhead.{overhead_of}
 use Rattle.noise_handshake.specs.Held.{is_turn}
 use Rattle.noise_session.specs.Progress.Progress.{Handshaking, Open, Closed}
 use Rattle.noise_session.specs.Ends.{HeldEnd, EndView, EndStands, IsToldBy, PhaseStands, OpenStands, hash_in, progress_in, progress_of, remote_static_in, session_hash, session_remote_static, closed}
-use Rattle.noise_session.specs.Phases.{over_in}
+use Rattle.noise_session.specs.inner.Phases.{over_in}
 use Rattle.noise_session.specs.HeldTransport.{HeldTransport}
 
 -- numbers are tested for being equal

@@ -5,7 +5,8 @@ ghost use Rattle.std.specs.Prelude.{◌≡◌, ◌≢◌, ◌≤◌, ◌<◌, �
 ghost use Rattle.noise_session.specs.Frames.{IsPartial, IsWhole, frame_length};
 ghost use Rattle.byteorder.specs.Endian.{big_bytes};
 ghost use Rattle.std.specs.Io.KnownBytes.{Consumes, IsAtEnd};
-ghost use Rattle.noise_session.specs.Counting.{inner_of, failures_of, behind_filling};
+ghost use Rattle.noise_session.specs.Counting.{inner_of, failures_of};
+ghost use Rattle.noise_session.specs.inner.Filling.{Leaves, behind_filling};
 ghost use Rattle.noise_session.specs.declared.filling.Filling.TheVariants.{Filled, End};
 
 use crate::Counted;
@@ -31,7 +32,7 @@ pub(crate) struct Incoming {
 }
 
 impl Incoming {
-    ghost use Rattle.noise_session.specs.Incoming.{bytes_of, Leaves};
+    ghost use Rattle.noise_session.specs.inner.Incoming.{bytes_of};
 
     pub(crate) fn new(alloc: Global) -> Result<Incoming, AllocError>
         ensures { IfOk result (λ incoming. bytes_of incoming ≡ []) }

@@ -31,9 +31,9 @@ pub(crate) enum Phase<K: Keys> {
 impl<K: Keys> Phase<K> {
     ghost use Rattle.noise_handshake.specs.Party.{Stands};
     ghost use Rattle.noise_session.specs.Progress.{role_of, stage_of, idle_step, frame_len_of};
-    ghost use Rattle.noise_session.specs.Ends.{EndView, PhaseStands, progress_in, hash_in, remote_static_in};
-    ghost use Rattle.noise_session.specs.Phases.{IsHandshake, GoesOnAs, is_due, is_over, over_in};
-    ghost use Rattle.noise_session.specs.Outcomes.{tells, StandsIn};
+    ghost use Rattle.noise_session.specs.Ends.{EndView, PhaseStands, progress_in, hash_in, remote_static_in, is_over};
+    ghost use Rattle.noise_session.specs.inner.Phases.{IsHandshake, GoesOnAs, is_due, over_in};
+    ghost use Rattle.noise_session.specs.inner.Outcomes.{tells, StandsIn};
 
     // The phase behind messages of a handshake: its transport, once all of them have passed.
     pub(crate) fn behind(handshake: Handshake<K>, interval: u64) -> Phase<K>

@@ -3,8 +3,8 @@
 
 ghost use Rattle.std.specs.Prelude.{◌≡◌, ◌≤◌, [], length, true, None, IsTrue};
 ghost use Rattle.noise_session.specs.Ends.{EndView, PhaseStands, progress_in};
-ghost use Rattle.noise_session.specs.Outcomes.{tells, StandsIn};
-ghost use Rattle.noise_session.specs.Phases.{is_due};
+ghost use Rattle.noise_session.specs.inner.Outcomes.{tells, StandsIn};
+ghost use Rattle.noise_session.specs.inner.Phases.{is_due};
 ghost use Rattle.noise_session.specs.Progress.{idle_step};
 ghost use Rattle.noise_session.specs.Taking.{Judges};
 

@@ -3,11 +3,11 @@
 
 ghost use Rattle.std.specs.Prelude.{◌≡◌, ◌≤◌, ℕ, [], ⊤, length, take, drop, true, false, Some, None, Ok, Err, IsTrue, IfOk, IfErr, MatchOption};
 ghost use Rattle.std.specs.Option.{ForSome};
-ghost use Rattle.noise_session.specs.Ends.{EndView, EndStands, PhaseStands, progress_in};
+ghost use Rattle.noise_session.specs.Ends.{EndView, EndStands, PhaseStands, progress_in, is_over};
 ghost use Rattle.noise_session.specs.Frames.{IsPartial, frame};
-ghost use Rattle.noise_session.specs.Incoming.{bytes_of};
+ghost use Rattle.noise_session.specs.inner.Incoming.{bytes_of};
 ghost use Rattle.noise_session.specs.Outputs.{behind_output};
-ghost use Rattle.noise_session.specs.Phases.{is_due, is_over};
+ghost use Rattle.noise_session.specs.inner.Phases.{is_due};
 ghost use Rattle.noise_session.specs.Progress.{refusal, message_length, frame_len_of};
 ghost use Rattle.noise_session.specs.Sending.{Sends, behind_fault};
 ghost use Rattle.noise_session.specs.Faults.{ends};

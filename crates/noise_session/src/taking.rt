@@ -4,11 +4,11 @@
 ghost use Rattle.std.specs.Prelude.{◌≡◌, ◌≤◌, ℕ, [], length, drop, true, None, IsTrue};
 ghost use Rattle.noise_session.specs.Frames.{IsPartial, IsWhole, frame};
 ghost use Rattle.noise_session.specs.Progress.{idle_step};
-ghost use Rattle.noise_session.specs.Ends.{EndView, EndStands, PhaseStands, progress_in};
-ghost use Rattle.noise_session.specs.Phases.{is_due, is_over};
+ghost use Rattle.noise_session.specs.Ends.{EndView, EndStands, PhaseStands, progress_in, is_over};
+ghost use Rattle.noise_session.specs.inner.Phases.{is_due};
 ghost use Rattle.noise_session.specs.Taking.{Takes, Judges};
-ghost use Rattle.noise_session.specs.Outcomes.{tells, StandsIn};
-ghost use Rattle.noise_session.specs.Incoming.{bytes_of};
+ghost use Rattle.noise_session.specs.inner.Outcomes.{tells, StandsIn};
+ghost use Rattle.noise_session.specs.inner.Incoming.{bytes_of};
 
 use crate::incoming::Incoming;
 use crate::outcome::Outcome;

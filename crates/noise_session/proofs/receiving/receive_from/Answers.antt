@@ -6,8 +6,8 @@ use Rattle.noise_session.specs.Progress.{idle_step}
 use Rattle.noise_session.specs.Ends.{EndView, progress_of, progress_in}
 use Rattle.noise_session.specs.Taking.Takes.{idles, judges}
 use Rattle.noise_session.specs.Inputs.Receives.{takes, pauses, is_cut, fails}
-use Rattle.noise_session.specs.Incoming.{bytes_of}
-use Rattle.noise_session.specs.Outcomes.{tells}
+use Rattle.noise_session.specs.inner.Incoming.{bytes_of}
+use Rattle.noise_session.specs.inner.Outcomes.{tells}
 use Rattle.noise_session.specs.Steps.{Told}
 use Rattle.noise_session.proofs.Streaming.{consumed_none}
 use Rattle.noise_session.proofs.Cutting.{idles-not, judged-not}

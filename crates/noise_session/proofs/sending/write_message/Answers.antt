@@ -6,7 +6,7 @@ use Rattle.noise_session.specs.declared.phase.Phase.TheVariants as phase
 use Rattle.noise_session.specs.HeldTransport.{HeldTransport, TransportStands, seal_fault}
 use Rattle.noise_session.specs.Progress.{Progress, refusal}
 use Rattle.noise_session.specs.Ends.{EndView, PhaseStands, HandshakeStands, OpenStands, OverStands, transport_in, progress_in, progress_of, closed}
-use Rattle.noise_session.specs.Phases.{is_due}
+use Rattle.noise_session.specs.inner.Phases.{is_due}
 use Rattle.noise_session.specs.Frames.{frame}
 use Rattle.noise_session.specs.Sending.{Sends}
 use Rattle.noise_session.specs.Sending.Sends.{refuses, lacks_answer, sends_handshake, sends_transport}

@@ -4,8 +4,8 @@ use Rattle.noise_session.specs.Frames.{frame, IsPartial}
 use Rattle.noise_session.specs.Progress.{idle_step}
 use Rattle.noise_session.specs.Ends.{EndView, progress_of, progress_in}
 use Rattle.noise_session.specs.Taking.Takes.{idles, waits, judges}
-use Rattle.noise_session.specs.Incoming.{bytes_of}
-use Rattle.noise_session.specs.Outcomes.{tells}
+use Rattle.noise_session.specs.inner.Incoming.{bytes_of}
+use Rattle.noise_session.specs.inner.Outcomes.{tells}
 use Rattle.noise_session.proofs.Views.{phase-progress, phase-held}
 use Rattle.noise_session.proofs.taking.advance.Goals as goal
 

@@ -1,8 +1,8 @@
 use Rattle.std.proofs.Common.{◌≡◌, ◌-◌, List, ℕ, take, drop, sym, subst, arith}
-use Rattle.noise_session.specs.Incoming.{bytes_of}
+use Rattle.noise_session.specs.inner.Incoming.{bytes_of}
 use Rattle.noise_session.specs.Steps.{Told}
 use Rattle.noise_session.specs.Taking.{Judges}
-use Rattle.noise_session.specs.Outcomes.{tells}
+use Rattle.noise_session.specs.inner.Outcomes.{tells}
 use Rattle.noise_session.proofs.Places.{tells-behind, drop-front}
 use Rattle.noise_session.proofs.taking.judge.Goals as goal
 

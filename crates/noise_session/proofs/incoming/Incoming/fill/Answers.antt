@@ -1,6 +1,6 @@
 use Rattle.std.proofs.Common.{◌≡◌, ◌-◌, length, take, drop, ap, arith, length-drop}
 use Rattle.std.proofs.lemmas.List.{length-take-le, take_rest}
-use Rattle.noise_session.specs.Incoming.{bytes_of}
+use Rattle.noise_session.specs.inner.Incoming.{bytes_of}
 use Rattle.noise_session.proofs.Growing.{two-parts}
 use Rattle.noise_session.proofs.incoming.Incoming.fill.Goals as goal
 
