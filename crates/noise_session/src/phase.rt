@@ -1,7 +1,7 @@
 //! What an end goes through: its handshake, its transport, and the end of the session.
 #![tactic(auto)]
 
-ghost use Rattle.std.specs.Prelude.{◌≡◌, ◌+◌, ℕ, List, length, true, false, Some, None, IsTrue, IfSome, MatchOption};
+ghost use Rattle.std.specs.Prelude.{◌≡◌, ◌+◌, ℕ, List, false, Some, None, IsTrue, IfSome, MatchOption};
 ghost use Rattle.noise_session.specs.HeldTransport.{seal_fault};
 ghost use Rattle.noise_session.specs.Progress.{length_unless};
 
@@ -40,7 +40,8 @@ impl<K: Keys> Phase<K> {
         requires { handshake.ended ≡ false }
         ensures due { IsTrue (is_due result) }
         ensures going { is_over result ≡ false }
-        ensures stands { (v : EndView) → Stands K.public_of K.agreement handshake v.party → interval ≡ v.interval → v.sent ≡ 0 → v.received ≡ 0 → PhaseStands K.public_of K.agreement result v }
+        ensures stands { (v : EndView) → Stands K.public_of K.agreement handshake v.party → interval ≡ v.interval → v.sent ≡ 0 → v.received ≡ 0
+            → PhaseStands K.public_of K.agreement result v }
     {
         match handshake.finish() {
             Ok(opened) => Phase::Open(Transport::new(opened, interval)),
@@ -133,7 +134,8 @@ impl<K: Keys> Phase<K> {
 
     // What it tells without taking a byte; None where it listens.
     pub(crate) fn idle(&self) -> Option<Outcome>
-        ensures step { MatchOption result (idle_step (progress_in self.now) ≡ None) (λ outcome. (message : List ℕ) → idle_step (progress_in self.now) ≡ Some (tells message outcome)) }
+        ensures step { MatchOption result (idle_step (progress_in self.now) ≡ None)
+            (λ outcome. (message : List ℕ) → idle_step (progress_in self.now) ≡ Some (tells message outcome)) }
         ensures place { IfSome result (λ outcome. (message : List ℕ) → StandsIn message outcome) }
     {
         match self {

@@ -1,7 +1,7 @@
 //! Bytes come to an end.
 #![tactic(auto)]
 
-ghost use Rattle.std.specs.Prelude.{◌≡◌, ◌≤◌, ℕ, [], length, drop, true, None, IsTrue};
+ghost use Rattle.std.specs.Prelude.{◌≡◌, ◌≤◌, [], length, drop, true, None, IsTrue};
 ghost use Rattle.noise_session.specs.Frames.{IsPartial, IsWhole, frame};
 ghost use Rattle.noise_session.specs.Progress.{idle_step};
 ghost use Rattle.noise_session.specs.Ends.{EndView, EndStands, PhaseStands, progress_in, is_over};
@@ -27,7 +27,8 @@ pub(crate) fn judge<K: Keys>(phase: &mut Phase<K>, incoming: &mut Incoming) -> O
     ensures spelled { bytes_of incoming.old ≡ frame (drop 2 (bytes_of incoming.old)) }
     ensures short { length (drop 2 (bytes_of incoming.old)) ≤ 65535 }
     ensures judges { (v : EndView) → PhaseStands K.public_of K.agreement phase.old v
-        → (next : EndView) × Judges v (drop 2 (bytes_of incoming.old)) (tells (drop 2 incoming.new.buffer.items) result) next × PhaseStands K.public_of K.agreement phase.new next × (next.held ≡ []) }
+        → (next : EndView) × Judges v (drop 2 (bytes_of incoming.old)) (tells (drop 2 incoming.new.buffer.items) result) next
+        × PhaseStands K.public_of K.agreement phase.new next × (next.held ≡ []) }
 {
     let end = incoming.clear();
     read_message(phase, &mut incoming.buffer[2..end])

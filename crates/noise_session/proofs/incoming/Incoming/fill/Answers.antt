@@ -12,6 +12,7 @@ returns-clause-whole c =
     let rest : take (length piece - first) (drop first piece) ≡ drop first piece = take_rest piece first in
     let long = length-take-le self.held self.buffer.items (omega arith) in (
       omega (arith, ap length rest, length-drop first piece),
-      two-parts (bytes_of c.args.self.now) (bytes_of c.accept-first.new.self) (bytes_of self) piece first c.accept.result c.accept-first.ensures.taken c.accept.ensures.taken,
+      two-parts (bytes_of c.args.self.now) (bytes_of c.accept-first.new.self) (bytes_of self) piece first c.accept.result c.accept-first.ensures.taken
+          c.accept.ensures.taken,
       omega arith,
     )
