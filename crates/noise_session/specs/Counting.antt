@@ -6,7 +6,7 @@ use Rattle.noise_session.specs.declared.counted.Counted.{Counted}
 abbrev pub inner_of : {T : Type 0} → Counted T → T
 inner_of c = c.inner
 
--- how many of its calls have failed, modulo 2^64
+-- how many of its reads and writes have failed, modulo 2^64
 abbrev pub failures_of : {T : Type 0} → Counted T → ℕ
 failures_of c = c.failures
 
