@@ -1,5 +1,6 @@
 -- What a reader finds is determined, and how reading the tokens goes on.
-use Rattle.std.proofs.Common.{◌≡◌, ℕ, zero, suc, ◌+◌, ◌<◌, ◌≤◌, List, [], ◌∷◌, ◌++◌, length, take, drop, refl, ap, sym, subst, ◌∙◌, arith, append_assoc, take_all, inl, inr, ◌⊎◌}
+use Rattle.std.proofs.Common.{◌≡◌, ℕ, zero, suc, ◌+◌, ◌<◌, ◌≤◌, List, [], ◌∷◌, ◌++◌, length, take, drop, refl, ap, sym, subst, ◌∙◌, arith}
+use Rattle.std.proofs.Common.{append_assoc, take_all, inl, inr, ◌⊎◌}
 use Rattle.std.proofs.Math.Seq.{take-append_seam, drop-append_seam}
 use Rattle.std.specs.Prelude.{Bool, Option, Some, is_some, if◌then◌else◌, nat_lt}
 use Rattle.noise_names.specs.declared.token.Token.{Token}
@@ -9,7 +10,8 @@ use Rattle.noise_state.specs.Pieces.{length-piece, piece-same}
 use Rattle.noise_handshake.specs.declared.remote.Remote.{Remote}
 use Rattle.noise_handshake.specs.declared.faults.Cause.{Cause}
 use Rattle.noise_handshake.specs.Line.{token_piece, behind_token, front, behind_front}
-use Rattle.noise_handshake.specs.View.{View, Reader, reader, Fits, Fit, known_behind, secrets_behind, Leads, Reaches, Reads, Stops, Accepts, cause_of, cause_at, tokens_now}
+use Rattle.noise_handshake.specs.View.{View, Reader, reader, Fits, Fit, known_behind, secrets_behind, Leads, Reaches, Reads, Stops, Accepts, cause_of}
+use Rattle.noise_handshake.specs.View.{cause_at, tokens_now}
 use Rattle.noise_handshake.specs.inner.Listening.{Fails}
 use Rattle.noise_handshake.specs.declared.faults.Cause.TheVariants.{Short, Tag}
 
@@ -27,7 +29,8 @@ pub token-apart : (v : Reader) (known : Remote) (secrets : List (List ℕ)) (r :
     → Fits v known secrets t x → Fits v known secrets t y → token_piece r t x ++ p ≡ token_piece r t y ++ q → (x ≡ y) × (p ≡ q)
 token-apart v known secrets r E x y p q f g e = split-apart x y p q (f ∙ sym g) e
 token-apart v known secrets r S x y p q f g e =
-    let n : length (piece r x) ≡ length (piece r y) = length-piece r x ∙ ap (λ (k : ℕ). if is_some (cipher_key r) then k + 16 else k) (f ∙ sym g) ∙ sym (length-piece r y) in
+    let n : length (piece r x) ≡ length (piece r y) = length-piece r x ∙ ap (λ (k : ℕ). if is_some (cipher_key r) then k + 16 else k) (f ∙ sym g)
+    ∙ sym (length-piece r y) in
     let h = split-apart (piece r x) (piece r y) p q n e in
     (piece-same r x y h.0, h.1)
 token-apart v known secrets r Psk x y p q f g e = (f ∙ sym g, e)
@@ -50,7 +53,8 @@ front-apart v known secrets r (t ∷ ts) (x ∷ xs) [] p q f g e = absurd g
 front-apart v known secrets r (t ∷ ts) (x ∷ xs) (y ∷ ys) p q f g e =
     let a : List ℕ = front v.psks (behind_token v.psks r t x) ts xs in
     let b : List ℕ = front v.psks (behind_token v.psks r t y) ts ys in
-    let h = token-apart v known secrets r t x y (a ++ p) (b ++ q) f.0 g.0 (sym (append_assoc (token_piece r t x) a p) ∙ e ∙ append_assoc (token_piece r t y) b q) in
+    let h = token-apart v known secrets r t x y (a ++ p) (b ++ q) f.0 g.0
+    (sym (append_assoc (token_piece r t x) a p) ∙ e ∙ append_assoc (token_piece r t y) b q) in
     let g1 = subst (λ (z : List ℕ). Fit v (known_behind known t z) (secrets_behind secrets t) ts ys) (sym h.0) g.1 in
     let e1 : a ++ p ≡ front v.psks (behind_token v.psks r t x) ts ys ++ q =
     h.1 ∙ ap (λ (z : List ℕ). front v.psks (behind_token v.psks r t z) ts ys ++ q) (sym h.0) in
@@ -61,7 +65,8 @@ front-apart v known secrets r (t ∷ ts) (x ∷ xs) (y ∷ ys) p q f g e =
 pub reads-one : (v : Reader) (known : Remote) (secrets : List (List ℕ)) (r : History) (ts : List Token) (m : List ℕ) (xs ys : List (List ℕ)) (p q : List ℕ)
     → Reads v known secrets r ts m xs p → Reads v known secrets r ts m ys q → (xs ≡ ys) × (p ≡ q)
 reads-one v known secrets r ts m xs ys p q a b =
-    let h = front-apart v known secrets r ts xs ys (piece (behind_front v.psks r ts xs) p) (piece (behind_front v.psks r ts ys) q) a.fit b.fit (sym a.spelled ∙ b.spelled) in
+    let h = front-apart v known secrets r ts xs ys (piece (behind_front v.psks r ts xs) p) (piece (behind_front v.psks r ts ys) q) a.fit b.fit
+    (sym a.spelled ∙ b.spelled) in
     (h.0, piece-same (behind_front v.psks r ts xs) p q (h.1 ∙ ap (λ (zs : List (List ℕ)). piece (behind_front v.psks r ts zs) q) (sym h.0)))
 
 pub accepts-one : (v : View) (m : List ℕ) (xs ys : List (List ℕ)) (p q : List ℕ) → Accepts v m xs p → Accepts v m ys q → (xs ≡ ys) × (p ≡ q)
@@ -72,7 +77,8 @@ accepts-one v m xs ys p q a b = reads-one (reader v) v.remote v.secrets v.histor
 pub leads-none : (v : Reader) (known : Remote) (secrets : List (List ℕ)) (r : History) (m : List ℕ) → Leads v known secrets r [] [] m m
 leads-none v known secrets r m = record { fit = tt; spelled = refl }
 
-pub leads-more : (v : Reader) (known : Remote) (secrets : List (List ℕ)) (r : History) (t : Token) (x : List ℕ) (ts : List Token) (xs : List (List ℕ)) (m more rest : List ℕ)
+pub leads-more : (v : Reader) (known : Remote) (secrets : List (List ℕ)) (r : History) (t : Token) (x : List ℕ) (ts : List Token) (xs : List (List ℕ))
+    (m more rest : List ℕ)
     → Fits v known secrets t x → m ≡ token_piece r t x ++ more
     → Leads v (known_behind known t x) (secrets_behind secrets t) (behind_token v.psks r t x) ts xs more rest
     → Leads v known secrets r (t ∷ ts) (x ∷ xs) m rest
@@ -100,7 +106,8 @@ stops-here v known secrets r t ts m cause bad why = record {
 }
 
 -- what leads beyond a token leads from behind it
-leads-less : (v : Reader) (known : Remote) (secrets : List (List ℕ)) (r : History) (t : Token) (x : List ℕ) (ts : List Token) (xs : List (List ℕ)) (m more rest : List ℕ)
+leads-less : (v : Reader) (known : Remote) (secrets : List (List ℕ)) (r : History) (t : Token) (x : List ℕ) (ts : List Token) (xs : List (List ℕ))
+    (m more rest : List ℕ)
     → Fits v known secrets t x → m ≡ token_piece r t x ++ more → Leads v known secrets r (t ∷ ts) xs m rest
     → Reaches v (known_behind known t x) (secrets_behind secrets t) (behind_token v.psks r t x) ts more
 leads-less v known secrets r t x ts [] m more rest f e l = absurd l.fit
@@ -116,7 +123,8 @@ leads-less v known secrets r t x ts (y ∷ ys) m more rest f e l =
       };
     }
 
-pub stops-later : (v : Reader) (known : Remote) (secrets : List (List ℕ)) (r : History) (t : Token) (x : List ℕ) (ts : List Token) (m more : List ℕ) (k : ℕ) (cause : Cause)
+pub stops-later : (v : Reader) (known : Remote) (secrets : List (List ℕ)) (r : History) (t : Token) (x : List ℕ) (ts : List Token) (m more : List ℕ)
+    (k : ℕ) (cause : Cause)
     → k < length ts → Fits v known secrets t x → m ≡ token_piece r t x ++ more
     → Stops v (known_behind known t x) (secrets_behind secrets t) (behind_token v.psks r t x) ts more k cause
     → Stops v known secrets r (t ∷ ts) m (suc k) cause
@@ -135,7 +143,8 @@ cause_at-end keyed [] rest = refl
 cause_at-end keyed (t ∷ ts) rest = cause_at-end keyed ts rest
 
 -- a stop at the payload
-pub stops-last : (v : Reader) (known : Remote) (secrets : List (List ℕ)) (r : History) (ts : List Token) (m : List ℕ) (xs : List (List ℕ)) (rest : List ℕ) (cause : Cause)
+pub stops-last : (v : Reader) (known : Remote) (secrets : List (List ℕ)) (r : History) (ts : List Token) (m : List ℕ) (xs : List (List ℕ))
+    (rest : List ℕ) (cause : Cause)
     → Leads v known secrets r ts xs m rest → ((payload : List ℕ) → rest ≡ piece (behind_front v.psks r ts xs) payload → ⊥)
     → cause ≡ (if nat_lt (length rest) 16 then Short else Tag) → Stops v known secrets r ts m (length ts) cause
 stops-last v known secrets r ts m xs rest cause l bad why =
@@ -152,7 +161,8 @@ stops-last v known secrets r ts m xs rest cause l bad why =
       why = why ∙ sym (cause_at-end (is_some (cipher_key (behind_front v.psks r (take (length ts) ts) xs))) ts rest);
     }
 
-pub reads-whole : (v : Reader) (known : Remote) (secrets : List (List ℕ)) (r : History) (ts : List Token) (m : List ℕ) (xs : List (List ℕ)) (rest payload : List ℕ)
+pub reads-whole : (v : Reader) (known : Remote) (secrets : List (List ℕ)) (r : History) (ts : List Token) (m : List ℕ) (xs : List (List ℕ))
+    (rest payload : List ℕ)
     → Leads v known secrets r ts xs m rest → rest ≡ piece (behind_front v.psks r ts xs) payload → Reads v known secrets r ts m xs payload
 reads-whole v known secrets r ts m xs rest payload l e = record {
   fit = l.fit;
@@ -183,7 +193,8 @@ at-most (suc k) zero h = absurd (omega arith)
 at-most (suc k) (suc n) h = elim (at-most k n (omega arith)) [ inl l ↦ inl (omega arith) | inr e ↦ inr (ap suc e) ]
 
 -- what is refused is no message
-pub stops-not : (v : Reader) (known : Remote) (secrets : List (List ℕ)) (r : History) (ts : List Token) (m : List ℕ) (k : ℕ) (cause : Cause) (xs : List (List ℕ)) (p : List ℕ)
+pub stops-not : (v : Reader) (known : Remote) (secrets : List (List ℕ)) (r : History) (ts : List Token) (m : List ℕ) (k : ℕ) (cause : Cause)
+    (xs : List (List ℕ)) (p : List ℕ)
     → Stops v known secrets r ts m k cause → Reads v known secrets r ts m xs p → ⊥
 stops-not v known secrets r ts m k cause xs p s a =
     let l : Leads v known secrets r ts xs m (piece (behind_front v.psks r ts xs) p) = record { fit = a.fit; spelled = a.spelled } in

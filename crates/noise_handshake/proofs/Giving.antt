@@ -70,27 +70,32 @@ gives-one w known secrets Es x y g h = cc
 gives-one w known secrets Se x y g h = cc
 gives-one w known secrets Ss x y g h = cc
 
-given-one : (w : Writer) (known : Remote) (secrets : List (List ℕ)) (ts : List Token) (xs ys : List (List ℕ)) → Given w known secrets ts xs → Given w known secrets ts ys → xs ≡ ys
+given-one : (w : Writer) (known : Remote) (secrets : List (List ℕ)) (ts : List Token) (xs ys : List (List ℕ)) → Given w known secrets ts xs
+    → Given w known secrets ts ys → xs ≡ ys
 given-one w known secrets [] [] [] g h = refl
 given-one w known secrets [] [] (y ∷ ys) g h = absurd h
 given-one w known secrets [] (x ∷ xs) ys g h = absurd g
 given-one w known secrets (t ∷ ts) [] ys g h = absurd g
 given-one w known secrets (t ∷ ts) (x ∷ xs) [] g h = absurd h
 given-one w known secrets (t ∷ ts) (x ∷ xs) (y ∷ ys) g h =
-    ap (λ (z : List ℕ). z ∷ xs) (gives-one w known secrets t x y g.0 h.0) ∙ ap (λ (zs : List (List ℕ)). y ∷ zs) (given-one w known (secrets_behind secrets t) ts xs ys g.1 h.1)
+    ap (λ (z : List ℕ). z ∷ xs) (gives-one w known secrets t x y g.0 h.0)
+    ∙ ap (λ (zs : List (List ℕ)). y ∷ zs) (given-one w known (secrets_behind secrets t) ts xs ys g.1 h.1)
 
 -- one text for each of the first tokens
-given-front : (w : Writer) (known : Remote) (secrets : List (List ℕ)) (ts : List Token) (xs : List (List ℕ)) (n : ℕ) → Given w known secrets ts xs → Given w known secrets (take n ts) (take n xs)
+given-front : (w : Writer) (known : Remote) (secrets : List (List ℕ)) (ts : List Token) (xs : List (List ℕ)) (n : ℕ) → Given w known secrets ts xs
+    → Given w known secrets (take n ts) (take n xs)
 given-front w known secrets ts xs zero g = tt
 given-front w known secrets [] [] (suc n) g = tt
 given-front w known secrets [] (x ∷ xs) (suc n) g = absurd g
 given-front w known secrets (t ∷ ts) [] (suc n) g = absurd g
 given-front w known secrets (t ∷ ts) (x ∷ xs) (suc n) g = (g.0, given-front w known (secrets_behind secrets t) ts xs n g.1)
 
-not-before : (w : Writer) (known : Remote) (secrets : List (List ℕ)) (ts : List Token) (k j : ℕ) → LacksAt w known secrets ts k → LacksAt w known secrets ts j → k < j → ⊥
+not-before : (w : Writer) (known : Remote) (secrets : List (List ℕ)) (ts : List Token) (k j : ℕ) → LacksAt w known secrets ts k
+    → LacksAt w known secrets ts j → k < j → ⊥
 not-before w known secrets ts k j a b h =
     a.none (take (suc k) b.before)
-    (subst (λ (us : List Token). Given w known secrets us (take (suc k) b.before)) (take-take (suc k) j ts (omega arith)) (given-front w known secrets (take j ts) b.before (suc k) b.given))
+    (subst (λ (us : List Token). Given w known secrets us (take (suc k) b.before)) (take-take (suc k) j ts (omega arith))
+    (given-front w known secrets (take j ts) b.before (suc k) b.given))
 
 same-place : (k j : ℕ) → (k < j → ⊥) → (j < k → ⊥) → k ≡ j
 same-place k j f g = grind arith
@@ -104,7 +109,8 @@ writes-one v payload m n xs ys a b =
 -- it lacks an answer at one token
 pub lacks-one : (v : View) (k j : ℕ) → Lacks v k → Lacks v j → k ≡ j
 lacks-one v k j a b =
-    same-place k j (not-before (writer v) v.remote v.secrets (tokens_now v) k j a.lacks b.lacks) (not-before (writer v) v.remote v.secrets (tokens_now v) j k b.lacks a.lacks)
+    same-place k j (not-before (writer v) v.remote v.secrets (tokens_now v) k j a.lacks b.lacks)
+    (not-before (writer v) v.remote v.secrets (tokens_now v) j k b.lacks a.lacks)
 
 -- what lacks an answer writes nothing
 pub writes-or : (v : View) (payload m : List ℕ) (xs : List (List ℕ)) (k : ℕ) → Writes v payload xs m → Lacks v k → ⊥

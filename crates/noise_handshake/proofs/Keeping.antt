@@ -18,26 +18,32 @@ use Rattle.noise_handshake.specs.Passed.{passed_places}
 use Rattle.noise_handshake.proofs.Places.{has_key-passed}
 
 -- the secrets of the messages from one on
-pub secrets_of-drop : (ms : List (List Token)) (n : ℕ) → n < length ms → secrets_of (drop n ms) ≡ count_by is_psk (tokens_at ms n) + secrets_of (drop (suc n) ms)
+pub secrets_of-drop : (ms : List (List Token)) (n : ℕ) → n < length ms
+    → secrets_of (drop n ms) ≡ count_by is_psk (tokens_at ms n) + secrets_of (drop (suc n) ms)
 secrets_of-drop [] n h = absurd (omega arith)
 secrets_of-drop (ts ∷ ms) zero h = refl
 secrets_of-drop (ts ∷ ms) (suc n) h = secrets_of-drop ms n (omega arith)
 
-module _ {K : Type 0} (public_of : K → Own → Option (List ℕ)) (h : Held K) (s : IsSound public_of h) (tokens : List Token) (e : tokens ≡ tokens_at h.pattern.messages h.passed) (due : h.passed < length h.pattern.messages) where
+module _ {K : Type 0} (public_of : K → Own → Option (List ℕ)) (h : Held K) (s : IsSound public_of h) (tokens : List Token)
+    (e : tokens ≡ tokens_at h.pattern.messages h.passed) (due : h.passed < length h.pattern.messages) where
   counted : length h.secrets ≡ count_by is_psk tokens + secrets_of (drop (suc h.passed) h.pattern.messages)
-  counted = s.secrets ∙ secrets_of-drop h.pattern.messages h.passed due ∙ ap (λ (ts : List Token). count_by is_psk ts + secrets_of (drop (suc h.passed) h.pattern.messages)) (sym e)
+  counted = s.secrets ∙ secrets_of-drop h.pattern.messages h.passed due
+      ∙ ap (λ (ts : List Token). count_by is_psk ts + secrets_of (drop (suc h.passed) h.pattern.messages)) (sym e)
 
   -- there is a secret for each psk token
   pub enough : count_by is_psk tokens ≤ length h.secrets
   enough = omega (arith, counted)
 
-  pub sound-behind : (remote : Remote) (state : SymmetricState) (secrets : List (List ℕ)) (passed : ℕ) → passed ≡ h.passed + 1 → secrets ≡ drop (count_by is_psk tokens) h.secrets
-      → keyed state ≡ keyed_behind_tokens (has_psk h.pattern) (keyed h.state) tokens → nonce_now state ≤ nonce_now h.state + length tokens + 1 → length tokens ≤ 10
+  pub sound-behind : (remote : Remote) (state : SymmetricState) (secrets : List (List ℕ)) (passed : ℕ) → passed ≡ h.passed + 1
+      → secrets ≡ drop (count_by is_psk tokens) h.secrets
+      → keyed state ≡ keyed_behind_tokens (has_psk h.pattern) (keyed h.state) tokens → nonce_now state ≤ nonce_now h.state + length tokens + 1
+      → length tokens ≤ 10
       → IsSound public_of (record h { remote = remote; state = state; secrets = secrets; passed = passed })
   sound-behind remote state secrets passed p d k n short = record {
     within = omega (arith, due, p);
     few = s.few;
-    secrets = ap length d ∙ length-drop (count_by is_psk tokens) h.secrets ∙ left _ _ _ counted ∙ ap (λ (i : ℕ). secrets_of (drop i h.pattern.messages)) (next ∙ sym p);
+    secrets = ap length d ∙ length-drop (count_by is_psk tokens) h.secrets ∙ left _ _ _ counted
+        ∙ ap (λ (i : ℕ). secrets_of (drop i h.pattern.messages)) (next ∙ sym p);
     has_e = s.has_e;
     has_s = s.has_s;
     keyed = k ∙ ap (λ (b : Bool). keyed_behind_tokens (has_psk h.pattern) b tokens) s.keyed

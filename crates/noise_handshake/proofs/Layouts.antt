@@ -20,7 +20,7 @@ tokens_of-placed_from psks keyed place (t ∷ ts) =
 
 pub placed_from-placed : (psks keyed : Bool) (place : ℕ) (ts : List Token) → ArePlaced psks keyed place (placed_from psks keyed place ts)
 placed_from-placed psks keyed place [] = tt
-placed_from-placed psks keyed place (t ∷ ts) = (refl, refl, refl, placed_from-placed psks (keyed_behind psks keyed t) (place + token_width keyed t) ts)
+placed_from-placed psks keyed place (t ∷ ts) = (refl, refl, placed_from-placed psks (keyed_behind psks keyed t) (place + token_width keyed t) ts)
 
 -- whether there is a key before message n, by the messages before it
 abbrev key_before : Bool → Bool → List (List Token) → ℕ → Bool
@@ -32,12 +32,14 @@ key_before-first : (psks keyed : Bool) (ms : List (List Token)) → key_before p
 key_before-first psks keyed [] = refl
 key_before-first psks keyed (ts ∷ ms) = refl
 
-key_before-next : (psks keyed : Bool) (ms : List (List Token)) (n : ℕ) → n < length ms → key_before psks keyed ms (suc n) ≡ keyed_behind_tokens psks (key_before psks keyed ms n) (tokens_at ms n)
+key_before-next : (psks keyed : Bool) (ms : List (List Token)) (n : ℕ) → n < length ms
+    → key_before psks keyed ms (suc n) ≡ keyed_behind_tokens psks (key_before psks keyed ms n) (tokens_at ms n)
 key_before-next psks keyed [] n h = absurd (omega arith)
 key_before-next psks keyed (ts ∷ ms) zero h = key_before-first psks (keyed_behind_tokens psks keyed ts) ms
 key_before-next psks keyed (ts ∷ ms) (suc n) h = key_before-next psks (keyed_behind_tokens psks keyed ts) ms n (omega arith)
 
-laid-at : (psks keyed : Bool) (ms : List (List Token)) (layout : List MessageLayout) (n : ℕ) (laid : MessageLayout) → n < length ms → AreLaid psks keyed ms layout → laid ≡ get_or layout n laid
+laid-at : (psks keyed : Bool) (ms : List (List Token)) (layout : List MessageLayout) (n : ℕ) (laid : MessageLayout) → n < length ms
+    → AreLaid psks keyed ms layout → laid ≡ get_or layout n laid
     → IsLaid psks (key_before psks keyed ms n) (tokens_at ms n) laid
 laid-at psks keyed [] layout n laid h a e = absurd (omega arith)
 laid-at psks keyed (ts ∷ ms) [] n laid h a e = absurd a
@@ -68,8 +70,9 @@ module _ (p : Plan) where
   }
 
 -- the first of them
-pub first-placed : (psks key : Bool) (place : ℕ) (placed : List PlacedToken) (first : PlacedToken) (later : List PlacedToken) → placed ≡ first ∷ later → ArePlaced psks key place placed
-    → (first.place ≡ place) × (first.width ≡ token_width key first.token) × (first.keyed ≡ key) × ArePlaced psks (keyed_behind psks key first.token) (place + first.width) later
+pub first-placed : (psks key : Bool) (place : ℕ) (placed : List PlacedToken) (first : PlacedToken) (later : List PlacedToken) → placed ≡ first ∷ later
+    → ArePlaced psks key place placed
+    → (first.place ≡ place) × (first.width ≡ token_width key first.token) × ArePlaced psks (keyed_behind psks key first.token) (place + first.width) later
 first-placed psks key place placed first later e a = subst (λ (ps : List PlacedToken). ArePlaced psks key place ps) e a
 
 pub length-tokens_of : (ps : List PlacedToken) → length (tokens_of ps) ≡ length ps
@@ -89,5 +92,6 @@ module _ (p : Plan) (n : ℕ) (laid : MessageLayout) (l : IsLaid (has_psk p) (ha
       let all : ArePlaced (has_psk p) (has_key p (passed_places p n)) 0 placed =
       subst (λ (ps : List PlacedToken). ArePlaced (has_psk p) (has_key p (passed_places p n)) 0 ps) (sym (d ∙ l.tokens))
       (placed_from-placed (has_psk p) (has_key p (passed_places p n)) 0 (tokens_at p.messages n)) in
-      let by_psks : ArePlaced psks (has_key p (passed_places p n)) 0 placed = subst (λ (x : Bool). ArePlaced x (has_key p (passed_places p n)) 0 placed) (sym b) all in
+      let by_psks : ArePlaced psks (has_key p (passed_places p n)) 0 placed =
+      subst (λ (x : Bool). ArePlaced x (has_key p (passed_places p n)) 0 placed) (sym b) all in
       subst (λ (x : Bool). ArePlaced psks x 0 placed) (sym k) by_psks

@@ -13,7 +13,8 @@ not-earlier : (v : Reader) (known : Remote) (secrets : List (List ℕ)) (r : His
     → Stops v known secrets r ts m k c → Stops v known secrets r ts m j d → k < j → ⊥
 not-earlier v known secrets r ts m k j c d a b h =
     a.further (omega (arith, h, b.within))
-    (subst (λ (us : List Token). Reaches v known secrets r us m) (take-take (suc k) j ts (omega (arith, h))) (reads-leads v known secrets r (take j ts) b.carried m b.rest (suc k) b.leads))
+    (subst (λ (us : List Token). Reaches v known secrets r us m) (take-take (suc k) j ts (omega (arith, h)))
+    (reads-leads v known secrets r (take j ts) b.carried m b.rest (suc k) b.leads))
 
 same-place : (k j : ℕ) → (k < j → ⊥) → (j < k → ⊥) → k ≡ j
 same-place k j f g = grind arith
@@ -31,8 +32,12 @@ same-cause v known secrets r ts m k c d a b =
 pub refuses-one : (v : View) (m : List ℕ) (k j : ℕ) (c d : Cause) → Refuses v m k c → Refuses v m j d → (k ≡ j) × (c ≡ d)
 refuses-one v m k j c d a b =
     let u : Reader = reader v in
-    let e : k ≡ j = same-place k j (not-earlier u v.remote v.secrets v.history (tokens_now v) m k j c d a.stops b.stops) (not-earlier u v.remote v.secrets v.history (tokens_now v) m j k d c b.stops a.stops) in
-    (e, same-cause u v.remote v.secrets v.history (tokens_now v) m k c d a.stops (subst (λ (i : ℕ). Stops u v.remote v.secrets v.history (tokens_now v) m i d) (sym e) b.stops))
+    let e : k ≡ j = same-place k j (not-earlier u v.remote v.secrets v.history (tokens_now v) m k j c d a.stops b.stops)
+    (not-earlier u v.remote v.secrets v.history (tokens_now v) m j k d c b.stops a.stops) in (
+      e,
+      same-cause u v.remote v.secrets v.history (tokens_now v) m k c d a.stops
+          (subst (λ (i : ℕ). Stops u v.remote v.secrets v.history (tokens_now v) m i d) (sym e) b.stops),
+    )
 
 -- what is accepted isn't refused
 pub accepts-or : (v : View) (m : List ℕ) (xs : List (List ℕ)) (p : List ℕ) (k : ℕ) (c : Cause) → Accepts v m xs p → Refuses v m k c → ⊥

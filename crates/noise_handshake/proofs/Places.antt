@@ -44,9 +44,11 @@ module _ (plan : Plan) where
       || (occurs Ss earlier || is_at Ss p.step) || (occurs Psk earlier || is_at Psk p.step) || (has_psk plan && (occurs E earlier || is_at E p.step)))
   by_parts earlier p = simp occurs-more
 
-  has_key-token : (earlier : List Place) (party : Role) (t : Token) (m i : ℕ) → has_key plan (earlier ++ place party (does t) m i ∷ []) ≡ keyed_behind (has_psk plan) (has_key plan earlier) t
+  has_key-token : (earlier : List Place) (party : Role) (t : Token) (m i : ℕ)
+      → has_key plan (earlier ++ place party (does t) m i ∷ []) ≡ keyed_behind (has_psk plan) (has_key plan earlier) t
   has_key-token earlier party E m i =
-      by_parts earlier (place party (does E) m i) ∙ simp or-false (by_ephemeral (has_psk plan) (occurs Ee earlier || occurs Es earlier || occurs Se earlier || occurs Ss earlier || occurs Psk earlier) (occurs E earlier))
+      by_parts earlier (place party (does E) m i) ∙ simp or-false
+      (by_ephemeral (has_psk plan) (occurs Ee earlier || occurs Es earlier || occurs Se earlier || occurs Ss earlier || occurs Psk earlier) (occurs E earlier))
   has_key-token earlier party S m i = by_parts earlier (place party (does S) m i) ∙ simp or-false
   has_key-token earlier party Ee m i = by_parts earlier (place party (does Ee) m i) ∙ simp (or-false, or-true)
   has_key-token earlier party Es m i = by_parts earlier (place party (does Es) m i) ∙ simp (or-false, or-true)
@@ -58,7 +60,8 @@ module _ (plan : Plan) where
   has_key-payload earlier party m i = by_parts earlier (place party payload m i) ∙ simp or-false
 
   -- behind the tokens of a message
-  has_key-tokens : (earlier : List Place) (party : Role) (m i : ℕ) (ts : List Token) → has_key plan (earlier ++ token_places party m i ts) ≡ keyed_behind_tokens (has_psk plan) (has_key plan earlier) ts
+  has_key-tokens : (earlier : List Place) (party : Role) (m i : ℕ) (ts : List Token)
+      → has_key plan (earlier ++ token_places party m i ts) ≡ keyed_behind_tokens (has_psk plan) (has_key plan earlier) ts
   has_key-tokens earlier party m i [] = ap (has_key plan) (append-nil earlier)
   has_key-tokens earlier party m i (t ∷ ts) =
       let here : List Place = earlier ++ place party (does t) m i ∷ [] in
@@ -66,7 +69,8 @@ module _ (plan : Plan) where
       ∙ has_key-tokens here party m (i + 1) ts ∙ ap (λ (b : Bool). keyed_behind_tokens (has_psk plan) b ts) (has_key-token earlier party t m i)
 
   -- behind a message
-  has_key-message : (earlier : List Place) (party : Role) (n : ℕ) (ts : List Token) → has_key plan (earlier ++ message_places party n (ts ∷ [])) ≡ keyed_behind_tokens (has_psk plan) (has_key plan earlier) ts
+  has_key-message : (earlier : List Place) (party : Role) (n : ℕ) (ts : List Token)
+      → has_key plan (earlier ++ message_places party n (ts ∷ [])) ≡ keyed_behind_tokens (has_psk plan) (has_key plan earlier) ts
   has_key-message earlier party n ts =
       ap (has_key plan) (sym (append_assoc earlier (token_places party n 0 ts) (place party payload n (length ts) ∷ [])))
       ∙ has_key-payload (earlier ++ token_places party n 0 ts) party n (length ts) ∙ has_key-tokens earlier party n 0 ts
@@ -92,7 +96,8 @@ module _ (plan : Plan) where
       omega (arith, added-token earlier t, later)
 
   -- what the pre-messages make of it
-  pub has_key-start : has_key plan (passed_places plan 0) ≡ keyed_behind_tokens (has_psk plan) (keyed_behind_tokens (has_psk plan) false plan.initiator) plan.responder
+  pub has_key-start : has_key plan (passed_places plan 0) ≡ keyed_behind_tokens (has_psk plan)
+      (keyed_behind_tokens (has_psk plan) false plan.initiator) plan.responder
   has_key-start =
       let first : List Place = token_places Initiator 0 0 plan.initiator in
       ap (has_key plan) (append-nil (first ++ token_places Responder 0 0 plan.responder))
@@ -101,7 +106,8 @@ module _ (plan : Plan) where
       (has_key-tokens [] Initiator 0 0 plan.initiator ∙ ap (λ (b : Bool). keyed_behind_tokens (has_psk plan) b plan.initiator) (and-false (has_psk plan)))
 
   -- what a message makes of it
-  pub has_key-passed : (n : ℕ) → n < length plan.messages → has_key plan (passed_places plan (n + 1)) ≡ keyed_behind_tokens (has_psk plan) (has_key plan (passed_places plan n)) (tokens_at plan.messages n)
+  pub has_key-passed : (n : ℕ) → n < length plan.messages
+      → has_key plan (passed_places plan (n + 1)) ≡ keyed_behind_tokens (has_psk plan) (has_key plan (passed_places plan n)) (tokens_at plan.messages n)
   has_key-passed n h =
       let m : List Token = tokens_at plan.messages n in
       let before : List (List Token) = take n plan.messages in
@@ -115,7 +121,8 @@ module _ (plan : Plan) where
       ∙ has_key-message (passed_places plan n) party (1 + length before) m
 
   -- the overhead of message n + 1 is what its tokens and tags add
-  pub overhead-is : (n : ℕ) → n < length plan.messages → overhead_of plan (n + 1) ≡ added_width (has_psk plan) (has_key plan (passed_places plan n)) (tokens_at plan.messages n)
+  pub overhead-is : (n : ℕ) → n < length plan.messages
+      → overhead_of plan (n + 1) ≡ added_width (has_psk plan) (has_key plan (passed_places plan n)) (tokens_at plan.messages n)
   overhead-is n h =
       let m : List Token = tokens_at plan.messages n in
       let whole : ℕ → List Token → ℕ =

@@ -12,9 +12,11 @@ first_secret-read [] = refl
 first_secret-read (x ∷ xs) = refl
 
 -- what a psk token is read as
-pub psk-read : {St : Type 0} (stands : St → History → Type 0) (state : St) (v : Reader) (known : Remote) (secrets : List (List ℕ)) (r : History) (t : Token) (m k : List ℕ)
+pub psk-read : {St : Type 0} (stands : St → History → Type 0) (state : St) (v : Reader) (known : Remote) (secrets : List (List ℕ)) (r : History)
+    (t : Token) (m k : List ℕ)
     → t ≡ Psk → k ≡ first_secret secrets → stands state (and_then r (KeyHash k))
     → (x : List ℕ) × Fits v known secrets t x × (m ≡ token_piece r t x ++ m) × stands state (behind_token v.psks r t x) × (known ≡ known_behind known t x)
 psk-read stands state v known secrets r t m k e f h =
-    subst (λ (u : Token). (x : List ℕ) × Fits v known secrets u x × (m ≡ token_piece r u x ++ m) × stands state (behind_token v.psks r u x) × (known ≡ known_behind known u x))
+    subst (λ (u : Token). (x : List ℕ) × Fits v known secrets u x × (m ≡ token_piece r u x ++ m) × stands state (behind_token v.psks r u x)
+    × (known ≡ known_behind known u x))
     (sym e) (k, f, refl, h, refl)

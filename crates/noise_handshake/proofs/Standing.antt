@@ -40,7 +40,8 @@ Told ended all ours (Some read.NotYourTurn) = (ended ≡ false) × (all ≡ fals
 Told ended all ours (Some (read.Refused token cause)) = ⊥
 Told ended all ours None = (ended ≡ false) × (all ≡ false) × (ours ≡ false)
 
-told : (ended all ours : Bool) → Told ended all ours (if ended then Some read.Ended else if all then Some read.Done else if ours then Some read.NotYourTurn else None)
+told : (ended all ours : Bool)
+    → Told ended all ours (if ended then Some read.Ended else if all then Some read.Done else if ours then Some read.NotYourTurn else None)
 told true all ours = refl
 told false true ours = (refl, refl)
 told false false true = (refl, refl, refl)
@@ -50,11 +51,13 @@ told false false false = (refl, refl, refl)
 pub due : {K : Type 0} (h : Held K) → h.passed ≤ length h.pattern.messages → read_fault h ≡ None → h.passed < length h.pattern.messages
 due h w e =
     let t : Told h.ended (h.passed == length h.pattern.messages) (is_turn h.role h.passed) None =
-    subst (Told h.ended (h.passed == length h.pattern.messages) (is_turn h.role h.passed)) e (told h.ended (h.passed == length h.pattern.messages) (is_turn h.role h.passed)) in
+    subst (Told h.ended (h.passed == length h.pattern.messages) (is_turn h.role h.passed)) e
+    (told h.ended (h.passed == length h.pattern.messages) (is_turn h.role h.passed)) in
     let unequal : (h.passed == length h.pattern.messages) ≡ false = t.1 in
     grind (arith, nat_tests)
 
-module _ {K : Type 0} (public_of : K → Own → Option (List ℕ)) (agreement : K → Own → List ℕ → Option (List ℕ)) (h : Held K) (v : View) (s : Stands public_of agreement h v) where
+module _ {K : Type 0} (public_of : K → Own → Option (List ℕ)) (agreement : K → Own → List ℕ → Option (List ℕ)) (h : Held K) (v : View)
+    (s : Stands public_of agreement h v) where
   going : h.ended ≡ false → v.ended ≡ false
   going e = sym s.ended ∙ e
 
@@ -64,19 +67,22 @@ module _ {K : Type 0} (public_of : K → Own → Option (List ℕ)) (agreement :
       subst (λ (k : ℕ). k < length v.pattern.messages) s.passed (subst (λ (p : Plan). h.passed < length p.messages) s.pattern less)
 
   turn : (b : Bool) → is_turn h.role h.passed ≡ b → same_role (turn_from Initiator v.passed) v.role ≡ b
-  turn b e = ap (λ (k : ℕ). same_role (turn_from Initiator k) v.role) (sym s.passed) ∙ ap (λ (r : Role). same_role (turn_from Initiator h.passed) r) (sym s.role) ∙ e
+  turn b e = ap (λ (k : ℕ). same_role (turn_from Initiator k) v.role) (sym s.passed)
+      ∙ ap (λ (r : Role). same_role (turn_from Initiator h.passed) r) (sym s.role) ∙ e
 
   -- a message of the other party is due
   pub listens : h.passed ≤ length h.pattern.messages → read_fault h ≡ None → Listens v
   listens w e =
       let t : Told h.ended (h.passed == length h.pattern.messages) (is_turn h.role h.passed) None =
-      subst (Told h.ended (h.passed == length h.pattern.messages) (is_turn h.role h.passed)) e (told h.ended (h.passed == length h.pattern.messages) (is_turn h.role h.passed)) in
+      subst (Told h.ended (h.passed == length h.pattern.messages) (is_turn h.role h.passed)) e
+      (told h.ended (h.passed == length h.pattern.messages) (is_turn h.role h.passed)) in
       record { going = going t.0; more = few w t.1; turn = other-role (turn_from Initiator v.passed) v.role (turn false t.2) }
 
   pub tokens-are : tokens_at h.pattern.messages h.passed ≡ tokens_now v
   tokens-are = ap (λ (p : Plan). tokens_at p.messages h.passed) s.pattern ∙ ap (λ (k : ℕ). tokens_at v.pattern.messages k) s.passed
 
-  pub listening : (psks : Bool) (secrets : List (List ℕ)) (tokens : List Token) → Listens v → psks ≡ has_psk h.pattern → secrets ≡ h.secrets → tokens ≡ tokens_now v
+  pub listening : (psks : Bool) (secrets : List (List ℕ)) (tokens : List Token) → Listens v → psks ≡ has_psk h.pattern → secrets ≡ h.secrets
+      → tokens ≡ tokens_now v
       → Listening v h.role psks (agreement h.keys) secrets h.remote tokens
   listening psks secrets tokens l b d e = record {
     listens = l;
@@ -88,8 +94,10 @@ module _ {K : Type 0} (public_of : K → Own → Option (List ℕ)) (agreement :
     tokens_are = e;
   }
 
-  pub behind : (psks : Bool) (tokens : List Token) (xs : List (List ℕ)) (payload : List ℕ) (state : SymmetricState) (remote : Remote) (secrets : List (List ℕ)) (passed : ℕ) → psks ≡ has_psk h.pattern → tokens ≡ tokens_now v
-      → secrets ≡ drop (count_by is_psk tokens) h.secrets → passed ≡ h.passed + 1 → StateStands state (behind_line psks v.history tokens xs payload) → remote ≡ learned v.remote tokens xs
+  pub behind : (psks : Bool) (tokens : List Token) (xs : List (List ℕ)) (payload : List ℕ) (state : SymmetricState) (remote : Remote)
+      (secrets : List (List ℕ)) (passed : ℕ) → psks ≡ has_psk h.pattern → tokens ≡ tokens_now v
+      → secrets ≡ drop (count_by is_psk tokens) h.secrets → passed ≡ h.passed + 1 → StateStands state (behind_line psks v.history tokens xs payload)
+      → remote ≡ learned v.remote tokens xs
       → Stands public_of agreement (record h { state = state; remote = remote; secrets = secrets; passed = passed }) (behind_message v xs payload)
   behind psks tokens xs payload state remote secrets passed b e u n k m = record {
     pattern = s.pattern;
@@ -100,7 +108,8 @@ module _ {K : Type 0} (public_of : K → Own → Option (List ℕ)) (agreement :
     remote = m ∙ ap (λ (ts : List Token). learned v.remote ts xs) e;
     passed = n ∙ ap (λ (i : ℕ). i + 1) s.passed;
     ended = s.ended;
-    history = subst (λ (ts : List Token). StateStands state (behind_line (has_psk v.pattern) v.history ts xs payload)) e (subst (λ (z : Bool). StateStands state (behind_line z v.history tokens xs payload)) (b ∙ ap has_psk s.pattern) k);
+    history = subst (λ (ts : List Token). StateStands state (behind_line (has_psk v.pattern) v.history ts xs payload)) e
+        (subst (λ (z : Bool). StateStands state (behind_line z v.history tokens xs payload)) (b ∙ ap has_psk s.pattern) k);
   }
 
   -- it has ended
@@ -125,7 +134,8 @@ module _ (v : View) (role : Role) (psks : Bool) (agree : Own → List ℕ → Op
   for-view P h =
       let h1 = subst (λ (z : Role). P (record { role = z; psks = psks; agree = agree }) known secrets tokens) l.role_is h in
       let h2 = subst (λ (z : Bool). P (record { role = v.role; psks = z; agree = agree }) known secrets tokens) l.psks_is h1 in
-      let h3 = subst (λ (z : Own → List ℕ → Option (List ℕ)). P (record { role = v.role; psks = has_psk v.pattern; agree = z }) known secrets tokens) l.agree_is h2 in
+      let h3 = subst (λ (z : Own → List ℕ → Option (List ℕ)). P (record { role = v.role; psks = has_psk v.pattern; agree = z }) known secrets tokens)
+      l.agree_is h2 in
       let h4 = subst (λ (z : Remote). P (reader v) z secrets tokens) l.known_is h3 in
       let h5 = subst (λ (z : List (List ℕ)). P (reader v) v.remote z tokens) l.secrets_are h4 in
       subst (λ (ts : List Token). P (reader v) v.remote v.secrets ts) l.tokens_are h5
@@ -138,5 +148,6 @@ module _ (v : View) (role : Role) (psks : Bool) (agree : Own → List ℕ → Op
     reads = for-view (λ w k s ts. Reads w k s v.history ts m xs payload) h;
   }
 
-  pub refused : (m : List ℕ) (k : ℕ) (cause : Cause) → Stops (record { role = role; psks = psks; agree = agree }) known secrets v.history tokens m k cause → Refuses v m k cause
+  pub refused : (m : List ℕ) (k : ℕ) (cause : Cause)
+      → Stops (record { role = role; psks = psks; agree = agree }) known secrets v.history tokens m k cause → Refuses v m k cause
   refused m k cause h = record { listens = l.listens; stops = for-view (λ w z s ts. Stops w z s v.history ts m k cause) h }

@@ -32,7 +32,8 @@ at_most_one n places = by (list_any (λ m. eqb m n) places) where
   by false = omega arith
 
 -- a message has a psk token at each of its ends at most, in front only message 1
-few_in : (places : List ℕ) (n : ℕ) (ts : List Token) (front : Bool) (b : ℕ) → eqb n 1 ≡ front → cond front 1 0 ≡ b → ts ≡ with_psk_tokens places n (own_tokens ts) → count_by is_psk ts ≤ 1 + b
+few_in : (places : List ℕ) (n : ℕ) (ts : List Token) (front : Bool) (b : ℕ) → eqb n 1 ≡ front → cond front 1 0 ≡ b
+    → ts ≡ with_psk_tokens places n (own_tokens ts) → count_by is_psk ts ≤ 1 + b
 few_in places n ts front b e f h =
     let first : List Token = cond (eqb n 1) (psk_if 0 places) [] in
     let sum : count_by is_psk ts ≡ (count_by is_psk first + count_by is_psk (own_tokens ts)) + count_by is_psk (psk_if n places) =
@@ -63,7 +64,11 @@ second false b h = cc
 -- a pattern takes at most 9 secrets
 pub few-secrets : (p : Plan) → IsPattern p → secrets_of p.messages ≤ 9
 few-secrets p h =
-    omega (arith, all-few p.places p.messages h.psks.tokens, leb-true (length p.messages) 8 (second (nat_le 1 (length p.messages)) (nat_le (length p.messages) 8) h.count))
+    omega (
+      arith,
+      all-few p.places p.messages h.psks.tokens,
+      leb-true (length p.messages) 8 (second (nat_le 1 (length p.messages)) (nat_le (length p.messages) 8) h.count),
+    )
 
 -- ---- the key behind a pre-message
 
@@ -80,7 +85,8 @@ some false true = refl
 some false false = refl
 
 -- in a psk pattern an e gives one
-pub pre-keyed : (psks k : Bool) (ts : List Token) → IsTrue (is_pre_message ts) → (k || (psks && list_any (λ t. same_token t E) ts)) ≡ keyed_behind_tokens psks k ts
+pub pre-keyed : (psks k : Bool) (ts : List Token) → IsTrue (is_pre_message ts)
+    → (k || (psks && list_any (λ t. same_token t E) ts)) ≡ keyed_behind_tokens psks k ts
 pre-keyed psks k [] h = none psks k
 pre-keyed psks k (E ∷ []) h = some psks k
 pre-keyed psks k (S ∷ []) h = none psks k

@@ -52,12 +52,14 @@ pub why-tag : (r : History) (m : List ℕ) (n : ℕ) → n ≡ width_of_key r �
 why-tag r m n e h = let t : nat_lt (length m) (width_of_key r) ≡ false = let l : width_of_key r ≤ length m = omega arith in search rules in rw t refl
 
 -- the first bytes are none
-pub wrong-key : (r : History) (m : List ℕ) (n : ℕ) → n ≡ width_of_key r → ((x : List ℕ) → take n m ≡ piece r x → ⊥) → (x rest : List ℕ) → length x ≡ 32 → m ≡ piece r x ++ rest → ⊥
+pub wrong-key : (r : History) (m : List ℕ) (n : ℕ) → n ≡ width_of_key r → ((x : List ℕ) → take n m ≡ piece r x → ⊥) → (x rest : List ℕ)
+    → length x ≡ 32 → m ≡ piece r x ++ rest → ⊥
 wrong-key r m n e bad x rest f s =
     bad x (ap (λ (k : ℕ). take k m) (e ∙ sym (length-key r x f)) ∙ ap (take (length (piece r x))) s ∙ take-append_seam (piece r x) rest)
 
 -- what was opened fills the first 32 bytes
-pub opened-key : (r : History) (old new : List ℕ) (n : ℕ) → length old ≡ width_of_key r → length new ≡ length old → n ≤ length new → old ≡ piece r (take n new) → take n new ≡ take 32 new
+pub opened-key : (r : History) (old new : List ℕ) (n : ℕ) → length old ≡ width_of_key r → length new ≡ length old → n ≤ length new
+    → old ≡ piece r (take n new) → take n new ≡ take 32 new
 opened-key r old new n w same h e =
     let l : length (take n new) ≡ 32 = length-of_key r (take n new) (ap length (sym e) ∙ w) in
     let k : n ≡ 32 = omega (arith, length-take n new) in

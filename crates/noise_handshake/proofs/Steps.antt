@@ -1,5 +1,6 @@
 -- The steps of reading, as the code's values have them.
-use Rattle.std.proofs.Common.{◌≡◌, ℕ, suc, ◌+◌, ◌-◌, ◌<◌, ◌≤◌, List, [], ◌∷◌, ◌++◌, length, take, drop, refl, ap, sym, subst, ◌∙◌, arith, add-one, drop-drop, length-take}
+use Rattle.std.proofs.Common.{◌≡◌, ℕ, suc, ◌+◌, ◌-◌, ◌<◌, ◌≤◌, List, [], ◌∷◌, ◌++◌, length, take, drop, refl, ap, sym, subst, ◌∙◌, arith, add-one}
+use Rattle.std.proofs.Common.{drop-drop, length-take}
 use Rattle.std.proofs.lemmas.List.{take-append-le}
 use Rattle.std.proofs.Math.Seq.{drop-append_seam}
 use Rattle.std.specs.Prelude.{is_some}
@@ -31,7 +32,8 @@ written-at m buf post n len h b =
 module _ (v : Reader) (known known2 : Remote) (secrets secrets2 : List (List ℕ)) (r : History) (tokens ts : List Token) (t : Token) (x m m2 : List ℕ) (n : ℕ)
     (split : tokens ≡ t ∷ ts) (fits : Fits v known secrets t x) (spelled : m ≡ token_piece r t x ++ drop n m)
     (knows : known2 ≡ known_behind known t x) (holds : secrets2 ≡ secrets_behind secrets t) (goes : m2 ≡ drop n m) where
-  pub led : (xs : List (List ℕ)) (k : ℕ) → Leads v known2 secrets2 (behind_token v.psks r t x) ts xs m2 (drop k m2) → Leads v known secrets r tokens (x ∷ xs) m (drop (n + k) m)
+  pub led : (xs : List (List ℕ)) (k : ℕ) → Leads v known2 secrets2 (behind_token v.psks r t x) ts xs m2 (drop k m2)
+      → Leads v known secrets r tokens (x ∷ xs) m (drop (n + k) m)
   led xs k l =
       let l1 = subst (λ (z : Remote). Leads v z secrets2 (behind_token v.psks r t x) ts xs m2 (drop k m2)) knows l in
       let l2 = subst (λ (z : List (List ℕ)). Leads v (known_behind known t x) z (behind_token v.psks r t x) ts xs m2 (drop k m2)) holds l1 in
@@ -43,7 +45,8 @@ module _ (v : Reader) (known known2 : Remote) (secrets secrets2 : List (List ℕ
   pub learned-on : (xs : List (List ℕ)) (known3 : Remote) → known3 ≡ learned known2 ts xs → known3 ≡ learned known tokens (x ∷ xs)
   learned-on xs known3 e = e ∙ ap (λ (z : Remote). learned z ts xs) knows ∙ ap (λ (us : List Token). learned known us (x ∷ xs)) (sym split)
 
-  pub stopped-later : (k : ℕ) (cause : Cause) → k < length ts → Stops v known2 secrets2 (behind_token v.psks r t x) ts m2 k cause → Stops v known secrets r tokens m (k + 1) cause
+  pub stopped-later : (k : ℕ) (cause : Cause) → k < length ts → Stops v known2 secrets2 (behind_token v.psks r t x) ts m2 k cause
+      → Stops v known secrets r tokens m (k + 1) cause
   stopped-later k cause h s =
       let l1 = subst (λ (z : Remote). Stops v z secrets2 (behind_token v.psks r t x) ts m2 k cause) knows s in
       let l2 = subst (λ (z : List (List ℕ)). Stops v (known_behind known t x) z (behind_token v.psks r t x) ts m2 k cause) holds l1 in
@@ -53,8 +56,10 @@ module _ (v : Reader) (known known2 : Remote) (secrets secrets2 : List (List ℕ
       rw add-one l5
 
 -- no tokens
-pub led-none : (v : Reader) (known : Remote) (secrets : List (List ℕ)) (r : History) (tokens : List Token) (m : List ℕ) (state : SymmetricState) → tokens ≡ [] → StateStands state r
+pub led-none : (v : Reader) (known : Remote) (secrets : List (List ℕ)) (r : History) (tokens : List Token) (m : List ℕ) (state : SymmetricState)
+    → tokens ≡ [] → StateStands state r
     → (xs : List (List ℕ)) × Leads v known secrets r tokens xs m m × StateStands state (behind_front v.psks r tokens xs) × (known ≡ learned known tokens xs)
 led-none v known secrets r tokens m state e s =
-    subst (λ (ts : List Token). (xs : List (List ℕ)) × Leads v known secrets r ts xs m m × StateStands state (behind_front v.psks r ts xs) × (known ≡ learned known ts xs))
+    subst (λ (ts : List Token). (xs : List (List ℕ)) × Leads v known secrets r ts xs m m × StateStands state (behind_front v.psks r ts xs)
+    × (known ≡ learned known ts xs))
     (sym e) ([], leads-none v known secrets r m, s, refl)

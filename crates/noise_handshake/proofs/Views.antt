@@ -9,7 +9,8 @@ tokens_at-read (ts ∷ ms) zero d h = refl
 tokens_at-read (ts ∷ ms) (suc i) d h = tokens_at-read ms i d (omega arith)
 
 -- the tokens that were read at an index
-pub tokens_at-index : (tokens at : List Token) (ms all : List (List Token)) (i : ℕ) → tokens ≡ at → at ≡ get_or ms i at → ms ≡ all → i < length all → tokens ≡ tokens_at all i
+pub tokens_at-index : (tokens at : List Token) (ms all : List (List Token)) (i : ℕ) → tokens ≡ at → at ≡ get_or ms i at → ms ≡ all → i < length all
+    → tokens ≡ tokens_at all i
 tokens_at-index tokens at ms all i e f h due = e ∙ f ∙ ap (λ (zs : List (List Token)). get_or zs i at) h ∙ tokens_at-read all i at due
 
 -- the items from one on, as a slice

@@ -41,7 +41,8 @@ record Clear (ended all ours long : Bool) : Type 0 where
   short : long ≡ false
 
 clear : (ended all ours long : Bool)
-    → (if ended then Some write.Ended else if all then Some write.Done else if not ours then Some write.NotYourTurn else if long then Some write.TooLong else None) ≡ None
+    → (if ended then Some write.Ended else if all then Some write.Done else if not ours then Some write.NotYourTurn
+    else if long then Some write.TooLong else None) ≡ None
     → Clear ended all ours long
 clear true all ours long e = absurd (cc)
 clear false true ours long e = absurd (cc)
@@ -55,7 +56,10 @@ module _ {K : Type 0} (public_of : K → Own → Option (List ℕ)) (h : Held K)
 
   -- there is a message, of this party
   pub writes-due : h.passed < length h.pattern.messages
-  writes-due = let unequal : (h.passed == length h.pattern.messages) ≡ false = clear-now.more in let most : h.passed ≤ length h.pattern.messages = s.within in grind (arith, nat_tests)
+  writes-due =
+      let unequal : (h.passed == length h.pattern.messages) ≡ false = clear-now.more in
+      let most : h.passed ≤ length h.pattern.messages = s.within in
+      grind (arith, nat_tests)
 
   pub writes-turn : turn_from Initiator h.passed ≡ h.role
   writes-turn = same-role (turn_from Initiator h.passed) h.role clear-now.turn
@@ -71,12 +75,14 @@ module _ {K : Type 0} (public_of : K → Own → Option (List ℕ)) (h : Held K)
     pub writes-added : added_width psks (keyed h.state) tokens ≡ overhead_of h.pattern (h.passed + 1)
     writes-added =
         ap (λ (c : Bool). added_width c (keyed h.state) tokens) b ∙ ap (λ (c : Bool). added_width (has_psk h.pattern) c tokens) s.keyed
-        ∙ ap (λ (ts : List Token). added_width (has_psk h.pattern) (has_key h.pattern (passed_places h.pattern h.passed)) ts) e ∙ sym (overhead-is h.pattern h.passed writes-due)
+        ∙ ap (λ (ts : List Token). added_width (has_psk h.pattern) (has_key h.pattern (passed_places h.pattern h.passed)) ts) e
+        ∙ sym (overhead-is h.pattern h.passed writes-due)
 
     -- with the keys of its own that it sends
     pub writes-own : IsTrue (list_all (has_own (public_of h.keys)) tokens)
     writes-own =
-        subst (λ (ts : List Token). IsTrue (list_all (has_own (public_of h.keys)) ts)) (sym e) (owned (public_of h.keys) h.pattern h.role h.passed writes-turn s.has_e s.has_s)
+        subst (λ (ts : List Token). IsTrue (list_all (has_own (public_of h.keys)) ts)) (sym e)
+        (owned (public_of h.keys) h.pattern h.role h.passed writes-turn s.has_e s.has_s)
 
   module _ (agreement : K → Own → List ℕ → Option (List ℕ)) (v : View) (t : Stands public_of agreement h v) where
     speaks : Speaks v
@@ -101,10 +107,12 @@ module _ {K : Type 0} (public_of : K → Own → Option (List ℕ)) (h : Held K)
 
     -- the view's message has that length too
     pub short-view : overhead_of v.pattern (v.passed + 1) + len ≤ 65535
-    short-view = subst (λ (k : ℕ). overhead_of v.pattern (k + 1) + len ≤ 65535) t.passed (subst (λ (p : Plan). overhead_of p (h.passed + 1) + len ≤ 65535) t.pattern writes-short)
+    short-view = subst (λ (k : ℕ). overhead_of v.pattern (k + 1) + len ≤ 65535) t.passed
+        (subst (λ (p : Plan). overhead_of p (h.passed + 1) + len ≤ 65535) t.pattern writes-short)
 
     -- behind a message of its own
-    pub wrote : (psks : Bool) (tokens : List Token) (xs : List (List ℕ)) (payload : List ℕ) (state : SymmetricState) (secrets : List (List ℕ)) (passed : ℕ) → psks ≡ has_psk h.pattern → tokens ≡ tokens_now v
+    pub wrote : (psks : Bool) (tokens : List Token) (xs : List (List ℕ)) (payload : List ℕ) (state : SymmetricState) (secrets : List (List ℕ))
+        (passed : ℕ) → psks ≡ has_psk h.pattern → tokens ≡ tokens_now v
         → secrets ≡ drop (count_by is_psk tokens) h.secrets → passed ≡ h.passed + 1 → StateStands state (behind_line psks v.history tokens xs payload)
         → Stands public_of agreement (record h { state = state; secrets = secrets; passed = passed }) (behind_own v xs payload)
     wrote psks tokens xs payload state secrets passed b e u n k = record {
@@ -116,29 +124,36 @@ module _ {K : Type 0} (public_of : K → Own → Option (List ℕ)) (h : Held K)
       remote = t.remote;
       passed = n ∙ ap (λ (i : ℕ). i + 1) t.passed;
       ended = t.ended;
-      history = subst (λ (ts : List Token). StateStands state (behind_line (has_psk v.pattern) v.history ts xs payload)) e (subst (λ (z : Bool). StateStands state (behind_line z v.history tokens xs payload)) (b ∙ ap has_psk t.pattern) k);
+      history = subst (λ (ts : List Token). StateStands state (behind_line (has_psk v.pattern) v.history ts xs payload)) e
+          (subst (λ (z : Bool). StateStands state (behind_line z v.history tokens xs payload)) (b ∙ ap has_psk t.pattern) k);
     }
 
 -- what holds of a party's parts holds of the view that it speaks for
-module _ (v : View) (role : Role) (psks : Bool) (own : Own → Option (List ℕ)) (agree : Own → List ℕ → Option (List ℕ)) (secrets : List (List ℕ)) (known : Remote) (tokens : List Token)
+module _ (v : View) (role : Role) (psks : Bool) (own : Own → Option (List ℕ)) (agree : Own → List ℕ → Option (List ℕ)) (secrets : List (List ℕ))
+    (known : Remote) (tokens : List Token)
     (l : Speaking v role psks own agree secrets known tokens) where
-  for-view : (P : Writer → Remote → List (List ℕ) → List Token → Type 0) → P (record { role = role; psks = psks; own = own; agree = agree }) known secrets tokens
+  for-view : (P : Writer → Remote → List (List ℕ) → List Token → Type 0)
+      → P (record { role = role; psks = psks; own = own; agree = agree }) known secrets tokens
       → P (writer v) v.remote v.secrets (tokens_now v)
   for-view P h =
       let h1 = subst (λ (z : Role). P (record { role = z; psks = psks; own = own; agree = agree }) known secrets tokens) l.role_is h in
       let h2 = subst (λ (z : Bool). P (record { role = v.role; psks = z; own = own; agree = agree }) known secrets tokens) l.psks_is h1 in
-      let h3 = subst (λ (z : Own → Option (List ℕ)). P (record { role = v.role; psks = has_psk v.pattern; own = z; agree = agree }) known secrets tokens) l.own_is h2 in
-      let h4 = subst (λ (z : Own → List ℕ → Option (List ℕ)). P (record { role = v.role; psks = has_psk v.pattern; own = v.own; agree = z }) known secrets tokens) l.agree_is h3 in
+      let h3 = subst (λ (z : Own → Option (List ℕ)). P (record { role = v.role; psks = has_psk v.pattern; own = z; agree = agree }) known secrets
+      tokens) l.own_is h2 in
+      let h4 = subst (λ (z : Own → List ℕ → Option (List ℕ)). P (record { role = v.role; psks = has_psk v.pattern; own = v.own; agree = z }) known
+      secrets tokens) l.agree_is h3 in
       let h5 = subst (λ (z : Remote). P (writer v) z secrets tokens) l.known_is h4 in
       let h6 = subst (λ (z : List (List ℕ)). P (writer v) v.remote z tokens) l.secrets_are h5 in
       subst (λ (ts : List Token). P (writer v) v.remote v.secrets ts) l.tokens_are h6
 
   pub written : (payload : List ℕ) (xs : List (List ℕ)) (m : List ℕ) → length m ≤ 65535
-      → Given (record { role = role; psks = psks; own = own; agree = agree }) known secrets tokens xs → m ≡ line psks v.history tokens xs payload → Writes v payload xs m
+      → Given (record { role = role; psks = psks; own = own; agree = agree }) known secrets tokens xs → m ≡ line psks v.history tokens xs payload
+      → Writes v payload xs m
   written payload xs m fits g e = record {
     speaks = l.speaks;
     given = for-view (λ w z s ts. Given w z s ts xs) g;
-    spelled = e ∙ ap (λ (z : Bool). line z v.history tokens xs payload) l.psks_is ∙ ap (λ (ts : List Token). line (has_psk v.pattern) v.history ts xs payload) l.tokens_are;
+    spelled = e ∙ ap (λ (z : Bool). line z v.history tokens xs payload) l.psks_is
+        ∙ ap (λ (ts : List Token). line (has_psk v.pattern) v.history ts xs payload) l.tokens_are;
     fits = fits;
   }
 

@@ -1,7 +1,8 @@
 //! A handshake of one party.
 #![tactic(auto)]
 
-ghost use Rattle.std.specs.Prelude.{◌≡◌, ◌≤◌, ◌<◌, ◌+◌, ◌-◌, true, false, ℕ, List, ◌↔◌, length, take, drop, slice_range, Some, None, IsOk, IfOk, IfErr, OnErr, MatchResult, MatchOption};
+ghost use Rattle.std.specs.Prelude.{◌≡◌, ◌≤◌, ◌<◌, ◌+◌, ◌-◌, true, false, ℕ, List, ◌↔◌, length, take, drop, slice_range, Some, None, IsOk, IfOk};
+ghost use Rattle.std.specs.Prelude.{IfErr, OnErr, MatchResult, MatchOption};
 ghost use Rattle.std.specs.Option.{ForSome};
 
 use crate::layout::{MessageLayout, lay_out};
@@ -69,7 +70,8 @@ impl<K: Keys> Model for Handshake<K> {
       ended = a.ended;
       state = a.state;
     } in
-        (a.psks ≡ has_psk a.pattern) × (a.used ≤ length a.secrets.items) × IsSound K.public_of h × KnowsRemote h × LaysOut a.pattern a.layout.items × IsValid a.pattern };
+        (a.psks ≡ has_psk a.pattern) × (a.used ≤ length a.secrets.items) × IsSound K.public_of h × KnowsRemote h × LaysOut a.pattern a.layout.items
+        × IsValid a.pattern };
 }
 
 impl<K: Keys> Handshake<K> {
@@ -77,12 +79,12 @@ impl<K: Keys> Handshake<K> {
     ghost use Rattle.noise_names.specs.Validity.{IsValid};
     ghost use Rattle.noise_state.specs.History.{hash};
     ghost use Rattle.noise_names.specs.Plan.{has_psk};
-    ghost use Rattle.noise_names.specs.Validity.{IsValid};
     ghost use Rattle.noise_names.specs.Overhead.{has_key, overhead_of};
     ghost use Rattle.noise_handshake.specs.Passed.{passed_places};
     ghost use Rattle.noise_handshake.specs.inner.Layout.{IsLaid};
     ghost use Rattle.noise_handshake.specs.View.{View, Accepts, tokens_at};
-    ghost use Rattle.noise_handshake.specs.Held.{is_turn, read_fault, behind_read_fault, write_fault, behind_write_fault, message_len_of, IsRefusal, IsAgreement, Advances};
+    ghost use Rattle.noise_handshake.specs.Held.{is_turn, read_fault, behind_read_fault, write_fault, behind_write_fault, message_len_of, IsRefusal};
+    ghost use Rattle.noise_handshake.specs.Held.{IsAgreement, Advances};
     ghost use Rattle.noise_handshake.specs.Opening.{Opens};
     ghost use Rattle.noise_handshake.specs.Setup.{begun, setup_fault};
     ghost use Rattle.noise_handshake.specs.Writing.{Writes};

@@ -13,13 +13,12 @@ use crate::setup::psk_count;
 use arrayvec::ArrayVec;
 use noise_names::{Message, Pattern, Token};
 
-// A token of a message: its place and its width in the message, in bytes, and whether there is a key when it comes.
+// A token of a message: its place and its width in the message, in bytes.
 #[derive(Clone, Copy, Default)]
 pub(crate) struct PlacedToken {
     pub(crate) token: Token,
     pub(crate) place: u16,
     pub(crate) width: u16,
-    pub(crate) keyed: bool,
 }
 
 // A message: its tokens, how much longer than its payload it is, in bytes, and how many secrets it takes.
@@ -77,7 +76,6 @@ fn place_tokens(
         token: *token,
         place,
         width,
-        keyed,
     });
     let behind = keyed_behind(psks, keyed, *token);
     place_tokens(later, psks, behind, place + width, placed)

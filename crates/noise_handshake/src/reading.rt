@@ -1,19 +1,19 @@
 //! Reading the tokens of a message.
 #![tactic(auto)]
 
-ghost use Rattle.std.specs.Prelude.{◌≡◌, ◌≤◌, ◌<◌, ◌+◌, ◌-◌, ◌*◌, ◌^◌, ◌++◌, ℕ, List, length, take, drop, count_by, is_some, Option, Some, None, MatchOption, MatchResult, IfOk, IfErr, OnOk, OnErr, slice_range, nat_lt, if◌then◌else◌, IsTrue, true};
+ghost use Rattle.std.specs.Prelude.{◌≡◌, ◌≤◌, ◌<◌, ◌+◌, ◌-◌, ◌*◌, ◌^◌, ◌++◌, ℕ, List, length, take, drop, count_by, is_some, Option, Some, None};
+ghost use Rattle.std.specs.Prelude.{MatchOption, MatchResult, IfOk, IfErr, OnOk, OnErr, slice_range, nat_lt, if◌then◌else◌, IsTrue, true};
 ghost use Rattle.noise_state.specs.Standing.{StateStands, keyed, nonce_now};
 ghost use Rattle.noise_state.specs.History.{History, Part, and_then, piece, cipher_key, nonce};
-ghost use Rattle.noise_handshake.specs.Line.{with_ephemeral, token_piece, behind_token, front, behind_front, behind_line};
+ghost use Rattle.noise_handshake.specs.Line.{with_ephemeral, token_piece, behind_token, behind_front, behind_line};
 ghost use Rattle.noise_handshake.specs.inner.Known.{is_known, are_known, e_behind, s_behind, e_behind_tokens, s_behind_tokens};
 ghost use Rattle.noise_handshake.specs.Length.{keyed_behind, keyed_behind_tokens, token_width};
-ghost use Rattle.noise_handshake.specs.View.{Reader, answered, own_at, remote_at, Fits, Fit, Leads, Reaches, Stops, known_behind, learned, Reads, cause_of, secrets_behind};
+ghost use Rattle.noise_handshake.specs.View.{Reader, Fits, Leads, Stops, known_behind, learned, Reads};
+ghost use Rattle.noise_handshake.specs.View.{cause_of, secrets_behind};
 ghost use Rattle.noise_handshake.specs.inner.Listening.{Fails, width_of_key};
 ghost use Rattle.noise_names.specs.declared.token.Token.{Token};
 ghost use Rattle.noise_handshake.specs.inner.Layout.{tokens_of, ArePlaced};
 ghost use Rattle.noise_names.specs.Tokens.{is_psk};
-ghost use Rattle.noise_names.specs.declared.token.Role.{Role};
-ghost use Rattle.noise_handshake.specs.declared.keys.Own.{Own};
 ghost use Rattle.noise_handshake.specs.declared.faults.Cause.TheVariants.{Short, Tag};
 
 use crate::layout::PlacedToken;

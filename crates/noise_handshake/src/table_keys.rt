@@ -1,7 +1,7 @@
 //! A toy whose answers are told beforehand.
 #![tactic(auto)]
 
-ghost use Rattle.std.specs.Prelude.{◌≡◌, ◌↔◌, ◌==◌, ◌<◌, ◌≤◌, [], ◌∷◌, ◌++◌, length, IsErr, OnOk, OnErr};
+ghost use Rattle.std.specs.Prelude.{◌≡◌, ◌↔◌, ◌==◌, ◌<◌, [], ◌∷◌, ◌++◌, length, IsErr, OnOk, OnErr};
 
 use crate::{Keys, Own};
 use arrayvec::ArrayVec;

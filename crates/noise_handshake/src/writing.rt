@@ -1,16 +1,16 @@
 //! Writing the tokens of a message.
 #![tactic(auto)]
 
-ghost use Rattle.std.specs.Prelude.{◌≡◌, ◌≤◌, ◌<◌, ◌+◌, ◌-◌, ◌^◌, ℕ, List, length, take, drop, count_by, IsTrue, MatchOption, MatchResult, IfSome, IfOk, is_some};
+ghost use Rattle.std.specs.Prelude.{◌≡◌, ◌≤◌, ◌<◌, ◌+◌, ◌-◌, ◌^◌, ℕ, List, length, take, drop, count_by, IsTrue, MatchOption, MatchResult, IfSome};
+ghost use Rattle.std.specs.Prelude.{IfOk, is_some};
 ghost use Rattle.std.specs.List.{list_all};
 ghost use Rattle.noise_state.specs.Standing.{StateStands, keyed, nonce_now};
 ghost use Rattle.noise_state.specs.History.{History, Part, and_then, piece};
 ghost use Rattle.noise_handshake.specs.Line.{token_piece, behind_token, front, behind_front, line, behind_line, with_ephemeral};
 ghost use Rattle.noise_handshake.specs.inner.Known.{is_known};
 ghost use Rattle.noise_handshake.specs.Length.{keyed_behind, keyed_behind_tokens, tag_width, token_width, tokens_width, added_width};
-ghost use Rattle.noise_handshake.specs.View.{View};
-ghost use Rattle.noise_handshake.specs.Writing.{Writer, Gives, Given, LacksAt, Writes, Lacks};
-ghost use Rattle.noise_handshake.specs.inner.Speaking.{Speaking, has_own};
+ghost use Rattle.noise_handshake.specs.Writing.{Writer, Gives, Given, LacksAt};
+ghost use Rattle.noise_handshake.specs.inner.Speaking.{has_own};
 ghost use Rattle.noise_names.specs.declared.token.Token.{Token};
 ghost use Rattle.noise_handshake.specs.inner.Layout.{tokens_of};
 ghost use Rattle.noise_names.specs.Tokens.{is_psk};

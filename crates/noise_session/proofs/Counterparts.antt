@@ -2,7 +2,7 @@
 use Rattle.std.proofs.Common.{◌≡◌, ◌≢◌, ℕ, suc, ◌+◌, ◌≤◌, List, [], ◌++◌, length, Option, Some, None, Result, Ok, Err, refl, ap, sym, subst, ◌∙◌, arith}
 use Rattle.std.proofs.lemmas.Bool.Decides.{nat_tests}
 use Rattle.std.proofs.lemmas.List.{append-nil}
-use Rattle.std.specs.Prelude.{Bool, true, false, not, ◌&&◌, ◌==◌, nat_lt, IsTrue, if◌then◌else◌}
+use Rattle.std.specs.Prelude.{Bool, true, false, ◌&&◌, ◌==◌, nat_lt, IsTrue, if◌then◌else◌}
 use Rattle.noise_names.specs.declared.token.Role.{Role}
 use Rattle.noise_names.specs.declared.token.Role.TheVariants.{Initiator, Responder}
 use Rattle.noise_names.specs.Tokens.{other, same_role}
@@ -21,7 +21,7 @@ use Rattle.noise_session.specs.Frames.{frame}
 use Rattle.noise_session.specs.Transport.{packet, transport_key, last_nonce}
 use Rattle.noise_session.specs.Steps.Told.{Payload}
 use Rattle.noise_session.specs.Progress.{Progress, is_open, idle_step, refusal}
-use Rattle.noise_session.specs.Progress.Progress.{Handshaking, Open}
+use Rattle.noise_session.specs.Progress.Progress.{Open}
 use Rattle.noise_session.specs.Ends.{EndView, progress_of}
 use Rattle.noise_session.specs.Counterparts.{EndCounterparts}
 use Rattle.noise_session.specs.Sending.{Sends}

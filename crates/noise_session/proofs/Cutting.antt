@@ -1,5 +1,6 @@
 -- Where a piece is cut makes no difference.
-use Rattle.std.proofs.Common.{◌≡◌, ℕ, ◌+◌, List, ◌++◌, length, Bool, true, false, ◌&&◌, Some, None, if◌then◌else◌, refl, sym, ◌∙◌, ap, subst, arith, append_assoc, length-append}
+use Rattle.std.proofs.Common.{◌≡◌, ℕ, ◌+◌, List, ◌++◌, length, Bool, true, false, ◌&&◌, Some, None, if◌then◌else◌, refl, sym, ◌∙◌, ap, subst, arith}
+use Rattle.std.proofs.Common.{append_assoc, length-append}
 use Rattle.noise_session.specs.Frames.{IsPartial}
 use Rattle.noise_session.specs.Steps.{Told}
 use Rattle.noise_session.specs.Steps.Told.{YourTurn, Silent, More}
@@ -39,7 +40,8 @@ judged-not v x m s e (opened _ _ p opens low is) = cc
 judged-not v x m s e (dropped _ _ opens low never) = cc
 judged-not v x m s e (exhausted _ _ opens last) = cc
 
-waited : (v x : EndView) (a : List ℕ) (m : ℕ) (s : Told) → s ≡ More → Takes v a m s x → (idle_step (progress_of v) ≡ None) × IsPartial (v.held ++ a) × (x ≡ holding v a)
+waited : (v x : EndView) (a : List ℕ) (m : ℕ) (s : Told) → s ≡ More → Takes v a m s x → (idle_step (progress_of v) ≡ None) × IsPartial (v.held ++ a)
+    × (x ≡ holding v a)
 waited v x a m s e (idles _ _ _ idle) = absurd (idles-not (progress_of v) (idle ∙ ap (λ (t : Told). Some t) e))
 waited v x a m s e (waits _ _ listens partial) = (listens, partial, refl)
 waited v x a m s e (judges _ _ _ message rest _ _ listens is short count j) = absurd (judged-not v x message s e j)
@@ -52,14 +54,16 @@ judged-held v y a m s (opened _ _ p opens low is) = opened v m p opens low is
 judged-held v y a m s (dropped _ _ opens low never) = dropped v m opens low never
 judged-held v y a m s (exhausted _ _ opens last) = exhausted v m opens last
 
-behind : (v y : EndView) (a b : List ℕ) (n : ℕ) (s : Told) → idle_step (progress_of v) ≡ None → Takes (holding v a) b n s y → Takes v (a ++ b) (length a + n) s y
+behind : (v y : EndView) (a b : List ℕ) (n : ℕ) (s : Told) → idle_step (progress_of v) ≡ None → Takes (holding v a) b n s y
+    → Takes v (a ++ b) (length a + n) s y
 behind v y a b n s listens (idles _ _ _ idle) = cc
 behind v y a b n s listens (waits _ _ still partial) =
     subst (λ (k : ℕ). Takes v (a ++ b) k More (record v { held = (v.held ++ a) ++ b })) (length-append a b)
     (subst (λ (h : List ℕ). Takes v (a ++ b) (length (a ++ b)) More (record v { held = h })) (sym (append_assoc v.held a b))
     (waits v (a ++ b) listens (subst (λ (h : List ℕ). IsPartial h) (append_assoc v.held a b) partial)))
 behind v y a b n s listens (judges _ _ _ message rest _ _ still is short count j) =
-    judges v y (a ++ b) message rest (length a + n) s listens (sym (append_assoc v.held a b) ∙ is) short (omega (arith, length-append a b)) (judged-held v y a message s j)
+    judges v y (a ++ b) message rest (length a + n) s listens (sym (append_assoc v.held a b) ∙ is) short (omega (arith, length-append a b))
+    (judged-held v y a message s j)
 
 -- what comes of a second part, behind a first that wasn't a whole frame, comes of both in one piece
 pub takes-joined : (v x y : EndView) (a b : List ℕ) (n : ℕ) (s : Told) → Takes v a (length a) More x → Takes x b n s y → Takes v (a ++ b) (length a + n) s y

@@ -26,6 +26,10 @@ pub frame-same : (m n r s : List ℕ) → length m ≤ 65535 → length n ≤ 65
 frame-same m n r s short other e =
     let long : length m ≡ length n = sym (number-frame m r short) ∙ (ap (big_number 2) e ∙ number-frame n s other) in
     let joined : big_bytes 2 (length m) ++ (m ++ r) ≡ big_bytes 2 (length m) ++ (n ++ s) =
-    sym (append_assoc (big_bytes 2 (length m)) m r) ∙ (e ∙ (append_assoc (big_bytes 2 (length n)) n s ∙ ap (λ (k : ℕ). big_bytes 2 k ++ (n ++ s)) (sym long))) in
-    let rest = append_cancel_left (big_bytes 2 (length m)) (m ++ r) (n ++ s) joined in
-    (sym (take_at m r (length m) refl) ∙ (ap (take (length m)) rest ∙ take_at n s (length m) (sym long)), sym (drop_at m r (length m) refl) ∙ (ap (drop (length m)) rest ∙ drop_at n s (length m) (sym long)))
+    sym (append_assoc (big_bytes 2 (length m)) m r)
+    ∙ (e ∙ (append_assoc (big_bytes 2 (length n)) n s ∙ ap (λ (k : ℕ). big_bytes 2 k ++ (n ++ s)) (sym long))) in
+    let rest = append_cancel_left (big_bytes 2 (length m)) (m ++ r) (n ++ s) joined in (
+      sym (take_at m r (length m) refl) ∙ (ap (take (length m)) rest ∙ take_at n s (length m) (sym long)),
+      sym (drop_at m r (length m) refl)
+          ∙ (ap (drop (length m)) rest ∙ drop_at n s (length m) (sym long)),
+    )

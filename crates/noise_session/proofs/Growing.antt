@@ -1,5 +1,6 @@
 -- What is known of a frame when bytes come to those that are held.
-use Rattle.std.proofs.Common.{◌≡◌, ◌≢◌, ℕ, ◌+◌, ◌-◌, ◌==◌, ◌<◌, ◌≤◌, nat_lt, List, ◌++◌, length, take, drop, Bool, true, false, refl, sym, ◌∙◌, ap, subst, arith, length-append, append_assoc}
+use Rattle.std.proofs.Common.{◌≡◌, ◌≢◌, ℕ, ◌+◌, ◌-◌, ◌==◌, ◌<◌, ◌≤◌, nat_lt, List, ◌++◌, length, take, drop, Bool, true, false, refl, sym, ◌∙◌, ap}
+use Rattle.std.proofs.Common.{subst, arith, length-append, append_assoc}
 use Rattle.std.proofs.lemmas.Bool.Decides.{nat_tests}
 use Rattle.std.proofs.lemmas.List.{take-take, take-append-le, length-take-le, take-append-drop, drop-take, take_rest}
 use Rattle.std.proofs.Math.Seq.{take-append-add}
@@ -18,7 +19,8 @@ length-long xs long = grind (arith, nat_tests)
 length-same : (xs ys : List ℕ) → 2 ≤ length xs → 2 ≤ length ys → take 2 xs ≡ take 2 ys → frame_length xs ≡ frame_length ys
 length-same xs ys long other same =
     length-long xs long
-    ∙ (ap (λ (k : ℕ). 2 + k) (sym (big_from-take 0 2 2 xs (omega arith)) ∙ (ap (big_number 2) same ∙ big_from-take 0 2 2 ys (omega arith))) ∙ sym (length-long ys other))
+    ∙ (ap (λ (k : ℕ). 2 + k) (sym (big_from-take 0 2 2 xs (omega arith)) ∙ (ap (big_number 2) same ∙ big_from-take 0 2 2 ys (omega arith)))
+    ∙ sym (length-long ys other))
 
 same-is : (a b : ℕ) → (a == b) ≡ true → a ≡ b
 same-is a b e = grind (arith, nat_tests)
@@ -33,7 +35,8 @@ above : (a b : ℕ) → nat_lt a b ≡ false → b ≤ a
 above a b e = grind (arith, nat_tests)
 
 -- So many bytes of p come to the first h of xs, of a frame of w, and those are then the first of ys, of a frame of u.
-module _ (xs ys p : List ℕ) (h n w u : ℕ) (joined : take (h + n) ys ≡ take h xs ++ p) (came : length p ≡ n) (room : h + n ≤ length xs) (kept_room : length ys ≡ length xs)
+module _ (xs ys p : List ℕ) (h n w u : ℕ) (joined : take (h + n) ys ≡ take h xs ++ p) (came : length p ≡ n) (room : h + n ≤ length xs)
+    (kept_room : length ys ≡ length xs)
     (known : w ≡ frame_length (take h xs)) (fits : h + n ≤ w) (low : w ≤ 65537) (spelled : 2 ≤ h → take 2 xs ≡ big_bytes 2 (w - 2))
     (read : h + n ≡ 2 → (u ≡ frame_length (take 2 ys)) × (u ≤ 65537) × (take 2 ys ≡ big_bytes 2 (u - 2))) (kept : h + n ≢ 2 → u ≡ w) where
   length-front : length (take h xs) ≡ h
@@ -76,7 +79,8 @@ module _ (xs ys p : List ℕ) (h n w u : ℕ) (joined : take (h + n) ys ≡ take
       let back = length-back in
       let two = begun (nat_lt h 2) refl not long in
       kept not
-      ∙ (known ∙ length-same (take h xs) (take (h + n) ys) (omega arith) (omega arith) (take-take 2 h xs two ∙ (sym (first-two two) ∙ sym (take-take 2 (h + n) ys (omega arith)))))
+      ∙ (known ∙ length-same (take h xs) (take (h + n) ys) (omega arith) (omega arith)
+      (take-take 2 h xs two ∙ (sym (first-two two) ∙ sym (take-take 2 (h + n) ys (omega arith)))))
 
   spelled-by : (b : Bool) → (h + n == 2) ≡ b → 2 ≤ h + n → take 2 ys ≡ big_bytes 2 (u - 2)
   spelled-by true e long = (read (same-is (h + n) 2 e)).2
@@ -111,10 +115,12 @@ pub two-parts : (old mid new piece : List ℕ) (first second : ℕ) → mid ≡ 
 two-parts old mid new piece first second to_mid to_new =
     let joined : take first piece ++ take second (drop first piece) ≡ take (first + second) piece =
     ap (λ (xs : List ℕ). xs ++ take second (drop first piece)) (sym (take-take first (first + second) piece (omega arith)))
-    ∙ (ap (λ (xs : List ℕ). take first (take (first + second) piece) ++ xs) (sym (drop-take first second piece)) ∙ take-append-drop first (take (first + second) piece)) in
+    ∙ (ap (λ (xs : List ℕ). take first (take (first + second) piece) ++ xs) (sym (drop-take first second piece))
+    ∙ take-append-drop first (take (first + second) piece)) in
     to_new
     ∙ (ap (λ (xs : List ℕ). mid ++ take second xs) (take_rest piece first)
-    ∙ (ap (λ (xs : List ℕ). xs ++ take second (drop first piece)) to_mid ∙ (append_assoc old (take first piece) (take second (drop first piece)) ∙ ap (λ (xs : List ℕ). old ++ xs) joined)))
+    ∙ (ap (λ (xs : List ℕ). xs ++ take second (drop first piece)) to_mid
+    ∙ (append_assoc old (take first piece) (take second (drop first piece)) ∙ ap (λ (xs : List ℕ). old ++ xs) joined)))
 
 -- ---- what a reader gives
 
@@ -136,7 +142,8 @@ part-by false old piece e less =
 -- fewer bytes than were asked for make no whole frame
 pub still-part : (old mid piece : List ℕ) → mid ≡ old ++ piece → length mid < frame_length old → IsPartial mid
 still-part old mid piece is less =
-    subst (λ (xs : List ℕ). IsPartial xs) (sym is) (part-by (nat_lt (length old) 2) old piece refl (subst (λ (xs : List ℕ). length xs < frame_length old) is less))
+    subst (λ (xs : List ℕ). IsPartial xs) (sym is)
+    (part-by (nat_lt (length old) 2) old piece refl (subst (λ (xs : List ℕ). length xs < frame_length old) is less))
 
 -- those that are asked for behind the length make it whole
 pub then-whole : (old mid new piece : List ℕ) → length mid ≡ frame_length old → new ≡ mid ++ piece → length new ≡ frame_length mid → IsWhole new
@@ -145,7 +152,9 @@ then-whole old mid new piece two is all =
     let same : frame_length new ≡ frame_length mid = ap frame_length is ∙ frame-grown mid piece (omega arith) in
     all ∙ sym same
 
-pub front-read : (old post read : List ℕ) (at n : ℕ) → at ≤ length old → n ≤ length read → take (at + n) (take at old ++ (read ++ post)) ≡ take at old ++ take n read
+pub front-read : (old post read : List ℕ) (at n : ℕ) → at ≤ length old → n ≤ length read
+    → take (at + n) (take at old ++ (read ++ post)) ≡ take at old ++ take n read
 front-read old post read at n within fits =
     let front = length-take-le at old within in
-    ap (λ (k : ℕ). take (k + n) (take at old ++ (read ++ post))) (sym front) ∙ (take-append-add (take at old) (read ++ post) n ∙ ap (λ (xs : List ℕ). take at old ++ xs) (take-append-le n read post fits))
+    ap (λ (k : ℕ). take (k + n) (take at old ++ (read ++ post))) (sym front)
+    ∙ (take-append-add (take at old) (read ++ post) n ∙ ap (λ (xs : List ℕ). take at old ++ xs) (take-append-le n read post fits))

@@ -1,5 +1,6 @@
 -- A message is judged as an open transport judges it.
-use Rattle.std.proofs.Common.{◌≡◌, ◌≢◌, ℕ, ◌-◌, ◌==◌, ◌&&◌, nat_lt, ◌+◌, List, [], length, take, Bool, true, false, Option, Some, None, Result, Ok, Err, MatchOption, IfErr, if◌then◌else◌, refl, sym, ◌∙◌, ap, subst, arith}
+use Rattle.std.proofs.Common.{◌≡◌, ◌≢◌, ℕ, ◌-◌, ◌==◌, ◌&&◌, nat_lt, ◌+◌, List, [], length, take, Bool, true, false, Option, Some, None, Result, Ok}
+use Rattle.std.proofs.Common.{Err, MatchOption, IfErr, if◌then◌else◌, refl, sym, ◌∙◌, ap, subst, arith}
 use Rattle.std.proofs.lemmas.Bool.Decides.{nat_tests}
 use Rattle.std.specs.Prelude.{slice_range}
 use Rattle.noise_names.specs.declared.token.Role.TheVariants.{Initiator}
@@ -86,14 +87,16 @@ module _ (t : HeldTransport) (v : EndView) (s : OpenStands t v) (message : List 
       let f = told-short silent last (length message) fault in
       not (rw (f.0, f.1) refl)
 
-  pub dropped-short : Told silent last (length message) (Err unopened.Short) → (open_fault t ≡ None → (payload : List ℕ) → message ≢ due_packet (transport_in v) payload)
+  pub dropped-short : Told silent last (length message) (Err unopened.Short)
+      → (open_fault t ≡ None → (payload : List ℕ) → message ≢ due_packet (transport_in v) payload)
       → Judges v message (Dropped Short) (record v { held = [] })
   dropped-short fault not =
       let f = told-short silent last (length message) fault in
       subst (λ (c : Cause). Judges v message (Dropped c) (record v { held = [] })) (short-is (nat_lt (length message) 16) f.2)
       (dropped v message (is-open v t s) (not-last f.1) (never fault not))
 
-  pub dropped-tag : Told silent last (length message) (Err unopened.Tag) → (open_fault t ≡ None → (payload : List ℕ) → message ≢ due_packet (transport_in v) payload)
+  pub dropped-tag : Told silent last (length message) (Err unopened.Tag)
+      → (open_fault t ≡ None → (payload : List ℕ) → message ≢ due_packet (transport_in v) payload)
       → Judges v message (Dropped Tag) (record v { held = [] })
   dropped-tag fault not =
       let f = told-tag silent last (length message) fault in
@@ -103,7 +106,8 @@ module _ (t : HeldTransport) (v : EndView) (s : OpenStands t v) (message : List 
 
   pub exhausted-as : Told silent last (length message) (Err unopened.Exhausted) → Judges v message Exhausted (closed v)
   exhausted-as fault =
-      exhausted v message (is-open v t s) (sym s.transport.receive_nonce ∙ same-is t.receive_nonce last_nonce (told-exhausted silent last (length message) fault))
+      exhausted v message (is-open v t s)
+      (sym s.transport.receive_nonce ∙ same-is t.receive_nonce last_nonce (told-exhausted silent last (length message) fault))
 
   pub over-open : OverStands t.role (Some t.hash) (closed v)
   over-open =

@@ -1,5 +1,6 @@
 -- Why a payload isn't written, by the faults of a handshake and of a transport.
-use Rattle.std.proofs.Common.{◌≡◌, ℕ, ◌==◌, nat_lt, List, length, Bool, true, false, not, ◌&&◌, Option, Some, None, Result, Ok, Err, MatchOption, IfErr, IsOk, if◌then◌else◌, refl}
+use Rattle.std.proofs.Common.{◌≡◌, ℕ, ◌==◌, nat_lt, List, length, Bool, true, false, not, ◌&&◌, Option, Some, None, Result, Ok, Err, MatchOption}
+use Rattle.std.proofs.Common.{IfErr, IsOk, if◌then◌else◌, refl}
 use Rattle.noise_handshake.specs.declared.faults.WriteFault.{WriteFault}
 use Rattle.noise_handshake.specs.declared.faults.WriteFault.TheVariants as write
 use Rattle.noise_handshake.specs.Held.{Held, is_turn, write_fault, length_now, IsAgreement}

@@ -17,38 +17,78 @@ use Rattle.noise_session.specs.Taking.Takes.{idles, waits, judges}
 use Rattle.noise_session.proofs.Framing.{frame-whole, frame-same}
 use Rattle.noise_session.proofs.Views.{open-passed}
 
-module _ (accepted-one : (v : View) (message : List ℕ) (xs ys : List (List ℕ)) (p q : List ℕ) → Accepts v message xs p → Accepts v message ys q → (xs ≡ ys) × (p ≡ q))
+module _ (accepted-one : (v : View) (message : List ℕ) (xs ys : List (List ℕ)) (p q : List ℕ) → Accepts v message xs p → Accepts v message ys q
+    → (xs ≡ ys) × (p ≡ q))
     (refused-one : (v : View) (message : List ℕ) (k j : ℕ) (c d : Cause) → Refuses v message k c → Refuses v message j d → (k ≡ j) × (c ≡ d))
     (apart : (v : View) (message : List ℕ) (xs : List (List ℕ)) (p : List ℕ) (k : ℕ) (c : Cause) → Accepts v message xs p → Refuses v message k c → ⊥)
     (packet-one : (r : History) (writer : Role) (interval n : ℕ) (p q : List ℕ) → packet r writer interval n p ≡ packet r writer interval n q → p ≡ q) where
   judged-once : (v x y : EndView) (m : List ℕ) (s t : Told) → Judges v m s x → Judges v m t y → (s ≡ t) × (x ≡ y)
   judged-once v x y m s t (accepted _ _ p xs a) (accepted _ _ q ys b) =
-      let one = accepted-one v.party m xs ys p q a b in
-      (ap Payload one.1, ap (λ (zs : List (List ℕ)). record v { party = behind_message v.party zs p; held = [] }) one.0 ∙ ap (λ (r : List ℕ). record v { party = behind_message v.party ys r; held = [] }) one.1)
+      let one = accepted-one v.party m xs ys p q a b in (
+        ap Payload one.1,
+        ap (λ (zs : List (List ℕ)). record v { party = behind_message v.party zs p; held = [] }) one.0
+            ∙ ap (λ (r : List ℕ). record v { party = behind_message v.party ys r; held = [] }) one.1,
+      )
   judged-once v x y m s t (accepted _ _ p xs a) (refused _ _ k c b) = absurd (apart v.party m xs p k c a b)
-  judged-once v x y m s t (accepted _ _ p xs a) (opened _ _ q opens low is) = let more = a.listens.more in let all = open-passed v opens in absurd (omega arith)
-  judged-once v x y m s t (accepted _ _ p xs a) (dropped _ _ opens low never) = let more = a.listens.more in let all = open-passed v opens in absurd (omega arith)
-  judged-once v x y m s t (accepted _ _ p xs a) (exhausted _ _ opens last) = let more = a.listens.more in let all = open-passed v opens in absurd (omega arith)
+  judged-once v x y m s t (accepted _ _ p xs a) (opened _ _ q opens low is) =
+      let more = a.listens.more in
+      let all = open-passed v opens in
+      absurd (omega arith)
+  judged-once v x y m s t (accepted _ _ p xs a) (dropped _ _ opens low never) =
+      let more = a.listens.more in
+      let all = open-passed v opens in
+      absurd (omega arith)
+  judged-once v x y m s t (accepted _ _ p xs a) (exhausted _ _ opens last) =
+      let more = a.listens.more in
+      let all = open-passed v opens in
+      absurd (omega arith)
   judged-once v x y m s t (refused _ _ k c a) (accepted _ _ p xs b) = absurd (apart v.party m xs p k c b a)
   judged-once v x y m s t (refused _ _ k c a) (refused _ _ j d b) =
       let one = refused-one v.party m k j c d a b in
       (ap (λ (i : ℕ). Refused i c) one.0 ∙ ap (Refused j) one.1, refl)
-  judged-once v x y m s t (refused _ _ k c a) (opened _ _ q opens low is) = let more = a.listens.more in let all = open-passed v opens in absurd (omega arith)
-  judged-once v x y m s t (refused _ _ k c a) (dropped _ _ opens low never) = let more = a.listens.more in let all = open-passed v opens in absurd (omega arith)
-  judged-once v x y m s t (refused _ _ k c a) (exhausted _ _ opens last) = let more = a.listens.more in let all = open-passed v opens in absurd (omega arith)
-  judged-once v x y m s t (opened _ _ p opens low is) (accepted _ _ q xs a) = let more = a.listens.more in let all = open-passed v opens in absurd (omega arith)
-  judged-once v x y m s t (opened _ _ p opens low is) (refused _ _ k c a) = let more = a.listens.more in let all = open-passed v opens in absurd (omega arith)
+  judged-once v x y m s t (refused _ _ k c a) (opened _ _ q opens low is) =
+      let more = a.listens.more in
+      let all = open-passed v opens in
+      absurd (omega arith)
+  judged-once v x y m s t (refused _ _ k c a) (dropped _ _ opens low never) =
+      let more = a.listens.more in
+      let all = open-passed v opens in
+      absurd (omega arith)
+  judged-once v x y m s t (refused _ _ k c a) (exhausted _ _ opens last) =
+      let more = a.listens.more in
+      let all = open-passed v opens in
+      absurd (omega arith)
+  judged-once v x y m s t (opened _ _ p opens low is) (accepted _ _ q xs a) =
+      let more = a.listens.more in
+      let all = open-passed v opens in
+      absurd (omega arith)
+  judged-once v x y m s t (opened _ _ p opens low is) (refused _ _ k c a) =
+      let more = a.listens.more in
+      let all = open-passed v opens in
+      absurd (omega arith)
   judged-once v x y m s t (opened _ _ p opens low is) (opened _ _ q other_opens other_low be) =
       (ap Payload (packet-one v.party.history (other v.party.role) v.interval v.received p q (sym is ∙ be)), refl)
   judged-once v x y m s t (opened _ _ p opens low is) (dropped _ _ other_opens other_low never) = absurd (never p is)
   judged-once v x y m s t (opened _ _ p opens low is) (exhausted _ _ other_opens last) = absurd (low last)
-  judged-once v x y m s t (dropped _ _ opens low never) (accepted _ _ q xs a) = let more = a.listens.more in let all = open-passed v opens in absurd (omega arith)
-  judged-once v x y m s t (dropped _ _ opens low never) (refused _ _ k c a) = let more = a.listens.more in let all = open-passed v opens in absurd (omega arith)
+  judged-once v x y m s t (dropped _ _ opens low never) (accepted _ _ q xs a) =
+      let more = a.listens.more in
+      let all = open-passed v opens in
+      absurd (omega arith)
+  judged-once v x y m s t (dropped _ _ opens low never) (refused _ _ k c a) =
+      let more = a.listens.more in
+      let all = open-passed v opens in
+      absurd (omega arith)
   judged-once v x y m s t (dropped _ _ opens low never) (opened _ _ q other_opens other_low is) = absurd (never q is)
   judged-once v x y m s t (dropped _ _ opens low never) (dropped _ _ other_opens other_low other_never) = (refl, refl)
   judged-once v x y m s t (dropped _ _ opens low never) (exhausted _ _ other_opens last) = absurd (low last)
-  judged-once v x y m s t (exhausted _ _ opens last) (accepted _ _ q xs a) = let more = a.listens.more in let all = open-passed v opens in absurd (omega arith)
-  judged-once v x y m s t (exhausted _ _ opens last) (refused _ _ k c a) = let more = a.listens.more in let all = open-passed v opens in absurd (omega arith)
+  judged-once v x y m s t (exhausted _ _ opens last) (accepted _ _ q xs a) =
+      let more = a.listens.more in
+      let all = open-passed v opens in
+      absurd (omega arith)
+  judged-once v x y m s t (exhausted _ _ opens last) (refused _ _ k c a) =
+      let more = a.listens.more in
+      let all = open-passed v opens in
+      absurd (omega arith)
   judged-once v x y m s t (exhausted _ _ opens last) (opened _ _ q other_opens low is) = absurd (low last)
   judged-once v x y m s t (exhausted _ _ opens last) (dropped _ _ other_opens low never) = absurd (low last)
   judged-once v x y m s t (exhausted _ _ opens last) (exhausted _ _ other_opens other_last) = (refl, refl)

@@ -1,11 +1,12 @@
 -- Parts of a buffer.
-use Rattle.std.proofs.Common.{◌≡◌, ℕ, suc, ◌+◌, ◌-◌, ◌/◌, ◌%◌, ◌≤◌, List, ◌∷◌, ◌++◌, length, take, drop, arith, rules, refl, sym, ◌∙◌, ap, length-drop, length-append}
+use Rattle.std.proofs.Common.{◌≡◌, ℕ, suc, ◌+◌, ◌-◌, ◌/◌, ◌%◌, ◌≤◌, List, ◌∷◌, ◌++◌, length, take, drop, arith, rules, refl, sym, ◌∙◌, ap}
+use Rattle.std.proofs.Common.{length-drop, length-append}
 use Rattle.std.proofs.lemmas.List.{places, same_lists, drop_at, drop-drop, take_rest, length-take-le, nil_from_length, append-nil}
 use borrow.Rule.Slice.PartMut.{put_mid}
 use Rattle.noise_session.specs.declared.outcome.Outcome.{Outcome}
 use Rattle.noise_session.specs.declared.outcome.Outcome.TheVariants as outcome
 use Rattle.noise_session.specs.Frames.{frame}
-use Rattle.noise_session.specs.Outcomes.{tells, StandsIn}
+use Rattle.noise_session.specs.inner.Outcomes.{tells, StandsIn}
 use Rattle.noise_session.specs.Steps.Told.{Payload}
 use Rattle.std.specs.Prelude.{slice_range}
 

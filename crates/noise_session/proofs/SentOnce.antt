@@ -28,14 +28,26 @@ module _ (written-one : (v : View) (payload m n : List ℕ) (xs ys : List (List 
   sends-once v x y payload r s (lacks_answer _ _ k e lacks) (lacks_answer _ _ j f other) =
       (ap (λ (i : ℕ). Err (fault.Agreement i)) (lacks-one v.party k j lacks other), refl)
   sends-once v x y payload r s (lacks_answer _ _ k e lacks) (sends_handshake _ _ m xs f writes) = absurd (apart v.party payload m xs k writes lacks)
-  sends-once v x y payload r s (lacks_answer _ _ k e lacks) (sends_transport _ _ f opens) = let more = lacks.speaks.more in let all = open-passed v opens in absurd (omega arith)
+  sends-once v x y payload r s (lacks_answer _ _ k e lacks) (sends_transport _ _ f opens) =
+      let more = lacks.speaks.more in
+      let all = open-passed v opens in
+      absurd (omega arith)
   sends-once v x y payload r s (sends_handshake _ _ m xs e writes) (refuses _ _ b f) = cc
   sends-once v x y payload r s (sends_handshake _ _ m xs e writes) (lacks_answer _ _ k f lacks) = absurd (apart v.party payload m xs k writes lacks)
   sends-once v x y payload r s (sends_handshake _ _ m xs e writes) (sends_handshake _ _ n ys f other) =
       let one = written-one v.party payload m n xs ys writes other in
       (ap (λ (bytes : List ℕ). Ok (frame bytes)) one.1, ap (λ (zs : List (List ℕ)). record v { party = behind_own v.party zs payload }) one.0)
-  sends-once v x y payload r s (sends_handshake _ _ m xs e writes) (sends_transport _ _ f opens) = let more = writes.speaks.more in let all = open-passed v opens in absurd (omega arith)
+  sends-once v x y payload r s (sends_handshake _ _ m xs e writes) (sends_transport _ _ f opens) =
+      let more = writes.speaks.more in
+      let all = open-passed v opens in
+      absurd (omega arith)
   sends-once v x y payload r s (sends_transport _ _ e opens) (refuses _ _ b f) = cc
-  sends-once v x y payload r s (sends_transport _ _ e opens) (lacks_answer _ _ k f lacks) = let more = lacks.speaks.more in let all = open-passed v opens in absurd (omega arith)
-  sends-once v x y payload r s (sends_transport _ _ e opens) (sends_handshake _ _ m xs f writes) = let more = writes.speaks.more in let all = open-passed v opens in absurd (omega arith)
+  sends-once v x y payload r s (sends_transport _ _ e opens) (lacks_answer _ _ k f lacks) =
+      let more = lacks.speaks.more in
+      let all = open-passed v opens in
+      absurd (omega arith)
+  sends-once v x y payload r s (sends_transport _ _ e opens) (sends_handshake _ _ m xs f writes) =
+      let more = writes.speaks.more in
+      let all = open-passed v opens in
+      absurd (omega arith)
   sends-once v x y payload r s (sends_transport _ _ e opens) (sends_transport _ _ f other) = (refl, refl)

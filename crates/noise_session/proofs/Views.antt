@@ -1,5 +1,6 @@
 -- How far an end has come, by the view that it stands for.
-use Rattle.std.proofs.Common.{◌≡◌, ◌≢◌, ℕ, ◌+◌, ◌==◌, ◌≤◌, nat_lt, ◌&&◌, not, List, length, Bool, true, false, Option, Some, None, IsTrue, if◌then◌else◌, refl, sym, ◌∙◌, ap, arith}
+use Rattle.std.proofs.Common.{◌≡◌, ◌≢◌, ℕ, ◌+◌, ◌==◌, ◌≤◌, nat_lt, ◌&&◌, not, List, length, Bool, true, false, Option, Some, None, IsTrue}
+use Rattle.std.proofs.Common.{if◌then◌else◌, refl, sym, ◌∙◌, ap, arith}
 use Rattle.std.proofs.lemmas.Bool.Decides.{nat_tests}
 use Rattle.noise_names.specs.declared.token.Role.{Role}
 use Rattle.noise_names.specs.Plan.{Plan, is_one_way}
@@ -16,8 +17,9 @@ use Rattle.noise_names.specs.Tokens.{same_role}
 use Rattle.noise_names.specs.Overhead.{overhead_of}
 use Rattle.noise_handshake.specs.Held.{is_turn}
 use Rattle.noise_session.specs.Progress.Progress.{Handshaking, Open, Closed}
-use Rattle.noise_session.specs.Ends.{HeldEnd, EndView, EndStands, IsToldBy, PhaseStands, OpenStands, hash_in, progress_in, progress_of, remote_static_in, session_hash, session_remote_static, closed}
-use Rattle.noise_session.specs.Phases.{over_in}
+use Rattle.noise_session.specs.Ends.{HeldEnd, EndView, EndStands, IsToldBy, PhaseStands, OpenStands, hash_in, progress_in, progress_of}
+use Rattle.noise_session.specs.Ends.{remote_static_in, session_hash, session_remote_static, closed}
+use Rattle.noise_session.specs.inner.Phases.{over_in}
 use Rattle.noise_session.specs.HeldTransport.{HeldTransport}
 
 -- numbers are tested for being equal
@@ -68,7 +70,8 @@ open-by false false role one_way sent received pattern passed h = cc
 pub open-passed : (v : EndView) → IsTrue (is_open (progress_of v)) → v.party.passed ≡ length v.party.pattern.messages
 open-passed v opens =
     same-is v.party.passed (length v.party.pattern.messages)
-    (open-by v.party.ended (v.party.passed == length v.party.pattern.messages) v.party.role (is_one_way v.party.pattern) v.sent v.received v.party.pattern v.party.passed opens)
+    (open-by v.party.ended (v.party.passed == length v.party.pattern.messages) v.party.role
+    (is_one_way v.party.pattern) v.sent v.received v.party.pattern v.party.passed opens)
 
 open-fields : (a b : Role) (x y : Bool) (m n i j : ℕ) → a ≡ b → x ≡ y → m ≡ n → i ≡ j → Open a x m i ≡ Open b y n j
 open-fields a b x y m n i j e f g h = cc
@@ -76,10 +79,12 @@ open-fields a b x y m n i j e f g h = cc
 module _ {K : Type 0} (public_of : K → Own → Option (List ℕ)) (agreement : K → Own → List ℕ → Option (List ℕ)) where
   pub phase-progress : (p : Phase K) (v : EndView) → PhaseStands public_of agreement p v → progress_in p ≡ progress_of v
   phase-progress (phase.Handshaking h every) v s =
-      let is : Handshaking h.pattern h.role h.passed ≡ Handshaking v.party.pattern v.party.role v.party.passed = rw (s.party.pattern, s.party.role, s.party.passed) refl in
+      let is : Handshaking h.pattern h.role h.passed ≡ Handshaking v.party.pattern v.party.role v.party.passed =
+      rw (s.party.pattern, s.party.role, s.party.passed) refl in
       is ∙ sym (progress-handshaking v s.going s.more)
   phase-progress (phase.Open t) v s =
-      open-fields t.role v.party.role t.one_way (is_one_way v.party.pattern) t.send_nonce v.sent t.receive_nonce v.received s.transport.role s.transport.one_way s.transport.send_nonce s.transport.receive_nonce
+      open-fields t.role v.party.role t.one_way (is_one_way v.party.pattern) t.send_nonce v.sent t.receive_nonce v.received s.transport.role
+      s.transport.one_way s.transport.send_nonce s.transport.receive_nonce
       ∙ sym (progress-open v s.going s.all)
   phase-progress (phase.Ended role told) v s = ap Closed s.role ∙ sym (progress-closed v s.over)
 
@@ -103,7 +108,8 @@ module _ {K : Type 0} (public_of : K → Own → Option (List ℕ)) (agreement :
   }
 
   -- what is held of a frame doesn't count
-  pub phase-held : (p : Phase K) (v : EndView) (held : List ℕ) → PhaseStands public_of agreement p v → PhaseStands public_of agreement p (record v { held = held })
+  pub phase-held : (p : Phase K) (v : EndView) (held : List ℕ) → PhaseStands public_of agreement p v
+      → PhaseStands public_of agreement p (record v { held = held })
   phase-held (phase.Handshaking h every) v held s =
       record { party = s.party; interval = s.interval; going = s.going; more = s.more; sent = s.sent; received = s.received }
   phase-held (phase.Open t) v held s = record { going = s.going; all = s.all; transport = s.transport }
@@ -124,7 +130,8 @@ most-by n true true fits = λ x e. cc
 most-by n true false fits = λ x e. let low = fits refl in let is : 2 + n ≡ x = cc in omega arith
 
 most-open : (n : ℕ) (deaf long last : Bool) → (long ≡ false → n ≤ 65535)
-    → ForSome (length_unless (if deaf then Some fault.OneWay else if long then Some fault.TooLong else if last then Some fault.Exhausted else None) (2 + n)) (λ k. k ≤ 65537)
+    → ForSome (length_unless (if deaf then Some fault.OneWay else if long then Some fault.TooLong else if last then Some fault.Exhausted else None)
+    (2 + n)) (λ k. k ≤ 65537)
 most-open n true long last fits = λ x e. cc
 most-open n false true last fits = λ x e. cc
 most-open n false false true fits = λ x e. cc

@@ -1,14 +1,12 @@
 -- A reader or writer that counts its failures.
 use Rattle.std.specs.Prelude.{ℕ, ◌+◌, ◌%◌, ◌^◌, length, ◌==◌, List, nat_lt, ◌&&◌, Result, Ok, Err, if◌then◌else◌}
 use Rattle.noise_session.specs.declared.counted.Counted.{Counted}
-use Rattle.noise_session.specs.declared.filling.Filling.{Filling}
-use Rattle.noise_session.specs.declared.filling.Filling.TheVariants.{Filled, End, Failed}
 
 -- the reader or writer inside
 abbrev pub inner_of : {T : Type 0} → Counted T → T
 inner_of c = c.inner
 
--- how many of its calls have failed, modulo 2^64
+-- how many of its reads and writes have failed, modulo 2^64
 abbrev pub failures_of : {T : Type 0} → Counted T → ℕ
 failures_of c = c.failures
 
@@ -25,9 +23,3 @@ behind_call failures (Err e) = one_more failures
 abbrev pub behind_writing : {E : Type 0} → ℕ → Result ℕ E → List ℕ → ℕ
 behind_writing failures (Ok n) bytes = if (n == 0) && nat_lt 0 (length bytes) then one_more failures else failures
 behind_writing failures (Err e) bytes = one_more failures
-
--- the count behind filling a buffer
-abbrev pub behind_filling : ℕ → Filling → ℕ
-behind_filling failures Failed = one_more failures
-behind_filling failures Filled = failures
-behind_filling failures End = failures

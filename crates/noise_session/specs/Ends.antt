@@ -1,5 +1,5 @@
 -- What an end of a session holds, and which views it stands for.
-use Rattle.std.specs.Prelude.{◌≡◌, ◌≢◌, ℕ, List, [], Option, Some, None, length, true, false, ◌==◌, if◌then◌else◌}
+use Rattle.std.specs.Prelude.{◌≡◌, ◌≢◌, ℕ, List, [], Option, Some, None, length, Bool, true, false, ◌==◌, if◌then◌else◌}
 use Rattle.noise_names.specs.declared.token.Role.{Role}
 use Rattle.noise_names.specs.Plan.{is_one_way}
 use Rattle.noise_state.specs.History.{hash}
@@ -26,6 +26,11 @@ progress_in (phase.Ended role hash) = Closed role
 
 abbrev pub progress : {K : Type 0} → HeldEnd K → Progress
 progress e = progress_in e.phase
+
+-- whether the session has ended
+abbrev pub is_over : {K : Type 0} → Phase K → Bool
+is_over (phase.Ended role hash) = true
+is_over _ = false
 
 -- the hash that an end tells: of the whole handshake, once all of it has passed
 abbrev pub hash_in : {K : Type 0} → Phase K → Option (List ℕ)

@@ -7,10 +7,8 @@ pub mod Steps
 pub mod Progress
 pub mod Ends
 pub mod Counterparts
-pub mod Phases
 pub mod Taking
 pub mod Sending
 pub mod Outputs
 pub mod Inputs
-pub mod Outcomes
-pub mod Incoming
+pub mod inner

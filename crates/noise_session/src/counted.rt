@@ -8,8 +8,8 @@ ghost use Rattle.noise_session.specs.Counting.{inner_of, failures_of, behind_cal
 
 use std::io::{self, Read, Write};
 
-/// A reader or writer with a count of its failed calls: those that answered an error, an interruption too, and each write
-/// that took none of some bytes. The count begins again at 0 behind 2^64 - 1.
+/// A reader or writer with a count of its failed reads and writes: those that answered an error, an interruption too, and
+/// each write that took none of some bytes. A flush isn't counted. The count begins again at 0 behind 2^64 - 1.
 #[derive(Debug, Drop)]
 pub struct Counted<T> {
     inner: T,
@@ -25,7 +25,7 @@ impl<T> Counted<T> {
         Counted { inner, failures: 0 }
     }
 
-    /// How many calls have failed.
+    /// How many reads and writes have failed.
     pub fn failures(&self) -> u64
         ensures { result ≡ failures_of self.now }
     {

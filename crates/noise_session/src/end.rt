@@ -1,7 +1,8 @@
 //! One end of a session.
 #![tactic(auto)]
 
-ghost use Rattle.std.specs.Prelude.{◌≡◌, ◌≤◌, ◌+◌, ℕ, List, [], ⊤, length, take, drop, true, false, Some, None, Ok, Err, IsTrue, IsSome, IfOk, IfErr, IfSome, MatchOption};
+ghost use Rattle.std.specs.Prelude.{◌≡◌, ◌≤◌, ◌+◌, ℕ, List, [], ⊤, length, take, drop, true, false, Some, None, Ok, Err, IsTrue, IsSome, IfOk, IfErr};
+ghost use Rattle.std.specs.Prelude.{IfSome, MatchOption};
 ghost use Rattle.std.specs.Option.{ForSome};
 ghost use Rattle.noise_handshake.specs.View.{View};
 ghost use Rattle.noise_handshake.specs.Party.{Stands};
@@ -39,9 +40,9 @@ pub struct End<K: Keys> {
 impl<K: Keys> Model for End<K> {
     ghost use Rattle.std.specs.Prelude.{◌≡◌, [], true, length, IsTrue};
     ghost use Rattle.noise_session.specs.Frames.{IsPartial};
-    ghost use Rattle.noise_session.specs.Incoming.{bytes_of};
-    ghost use Rattle.noise_session.specs.Ends.{HeldEnd};
-    ghost use Rattle.noise_session.specs.Phases.{is_due, is_over};
+    ghost use Rattle.noise_session.specs.inner.Incoming.{bytes_of};
+    ghost use Rattle.noise_session.specs.Ends.{HeldEnd, is_over};
+    ghost use Rattle.noise_session.specs.inner.Phases.{is_due};
 
     ghost Value = { HeldEnd K };
 
@@ -59,9 +60,9 @@ impl<K: Keys> End<K> {
     ghost use Rattle.std.specs.Borrow.{sem, follows_so};
     ghost use mathlib.Core.Option.{none};
     ghost use Rattle.noise_session.specs.contracts.end.End.{the_row};
-    ghost use Rattle.noise_session.specs.Ends.{HeldEnd, EndView, EndStands, OpenStands, end_of, progress, hash_in, remote_static_in};
+    ghost use Rattle.noise_session.specs.Ends.{EndView, EndStands, end_of, progress, hash_in, remote_static_in, is_over};
     ghost use Rattle.noise_session.specs.declared.phase.Phase.TheVariants as phases;
-    ghost use Rattle.noise_session.specs.Phases.{is_due, is_over};
+    ghost use Rattle.noise_session.specs.inner.Phases.{is_due};
     ghost use Rattle.noise_session.specs.Taking.{Takes};
     ghost use Rattle.noise_session.specs.Sending.{Sends, behind_fault};
     ghost use Rattle.noise_session.specs.Inputs.{Receives, is_end, behind_receiving};

@@ -3,7 +3,8 @@
 
 ghost use Rattle.std.specs.Prelude.{◌≡◌, ◌≤◌, ◌↔◌, length, take};
 ghost use Rattle.std.specs.Io.KnownBytes.{Consumes, IsAtEnd};
-ghost use Rattle.noise_session.specs.Counting.{inner_of, failures_of, behind_filling};
+ghost use Rattle.noise_session.specs.Counting.{inner_of, failures_of};
+ghost use Rattle.noise_session.specs.inner.Filling.{behind_filling};
 ghost use Rattle.noise_session.specs.declared.filling.Filling.TheVariants.{Filled, End};
 
 use crate::Counted;

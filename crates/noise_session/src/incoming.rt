@@ -5,7 +5,8 @@ ghost use Rattle.std.specs.Prelude.{◌≡◌, ◌≢◌, ◌≤◌, ◌<◌, �
 ghost use Rattle.noise_session.specs.Frames.{IsPartial, IsWhole, frame_length};
 ghost use Rattle.byteorder.specs.Endian.{big_bytes};
 ghost use Rattle.std.specs.Io.KnownBytes.{Consumes, IsAtEnd};
-ghost use Rattle.noise_session.specs.Counting.{inner_of, failures_of, behind_filling};
+ghost use Rattle.noise_session.specs.Counting.{inner_of, failures_of};
+ghost use Rattle.noise_session.specs.inner.Filling.{Leaves, behind_filling};
 ghost use Rattle.noise_session.specs.declared.filling.Filling.TheVariants.{Filled, End};
 
 use crate::Counted;
@@ -31,7 +32,7 @@ pub(crate) struct Incoming {
 }
 
 impl Incoming {
-    ghost use Rattle.noise_session.specs.Incoming.{bytes_of, Leaves};
+    ghost use Rattle.noise_session.specs.inner.Incoming.{bytes_of};
 
     pub(crate) fn new(alloc: Global) -> Result<Incoming, AllocError>
         ensures { IfOk result (λ incoming. bytes_of incoming ≡ []) }
@@ -81,7 +82,8 @@ impl Incoming {
 
     // Reads the missing bytes of the frame's length, or of the frame once that is there.
     fn read_up<R: Read>(&mut self, from: &mut Counted<R>) -> Filling
-        ensures bytes { (piece : List ℕ) × Consumes (R.remaining (inner_of from.old)) (R.remaining (inner_of from.new)) piece × (bytes_of self.new ≡ bytes_of self.old ++ piece) }
+        ensures bytes { (piece : List ℕ) × Consumes (R.remaining (inner_of from.old)) (R.remaining (inner_of from.new)) piece
+            × (bytes_of self.new ≡ bytes_of self.old ++ piece) }
         ensures filled { (result ≡ Filled) ↔ (length (bytes_of self.new) ≡ frame_length (bytes_of self.old)) }
         ensures within { length (bytes_of self.new) ≤ frame_length (bytes_of self.old) }
         ensures end { result ≡ End → IsAtEnd (R.remaining (inner_of from.new)) }
@@ -96,7 +98,8 @@ impl Incoming {
 
     // Reads the missing bytes of the frame, those of its length first.
     pub(crate) fn fill_from<R: Read>(&mut self, from: &mut Counted<R>) -> Filling
-        ensures bytes { (piece : List ℕ) × Consumes (R.remaining (inner_of from.old)) (R.remaining (inner_of from.new)) piece × (bytes_of self.new ≡ bytes_of self.old ++ piece) }
+        ensures bytes { (piece : List ℕ) × Consumes (R.remaining (inner_of from.old)) (R.remaining (inner_of from.new)) piece
+            × (bytes_of self.new ≡ bytes_of self.old ++ piece) }
         ensures leaves { Leaves result (bytes_of self.new) }
         ensures end { result ≡ End → IsAtEnd (R.remaining (inner_of from.new)) }
         ensures failures { failures_of from.new ≡ behind_filling (failures_of from.old) result }
@@ -110,7 +113,8 @@ impl Incoming {
     // Takes bytes of a piece up to the frame's end, and tells how many; None where the frame isn't whole with all of them.
     pub(crate) fn fill(&mut self, piece: &[u8]) -> Option<usize>
         ensures part { IfNone result ((bytes_of self.new ≡ bytes_of self.old ++ piece.now) × IsPartial (bytes_of self.new)) }
-        ensures whole { IfSome result (λ n. (n ≤ length piece.now) × (bytes_of self.new ≡ bytes_of self.old ++ take n piece.now) × IsWhole (bytes_of self.new)) }
+        ensures whole { IfSome result
+            (λ n. (n ≤ length piece.now) × (bytes_of self.new ≡ bytes_of self.old ++ take n piece.now) × IsWhole (bytes_of self.new)) }
     {
         let first = self.accept(piece);
         let count = first + self.accept(&piece[first..]);

@@ -1,7 +1,7 @@
 //! What an end goes through: its handshake, its transport, and the end of the session.
 #![tactic(auto)]
 
-ghost use Rattle.std.specs.Prelude.{◌≡◌, ◌+◌, ℕ, List, length, true, false, Some, None, IsTrue, IfSome, MatchOption};
+ghost use Rattle.std.specs.Prelude.{◌≡◌, ◌+◌, ℕ, List, false, Some, None, IsTrue, IfSome, MatchOption};
 ghost use Rattle.noise_session.specs.HeldTransport.{seal_fault};
 ghost use Rattle.noise_session.specs.Progress.{length_unless};
 
@@ -31,16 +31,17 @@ pub(crate) enum Phase<K: Keys> {
 impl<K: Keys> Phase<K> {
     ghost use Rattle.noise_handshake.specs.Party.{Stands};
     ghost use Rattle.noise_session.specs.Progress.{role_of, stage_of, idle_step, frame_len_of};
-    ghost use Rattle.noise_session.specs.Ends.{EndView, PhaseStands, progress_in, hash_in, remote_static_in};
-    ghost use Rattle.noise_session.specs.Phases.{IsHandshake, GoesOnAs, is_due, is_over, over_in};
-    ghost use Rattle.noise_session.specs.Outcomes.{tells, StandsIn};
+    ghost use Rattle.noise_session.specs.Ends.{EndView, PhaseStands, progress_in, hash_in, remote_static_in, is_over};
+    ghost use Rattle.noise_session.specs.inner.Phases.{IsHandshake, GoesOnAs, is_due, over_in};
+    ghost use Rattle.noise_session.specs.inner.Outcomes.{tells, StandsIn};
 
     // The phase behind messages of a handshake: its transport, once all of them have passed.
     pub(crate) fn behind(handshake: Handshake<K>, interval: u64) -> Phase<K>
         requires { handshake.ended ≡ false }
         ensures due { IsTrue (is_due result) }
         ensures going { is_over result ≡ false }
-        ensures stands { (v : EndView) → Stands K.public_of K.agreement handshake v.party → interval ≡ v.interval → v.sent ≡ 0 → v.received ≡ 0 → PhaseStands K.public_of K.agreement result v }
+        ensures stands { (v : EndView) → Stands K.public_of K.agreement handshake v.party → interval ≡ v.interval → v.sent ≡ 0 → v.received ≡ 0
+            → PhaseStands K.public_of K.agreement result v }
     {
         match handshake.finish() {
             Ok(opened) => Phase::Open(Transport::new(opened, interval)),
@@ -133,7 +134,8 @@ impl<K: Keys> Phase<K> {
 
     // What it tells without taking a byte; None where it listens.
     pub(crate) fn idle(&self) -> Option<Outcome>
-        ensures step { MatchOption result (idle_step (progress_in self.now) ≡ None) (λ outcome. (message : List ℕ) → idle_step (progress_in self.now) ≡ Some (tells message outcome)) }
+        ensures step { MatchOption result (idle_step (progress_in self.now) ≡ None)
+            (λ outcome. (message : List ℕ) → idle_step (progress_in self.now) ≡ Some (tells message outcome)) }
         ensures place { IfSome result (λ outcome. (message : List ℕ) → StandsIn message outcome) }
     {
         match self {

@@ -1,10 +1,10 @@
 //! A whole message comes to an end.
 #![tactic(auto)]
 
-ghost use Rattle.std.specs.Prelude.{◌≡◌, ◌≤◌, [], length, true, None, IsTrue};
+ghost use Rattle.std.specs.Prelude.{◌≡◌, ◌≤◌, [], length, None, IsTrue};
 ghost use Rattle.noise_session.specs.Ends.{EndView, PhaseStands, progress_in};
-ghost use Rattle.noise_session.specs.Outcomes.{tells, StandsIn};
-ghost use Rattle.noise_session.specs.Phases.{is_due};
+ghost use Rattle.noise_session.specs.inner.Outcomes.{tells, StandsIn};
+ghost use Rattle.noise_session.specs.inner.Phases.{is_due};
 ghost use Rattle.noise_session.specs.Progress.{idle_step};
 ghost use Rattle.noise_session.specs.Taking.{Judges};
 

@@ -4,12 +4,12 @@
 ghost use Rattle.std.specs.Prelude.{◌≡◌, ℕ, List, [], drop, true, IsTrue, IsSome, IfOk, IfSome};
 ghost use Rattle.std.specs.Io.KnownBytes.{Consumes, IsAtEnd};
 ghost use Rattle.noise_session.specs.Counting.{inner_of, failures_of};
-ghost use Rattle.noise_session.specs.Ends.{EndView, EndStands, progress_in};
+ghost use Rattle.noise_session.specs.Ends.{EndView, EndStands, progress_in, is_over};
 ghost use Rattle.noise_session.specs.Frames.{IsPartial};
-ghost use Rattle.noise_session.specs.Incoming.{bytes_of};
+ghost use Rattle.noise_session.specs.inner.Incoming.{bytes_of};
 ghost use Rattle.noise_session.specs.Inputs.{Receives, is_end, behind_receiving};
-ghost use Rattle.noise_session.specs.Outcomes.{received, StandsIn};
-ghost use Rattle.noise_session.specs.Phases.{is_due, is_over};
+ghost use Rattle.noise_session.specs.inner.Outcomes.{received, StandsIn};
+ghost use Rattle.noise_session.specs.inner.Phases.{is_due};
 ghost use Rattle.noise_session.specs.Progress.{idle_step};
 
 use crate::filling::Filling;

@@ -3,11 +3,11 @@
 
 ghost use Rattle.std.specs.Prelude.{◌≡◌, ◌≤◌, ℕ, [], ⊤, length, take, drop, true, false, Some, None, Ok, Err, IsTrue, IfOk, IfErr, MatchOption};
 ghost use Rattle.std.specs.Option.{ForSome};
-ghost use Rattle.noise_session.specs.Ends.{EndView, EndStands, PhaseStands, progress_in};
+ghost use Rattle.noise_session.specs.Ends.{EndView, EndStands, PhaseStands, progress_in, is_over};
 ghost use Rattle.noise_session.specs.Frames.{IsPartial, frame};
-ghost use Rattle.noise_session.specs.Incoming.{bytes_of};
+ghost use Rattle.noise_session.specs.inner.Incoming.{bytes_of};
 ghost use Rattle.noise_session.specs.Outputs.{behind_output};
-ghost use Rattle.noise_session.specs.Phases.{is_due, is_over};
+ghost use Rattle.noise_session.specs.inner.Phases.{is_due};
 ghost use Rattle.noise_session.specs.Progress.{refusal, message_length, frame_len_of};
 ghost use Rattle.noise_session.specs.Sending.{Sends, behind_fault};
 ghost use Rattle.noise_session.specs.Faults.{ends};
@@ -27,7 +27,8 @@ fn write_message<K: Keys>(
     requires due { IsTrue (is_due phase.old) }
     requires room { refusal (progress_in phase.old) (length payload.now) ≡ None → message_length (progress_in phase.old) (length payload.now) ≤ length out.old }
     ensures due { IsTrue (is_due phase.new) }
-    ensures len { IfOk result (λ n. (refusal (progress_in phase.old) (length payload.now) ≡ None) × (n ≡ message_length (progress_in phase.old) (length payload.now)) × (n ≤ length out.new) × (n ≤ 65535)) }
+    ensures len { IfOk result (λ n. (refusal (progress_in phase.old) (length payload.now) ≡ None)
+        × (n ≡ message_length (progress_in phase.old) (length payload.now)) × (n ≤ length out.new) × (n ≤ 65535)) }
     ensures rest { IfOk result (λ n. drop n out.new ≡ drop n out.old) }
     ensures refused { MatchOption (refusal (progress_in phase.old) (length payload.now)) ⊤ (λ fault. (result ≡ Err fault) × (out.new ≡ out.old)) }
     ensures going { IfOk result (λ _. is_over phase.new ≡ false) }
@@ -111,7 +112,8 @@ pub(crate) fn send<K: Keys>(
     ensures refused { MatchOption (refusal (progress_in phase.old) (length payload.now)) ⊤ (λ fault. (result ≡ Err fault) × (out.new ≡ out.old)) }
     ensures inner { IfErr result (λ fault. (failures : ℕ) → behind_output failures (Err fault) ≡ failures) }
     ensures ok { (v : EndView) → EndStands K.public_of K.agreement (record { phase = phase.old; held = bytes_of incoming.old }) v → IfOk result (λ n.
-        (next : EndView) × Sends v payload.now (Ok (take n out.new)) next × EndStands K.public_of K.agreement (record { phase = phase.new; held = bytes_of incoming.new }) next) }
+        (next : EndView) × Sends v payload.now (Ok (take n out.new)) next
+        × EndStands K.public_of K.agreement (record { phase = phase.new; held = bytes_of incoming.new }) next) }
     ensures err { (v : EndView) → EndStands K.public_of K.agreement (record { phase = phase.old; held = bytes_of incoming.old }) v → IfErr result (λ fault.
         Sends v payload.now (Err fault) (behind_fault v fault)
         × EndStands K.public_of K.agreement (record { phase = phase.new; held = bytes_of incoming.new }) (behind_fault v fault)) }

@@ -1,14 +1,14 @@
 //! Bytes come to an end.
 #![tactic(auto)]
 
-ghost use Rattle.std.specs.Prelude.{◌≡◌, ◌≤◌, ℕ, [], length, drop, true, None, IsTrue};
+ghost use Rattle.std.specs.Prelude.{◌≡◌, ◌≤◌, [], length, drop, true, None, IsTrue};
 ghost use Rattle.noise_session.specs.Frames.{IsPartial, IsWhole, frame};
 ghost use Rattle.noise_session.specs.Progress.{idle_step};
-ghost use Rattle.noise_session.specs.Ends.{EndView, EndStands, PhaseStands, progress_in};
-ghost use Rattle.noise_session.specs.Phases.{is_due, is_over};
+ghost use Rattle.noise_session.specs.Ends.{EndView, EndStands, PhaseStands, progress_in, is_over};
+ghost use Rattle.noise_session.specs.inner.Phases.{is_due};
 ghost use Rattle.noise_session.specs.Taking.{Takes, Judges};
-ghost use Rattle.noise_session.specs.Outcomes.{tells, StandsIn};
-ghost use Rattle.noise_session.specs.Incoming.{bytes_of};
+ghost use Rattle.noise_session.specs.inner.Outcomes.{tells, StandsIn};
+ghost use Rattle.noise_session.specs.inner.Incoming.{bytes_of};
 
 use crate::incoming::Incoming;
 use crate::outcome::Outcome;
@@ -27,7 +27,8 @@ pub(crate) fn judge<K: Keys>(phase: &mut Phase<K>, incoming: &mut Incoming) -> O
     ensures spelled { bytes_of incoming.old ≡ frame (drop 2 (bytes_of incoming.old)) }
     ensures short { length (drop 2 (bytes_of incoming.old)) ≤ 65535 }
     ensures judges { (v : EndView) → PhaseStands K.public_of K.agreement phase.old v
-        → (next : EndView) × Judges v (drop 2 (bytes_of incoming.old)) (tells (drop 2 incoming.new.buffer.items) result) next × PhaseStands K.public_of K.agreement phase.new next × (next.held ≡ []) }
+        → (next : EndView) × Judges v (drop 2 (bytes_of incoming.old)) (tells (drop 2 incoming.new.buffer.items) result) next
+        × PhaseStands K.public_of K.agreement phase.new next × (next.held ≡ []) }
 {
     let end = incoming.clear();
     read_message(phase, &mut incoming.buffer[2..end])

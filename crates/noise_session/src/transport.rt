@@ -1,7 +1,8 @@
 //! Transport messages of one party (Noise, 5.2 and 11.3).
 #![tactic(auto)]
 
-ghost use Rattle.std.specs.Prelude.{◌≡◌, ◌≢◌, ◌≤◌, ◌+◌, ℕ, List, length, take, drop, Option, Some, None, IsSome, IsOk, IfOk, IfErr, OnOk, OnErr, MatchOption, MatchResult};
+ghost use Rattle.std.specs.Prelude.{◌≡◌, ◌≢◌, ◌≤◌, ◌+◌, ℕ, List, length, take, drop, Option, Some, None, IsSome, IsOk, IfOk, IfErr, OnOk, OnErr};
+ghost use Rattle.std.specs.Prelude.{MatchOption, MatchResult};
 ghost use Rattle.noise_state.specs.Cipher.{key_in, nonce_in};
 ghost use Rattle.noise_state.specs.History.{rekeyed_times};
 ghost use Rattle.noise_handshake.specs.View.{View};

@@ -1,5 +1,6 @@
 -- A buffer whose parts were written in turn.
-use Rattle.std.proofs.Common.{◌≡◌, ℕ, ◌+◌, ◌-◌, ◌≤◌, List, ◌++◌, length, take, drop, replicate, append_assoc, sym, ap, ◌∙◌, arith, take_all, length-drop, drop-drop}
+use Rattle.std.proofs.Common.{◌≡◌, ℕ, ◌+◌, ◌-◌, ◌≤◌, List, ◌++◌, length, take, drop, replicate, append_assoc, sym, ap, ◌∙◌, arith, take_all}
+use Rattle.std.proofs.Common.{length-drop, drop-drop}
 use Rattle.std.proofs.lemmas.List.{take_at, take-append-drop, drop-replicate}
 use Rattle.std.proofs.lemmas.Slice.{drop-append-drop}
 use Rattle.std.proofs.lemmas.Bool.Decides.{nat_tests}

@@ -1,5 +1,6 @@
 -- How long a piece and a hash are, and that no two texts have one piece.
-use Rattle.std.specs.Prelude.{◌≡◌, ℕ, ◌-◌, ◌≤◌, List, [], ◌∷◌, ◌++◌, length, replicate, Bool, true, false, Option, Some, None, is_some, nat_le, if◌then◌else◌, refl}
+use Rattle.std.specs.Prelude.{◌≡◌, ℕ, ◌-◌, ◌≤◌, List, [], ◌∷◌, ◌++◌, length, replicate, Bool, true, false, Option, Some, None, is_some, nat_le}
+use Rattle.std.specs.Prelude.{if◌then◌else◌, refl}
 use Rattle.std.proofs.Common.{arith, length-append}
 use Rattle.std.proofs.lemmas.List.{length-replicate}
 use Rattle.std.proofs.lemmas.Bool.Decides.{nat_tests}
@@ -9,7 +10,8 @@ use Rattle.noise_aead.specs.Sealing.{nonce_of}
 use Rattle.noise_aead.specs.Sealed.{length-sealed, sealed-same}
 use Rattle.noise_kdf.specs.Hkdf.{second_output}
 use Rattle.noise_state.specs.Cipher.{sealed_len}
-use Rattle.noise_state.specs.History.{History, Entry, Mix, Part, Key, KeyHash, start_value, chaining_key_of, hash_of, cipher_key, nonce, hash, piece_under, piece}
+use Rattle.noise_state.specs.History.{History, Entry, Mix, Part, Key, KeyHash, start_value, chaining_key_of, hash_of, cipher_key, nonce, hash}
+use Rattle.noise_state.specs.History.{piece_under, piece}
 
 pub length-piece_under : (k : Option (List ℕ)) (n : ℕ) (ad x : List ℕ) → length (piece_under k n ad x) ≡ sealed_len (is_some k) (length x)
 length-piece_under None n ad x = refl

@@ -1,6 +1,7 @@
 //! CipherState (Noise 5.1, 11.3): a key, or none, and the nonce that counts its use.
 
-ghost use Rattle.std.specs.Prelude.{◌≡◌, ◌≤◌, ◌<◌, ◌-◌, ◌+◌, ◌^◌, ◌++◌, ◌↔◌, ℕ, List, length, take, drop, is_some, IsTrue, IsOk, IsSome, IsNone, IfOk, IfErr, IfSome, IfNone, OnOk, OnErr, Some, None};
+ghost use Rattle.std.specs.Prelude.{◌≡◌, ◌≤◌, ◌<◌, ◌-◌, ◌+◌, ◌++◌, ◌↔◌, ℕ, List, length, take, drop, is_some, IsTrue, IsOk, IsSome, IsNone};
+ghost use Rattle.std.specs.Prelude.{IfOk, IfErr, IfSome, IfNone, OnOk, OnErr, Some, None};
 ghost use Rattle.std.specs.Option.{option_map};
 ghost use Rattle.noise_aead.specs.Sealing.{sealed, nonce_of, rekeyed};
 ghost use Rattle.noise_state.specs.History.{piece_under};

@@ -1,4 +1,4 @@
--- The layout of a pattern's messages: the places, widths and keys of Noise 5.3, token by token.
+-- The layout of a pattern's messages: the places and widths of Noise 5.3, token by token.
 use Rattle.std.specs.Prelude.{◌≡◌, ℕ, ◌+◌, ◌<◌, Bool, List, [], ◌∷◌, length, count_by}
 use Rattle.std.proofs.Common.{get_or}
 use Rattle.noise_names.specs.declared.token.Token.{Token}
@@ -15,18 +15,18 @@ use Rattle.noise_handshake.specs.View.{tokens_at}
 abbrev pub placed_from : Bool → Bool → ℕ → List Token → List PlacedToken
 placed_from psks keyed place [] = []
 placed_from psks keyed place (t ∷ ts) =
-    record { token = t; place = place; width = token_width keyed t; keyed = keyed }
+    record { token = t; place = place; width = token_width keyed t }
     ∷ placed_from psks (keyed_behind psks keyed t) (place + token_width keyed t) ts
 
 abbrev pub tokens_of : List PlacedToken → List Token
 tokens_of [] = []
 tokens_of (p ∷ ps) = p.token ∷ tokens_of ps
 
--- These tokens stand one behind another from this place on, each as wide as it travels, where there is a key or not.
+-- These tokens stand one behind another from this place on, each as wide as it travels, where there is a key before the first or not.
 abbrev pub ArePlaced : Bool → Bool → ℕ → List PlacedToken → Type 0
 ArePlaced psks keyed place [] = Unit {0}
 ArePlaced psks keyed place (p ∷ ps) =
-    (p.place ≡ place) × (p.width ≡ token_width keyed p.token) × (p.keyed ≡ keyed) × ArePlaced psks (keyed_behind psks keyed p.token) (place + p.width) ps
+    (p.place ≡ place) × (p.width ≡ token_width keyed p.token) × ArePlaced psks (keyed_behind psks keyed p.token) (place + p.width) ps
 
 -- The layout of a message of these tokens, where there is a key before it or not.
 pub record IsLaid (psks keyed : Bool) (ts : List Token) (laid : MessageLayout) : Type 0 where

@@ -165,3 +165,33 @@ fn asks_for_the_missing_bytes(rt: HostRuntime) -> std::result::Result<(), Fail> 
     assert_eq!(rt; from.into_inner().asked, [2, 0]);
     Ok(())
 }
+
+// Notes its first flush, and fails at each one behind it.
+#[derive(Drop)]
+struct Flushing {
+    flushed: bool,
+}
+
+impl Write for Flushing {
+    fn write(&mut self, buf: &[u8]) -> Result<usize> {
+        Ok(buf.len())
+    }
+
+    fn flush(&mut self) -> Result<()> {
+        if self.flushed {
+            return Err(Error::from(ErrorKind::Other));
+        }
+        self.flushed = true;
+        Ok(())
+    }
+}
+
+#[test]
+fn flush_is_passed_on_and_not_counted(rt: HostRuntime) -> std::result::Result<(), Fail> {
+    let mut out = Counted::new(Flushing { flushed: false });
+    assert!(rt; out.flush().is_ok());
+    assert!(rt; out.flush().is_err());
+    assert_eq!(rt; out.failures(), 0);
+    assert!(rt; out.into_inner().flushed);
+    Ok(())
+}

@@ -53,7 +53,7 @@ overflow_add-result g t c =
     ap length (c.bytes_from-rest.ensures ∙ ap (λ (k : ℕ). drop k m) u.0) ∙ length-drop place m in
     let next : place + first.width ≤ length m = omega (arith, within, count, wide, c.in-Ok.ensures.range) in
     let placed : ArePlaced psks (keyed c.read_token.new.state) (place + first.width) c.in-Some.later.now =
-    subst (λ (b : Bool). ArePlaced psks b (place + first.width) c.in-Some.later.now) (sym c.in-Ok.ensures.key) u.3 in
+    subst (λ (b : Bool). ArePlaced psks b (place + first.width) c.in-Some.later.now) (sym c.in-Ok.ensures.key) u.2 in
     omega (arith, wide, c.in-Ok-read_tokens.ensures.range (place + first.width) next placed)
 
 pub returns-in-Ok-read_tokens-clause-within : goal.returns-in-Ok-read_tokens-clause-within
@@ -72,7 +72,7 @@ returns-in-Ok-read_tokens-clause-within g t c =
     ap length (c.bytes_from-rest.ensures ∙ ap (λ (k : ℕ). drop k m) u.0) ∙ length-drop place m in
     let next : place + first.width ≤ length m = omega (arith, within, count, wide, c.in-Ok.ensures.range) in
     let placed : ArePlaced psks (keyed c.read_token.new.state) (place + first.width) c.in-Some.later.now =
-    subst (λ (b : Bool). ArePlaced psks b (place + first.width) c.in-Some.later.now) (sym c.in-Ok.ensures.key) u.3 in
+    subst (λ (b : Bool). ArePlaced psks b (place + first.width) c.in-Some.later.now) (sym c.in-Ok.ensures.key) u.2 in
     omega (arith, wide, c.in-Ok-read_tokens.ensures.range (place + first.width) next placed)
 
 pub returns-in-Ok-read_tokens-clause-range : goal.returns-in-Ok-read_tokens-clause-range
@@ -88,7 +88,7 @@ returns-in-Ok-read_tokens-clause-range g t c place within are =
     ap length (c.bytes_from-rest.ensures ∙ ap (λ (k : ℕ). drop k m) u.0) ∙ length-drop place m in
     let next : place + first.width ≤ length m = omega (arith, within, count, wide, c.in-Ok.ensures.range) in
     let placed : ArePlaced psks (keyed c.read_token.new.state) (place + first.width) c.in-Some.later.now =
-    subst (λ (b : Bool). ArePlaced psks b (place + first.width) c.in-Some.later.now) (sym c.in-Ok.ensures.key) u.3 in
+    subst (λ (b : Bool). ArePlaced psks b (place + first.width) c.in-Some.later.now) (sym c.in-Ok.ensures.key) u.2 in
     omega (arith, wide, c.in-Ok-read_tokens.ensures.range (place + first.width) next placed)
 
 pub returns-in-Err-clause-read : goal.returns-in-Err-clause-read
@@ -126,7 +126,7 @@ returns-in-Ok-read_tokens-clause-read g t c r place s within are =
     ap length (c.bytes_from-rest.ensures ∙ ap (λ (k : ℕ). drop k m) u.0) ∙ length-drop place m in
     let next : place + first.width ≤ length m = omega (arith, within, count, wide, c.in-Ok.ensures.range) in
     let placed : ArePlaced psks (keyed c.read_token.new.state) (place + first.width) c.in-Some.later.now =
-    subst (λ (b : Bool). ArePlaced psks b (place + first.width) c.in-Some.later.now) (sym c.in-Ok.ensures.key) u.3 in
+    subst (λ (b : Bool). ArePlaced psks b (place + first.width) c.in-Some.later.now) (sym c.in-Ok.ensures.key) u.2 in
     let rest : List ℕ = drop place m in
     let d = c.in-Ok.ensures.read r s in
     let spelled : rest ≡ token_piece r token d.0 ++ drop n rest = subst (λ (z : List ℕ). z ≡ token_piece r token d.0 ++ drop n z) here d.2 in
@@ -136,11 +136,13 @@ returns-in-Ok-read_tokens-clause-read g t c r place s within are =
     let others : List (List ℕ) = c.secrets_behind-others.result.now in
     let i = c.in-Ok-read_tokens.ensures.read (behind_token psks r token d.0) (place + first.width) d.3 next placed in
     let leads : Leads v known2 others (behind_token psks r token d.0) later i.0 (drop (place + first.width) m) (drop more (drop (place + first.width) m)) =
-    subst (λ (z : List ℕ). Leads v known2 others (behind_token psks r token d.0) later i.0 (drop (place + first.width) m) z) (sym (drop-drop more (place + first.width) m)) i.1 in
+    subst (λ (z : List ℕ). Leads v known2 others (behind_token psks r token d.0) later i.0 (drop (place + first.width) m) z)
+    (sym (drop-drop more (place + first.width) m)) i.1 in
     let whole = led v c.args.known.now known2 c.args.secrets.now others r (tokens_of c.args.placed.now) later token d.0 rest (drop (place + first.width) m) n
     split d.1 spelled d.4 c.secrets_behind-others.ensures goes i.0 more leads in (
       d.0 ∷ i.0,
-      subst (λ (z : List ℕ). Leads v c.args.known.now c.args.secrets.now r (tokens_of c.args.placed.now) (d.0 ∷ i.0) rest z) (drop-drop (n + more) place m) whole,
+      subst (λ (z : List ℕ). Leads v c.args.known.now c.args.secrets.now r (tokens_of c.args.placed.now) (d.0 ∷ i.0) rest z)
+          (drop-drop (n + more) place m) whole,
       subst (λ (us : List Token). StateStands c.read_tokens.new.state (behind_front psks r us (d.0 ∷ i.0))) (sym split) i.2,
       learned-on v c.args.known.now known2 c.args.secrets.now others r (tokens_of c.args.placed.now) later token d.0 rest (drop (place + first.width) m) n
           split d.1 spelled d.4 c.secrets_behind-others.ensures goes i.0 c.read_tokens.new.known i.3,
@@ -164,13 +166,14 @@ returns-in-Err-read_tokens-clause-read g t c r place s within are =
     ap length (c.bytes_from-rest.ensures ∙ ap (λ (k : ℕ). drop k m) u.0) ∙ length-drop place m in
     let next : place + first.width ≤ length m = omega (arith, within, count, wide, c.in-Ok.ensures.range) in
     let placed : ArePlaced psks (keyed c.read_token.new.state) (place + first.width) c.in-Some.later.now =
-    subst (λ (b : Bool). ArePlaced psks b (place + first.width) c.in-Some.later.now) (sym c.in-Ok.ensures.key) u.3 in
+    subst (λ (b : Bool). ArePlaced psks b (place + first.width) c.in-Some.later.now) (sym c.in-Ok.ensures.key) u.2 in
     let rest : List ℕ = drop place m in
     let d = c.in-Ok.ensures.read r s in
     let spelled : rest ≡ token_piece r token d.0 ++ drop n rest = subst (λ (z : List ℕ). z ≡ token_piece r token d.0 ++ drop n z) here d.2 in
     let goes : drop (place + first.width) m ≡ drop n rest = ap (λ (k : ℕ). drop (place + k) m) (sym wide) ∙ sym (drop-drop n place m) in
     let i = c.in-Err-read_tokens.ensures.read (behind_token psks r token d.0) (place + first.width) d.3 next placed in
-    stopped-later v c.args.known.now c.read_token.new.known c.args.secrets.now c.secrets_behind-others.result.now r (tokens_of c.args.placed.now) later token d.0
+    stopped-later v c.args.known.now c.read_token.new.known c.args.secrets.now c.secrets_behind-others.result.now r
+    (tokens_of c.args.placed.now) later token d.0
     rest (drop (place + first.width) m) n split d.1 spelled d.4 c.secrets_behind-others.ensures goes
     c.in-Err-read_tokens.k c.in-Err-read_tokens.cause c.in-Err-read_tokens.ensures.stop i
 

@@ -13,7 +13,8 @@ returns-in-Ok-clause-opened c r s w =
     let n : ℕ = c.in-Ok.field-0 in
     let d = c.in-Ok.ensures.ok r s in
     let same : length new ≡ length old = omega arith in
-    let e : c.first_32.result ≡ take n new = c.first_32.ensures ∙ sym (opened-key r old new n w same (omega (arith, sealed_len-tag (keyed c.args.state.now) n, c.in-Ok.ensures.text)) d.0) in
+    let e : c.first_32.result ≡ take n new = c.first_32.ensures
+    ∙ sym (opened-key r old new n w same (omega (arith, sealed_len-tag (keyed c.args.state.now) n, c.in-Ok.ensures.text)) d.0) in
     let q : old ≡ piece r c.first_32.result = d.0 ∙ ap (piece r) (sym e) in
     (length-of_key r c.first_32.result (ap length (sym q) ∙ w), q, subst (λ (z : List ℕ). StateStands c.decrypt_and_hash.new.self (and_then r (Part z))) q d.1)
 

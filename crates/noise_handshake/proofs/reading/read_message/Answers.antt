@@ -1,4 +1,5 @@
-use Rattle.std.proofs.Common.{◌≡◌, ◌<◌, ◌≤◌, ◌^◌, ℕ, ◌+◌, ◌-◌, List, length, take, drop, slice_range, ap, sym, subst, ◌∙◌, arith, length-drop, length-take, take_all, nat_lt, if◌then◌else◌}
+use Rattle.std.proofs.Common.{◌≡◌, ◌<◌, ◌≤◌, ◌^◌, ℕ, ◌+◌, ◌-◌, List, length, take, drop, slice_range, ap, sym, subst, ◌∙◌, arith, length-drop}
+use Rattle.std.proofs.Common.{length-take, take_all, nat_lt, if◌then◌else◌}
 use borrow.Rule.Slice.PartMut.{put_mid}
 use Rattle.noise_state.specs.Standing.{StateStands, keyed}
 use Rattle.noise_state.specs.Standing.{nonce_now-is}
@@ -57,9 +58,11 @@ returns-in-Err-Short-clause-read g c r s =
     let fits : length (take (length m - n) (drop n m)) ≤ 65535 = omega (arith, length-drop n m, length-take (length m - n) (drop n m)) in
     let goes : take (length m - n) (drop n m) ≡ drop n m = take_all (length m - n) (drop n m) (omega (arith, length-drop n m)) in
     let last : Stops v c.args.known.now c.args.secrets.now r (tokens_of c.args.placed.now) m (length (tokens_of c.args.placed.now)) c.end_cause.result =
-    stops-last v c.args.known.now c.args.secrets.now r (tokens_of c.args.placed.now) m start.0 (drop n m) c.end_cause.result i1 (λ payload e. let told = (c.in-Err-Short.ensures.accepts behind start.2).1 (nonces, fits, (payload, goes ∙ e)) in cc)
+    stops-last v c.args.known.now c.args.secrets.now r (tokens_of c.args.placed.now) m start.0 (drop n m) c.end_cause.result i1
+    (λ payload e. let told = (c.in-Err-Short.ensures.accepts behind start.2).1 (nonces, fits, (payload, goes ∙ e)) in cc)
     (c.end_cause.ensures ∙ ap (λ (k : ℕ). if nat_lt k 16 then Short else Tag) (sym (length-drop n m))) in
-    subst (λ (k : ℕ). Stops v c.args.known.now c.args.secrets.now r (tokens_of c.args.placed.now) m k c.end_cause.result) (length-tokens_of c.args.placed.now) last
+    subst (λ (k : ℕ). Stops v c.args.known.now c.args.secrets.now r (tokens_of c.args.placed.now) m k c.end_cause.result)
+    (length-tokens_of c.args.placed.now) last
 
 pub returns-in-Err-clause-read : goal.returns-in-Err-clause-read
 returns-in-Err-clause-read g c r s = c.in-Err.ensures.read r 0 s (omega arith) c.requires.placed

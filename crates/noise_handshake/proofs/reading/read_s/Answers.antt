@@ -14,7 +14,8 @@ returns-in-None-clause-read c r s =
     let w = width-is c.args.state.now r c.args.width s c.requires.width in
     let n : ℕ = c.args.width in
     let same : c.copy_from_slice.new.self ≡ take n c.args.message.now = c.copy_from_slice.ensures.after in
-    let long : length c.copy_from_slice.new.self ≡ width_of_key r = omega (arith, ap length same, length-take n c.args.message.now, c.if-message-width.false, w) in (
+    let long : length c.copy_from_slice.new.self ≡ width_of_key r =
+    omega (arith, ap length same, length-take n c.args.message.now, c.if-message-width.false, w) in (
       wrong-key r c.args.message.now n w (λ x e. c.in-None.ensures.opened r s long x (same ∙ e)),
       why-tag r c.args.message.now n w c.if-message-width.false,
     )

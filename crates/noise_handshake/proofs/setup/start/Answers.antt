@@ -29,5 +29,6 @@ returns-clause-key c =
     let b : Bool = not c.is_plain-with_psks.result in
     let psks : b ≡ has_psk p = flips c.is_plain-with_psks.result (has_psk p) c.is_plain-with_psks.ensures in
     start-key p b c.pre-first.result.now c.pre-second.result.now psks c.pre-first.ensures.same c.pre-second.ensures.same
-    (keyed c.mix_prologue.new.state) (keyed c.mix_premessage.new.state) (keyed c.mix_premessage-2.new.state) (c.mix_prologue.ensures.key ∙ c.new-state.ensures.key)
+    (keyed c.mix_prologue.new.state) (keyed c.mix_premessage.new.state) (keyed c.mix_premessage-2.new.state)
+    (c.mix_prologue.ensures.key ∙ c.new-state.ensures.key)
     c.mix_premessage.ensures.key c.mix_premessage-2.ensures.key c.pre-first.ensures.kinds c.pre-second.ensures.kinds

@@ -6,4 +6,5 @@ use Rattle.noise_handshake.proofs.tokens.mix_ephemeral.Goals as goal
 
 pub returns-then-psks-clause-mixed : goal.returns-then-psks-clause-mixed
 returns-then-psks-clause-mixed c r s =
-    subst (λ (b : Bool). StateStands c.mix_key.new.self (with_ephemeral b r c.args.key.now)) (sym c.if-psks.true) (c.mix_key.ensures.stands _ (c.mix_hash.ensures.stands r s))
+    subst (λ (b : Bool). StateStands c.mix_key.new.self (with_ephemeral b r c.args.key.now)) (sym c.if-psks.true)
+    (c.mix_key.ensures.stands _ (c.mix_hash.ensures.stands r s))

@@ -22,12 +22,18 @@ returns-in-Ok-clause-rest g t c =
     widths c.args.means.now.psks key (keyed c.write_token.new.state) (tokens_of c.args.placed.now) later token n k (length c.args.out.now) split c.requires.room
     c.in-Some-write_token.ensures.width c.in-Some-write_token.ensures.keyed c.in-Ok.ensures.width in
     let fits : n ≤ length c.write_token.new.out = omega (arith, both) in
-    let long : k ≤ length c.write_tokens.new.out = omega (arith, both, length-take (length c.write_token.new.out - n) (drop n c.write_token.new.out), length-drop n c.write_token.new.out) in
+    let long : k ≤ length c.write_tokens.new.out =
+    omega (arith, both, length-take (length c.write_token.new.out - n) (drop n c.write_token.new.out), length-drop n c.write_token.new.out) in
     rest-behind c.write_token.new.out c.write_tokens.new.out n k fits long c.args.out.now c.in-Some-write_token.ensures.rest c.in-Ok.ensures.rest
 
 pub returns-in-Ok-clause-written : goal.returns-in-Ok-clause-written
 returns-in-Ok-clause-written g t c r s =
-    let w : Writer = record { role = c.args.means.now.role; psks = c.args.means.now.psks; own = g.K.Keys.public_of c.args.means.now.keys.now; agree = g.K.Keys.agreement c.args.means.now.keys.now } in
+    let w : Writer = record {
+      role = c.args.means.now.role;
+      psks = c.args.means.now.psks;
+      own = g.K.Keys.public_of c.args.means.now.keys.now;
+      agree = g.K.Keys.agreement c.args.means.now.keys.now;
+    } in
     let n : ℕ = c.in-Some-write_token.n in
     let k : ℕ = c.in-Ok.more in
     let token : Token = c.in-Some.first.now.token in
@@ -38,7 +44,8 @@ returns-in-Ok-clause-written g t c r s =
     widths c.args.means.now.psks key (keyed c.write_token.new.state) (tokens_of c.args.placed.now) later token n k (length c.args.out.now) split c.requires.room
     c.in-Some-write_token.ensures.width c.in-Some-write_token.ensures.keyed c.in-Ok.ensures.width in
     let fits : n ≤ length c.write_token.new.out = omega (arith, both) in
-    let long : k ≤ length c.write_tokens.new.out = omega (arith, both, length-take (length c.write_token.new.out - n) (drop n c.write_token.new.out), length-drop n c.write_token.new.out) in
+    let long : k ≤ length c.write_tokens.new.out =
+    omega (arith, both, length-take (length c.write_token.new.out - n) (drop n c.write_token.new.out), length-drop n c.write_token.new.out) in
     let known = c.args.known.now in
     let secrets : List (List ℕ) = c.args.secrets.now in
     let others : List (List ℕ) = c.secrets_behind-others.result.now in
@@ -48,13 +55,20 @@ returns-in-Ok-clause-written g t c r s =
       a.0 ∷ b.0,
       given-on w known secrets others r (tokens_of c.args.placed.now) later token a.0 split a.1 c.secrets_behind-others.ensures b.0 b.1,
       joined c.write_token.new.out c.write_tokens.new.out n k fits long (drop (length c.write_token.new.out - n) (drop n c.write_token.new.out))
-          ∙ front-on w known secrets others r (tokens_of c.args.placed.now) later token a.0 split a.1 c.secrets_behind-others.ensures b.0 (take n c.write_token.new.out) (take k c.write_tokens.new.out) a.2 b.2,
-      behind-on w known secrets others r (tokens_of c.args.placed.now) later token a.0 split a.1 c.secrets_behind-others.ensures StateStands c.write_tokens.new.state b.0 b.3,
+          ∙ front-on w known secrets others r (tokens_of c.args.placed.now) later token a.0 split a.1 c.secrets_behind-others.ensures b.0
+          (take n c.write_token.new.out) (take k c.write_tokens.new.out) a.2 b.2,
+      behind-on w known secrets others r (tokens_of c.args.placed.now) later token a.0 split a.1 c.secrets_behind-others.ensures StateStands
+          c.write_tokens.new.state b.0 b.3,
     )
 
 pub returns-in-Err-clause-written : goal.returns-in-Err-clause-written
 returns-in-Err-clause-written g t c r s =
-    let w : Writer = record { role = c.args.means.now.role; psks = c.args.means.now.psks; own = g.K.Keys.public_of c.args.means.now.keys.now; agree = g.K.Keys.agreement c.args.means.now.keys.now } in
+    let w : Writer = record {
+      role = c.args.means.now.role;
+      psks = c.args.means.now.psks;
+      own = g.K.Keys.public_of c.args.means.now.keys.now;
+      agree = g.K.Keys.agreement c.args.means.now.keys.now;
+    } in
     let token : Token = c.in-Some.first.now.token in
     let a = c.in-Some-write_token.ensures.written r s in
     let next : History = behind_token c.args.means.now.psks r token a.0 in

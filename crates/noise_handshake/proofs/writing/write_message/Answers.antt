@@ -13,7 +13,8 @@ returns-clause-rest g c =
     let first : List ℕ = c.write_tokens.new.out in
     let second : List ℕ = c.write_part.new.out in
     let both : n + k ≤ length c.args.out.now =
-    widths-last c.args.means.now.psks (keyed c.args.state.now) (keyed c.write_tokens.new.state) (tokens_of c.args.placed.now) n k (length c.args.payload.now) (length c.args.out.now)
+    widths-last c.args.means.now.psks (keyed c.args.state.now) (keyed c.write_tokens.new.state) (tokens_of c.args.placed.now) n k
+    (length c.args.payload.now) (length c.args.out.now)
     c.requires.room c.in-Ok.ensures.width c.in-Ok.ensures.keyed c.write_part.ensures.width in
     let fits : n ≤ length first = omega (arith, both) in
     let long : k ≤ length second = omega (arith, both, length-take (length first - n) (drop n first), length-drop n first) in
@@ -26,7 +27,8 @@ returns-clause-written g c r s =
     let first : List ℕ = c.write_tokens.new.out in
     let second : List ℕ = c.write_part.new.out in
     let both : n + k ≤ length c.args.out.now =
-    widths-last c.args.means.now.psks (keyed c.args.state.now) (keyed c.write_tokens.new.state) (tokens_of c.args.placed.now) n k (length c.args.payload.now) (length c.args.out.now)
+    widths-last c.args.means.now.psks (keyed c.args.state.now) (keyed c.write_tokens.new.state) (tokens_of c.args.placed.now) n k
+    (length c.args.payload.now) (length c.args.out.now)
     c.requires.room c.in-Ok.ensures.width c.in-Ok.ensures.keyed c.write_part.ensures.width in
     let fits : n ≤ length first = omega (arith, both) in
     let long : k ≤ length second = omega (arith, both, length-take (length first - n) (drop n first), length-drop n first) in

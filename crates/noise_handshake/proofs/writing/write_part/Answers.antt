@@ -20,4 +20,5 @@ encrypt_and_hash-requires c _ =
     omega (arith, length-take (len + c.tag_width.result) c.put-len.new.out, sealed_len-tag (keyed c.args.state.now) len, c.tag_width.ensures)
 
 pub unreachable-requires : goal.unreachable-requires
-unreachable-requires c = let a = c.in-Err in not-refused (keyed c.args.state.now) (nonce_now c.args.state.now) c.put-len.result c.in-Err.field-0 (omega arith) (omega (arith, c.tag_width.ensures)) c.in-Err.ensures.refused
+unreachable-requires c = let a = c.in-Err in not-refused (keyed c.args.state.now) (nonce_now c.args.state.now) c.put-len.result c.in-Err.field-0
+    (omega arith) (omega (arith, c.tag_width.ensures)) c.in-Err.ensures.refused

@@ -22,5 +22,10 @@ returns-clause-bytes g c =
     let vec = c.args.buffer.now.ok.0 in
     let order : c.args.start ≤ c.args.end = c.requires.order in
     let room : c.args.end ≤ length c.args.buffer.now.items = c.requires.room in
-    let lent : length c.deref_mut.result.now ≡ length c.args.buffer.now.items = ap (λ (xs : List ℕ). length xs) c.deref_mut.ensures.value in
-    (take n read, c.fill_from.ensures.bytes, length-take-le n read fits, front-of c.args.buffer.now.items c.deref_mut.result.now read _ _ c.args.start n c.args.buffer.now.len c.deref_mut.ensures.value (omega arith) (omega arith) fits)
+    let lent : length c.deref_mut.result.now ≡ length c.args.buffer.now.items = ap (λ (xs : List ℕ). length xs) c.deref_mut.ensures.value in (
+      take n read,
+      c.fill_from.ensures.bytes,
+      length-take-le n read fits,
+      front-of c.args.buffer.now.items c.deref_mut.result.now read _ _ c.args.start
+          n c.args.buffer.now.len c.deref_mut.ensures.value (omega arith) (omega arith) fits,
+    )

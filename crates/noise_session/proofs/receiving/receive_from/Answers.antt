@@ -6,8 +6,8 @@ use Rattle.noise_session.specs.Progress.{idle_step}
 use Rattle.noise_session.specs.Ends.{EndView, progress_of, progress_in}
 use Rattle.noise_session.specs.Taking.Takes.{idles, judges}
 use Rattle.noise_session.specs.Inputs.Receives.{takes, pauses, is_cut, fails}
-use Rattle.noise_session.specs.Incoming.{bytes_of}
-use Rattle.noise_session.specs.Outcomes.{tells}
+use Rattle.noise_session.specs.inner.Incoming.{bytes_of}
+use Rattle.noise_session.specs.inner.Outcomes.{tells}
 use Rattle.noise_session.specs.Steps.{Told}
 use Rattle.noise_session.proofs.Streaming.{consumed_none}
 use Rattle.noise_session.proofs.Cutting.{idles-not, judged-not}
@@ -21,7 +21,8 @@ pub returns-in-Some-clause-receives : goal.returns-in-Some-clause-receives
 returns-in-Some-clause-receives g c v s =
     let step = tells (drop 2 c.args.incoming.now.buffer.items) c.in-Some.outcome in
     let idle : idle_step (progress_of v) ≡ Some step =
-    ap idle_step (sym (phase-progress g.K.Keys.public_of g.K.Keys.agreement c.args.phase.now v s.phase)) ∙ c.in-Some.ensures.step (drop 2 c.args.incoming.now.buffer.items) in
+    ap idle_step (sym (phase-progress g.K.Keys.public_of g.K.Keys.agreement c.args.phase.now v s.phase))
+    ∙ c.in-Some.ensures.step (drop 2 c.args.incoming.now.buffer.items) in
     ([], v, takes v v [] step (λ same. idles-not (progress_of v) (idle ∙ ap (λ (t : Told). Some t) same)) (idles v [] step idle), consumed_none _, s)
 
 pub returns-in-Filled-clause-receives : goal.returns-in-Filled-clause-receives
@@ -36,8 +37,14 @@ returns-in-Filled-clause-receives g c v s =
     let whole : v.held ++ piece ≡ frame message ++ [] =
     ap (λ (xs : List ℕ). xs ++ piece) (sym s.held) ∙ (sym r.2 ∙ (c.judge.ensures.spelled ∙ sym (append-nil (frame message)))) in
     let taken : length piece + length {A = ℕ} [] ≡ length piece = omega arith in
-    let step = tells (drop 2 c.judge.new.incoming.buffer.items) c.judge.result in
-    (piece, next, takes v next piece step (λ same. judged-not v next message step same judged.1) (judges v next piece message [] (length piece) step none whole c.judge.ensures.short taken judged.1), r.1, record { phase = judged.2; held = c.judge.ensures.empty ∙ sym judged.3 })
+    let step = tells (drop 2 c.judge.new.incoming.buffer.items) c.judge.result in (
+      piece,
+      next,
+      takes v next piece step (λ same. judged-not v next message step same judged.1) (judges v next piece message []
+          (length piece) step none whole c.judge.ensures.short taken judged.1),
+      r.1,
+      record { phase = judged.2; held = c.judge.ensures.empty ∙ sym judged.3 },
+    )
 
 pub returns-in-Failed-clause-receives : goal.returns-in-Failed-clause-receives
 returns-in-Failed-clause-receives g c v s =
@@ -46,8 +53,13 @@ returns-in-Failed-clause-receives g c v s =
     let r = c.in-Failed.ensures.bytes in
     let bytes : bytes_of c.fill_from.new.self ≡ v.held ++ r.0 = r.2 ∙ ap (λ (xs : List ℕ). xs ++ r.0) s.held in
     let partial : IsPartial (v.held ++ r.0) = subst (λ (xs : List ℕ). IsPartial xs) bytes c.in-Failed.ensures.leaves in
-    let next : EndView = record v { held = v.held ++ r.0 } in
-    (r.0, next, fails v r.0 none partial, r.1, record { phase = phase-held g.K.Keys.public_of g.K.Keys.agreement c.args.phase.now v (v.held ++ r.0) s.phase; held = bytes })
+    let next : EndView = record v { held = v.held ++ r.0 } in (
+      r.0,
+      next,
+      fails v r.0 none partial,
+      r.1,
+      record { phase = phase-held g.K.Keys.public_of g.K.Keys.agreement c.args.phase.now v (v.held ++ r.0) s.phase; held = bytes },
+    )
 
 pub returns-then-held-eq0-clause-receives : goal.returns-then-held-eq0-clause-receives
 returns-then-held-eq0-clause-receives g c v s =
@@ -73,5 +85,11 @@ returns-else-held-eq0-clause-receives g c v s =
     let bytes : bytes_of c.fill_from.new.self ≡ v.held ++ r.0 = r.2 ∙ ap (λ (xs : List ℕ). xs ++ r.0) s.held in
     let partial : IsPartial (v.held ++ r.0) = subst (λ (xs : List ℕ). IsPartial xs) bytes c.in-End.ensures.leaves in
     let next : EndView = record v { held = v.held ++ r.0 } in
-    let begun : v.held ++ r.0 ≢ [] = λ e. let empty : length (bytes_of c.fill_from.new.self) ≡ 0 = ap (λ (xs : List ℕ). length xs) (bytes ∙ e) in absurd (omega arith) in
-    (r.0, next, is_cut v r.0 none partial begun, r.1, record { phase = phase-held g.K.Keys.public_of g.K.Keys.agreement c.args.phase.now v (v.held ++ r.0) s.phase; held = bytes })
+    let begun : v.held ++ r.0 ≢ [] = λ e. let empty : length (bytes_of c.fill_from.new.self) ≡ 0 = ap (λ (xs : List ℕ). length xs) (bytes ∙ e) in
+    absurd (omega arith) in (
+      r.0,
+      next,
+      is_cut v r.0 none partial begun,
+      r.1,
+      record { phase = phase-held g.K.Keys.public_of g.K.Keys.agreement c.args.phase.now v (v.held ++ r.0) s.phase; held = bytes },
+    )

@@ -15,7 +15,8 @@ pub write_message-requires-clause-room : goal.write_message-requires-clause-room
 write_message-requires-clause-room g c = λ due.
     let n = length c.args.payload.now in
     let out = c.args.out.now in
-    room-behind out (message_length (progress_in c.args.phase.now) n) c.min-start.result (due-fits (progress_in c.args.phase.now) n (length out) c.requires.room due) (omega arith)
+    room-behind out (message_length (progress_in c.args.phase.now) n) c.min-start.result
+    (due-fits (progress_in c.args.phase.now) n (length out) c.requires.room due) (omega arith)
 
 pub write_u16-requires : goal.write_u16-requires
 write_u16-requires g c =
@@ -33,7 +34,8 @@ returns-clause-ok g c v s =
     let room = due-fits (progress_in c.args.phase.now) n (length out) c.requires.room c.in_ok-len.ensures.len.0 in
     let start : c.min-start.result ≡ 2 = omega arith in
     let is : c.write_u16.new.buf ≡ (len / 256 % 256) ∷ (len % 256) ∷ drop 2 (put_mid 2 (length out - 2) out c.write_message.new.out) =
-    subst (λ (k : ℕ). c.write_u16.new.buf ≡ (len / 256 % 256) ∷ (len % 256) ∷ drop 2 (put_mid k (length out - k) out c.write_message.new.out)) start c.write_u16.ensures in
+    subst (λ (k : ℕ). c.write_u16.new.buf ≡ (len / 256 % 256) ∷ (len % 256) ∷ drop 2 (put_mid k (length out - k) out c.write_message.new.out)) start
+    c.write_u16.ensures in
     let w = c.in_ok-len.ensures.ok v s in
     let framed = written_frame len out c.write_message.new.out c.write_u16.new.buf (omega arith) is c.in_ok-len.ensures.len.2 in
     (w.0, subst (λ (f : List ℕ). Sends v c.args.payload.now (Ok f) w.0) (sym framed) w.1, w.2, w.3)
@@ -46,7 +48,8 @@ returns-clause-rest g c =
     let room = due-fits (progress_in c.args.phase.now) n (length out) c.requires.room c.in_ok-len.ensures.len.0 in
     let start : c.min-start.result ≡ 2 = omega arith in
     let is : c.write_u16.new.buf ≡ (len / 256 % 256) ∷ (len % 256) ∷ drop 2 (put_mid 2 (length out - 2) out c.write_message.new.out) =
-    subst (λ (k : ℕ). c.write_u16.new.buf ≡ (len / 256 % 256) ∷ (len % 256) ∷ drop 2 (put_mid k (length out - k) out c.write_message.new.out)) start c.write_u16.ensures in
+    subst (λ (k : ℕ). c.write_u16.new.buf ≡ (len / 256 % 256) ∷ (len % 256) ∷ drop 2 (put_mid k (length out - k) out c.write_message.new.out)) start
+    c.write_u16.ensures in
     let rest : drop len c.write_message.new.out ≡ drop len (take (length out - 2) (drop 2 out)) =
     subst (λ (k : ℕ). drop len c.write_message.new.out ≡ drop len (take (length out - k) (drop k out))) start c.in_ok-len.ensures.rest in
     written_rest len out c.write_message.new.out c.write_u16.new.buf (omega arith) is rest

@@ -4,15 +4,19 @@ use Rattle.noise_session.specs.Frames.{frame, IsPartial}
 use Rattle.noise_session.specs.Progress.{idle_step}
 use Rattle.noise_session.specs.Ends.{EndView, progress_of, progress_in}
 use Rattle.noise_session.specs.Taking.Takes.{idles, waits, judges}
-use Rattle.noise_session.specs.Incoming.{bytes_of}
-use Rattle.noise_session.specs.Outcomes.{tells}
+use Rattle.noise_session.specs.inner.Incoming.{bytes_of}
+use Rattle.noise_session.specs.inner.Outcomes.{tells}
 use Rattle.noise_session.proofs.Views.{phase-progress, phase-held}
 use Rattle.noise_session.proofs.taking.advance.Goals as goal
 
 pub returns-in-Some-clause-takes : goal.returns-in-Some-clause-takes
 returns-in-Some-clause-takes g c v s =
-    let step = c.in-Some.ensures.step (drop 2 c.args.incoming.now.buffer.items) in
-    (v, idles v c.args.piece.now (tells (drop 2 c.args.incoming.now.buffer.items) c.in-Some.outcome) (ap idle_step (sym (phase-progress g.K.Keys.public_of g.K.Keys.agreement c.args.phase.now v s.phase)) ∙ step), s)
+    let step = c.in-Some.ensures.step (drop 2 c.args.incoming.now.buffer.items) in (
+      v,
+      idles v c.args.piece.now (tells (drop 2 c.args.incoming.now.buffer.items) c.in-Some.outcome)
+          (ap idle_step (sym (phase-progress g.K.Keys.public_of g.K.Keys.agreement c.args.phase.now v s.phase)) ∙ step),
+      s,
+    )
 
 pub returns-in-Some-clause-place : goal.returns-in-Some-clause-place
 returns-in-Some-clause-place g c = c.in-Some.ensures.place (drop 2 c.args.incoming.now.buffer.items)
@@ -25,8 +29,11 @@ returns-in-None-clause-takes g c v s =
     let part = c.in-None.ensures.part in
     let bytes : bytes_of c.fill.new.self ≡ v.held ++ piece = part.0 ∙ ap (λ (xs : List ℕ). xs ++ piece) s.held in
     let partial : IsPartial (v.held ++ piece) = subst (λ (xs : List ℕ). IsPartial xs) bytes part.1 in
-    let next : EndView = record v { held = v.held ++ piece } in
-    (next, waits v piece none partial, record { phase = phase-held g.K.Keys.public_of g.K.Keys.agreement c.args.phase.now v (v.held ++ piece) s.phase; held = bytes })
+    let next : EndView = record v { held = v.held ++ piece } in (
+      next,
+      waits v piece none partial,
+      record { phase = phase-held g.K.Keys.public_of g.K.Keys.agreement c.args.phase.now v (v.held ++ piece) s.phase; held = bytes },
+    )
 
 pub returns-in-Some-fill-clause-takes : goal.returns-in-Some-fill-clause-takes
 returns-in-Some-fill-clause-takes g c v s =
@@ -38,8 +45,13 @@ returns-in-Some-fill-clause-takes g c v s =
     let judged = c.judge.ensures.judges v s.phase in
     let next = judged.0 in
     let message = drop 2 (bytes_of c.fill.new.self) in
-    let front : v.held ++ take count piece ≡ frame message = sym (ap (λ (xs : List ℕ). xs ++ take count piece) s.held) ∙ (sym whole.1 ∙ c.judge.ensures.spelled) in
+    let front : v.held ++ take count piece ≡ frame message = sym (ap (λ (xs : List ℕ). xs ++ take count piece) s.held)
+    ∙ (sym whole.1 ∙ c.judge.ensures.spelled) in
     let joined : v.held ++ piece ≡ frame message ++ drop count piece =
-    ap (λ (xs : List ℕ). v.held ++ xs) (sym (take-append-drop count piece)) ∙ (sym (append_assoc v.held (take count piece) (drop count piece)) ∙ ap (λ (xs : List ℕ). xs ++ drop count piece) front) in
-    let taken : count + length (drop count piece) ≡ length piece = omega (arith, length-drop count piece, whole.0) in
-    (next, judges v next piece message (drop count piece) count _ none joined c.judge.ensures.short taken judged.1, record { phase = judged.2; held = c.judge.ensures.empty ∙ sym judged.3 })
+    ap (λ (xs : List ℕ). v.held ++ xs) (sym (take-append-drop count piece))
+    ∙ (sym (append_assoc v.held (take count piece) (drop count piece)) ∙ ap (λ (xs : List ℕ). xs ++ drop count piece) front) in
+    let taken : count + length (drop count piece) ≡ length piece = omega (arith, length-drop count piece, whole.0) in (
+      next,
+      judges v next piece message (drop count piece) count _ none joined c.judge.ensures.short taken judged.1,
+      record { phase = judged.2; held = c.judge.ensures.empty ∙ sym judged.3 },
+    )

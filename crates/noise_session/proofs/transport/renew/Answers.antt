@@ -8,7 +8,8 @@ pub returns-else-interval-ne0-clause-key : goal.returns-else-interval-ne0-clause
 returns-else-interval-ne0-clause-key c first n count key =
     elim c.else-interval-ne0.branch [
       | else-interval-ne0-via-then-interval-ne0+else-nonce-interval-eq0 w ↦
-          let more : (n + 1) % c.args.interval ≢ 0 = λ none. w.if-nonce-interval-eq0.false (ap (λ (k : ℕ). k % c.args.interval) (w.nonce.ensures ∙ count) ∙ none) in
+          let more : (n + 1) % c.args.interval ≢ 0 =
+          λ none. w.if-nonce-interval-eq0.false (ap (λ (k : ℕ). k % c.args.interval) (w.nonce.ensures ∙ count) ∙ none) in
           key ∙ ap (λ (k : ℕ). Some (rekeyed_times k first)) (sym (renewals-kept c.args.interval n w.if-interval-ne0.true more))
       | else-interval-ne0-via-else-interval-ne0 w ↦
           key ∙ ap (λ (k : ℕ). Some (rekeyed_times k first)) (sym (renewals-never c.args.interval n w.if-interval-ne0.false))

@@ -42,7 +42,8 @@ invariant_of-result g c =
     let psks : b ≡ has_psk plan = flips c.is_plain-with_psks.result (has_psk plan) c.is_plain-with_psks.ensures in
     let count : n ≡ secrets_of plan.messages = counted plan c.args.role own c.args.remote n none in
     let items : List (List ℕ) = c.try_extend_from_slice.new.self.items in
-    let same : items ≡ c.args.psks.now = rw c.unwrap.ensures at c.try_extend_from_slice.ensures.ok ∙ ap (λ (z : List (List ℕ)). z ++ c.args.psks.now) c.new-secrets.ensures in
+    let same : items ≡ c.args.psks.now = rw c.unwrap.ensures at c.try_extend_from_slice.ensures.ok
+    ∙ ap (λ (z : List (List ℕ)). z ++ c.args.psks.now) c.new-secrets.ensures in
     let h : IsSound P (record {
       pattern = plan;
       role = c.args.role;

@@ -28,12 +28,22 @@ read_message-requires-clause-placed g c =
     let P = g.K.Keys.public_of in
     let a = c.self.inside in
     let i = c.self.invariant in
-    let h : Held g.row.K.Denot = record { pattern = a.pattern; role = a.role; keys = a.keys; remote = a.remote; secrets = drop a.used a.secrets.items; passed = a.passed; ended = a.ended; state = a.state } in
+    let h : Held g.row.K.Denot = record {
+      pattern = a.pattern;
+      role = a.role;
+      keys = a.keys;
+      remote = a.remote;
+      secrets = drop a.used a.secrets.items;
+      passed = a.passed;
+      ended = a.ended;
+      state = a.state;
+    } in
     let none : read_fault h ≡ None = ap (λ (z : Held g.row.K.Denot). read_fault z) c.self.view_is ∙ sym c.read_fault.ensures ∙ c.in_default.is in
     let less : a.passed < length a.pattern.messages = due h i.2.within none in
     let found : MessageLayout = c.next_layout-laid.result.now in
     let laid : IsLaid (has_psk a.pattern) (has_key a.pattern (passed_places a.pattern a.passed)) (tokens_at a.pattern.messages a.passed) found =
-    subst (λ (z : Held g.row.K.Denot). IsLaid (has_psk z.pattern) (has_key z.pattern (passed_places z.pattern z.passed)) (tokens_at z.pattern.messages z.passed) found)
+    subst (λ (z : Held g.row.K.Denot). IsLaid (has_psk z.pattern) (has_key z.pattern (passed_places z.pattern z.passed))
+    (tokens_at z.pattern.messages z.passed) found)
     (sym c.self.view_is) c.next_layout-laid.ensures.laid in
     let placed : List PlacedToken = c.deref-2.result.now in
     let ts : List Token = tokens_of placed in
@@ -46,12 +56,22 @@ read_message-requires-clause-secrets g c =
     let P = g.K.Keys.public_of in
     let a = c.self.inside in
     let i = c.self.invariant in
-    let h : Held g.row.K.Denot = record { pattern = a.pattern; role = a.role; keys = a.keys; remote = a.remote; secrets = drop a.used a.secrets.items; passed = a.passed; ended = a.ended; state = a.state } in
+    let h : Held g.row.K.Denot = record {
+      pattern = a.pattern;
+      role = a.role;
+      keys = a.keys;
+      remote = a.remote;
+      secrets = drop a.used a.secrets.items;
+      passed = a.passed;
+      ended = a.ended;
+      state = a.state;
+    } in
     let none : read_fault h ≡ None = ap (λ (z : Held g.row.K.Denot). read_fault z) c.self.view_is ∙ sym c.read_fault.ensures ∙ c.in_default.is in
     let less : a.passed < length a.pattern.messages = due h i.2.within none in
     let found : MessageLayout = c.next_layout-laid.result.now in
     let laid : IsLaid (has_psk a.pattern) (has_key a.pattern (passed_places a.pattern a.passed)) (tokens_at a.pattern.messages a.passed) found =
-    subst (λ (z : Held g.row.K.Denot). IsLaid (has_psk z.pattern) (has_key z.pattern (passed_places z.pattern z.passed)) (tokens_at z.pattern.messages z.passed) found)
+    subst (λ (z : Held g.row.K.Denot). IsLaid (has_psk z.pattern) (has_key z.pattern (passed_places z.pattern z.passed))
+    (tokens_at z.pattern.messages z.passed) found)
     (sym c.self.view_is) c.next_layout-laid.ensures.laid in
     let placed : List PlacedToken = c.deref-2.result.now in
     let ts : List Token = tokens_of placed in
@@ -64,12 +84,22 @@ read_message-requires-clause-nonces g c =
     let P = g.K.Keys.public_of in
     let a = c.self.inside in
     let i = c.self.invariant in
-    let h : Held g.row.K.Denot = record { pattern = a.pattern; role = a.role; keys = a.keys; remote = a.remote; secrets = drop a.used a.secrets.items; passed = a.passed; ended = a.ended; state = a.state } in
+    let h : Held g.row.K.Denot = record {
+      pattern = a.pattern;
+      role = a.role;
+      keys = a.keys;
+      remote = a.remote;
+      secrets = drop a.used a.secrets.items;
+      passed = a.passed;
+      ended = a.ended;
+      state = a.state;
+    } in
     let none : read_fault h ≡ None = ap (λ (z : Held g.row.K.Denot). read_fault z) c.self.view_is ∙ sym c.read_fault.ensures ∙ c.in_default.is in
     let less : a.passed < length a.pattern.messages = due h i.2.within none in
     let found : MessageLayout = c.next_layout-laid.result.now in
     let laid : IsLaid (has_psk a.pattern) (has_key a.pattern (passed_places a.pattern a.passed)) (tokens_at a.pattern.messages a.passed) found =
-    subst (λ (z : Held g.row.K.Denot). IsLaid (has_psk z.pattern) (has_key z.pattern (passed_places z.pattern z.passed)) (tokens_at z.pattern.messages z.passed) found)
+    subst (λ (z : Held g.row.K.Denot). IsLaid (has_psk z.pattern) (has_key z.pattern (passed_places z.pattern z.passed))
+    (tokens_at z.pattern.messages z.passed) found)
     (sym c.self.view_is) c.next_layout-laid.ensures.laid in
     let placed : List PlacedToken = c.deref-2.result.now in
     let ts : List Token = tokens_of placed in
@@ -82,12 +112,22 @@ read_message-requires-clause-known g c =
     let P = g.K.Keys.public_of in
     let a = c.self.inside in
     let i = c.self.invariant in
-    let h : Held g.row.K.Denot = record { pattern = a.pattern; role = a.role; keys = a.keys; remote = a.remote; secrets = drop a.used a.secrets.items; passed = a.passed; ended = a.ended; state = a.state } in
+    let h : Held g.row.K.Denot = record {
+      pattern = a.pattern;
+      role = a.role;
+      keys = a.keys;
+      remote = a.remote;
+      secrets = drop a.used a.secrets.items;
+      passed = a.passed;
+      ended = a.ended;
+      state = a.state;
+    } in
     let none : read_fault h ≡ None = ap (λ (z : Held g.row.K.Denot). read_fault z) c.self.view_is ∙ sym c.read_fault.ensures ∙ c.in_default.is in
     let less : a.passed < length a.pattern.messages = due h i.2.within none in
     let found : MessageLayout = c.next_layout-laid.result.now in
     let laid : IsLaid (has_psk a.pattern) (has_key a.pattern (passed_places a.pattern a.passed)) (tokens_at a.pattern.messages a.passed) found =
-    subst (λ (z : Held g.row.K.Denot). IsLaid (has_psk z.pattern) (has_key z.pattern (passed_places z.pattern z.passed)) (tokens_at z.pattern.messages z.passed) found)
+    subst (λ (z : Held g.row.K.Denot). IsLaid (has_psk z.pattern) (has_key z.pattern (passed_places z.pattern z.passed))
+    (tokens_at z.pattern.messages z.passed) found)
     (sym c.self.view_is) c.next_layout-laid.ensures.laid in
     let placed : List PlacedToken = c.deref-2.result.now in
     let ts : List Token = tokens_of placed in
@@ -100,12 +140,22 @@ overflow_add-self g c =
     let P = g.K.Keys.public_of in
     let a = c.self.inside in
     let i = c.self.invariant in
-    let h : Held g.row.K.Denot = record { pattern = a.pattern; role = a.role; keys = a.keys; remote = a.remote; secrets = drop a.used a.secrets.items; passed = a.passed; ended = a.ended; state = a.state } in
+    let h : Held g.row.K.Denot = record {
+      pattern = a.pattern;
+      role = a.role;
+      keys = a.keys;
+      remote = a.remote;
+      secrets = drop a.used a.secrets.items;
+      passed = a.passed;
+      ended = a.ended;
+      state = a.state;
+    } in
     let none : read_fault h ≡ None = ap (λ (z : Held g.row.K.Denot). read_fault z) c.self.view_is ∙ sym c.read_fault.ensures ∙ c.in_default.is in
     let less : a.passed < length a.pattern.messages = due h i.2.within none in
     let found : MessageLayout = c.next_layout-laid.result.now in
     let laid : IsLaid (has_psk a.pattern) (has_key a.pattern (passed_places a.pattern a.passed)) (tokens_at a.pattern.messages a.passed) found =
-    subst (λ (z : Held g.row.K.Denot). IsLaid (has_psk z.pattern) (has_key z.pattern (passed_places z.pattern z.passed)) (tokens_at z.pattern.messages z.passed) found)
+    subst (λ (z : Held g.row.K.Denot). IsLaid (has_psk z.pattern) (has_key z.pattern (passed_places z.pattern z.passed))
+    (tokens_at z.pattern.messages z.passed) found)
     (sym c.self.view_is) c.next_layout-laid.ensures.laid in
     let placed : List PlacedToken = c.deref-2.result.now in
     let ts : List Token = tokens_of placed in
@@ -119,12 +169,22 @@ overflow_cast-result g c =
     let P = g.K.Keys.public_of in
     let a = c.self.inside in
     let i = c.self.invariant in
-    let h : Held g.row.K.Denot = record { pattern = a.pattern; role = a.role; keys = a.keys; remote = a.remote; secrets = drop a.used a.secrets.items; passed = a.passed; ended = a.ended; state = a.state } in
+    let h : Held g.row.K.Denot = record {
+      pattern = a.pattern;
+      role = a.role;
+      keys = a.keys;
+      remote = a.remote;
+      secrets = drop a.used a.secrets.items;
+      passed = a.passed;
+      ended = a.ended;
+      state = a.state;
+    } in
     let none : read_fault h ≡ None = ap (λ (z : Held g.row.K.Denot). read_fault z) c.self.view_is ∙ sym c.read_fault.ensures ∙ c.in_default.is in
     let less : a.passed < length a.pattern.messages = due h i.2.within none in
     let found : MessageLayout = c.next_layout-laid.result.now in
     let laid : IsLaid (has_psk a.pattern) (has_key a.pattern (passed_places a.pattern a.passed)) (tokens_at a.pattern.messages a.passed) found =
-    subst (λ (z : Held g.row.K.Denot). IsLaid (has_psk z.pattern) (has_key z.pattern (passed_places z.pattern z.passed)) (tokens_at z.pattern.messages z.passed) found)
+    subst (λ (z : Held g.row.K.Denot). IsLaid (has_psk z.pattern) (has_key z.pattern (passed_places z.pattern z.passed))
+    (tokens_at z.pattern.messages z.passed) found)
     (sym c.self.view_is) c.next_layout-laid.ensures.laid in
     let placed : List PlacedToken = c.deref-2.result.now in
     let ts : List Token = tokens_of placed in
@@ -137,12 +197,22 @@ invariant_of-self g c =
     let P = g.K.Keys.public_of in
     let a = c.self.inside in
     let i = c.self.invariant in
-    let h : Held g.row.K.Denot = record { pattern = a.pattern; role = a.role; keys = a.keys; remote = a.remote; secrets = drop a.used a.secrets.items; passed = a.passed; ended = a.ended; state = a.state } in
+    let h : Held g.row.K.Denot = record {
+      pattern = a.pattern;
+      role = a.role;
+      keys = a.keys;
+      remote = a.remote;
+      secrets = drop a.used a.secrets.items;
+      passed = a.passed;
+      ended = a.ended;
+      state = a.state;
+    } in
     let none : read_fault h ≡ None = ap (λ (z : Held g.row.K.Denot). read_fault z) c.self.view_is ∙ sym c.read_fault.ensures ∙ c.in_default.is in
     let less : a.passed < length a.pattern.messages = due h i.2.within none in
     let found : MessageLayout = c.next_layout-laid.result.now in
     let laid : IsLaid (has_psk a.pattern) (has_key a.pattern (passed_places a.pattern a.passed)) (tokens_at a.pattern.messages a.passed) found =
-    subst (λ (z : Held g.row.K.Denot). IsLaid (has_psk z.pattern) (has_key z.pattern (passed_places z.pattern z.passed)) (tokens_at z.pattern.messages z.passed) found)
+    subst (λ (z : Held g.row.K.Denot). IsLaid (has_psk z.pattern) (has_key z.pattern (passed_places z.pattern z.passed))
+    (tokens_at z.pattern.messages z.passed) found)
     (sym c.self.view_is) c.next_layout-laid.ensures.laid in
     let placed : List PlacedToken = c.deref-2.result.now in
     let ts : List Token = tokens_of placed in
@@ -158,7 +228,8 @@ invariant_of-self g c =
       omega (arith, enough P h i.2 ts e less, length-drop a.used a.secrets.items, n, i.1),
       sound-behind P h i.2 ts e less c.read_message.new.known c.read_message.new.state (drop (a.used + found.secrets) a.secrets.items) (a.passed + 1) refl
           (ap (λ (k : ℕ). drop (a.used + k) a.secrets.items) n ∙ sym (drop-drop (count_by is_psk ts) a.used a.secrets.items)) key counted few,
-      knows-read h i.3 less c.read_message.new.known c.read_message.new.state (drop (a.used + found.secrets) a.secrets.items) ts e c.in-Ok.ensures.e c.in-Ok.ensures.s,
+      knows-read h i.3 less c.read_message.new.known c.read_message.new.state (drop (a.used + found.secrets) a.secrets.items) ts e c.in-Ok.ensures.e
+          c.in-Ok.ensures.s,
       i.4,
       i.5,
     )
@@ -168,12 +239,22 @@ returns-in-Ok-clause-reads g c v s =
     let P = g.K.Keys.public_of in
     let a = c.self.inside in
     let i = c.self.invariant in
-    let h : Held g.row.K.Denot = record { pattern = a.pattern; role = a.role; keys = a.keys; remote = a.remote; secrets = drop a.used a.secrets.items; passed = a.passed; ended = a.ended; state = a.state } in
+    let h : Held g.row.K.Denot = record {
+      pattern = a.pattern;
+      role = a.role;
+      keys = a.keys;
+      remote = a.remote;
+      secrets = drop a.used a.secrets.items;
+      passed = a.passed;
+      ended = a.ended;
+      state = a.state;
+    } in
     let none : read_fault h ≡ None = ap (λ (z : Held g.row.K.Denot). read_fault z) c.self.view_is ∙ sym c.read_fault.ensures ∙ c.in_default.is in
     let less : a.passed < length a.pattern.messages = due h i.2.within none in
     let found : MessageLayout = c.next_layout-laid.result.now in
     let laid : IsLaid (has_psk a.pattern) (has_key a.pattern (passed_places a.pattern a.passed)) (tokens_at a.pattern.messages a.passed) found =
-    subst (λ (z : Held g.row.K.Denot). IsLaid (has_psk z.pattern) (has_key z.pattern (passed_places z.pattern z.passed)) (tokens_at z.pattern.messages z.passed) found)
+    subst (λ (z : Held g.row.K.Denot). IsLaid (has_psk z.pattern) (has_key z.pattern (passed_places z.pattern z.passed))
+    (tokens_at z.pattern.messages z.passed) found)
     (sym c.self.view_is) c.next_layout-laid.ensures.laid in
     let placed : List PlacedToken = c.deref-2.result.now in
     let ts : List Token = tokens_of placed in
@@ -183,12 +264,14 @@ returns-in-Ok-clause-reads g c v s =
     let A = g.K.Keys.agreement in
     let s0 : Stands P A h v = subst (λ (z : Held g.row.K.Denot). Stands P A z v) (sym c.self.view_is) s in
     let here : ts ≡ tokens_now v = e ∙ tokens-are P A h v s0 in
-    let trial : StateStands c.for_trial-state.result v.history = subst (λ (z : SymmetricState). StateStands z v.history) (sym c.for_trial-state.ensures) s0.history in
+    let trial : StateStands c.for_trial-state.result v.history =
+    subst (λ (z : SymmetricState). StateStands z v.history) (sym c.for_trial-state.ensures) s0.history in
     let l = listening P A h v s0 a.psks _ ts (listens P A h v s0 i.2.within none) i.0 d here in
     let q = c.in-Ok.ensures.read v.history trial in (
       q.0,
       accepted v a.role a.psks (A a.keys) _ a.remote ts l c.args.message.now q.0 _ c.requires q.1,
-      behind P A h v s0 a.psks ts q.0 _ c.read_message.new.state c.read_message.new.known (drop (a.used + found.secrets) a.secrets.items) (a.passed + 1) i.0 here
+      behind P A h v s0 a.psks ts q.0 _ c.read_message.new.state c.read_message.new.known (drop (a.used + found.secrets) a.secrets.items)
+          (a.passed + 1) i.0 here
           (ap (λ (k : ℕ). drop (a.used + k) a.secrets.items) n ∙ sym (drop-drop (count_by is_psk ts) a.used a.secrets.items)) refl q.2
           (q.3 ∙ ap (λ (z : Remote). learned z ts q.0) s0.remote),
     )
@@ -198,12 +281,22 @@ returns-in-Err-clause-reads g c v s =
     let P = g.K.Keys.public_of in
     let a = c.self.inside in
     let i = c.self.invariant in
-    let h : Held g.row.K.Denot = record { pattern = a.pattern; role = a.role; keys = a.keys; remote = a.remote; secrets = drop a.used a.secrets.items; passed = a.passed; ended = a.ended; state = a.state } in
+    let h : Held g.row.K.Denot = record {
+      pattern = a.pattern;
+      role = a.role;
+      keys = a.keys;
+      remote = a.remote;
+      secrets = drop a.used a.secrets.items;
+      passed = a.passed;
+      ended = a.ended;
+      state = a.state;
+    } in
     let none : read_fault h ≡ None = ap (λ (z : Held g.row.K.Denot). read_fault z) c.self.view_is ∙ sym c.read_fault.ensures ∙ c.in_default.is in
     let less : a.passed < length a.pattern.messages = due h i.2.within none in
     let found : MessageLayout = c.next_layout-laid.result.now in
     let laid : IsLaid (has_psk a.pattern) (has_key a.pattern (passed_places a.pattern a.passed)) (tokens_at a.pattern.messages a.passed) found =
-    subst (λ (z : Held g.row.K.Denot). IsLaid (has_psk z.pattern) (has_key z.pattern (passed_places z.pattern z.passed)) (tokens_at z.pattern.messages z.passed) found)
+    subst (λ (z : Held g.row.K.Denot). IsLaid (has_psk z.pattern) (has_key z.pattern (passed_places z.pattern z.passed))
+    (tokens_at z.pattern.messages z.passed) found)
     (sym c.self.view_is) c.next_layout-laid.ensures.laid in
     let placed : List PlacedToken = c.deref-2.result.now in
     let ts : List Token = tokens_of placed in
@@ -212,7 +305,8 @@ returns-in-Err-clause-reads g c v s =
     let A = g.K.Keys.agreement in
     let s0 : Stands P A h v = subst (λ (z : Held g.row.K.Denot). Stands P A z v) (sym c.self.view_is) s in
     let here : ts ≡ tokens_now v = e ∙ tokens-are P A h v s0 in
-    let trial : StateStands c.for_trial-state.result v.history = subst (λ (z : SymmetricState). StateStands z v.history) (sym c.for_trial-state.ensures) s0.history in
+    let trial : StateStands c.for_trial-state.result v.history =
+    subst (λ (z : SymmetricState). StateStands z v.history) (sym c.for_trial-state.ensures) s0.history in
     let l = listening P A h v s0 a.psks _ ts (listens P A h v s0 i.2.within none) i.0 d here in
     let q = c.in-Err.ensures.read v.history trial in
     (refused v a.role a.psks (A a.keys) _ a.remote ts l c.args.message.now _ _ q, ends P A h v s0 true refl)

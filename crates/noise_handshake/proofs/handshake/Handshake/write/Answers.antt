@@ -9,7 +9,8 @@ use Rattle.noise_handshake.specs.inner.Known.{is_known}
 use Rattle.noise_handshake.proofs.Knowing.{writing-known, knows-wrote}
 use Rattle.noise_handshake.proofs.Layouts.{length-tokens_of, tokens-laid}
 use Rattle.noise_handshake.proofs.Standing.{tokens-are, ends}
-use Rattle.noise_handshake.proofs.Wrote.{writes-due, writes-turn, writes-short, writes-length, writes-added, writes-own, speaking, short-view, wrote, written, lacking}
+use Rattle.noise_handshake.proofs.Wrote.{writes-due, writes-turn, writes-short, writes-length, writes-added, writes-own, speaking, short-view, wrote}
+use Rattle.noise_handshake.proofs.Wrote.{written, lacking}
 use Rattle.noise_state.specs.Standing.{StateStands, keyed, nonce_now}
 use Rattle.noise_state.specs.declared.symmetric.SymmetricState.{SymmetricState}
 use Rattle.noise_names.specs.declared.token.Token.{Token}
@@ -30,12 +31,23 @@ write_message-requires-clause-secrets g c =
     let a = c.self.inside in
     let i = c.self.invariant in
     let len : ℕ = length c.args.payload.now in
-    let h : Held g.row.K.Denot = record { pattern = a.pattern; role = a.role; keys = a.keys; remote = a.remote; secrets = drop a.used a.secrets.items; passed = a.passed; ended = a.ended; state = a.state } in
-    let none : write_fault h len ≡ None = ap (λ (z : Held g.row.K.Denot). write_fault z len) c.self.view_is ∙ sym c.write_fault.ensures.value ∙ c.in_default.is in
+    let h : Held g.row.K.Denot = record {
+      pattern = a.pattern;
+      role = a.role;
+      keys = a.keys;
+      remote = a.remote;
+      secrets = drop a.used a.secrets.items;
+      passed = a.passed;
+      ended = a.ended;
+      state = a.state;
+    } in
+    let none : write_fault h len ≡ None = ap (λ (z : Held g.row.K.Denot). write_fault z len) c.self.view_is ∙ sym c.write_fault.ensures.value
+    ∙ c.in_default.is in
     let less : a.passed < length a.pattern.messages = writes-due P h i.2 len none in
     let found : MessageLayout = c.next_layout-laid.result.now in
     let laid : IsLaid (has_psk a.pattern) (has_key a.pattern (passed_places a.pattern a.passed)) (tokens_at a.pattern.messages a.passed) found =
-    subst (λ (z : Held g.row.K.Denot). IsLaid (has_psk z.pattern) (has_key z.pattern (passed_places z.pattern z.passed)) (tokens_at z.pattern.messages z.passed) found)
+    subst (λ (z : Held g.row.K.Denot). IsLaid (has_psk z.pattern) (has_key z.pattern (passed_places z.pattern z.passed))
+    (tokens_at z.pattern.messages z.passed) found)
     (sym c.self.view_is) c.next_layout-laid.ensures.laid in
     let placed : List PlacedToken = c.deref-2.result.now in
     let ts : List Token = tokens_of placed in
@@ -49,12 +61,23 @@ write_message-requires-clause-nonces g c =
     let a = c.self.inside in
     let i = c.self.invariant in
     let len : ℕ = length c.args.payload.now in
-    let h : Held g.row.K.Denot = record { pattern = a.pattern; role = a.role; keys = a.keys; remote = a.remote; secrets = drop a.used a.secrets.items; passed = a.passed; ended = a.ended; state = a.state } in
-    let none : write_fault h len ≡ None = ap (λ (z : Held g.row.K.Denot). write_fault z len) c.self.view_is ∙ sym c.write_fault.ensures.value ∙ c.in_default.is in
+    let h : Held g.row.K.Denot = record {
+      pattern = a.pattern;
+      role = a.role;
+      keys = a.keys;
+      remote = a.remote;
+      secrets = drop a.used a.secrets.items;
+      passed = a.passed;
+      ended = a.ended;
+      state = a.state;
+    } in
+    let none : write_fault h len ≡ None = ap (λ (z : Held g.row.K.Denot). write_fault z len) c.self.view_is ∙ sym c.write_fault.ensures.value
+    ∙ c.in_default.is in
     let less : a.passed < length a.pattern.messages = writes-due P h i.2 len none in
     let found : MessageLayout = c.next_layout-laid.result.now in
     let laid : IsLaid (has_psk a.pattern) (has_key a.pattern (passed_places a.pattern a.passed)) (tokens_at a.pattern.messages a.passed) found =
-    subst (λ (z : Held g.row.K.Denot). IsLaid (has_psk z.pattern) (has_key z.pattern (passed_places z.pattern z.passed)) (tokens_at z.pattern.messages z.passed) found)
+    subst (λ (z : Held g.row.K.Denot). IsLaid (has_psk z.pattern) (has_key z.pattern (passed_places z.pattern z.passed))
+    (tokens_at z.pattern.messages z.passed) found)
     (sym c.self.view_is) c.next_layout-laid.ensures.laid in
     let placed : List PlacedToken = c.deref-2.result.now in
     let ts : List Token = tokens_of placed in
@@ -68,12 +91,23 @@ write_message-requires-clause-own g c =
     let a = c.self.inside in
     let i = c.self.invariant in
     let len : ℕ = length c.args.payload.now in
-    let h : Held g.row.K.Denot = record { pattern = a.pattern; role = a.role; keys = a.keys; remote = a.remote; secrets = drop a.used a.secrets.items; passed = a.passed; ended = a.ended; state = a.state } in
-    let none : write_fault h len ≡ None = ap (λ (z : Held g.row.K.Denot). write_fault z len) c.self.view_is ∙ sym c.write_fault.ensures.value ∙ c.in_default.is in
+    let h : Held g.row.K.Denot = record {
+      pattern = a.pattern;
+      role = a.role;
+      keys = a.keys;
+      remote = a.remote;
+      secrets = drop a.used a.secrets.items;
+      passed = a.passed;
+      ended = a.ended;
+      state = a.state;
+    } in
+    let none : write_fault h len ≡ None = ap (λ (z : Held g.row.K.Denot). write_fault z len) c.self.view_is ∙ sym c.write_fault.ensures.value
+    ∙ c.in_default.is in
     let less : a.passed < length a.pattern.messages = writes-due P h i.2 len none in
     let found : MessageLayout = c.next_layout-laid.result.now in
     let laid : IsLaid (has_psk a.pattern) (has_key a.pattern (passed_places a.pattern a.passed)) (tokens_at a.pattern.messages a.passed) found =
-    subst (λ (z : Held g.row.K.Denot). IsLaid (has_psk z.pattern) (has_key z.pattern (passed_places z.pattern z.passed)) (tokens_at z.pattern.messages z.passed) found)
+    subst (λ (z : Held g.row.K.Denot). IsLaid (has_psk z.pattern) (has_key z.pattern (passed_places z.pattern z.passed))
+    (tokens_at z.pattern.messages z.passed) found)
     (sym c.self.view_is) c.next_layout-laid.ensures.laid in
     let placed : List PlacedToken = c.deref-2.result.now in
     let ts : List Token = tokens_of placed in
@@ -86,12 +120,23 @@ write_message-requires-clause-known g c =
     let a = c.self.inside in
     let i = c.self.invariant in
     let len : ℕ = length c.args.payload.now in
-    let h : Held g.row.K.Denot = record { pattern = a.pattern; role = a.role; keys = a.keys; remote = a.remote; secrets = drop a.used a.secrets.items; passed = a.passed; ended = a.ended; state = a.state } in
-    let none : write_fault h len ≡ None = ap (λ (z : Held g.row.K.Denot). write_fault z len) c.self.view_is ∙ sym c.write_fault.ensures.value ∙ c.in_default.is in
+    let h : Held g.row.K.Denot = record {
+      pattern = a.pattern;
+      role = a.role;
+      keys = a.keys;
+      remote = a.remote;
+      secrets = drop a.used a.secrets.items;
+      passed = a.passed;
+      ended = a.ended;
+      state = a.state;
+    } in
+    let none : write_fault h len ≡ None = ap (λ (z : Held g.row.K.Denot). write_fault z len) c.self.view_is ∙ sym c.write_fault.ensures.value
+    ∙ c.in_default.is in
     let less : a.passed < length a.pattern.messages = writes-due P h i.2 len none in
     let found : MessageLayout = c.next_layout-laid.result.now in
     let laid : IsLaid (has_psk a.pattern) (has_key a.pattern (passed_places a.pattern a.passed)) (tokens_at a.pattern.messages a.passed) found =
-    subst (λ (z : Held g.row.K.Denot). IsLaid (has_psk z.pattern) (has_key z.pattern (passed_places z.pattern z.passed)) (tokens_at z.pattern.messages z.passed) found)
+    subst (λ (z : Held g.row.K.Denot). IsLaid (has_psk z.pattern) (has_key z.pattern (passed_places z.pattern z.passed))
+    (tokens_at z.pattern.messages z.passed) found)
     (sym c.self.view_is) c.next_layout-laid.ensures.laid in
     let placed : List PlacedToken = c.deref-2.result.now in
     let ts : List Token = tokens_of placed in
@@ -105,21 +150,34 @@ write_message-requires-clause-room g c =
     let a = c.self.inside in
     let i = c.self.invariant in
     let len : ℕ = length c.args.payload.now in
-    let h : Held g.row.K.Denot = record { pattern = a.pattern; role = a.role; keys = a.keys; remote = a.remote; secrets = drop a.used a.secrets.items; passed = a.passed; ended = a.ended; state = a.state } in
-    let none : write_fault h len ≡ None = ap (λ (z : Held g.row.K.Denot). write_fault z len) c.self.view_is ∙ sym c.write_fault.ensures.value ∙ c.in_default.is in
+    let h : Held g.row.K.Denot = record {
+      pattern = a.pattern;
+      role = a.role;
+      keys = a.keys;
+      remote = a.remote;
+      secrets = drop a.used a.secrets.items;
+      passed = a.passed;
+      ended = a.ended;
+      state = a.state;
+    } in
+    let none : write_fault h len ≡ None = ap (λ (z : Held g.row.K.Denot). write_fault z len) c.self.view_is ∙ sym c.write_fault.ensures.value
+    ∙ c.in_default.is in
     let less : a.passed < length a.pattern.messages = writes-due P h i.2 len none in
     let found : MessageLayout = c.next_layout-laid.result.now in
     let laid : IsLaid (has_psk a.pattern) (has_key a.pattern (passed_places a.pattern a.passed)) (tokens_at a.pattern.messages a.passed) found =
-    subst (λ (z : Held g.row.K.Denot). IsLaid (has_psk z.pattern) (has_key z.pattern (passed_places z.pattern z.passed)) (tokens_at z.pattern.messages z.passed) found)
+    subst (λ (z : Held g.row.K.Denot). IsLaid (has_psk z.pattern) (has_key z.pattern (passed_places z.pattern z.passed))
+    (tokens_at z.pattern.messages z.passed) found)
     (sym c.self.view_is) c.next_layout-laid.ensures.laid in
     let placed : List PlacedToken = c.deref-2.result.now in
     let ts : List Token = tokens_of placed in
     let e : ts ≡ tokens_at a.pattern.messages a.passed = tokens-laid a.pattern a.passed found laid placed c.deref-2.ensures.0 in
-    let told : message_len_of c.args.self.now len ≡ Some (length_now h len) = ap (λ (z : Held g.row.K.Denot). message_len_of z len) (sym c.self.view_is) ∙ writes-length P h i.2 len none in
+    let told : message_len_of c.args.self.now len ≡ Some (length_now h len) =
+    ap (λ (z : Held g.row.K.Denot). message_len_of z len) (sym c.self.view_is) ∙ writes-length P h i.2 len none in
     let holds : overhead_of a.pattern (a.passed + 1) + len ≤ length c.args.out.now = c.requires (length_now h len) told in
     let same : added_width a.psks (keyed c.for_trial-state.result) ts ≡ added_width a.psks (keyed a.state) ts =
     ap (λ (z : SymmetricState). added_width a.psks (keyed z) ts) c.for_trial-state.ensures in
-    let added : added_width a.psks (keyed c.for_trial-state.result) ts ≡ overhead_of a.pattern (a.passed + 1) = same ∙ writes-added P h i.2 len none a.psks ts i.0 e in
+    let added : added_width a.psks (keyed c.for_trial-state.result) ts ≡ overhead_of a.pattern (a.passed + 1) = same
+    ∙ writes-added P h i.2 len none a.psks ts i.0 e in
     subst (λ (k : ℕ). k + len ≤ length c.args.out.now) (sym added) holds
 
 pub write_message-requires-clause-most : goal.write_message-requires-clause-most
@@ -128,19 +186,31 @@ write_message-requires-clause-most g c =
     let a = c.self.inside in
     let i = c.self.invariant in
     let len : ℕ = length c.args.payload.now in
-    let h : Held g.row.K.Denot = record { pattern = a.pattern; role = a.role; keys = a.keys; remote = a.remote; secrets = drop a.used a.secrets.items; passed = a.passed; ended = a.ended; state = a.state } in
-    let none : write_fault h len ≡ None = ap (λ (z : Held g.row.K.Denot). write_fault z len) c.self.view_is ∙ sym c.write_fault.ensures.value ∙ c.in_default.is in
+    let h : Held g.row.K.Denot = record {
+      pattern = a.pattern;
+      role = a.role;
+      keys = a.keys;
+      remote = a.remote;
+      secrets = drop a.used a.secrets.items;
+      passed = a.passed;
+      ended = a.ended;
+      state = a.state;
+    } in
+    let none : write_fault h len ≡ None = ap (λ (z : Held g.row.K.Denot). write_fault z len) c.self.view_is ∙ sym c.write_fault.ensures.value
+    ∙ c.in_default.is in
     let less : a.passed < length a.pattern.messages = writes-due P h i.2 len none in
     let found : MessageLayout = c.next_layout-laid.result.now in
     let laid : IsLaid (has_psk a.pattern) (has_key a.pattern (passed_places a.pattern a.passed)) (tokens_at a.pattern.messages a.passed) found =
-    subst (λ (z : Held g.row.K.Denot). IsLaid (has_psk z.pattern) (has_key z.pattern (passed_places z.pattern z.passed)) (tokens_at z.pattern.messages z.passed) found)
+    subst (λ (z : Held g.row.K.Denot). IsLaid (has_psk z.pattern) (has_key z.pattern (passed_places z.pattern z.passed))
+    (tokens_at z.pattern.messages z.passed) found)
     (sym c.self.view_is) c.next_layout-laid.ensures.laid in
     let placed : List PlacedToken = c.deref-2.result.now in
     let ts : List Token = tokens_of placed in
     let e : ts ≡ tokens_at a.pattern.messages a.passed = tokens-laid a.pattern a.passed found laid placed c.deref-2.ensures.0 in
     let same : added_width a.psks (keyed c.for_trial-state.result) ts ≡ added_width a.psks (keyed a.state) ts =
     ap (λ (z : SymmetricState). added_width a.psks (keyed z) ts) c.for_trial-state.ensures in
-    let added : added_width a.psks (keyed c.for_trial-state.result) ts ≡ overhead_of a.pattern (a.passed + 1) = same ∙ writes-added P h i.2 len none a.psks ts i.0 e in
+    let added : added_width a.psks (keyed c.for_trial-state.result) ts ≡ overhead_of a.pattern (a.passed + 1) = same
+    ∙ writes-added P h i.2 len none a.psks ts i.0 e in
     subst (λ (k : ℕ). k + len ≤ 65535) (sym added) (writes-short P h i.2 len none)
 
 pub overflow_add-self : goal.overflow_add-self
@@ -149,12 +219,23 @@ overflow_add-self g c =
     let a = c.self.inside in
     let i = c.self.invariant in
     let len : ℕ = length c.args.payload.now in
-    let h : Held g.row.K.Denot = record { pattern = a.pattern; role = a.role; keys = a.keys; remote = a.remote; secrets = drop a.used a.secrets.items; passed = a.passed; ended = a.ended; state = a.state } in
-    let none : write_fault h len ≡ None = ap (λ (z : Held g.row.K.Denot). write_fault z len) c.self.view_is ∙ sym c.write_fault.ensures.value ∙ c.in_default.is in
+    let h : Held g.row.K.Denot = record {
+      pattern = a.pattern;
+      role = a.role;
+      keys = a.keys;
+      remote = a.remote;
+      secrets = drop a.used a.secrets.items;
+      passed = a.passed;
+      ended = a.ended;
+      state = a.state;
+    } in
+    let none : write_fault h len ≡ None = ap (λ (z : Held g.row.K.Denot). write_fault z len) c.self.view_is ∙ sym c.write_fault.ensures.value
+    ∙ c.in_default.is in
     let less : a.passed < length a.pattern.messages = writes-due P h i.2 len none in
     let found : MessageLayout = c.next_layout-laid.result.now in
     let laid : IsLaid (has_psk a.pattern) (has_key a.pattern (passed_places a.pattern a.passed)) (tokens_at a.pattern.messages a.passed) found =
-    subst (λ (z : Held g.row.K.Denot). IsLaid (has_psk z.pattern) (has_key z.pattern (passed_places z.pattern z.passed)) (tokens_at z.pattern.messages z.passed) found)
+    subst (λ (z : Held g.row.K.Denot). IsLaid (has_psk z.pattern) (has_key z.pattern (passed_places z.pattern z.passed))
+    (tokens_at z.pattern.messages z.passed) found)
     (sym c.self.view_is) c.next_layout-laid.ensures.laid in
     let placed : List PlacedToken = c.deref-2.result.now in
     let ts : List Token = tokens_of placed in
@@ -169,12 +250,23 @@ overflow_cast-result g c =
     let a = c.self.inside in
     let i = c.self.invariant in
     let len : ℕ = length c.args.payload.now in
-    let h : Held g.row.K.Denot = record { pattern = a.pattern; role = a.role; keys = a.keys; remote = a.remote; secrets = drop a.used a.secrets.items; passed = a.passed; ended = a.ended; state = a.state } in
-    let none : write_fault h len ≡ None = ap (λ (z : Held g.row.K.Denot). write_fault z len) c.self.view_is ∙ sym c.write_fault.ensures.value ∙ c.in_default.is in
+    let h : Held g.row.K.Denot = record {
+      pattern = a.pattern;
+      role = a.role;
+      keys = a.keys;
+      remote = a.remote;
+      secrets = drop a.used a.secrets.items;
+      passed = a.passed;
+      ended = a.ended;
+      state = a.state;
+    } in
+    let none : write_fault h len ≡ None = ap (λ (z : Held g.row.K.Denot). write_fault z len) c.self.view_is ∙ sym c.write_fault.ensures.value
+    ∙ c.in_default.is in
     let less : a.passed < length a.pattern.messages = writes-due P h i.2 len none in
     let found : MessageLayout = c.next_layout-laid.result.now in
     let laid : IsLaid (has_psk a.pattern) (has_key a.pattern (passed_places a.pattern a.passed)) (tokens_at a.pattern.messages a.passed) found =
-    subst (λ (z : Held g.row.K.Denot). IsLaid (has_psk z.pattern) (has_key z.pattern (passed_places z.pattern z.passed)) (tokens_at z.pattern.messages z.passed) found)
+    subst (λ (z : Held g.row.K.Denot). IsLaid (has_psk z.pattern) (has_key z.pattern (passed_places z.pattern z.passed))
+    (tokens_at z.pattern.messages z.passed) found)
     (sym c.self.view_is) c.next_layout-laid.ensures.laid in
     let placed : List PlacedToken = c.deref-2.result.now in
     let ts : List Token = tokens_of placed in
@@ -188,12 +280,23 @@ invariant_of-self g c =
     let a = c.self.inside in
     let i = c.self.invariant in
     let len : ℕ = length c.args.payload.now in
-    let h : Held g.row.K.Denot = record { pattern = a.pattern; role = a.role; keys = a.keys; remote = a.remote; secrets = drop a.used a.secrets.items; passed = a.passed; ended = a.ended; state = a.state } in
-    let none : write_fault h len ≡ None = ap (λ (z : Held g.row.K.Denot). write_fault z len) c.self.view_is ∙ sym c.write_fault.ensures.value ∙ c.in_default.is in
+    let h : Held g.row.K.Denot = record {
+      pattern = a.pattern;
+      role = a.role;
+      keys = a.keys;
+      remote = a.remote;
+      secrets = drop a.used a.secrets.items;
+      passed = a.passed;
+      ended = a.ended;
+      state = a.state;
+    } in
+    let none : write_fault h len ≡ None = ap (λ (z : Held g.row.K.Denot). write_fault z len) c.self.view_is ∙ sym c.write_fault.ensures.value
+    ∙ c.in_default.is in
     let less : a.passed < length a.pattern.messages = writes-due P h i.2 len none in
     let found : MessageLayout = c.next_layout-laid.result.now in
     let laid : IsLaid (has_psk a.pattern) (has_key a.pattern (passed_places a.pattern a.passed)) (tokens_at a.pattern.messages a.passed) found =
-    subst (λ (z : Held g.row.K.Denot). IsLaid (has_psk z.pattern) (has_key z.pattern (passed_places z.pattern z.passed)) (tokens_at z.pattern.messages z.passed) found)
+    subst (λ (z : Held g.row.K.Denot). IsLaid (has_psk z.pattern) (has_key z.pattern (passed_places z.pattern z.passed))
+    (tokens_at z.pattern.messages z.passed) found)
     (sym c.self.view_is) c.next_layout-laid.ensures.laid in
     let placed : List PlacedToken = c.deref-2.result.now in
     let ts : List Token = tokens_of placed in
@@ -204,7 +307,8 @@ invariant_of-self g c =
     c.in-Ok.ensures.keyed ∙ ap (λ (z : SymmetricState). keyed_behind_tokens a.psks (keyed z) ts) c.for_trial-state.ensures
     ∙ ap (λ (b : Bool). keyed_behind_tokens b (keyed a.state) ts) i.0 in
     let counted : nonce_now c.write_message.new.state ≤ nonce_now a.state + length ts + 1 =
-    subst (λ (z : SymmetricState). nonce_now c.write_message.new.state ≤ nonce_now z + length ts + 1) c.for_trial-state.ensures c.write_message.ensures.used in (
+    subst (λ (z : SymmetricState). nonce_now c.write_message.new.state ≤ nonce_now z + length ts + 1) c.for_trial-state.ensures
+    c.write_message.ensures.used in (
       i.0,
       omega (arith, enough P h i.2 ts e less, length-drop a.used a.secrets.items, n, i.1),
       sound-behind P h i.2 ts e less a.remote c.write_message.new.state (drop (a.used + found.secrets) a.secrets.items) (a.passed + 1) refl
@@ -220,21 +324,34 @@ returns-in-Ok-clause-len g c =
     let a = c.self.inside in
     let i = c.self.invariant in
     let len : ℕ = length c.args.payload.now in
-    let h : Held g.row.K.Denot = record { pattern = a.pattern; role = a.role; keys = a.keys; remote = a.remote; secrets = drop a.used a.secrets.items; passed = a.passed; ended = a.ended; state = a.state } in
-    let none : write_fault h len ≡ None = ap (λ (z : Held g.row.K.Denot). write_fault z len) c.self.view_is ∙ sym c.write_fault.ensures.value ∙ c.in_default.is in
+    let h : Held g.row.K.Denot = record {
+      pattern = a.pattern;
+      role = a.role;
+      keys = a.keys;
+      remote = a.remote;
+      secrets = drop a.used a.secrets.items;
+      passed = a.passed;
+      ended = a.ended;
+      state = a.state;
+    } in
+    let none : write_fault h len ≡ None = ap (λ (z : Held g.row.K.Denot). write_fault z len) c.self.view_is ∙ sym c.write_fault.ensures.value
+    ∙ c.in_default.is in
     let less : a.passed < length a.pattern.messages = writes-due P h i.2 len none in
     let found : MessageLayout = c.next_layout-laid.result.now in
     let laid : IsLaid (has_psk a.pattern) (has_key a.pattern (passed_places a.pattern a.passed)) (tokens_at a.pattern.messages a.passed) found =
-    subst (λ (z : Held g.row.K.Denot). IsLaid (has_psk z.pattern) (has_key z.pattern (passed_places z.pattern z.passed)) (tokens_at z.pattern.messages z.passed) found)
+    subst (λ (z : Held g.row.K.Denot). IsLaid (has_psk z.pattern) (has_key z.pattern (passed_places z.pattern z.passed))
+    (tokens_at z.pattern.messages z.passed) found)
     (sym c.self.view_is) c.next_layout-laid.ensures.laid in
     let placed : List PlacedToken = c.deref-2.result.now in
     let ts : List Token = tokens_of placed in
     let e : ts ≡ tokens_at a.pattern.messages a.passed = tokens-laid a.pattern a.passed found laid placed c.deref-2.ensures.0 in
-    let told : message_len_of c.args.self.now len ≡ Some (length_now h len) = ap (λ (z : Held g.row.K.Denot). message_len_of z len) (sym c.self.view_is) ∙ writes-length P h i.2 len none in
+    let told : message_len_of c.args.self.now len ≡ Some (length_now h len) =
+    ap (λ (z : Held g.row.K.Denot). message_len_of z len) (sym c.self.view_is) ∙ writes-length P h i.2 len none in
     let holds : overhead_of a.pattern (a.passed + 1) + len ≤ length c.args.out.now = c.requires (length_now h len) told in
     let same : added_width a.psks (keyed c.for_trial-state.result) ts ≡ added_width a.psks (keyed a.state) ts =
     ap (λ (z : SymmetricState). added_width a.psks (keyed z) ts) c.for_trial-state.ensures in
-    let added : added_width a.psks (keyed c.for_trial-state.result) ts ≡ overhead_of a.pattern (a.passed + 1) = same ∙ writes-added P h i.2 len none a.psks ts i.0 e in
+    let added : added_width a.psks (keyed c.for_trial-state.result) ts ≡ overhead_of a.pattern (a.passed + 1) = same
+    ∙ writes-added P h i.2 len none a.psks ts i.0 e in
     let wide : c.in-Ok.len ≡ overhead_of a.pattern (a.passed + 1) + len = c.in-Ok.ensures.width ∙ ap (λ (k : ℕ). k + len) added in
     (told ∙ ap Some (sym wide), omega (arith, holds, wide))
 
@@ -244,12 +361,23 @@ returns-in-Ok-clause-writes g c v s =
     let a = c.self.inside in
     let i = c.self.invariant in
     let len : ℕ = length c.args.payload.now in
-    let h : Held g.row.K.Denot = record { pattern = a.pattern; role = a.role; keys = a.keys; remote = a.remote; secrets = drop a.used a.secrets.items; passed = a.passed; ended = a.ended; state = a.state } in
-    let none : write_fault h len ≡ None = ap (λ (z : Held g.row.K.Denot). write_fault z len) c.self.view_is ∙ sym c.write_fault.ensures.value ∙ c.in_default.is in
+    let h : Held g.row.K.Denot = record {
+      pattern = a.pattern;
+      role = a.role;
+      keys = a.keys;
+      remote = a.remote;
+      secrets = drop a.used a.secrets.items;
+      passed = a.passed;
+      ended = a.ended;
+      state = a.state;
+    } in
+    let none : write_fault h len ≡ None = ap (λ (z : Held g.row.K.Denot). write_fault z len) c.self.view_is ∙ sym c.write_fault.ensures.value
+    ∙ c.in_default.is in
     let less : a.passed < length a.pattern.messages = writes-due P h i.2 len none in
     let found : MessageLayout = c.next_layout-laid.result.now in
     let laid : IsLaid (has_psk a.pattern) (has_key a.pattern (passed_places a.pattern a.passed)) (tokens_at a.pattern.messages a.passed) found =
-    subst (λ (z : Held g.row.K.Denot). IsLaid (has_psk z.pattern) (has_key z.pattern (passed_places z.pattern z.passed)) (tokens_at z.pattern.messages z.passed) found)
+    subst (λ (z : Held g.row.K.Denot). IsLaid (has_psk z.pattern) (has_key z.pattern (passed_places z.pattern z.passed))
+    (tokens_at z.pattern.messages z.passed) found)
     (sym c.self.view_is) c.next_layout-laid.ensures.laid in
     let placed : List PlacedToken = c.deref-2.result.now in
     let ts : List Token = tokens_of placed in
@@ -259,17 +387,21 @@ returns-in-Ok-clause-writes g c v s =
     let A = g.K.Keys.agreement in
     let s0 : Stands P A h v = subst (λ (z : Held g.row.K.Denot). Stands P A z v) (sym c.self.view_is) s in
     let here : ts ≡ tokens_now v = e ∙ tokens-are P A h v s0 in
-    let trial : StateStands c.for_trial-state.result v.history = subst (λ (z : SymmetricState). StateStands z v.history) (sym c.for_trial-state.ensures) s0.history in
+    let trial : StateStands c.for_trial-state.result v.history =
+    subst (λ (z : SymmetricState). StateStands z v.history) (sym c.for_trial-state.ensures) s0.history in
     let same : added_width a.psks (keyed c.for_trial-state.result) ts ≡ added_width a.psks (keyed a.state) ts =
     ap (λ (z : SymmetricState). added_width a.psks (keyed z) ts) c.for_trial-state.ensures in
-    let added : added_width a.psks (keyed c.for_trial-state.result) ts ≡ overhead_of a.pattern (a.passed + 1) = same ∙ writes-added P h i.2 len none a.psks ts i.0 e in
+    let added : added_width a.psks (keyed c.for_trial-state.result) ts ≡ overhead_of a.pattern (a.passed + 1) = same
+    ∙ writes-added P h i.2 len none a.psks ts i.0 e in
     let wide : c.in-Ok.len ≡ overhead_of a.pattern (a.passed + 1) + len = c.in-Ok.ensures.width ∙ ap (λ (k : ℕ). k + len) added in
     let l = speaking P h i.2 len none A v s0 a.psks _ ts i.0 d here in
-    let fits : length (take c.in-Ok.len c.write_message.new.out) ≤ 65535 = omega (arith, wide, writes-short P h i.2 len none, length-take c.in-Ok.len c.write_message.new.out) in
+    let fits : length (take c.in-Ok.len c.write_message.new.out) ≤ 65535 =
+    omega (arith, wide, writes-short P h i.2 len none, length-take c.in-Ok.len c.write_message.new.out) in
     let q = c.in-Ok.ensures.written v.history trial in (
       q.0,
       written v a.role a.psks (P a.keys) (A a.keys) _ a.remote ts l c.args.payload.now q.0 (take c.in-Ok.len c.write_message.new.out) fits q.1 q.2,
-      wrote P h i.2 len none A v s0 a.psks ts q.0 c.args.payload.now c.write_message.new.state (drop (a.used + found.secrets) a.secrets.items) (a.passed + 1) i.0 here
+      wrote P h i.2 len none A v s0 a.psks ts q.0 c.args.payload.now c.write_message.new.state (drop (a.used + found.secrets) a.secrets.items)
+          (a.passed + 1) i.0 here
           (ap (λ (k : ℕ). drop (a.used + k) a.secrets.items) n ∙ sym (drop-drop (count_by is_psk ts) a.used a.secrets.items)) refl q.3,
     )
 
@@ -279,12 +411,23 @@ returns-in-Err-clause-writes g c v s =
     let a = c.self.inside in
     let i = c.self.invariant in
     let len : ℕ = length c.args.payload.now in
-    let h : Held g.row.K.Denot = record { pattern = a.pattern; role = a.role; keys = a.keys; remote = a.remote; secrets = drop a.used a.secrets.items; passed = a.passed; ended = a.ended; state = a.state } in
-    let none : write_fault h len ≡ None = ap (λ (z : Held g.row.K.Denot). write_fault z len) c.self.view_is ∙ sym c.write_fault.ensures.value ∙ c.in_default.is in
+    let h : Held g.row.K.Denot = record {
+      pattern = a.pattern;
+      role = a.role;
+      keys = a.keys;
+      remote = a.remote;
+      secrets = drop a.used a.secrets.items;
+      passed = a.passed;
+      ended = a.ended;
+      state = a.state;
+    } in
+    let none : write_fault h len ≡ None = ap (λ (z : Held g.row.K.Denot). write_fault z len) c.self.view_is ∙ sym c.write_fault.ensures.value
+    ∙ c.in_default.is in
     let less : a.passed < length a.pattern.messages = writes-due P h i.2 len none in
     let found : MessageLayout = c.next_layout-laid.result.now in
     let laid : IsLaid (has_psk a.pattern) (has_key a.pattern (passed_places a.pattern a.passed)) (tokens_at a.pattern.messages a.passed) found =
-    subst (λ (z : Held g.row.K.Denot). IsLaid (has_psk z.pattern) (has_key z.pattern (passed_places z.pattern z.passed)) (tokens_at z.pattern.messages z.passed) found)
+    subst (λ (z : Held g.row.K.Denot). IsLaid (has_psk z.pattern) (has_key z.pattern (passed_places z.pattern z.passed))
+    (tokens_at z.pattern.messages z.passed) found)
     (sym c.self.view_is) c.next_layout-laid.ensures.laid in
     let placed : List PlacedToken = c.deref-2.result.now in
     let ts : List Token = tokens_of placed in
@@ -293,7 +436,8 @@ returns-in-Err-clause-writes g c v s =
     let A = g.K.Keys.agreement in
     let s0 : Stands P A h v = subst (λ (z : Held g.row.K.Denot). Stands P A z v) (sym c.self.view_is) s in
     let here : ts ≡ tokens_now v = e ∙ tokens-are P A h v s0 in
-    let trial : StateStands c.for_trial-state.result v.history = subst (λ (z : SymmetricState). StateStands z v.history) (sym c.for_trial-state.ensures) s0.history in
+    let trial : StateStands c.for_trial-state.result v.history =
+    subst (λ (z : SymmetricState). StateStands z v.history) (sym c.for_trial-state.ensures) s0.history in
     let l = speaking P h i.2 len none A v s0 a.psks _ ts i.0 d here in
     let q = c.in-Err.ensures.written v.history trial in
     ((short-view P h i.2 len none A v s0, lacking v a.role a.psks (P a.keys) (A a.keys) _ a.remote ts l _ q), ends P A h v s0 true refl)

@@ -1,6 +1,6 @@
 use Rattle.std.proofs.Common.{◌≡◌, ℕ, List, [], sym, ◌∙◌, subst, arith}
 use Rattle.noise_session.specs.Frames.{IsPartial}
-use Rattle.noise_session.specs.Incoming.{bytes_of}
+use Rattle.noise_session.specs.inner.Incoming.{bytes_of}
 use Rattle.noise_session.proofs.end.End.begin.Goals as goal
 
 pub invariant_of-result : goal.invariant_of-result

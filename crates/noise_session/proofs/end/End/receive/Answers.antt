@@ -4,7 +4,7 @@ use Rattle.noise_session.specs.Steps.Told.{Payload}
 use Rattle.noise_session.specs.Progress.{Progress, idle_step}
 use Rattle.noise_session.specs.Ends.{HeldEnd, EndStands, progress, progress_in}
 use Rattle.noise_session.specs.Inputs.{Receives}
-use Rattle.noise_session.specs.Outcomes.{received}
+use Rattle.noise_session.specs.inner.Outcomes.{received}
 use Rattle.noise_session.proofs.Places.{handed-out}
 use Rattle.noise_session.proofs.end.End.receive.Goals as goal
 

@@ -19,8 +19,14 @@ returns-in_err-len-clause-puts g c v s =
     let t : EndStands g.K.Keys.public_of g.K.Keys.agreement _ v = subst (λ u. EndStands g.K.Keys.public_of g.K.Keys.agreement u v) (sym c.self.view_is) s in
     let e = c.in_err-len.ensures.err v t in
     let fault = c.in_err-len.field-0.0 in
-    let same : c.from_residual.result ≡ Err fault = search rules in
-    ([], behind_fault v fault, subst (λ (r : Result ℕ SendFault). Puts v c.args.payload.now r [] (behind_fault v fault)) (sym same) (refused v (behind_fault v fault) c.args.payload.now fault e.0), appended_none _, e.1)
+    let same : c.from_residual.result ≡ Err fault = search rules in (
+      [],
+      behind_fault v fault,
+      subst (λ (r : Result ℕ SendFault). Puts v c.args.payload.now r [] (behind_fault v fault)) (sym same)
+          (refused v (behind_fault v fault) c.args.payload.now fault e.0),
+      appended_none _,
+      e.1,
+    )
 
 pub returns-in-Ok-clause-puts : goal.returns-in-Ok-clause-puts
 returns-in-Ok-clause-puts g c v s =
@@ -35,8 +41,13 @@ returns-in-Ok-clause-puts g c v s =
     let same = c.send.auto.out in
     let handed : take len c.deref.result.now ≡ frame =
     ap (take len) c.deref.ensures.value ∙ front-of c.send.new.out _ len c.self.inside.outgoing.len (omega arith) fits in
-    let count : length frame ≡ len = length-take-le len c.send.new.out c.in_ok-len.ensures.len.1 in
-    (frame, w.0, subst (λ (k : ℕ). Puts v c.args.payload.now (Ok k) frame w.0) count (whole v w.0 c.args.payload.now frame w.1), subst (Appends _ _) handed c.in-Ok.ensures.written, w.2)
+    let count : length frame ≡ len = length-take-le len c.send.new.out c.in_ok-len.ensures.len.1 in (
+      frame,
+      w.0,
+      subst (λ (k : ℕ). Puts v c.args.payload.now (Ok k) frame w.0) count (whole v w.0 c.args.payload.now frame w.1),
+      subst (Appends _ _) handed c.in-Ok.ensures.written,
+      w.2,
+    )
 
 pub returns-in-Err-clause-puts : goal.returns-in-Err-clause-puts
 returns-in-Err-clause-puts g c v s =
@@ -54,5 +65,11 @@ returns-in-Err-clause-puts g c v s =
     ap (take len) c.deref.ensures.value ∙ front-of c.send.new.out _ len c.self.inside.outgoing.len (omega arith) fits in
     let less : written < length frame = subst (λ (xs : List ℕ). written < length xs) handed c.in-Err.ensures.written.0 in
     let over : PhaseStands g.K.Keys.public_of g.K.Keys.agreement c.end.new.self (closed w.0) =
-    subst (λ p. PhaseStands g.K.Keys.public_of g.K.Keys.agreement p (closed w.0)) (sym c.end.ensures) (phase-over g.K.Keys.public_of g.K.Keys.agreement c.send.new.phase w.0 w.2.phase) in
-    (take written frame, closed w.0, broken v w.0 c.args.payload.now frame written w.1 less, subst (Appends _ _) (ap (take written) handed) c.in-Err.ensures.written.1, record { phase = over; held = c.clear.ensures.empty })
+    subst (λ p. PhaseStands g.K.Keys.public_of g.K.Keys.agreement p (closed w.0)) (sym c.end.ensures)
+    (phase-over g.K.Keys.public_of g.K.Keys.agreement c.send.new.phase w.0 w.2.phase) in (
+      take written frame,
+      closed w.0,
+      broken v w.0 c.args.payload.now frame written w.1 less,
+      subst (Appends _ _) (ap (take written) handed) c.in-Err.ensures.written.1,
+      record { phase = over; held = c.clear.ensures.empty },
+    )

@@ -1,5 +1,5 @@
 use Rattle.std.proofs.Common.{ℕ, List, ◌++◌, ap, ◌∙◌, append_assoc}
-use Rattle.noise_session.specs.Incoming.{bytes_of}
+use Rattle.noise_session.specs.inner.Incoming.{bytes_of}
 use Rattle.noise_session.proofs.Streaming.{consumed}
 use Rattle.noise_session.proofs.incoming.Incoming.fill_from.Goals as goal
 

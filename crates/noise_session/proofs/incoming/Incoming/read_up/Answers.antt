@@ -18,7 +18,8 @@ invariant_of-self g c =
     let within : h ≤ self.whole = self.within in
     let all : length xs ≡ 65537 = self.room in
     let read : h + n ≡ 2 → (u ≡ frame_length (take 2 ys)) × (u ≤ 65537) × (take 2 ys ≡ big_bytes 2 (u - 2)) =
-    subst (λ (b : List ℕ). h + n ≡ 2 → (u ≡ frame_length (take 2 b)) × (u ≤ 65537) × (take 2 b ≡ big_bytes 2 (u - 2))) c.deref.ensures.value c.whole_behind-self.ensures.read in
+    subst (λ (b : List ℕ). h + n ≡ 2 → (u ≡ frame_length (take 2 b)) × (u ≤ 65537) × (take 2 b ≡ big_bytes 2 (u - 2))) c.deref.ensures.value
+    c.whole_behind-self.ensures.read in
     let came : n ≤ self.whole - h = c.read_into-count.ensures.within in
     let fits : h + n ≤ self.whole = omega arith in
     let room : h + n ≤ length xs = omega arith in

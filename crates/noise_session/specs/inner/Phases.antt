@@ -1,4 +1,4 @@
--- What an end goes through.
+-- What the private functions say of what an end goes through.
 use Rattle.std.specs.Prelude.{◌≡◌, ℕ, List, length, Bool, true, false, not, ◌&&◌, ◌==◌, Option}
 use Rattle.noise_handshake.specs.declared.keys.Own.{Own}
 use Rattle.noise_handshake.specs.Party.{Stands}
@@ -11,11 +11,6 @@ use Rattle.noise_session.specs.Ends.{EndView, progress_in, hash_in}
 abbrev pub is_due : {K : Type 0} → Phase K → Bool
 is_due (phase.Handshaking h interval) = not h.ended && not (h.passed == length h.pattern.messages)
 is_due _ = true
-
--- whether the session has ended
-abbrev pub is_over : {K : Type 0} → Phase K → Bool
-is_over (phase.Ended role hash) = true
-is_over _ = false
 
 -- what is left of it where the session ends
 abbrev pub over_in : {K : Type 0} → Phase K → Phase K

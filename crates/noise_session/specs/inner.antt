@@ -1,0 +1,5 @@
+-- What only private functions and proofs of this crate need: no public clause names any of it.
+pub mod Filling
+pub mod Incoming
+pub mod Outcomes
+pub mod Phases
