@@ -1,11 +1,13 @@
 -- Numbers with commas between them, as they are read one after the other.
-use Rattle.std.proofs.Common.{arith, ◌≡◌, ◌∙◌, ◌+◌, ◌<◌, ◌≤◌, ap, sym, refl, subst, lit<, true, ℕ, List, [], ◌∷◌, ◌++◌, map, codes, length}
-use Rattle.std.specs.Prelude.{decimal}
+use Rattle.std.proofs.Common.{arith, ◌≡◌, ◌∙◌, ◌+◌, ◌-◌, ◌<◌, ◌≤◌, ap, sym, refl, subst, lit<, Bool, true, false, Option, Some, None, ℕ, List, [], ◌∷◌, ◌++◌, map, codes, length}
+use Rattle.std.specs.Prelude.{decimal, slice_index_or, if◌then◌else◌, IfSome}
 use Rattle.std.specs.List.{All, join_with_byte}
+use Rattle.std.proofs.lemmas.Bool.{le-leb, lt-ltb}
 use Rattle.std.proofs.lemmas.Fmt.{decimal_injective, decimal_nonempty}
 use Rattle.std.proofs.lemmas.List.{append_assoc, length-append}
 use Rattle.std.proofs.lemmas.List.Elements.{All-head, All-tail}
-use Rattle.noise_tool.specs.Cuts.{AreLengths}
+use Rattle.noise_duel.specs.Cuts.{are_cuts}
+use Rattle.noise_tool.specs.Cuts.{AreCuts, AreLengths}
 use Rattle.noise_tool.specs.VectorText.{lengths_word}
 use Rattle.noise_tool.specs.Words.{lacks}
 use Rattle.noise_tool.proofs.WordLemmas.{lacks-decimal, not_lacks}
@@ -186,3 +188,23 @@ pub no-cuts : (word cuts : List ℕ) → ¬ (word ≡ codes "-")
     → AreLengths cuts → ¬ (word ≡ lengths_word cuts)
 no-cuts word [] hyphen none h e = hyphen e
 no-cuts word (n ∷ ns) hyphen none h e = none n ns h e tt
+
+-- ---- cuts of lengths
+
+pub are_cuts-true : (ns : List ℕ) → AreCuts ns → are_cuts ns ≡ true
+are_cuts-true ns h = rw (le-leb (length ns) 8 h.0.0, lt-ltb 0 (slice_index_or ns (length ns - 1) 1) h.1) refl
+
+-- what cuts are made of these lengths, whose word it is
+pub cuts-word : (made : Option (List ℕ)) (word ns : List ℕ) → made ≡ (if are_cuts ns then Some ns else None) → word ≡ lengths_word ns
+    → IfSome made (λ cuts. word ≡ lengths_word cuts)
+cuts-word made word ns e is = at (are_cuts ns) refl where
+  at : (test : Bool) → are_cuts ns ≡ test → IfSome made (λ cuts. word ≡ lengths_word cuts)
+  at true same = rw (e, same) is
+  at false same = rw (e, same) tt
+
+-- of right cuts they are made
+pub cuts-made : (made : Option (List ℕ)) (ns cuts : List ℕ) → made ≡ (if are_cuts ns then Some ns else None) → ns ≡ cuts → AreCuts cuts
+    → made ≡ Some cuts
+cuts-made made ns cuts e same h =
+    let yes = are_cuts-true cuts h in
+    rw (e, same, yes) refl

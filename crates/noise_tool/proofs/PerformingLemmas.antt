@@ -8,6 +8,7 @@ use Rattle.noise_tool.specs.VectorFile.{IsReadFault}
 use Rattle.noise_tool.specs.VectorText.{text_of}
 use Rattle.noise_tool.specs.declared.ends.Ends.{Ends}
 use Rattle.noise_tool.specs.declared.faults.Fault.{Fault}
+use Rattle.noise_tool.specs.declared.vector.AllowedEvents.TheVariants.{SayOnly}
 use Rattle.noise_tool.specs.declared.vector.VectorFile.{VectorFile}
 
 -- the bytes spell a vector file that has ends
@@ -27,7 +28,7 @@ talked known text file (Err fault) h e ends = tt
 
 -- why the bytes have no ends
 abbrev IsWhy : Fault → List ℕ → Type 0
-IsWhy fault bytes = IsTooLong bytes fault ⊎ IsReadFault bytes fault ⊎ HasNoEnds bytes fault
+IsWhy fault bytes = IsTooLong bytes fault ⊎ IsReadFault SayOnly bytes fault ⊎ HasNoEnds bytes fault
 
 no-ends-known : (known : Option (List ℕ)) (text : List ℕ) (file : VectorFile) (fault : Fault) → IfSome known (λ bytes. text ≡ bytes) → text ≡ text_of file
     → IsStartFault file fault → IfSome known (IsWhy fault)

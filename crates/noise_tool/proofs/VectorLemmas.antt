@@ -5,18 +5,19 @@ use Rattle.std.specs.List.{starts_with}
 use Rattle.noise_names.specs.declared.token.Role.TheVariants.{Initiator, Responder}
 use Rattle.noise_names.specs.Names.{Section, name_bytes}
 use Rattle.noise_names.specs.Plan.{Plan}
+use Rattle.noise_duel.specs.declared.event.Event.{Event}
+use Rattle.noise_duel.specs.declared.event.Event.TheVariants.{Write, Say, Deliver, Raw}
 use Rattle.noise_tool.specs.HexWord.{hex_of}
 use Rattle.noise_tool.specs.VectorFile.{IsOwn}
-use Rattle.noise_tool.specs.VectorText.{block_text, line, lines_of, party_text, psk_words, say_words}
+use Rattle.noise_tool.specs.VectorText.{block_text, line, lines_of, party_text, psk_words, event_words}
 use Rattle.noise_tool.specs.declared.file_keys.FileKeys.{FileKeys}
 use Rattle.noise_tool.specs.declared.file_keys.FileKeys.TheVariants.{Xor, Table}
 use Rattle.noise_tool.specs.declared.vector.VectorFile.{VectorFile}
-use Rattle.noise_tool.specs.declared.vector.Say.{Say}
 
 -- ---- what stands behind each part of the text
 
 abbrev pub behind_responder : VectorFile → List ℕ
-behind_responder file = lines_of say_words file.events.items []
+behind_responder file = lines_of event_words file.events.items []
 
 abbrev pub behind_initiator : VectorFile → List ℕ
 behind_initiator file = party_text Responder file.responder (behind_responder file)
@@ -49,9 +50,12 @@ responder-no_answer : (keys : FileKeys) (rest : List ℕ) → starts_with nat_eq
 responder-no_answer (Xor keys) rest = refl
 responder-no_answer (Table keys) rest = refl
 
-events-no_answer : (events : List Say) → starts_with nat_eq (lines_of say_words events []) (codes "answer ") ≡ false
+events-no_answer : (events : List Event) → starts_with nat_eq (lines_of event_words events []) (codes "answer ") ≡ false
 events-no_answer [] = refl
-events-no_answer (say ∷ says) = refl
+events-no_answer (Say role payload cuts ∷ events) = refl
+events-no_answer (Write role payload ∷ events) = refl
+events-no_answer (Deliver role number cuts ∷ events) = refl
+events-no_answer (Raw role bytes ∷ events) = refl
 
 -- no psk line stands behind the psk lines
 pub psks-end : (file : VectorFile) → starts_with nat_eq (behind_psks file) (codes "psk ") ≡ false

@@ -1,5 +1,5 @@
 -- The pieces that a frame is handed over in.
-use Rattle.std.specs.Prelude.{ℕ, ◌-◌, ◌<◌, ◌≤◌, List, length, min, slice_index_or}
+use Rattle.std.specs.Prelude.{ℕ, ◌-◌, ◌<◌, ◌≤◌, List, length, slice_index_or}
 use Rattle.std.specs.List.{All}
 
 -- at most 8 numbers below 65536
@@ -9,7 +9,3 @@ AreLengths ns = (length ns ≤ 8) × All (λ n. n < 65536) ns
 -- such numbers, the last of which, if there is one, is not 0
 abbrev pub AreCuts : List ℕ → Type 0
 AreCuts ns = AreLengths ns × (0 < slice_index_or ns (length ns - 1) 1)
-
--- the length of the piece of this index: that of the list, behind its end the last one, and without any all that is left, but never more than that
-abbrev pub piece_len_of : List ℕ → ℕ → ℕ → ℕ
-piece_len_of cuts index left = min left (slice_index_or cuts index (slice_index_or cuts (length cuts - 1) left))

@@ -13,6 +13,7 @@ use Rattle.noise_tool.specs.declared.faults.Fault.{Fault}
 use Rattle.noise_tool.specs.declared.faults.Fault.TheVariants.{TooLong}
 use Rattle.noise_tool.specs.declared.orders.Chosen.{Chosen}
 use Rattle.noise_tool.specs.declared.orders.Chosen.TheVariants.{List as Listing, Show, Check, Talk}
+use Rattle.noise_tool.specs.declared.vector.AllowedEvents.TheVariants.{SayOnly}
 use Rattle.noise_tool.specs.declared.vector.VectorFile.{VectorFile}
 
 -- of the file's bytes, and of the output's before and after, each where they are known: the text of the command stands behind what was there before,
@@ -35,4 +36,4 @@ abbrev pub IsFault : Chosen → Option (List ℕ) → Fault → Type 0
 IsFault Listing file fault = ⊥
 IsFault (Show name) file fault = IsShowFault (string_bytes name) fault
 IsFault (Check path) file fault = IfSome file (λ text. IsTooLong text fault ⊎ IsCheckFault text fault)
-IsFault (Talk path) file fault = IfSome file (λ text. IsTooLong text fault ⊎ IsReadFault text fault ⊎ HasNoEnds text fault)
+IsFault (Talk path) file fault = IfSome file (λ text. IsTooLong text fault ⊎ IsReadFault SayOnly text fault ⊎ HasNoEnds text fault)

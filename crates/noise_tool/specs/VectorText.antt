@@ -10,11 +10,14 @@ use Rattle.noise_names.specs.Text as PatternText
 use Rattle.noise_handshake.specs.declared.keys.Own.{Own}
 use Rattle.noise_handshake.specs.declared.keys.Own.TheVariants.{Ephemeral, Static}
 use Rattle.noise_handshake.specs.Table.{TableEntry}
+use Rattle.noise_duel.specs.declared.event.Event.{Event}
+use Rattle.noise_duel.specs.declared.event.Event.TheVariants.{Write, Say, Deliver, Raw}
 use Rattle.noise_tool.specs.HexWord.{hex_of}
 use Rattle.noise_tool.specs.declared.file_keys.FileKeys.{FileKeys}
 use Rattle.noise_tool.specs.declared.file_keys.FileKeys.TheVariants.{Xor, Table}
 use Rattle.noise_tool.specs.declared.vector.VectorFile.{VectorFile}
-use Rattle.noise_tool.specs.declared.vector.Say.{Say}
+use Rattle.noise_tool.specs.declared.vector.words.EventKind.{EventKind}
+use Rattle.noise_tool.specs.declared.vector.words.EventKind.TheVariants as kinds
 
 -- a line with its LF (10), and the text behind it
 abbrev pub line : List ℕ → List ℕ → List ℕ
@@ -42,6 +45,12 @@ abbrev pub own_word : Own → List ℕ
 own_word Ephemeral = codes "e"
 own_word Static = codes "s"
 
+abbrev pub kind_word : EventKind → List ℕ
+kind_word kinds.Say = codes "say"
+kind_word kinds.Write = codes "write"
+kind_word kinds.Deliver = codes "deliver"
+kind_word kinds.Raw = codes "raw"
+
 -- the lengths with commas (44) between them, or a hyphen for none
 abbrev pub lengths_word : List ℕ → List ℕ
 lengths_word [] = codes "-"
@@ -64,8 +73,11 @@ party_text role (Xor keys) rest = line (role_word role ++ (codes " xor " ++ key_
 party_text role (Table keys) rest =
     line (role_word role ++ (codes " table " ++ key_words keys.e keys.s)) (lines_of answer_words keys.entries rest)
 
-abbrev pub say_words : Say → List ℕ
-say_words say = codes "say " ++ (role_word say.role ++ 32 ∷ (hex_of say.payload.items ++ 32 ∷ lengths_word say.cuts))
+abbrev pub event_words : Event → List ℕ
+event_words (Say role payload cuts) = codes "say " ++ (role_word role ++ 32 ∷ (hex_of payload.items ++ 32 ∷ lengths_word cuts))
+event_words (Write role payload) = codes "write " ++ (role_word role ++ 32 ∷ hex_of payload.items)
+event_words (Deliver role number cuts) = codes "deliver " ++ (role_word role ++ 32 ∷ (decimal number ++ 32 ∷ lengths_word cuts))
+event_words (Raw role bytes) = codes "raw " ++ (role_word role ++ 32 ∷ hex_of bytes.items)
 
 abbrev pub text_of : VectorFile → List ℕ
 text_of file =
@@ -77,4 +89,4 @@ text_of file =
     (lines_of psk_words file.psks.items
     (party_text Initiator file.initiator
     (party_text Responder file.responder
-    (lines_of say_words file.events.items []))))))))
+    (lines_of event_words file.events.items []))))))))

@@ -12,7 +12,8 @@ ghost use Rattle.noise_tool.specs.Ends.{AreEnds, IsPatternFault, IsPatternOf, Is
 use crate::faults::Fault;
 use crate::file_keys::FileKeys;
 use crate::named::named_pattern;
-use crate::vector::{Say, VectorFile};
+use crate::vector::VectorFile;
+use noise_duel::Event;
 use noise_handshake::{Handshake, Keys, Own, Remote};
 use noise_names::{Pattern, ProtocolName, Role, Token, ValidPattern};
 use noise_session::End;
@@ -25,11 +26,11 @@ pub struct Ends {
     pub responder: End<FileKeys>,
 }
 
-/// The two ends that the file describes, before the first message, and what they are to say.
+/// The two ends that the file describes, before the first message, and the file's events.
 ///
 /// At `Err` the fault is the first of these: a psk place beyond the messages of the pattern, a rule that the pattern breaks, the initiator's setup,
 /// the responder's setup.
-pub fn make_ends(alloc: Global, file: VectorFile) -> Result<(Ends, Vec<Say>), Fault>
+pub fn make_ends(alloc: Global, file: VectorFile) -> Result<(Ends, Vec<Event>), Fault>
     ensures ends { IfOk result (λ made. AreEnds file made.0) }
     ensures events { IfOk result (λ made. made.1 ≡ file.events) }
     ensures fault { IfErr result (λ fault. IsStartFault file fault) }

@@ -14,7 +14,7 @@ use crate::orders::Chosen;
 use crate::showing::show;
 use crate::talk::talk;
 use crate::telling::tell;
-use crate::vector::read_vector;
+use crate::vector::{AllowedEvents, read_vector};
 use std::alloc::Global;
 use std::io::{Read, Write};
 
@@ -57,7 +57,7 @@ fn run<R: Read, O: Write>(
         }
         Chosen::Talk(_) => {
             let text = read_file(alloc, file)?;
-            let vector = read_vector(alloc, &text)?;
+            let vector = read_vector(alloc, &text, AllowedEvents::SayOnly)?;
             talk(alloc, vector, out)
         }
     }

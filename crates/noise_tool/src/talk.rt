@@ -1,6 +1,6 @@
 //! The command `talk`: two ends say to each other what a file says.
 
-ghost use Rattle.std.specs.Prelude.{◌≡◌, ◌⊎◌, ◌+◌, ◌<◌, ◌≤◌, ⊤, IfErr, MatchOption, OnOk, vec_len};
+ghost use Rattle.std.specs.Prelude.{◌≡◌, ◌⊎◌, ◌+◌, ◌<◌, ◌≤◌, ⊤, IfErr, MatchOption, OnOk, length};
 ghost use Rattle.noise_session.specs.Ends.{progress};
 ghost use Rattle.noise_session.specs.Progress.{refusal};
 ghost use Rattle.noise_tool.specs.Ends.{AreEnds, IsStartFault};
@@ -10,7 +10,8 @@ ghost use Rattle.noise_tool.specs.declared.ends.Ends.{Ends};
 use crate::ends::{Ends, make_ends};
 use crate::faults::Fault;
 use crate::report::Report;
-use crate::vector::{Cuts, Say, VectorFile};
+use crate::vector::VectorFile;
+use noise_duel::Event;
 use noise_handshake::Keys;
 use noise_names::Role;
 use noise_session::{End, Step};
@@ -46,21 +47,22 @@ pub fn talk<O: Write>(alloc: Global, file: VectorFile, out: &mut O) -> Result<()
     };
     let mut report = Report::new(alloc, out);
     for event in &events {
-        match event.role {
-            Role::Initiator => say(
+        match event {
+            Event::Say(Role::Initiator, payload, _) => say(
                 alloc,
-                event,
+                payload,
                 &mut initiator,
                 &mut responder.end,
                 &mut report,
             )?,
-            Role::Responder => say(
+            Event::Say(Role::Responder, payload, _) => say(
                 alloc,
-                event,
+                payload,
                 &mut responder,
                 &mut initiator.end,
                 &mut report,
             )?,
+            _ => (),
         }
     }
     let (initiator, responder) = (initiator.end, responder.end);
@@ -71,46 +73,45 @@ pub fn talk<O: Write>(alloc: Global, file: VectorFile, out: &mut O) -> Result<()
 // One end writes, and where it does, the other one is handed the frame.
 fn say<K: Keys, O: Write>(
     alloc: Global,
-    event: &Say,
+    payload: &[u8],
     from: &mut Side<K>,
     to: &mut End<K>,
     report: &mut Report<'_, O>,
 ) -> Result<(), Fault>
     requires { from.old.frames < 18446744073709551615 }
     ensures one { from.new.frames ≤ from.old.frames + 1 }
-    ensures refused { MatchOption (refusal (progress from.old.end) (vec_len event.now.payload)) ⊤ (λ why. from.new.frames ≡ from.old.frames) }
+    ensures refused { MatchOption (refusal (progress from.old.end) (length payload.now)) ⊤ (λ why. from.new.frames ≡ from.old.frames) }
     ensures fault { IfErr result (λ fault. status_of fault ≡ 3) }
 {
-    let room = from.end.frame_len(event.payload.len()).unwrap_or(0);
+    let room = from.end.frame_len(payload.len()).unwrap_or(0);
     let mut frame = vec![in alloc; 0u8; room]?;
-    match from.end.write_into(&event.payload, frame.as_mut_slice()) {
+    match from.end.write_into(payload, frame.as_mut_slice()) {
         Ok(len) => {
             let number = from.frames;
             from.frames += 1;
-            report.wrote(event.role, number, &frame[..len])?;
-            deliver(to, &frame[..len], &event.cuts, report)
+            report.wrote(from.end.role(), number, &frame[..len])?;
+            deliver(to, &frame[..len], report)
         }
-        Err(fault) => report.unwritten(event.role, fault),
+        Err(fault) => report.unwritten(from.end.role(), fault),
     }
 }
 
-// Hands a frame over, in pieces.
+// Hands a frame over.
 fn deliver<K: Keys, O: Write>(
     end: &mut End<K>,
     frame: &[u8],
-    cuts: &Cuts,
     report: &mut Report<'_, O>,
 ) -> Result<(), Fault>
     ensures { IfErr result (λ fault. status_of fault ≡ 3) }
 {
     let role = end.role();
     let mut taken = 0;
-    for index in 0..frame.len() + Cuts::MOST {
+    for _ in 0..frame.len() {
         let rest = &frame[taken..];
         if rest.is_empty() {
             break;
         }
-        let (count, step) = end.take(&rest[..cuts.piece_len(index, rest.len())]);
+        let (count, step) = end.take(rest);
         match step {
             Step::More => (),
             Step::Payload(payload) => report.payload(role, payload)?,

@@ -8,13 +8,15 @@ mod events;
 mod lines;
 mod parties;
 mod reading;
+mod says;
 mod words;
 
 use crate::file_keys::FileKeys;
 use arrayvec::ArrayVec;
-pub use cuts::Cuts;
-use noise_names::{Pattern, ProtocolName, Role};
+use noise_duel::Event;
+use noise_names::{Pattern, ProtocolName};
 pub use reading::read_vector;
+pub use says::said_lines;
 
 /// What a vector file says.
 #[derive(Debug, Drop)]
@@ -29,15 +31,15 @@ pub struct VectorFile {
     pub psks: ArrayVec<[u8; 32], 9>,
     pub initiator: FileKeys,
     pub responder: FileKeys,
-    pub events: Vec<Say>,
+    pub events: Vec<Event>,
     pub ghost short: { vec_len prologue ≤ 65535 },
 }
 
-/// One end writes, and where it does, the other one takes the frame at once.
-#[derive(Debug, Drop, PartialEq, Eq)]
-pub struct Say {
-    pub role: Role,
-    /// At most 65535 bytes.
-    pub payload: Vec<u8>,
-    pub cuts: Cuts,
+/// Which events a file may have.
+#[derive(Clone, Copy, Debug, PartialEq, Eq)]
+pub enum AllowedEvents {
+    /// `say` alone.
+    SayOnly,
+    /// All four.
+    Any,
 }

@@ -1,6 +1,8 @@
 //! Which line of a wrong vector file is told.
 
 use super::tells;
+use crate::faults::{Fault, LineKind};
+use crate::vector::{AllowedEvents, read_vector};
 use std::alloc::{AllocError, Global};
 use std::process::Abort;
 use std::test::Fail;
@@ -48,7 +50,7 @@ const FULL: [&str; 33] = [
 ];
 
 // A line, in front of which line of that file it stands, and which kind of line it is told not to be.
-const WRONG: [(&str, usize, &str); 36] = [
+const WRONG: [(&str, usize, &str); 38] = [
     ("vector 2", 1, "header"),
     ("", 1, "header"),
     ("protocol", 2, "protocol"),
@@ -85,6 +87,8 @@ const WRONG: [(&str, usize, &str); 36] = [
     ("say initiator 6869 1,0", 32, "event"),
     ("say initiator 6869 1,1,1,1,1,1,1,1,1", 32, "event"),
     ("deliver responder 0 -", 33, "event"),
+    ("write initiator -", 32, "event"),
+    ("raw responder 00", 33, "event"),
 ];
 
 // The lines of a right file that spells its own pattern.
@@ -156,6 +160,106 @@ fn file_with(
         text.push_str("\n")?;
     }
     Ok(text)
+}
+
+// Lines that are no events, where all kinds of events are allowed.
+const NO_EVENTS: [&str; 30] = [
+    "",
+    "say",
+    "hear initiator -",
+    "Say initiator - -",
+    "say initiator -",
+    "say initiator - - -",
+    "say initiator  -",
+    "write -",
+    "write initiator",
+    "write nobody -",
+    "write initiator 6869 1",
+    "write initiator 686",
+    "write  initiator -",
+    "deliver 0 -",
+    "deliver responder 0",
+    "deliver responder - -",
+    "deliver responder 00 -",
+    "deliver responder 01 -",
+    "deliver responder +1 -",
+    "deliver responder 4294967296 -",
+    "deliver responder 18446744073709551616 -",
+    "deliver responder 0 1,0",
+    "deliver responder 0 1,01",
+    "deliver responder 0 65536",
+    "deliver responder 0 1,1,1,1,1,1,1,1,1",
+    "deliver responder 0 ",
+    "raw -",
+    "raw responder",
+    "raw responder 0A",
+    "raw responder - 1",
+];
+
+// Lines that are events. Where `say` alone is allowed, all but the first are refused.
+const EVENTS: [&str; 8] = [
+    "say responder 6869 1,0,65535",
+    "write initiator -",
+    "write responder 6869",
+    "deliver responder 0 -",
+    "deliver initiator 4294967295 0,0,0,0,0,0,0,1",
+    "deliver responder 7 65535",
+    "raw responder -",
+    "raw initiator 00",
+];
+
+#[test]
+fn tells_a_wrong_event(rt: HostRuntime) -> Result<(), Fail> {
+    let alloc = rt.alloc();
+    for line in &NO_EVENTS {
+        let file = file_with(alloc, &FULL, line, 32)?;
+        let fault = fault_of(alloc, file.as_str(), AllowedEvents::Any);
+        assert_eq!(rt; fault, Some(Fault::Line(32, LineKind::Event)), "{line}");
+    }
+    for (index, line) in EVENTS.iter().enumerate() {
+        let file = file_with(alloc, &FULL, line, 33)?;
+        let fault = fault_of(alloc, file.as_str(), AllowedEvents::Any);
+        assert_eq!(rt; fault, None, "{line}");
+        let refused = if index == 0 {
+            None
+        } else {
+            Some(Fault::Line(33, LineKind::Event))
+        };
+        let fault = fault_of(alloc, file.as_str(), AllowedEvents::SayOnly);
+        assert_eq!(rt; fault, refused, "{line}");
+    }
+    Ok(())
+}
+
+// Why this text is refused, if it is.
+fn fault_of(alloc: Global, text: &str, allowed: AllowedEvents) -> Option<Fault> {
+    read_vector(alloc, text.as_bytes(), allowed).err()
+}
+
+// The front of an event's line, how many bytes stand behind it, and whether it is an event.
+const SIZES: [(&str, usize, bool); 4] = [
+    ("write initiator ", 65535, true),
+    ("write initiator ", 65536, false),
+    ("raw responder ", 131072, true),
+    ("raw responder ", 131073, false),
+];
+
+#[test]
+fn tells_an_event_with_too_many_bytes(rt: HostRuntime) -> Result<(), Fail> {
+    let alloc = rt.alloc();
+    for (front, count, is_event) in &SIZES {
+        let mut line = String::from_str(alloc, front)?;
+        push_digits(&mut line, *count)?;
+        let file = file_with(alloc, &FULL, line.as_str(), 33)?;
+        let told = if *is_event {
+            None
+        } else {
+            Some(Fault::Line(33, LineKind::Event))
+        };
+        let fault = fault_of(alloc, file.as_str(), AllowedEvents::Any);
+        assert_eq!(rt; fault, told, "{front}{count}");
+    }
+    Ok(())
 }
 
 // How many bytes the prologue and the payload have, the status, and what is written: a word has at most 65535 bytes, and a message's text too.

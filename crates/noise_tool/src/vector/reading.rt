@@ -3,7 +3,7 @@
 ghost use Rattle.std.specs.Prelude.{◌≡◌, ◌<◌, ◌≤◌, ◌^◌, ◌++◌, ◌↔◌, ℕ, List, Option, Some, None, codes, decimal, length, vec_len};
 ghost use Rattle.std.specs.Prelude.{IfErr, IfOk, IfSome, IsFalse, IsOk, IsSome, MatchResult, OnOk};
 ghost use Rattle.std.specs.Bool.{nat_eq};
-ghost use Rattle.std.specs.List.{starts_with};
+ghost use Rattle.std.specs.List.{All, starts_with};
 ghost use Rattle.noise_names.specs.Names.{IsSection, Section, name_bytes};
 ghost use Rattle.noise_names.specs.Plan.{Plan};
 ghost use Rattle.noise_names.specs.Fundamental.{fundamental_of};
@@ -11,31 +11,33 @@ ghost use Rattle.noise_tool.specs.Faults.{IsOfLine};
 ghost use Rattle.noise_tool.specs.HexWord.{hex_of};
 ghost use Rattle.noise_tool.specs.VectorText.{block_text, line, lines_of, psk_words, text_of};
 ghost use Rattle.noise_tool.specs.OwnPattern.{HasName};
-ghost use Rattle.noise_tool.specs.VectorFile.{ArePsks, IsOwn, IsShort, IsVectorFile};
+ghost use Rattle.noise_tool.specs.VectorFile.{ArePsks, IsAllowed, IsOwn, IsShort, IsVectorFile};
 ghost use Rattle.noise_tool.specs.Words.{IsKey};
 ghost use Rattle.noise_tool.specs.declared.faults.Fault.TheVariants.{Memory};
 
-use super::VectorFile;
 use super::block::read_block;
 use super::events::read_events;
 use super::lines::Lines;
 use super::parties::read_party;
 use super::words::{read_bytes, read_key, read_number};
+use super::{AllowedEvents, VectorFile};
 use crate::faults::{Fault, LineKind};
 use arrayvec::ArrayVec;
 use noise_names::{Pattern, ProtocolName, Role, fundamental};
 use std::alloc::{AllocError, Global};
 
 /// What this text says, or the first line of it that isn't as it has to be.
-pub fn read_vector(alloc: Global, text: &[u8]) -> Result<VectorFile, Fault>
+pub fn read_vector(alloc: Global, text: &[u8], allowed: AllowedEvents) -> Result<VectorFile, Fault>
     ensures text { IfOk result (λ file. text.now ≡ text_of file) }
 
     // A pattern of its own stands in it exactly where the name's base isn't that of a fundamental one.
     ensures own { IfOk result (λ file. IsSome file.block ↔ (fundamental_of file.protocol.base ≡ None)) }
     ensures named { IfOk result (λ file. IfSome file.block (λ pattern. HasName pattern file.protocol)) }
 
+    ensures allowed { IfOk result (λ file. All (IsAllowed allowed) file.events.items) }
+
     // The text of a right file is refused only for want of memory.
-    ensures every { (file : VectorFile) → IsVectorFile file → text.now ≡ text_of file
+    ensures every { (file : VectorFile) → IsVectorFile file → All (IsAllowed allowed) file.events.items → text.now ≡ text_of file
         → IfErr result (λ fault. fault ≡ Memory) }
     ensures kind { IfErr result IsOfLine }
 {
@@ -48,7 +50,7 @@ pub fn read_vector(alloc: Global, text: &[u8]) -> Result<VectorFile, Fault>
     let psks = read_psks(&mut lines)?;
     let initiator = read_party(&mut lines, Role::Initiator)?;
     let responder = read_party(&mut lines, Role::Responder)?;
-    let events = read_events(alloc, &mut lines)?;
+    let events = read_events(alloc, &mut lines, allowed)?;
     Ok(VectorFile {
         protocol,
         block,
@@ -140,7 +142,7 @@ fn prologue_of(alloc: Global, line: &[u8]) -> Result<Option<Vec<u8>>, AllocError
         → IfOk result (λ found. IsSome found) }
 {
     match line.strip_prefix(b"prologue ".as_slice()) {
-        Some(word) => read_bytes(alloc, word),
+        Some(word) => read_bytes(alloc, word, 65535),
         None => Ok(None),
     }
 }

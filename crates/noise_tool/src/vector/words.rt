@@ -6,8 +6,9 @@ ghost use Rattle.noise_tool.specs.HexWord.{hex_of};
 ghost use Rattle.hex.specs.Hex.{encode_lower};
 ghost use Rattle.noise_handshake.specs.declared.keys.Own.{Own};
 ghost use Rattle.noise_names.specs.declared.token.Role.{Role};
-ghost use Rattle.noise_tool.specs.VectorFile.{IsShort};
-ghost use Rattle.noise_tool.specs.VectorText.{key_word, own_word, role_word};
+ghost use Rattle.noise_tool.specs.VectorFile.{AreBytes};
+ghost use Rattle.noise_tool.specs.VectorText.{key_word, kind_word, own_word, role_word};
+ghost use Rattle.noise_tool.specs.declared.vector.words.EventKind.{EventKind};
 ghost use Rattle.noise_tool.specs.Words.{IsKey, lacks};
 
 use crate::hex_words::read_hex;
@@ -15,6 +16,15 @@ use noise_handshake::Own;
 use noise_names::Role;
 use std::alloc::{AllocError, Global};
 use std::str;
+
+/// The kinds of events.
+#[derive(Clone, Copy, Debug, PartialEq, Eq)]
+pub enum EventKind {
+    Say,
+    Write,
+    Deliver,
+    Raw,
+}
 
 /// What stands before the first such byte, and what stands behind it.
 pub fn split_once(text: &[u8], separator: u8) -> Option<(&[u8], &[u8])>
@@ -102,6 +112,20 @@ pub fn read_role(word: &[u8]) -> Option<Role>
     }
 }
 
+/// `say`, `write`, `deliver` or `raw`.
+pub fn read_kind(word: &[u8]) -> Option<EventKind>
+    ensures value { IfSome result (λ kind. word.now ≡ kind_word kind) }
+    ensures every { (kind : EventKind) → word.now ≡ kind_word kind → result ≡ Some kind }
+{
+    match word {
+        b"say" => Some(EventKind::Say),
+        b"write" => Some(EventKind::Write),
+        b"deliver" => Some(EventKind::Deliver),
+        b"raw" => Some(EventKind::Raw),
+        _ => None,
+    }
+}
+
 /// `e` for the ephemeral key pair, or `s` for the static one.
 pub fn read_own(word: &[u8]) -> Option<Own>
     ensures value { IfSome result (λ own. word.now ≡ own_word own) }
@@ -114,13 +138,24 @@ pub fn read_own(word: &[u8]) -> Option<Own>
     }
 }
 
-/// The bytes of a hex word, at most 65535.
-pub fn read_bytes(alloc: Global, word: &[u8]) -> Result<Option<Vec<u8>>, AllocError>
-    ensures text { IfOk result (λ found. IfSome found (λ bytes. word.now ≡ hex_of bytes.items)) }
-    ensures bound { IfOk result (λ found. IfSome found (λ bytes. vec_len bytes ≤ 65535)) }
-    ensures every { (bytes : List ℕ) → IsShort bytes → word.now ≡ hex_of bytes → IfOk result (λ found. IsSome found) }
+/// A number below 2^32.
+pub fn read_frame_number(word: &[u8]) -> Option<usize>
+    ensures value { IfSome result (λ number. word.now ≡ decimal number) }
+    ensures every { (number : ℕ) → number < 2 ^ 32 → word.now ≡ decimal number → result ≡ Some number }
 {
-    if word.len() > 2 * 65535 {
+    match u32::try_from(read_number(word)?) {
+        Ok(number) => Some(number as usize),
+        Err(_) => None,
+    }
+}
+
+/// The bytes of a hex word, at most so many.
+pub fn read_bytes(alloc: Global, word: &[u8], most: usize) -> Result<Option<Vec<u8>>, AllocError>
+    ensures text { IfOk result (λ found. IfSome found (λ bytes. word.now ≡ hex_of bytes.items)) }
+    ensures bound { IfOk result (λ found. IfSome found (λ bytes. vec_len bytes ≤ most)) }
+    ensures every { (bytes : List ℕ) → AreBytes most bytes → word.now ≡ hex_of bytes → IfOk result (λ found. IsSome found) }
+{
+    if word.len() / 2 > most {
         return Ok(None);
     }
     read_hex(alloc, word)
