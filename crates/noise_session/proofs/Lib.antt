@@ -12,3 +12,4 @@ pub mod Once
 pub mod Cutting
 pub mod SentOnce
 pub mod Counterparts
+pub mod Ringing

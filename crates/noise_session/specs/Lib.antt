@@ -14,3 +14,4 @@ pub mod Outputs
 pub mod Inputs
 pub mod Outcomes
 pub mod Incoming
+pub mod Windows

@@ -18,6 +18,7 @@ mod stage;
 mod step;
 mod taking;
 mod transport;
+mod window;
 
 pub use counted::Counted;
 pub use end::End;
@@ -27,6 +28,7 @@ pub use packets::{packet_is_due, packet_same};
 pub use stage::Stage;
 pub use step::Step;
 pub use transport::Transport;
+pub use window::Window;
 
 #[cfg(test)]
 mod tests;
