@@ -13,3 +13,5 @@ pub mod Cutting
 pub mod SentOnce
 pub mod Counterparts
 pub mod Ringing
+pub mod DatagramViews
+pub mod DatagramLaws

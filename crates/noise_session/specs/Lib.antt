@@ -15,3 +15,4 @@ pub mod Inputs
 pub mod Outcomes
 pub mod Incoming
 pub mod Windows
+pub mod Datagrams

@@ -1,9 +1,11 @@
 -- Windows over the nonces of datagrams, and which of these were accepted (Noise 11.4).
-use Rattle.std.specs.Prelude.{◌≡◌, ◌≤◌, ◌<◌, ◌+◌, ◌/◌, ◌%◌, ◌==◌, ◌||◌, ℕ, List, [], ◌∷◌, Bool, true, false, nat_le, slice_index}
+use Rattle.std.specs.Prelude.{◌≡◌, ◌≤◌, ◌<◌, ◌+◌, ◌/◌, ◌%◌, ◌==◌, ◌||◌, ℕ, List, [], ◌∷◌, Bool, true, false, nat_le, slice_index, Option, Some, None, if◌then◌else◌}
 use Rattle.std.specs.Int.{bit_at}
 use Rattle.noise_session.specs.declared.window.Window.{Window}
 use Rattle.noise_session.specs.declared.window.Window.TheVariants.{W64, W256, W1024}
 use Rattle.noise_session.specs.declared.window.Ring.{Ring}
+use Rattle.noise_session.specs.declared.datagram_fault.DatagramFault.{DatagramFault}
+use Rattle.noise_session.specs.declared.datagram_fault.DatagramFault.TheVariants as fault
 
 -- how many nonces a window has
 abbrev pub width_of : Window → ℕ
@@ -26,6 +28,13 @@ is_among (n ∷ accepted) nonce = (n == nonce) || is_among accepted nonce
 abbrev pub is_old : ℕ → List ℕ → ℕ → Bool
 is_old width [] nonce = false
 is_old width (n ∷ accepted) nonce = nat_le (nonce + width) n || is_old width accepted nonce
+
+-- why no datagram of this nonce is opened: the first of these
+abbrev pub window_fault : ℕ → List ℕ → ℕ → Option DatagramFault
+window_fault width accepted nonce =
+    if is_old width accepted nonce then Some fault.Old
+    else if is_among accepted nonce then Some fault.Repeated
+    else None
 
 -- the bit of a nonce in a ring: that of its place in the word of its block of 64
 abbrev pub bit_of : Ring → ℕ → ℕ

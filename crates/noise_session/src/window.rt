@@ -3,6 +3,8 @@
 
 ghost use Rattle.std.specs.Prelude.{◌≡◌, ◌≤◌, ◌<◌, ◌+◌, ◌/◌, ◌%◌, ◌*◌, ℕ, List, [], ◌∷◌, length, slice_index, false};
 
+use crate::DatagramFault;
+
 const WORD_BITS: u64 = 64;
 
 // The words of the widest window: a word more than the width takes.
@@ -67,7 +69,7 @@ pub(crate) struct Ring {
 }
 
 impl Ring {
-    ghost use Rattle.noise_session.specs.Windows.{width_of, words_of, is_among, is_old, Recalls};
+    ghost use Rattle.noise_session.specs.Windows.{width_of, words_of, is_among, is_old, window_fault, Recalls};
 
     // That of no nonces.
     pub(crate) fn new(window: Window) -> Ring
@@ -81,15 +83,28 @@ impl Ring {
         }
     }
 
+    // Why no datagram of this nonce is opened.
+    pub(crate) fn refusal(&self, nonce: u64) -> Option<DatagramFault>
+        ensures { (accepted : List ℕ) → Recalls self.now accepted → result ≡ window_fault (width_of self.now.window) accepted nonce }
+    {
+        if self.is_old(nonce) {
+            Some(DatagramFault::Old)
+        } else if self.contains(nonce) {
+            Some(DatagramFault::Repeated)
+        } else {
+            None
+        }
+    }
+
     // Whether some accepted nonce is at least the width above this one.
-    pub(crate) fn is_old(&self, nonce: u64) -> bool
+    fn is_old(&self, nonce: u64) -> bool
         ensures { (accepted : List ℕ) → Recalls self.now accepted → result ≡ is_old (width_of self.now.window) accepted nonce }
     {
         self.greatest.saturating_sub(nonce) >= self.window.width()
     }
 
     // Whether this nonce was accepted, which isn't old.
-    pub(crate) fn contains(&self, nonce: u64) -> bool
+    fn contains(&self, nonce: u64) -> bool
         ensures { (accepted : List ℕ) → Recalls self.now accepted → is_old (width_of self.now.window) accepted nonce ≡ false → result ≡ is_among accepted nonce }
     {
         let word = self.words[self.window.place(nonce / WORD_BITS)];
