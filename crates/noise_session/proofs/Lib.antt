@@ -12,3 +12,6 @@ pub mod Once
 pub mod Cutting
 pub mod SentOnce
 pub mod Counterparts
+pub mod Ringing
+pub mod DatagramViews
+pub mod DatagramLaws

@@ -12,3 +12,5 @@ pub mod Sending
 pub mod Outputs
 pub mod Inputs
 pub mod inner
+pub mod Windows
+pub mod Datagrams

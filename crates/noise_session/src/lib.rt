@@ -2,6 +2,9 @@
 #![tactic(auto)]
 
 mod counted;
+mod datagram_fault;
+mod datagram_laws;
+mod datagrams;
 mod draining;
 mod end;
 mod faults;
@@ -18,8 +21,12 @@ mod stage;
 mod step;
 mod taking;
 mod transport;
+mod window;
 
 pub use counted::Counted;
+pub use datagram_fault::DatagramFault;
+pub use datagram_laws::{opened_once, sealed_is_opened};
+pub use datagrams::Datagrams;
 pub use end::End;
 pub use faults::{OpenFault, ReceiveFault, SendFault};
 pub use laws::{cuts_alike, end_is_told, sent_once, taken_once, written_is_taken};
@@ -27,6 +34,7 @@ pub use packets::{packet_is_due, packet_same};
 pub use stage::Stage;
 pub use step::Step;
 pub use transport::Transport;
+pub use window::Window;
 
 #[cfg(test)]
 mod tests;

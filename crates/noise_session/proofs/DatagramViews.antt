@@ -1,0 +1,103 @@
+-- What sealing and opening make of the bytes of a datagram, and of a view.
+use Rattle.std.proofs.Common.{◌≡◌, ℕ, ◌+◌, ◌-◌, ◌≤◌, Bool, true, false, List, [], ◌∷◌, ◌++◌, length, take, drop, Option, Some, None, refl, sym, ◌∙◌, ap, subst, arith, length-drop}
+use Rattle.std.specs.Prelude.{◌&&◌, ◌==◌, nat_lt, if◌then◌else◌}
+use Rattle.std.specs.Int.{w64, to_be_bytes}
+use Rattle.std.proofs.lemmas.List.{drop_at, take_at, drop-drop, length-take-le, nil_from_length, append-nil}
+use Rattle.std.proofs.Math.Seq.{take-add}
+use borrow.Rule.Slice.PartMut.{put_mid}
+use Rattle.noise_names.specs.declared.token.Role.{Role}
+use Rattle.noise_names.specs.declared.token.Role.TheVariants.{Initiator}
+use Rattle.noise_names.specs.Tokens.{same_role}
+use Rattle.noise_state.specs.History.{History, piece_under}
+use Rattle.noise_session.specs.declared.datagram_fault.DatagramFault.{DatagramFault}
+use Rattle.noise_session.specs.declared.datagram_fault.DatagramFault.TheVariants as fault
+use Rattle.noise_session.specs.declared.window.Ring.{Ring}
+use Rattle.noise_session.specs.Transport.{split_key, packet, last_nonce}
+use Rattle.noise_session.specs.Windows.{width_of, is_among, is_old, window_fault, Recalls}
+use Rattle.noise_session.specs.Datagrams.{HeldDatagrams, DatagramView, Pictures, nonce_named, accepting, datagram_fault}
+
+-- ---- bytes
+take-behind : (p q : List ℕ) (n : ℕ) → length p ≡ 8 → take (8 + n) (p ++ q) ≡ p ++ take n q
+take-behind p q n long =
+    take-add 8 n (p ++ q)
+    ∙ ap (λ (xs : List ℕ). xs ++ take n (drop 8 (p ++ q))) (take_at p q 8 long)
+    ∙ ap (λ (xs : List ℕ). p ++ take n xs) (drop_at p q 8 long)
+
+pub sealed-front : (p q message : List ℕ) (n m : ℕ) → p ≡ to_be_bytes w64 m → take n q ≡ message → take (8 + n) (p ++ q) ≡ to_be_bytes w64 m ++ message
+sealed-front p q message n m is made =
+    take-behind p q n (ap length is)
+    ∙ ap (λ (xs : List ℕ). xs ++ take n q) is
+    ∙ ap (λ (xs : List ℕ). to_be_bytes w64 m ++ xs) made
+
+pub sealed-rest : (p q out : List ℕ) (n m : ℕ) → p ≡ to_be_bytes w64 m → drop n q ≡ drop n (drop 8 out) → drop (8 + n) (p ++ q) ≡ drop (8 + n) out
+sealed-rest p q out n m is rest =
+    sym (drop-drop n 8 (p ++ q))
+    ∙ ap (drop n) (drop_at p q 8 (ap length is))
+    ∙ rest
+    ∙ drop-drop n 8 out
+
+-- what was written behind the nonce
+pub behind-nonce : (bytes written : List ℕ) → 8 ≤ length bytes → drop 8 (put_mid 8 (length bytes - 8) bytes written) ≡ written
+behind-nonce bytes written long =
+    let post = drop (length bytes - 8) (drop 8 bytes) in
+    let none : length post ≡ 0 = omega (arith, length-drop (length bytes - 8) (drop 8 bytes), length-drop 8 bytes) in
+    drop_at (take 8 bytes) (written ++ post) 8 (length-take-le 8 bytes long)
+    ∙ ap (λ (p : List ℕ). written ++ p) (nil_from_length post none)
+    ∙ append-nil written
+
+pub piece-packet : (key : Option (List ℕ)) (n m : ℕ) (r : History) (writer : Role) (payload : List ℕ) → key ≡ Some (split_key r writer) → n ≡ m
+    → piece_under key n [] payload ≡ packet r writer 0 m payload
+piece-packet key n m r writer payload keyed same =
+    ap (λ (k : Option (List ℕ)). piece_under k n [] payload) keyed ∙ ap (λ (i : ℕ). packet r writer 0 i payload) same
+
+-- ---- why nothing is opened
+pub no-fault : {X : Type 0} (b : Bool) (x : X) (rest : Option X) → (if b then Some x else rest) ≡ None → (b ≡ false) × (rest ≡ None)
+no-fault true x rest e = cc
+no-fault false x rest e = (refl, e)
+
+pub young : (v : DatagramView) (bytes : List ℕ) → datagram_fault v bytes ≡ None
+    → (is_old v.width v.accepted (nonce_named bytes) ≡ false) × (is_among v.accepted (nonce_named bytes) ≡ false)
+young v bytes e =
+    let n = nonce_named bytes in
+    let window = window_fault v.width v.accepted n in
+    let reserved : Option DatagramFault = if n == last_nonce then Some fault.Reserved else window in
+    let long : Option DatagramFault = if nat_lt 65543 (length bytes) then Some fault.TooLong else reserved in
+    let short : Option DatagramFault = if nat_lt (length bytes) 24 then Some fault.Short else long in
+    let a = no-fault (v.one_way && same_role v.role Initiator) fault.OneWay short e in
+    let b = no-fault (nat_lt (length bytes) 24) fault.Short long a.1 in
+    let c = no-fault (nat_lt 65543 (length bytes)) fault.TooLong reserved b.1 in
+    let d = no-fault (n == last_nonce) fault.Reserved window c.1 in
+    let seen : Option DatagramFault = if is_among v.accepted n then Some fault.Repeated else None in
+    let f = no-fault (is_old v.width v.accepted n) fault.Old seen d.1 in
+    (f.0, (no-fault (is_among v.accepted n) fault.Repeated None f.1).0)
+
+pub young-here : (d : HeldDatagrams) (v : DatagramView) (bytes : List ℕ) (n : ℕ) → Pictures d v → datagram_fault v bytes ≡ None → n ≡ nonce_named bytes
+    → is_old (width_of d.recent.window) v.accepted n ≡ false
+young-here d v bytes n p none same =
+    ap (λ (w : ℕ). is_old w v.accepted n) p.width ∙ ap (λ (m : ℕ). is_old v.width v.accepted m) same ∙ (young v bytes none).0
+
+-- ---- views behind a call
+pub pictures-sealed : (d : HeldDatagrams) (v : DatagramView) (key : Option (List ℕ)) (nonce : ℕ) → Pictures d v → key ≡ d.send_key → nonce ≡ d.send_nonce + 1
+    → Pictures (record d { send_key = key; send_nonce = nonce }) (record v { sent = v.sent + 1 })
+pictures-sealed d v key nonce p same more = record {
+  role = p.role;
+  one_way = p.one_way;
+  send_key = same ∙ p.send_key;
+  send_nonce = more ∙ ap (λ (n : ℕ). n + 1) p.send_nonce;
+  receive_key = p.receive_key;
+  width = p.width;
+  recent = p.recent;
+}
+
+pub pictures-opened : (d : HeldDatagrams) (v : DatagramView) (key : Option (List ℕ)) (recent : Ring) (n m : ℕ) → Pictures d v → key ≡ d.receive_key
+    → recent.window ≡ d.recent.window → n ≡ m → Recalls recent (n ∷ v.accepted)
+    → Pictures (record d { receive_key = key; recent = recent }) (accepting v m)
+pictures-opened d v key recent n m p same window named recalls = record {
+  role = p.role;
+  one_way = p.one_way;
+  send_key = p.send_key;
+  send_nonce = p.send_nonce;
+  receive_key = same ∙ p.receive_key;
+  width = ap width_of window ∙ p.width;
+  recent = subst (λ (k : ℕ). Recalls recent (k ∷ v.accepted)) named recalls;
+}

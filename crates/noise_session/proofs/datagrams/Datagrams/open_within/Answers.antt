@@ -1,0 +1,51 @@
+use Rattle.std.proofs.Common.{◌≡◌, ◌≢◌, ◌-◌, ◌≤◌, ◌<◌, length, take, drop, Some, None, sym, ◌∙◌, ap, subst, arith, length-drop}
+use Rattle.std.proofs.lemmas.List.{take_rest}
+use borrow.Rule.Slice.PartMut.{put_mid}
+use Rattle.noise_names.specs.Tokens.{other}
+use Rattle.noise_state.specs.Cipher.{key_in, nonce_in}
+use Rattle.noise_session.specs.Transport.{split_key, packet, last_nonce}
+use Rattle.noise_session.specs.contracts.datagrams.Datagrams.{the_view}
+use Rattle.noise_session.specs.Datagrams.{HeldDatagrams, Pictures, nonce_named, datagram_fault}
+use Rattle.noise_session.specs.Datagrams.Opens.{opened, refused, forged}
+use Rattle.noise_session.proofs.Unopened.{not_ok}
+use Rattle.noise_session.proofs.DatagramViews.{behind-nonce, piece-packet, young-here, pictures-opened}
+use Rattle.noise_session.proofs.datagrams.Datagrams.open_within.Goals as goal
+
+pub returns-in-Some-clause-opens : goal.returns-in-Some-clause-opens
+returns-in-Some-clause-opens c v h = refused v c.args.datagram.now c.in-Some.fault (sym (c.in-Some.ensures.told v h))
+
+pub returns-in-Ok-clause-opens : goal.returns-in-Ok-clause-opens
+returns-in-Ok-clause-opens c v h =
+    let d = c.args.datagram.now in
+    let here = subst (λ (t : HeldDatagrams). Pictures t v) (sym c.self.view_is) h in
+    let none : datagram_fault v d ≡ None = cc (c.in_default.ensures.told v h) in
+    let named : c.nonce_of-nonce.result ≡ nonce_named d = c.nonce_of-nonce.ensures in
+    let keyed : key_in c.set_nonce.new.self ≡ Some (split_key v.history (other v.role)) = c.set_nonce.ensures.key ∙ here.receive_key in
+    let least : 24 ≤ length d = c.in_default.ensures.bounds.0 in
+    let long : 8 ≤ length d = omega arith in
+    let front : take c.in-Ok.len c.decrypt.new.buf ≡ take c.in-Ok.len (drop 8 (put_mid 8 (length d - 8) d c.decrypt.new.buf)) = ap (take c.in-Ok.len) (sym (behind-nonce d c.decrypt.new.buf long)) in (
+      opened v d (take c.in-Ok.len (drop 8 (put_mid 8 (length d - 8) d c.decrypt.new.buf))) none
+          (sym (take_rest d 8)
+          ∙ c.in-Ok.ensures.opened
+          ∙ piece-packet (key_in c.set_nonce.new.self) (nonce_in c.set_nonce.new.self) (nonce_named d) v.history (other v.role) (take c.in-Ok.len c.decrypt.new.buf) keyed (c.set_nonce.ensures.nonce ∙ named)
+          ∙ ap (packet v.history (other v.role) 0 (nonce_named d)) front),
+      pictures-opened (the_view c.self.inside) v (key_in c.decrypt.new.self) c.insert.new.self c.nonce_of-nonce.result (nonce_named d) here
+          (c.decrypt.ensures.key ∙ c.set_nonce.ensures.key) c.insert.ensures.window named
+          (c.insert.ensures.more v.accepted here.recent (young-here (the_view c.self.inside) v d c.nonce_of-nonce.result here none named)),
+    )
+
+pub returns-in-Err-clause-opens : goal.returns-in-Err-clause-opens
+returns-in-Err-clause-opens c v h =
+    let d = c.args.datagram.now in
+    let here = subst (λ (t : HeldDatagrams). Pictures t v) (sym c.self.view_is) h in
+    let none : datagram_fault v d ≡ None = cc (c.in_default.ensures.told v h) in
+    let named : c.nonce_of-nonce.result ≡ nonce_named d = c.nonce_of-nonce.ensures in
+    let keyed : key_in c.set_nonce.new.self ≡ Some (split_key v.history (other v.role)) = c.set_nonce.ensures.key ∙ here.receive_key in
+    let least : 24 ≤ length d = c.in_default.ensures.bounds.0 in
+    let most : length d ≤ 65543 = c.in_default.ensures.bounds.1 in
+    let apart : c.nonce_of-nonce.result ≢ last_nonce = λ same. c.in_default.ensures.bounds.2 (sym named ∙ same) in
+    let low : nonce_in c.set_nonce.new.self < last_nonce = omega (arith, c.set_nonce.ensures.nonce, c.nonce_of-nonce.type_inv) in
+    let size : length (take (length d - 8) (drop 8 d)) ≤ 65535 = omega (arith, ap length (take_rest d 8), length-drop 8 d) in
+    forged v d none (λ payload is.
+    let piece = sym (piece-packet (key_in c.set_nonce.new.self) (nonce_in c.set_nonce.new.self) (nonce_named d) v.history (other v.role) payload keyed (c.set_nonce.ensures.nonce ∙ named)) in
+    not_ok c.decrypt.result c.in-Err.field-0 c.in-Err.is (c.decrypt.ensures.accepts.1 (λ _. low, size, (payload, take_rest d 8 ∙ is ∙ piece))))

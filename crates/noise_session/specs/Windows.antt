@@ -1,0 +1,47 @@
+-- Windows over the nonces of datagrams, and which of these were accepted (Noise 11.4).
+use Rattle.std.specs.Prelude.{◌≡◌, ◌≤◌, ◌<◌, ◌+◌, ◌/◌, ◌%◌, ◌==◌, ◌||◌, ℕ, List, [], ◌∷◌, Bool, true, false, nat_le, slice_index, Option, Some, None, if◌then◌else◌}
+use Rattle.std.specs.Int.{bit_at}
+use Rattle.noise_session.specs.declared.window.Window.{Window}
+use Rattle.noise_session.specs.declared.window.Window.TheVariants.{W64, W256, W1024}
+use Rattle.noise_session.specs.declared.window.Ring.{Ring}
+use Rattle.noise_session.specs.declared.datagram_fault.DatagramFault.{DatagramFault}
+use Rattle.noise_session.specs.declared.datagram_fault.DatagramFault.TheVariants as fault
+
+-- how many nonces a window has
+abbrev pub width_of : Window → ℕ
+width_of W64 = 64
+width_of W256 = 256
+width_of W1024 = 1024
+
+-- how many words a ring uses: one more than the width has
+abbrev pub words_of : Window → ℕ
+words_of window = width_of window / 64 + 1
+
+-- The accepted nonces are a set: of the list it counts only which nonces stand in it.
+
+-- whether a nonce is one of them
+abbrev pub is_among : List ℕ → ℕ → Bool
+is_among [] nonce = false
+is_among (n ∷ accepted) nonce = (n == nonce) || is_among accepted nonce
+
+-- whether one of them is at least the width above this nonce
+abbrev pub is_old : ℕ → List ℕ → ℕ → Bool
+is_old width [] nonce = false
+is_old width (n ∷ accepted) nonce = nat_le (nonce + width) n || is_old width accepted nonce
+
+-- why no datagram of this nonce is opened: the first of these
+abbrev pub window_fault : ℕ → List ℕ → ℕ → Option DatagramFault
+window_fault width accepted nonce =
+    if is_old width accepted nonce then Some fault.Old
+    else if is_among accepted nonce then Some fault.Repeated
+    else None
+
+-- the bit of a nonce in a ring: that of its place in the word of its block of 64
+abbrev pub bit_of : Ring → ℕ → ℕ
+bit_of r nonce = bit_at (slice_index r.words (nonce / 64 % words_of r.window)) (nonce % 64)
+
+-- Of the accepted nonces the ring has the greatest, and which there are in its block and in as many blocks below as the width has.
+pub record Recalls (r : Ring) (accepted : List ℕ) : Type 0 where
+  pub greatest : (n : ℕ) → is_among accepted n ≡ true → n ≤ r.greatest
+  pub reached : 0 < r.greatest → is_among accepted r.greatest ≡ true
+  pub bits : (n : ℕ) → n / 64 ≤ r.greatest / 64 → r.greatest / 64 < n / 64 + words_of r.window → (bit_of r n == 1) ≡ is_among accepted n

@@ -1,0 +1,127 @@
+//! Which datagrams were accepted before: a ring of bits over their nonces (Noise, 11.4).
+#![tactic(auto)]
+
+ghost use Rattle.std.specs.Prelude.{◌≡◌, ◌≤◌, ◌<◌, ◌+◌, ◌/◌, ◌%◌, ◌*◌, ℕ, List, [], ◌∷◌, length, slice_index, false};
+
+use crate::DatagramFault;
+
+const WORD_BITS: u64 = 64;
+
+// The words of the widest window: a word more than the width takes.
+const MOST_WORDS: usize = 17;
+
+/// How far a datagram may come behind another one and still be opened: the nonces less than the width below the greatest
+/// accepted one, each of which is accepted once.
+#[derive(Clone, Copy, Debug, PartialEq, Eq)]
+pub enum Window {
+    /// 64 nonces.
+    W64,
+    /// 256 nonces.
+    W256,
+    /// 1024 nonces.
+    W1024,
+}
+
+impl Window {
+    ghost use Rattle.noise_session.specs.Windows.{width_of, words_of};
+
+    /// How many nonces it has.
+    pub fn width(self) -> u64
+        ensures { result ≡ width_of self }
+    {
+        match self {
+            Window::W64 => 64,
+            Window::W256 => 256,
+            Window::W1024 => 1024,
+        }
+    }
+
+    // Where the word of a block stands.
+    fn place(self, block: u64) -> usize
+        ensures value { result ≡ block % words_of self }
+        ensures within { result < 17 }
+    {
+        (block % (self.width() / WORD_BITS + 1)) as usize
+    }
+
+    // Clears the words of the blocks behind `top` up to `block`: each word once at most.
+    fn clear(self, words: &mut [u64; MOST_WORDS], top: u64, block: u64)
+        requires { top ≤ block }
+        ensures fresh { (b : ℕ) → top < b → b ≤ block → block < b + words_of self → slice_index words.new (b % words_of self) ≡ 0 }
+        ensures kept { (b : ℕ) → b ≤ top → block < b + words_of self → slice_index words.new (b % words_of self) ≡ slice_index words.old (b % words_of self) }
+    {
+        let count = (block - top).min(self.width() / WORD_BITS + 1);
+        for back in 0..count {
+            words[self.place(block - back)] = 0;
+        }
+    }
+}
+
+// The accepted nonces of a window: the greatest, 0 where there is none, and a bit for each of the others.
+//
+// A word has the bits of a block of 64 nonces, from a multiple of 64 on. There is a word more than the width takes: so the
+// blocks that the window touches have a word each, and a word is cleared as a whole when its turn for a block comes.
+#[derive(Drop)]
+pub(crate) struct Ring {
+    window: Window,
+    greatest: u64,
+    words: [u64; MOST_WORDS],
+}
+
+impl Ring {
+    ghost use Rattle.noise_session.specs.Windows.{width_of, words_of, is_among, is_old, window_fault, Recalls};
+
+    // That of no nonces.
+    pub(crate) fn new(window: Window) -> Ring
+        ensures window { result.window ≡ window }
+        ensures none { Recalls result [] }
+    {
+        Ring {
+            window,
+            greatest: 0,
+            words: [0; MOST_WORDS],
+        }
+    }
+
+    // Why no datagram of this nonce is opened.
+    pub(crate) fn refusal(&self, nonce: u64) -> Option<DatagramFault>
+        ensures { (accepted : List ℕ) → Recalls self.now accepted → result ≡ window_fault (width_of self.now.window) accepted nonce }
+    {
+        if self.is_old(nonce) {
+            Some(DatagramFault::Old)
+        } else if self.contains(nonce) {
+            Some(DatagramFault::Repeated)
+        } else {
+            None
+        }
+    }
+
+    // Whether some accepted nonce is at least the width above this one.
+    fn is_old(&self, nonce: u64) -> bool
+        ensures { (accepted : List ℕ) → Recalls self.now accepted → result ≡ is_old (width_of self.now.window) accepted nonce }
+    {
+        self.greatest.saturating_sub(nonce) >= self.window.width()
+    }
+
+    // Whether this nonce was accepted, which isn't old.
+    fn contains(&self, nonce: u64) -> bool
+        ensures { (accepted : List ℕ) → Recalls self.now accepted → is_old (width_of self.now.window) accepted nonce ≡ false → result ≡ is_among accepted nonce }
+    {
+        let word = self.words[self.window.place(nonce / WORD_BITS)];
+        nonce <= self.greatest && word >> (nonce % WORD_BITS) & 1 == 1
+    }
+
+    // Accepts this nonce, which isn't old.
+    pub(crate) fn insert(&mut self, nonce: u64)
+        ensures window { self.new.window ≡ self.old.window }
+        ensures more { (accepted : List ℕ) → Recalls self.old accepted → is_old (width_of self.old.window) accepted nonce ≡ false → Recalls self.new (nonce ∷ accepted) }
+    {
+        let block = nonce / WORD_BITS;
+        if nonce > self.greatest {
+            self.window
+                .clear(&mut self.words, self.greatest / WORD_BITS, block);
+            self.greatest = nonce;
+        }
+        self.words[self.window.place(block)] |= 1 << (nonce % WORD_BITS);
+    }
+}
