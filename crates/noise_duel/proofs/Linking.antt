@@ -1,5 +1,5 @@
 -- From one call of an end to a run.
-use Rattle.std.proofs.Common.{◌≡◌, ℕ, suc, ◌+◌, ◌<◌, ◌≤◌, List, [], ◌∷◌, ◌++◌, length, take, drop, true, false, ◌&&◌, if◌then◌else◌, Bool, Option, Some, None, Ok, refl, ap, sym, subst, ◌∙◌, arith, append_assoc, append-nil, length-append, map, Vec, Global, take-take}
+use Rattle.std.proofs.Common.{◌≡◌, ℕ, suc, ◌+◌, ◌<◌, ◌≤◌, List, [], ◌∷◌, ◌++◌, length, take, drop, true, false, ◌&&◌, if◌then◌else◌, Bool, Option, Some, None, Ok, refl, ap, sym, subst, ◌∙◌, arith, append_assoc, append-nil, length-append, Vec, Global, take-take}
 use Rattle.std.proofs.lemmas.List.{take-append-le}
 use Rattle.std.proofs.Math.Seq.{take-append_seam, drop-append_seam, drop-append-add, drop-length}
 use Rattle.noise_names.specs.declared.token.Role.TheVariants.{Initiator}
@@ -32,13 +32,19 @@ use Rattle.noise_duel.proofs.Framing.{frame-whole}
 pub front-of : (out xs : List ℕ) (n len : ℕ) → n ≤ len → n ≤ length out → take n (take len (out ++ xs)) ≡ take n out
 front-of out xs n len f g = take-take n len (out ++ xs) f ∙ take-append-le n out xs g
 
-pub bytes_of-append : (fs : List (Vec ℕ Global)) (f : Vec ℕ Global) → bytes_of (fs ++ f ∷ []) ≡ bytes_of fs ++ f.items ∷ []
+bytes_of-append : (fs : List (Vec ℕ Global)) (f : Vec ℕ Global) → bytes_of (fs ++ f ∷ []) ≡ bytes_of fs ++ f.items ∷ []
 bytes_of-append [] f = refl
 bytes_of-append (x ∷ fs) f = ap (λ (bs : List (List ℕ)). x.items ∷ bs) (bytes_of-append fs f)
 
 pub length-bytes_of : (fs : List (Vec ℕ Global)) → length (bytes_of fs) ≡ length fs
 length-bytes_of [] = refl
 length-bytes_of (f ∷ fs) = ap suc (length-bytes_of fs)
+
+-- a frame more
+pub frames-kept : (old new : List (Vec ℕ Global)) (f : Vec ℕ Global) (bytes : List ℕ) (frames after : List (List ℕ)) → new ≡ old ++ f ∷ [] → f.items ≡ bytes
+    → bytes_of old ≡ frames → after ≡ frames ++ bytes ∷ [] → bytes_of new ≡ after
+frames-kept old new f bytes frames after e is same more =
+    ap bytes_of e ∙ bytes_of-append old f ∙ ap (λ (b : List ℕ). bytes_of old ++ b ∷ []) is ∙ ap (λ (fs : List (List ℕ)). fs ++ bytes ∷ []) same ∙ sym more
 
 -- a write that succeeds
 pub record HasSent (s : Side) (payload bytes : List ℕ) (next : EndView) : Type 0 where
@@ -118,7 +124,8 @@ reads-any : (s next : Side) (held message : List ℕ) (step : Told) → SideRead
     → SideReads s message step next
 reads-any s next held message step (accepts_handshake _ _ payload xs a) = accepts_handshake s message payload xs a
 reads-any s next held message step (accepts_transport _ _ payload due low is) = accepts_transport s message payload due low is
-reads-any s next held message step (refuses_message _ _ _ after none j) = refuses_message s message step after none (judges-any s.view after held message step j)
+reads-any s next held message step (refuses_message _ _ _ after none j) =
+    refuses_message s message step after none (judges-any s.view after held message step j)
 
 -- bytes that come behind others that made no whole frame
 receives-later : (s last : Side) (front bytes : List ℕ) (notes : List Note) → idle_step (progress_of s.view) ≡ None
@@ -193,8 +200,8 @@ takes-taken s piece n step next (waits_for_more _ _ e partial) = record {
   view = refl;
   frames = refl;
   goes_on = λ rest notes last h.
-      receives-later s last piece rest notes e
-      (subst (λ (bytes : List ℕ). SideReceives (with_view s (record (s.view) { held = s.view.held ++ piece })) (bytes ++ rest) notes last) (drop-length piece) h);
+      let after = with_view s (record (s.view) { held = s.view.held ++ piece }) in
+      receives-later s last piece rest notes e (subst (λ (bytes : List ℕ). SideReceives after (bytes ++ rest) notes last) (drop-length piece) h);
 }
 takes-taken s piece n step next (judges _ _ _ message behind _ _ e is short count j) =
     let r = judges-reads s message step next j in

@@ -1,11 +1,10 @@
 -- Bytes that come to an end piece by piece, and what is told of them.
-use Rattle.std.proofs.Common.{◌≡◌, ℕ, zero, suc, Bool, true, false, ◌==◌, IfSome, ◌+◌, ◌<◌, ◌≤◌, List, [], ◌∷◌, ◌++◌, length, drop, map, Option, Some, None, refl, ap, sym, subst, ◌∙◌, arith, append_assoc, append-nil, length-append}
+use Rattle.std.proofs.Common.{◌≡◌, ℕ, zero, suc, Bool, false, ◌==◌, IfSome, ◌+◌, ◌<◌, ◌≤◌, List, [], ◌∷◌, ◌++◌, length, drop, Option, Some, None, refl, ap, sym, subst, ◌∙◌, arith, append_assoc, append-nil, length-append}
 use Rattle.noise_names.specs.declared.token.Role.{Role}
 use Rattle.noise_handshake.specs.declared.keys.Own.{Own}
 use Rattle.noise_session.specs.Frames.{IsPartial}
 use Rattle.noise_session.specs.Steps.{Told}
 use Rattle.noise_session.specs.Steps.Told.{Ended, YourTurn, Silent, More, Payload, Dropped, Refused, Exhausted}
-use Rattle.noise_session.specs.Progress.{idle_step}
 use Rattle.noise_session.specs.Ends.{EndView, HeldEnd, EndStands, progress_of}
 use Rattle.noise_session.specs.Taking.{Takes}
 use Rattle.noise_duel.specs.declared.entry.Entry.{Entry}
@@ -74,12 +73,12 @@ module _ {K : Type 0} (public_of : K → Own → Option (List ℕ)) (agreement :
   }
 
   -- a take more
-  pub received-more : (s : Side) (role : Role) (bytes rest : List ℕ) (end then : HeldEnd K) (before between after : List (Role × Entry)) (n : ℕ) (step : Told)
-      (h : HasReceivedSome public_of agreement s role bytes rest end before between)
+  pub received-more : (s : Side) (role : Role) (bytes rest left : List ℕ) (end then : HeldEnd K) (before between after : List (Role × Entry))
+      (n : ℕ) (step : Told) (h : HasReceivedSome public_of agreement s role bytes rest end before between) → left ≡ drop n rest
       → ((v : EndView) → EndStands public_of agreement end v → (next : EndView) × Takes v rest n step next × EndStands public_of agreement then next)
       → notes_of after ≡ notes_of between ++ noted_by role (step_note step)
-      → HasReceivedSome public_of agreement s role bytes (drop n rest) then before after
-  received-more s role bytes rest end then before between after n step h takes told =
+      → HasReceivedSome public_of agreement s role bytes left then before after
+  received-more s role bytes rest left end then before between after n step h is takes told =
       let w = takes h.next.view h.stands in
       let t = takes-taken h.next rest n step w.0 w.1 in
       record {
@@ -87,18 +86,18 @@ module _ {K : Type 0} (public_of : K → Own → Option (List ℕ)) (agreement :
         notes = h.notes ++ step_note step;
         goes_on = λ behind more last r.
             subst (λ (ns : List Note). SideReceives s (bytes ++ behind) ns last) (sym (append_assoc h.notes (step_note step) more))
-            (h.goes_on behind (step_note step ++ more) last (t.goes_on behind more last r));
+            (h.goes_on behind (step_note step ++ more) last
+            (t.goes_on behind more last (subst (λ (xs : List ℕ). SideReceives t.after (xs ++ behind) more last) is r)));
         stands = subst (λ (v : EndView). EndStands public_of agreement then v) (sym t.view) w.2;
         frames = t.frames ∙ h.frames;
         told = told-more role before between after h.notes (step_note step) h.told told;
       }
 
   -- none is taken of the rest
-  pub stopped-idle : (s : Side) (role : Role) (bytes rest : List ℕ) (end then : HeldEnd K) (before between : List (Role × Entry)) (n : ℕ) (step : Told) (left : Option (Idle × ℕ))
-      (h : HasReceivedSome public_of agreement s role bytes rest end before between)
+  pub stopped-idle : (s : Side) (role : Role) (bytes rest : List ℕ) (end then : HeldEnd K) (before between : List (Role × Entry)) (n : ℕ) (step : Told)
+      (left : Option (Idle × ℕ)) (h : HasReceivedSome public_of agreement s role bytes rest end before between)
       → ((v : EndView) → EndStands public_of agreement end v → (next : EndView) × Takes v rest n step next × EndStands public_of agreement then next)
-      → n ≡ 0 → 0 < length rest → IsPartial end.held
-      → left ≡ left_of step (length rest)
+      → n ≡ 0 → 0 < length rest → IsPartial end.held → left ≡ left_of step (length rest)
       → HasStopped public_of agreement s role bytes left then before between
   stopped-idle s role bytes rest end then before between n step left h takes none some partial found =
       let w = takes h.next.view h.stands in
@@ -118,66 +117,61 @@ module _ {K : Type 0} (public_of : K → Own → Option (List ℕ)) (agreement :
             (t.0 ∙ ap (λ (x : Told). Some x) (sym i.is), some, refl);
       }
 
-  -- all have come
-  pub stopped-all : (s : Side) (role : Role) (bytes rest : List ℕ) (end : HeldEnd K) (before after : List (Role × Entry))
-      → HasReceivedSome public_of agreement s role bytes rest end before after → rest ≡ []
-      → HasStopped public_of agreement s role bytes None end before after
-  stopped-all s role bytes rest end before after h none = record { rest = rest; some = h; rest_is = none }
-
-  -- a piece more
-  pub received-piece : (s : Side) (role : Role) (bytes rest piece behind : List ℕ) (end then : HeldEnd K) (before between after : List (Role × Entry))
+  -- bytes of a piece more, with all behind it
+  abbrev received-behind : (s : Side) (role : Role) (bytes rest piece left behind : List ℕ) (end then : HeldEnd K) (before between after : List (Role × Entry))
       (h : HasReceivedSome public_of agreement s role bytes rest end before between) → rest ≡ piece ++ behind
-      → ((t : Side) → EndStands public_of agreement end t.view → HasStopped public_of agreement t role piece None then between after)
+      → HasReceivedSome public_of agreement h.next role piece left then between after
+      → HasReceivedSome public_of agreement s role bytes (left ++ behind) then before after
+  received-behind s role bytes rest piece left behind end then before between after h is w = record {
+    next = w.next;
+    notes = h.notes ++ w.notes;
+    goes_on = λ later more last r.
+        let all : rest ++ later ≡ piece ++ (behind ++ later) = ap (λ (xs : List ℕ). xs ++ later) is ∙ append_assoc piece behind later in
+        subst (λ (ns : List Note). SideReceives s (bytes ++ later) ns last) (sym (append_assoc h.notes w.notes more))
+        (h.goes_on later (w.notes ++ more) last
+        (subst (λ (xs : List ℕ). SideReceives h.next xs (w.notes ++ more) last) (sym all)
+        (w.goes_on (behind ++ later) more last (subst (λ (xs : List ℕ). SideReceives w.next xs more last) (append_assoc left behind later) r))));
+    stands = w.stands;
+    frames = w.frames ∙ h.frames;
+    told = told-more role before between after h.notes w.notes h.told w.told;
+  }
+
+  -- a whole piece more
+  pub received-piece : (s : Side) (role : Role) (bytes rest piece behind : List ℕ) (end then : HeldEnd K) (before between after : List (Role × Entry))
+      (left : Option (Idle × ℕ)) (h : HasReceivedSome public_of agreement s role bytes rest end before between) → rest ≡ piece ++ behind → left ≡ None
+      → ((t : Side) → EndStands public_of agreement end t.view → HasStopped public_of agreement t role piece left then between after)
       → HasReceivedSome public_of agreement s role bytes behind then before after
-  received-piece s role bytes rest piece behind end then before between after h is stops =
+  received-piece s role bytes rest piece behind end then before between after left h is found stops =
       let w = stops h.next h.stands in
-      record {
-        next = w.some.next;
-        notes = h.notes ++ w.some.notes;
-        goes_on = λ later more last r.
-            subst (λ (ns : List Note). SideReceives s (bytes ++ later) ns last) (sym (append_assoc h.notes w.some.notes more))
-            (h.goes_on later (w.some.notes ++ more) last
-            (subst (λ (xs : List ℕ). SideReceives h.next xs (w.some.notes ++ more) last) (sym (append_assoc piece behind later) ∙ ap (λ (xs : List ℕ). xs ++ later) (sym is))
-            (w.some.goes_on (behind ++ later) more last
-            (subst (λ (xs : List ℕ). SideReceives w.some.next (xs ++ (behind ++ later)) more last) (sym w.rest_is) r))));
-        stands = w.some.stands;
-        frames = w.some.frames ∙ h.frames;
-        told = told-more role before between after h.notes w.some.notes h.told w.some.told;
-      }
+      let none : w.rest ≡ [] = subst (λ (l : Option (Idle × ℕ)). AreLeft w.some.next w.rest l) found w.rest_is in
+      subst (λ (xs : List ℕ). HasReceivedSome public_of agreement s role bytes (xs ++ behind) then before after) none
+      (received-behind s role bytes rest piece w.rest behind end then before between after h is w.some)
 
   -- a piece of which some are left, and with them all behind it
-  pub stopped-piece : (s : Side) (role : Role) (bytes rest piece behind : List ℕ) (end then : HeldEnd K) (before between after : List (Role × Entry)) (why : Idle) (n : ℕ)
-      (h : HasReceivedSome public_of agreement s role bytes rest end before between) → rest ≡ piece ++ behind
-      → ((t : Side) → EndStands public_of agreement end t.view → HasStopped public_of agreement t role piece (Some (why, n)) then between after)
+  pub stopped-piece : (s : Side) (role : Role) (bytes rest piece behind : List ℕ) (end then : HeldEnd K) (before between after : List (Role × Entry))
+      (left : Option (Idle × ℕ)) (why : Idle) (n : ℕ) (h : HasReceivedSome public_of agreement s role bytes rest end before between)
+      → rest ≡ piece ++ behind → left ≡ Some (why, n)
+      → ((t : Side) → EndStands public_of agreement end t.view → HasStopped public_of agreement t role piece left then between after)
       → HasStopped public_of agreement s role bytes (Some (why, n + length behind)) then before after
-  stopped-piece s role bytes rest piece behind end then before between after why n h is stops =
+  stopped-piece s role bytes rest piece behind end then before between after left why n h is found stops =
       let w = stops h.next h.stands in
+      let some = subst (λ (l : Option (Idle × ℕ)). AreLeft w.some.next w.rest l) found w.rest_is in
       record {
         rest = w.rest ++ behind;
-        some = record {
-          next = w.some.next;
-          notes = h.notes ++ w.some.notes;
-          goes_on = λ later more last r.
-              subst (λ (ns : List Note). SideReceives s (bytes ++ later) ns last) (sym (append_assoc h.notes w.some.notes more))
-              (h.goes_on later (w.some.notes ++ more) last
-              (subst (λ (xs : List ℕ). SideReceives h.next xs (w.some.notes ++ more) last) (sym (append_assoc piece behind later) ∙ ap (λ (xs : List ℕ). xs ++ later) (sym is))
-              (w.some.goes_on (behind ++ later) more last
-              (subst (λ (xs : List ℕ). SideReceives w.some.next xs more last) (append_assoc w.rest behind later) r))));
-          stands = w.some.stands;
-          frames = w.some.frames ∙ h.frames;
-          told = told-more role before between after h.notes w.some.notes h.told w.some.told;
-        };
-        rest_is = (w.rest_is.0, omega (arith, w.rest_is.1), length-append w.rest behind ∙ ap (λ (k : ℕ). k + length behind) w.rest_is.2);
+        some = received-behind s role bytes rest piece w.rest behind end then before between after h is w.some;
+        rest_is = (some.0, omega (arith, some.1), length-append w.rest behind ∙ ap (λ (k : ℕ). k + length behind) some.2);
       }
 
   -- what comes of all bytes, where they have ended or some are left
-  left-received : (s : Side) (rest : List ℕ) (left : Option (Idle × ℕ)) → AreLeft s rest left → IsPartial s.view.held → SideReceives s rest (note_of_left left) s
+  left-received : (s : Side) (rest : List ℕ) (left : Option (Idle × ℕ)) → AreLeft s rest left → IsPartial s.view.held
+      → SideReceives s rest (note_of_left left) s
   left-received s rest None none partial = subst (λ (xs : List ℕ). SideReceives s xs [] s) (sym none) (receives-nothing s partial)
   left-received s rest (Some left) is partial =
       subst (λ (ns : List Note). SideReceives s rest ns s) (ap (left_note (step_of left.0)) is.2 ∙ left-some (step_of left.0) left.1 is.1)
       (is_idle s rest (step_of left.0) is.0)
 
-  pub received-all : (s : Side) (role : Role) (bytes : List ℕ) (left : Option (Idle × ℕ)) (end : HeldEnd K) (count : ℕ) (before between told after : List (Role × Entry))
+  pub received-all : (s : Side) (role : Role) (bytes : List ℕ) (left : Option (Idle × ℕ)) (end : HeldEnd K) (count : ℕ)
+      (before between told after : List (Role × Entry))
       → HasStopped public_of agreement s role bytes left end before between → IsPartial end.held → count ≡ length end.held
       → notes_of told ≡ notes_of between ++ noted_by role (note_of_left left)
       → notes_of after ≡ notes_of told ++ noted_by role (held_note count)

@@ -52,7 +52,8 @@ module _ {K : Type 0} (public_of : K → Own → Option (List ℕ)) (agreement :
     pub told : notes_of after ≡ notes_of before ++ noted_by role notes
 
   -- They were handed over until they ended or the end took none of the rest.
-  pub record HasStopped (s : Side) (role : Role) (bytes : List ℕ) (left : Option (Idle × ℕ)) (end : HeldEnd K) (before after : List (Role × Entry)) : Type 0 where
+  pub record HasStopped (s : Side) (role : Role) (bytes : List ℕ) (left : Option (Idle × ℕ)) (end : HeldEnd K)
+      (before after : List (Role × Entry)) : Type 0 where
     pub rest : List ℕ
     pub some : HasReceivedSome s role bytes rest end before after
     pub rest_is : AreLeft some.next rest left

@@ -1,6 +1,5 @@
-use Rattle.std.proofs.Common.{◌≡◌, ◌+◌, ◌<◌, ◌≤◌, List, ℕ, length, drop, subst, sym, arith}
+use Rattle.std.proofs.Common.{length, arith}
 use Rattle.noise_session.specs.Steps.{told}
-use Rattle.noise_duel.specs.Receiving.{HasReceivedSome}
 use Rattle.noise_duel.proofs.Received.{is-some, left_of-most, received-more, stopped-idle}
 use Rattle.noise_duel.proofs.receiving.receive_piece.Goals as goal
 
@@ -19,10 +18,7 @@ pub loop-rest-preserved : goal.loop-rest-preserved
 loop-rest-preserved g c = record {
   most = omega (arith, c.split_at.ensures.back_len, c.loop-rest.invariant.most);
   some = λ s stands.
-      let more = received-more g.K.Keys.public_of g.K.Keys.agreement s c.args.role c.args.piece.now c.loop-rest.rest.now c.loop-rest.end c.take.follows.lender-at-none
-      c.args.entries.now.items c.loop-rest.entries.items c.tell.new.entries.items c.take.result.0 (told c.take.result.1) (c.loop-rest.invariant.some s stands)
-      c.take.follows.holds-at-none c.in_ok-tell.ensures in
-      subst
-      (λ (rest : List ℕ). HasReceivedSome g.K.Keys.public_of g.K.Keys.agreement s c.args.role c.args.piece.now rest c.take.follows.lender-at-none c.args.entries.now.items c.tell.new.entries.items)
-      (sym c.split_at.ensures.back) more;
+      received-more g.K.Keys.public_of g.K.Keys.agreement s c.args.role c.args.piece.now c.loop-rest.rest.now c.split_at.result.1.now
+      c.loop-rest.end c.take.follows.lender-at-none c.args.entries.now.items c.loop-rest.entries.items c.tell.new.entries.items
+      c.take.result.0 (told c.take.result.1) (c.loop-rest.invariant.some s stands) c.split_at.ensures.back c.take.follows.holds-at-none c.in_ok-tell.ensures;
 }

@@ -1,19 +1,12 @@
-use Rattle.std.proofs.Common.{◌≡◌, ◌+◌, ◌<◌, ◌≤◌, Option, Some, None, ℕ, length, subst, sym, arith}
-use Rattle.noise_duel.specs.declared.entry.Idle.{Idle}
-use Rattle.noise_duel.specs.Receiving.{HasStopped}
+use Rattle.std.proofs.Common.{length, arith}
 use Rattle.noise_duel.proofs.Received.{is-some, index-on, received-piece, stopped-piece}
 use Rattle.noise_duel.proofs.receiving.receive_pieces.Goals as goal
 
 pub returns-in-Some : goal.returns-in-Some
 returns-in-Some g c s stands =
-    let said : c.in_ok-why.field-0 ≡ Some (c.in-Some.why, c.in-Some.left) = cc in
     stopped-piece g.K.Keys.public_of g.K.Keys.agreement s c.args.role c.args.bytes.now c.loop-rest.rest.now c.split_at.result.0.now c.split_at.result.1.now
-    c.loop-rest.end c.receive_piece.new.end c.args.entries.now.items c.loop-rest.entries.items c.receive_piece.new.entries.items c.in-Some.why c.in-Some.left
-    (c.loop-rest.invariant.some s stands) c.split_at.ensures.by_index.0
-    (λ t e.
-    subst
-    (λ (left : Option (Idle × ℕ)). HasStopped g.K.Keys.public_of g.K.Keys.agreement t c.args.role c.split_at.result.0.now left c.receive_piece.new.end c.loop-rest.entries.items c.receive_piece.new.entries.items)
-    said (c.in_ok-why.ensures.stops t e))
+    c.loop-rest.end c.receive_piece.new.end c.args.entries.now.items c.loop-rest.entries.items c.receive_piece.new.entries.items c.in_ok-why.field-0
+    c.in-Some.why c.in-Some.left (c.loop-rest.invariant.some s stands) c.split_at.ensures.by_index.0 c.in-Some.is c.in_ok-why.ensures.stops
 
 pub loop-rest-preserved : goal.loop-rest-preserved
 loop-rest-preserved g c =
@@ -23,11 +16,8 @@ loop-rest-preserved g c =
       index = index-on c.loop-rest.index c.piece_len.result (length c.loop-rest.rest.now) (length c.split_at.result.1.now) (length c.args.bytes.now)
           (λ late. c.piece_len.ensures.some late some) c.split_at.ensures.back_len c.loop-rest.invariant.index c.loop-rest.invariant.most;
       some = λ s stands.
-          received-piece g.K.Keys.public_of g.K.Keys.agreement s c.args.role c.args.bytes.now c.loop-rest.rest.now c.split_at.result.0.now c.split_at.result.1.now
-          c.loop-rest.end c.receive_piece.new.end c.args.entries.now.items c.loop-rest.entries.items c.receive_piece.new.entries.items
-          (c.loop-rest.invariant.some s stands) c.split_at.ensures.by_index.0
-          (λ t e.
-          subst
-          (λ (left : Option (Idle × ℕ)). HasStopped g.K.Keys.public_of g.K.Keys.agreement t c.args.role c.split_at.result.0.now left c.receive_piece.new.end c.loop-rest.entries.items c.receive_piece.new.entries.items)
-          c.in_default.is (c.in_ok-why.ensures.stops t e));
+          received-piece g.K.Keys.public_of g.K.Keys.agreement s c.args.role c.args.bytes.now
+          c.loop-rest.rest.now c.split_at.result.0.now c.split_at.result.1.now c.loop-rest.end c.receive_piece.new.end
+          c.args.entries.now.items c.loop-rest.entries.items c.receive_piece.new.entries.items c.in_ok-why.field-0
+          (c.loop-rest.invariant.some s stands) c.split_at.ensures.by_index.0 c.in_default.is c.in_ok-why.ensures.stops;
     }
