@@ -16,3 +16,4 @@ pub mod Outcomes
 pub mod Incoming
 pub mod Windows
 pub mod Datagrams
+pub mod EndDatagrams
