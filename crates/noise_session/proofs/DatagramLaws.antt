@@ -1,5 +1,6 @@
 -- Each nonce is opened once, and what is sealed is opened.
-use Rattle.std.proofs.Common.{◌≡◌, ◌≢◌, ℕ, ◌+◌, ◌≤◌, ◌<◌, ◌^◌, Bool, true, false, List, [], ◌++◌, length, Option, Some, None, Ok, Err, refl, sym, ◌∙◌, ap, subst, arith, eqb, eq-eqb, MatchOption}
+use Rattle.std.proofs.Common.{◌≡◌, ◌≢◌, ℕ, ◌+◌, ◌≤◌, ◌<◌, ◌^◌, Bool, true, false, List, [], ◌++◌, length, Option, Some, None, Ok, Err}
+use Rattle.std.proofs.Common.{refl, sym, ◌∙◌, ap, subst, arith, eqb, eq-eqb, MatchOption}
 use Rattle.std.specs.Prelude.{◌&&◌, ◌==◌, nat_lt, nat_le, if◌then◌else◌}
 use Rattle.std.specs.Int.{w64, to_be_bytes}
 use Rattle.std.proofs.lemmas.Bool.{false≢true, or_left, or_right, ne_eqb, ltb-false, leb-false, le-ltb}
@@ -22,7 +23,8 @@ use Rattle.noise_session.specs.Datagrams.Runs.{ends, seals, opens, refuses}
 use Rattle.noise_session.proofs.DatagramViews.{no-fault, young}
 
 -- ---- once
-opened-as : (v : DatagramView) (bytes payload : List ℕ) (w : DatagramView) → Opens v bytes (Ok payload) w → (datagram_fault v bytes ≡ None) × (w ≡ accepting v (nonce_named bytes))
+opened-as : (v : DatagramView) (bytes payload : List ℕ) (w : DatagramView) → Opens v bytes (Ok payload) w
+    → (datagram_fault v bytes ≡ None) × (w ≡ accepting v (nonce_named bytes))
 opened-as v bytes payload w (opened _ _ _ none is) = (none, refl)
 
 refused-as : (v w : DatagramView) (bytes : List ℕ) (why : DatagramFault) → Opens v bytes (Err why) w → w ≡ v
@@ -47,8 +49,9 @@ once v w nonces (seals _ _ _ r) = once (record v { sent = v.sent + 1 }) w nonces
 once v w nonces (opens _ x _ bytes payload rest o r) =
     let is = opened-as v bytes payload x o in
     let set = ap (λ (u : DatagramView). is_among u.accepted (nonce_named bytes)) is.1 in
-    let here = or_left (eqb (nonce_named bytes) (nonce_named bytes)) (is_among v.accepted (nonce_named bytes)) (eq-eqb (nonce_named bytes) (nonce_named bytes) refl) in
-    (not-again x w rest r (nonce_named bytes) (set ∙ here), once x w rest r)
+    let n = nonce_named bytes in
+    let here = or_left (eqb n n) (is_among v.accepted n) (eq-eqb n n refl) in
+    (not-again x w rest r n (set ∙ here), once x w rest r)
 once v w nonces (refuses _ x _ bytes _ why o r) = once x w nonces r
 
 -- ---- sealed and opened
@@ -83,7 +86,8 @@ past false x rest e = refl
 named : (n : ℕ) (rest : List ℕ) → n < 2 ^ 64 → nonce_named (to_be_bytes w64 n ++ rest) ≡ n
 named n rest low = from_be_bytes-to_be_bytes_8 n low
 
-told : (w : DatagramView) (bytes payload : List ℕ) (n : ℕ) (o : Option DatagramFault) → datagram_fault w bytes ≡ o → nonce_named bytes ≡ n → IsSealed w bytes payload
+told : (w : DatagramView) (bytes payload : List ℕ) (n : ℕ) (o : Option DatagramFault) → datagram_fault w bytes ≡ o
+    → nonce_named bytes ≡ n → IsSealed w bytes payload
     → MatchOption o (Opens w bytes (Ok payload) (accepting w n)) (λ why. Opens w bytes (Err why) w)
 told w bytes payload n None e is sealed = subst (λ (k : ℕ). Opens w bytes (Ok payload) (accepting w k)) is (opened w bytes payload e sealed)
 told w bytes payload n (Some why) e is sealed = refused w bytes why e

@@ -1,5 +1,6 @@
 -- What a ring of words recalls of the accepted nonces.
-use Rattle.std.proofs.Common.{◌≡◌, ◌≢◌, ℕ, suc, ◌+◌, ◌-◌, ◌*◌, ◌/◌, ◌%◌, ◌^◌, ◌<◌, ◌≤◌, true, false, eqb, leb, List, [], ◌∷◌, length, get_or, set, refl, sym, ◌∙◌, ap, inl, inr, arith, eq-eqb, get_or-set_same, get_or-set_other}
+use Rattle.std.proofs.Common.{◌≡◌, ◌≢◌, ℕ, suc, ◌+◌, ◌-◌, ◌*◌, ◌/◌, ◌%◌, ◌^◌, ◌<◌, ◌≤◌, true, false, eqb, leb, List, [], ◌∷◌, length, get_or, set}
+use Rattle.std.proofs.Common.{refl, sym, ◌∙◌, ap, inl, inr, arith, eq-eqb, get_or-set_same, get_or-set_other}
 use Rattle.std.specs.Int.{bit_at, w64}
 use Rattle.std.specs.Prelude.{bit_or}
 use Rattle.std.proofs.Math.Nat.{mul-le-mul_left, mul-suc, div-add-mod}
@@ -72,7 +73,8 @@ old-told r accepted n h =
     ]
 
 -- a nonce that isn't old is near the greatest
-pub near-told : (r : Ring) (accepted : List ℕ) (n : ℕ) → Recalls r accepted → is_old (width_of r.window) accepted n ≡ false → r.greatest / 64 < n / 64 + words_of r.window
+pub near-told : (r : Ring) (accepted : List ℕ) (n : ℕ) → Recalls r accepted → is_old (width_of r.window) accepted n ≡ false
+    → r.greatest / 64 < n / 64 + words_of r.window
 near-told r accepted n h not =
     let some = width-some r.window in
     touched r.window n r.greatest (elim (cases_lt r.greatest (n + width_of r.window)) [
@@ -89,7 +91,8 @@ pub record Ready (r : Ring) (accepted : List ℕ) (n : ℕ) : Type 0 where
   pub near : r.greatest / 64 < n / 64 + words_of r.window
   pub bits : (m : ℕ) → m / 64 ≤ r.greatest / 64 → r.greatest / 64 < m / 64 + words_of r.window → eqb (bit_of r m) 1 ≡ is_among accepted m
 
-pub ready-kept : (r : Ring) (accepted : List ℕ) (n : ℕ) → Recalls r accepted → is_old (width_of r.window) accepted n ≡ false → n ≤ r.greatest → Ready r accepted n
+pub ready-kept : (r : Ring) (accepted : List ℕ) (n : ℕ) → Recalls r accepted → is_old (width_of r.window) accepted n ≡ false
+    → n ≤ r.greatest → Ready r accepted n
 ready-kept r accepted n h not below = record {
   most = h.greatest;
   above = below;

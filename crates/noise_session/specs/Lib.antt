@@ -14,3 +14,4 @@ pub mod Inputs
 pub mod inner
 pub mod Windows
 pub mod Datagrams
+pub mod EndDatagrams

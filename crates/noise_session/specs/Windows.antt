@@ -1,5 +1,6 @@
 -- Windows over the nonces of datagrams, and which of these were accepted (Noise 11.4).
-use Rattle.std.specs.Prelude.{◌≡◌, ◌≤◌, ◌<◌, ◌+◌, ◌/◌, ◌%◌, ◌==◌, ◌||◌, ℕ, List, [], ◌∷◌, Bool, true, false, nat_le, slice_index, Option, Some, None, if◌then◌else◌}
+use Rattle.std.specs.Prelude.{◌≡◌, ◌≤◌, ◌<◌, ◌+◌, ◌/◌, ◌%◌, ◌==◌, ◌||◌, ℕ, List, [], ◌∷◌, Bool, true, false, nat_le, slice_index}
+use Rattle.std.specs.Prelude.{Option, Some, None, if◌then◌else◌}
 use Rattle.std.specs.Int.{bit_at}
 use Rattle.noise_session.specs.declared.window.Window.{Window}
 use Rattle.noise_session.specs.declared.window.Window.TheVariants.{W64, W256, W1024}

@@ -1,17 +1,19 @@
 //! Datagrams of one party (Noise, 11.4).
 #![tactic(auto)]
 
-ghost use Rattle.std.specs.Prelude.{◌≡◌, ◌≢◌, ◌≤◌, ◌+◌, ℕ, List, [], length, take, drop, Option, Some, None, Ok, Err, IsOk, IsSome, IfOk, IfErr, IfNone, OnOk, OnErr, MatchOption, MatchResult};
+ghost use Rattle.std.specs.Prelude.{◌≡◌, ◌≢◌, ◌≤◌, ◌+◌, ℕ, List, [], length, take, drop};
+ghost use Rattle.std.specs.Prelude.{Option, Some, None, Ok, Err, IsOk, IsSome, IfOk, IfErr, IfNone, OnOk, OnErr, MatchOption, MatchResult};
 ghost use Rattle.noise_state.specs.Cipher.{key_in, nonce_in};
 ghost use Rattle.noise_state.specs.History.{piece_under};
 ghost use Rattle.noise_handshake.specs.View.{View};
 ghost use Rattle.noise_handshake.specs.Opening.{Opens as HandshakeOpens};
 ghost use Rattle.noise_session.specs.Transport.{last_nonce};
-ghost use Rattle.noise_session.specs.Windows.{width_of};
+ghost use Rattle.noise_session.specs.HeldTransport.{TransportView, TransportStands};
+ghost use Rattle.noise_session.specs.EndDatagrams.{datagrams_behind};
 ghost use Rattle.noise_session.specs.Datagrams.{DatagramView, Pictures, Opens, datagram, datagrams_of, nonce_named, accepting, unsealed, datagram_fault};
 
 use crate::window::Ring;
-use crate::{DatagramFault, SendFault, Window};
+use crate::{DatagramFault, SendFault, Transport, Window};
 use noise_handshake::Opened;
 use noise_names::Role;
 use noise_state::CipherState;
@@ -74,13 +76,17 @@ impl Datagrams {
     pub fn with_window(opened: Opened, window: Window) -> Datagrams
         ensures { (v : View) → HandshakeOpens opened v → Pictures result (datagrams_of v window) }
     {
-        let role = opened.role();
-        let one_way = opened.one_way();
-        let (initiator, responder) = opened.into_ciphers();
-        let (sending, receiving) = match role {
-            Role::Initiator => (initiator, responder),
-            Role::Responder => (responder, initiator),
-        };
+        Datagrams::behind(Transport::new(opened, 0), window)
+    }
+
+    // The datagrams of a transport that has sealed and opened nothing.
+    pub(crate) fn behind(transport: Transport, window: Window) -> Datagrams
+        requires { (transport.send_nonce ≡ 0) × (transport.receive_nonce ≡ 0) }
+        ensures { (v : TransportView) → TransportStands transport v → Pictures result (datagrams_behind v window) }
+    {
+        let role = transport.role();
+        let one_way = transport.one_way();
+        let (sending, receiving) = transport.into_ciphers();
         Datagrams {
             role,
             one_way,
@@ -103,7 +109,8 @@ impl Datagrams {
     /// in this order.
     pub fn seal(&mut self, payload: &[u8], out: &mut [u8]) -> Result<usize, SendFault>
         requires { unsealed self.old.role self.old.one_way self.old.send_nonce (length payload.now) ≡ None → length payload.now + 24 ≤ length out.old }
-        ensures fault { MatchOption (unsealed self.old.role self.old.one_way self.old.send_nonce (length payload.now)) (IsOk result) (λ fault. result ≡ Err fault) }
+        ensures fault { MatchOption (unsealed self.old.role self.old.one_way self.old.send_nonce (length payload.now))
+            (IsOk result) (λ fault. result ≡ Err fault) }
         ensures len { IfOk result (λ n. (n ≡ length payload.now + 24) × (n ≤ length out.new)) }
         ensures rest { IfOk result (λ n. drop n out.new ≡ drop n out.old) }
         ensures counted { OnOk result (self.new ≡ record self.old { send_nonce = self.old.send_nonce + 1 }) }
@@ -177,11 +184,13 @@ impl Datagrams {
     ///
     /// At an `Err` its bytes are unchanged.
     pub fn open<'a>(&mut self, datagram: &'a mut [u8]) -> Result<&'a mut [u8], DatagramFault>
-        ensures part { IfOk result (λ payload. (payload.ref_ptr ≡ (datagram.entry.ref_ptr.0, datagram.entry.ref_ptr.1 + 8)) × (length payload.now + 24 ≡ length datagram.old)) }
+        ensures part { IfOk result (λ payload.
+            (payload.ref_ptr ≡ (datagram.entry.ref_ptr.0, datagram.entry.ref_ptr.1 + 8)) × (length payload.now + 24 ≡ length datagram.old)) }
         ensures same { self.new ≡ record self.old { recent = self.new.recent } }
         ensures unchanged { OnErr result (self.new ≡ self.old) }
         ensures opens { (v : DatagramView) → Pictures self.old v → MatchResult result
-            (λ payload. Opens v datagram.old (Ok payload.now) (accepting v (nonce_named datagram.old)) × Pictures self.new (accepting v (nonce_named datagram.old)))
+            (λ payload. Opens v datagram.old (Ok payload.now) (accepting v (nonce_named datagram.old))
+            × Pictures self.new (accepting v (nonce_named datagram.old)))
             (λ fault. Opens v datagram.old (Err fault) v) }
     {
         let len = self.open_within(datagram)?;

@@ -19,7 +19,7 @@ use crate::phase::Phase;
 use crate::receiving::receive_from;
 use crate::sending::send;
 use crate::taking::advance;
-use crate::{Counted, ReceiveFault, SendFault, Stage, Step, Transport};
+use crate::{Counted, Datagrams, ReceiveFault, SendFault, Stage, Step, Transport, Window};
 use noise_handshake::{Handshake, Keys};
 use noise_names::Role;
 use std::alloc::{AllocError, Global};
@@ -67,6 +67,8 @@ impl<K: Keys> End<K> {
     ghost use Rattle.noise_session.specs.Sending.{Sends, behind_fault};
     ghost use Rattle.noise_session.specs.Inputs.{Receives, is_end, behind_receiving};
     ghost use Rattle.noise_session.specs.Outputs.{Puts, behind_output};
+    ghost use Rattle.noise_session.specs.Datagrams.{Pictures, datagrams_of};
+    ghost use Rattle.noise_session.specs.EndDatagrams.{is_datagram_ready};
 
     /// An end of a session that begins with this handshake, which hasn't ended; it is open at once where all its messages
     /// have passed. In transport the key is renewed after each `interval` messages of a direction; 0 means never.
@@ -253,6 +255,33 @@ impl<K: Keys> End<K> {
                 self.incoming.clear();
                 Err(SendFault::Output { written })
             }
+        }
+    }
+
+    /// Whether it may go over to datagrams: the session is open, no transport message was written or taken, and no byte of a
+    /// frame has come.
+    pub fn datagram_ready(&self) -> bool
+        ensures { result ≡ is_datagram_ready self.now }
+    {
+        match &self.phase {
+            Phase::Open(transport) => {
+                let untouched = transport.send_nonce() == 0 && transport.receive_nonce() == 0;
+                untouched && self.incoming.held() == 0
+            }
+            _ => false,
+        }
+    }
+
+    /// The datagrams of its party, with this window (Noise, 11.4), where `datagram_ready` holds. Their keys are never renewed,
+    /// whatever its interval is.
+    pub fn into_datagrams(self, window: Window) -> Datagrams
+        requires { is_datagram_ready self ≡ true }
+        ensures { (v : EndView) → EndStands K.public_of K.agreement self v → Pictures result (datagrams_of v.party window) }
+    {
+        let phase = self.phase;
+        match phase {
+            Phase::Open(transport) => Datagrams::behind(transport, window),
+            _ => unreachable!(),
         }
     }
 }

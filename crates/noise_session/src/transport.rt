@@ -121,6 +121,14 @@ impl Transport {
         self.interval
     }
 
+    // The cipher states of this party's messages and of the other's.
+    pub(crate) fn into_ciphers(self) -> (CipherState, CipherState)
+        ensures sending { (key_in result.0 ≡ self.send_key) × (nonce_in result.0 ≡ self.send_nonce) × IsSome (key_in result.0) }
+        ensures receiving { (key_in result.1 ≡ self.receive_key) × (nonce_in result.1 ≡ self.receive_nonce) × IsSome (key_in result.1) }
+    {
+        (self.sending, self.receiving)
+    }
+
     /// The nonce of the next message that is sealed.
     pub fn send_nonce(&self) -> u64
         ensures { result ≡ self.now.send_nonce }

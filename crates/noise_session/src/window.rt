@@ -105,7 +105,8 @@ impl Ring {
 
     // Whether this nonce was accepted, which isn't old.
     fn contains(&self, nonce: u64) -> bool
-        ensures { (accepted : List ℕ) → Recalls self.now accepted → is_old (width_of self.now.window) accepted nonce ≡ false → result ≡ is_among accepted nonce }
+        ensures { (accepted : List ℕ) → Recalls self.now accepted → is_old (width_of self.now.window) accepted nonce ≡ false
+            → result ≡ is_among accepted nonce }
     {
         let word = self.words[self.window.place(nonce / WORD_BITS)];
         nonce <= self.greatest && word >> (nonce % WORD_BITS) & 1 == 1
@@ -114,7 +115,8 @@ impl Ring {
     // Accepts this nonce, which isn't old.
     pub(crate) fn insert(&mut self, nonce: u64)
         ensures window { self.new.window ≡ self.old.window }
-        ensures more { (accepted : List ℕ) → Recalls self.old accepted → is_old (width_of self.old.window) accepted nonce ≡ false → Recalls self.new (nonce ∷ accepted) }
+        ensures more { (accepted : List ℕ) → Recalls self.old accepted → is_old (width_of self.old.window) accepted nonce ≡ false
+            → Recalls self.new (nonce ∷ accepted) }
     {
         let block = nonce / WORD_BITS;
         if nonce > self.greatest {

@@ -23,11 +23,15 @@ returns-in-Ok-clause-opens c v h =
     let keyed : key_in c.set_nonce.new.self ≡ Some (split_key v.history (other v.role)) = c.set_nonce.ensures.key ∙ here.receive_key in
     let least : 24 ≤ length d = c.in_default.ensures.bounds.0 in
     let long : 8 ≤ length d = omega arith in
-    let front : take c.in-Ok.len c.decrypt.new.buf ≡ take c.in-Ok.len (drop 8 (put_mid 8 (length d - 8) d c.decrypt.new.buf)) = ap (take c.in-Ok.len) (sym (behind-nonce d c.decrypt.new.buf long)) in (
-      opened v d (take c.in-Ok.len (drop 8 (put_mid 8 (length d - 8) d c.decrypt.new.buf))) none
+    let out = put_mid 8 (length d - 8) d c.decrypt.new.buf in
+    let front : take c.in-Ok.len c.decrypt.new.buf ≡ take c.in-Ok.len (drop 8 out) =
+    ap (take c.in-Ok.len) (sym (behind-nonce d c.decrypt.new.buf long)) in
+    let piece = piece-packet (key_in c.set_nonce.new.self) (nonce_in c.set_nonce.new.self) (nonce_named d) v.history (other v.role)
+    (take c.in-Ok.len c.decrypt.new.buf) keyed (c.set_nonce.ensures.nonce ∙ named) in (
+      opened v d (take c.in-Ok.len (drop 8 out)) none
           (sym (take_rest d 8)
           ∙ c.in-Ok.ensures.opened
-          ∙ piece-packet (key_in c.set_nonce.new.self) (nonce_in c.set_nonce.new.self) (nonce_named d) v.history (other v.role) (take c.in-Ok.len c.decrypt.new.buf) keyed (c.set_nonce.ensures.nonce ∙ named)
+          ∙ piece
           ∙ ap (packet v.history (other v.role) 0 (nonce_named d)) front),
       pictures-opened (the_view c.self.inside) v (key_in c.decrypt.new.self) c.insert.new.self c.nonce_of-nonce.result (nonce_named d) here
           (c.decrypt.ensures.key ∙ c.set_nonce.ensures.key) c.insert.ensures.window named
@@ -47,5 +51,6 @@ returns-in-Err-clause-opens c v h =
     let low : nonce_in c.set_nonce.new.self < last_nonce = omega (arith, c.set_nonce.ensures.nonce, c.nonce_of-nonce.type_inv) in
     let size : length (take (length d - 8) (drop 8 d)) ≤ 65535 = omega (arith, ap length (take_rest d 8), length-drop 8 d) in
     forged v d none (λ payload is.
-    let piece = sym (piece-packet (key_in c.set_nonce.new.self) (nonce_in c.set_nonce.new.self) (nonce_named d) v.history (other v.role) payload keyed (c.set_nonce.ensures.nonce ∙ named)) in
+    let piece = sym (piece-packet (key_in c.set_nonce.new.self) (nonce_in c.set_nonce.new.self) (nonce_named d) v.history (other v.role)
+    payload keyed (c.set_nonce.ensures.nonce ∙ named)) in
     not_ok c.decrypt.result c.in-Err.field-0 c.in-Err.is (c.decrypt.ensures.accepts.1 (λ _. low, size, (payload, take_rest d 8 ∙ is ∙ piece))))

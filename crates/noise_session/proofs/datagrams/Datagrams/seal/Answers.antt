@@ -20,6 +20,8 @@ returns-clause-seals c v h =
       sealed-front c.copy_from_slice.new.self c.encrypt_into.new.out (packet v.history v.role 0 v.sent c.args.payload.now) c.encrypt_into.result v.sent
           (c.copy_from_slice.ensures.after ∙ c.to_be_bytes.ensures ∙ ap (to_be_bytes w64) sent)
           (c.encrypt_into.ensures.sealed
-          ∙ piece-packet (key_in c.self.inside.sending) (nonce_in c.self.inside.sending) v.sent v.history v.role c.args.payload.now here.send_key here.send_nonce),
-      pictures-sealed (the_view c.self.inside) v (key_in c.encrypt_into.new.cipher) (nonce_in c.encrypt_into.new.cipher) here c.encrypt_into.ensures.key c.encrypt_into.ensures.counted,
+          ∙ piece-packet (key_in c.self.inside.sending) (nonce_in c.self.inside.sending) v.sent v.history v.role c.args.payload.now
+          here.send_key here.send_nonce),
+      pictures-sealed (the_view c.self.inside) v (key_in c.encrypt_into.new.cipher) (nonce_in c.encrypt_into.new.cipher) here
+          c.encrypt_into.ensures.key c.encrypt_into.ensures.counted,
     )

@@ -6,5 +6,6 @@ abbrev pub invariant-loop-back : goal.invariant-loop-back
 invariant-loop-back l = record {
   room : length l.words ≡ 17;
   fresh : (b : ℕ) → b ≤ l.block → l.block < b + words_of l.self → l.block < b + l.back → slice_index l.words (b % words_of l.self) ≡ 0;
-  kept : (b : ℕ) → b + l.back ≤ l.block → l.block < b + words_of l.self → slice_index l.words (b % words_of l.self) ≡ slice_index l.initial.words (b % words_of l.self);
+  kept : (b : ℕ) → b + l.back ≤ l.block → l.block < b + words_of l.self
+      → slice_index l.words (b % words_of l.self) ≡ slice_index l.initial.words (b % words_of l.self);
 }

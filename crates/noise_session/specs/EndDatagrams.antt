@@ -1,0 +1,29 @@
+-- How an end goes over to datagrams (Noise 11.4).
+use Rattle.std.specs.Prelude.{[], length, Bool, false, ◌&&◌, ◌==◌}
+use Rattle.noise_session.specs.declared.window.Window.{Window}
+use Rattle.noise_session.specs.HeldTransport.{TransportView}
+use Rattle.noise_session.specs.Progress.{Progress}
+use Rattle.noise_session.specs.Progress.Progress.{Open}
+use Rattle.noise_session.specs.Ends.{HeldEnd, progress}
+use Rattle.noise_session.specs.Windows.{width_of}
+use Rattle.noise_session.specs.Datagrams.{DatagramView}
+
+-- whether the session is open, with no transport message sent or received
+abbrev pub is_untouched : Progress → Bool
+is_untouched (Open role one_way sent received) = (sent == 0) && (received == 0)
+is_untouched _ = false
+
+-- whether the end may go over: and nothing has come of a frame
+abbrev pub is_datagram_ready : {K : Type 0} → HeldEnd K → Bool
+is_datagram_ready e = is_untouched (progress e) && (length e.held == 0)
+
+-- the datagrams of the party of a transport
+abbrev pub datagrams_behind : TransportView → Window → DatagramView
+datagrams_behind v window = record {
+  role = v.role;
+  one_way = v.one_way;
+  history = v.history;
+  width = width_of window;
+  sent = 0;
+  accepted = [];
+}
