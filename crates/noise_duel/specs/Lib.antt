@@ -15,3 +15,6 @@ pub mod SetUpAlike
 pub mod OwnFrames
 pub mod Entries
 pub mod OneEnd
+pub mod HeldDuel
+pub mod OneEvent
+pub mod Reports

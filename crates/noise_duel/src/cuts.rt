@@ -1,7 +1,7 @@
 //! The pieces that bytes are handed over in.
 #![tactic(auto)]
 
-ghost use Rattle.std.specs.Prelude.{◌≡◌, Some, None, if◌then◌else◌};
+ghost use Rattle.std.specs.Prelude.{◌≡◌, [], Some, None, if◌then◌else◌};
 ghost use Rattle.noise_duel.specs.Cuts.{are_cuts};
 
 use arrayvec::ArrayVec;
@@ -37,5 +37,14 @@ impl Cuts {
         let mut kept = ArrayVec::new();
         kept.try_extend_from_slice(lengths).ok()?;
         Some(Cuts { lengths: kept })
+    }
+
+    /// One piece.
+    pub fn whole() -> Cuts
+        ensures { result ≡ [] }
+    {
+        Cuts {
+            lengths: ArrayVec::new(),
+        }
     }
 }
