@@ -20,3 +20,5 @@ pub mod EquallyFar
 pub mod Transcripts
 pub mod SetUpAlike
 pub mod OwnFrames
+pub mod Happening
+pub mod Reporting

@@ -10,7 +10,6 @@ use Rattle.noise_handshake.specs.declared.keys.Own.TheVariants.{Static}
 use Rattle.noise_handshake.specs.Passed.{passed_places}
 use Rattle.noise_session.specs.declared.phase.Phase.{Phase}
 use Rattle.noise_session.specs.declared.phase.Phase.TheVariants as phase
-use Rattle.noise_session.specs.Counterparts.{EndCounterparts}
 use Rattle.noise_session.specs.Ends.{hash_in, remote_static_in}
 use Rattle.noise_duel.specs.declared.report.Report.{Report}
 use Rattle.noise_duel.specs.Agreement.{VisiblyEqual}
@@ -74,7 +73,6 @@ module _ {A B : Type 0} (public_a : A → Own → Option (List ℕ)) (agreement_
     pub last : Sides
     pub stands : DuelStands public_a agreement_a public_b agreement_b duel last
     pub through : ComeThrough w p prologue interval lines last
-    pub ends : EndCounterparts last.initiator.view last.responder.view
     pub history : last.responder.view.party.history ≡ last.initiator.view.party.history
     pub hash : hash_in duel.responder.phase ≡ hash_in duel.initiator.phase
     pub keys_there : receive_key_in duel.responder.phase ≡ send_key_in duel.initiator.phase
