@@ -1,5 +1,6 @@
 -- What comes of events, in code, from what comes of one end's part of them.
-use Rattle.std.proofs.Common.{◌≡◌, ℕ, List, [], ◌∷◌, ◌++◌, length, map, refl, ap, sym, subst, ◌∙◌, append_assoc, append-nil, Option, Some, None, Result, Ok, Err, slice_get, Vec, Global}
+use Rattle.std.proofs.Common.{◌≡◌, ℕ, List, [], ◌∷◌, ◌++◌, length, map, refl, ap, sym, subst, ◌∙◌, append_assoc, append-nil, Option, Some, None}
+use Rattle.std.proofs.Common.{Result, Ok, Err, slice_get, Vec, Global}
 use Rattle.std.specs.Result.{result_ok}
 use Rattle.std.proofs.lemmas.List.{map-append}
 use Rattle.noise_names.specs.declared.token.Role.{Role}
@@ -66,13 +67,15 @@ say-of d e Initiator payload n next notes w h =
     let there = wrote-there d.initiator next payload n w in
     let it = delivery (with_side d Initiator next) e Responder n notes there.0 there.1 h in
     subst (λ (last : Sides). Happens d (Say Initiator payload) ((Initiator, Wrote n) ∷ notes) last) (sym it.behind)
-    (subst (λ (ns : List (Role × Note)). Happens d (Say Initiator payload) ((Initiator, Wrote n) ∷ ns) (with_side (with_side d Initiator next) Responder it.reader))
+    (subst (λ (ns : List (Role × Note)). Happens d (Say Initiator payload) ((Initiator, Wrote n) ∷ ns)
+    (with_side (with_side d Initiator next) Responder it.reader))
     (sym it.notes_are) (says d Initiator payload it.bytes n it.heard next it.reader w it.got it.receives))
 say-of d e Responder payload n next notes w h =
     let there = wrote-there d.responder next payload n w in
     let it = delivery (with_side d Responder next) e Initiator n notes there.0 there.1 h in
     subst (λ (last : Sides). Happens d (Say Responder payload) ((Responder, Wrote n) ∷ notes) last) (sym it.behind)
-    (subst (λ (ns : List (Role × Note)). Happens d (Say Responder payload) ((Responder, Wrote n) ∷ ns) (with_side (with_side d Responder next) Initiator it.reader))
+    (subst (λ (ns : List (Role × Note)). Happens d (Say Responder payload) ((Responder, Wrote n) ∷ ns)
+    (with_side (with_side d Responder next) Initiator it.reader))
     (sym it.notes_are) (says d Responder payload it.bytes n it.heard next it.reader w it.got it.receives))
 
 some-number : (m n : ℕ) → Some m ≡ Some n → m ≡ n
@@ -122,7 +125,8 @@ module _ {A B : Type 0} (public_a : A → Own → Option (List ℕ)) (agreement_
         happens = say-of d h.next role payload n w.next h.notes told.0 h.happens;
         stands = h.stands;
         frames = h.frames;
-        entries = h.entries ∙ ap (λ (ns : List (Role × Note)). ns ++ h.notes) told.1 ∙ append_assoc (notes_of before.entries.items) ((role, Wrote n) ∷ []) h.notes;
+        entries = h.entries ∙ ap (λ (ns : List (Role × Note)). ns ++ h.notes) told.1
+            ∙ append_assoc (notes_of before.entries.items) ((role, Wrote n) ∷ []) h.notes;
       }
     where
       at : (told : Result ℕ SendFault) → result_ok told ≡ Some n → SideWrites (side d role) payload (written_note told) w.next

@@ -23,7 +23,8 @@ use Rattle.noise_session.specs.Counterparts.{EndCounterparts}
 use Rattle.noise_session.specs.Ends.{EndView, EndStands, HeldEnd, IsToldBy, PhaseStands, hash_in, remote_static_in, session_hash, session_remote_static}
 use Rattle.noise_session.specs.Transport.{transport_key}
 use Rattle.noise_duel.specs.declared.report.Report.{Report}
-use Rattle.noise_duel.specs.Conversation.{KeyMaterial, ComeThrough, HaveParts, InTurn, IsPart, LinesComeThrough, facing, frames_by, payloads_in, say_events, transcript}
+use Rattle.noise_duel.specs.Conversation.{KeyMaterial, ComeThrough, HaveParts, InTurn, IsPart, LinesComeThrough}
+use Rattle.noise_duel.specs.Conversation.{facing, frames_by, payloads_in, say_events, transcript}
 use Rattle.noise_duel.specs.Entries.{notes_of}
 use Rattle.noise_duel.specs.Events.{Event, Note}
 use Rattle.noise_duel.specs.HeldDuel.{HeldDuel}
@@ -96,7 +97,8 @@ if-same true o q f = f refl
 if-same false o q f = refl
 
 -- the static key that a party knows of its counterpart is that of the key material
-known-static : (w : KeyMaterial) (p : Plan) (party : Role) (n : ℕ) (v u : View) → v ≡ counterpart u v.own v.agree → u.pattern ≡ p → u.role ≡ party → u.passed ≡ n
+known-static : (w : KeyMaterial) (p : Plan) (party : Role) (n : ℕ) (v u : View) → v ≡ counterpart u v.own v.agree → u.pattern ≡ p → u.role ≡ party
+    → u.passed ≡ n
     → ((k : Own) → is_among party (token_of k) (places_of p) ≡ true → u.own k ≡ Some (w.public party k))
     → (if v.ended then None else v.remote.s) ≡ static_shown w p party n
 known-static w p party n v u c pattern role passed own =
