@@ -22,3 +22,5 @@ pub mod SetUpAlike
 pub mod OwnFrames
 pub mod Happening
 pub mod Reporting
+pub mod Linking
+pub mod Received
