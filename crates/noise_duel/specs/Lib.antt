@@ -14,4 +14,8 @@ pub mod Networks
 pub mod SetUpAlike
 pub mod OwnFrames
 pub mod Entries
+pub mod Receiving
 pub mod OneEnd
+pub mod HeldDuel
+pub mod OneEvent
+pub mod Reports

@@ -1,5 +1,5 @@
 -- What comes of one end's part of an event, in code: an end, its frames, and the entries.
-use Rattle.std.specs.Prelude.{◌≡◌, ℕ, List, ◌++◌, Vec, Result, length}
+use Rattle.std.specs.Prelude.{◌≡◌, ℕ, List, ◌++◌, Option, Vec, Result, length}
 use Rattle.std.specs.Global.{Global}
 use Rattle.noise_names.specs.declared.token.Role.{Role}
 use Rattle.noise_handshake.specs.declared.keys.Own.{Own}

@@ -1,8 +1,8 @@
 //! The pieces that bytes are handed over in.
 #![tactic(auto)]
 
-ghost use Rattle.std.specs.Prelude.{◌≡◌, Some, None, if◌then◌else◌};
-ghost use Rattle.noise_duel.specs.Cuts.{are_cuts};
+ghost use Rattle.std.specs.Prelude.{◌≡◌, ◌<◌, ◌≤◌, [], Some, None, if◌then◌else◌};
+ghost use Rattle.noise_duel.specs.Cuts.{are_cuts, piece_len_of};
 
 use arrayvec::ArrayVec;
 use std::marker::Model;
@@ -37,5 +37,30 @@ impl Cuts {
         let mut kept = ArrayVec::new();
         kept.try_extend_from_slice(lengths).ok()?;
         Some(Cuts { lengths: kept })
+    }
+
+    /// One piece.
+    pub fn whole() -> Cuts
+        ensures { result ≡ [] }
+    {
+        Cuts {
+            lengths: ArrayVec::new(),
+        }
+    }
+
+    /// The length of the piece of this index, where so many bytes are left: at most that many; 0 where none are left, or for a length of 0 before the last.
+    pub fn piece_len(&self, index: usize, left: usize) -> usize
+        ensures value { result ≡ piece_len_of self.now index left }
+        ensures bound { result ≤ left }
+        ensures some { 8 ≤ index → 0 < left → 0 < result }
+    {
+        let length = match self.lengths.get(index) {
+            Some(length) => Some(length),
+            None => self.lengths.last(),
+        };
+        match length {
+            Some(length) => left.min(*length as usize),
+            None => left,
+        }
     }
 }

@@ -1,16 +1,21 @@
 //! Bytes come to an end.
 #![tactic(auto)]
 
-ghost use Rattle.std.specs.Prelude.{◌≡◌, ℕ, List, length, OnOk};
+ghost use Rattle.std.specs.Prelude.{◌≡◌, ◌≤◌, ℕ, List, ◌++◌, length, OnOk, IfOk, IfSome};
 ghost use Rattle.noise_session.specs.Ends.{EndStands};
+ghost use Rattle.noise_session.specs.Frames.{IsPartial};
+ghost use Rattle.noise_session.specs.Steps.{told};
+ghost use Rattle.noise_duel.specs.Entries.{notes_of};
+ghost use Rattle.noise_duel.specs.Events.{noted_by, held_note};
 ghost use Rattle.noise_duel.specs.OneEnd.{HasReceived};
+ghost use Rattle.noise_duel.specs.Receiving.{step_note, left_of, note_of_left, HasStopped};
 ghost use Rattle.noise_duel.specs.Sides.{Side};
 
 use crate::cuts::Cuts;
-use crate::entry::Entry;
+use crate::entry::{Entry, Idle};
 use noise_handshake::Keys;
 use noise_names::Role;
-use noise_session::End;
+use noise_session::{End, Step};
 use std::alloc::{AllocError, Global};
 
 /// Hands bytes over to an end in these pieces, until they have ended or the end takes none, and tells what they came to.
@@ -25,5 +30,121 @@ pub(crate) fn receive<K: Keys>(
     ensures { (s : Side) → EndStands K.public_of K.agreement end.old s.view
         → OnOk result (HasReceived K.public_of K.agreement s role bytes.now end.new entries.old.items entries.new.items) }
 {
+    let left = receive_pieces(alloc, role, end, bytes, cuts, entries)?;
+    tell_left(role, left, entries)?;
+    tell_held(role, end.held(), entries)
+}
+
+// Hands bytes over in these pieces, and tells how many are left, and why, where the end takes none of them.
+fn receive_pieces<K: Keys>(
+    alloc: Global,
+    role: Role,
+    end: &mut End<K>,
+    bytes: &[u8],
+    cuts: &Cuts,
+    entries: &mut Vec<(Role, Entry)>,
+) -> Result<Option<(Idle, usize)>, AllocError>
+    ensures { (s : Side) → EndStands K.public_of K.agreement end.old s.view → IfOk result (λ left.
+        HasStopped K.public_of K.agreement s role bytes.now left end.new entries.old.items entries.new.items) }
+{
+    let mut rest = bytes;
+    let mut index = 0;
+    while !rest.is_empty() {
+        let (piece, behind) = rest.split_at(cuts.piece_len(index, rest.len()));
+        if let Some((why, left)) = receive_piece(alloc, role, end, piece, entries)? {
+            return Ok(Some((why, left + behind.len())));
+        }
+        rest = behind;
+        index += 1;
+    }
+    Ok(None)
+}
+
+// Hands one piece over, and tells how many of its bytes are left, and why, where the end takes none of them.
+fn receive_piece<K: Keys>(
+    alloc: Global,
+    role: Role,
+    end: &mut End<K>,
+    piece: &[u8],
+    entries: &mut Vec<(Role, Entry)>,
+) -> Result<Option<(Idle, usize)>, AllocError>
+    ensures most { IfOk result (λ left. IfSome left (λ l. l.1 ≤ length piece.now)) }
+    ensures stops { (s : Side) → EndStands K.public_of K.agreement end.old s.view → IfOk result (λ left.
+        HasStopped K.public_of K.agreement s role piece.now left end.new entries.old.items entries.new.items) }
+{
+    let mut rest = piece;
+    while !rest.is_empty() {
+        holds_part(end);
+        let (count, step) = end.take(rest);
+        if count == 0 {
+            return Ok(left_at(step, rest.len()));
+        }
+        tell(alloc, role, step, entries)?;
+        let (_, behind) = rest.split_at(count);
+        rest = behind;
+    }
+    Ok(None)
+}
+
+// What an end holds is less than a frame.
+fn holds_part<K: Keys>(end: &End<K>)
+    ensures { IsPartial end.now.held }
+{
+    end.held();
+}
+
+// So many bytes, and why an end takes none of them, if that is what it tells.
+fn left_at(step: Step<'_>, count: usize) -> Option<(Idle, usize)>
+    ensures { result ≡ left_of (told step.entry) count }
+{
+    match step {
+        Step::YourTurn => Some((Idle::YourTurn, count)),
+        Step::Silent => Some((Idle::Silent, count)),
+        Step::Ended => Some((Idle::Ended, count)),
+        _ => None,
+    }
+}
+
+// Tells what a frame came to.
+fn tell(
+    alloc: Global,
+    role: Role,
+    step: Step<'_>,
+    entries: &mut Vec<(Role, Entry)>,
+) -> Result<(), AllocError>
+    ensures { OnOk result (notes_of entries.new.items ≡ notes_of entries.old.items ++ noted_by role (step_note (told step.entry))) }
+{
+    let entry = match step {
+        Step::Payload(payload) => Entry::Payload(Vec::from_slice(alloc, payload)?),
+        Step::Dropped(cause) => Entry::Dropped(cause),
+        Step::Refused { token, cause } => Entry::Refused { token, cause },
+        Step::Exhausted => Entry::Exhausted,
+        _ => return Ok(()),
+    };
+    entries.push((role, entry))?;
+    Ok(())
+}
+
+// Tells of bytes that are left.
+fn tell_left(
+    role: Role,
+    left: Option<(Idle, usize)>,
+    entries: &mut Vec<(Role, Entry)>,
+) -> Result<(), AllocError>
+    ensures { OnOk result (notes_of entries.new.items ≡ notes_of entries.old.items ++ noted_by role (note_of_left left)) }
+{
+    if let Some((why, count)) = left {
+        entries.push((role, Entry::Left(why, count)))?;
+    }
+    Ok(())
+}
+
+// Tells of bytes that are held.
+fn tell_held(role: Role, count: usize, entries: &mut Vec<(Role, Entry)>) -> Result<(), AllocError>
+    ensures { OnOk result (notes_of entries.new.items ≡ notes_of entries.old.items ++ noted_by role (held_note count)) }
+{
+    if count != 0 {
+        entries.push((role, Entry::Held(count)))?;
+    }
     Ok(())
 }
