@@ -1,5 +1,6 @@
 -- Numbers with commas between them, as they are read one after the other.
-use Rattle.std.proofs.Common.{arith, ◌≡◌, ◌∙◌, ◌+◌, ◌-◌, ◌<◌, ◌≤◌, ap, sym, refl, subst, lit<, Bool, true, false, Option, Some, None, ℕ, List, [], ◌∷◌, ◌++◌, map, codes, length}
+use Rattle.std.proofs.Common.{arith, ◌≡◌, ◌∙◌, ◌+◌, ◌-◌, ◌<◌, ◌≤◌, ap, sym, refl, subst, lit<, ℕ, List, [], ◌∷◌, ◌++◌, map, codes, length}
+use Rattle.std.proofs.Common.{Bool, true, false, Option, Some, None}
 use Rattle.std.specs.Prelude.{decimal, slice_index_or, if◌then◌else◌, IfSome}
 use Rattle.std.specs.List.{All, join_with_byte}
 use Rattle.std.proofs.lemmas.Bool.{le-leb, lt-ltb}
