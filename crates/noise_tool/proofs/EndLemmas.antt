@@ -1,13 +1,17 @@
 -- What two ends of a file start from, and what is told where a setup is wrong.
-use Rattle.std.proofs.Common.{◌≡◌, ◌∙◌, ap, sym, refl, subst, ℕ, List, length, Option, Some, None}
+use Rattle.std.proofs.Common.{◌≡◌, ◌∙◌, ◌==◌, ap, sym, refl, subst, ℕ, Bool, true, false, List, length, Option, Some, None}
+use Rattle.std.specs.Prelude.{if◌then◌else◌}
 use Rattle.std.specs.Option.{option_map}
 use Rattle.noise_names.specs.declared.token.Role.{Role}
 use Rattle.noise_names.specs.declared.token.Role.TheVariants.{Initiator, Responder}
-use Rattle.noise_names.specs.Plan.{Plan}
+use Rattle.noise_names.specs.Plan.{Plan, is_one_way}
 use Rattle.noise_names.specs.Validity.{IsValid}
 use Rattle.noise_handshake.specs.declared.remote.Remote.{Remote}
 use Rattle.noise_handshake.specs.declared.faults.SetupFault.{SetupFault}
 use Rattle.noise_handshake.specs.Setup.{begun, setup_fault}
+use Rattle.noise_session.specs.Ends.{EndView, HeldEnd, IsToldBy, progress}
+use Rattle.noise_session.specs.Progress.{role_of}
+use Rattle.noise_session.specs.Progress.Progress.{Handshaking, Open, Closed}
 use Rattle.noise_tool.specs.declared.faults.Fault.{Fault}
 use Rattle.noise_tool.specs.declared.faults.Fault.TheVariants.{Setup}
 use Rattle.noise_tool.specs.declared.file_keys.FileKeys.{FileKeys}
@@ -54,3 +58,24 @@ told-second file plan fault None named valid none e f = absurd (cc)
 told-second file plan fault (Some why) named valid none e f =
     let same : Setup Responder why ≡ fault = cc in
     subst (λ (z : Fault). IsStartFault file z) same (plan, named, valid, (none, sym e))
+
+-- where nothing is wrong with either setup
+pub both-set-up : (file : VectorFile) (plan : Plan) → setup_of file plan Initiator ≡ None → setup_of file plan Responder ≡ None
+    → (role : Role) → setup_of file plan role ≡ None
+both-set-up file plan first second Initiator = first
+both-set-up file plan first second Responder = second
+
+-- ---- the role of an end
+
+role-in : (ended passed : Bool) (plan : Plan) (role : Role) (n : ℕ) (one_way : Bool) (sent received : ℕ)
+    → role_of (if ended then Closed role else if passed then Open role one_way sent received else Handshaking plan role n) ≡ role
+role-in true passed plan role n one_way sent received = refl
+role-in false true plan role n one_way sent received = refl
+role-in false false plan role n one_way sent received = refl
+
+-- an end that tells what a view says is of its party's role
+pub role-told : (e : HeldEnd FileKeys) (v : EndView) → IsToldBy v e → role_of (progress e) ≡ v.party.role
+role-told e v told =
+    ap role_of told.progress
+    ∙ role-in v.party.ended (v.party.passed == length v.party.pattern.messages) v.party.pattern v.party.role v.party.passed
+    (is_one_way v.party.pattern) v.sent v.received

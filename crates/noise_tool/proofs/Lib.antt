@@ -11,6 +11,7 @@ pub mod LineLemmas
 pub mod OutputLemmas
 pub mod PartyLemmas
 pub mod PerformingLemmas
+pub mod PrintedLemmas
 pub mod ReadingLemmas
 pub mod VectorLemmas
 pub mod WordLemmas

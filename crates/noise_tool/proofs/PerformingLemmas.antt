@@ -1,47 +1,80 @@
--- What `talk` has done, and why it hasn't.
-use Rattle.std.proofs.Common.{◌≡◌, ◌∙◌, sym, ◌⊎◌, inl, inr, ℕ, List, Option, Some, None, Result, Ok, Err, OnOk}
+-- What `talk` and `replay` have done, and why they haven't.
+use Rattle.std.proofs.Common.{◌≡◌, ◌∙◌, sym, ap, subst, ◌⊎◌, inl, inr, ℕ, List, Vec, Option, Some, None, Result, Ok, Err, OnOk, map}
+use Rattle.std.specs.Global.{Global}
 use Rattle.std.specs.Prelude.{IfErr, IfSome}
-use Rattle.noise_tool.specs.Ends.{AreEnds, IsStartFault}
+use Rattle.std.specs.Io.KnownBytes.{Appends}
+use Rattle.noise_names.specs.declared.token.Role.{Role}
+use Rattle.noise_duel.specs.Acts.{events_of, lines_of}
+use Rattle.noise_duel.specs.Conversation.{say_events}
+use Rattle.noise_duel.specs.Events.{Event as Act, Note}
+use Rattle.noise_duel.specs.HeldDuel.{HeldDuel}
+use Rattle.noise_duel.specs.Runs.{Run}
+use Rattle.noise_duel.specs.Sides.{Sides}
+use Rattle.noise_duel.specs.declared.event.Event.{Event}
+use Rattle.noise_tool.specs.Ends.{AreEnds, IsStartFault, facing_in}
 use Rattle.noise_tool.specs.Faults.{status_of}
-use Rattle.noise_tool.specs.Performing.{HasNoEnds, IsTooLong}
-use Rattle.noise_tool.specs.VectorFile.{IsReadFault}
+use Rattle.noise_tool.specs.Performing.{HasPrinted, HasRun, IsRunFault}
+use Rattle.noise_tool.specs.Printed.{run_text}
+use Rattle.noise_tool.specs.VectorFile.{say_of}
 use Rattle.noise_tool.specs.VectorText.{text_of}
-use Rattle.noise_tool.specs.declared.ends.Ends.{Ends}
 use Rattle.noise_tool.specs.declared.faults.Fault.{Fault}
-use Rattle.noise_tool.specs.declared.vector.AllowedEvents.TheVariants.{SayOnly}
+use Rattle.noise_tool.specs.declared.file_keys.FileKeys.{FileKeys}
+use Rattle.noise_tool.specs.declared.vector.AllowedEvents.{AllowedEvents}
 use Rattle.noise_tool.specs.declared.vector.VectorFile.{VectorFile}
+use Rattle.noise_tool.proofs.EventLemmas.{say_events-lines}
 
--- the bytes spell a vector file that has ends
-abbrev HasEnds : List ℕ → Type 0
-HasEnds bytes = (file : VectorFile) × (bytes ≡ text_of file) × ((ends : Ends) × AreEnds file ends)
+-- the events of a file that are these lines
+pub said-events : (file : VectorFile) (events : List Event) (lines given : List (Role × Vec ℕ Global × List ℕ)) → events ≡ file.events.items
+    → events ≡ map say_of lines → given ≡ lines → say_events (lines_of given) ≡ events_of file.events.items
+said-events file events lines given same said is =
+    ap (λ (l : List (Role × Vec ℕ Global × List ℕ)). say_events (lines_of l)) is
+    ∙ sym (say_events-lines lines)
+    ∙ ap events_of (sym said ∙ same)
 
-talked-known : (known : Option (List ℕ)) (text : List ℕ) (file : VectorFile) → IfSome known (λ bytes. text ≡ bytes) → text ≡ text_of file
-    → ((ends : Ends) × AreEnds file ends) → IfSome known HasEnds
-talked-known None text file h e ends = tt
-talked-known (Some bytes) text file h e ends = (file, sym h ∙ e, ends)
+-- the text of a run of the file's ends is that of the file's run
+pub has-printed : (file : VectorFile) (duel : HeldDuel FileKeys FileKeys) (ends : AreEnds file duel) (events : List Act) (notes : List (Role × Note))
+    (last : Sides) (before after : Option (List ℕ)) (result : Result Unit Fault) → events ≡ events_of file.events.items
+    → Run (facing_in file ends.plan) events notes last → OnOk result (Appends before after (run_text notes last))
+    → OnOk result (HasPrinted file before after)
+has-printed file duel ends events notes last before after (Ok u) same run printed = record {
+  plan = ends.plan;
+  pattern = ends.pattern;
+  valid = ends.valid;
+  set_up = ends.set_up;
+  notes = notes;
+  last = last;
+  run = subst (λ (es : List Act). Run (facing_in file ends.plan) es notes last) same run;
+  printed = printed;
+}
+has-printed file duel ends events notes last before after (Err fault) same run printed = tt
 
-pub talked : (known : Option (List ℕ)) (text : List ℕ) (file : VectorFile) (result : Result Unit Fault)
+-- ---- of a file's bytes
+
+run-known : (known : Option (List ℕ)) (text : List ℕ) (file : VectorFile) (before after : Option (List ℕ)) → IfSome known (λ bytes. text ≡ bytes)
+    → text ≡ text_of file → HasPrinted file before after → IfSome known (λ bytes. HasRun bytes before after)
+run-known None text file before after h e printed = tt
+run-known (Some bytes) text file before after h e printed = (file, sym h ∙ e, printed)
+
+pub has-run : (known : Option (List ℕ)) (text : List ℕ) (file : VectorFile) (before after : Option (List ℕ)) (result : Result Unit Fault)
     → IfSome known (λ bytes. text ≡ bytes) → text ≡ text_of file
-    → OnOk result ((ends : Ends) × AreEnds file ends) → OnOk result (IfSome known HasEnds)
-talked known text file (Ok u) h e ends = talked-known known text file h e ends
-talked known text file (Err fault) h e ends = tt
+    → OnOk result (HasPrinted file before after) → OnOk result (IfSome known (λ bytes. HasRun bytes before after))
+has-run known text file before after (Ok u) h e printed = run-known known text file before after h e printed
+has-run known text file before after (Err fault) h e printed = tt
 
--- why the bytes have no ends
-abbrev IsWhy : Fault → List ℕ → Type 0
-IsWhy fault bytes = IsTooLong bytes fault ⊎ IsReadFault SayOnly bytes fault ⊎ HasNoEnds bytes fault
+no-run-known : (allowed : AllowedEvents) (known : Option (List ℕ)) (text : List ℕ) (file : VectorFile) (fault : Fault) → IfSome known (λ bytes. text ≡ bytes)
+    → text ≡ text_of file → IsStartFault file fault → IfSome known (λ bytes. IsRunFault allowed bytes fault)
+no-run-known allowed None text file fault h e why = tt
+no-run-known allowed (Some bytes) text file fault h e why = inr (inr (file, sym h ∙ e, why))
 
-no-ends-known : (known : Option (List ℕ)) (text : List ℕ) (file : VectorFile) (fault : Fault) → IfSome known (λ bytes. text ≡ bytes) → text ≡ text_of file
-    → IsStartFault file fault → IfSome known (IsWhy fault)
-no-ends-known None text file fault h e why = tt
-no-ends-known (Some bytes) text file fault h e why = inr (inr (file, sym h ∙ e, why))
+no-run-of : (allowed : AllowedEvents) (known : Option (List ℕ)) (text : List ℕ) (file : VectorFile) (fault : Fault) → IfSome known (λ bytes. text ≡ bytes)
+    → text ≡ text_of file → (status_of fault ≡ 3) ⊎ IsStartFault file fault
+    → (status_of fault ≡ 3) ⊎ IfSome known (λ bytes. IsRunFault allowed bytes fault)
+no-run-of allowed known text file fault h e (inl outside) = inl outside
+no-run-of allowed known text file fault h e (inr why) = inr (no-run-known allowed known text file fault h e why)
 
-no-ends-of : (known : Option (List ℕ)) (text : List ℕ) (file : VectorFile) (fault : Fault) → IfSome known (λ bytes. text ≡ bytes) → text ≡ text_of file
-    → (status_of fault ≡ 3) ⊎ IsStartFault file fault → (status_of fault ≡ 3) ⊎ IfSome known (IsWhy fault)
-no-ends-of known text file fault h e (inl outside) = inl outside
-no-ends-of known text file fault h e (inr why) = inr (no-ends-known known text file fault h e why)
-
-pub no-ends : (known : Option (List ℕ)) (text : List ℕ) (file : VectorFile) (result : Result Unit Fault)
+pub no-run : (allowed : AllowedEvents) (known : Option (List ℕ)) (text : List ℕ) (file : VectorFile) (result : Result Unit Fault)
     → IfSome known (λ bytes. text ≡ bytes) → text ≡ text_of file
-    → IfErr result (λ fault. (status_of fault ≡ 3) ⊎ IsStartFault file fault) → IfErr result (λ fault. (status_of fault ≡ 3) ⊎ IfSome known (IsWhy fault))
-no-ends known text file (Ok u) h e why = tt
-no-ends known text file (Err fault) h e why = no-ends-of known text file fault h e why
+    → IfErr result (λ fault. (status_of fault ≡ 3) ⊎ IsStartFault file fault)
+    → IfErr result (λ fault. (status_of fault ≡ 3) ⊎ IfSome known (λ bytes. IsRunFault allowed bytes fault))
+no-run allowed known text file (Ok u) h e why = tt
+no-run allowed known text file (Err fault) h e why = no-run-of allowed known text file fault h e why

@@ -15,6 +15,7 @@ commands =
     ∷ (codes "show", Some (codes "NAME"))
     ∷ (codes "check", Some (codes "FILE"))
     ∷ (codes "talk", Some (codes "FILE"))
+    ∷ (codes "replay", Some (codes "FILE"))
     ∷ []
 
 -- a value that has to be there
@@ -28,7 +29,7 @@ subcommand (name, Some value) = record (new_shape name) { rules = wanted value �
 -- the whole command
 abbrev pub noise : App
 noise = record {
-  top = record (new_shape (codes "noise")) { is_leaf = false; subcommand_required = true };
+  top = record (new_shape (codes "noise")) { is_leaf = false; has_version = true; subcommand_required = true };
   subs = map subcommand commands;
 }
 
@@ -38,6 +39,7 @@ order_of chosen.List = (codes "list", None)
 order_of (chosen.Show name) = (codes "show", Some (string_bytes name))
 order_of (chosen.Check file) = (codes "check", Some (string_bytes file))
 order_of (chosen.Talk file) = (codes "talk", Some (string_bytes file))
+order_of (chosen.Replay file) = (codes "replay", Some (string_bytes file))
 
 -- the order for a command, where its matches have the value that it wants
 abbrev pub order_with : List Row → Text × Option Text → Option (Text × Option Text)

@@ -11,16 +11,17 @@ use Rattle.noise_handshake.specs.declared.keys.Own.{Own}
 use Rattle.noise_handshake.specs.declared.keys.Own.TheVariants.{Ephemeral, Static}
 use Rattle.noise_handshake.specs.declared.remote.Remote.{Remote}
 use Rattle.noise_handshake.specs.declared.faults.SetupFault.{SetupFault}
-use Rattle.noise_handshake.specs.View.{View}
-use Rattle.noise_handshake.specs.Setup.{begun, has_before, setup_fault}
-use Rattle.noise_session.specs.Ends.{EndStands, end_of}
+use Rattle.noise_handshake.specs.Setup.{has_before, setup_fault}
+use Rattle.noise_duel.specs.Conversation.{facing}
+use Rattle.noise_duel.specs.HeldDuel.{HeldDuel, DuelStands}
+use Rattle.noise_duel.specs.Messages.{Start}
+use Rattle.noise_duel.specs.Sides.{Sides}
 use Rattle.noise_tool.specs.FileKeys.{public_of, agreement_of}
 use Rattle.noise_tool.specs.Named.{IsNamed, IsUnnamed}
 use Rattle.noise_tool.specs.declared.faults.Fault.{Fault}
 use Rattle.noise_tool.specs.declared.faults.Fault.TheVariants.{Rule, Setup, Memory}
 use Rattle.noise_tool.specs.declared.file_keys.FileKeys.{FileKeys}
 use Rattle.noise_tool.specs.declared.vector.VectorFile.{VectorFile}
-use Rattle.noise_tool.specs.declared.ends.Ends.{Ends}
 
 -- the pattern is the one that a file spells, or else that of its protocol's name
 abbrev pub IsPatternOf : Option Plan → Section → Plan → Type 0
@@ -48,21 +49,30 @@ abbrev pub known_to : VectorFile → Plan → Role → Remote
 known_to file plan role = known_before plan (other role) (public_of (keys_in file (other role)))
 
 -- what a party starts from
-abbrev pub party_of : VectorFile → Plan → Role → View
-party_of file plan role =
-    begun plan role file.prologue.items (public_of (keys_in file role)) (agreement_of (keys_in file role)) (known_to file plan role) file.psks.items
+abbrev pub start_of : VectorFile → Plan → Role → Start
+start_of file plan role = record {
+  prologue = file.prologue.items;
+  own = public_of (keys_in file role);
+  agree = agreement_of (keys_in file role);
+  remote = known_to file plan role;
+  secrets = file.psks.items;
+}
+
+-- both ends before the first message, by this pattern
+abbrev pub facing_in : VectorFile → Plan → Sides
+facing_in file plan = facing plan (start_of file plan Initiator) (start_of file plan Responder) file.interval file.interval
 
 -- what is wrong with it, if anything is
 abbrev pub setup_of : VectorFile → Plan → Role → Option SetupFault
 setup_of file plan role = setup_fault plan role (public_of (keys_in file role)) (known_to file plan role) (length file.psks.items)
 
--- the two ends start from what the file says, by one valid pattern
-pub record AreEnds (file : VectorFile) (ends : Ends) : Type 0 where
+-- the two ends start from what the file says, by one valid pattern, and nothing is wrong with their setups
+pub record AreEnds (file : VectorFile) (duel : HeldDuel FileKeys FileKeys) : Type 0 where
   pub plan : Plan
   pub pattern : IsPatternOf file.block file.protocol plan
   pub valid : IsValid plan
-  pub initiator : EndStands public_of agreement_of ends.initiator (end_of (party_of file plan Initiator) file.interval)
-  pub responder : EndStands public_of agreement_of ends.responder (end_of (party_of file plan Responder) file.interval)
+  pub set_up : (role : Role) → setup_of file plan role ≡ None
+  pub stands : DuelStands public_of agreement_of public_of agreement_of duel (facing_in file plan)
 
 -- by a valid pattern of the file, this is wrong with the setups
 abbrev pub HasSetupFault : VectorFile → Role → SetupFault → Plan → Type 0

@@ -9,6 +9,7 @@ pub mod Named
 pub mod Output
 pub mod OwnPattern
 pub mod Performing
+pub mod Printed
 pub mod VectorFile
 pub mod VectorText
 pub mod Words

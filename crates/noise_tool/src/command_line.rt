@@ -5,6 +5,7 @@ ghost use Rattle.clap.specs.Words.{app_of, first_of, found_of, kind_of, rows_of,
 ghost use Rattle.clap.specs.declared.builder.command.Command.TheViews.{out-Command};
 ghost use Rattle.noise_tool.specs.CommandLine.{asked, noise, order_of, stated_in, subcommand};
 
+use crate::help::{self, Help};
 use crate::orders::{Chosen, LineFault};
 use clap::error::ErrorKind;
 use clap::{Arg, ArgMatches, Command};
@@ -33,32 +34,20 @@ fn command<'a>(alloc: Global) -> Result<Command<'a>, AllocError>
     ensures { IfOk result (λ c. app_of c ≡ noise) }
 {
     let list = Command::new(alloc, "list").about("Print the names of the fundamental patterns");
-    let show = with_value(
-        alloc,
-        "show",
-        "NAME",
-        "Print the pattern of a protocol name",
-    )?;
-    let check = with_value(
-        alloc,
-        "check",
-        "FILE",
-        "Say whether the pattern in a file is valid",
-    )?;
-    let talk = with_value(
-        alloc,
-        "talk",
-        "FILE",
-        "Run two ends on a vector file and print what each writes and takes",
-    )?;
+    let show = with_value(alloc, "show", "NAME", &help::SHOW)?;
+    let check = with_value(alloc, "check", "FILE", &help::CHECK)?;
+    let talk = with_value(alloc, "talk", "FILE", &help::TALK)?;
+    let replay = with_value(alloc, "replay", "FILE", &help::REPLAY)?;
     Command::new(alloc, "noise")
         .bin_name("noise")?
+        .version("0.1.0")
         .about("Noise handshake patterns, and transport sessions between two ends, by a file")
         .subcommand_required(true)
         .subcommand(list)?
         .subcommand(show)?
         .subcommand(check)?
-        .subcommand(talk)
+        .subcommand(talk)?
+        .subcommand(replay)
 }
 
 // The command of this name, which has to have a value.
@@ -66,14 +55,16 @@ fn with_value<'a>(
     alloc: Global,
     name: &'a str,
     value: &'a str,
-    about: &'a str,
+    help: &Help<'a>,
 ) -> Result<Command<'a>, AllocError>
     ensures shape { IfOk result (λ c. shape_of c ≡ subcommand (name.now, Some value.now)) }
     ensures local { IfOk result (λ c. (out-Command c).has_globals ≡ false) }
 {
+    let value = Arg::new(alloc, value).required(true).help(help.value);
     Command::new(alloc, name)
-        .about(about)
-        .arg(Arg::new(alloc, value).required(true))
+        .about(help.about)
+        .after_help(help.example)
+        .arg(value)
 }
 
 // The command that a parse found.
@@ -88,6 +79,7 @@ fn order(alloc: Global, matches: &ArgMatches<'_>) -> Result<Option<Chosen>, Allo
         "show" => Ok(value(alloc, found, "NAME")?.map(Chosen::Show)),
         "check" => Ok(value(alloc, found, "FILE")?.map(Chosen::Check)),
         "talk" => Ok(value(alloc, found, "FILE")?.map(Chosen::Talk)),
+        "replay" => Ok(value(alloc, found, "FILE")?.map(Chosen::Replay)),
         _ => Ok(None),
     }
 }

@@ -13,24 +13,20 @@ use crate::faults::Fault;
 use crate::file_keys::FileKeys;
 use crate::named::named_pattern;
 use crate::vector::VectorFile;
-use noise_duel::Event;
+use noise_duel::{Duel, Event};
 use noise_handshake::{Handshake, Keys, Own, Remote};
 use noise_names::{Pattern, ProtocolName, Role, Token, ValidPattern};
-use noise_session::End;
+use noise_session::{End, end_is_told};
 use std::alloc::Global;
-
-/// The initiator's end and the responder's.
-#[derive(Drop)]
-pub struct Ends {
-    pub initiator: End<FileKeys>,
-    pub responder: End<FileKeys>,
-}
 
 /// The two ends that the file describes, before the first message, and the file's events.
 ///
 /// At `Err` the fault is the first of these: a psk place beyond the messages of the pattern, a rule that the pattern breaks, the initiator's setup,
 /// the responder's setup.
-pub fn make_ends(alloc: Global, file: VectorFile) -> Result<(Ends, Vec<Event>), Fault>
+pub fn make_ends(
+    alloc: Global,
+    file: VectorFile,
+) -> Result<(Duel<FileKeys, FileKeys>, Vec<Event>), Fault>
     ensures ends { IfOk result (λ made. AreEnds file made.0) }
     ensures events { IfOk result (λ made. made.1 ≡ file.events) }
     ensures fault { IfErr result (λ fault. IsStartFault file fault) }
@@ -65,11 +61,10 @@ pub fn make_ends(alloc: Global, file: VectorFile) -> Result<(Ends, Vec<Event>), 
         of_initiator,
         &psks,
     )?;
-    let ends = Ends {
-        initiator: End::new(alloc, first, interval)?,
-        responder: End::new(alloc, second, interval)?,
-    };
-    Ok((ends, events))
+    let initiator_end = End::new(alloc, first, interval)?;
+    let responder_end = End::new(alloc, second, interval)?;
+    end_is_told::<FileKeys>();
+    Ok((Duel::new(initiator_end, responder_end), events))
 }
 
 // The pattern that a file spells, or else that of its protocol's name.

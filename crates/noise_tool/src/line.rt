@@ -1,12 +1,13 @@
 //! Lines of output.
 
-ghost use Rattle.std.specs.Prelude.{◌≡◌, ◌++◌, ◌∷◌, [], IfErr, IfOk, OnOk, decimal, string_bytes};
+ghost use Rattle.std.specs.Prelude.{◌≡◌, ◌++◌, ◌∷◌, [], IfErr, IfOk, OnOk, decimal};
 ghost use Rattle.std.specs.Io.KnownBytes.{Appends};
 ghost use Rattle.noise_tool.specs.Faults.{status_of};
 ghost use Rattle.noise_tool.specs.HexWord.{hex_of};
 
 use crate::faults::Fault;
 use crate::hex_words::hex_word;
+use crate::output::write;
 use std::alloc::{AllocError, Global};
 use std::io::Write;
 
@@ -27,28 +28,30 @@ impl Line {
         Ok(Line { alloc, text })
     }
 
-    /// One word more.
-    pub fn word(&mut self, word: &str) -> Result<(), AllocError>
-        ensures { OnOk result (self.new.text.items ≡ self.old.text.items ++ 32 ∷ word.now) }
+    /// With one word more.
+    pub fn word(mut self, word: &str) -> Result<Line, AllocError>
+        ensures { IfOk result (λ line. line.text.items ≡ self.text.items ++ 32 ∷ word.now) }
     {
         self.text.push(b' ')?;
-        self.text.extend_from_slice(word.as_bytes())
+        self.text.extend_from_slice(word.as_bytes())?;
+        Ok(self)
     }
 
-    /// One word more: a number.
-    pub fn number(&mut self, number: u64) -> Result<(), AllocError>
-        ensures { OnOk result (self.new.text.items ≡ self.old.text.items ++ 32 ∷ decimal number) }
+    /// With one word more: a number.
+    pub fn number(self, number: u64) -> Result<Line, AllocError>
+        ensures { IfOk result (λ line. line.text.items ≡ self.text.items ++ 32 ∷ decimal number) }
     {
         let digits = format!(in self.alloc; "{number}")?;
         self.word(digits.as_str())
     }
 
-    /// One word more: bytes in hex.
-    pub fn hex(&mut self, bytes: &[u8]) -> Result<(), AllocError>
-        ensures { OnOk result (self.new.text.items ≡ self.old.text.items ++ 32 ∷ hex_of bytes.now) }
+    /// With one word more: bytes in hex.
+    pub fn hex(mut self, bytes: &[u8]) -> Result<Line, AllocError>
+        ensures { IfOk result (λ line. line.text.items ≡ self.text.items ++ 32 ∷ hex_of bytes.now) }
     {
         self.text.push(b' ')?;
-        hex_word(bytes, &mut self.text)
+        hex_word(bytes, &mut self.text)?;
+        Ok(self)
     }
 
     /// Writes the line, with an LF behind it.
@@ -57,9 +60,6 @@ impl Line {
         ensures fault { IfErr result (λ fault. status_of fault ≡ 3) }
     {
         self.text.push(b'\n').map_err(AllocError::from)?;
-        match out.write_all(self.text.as_slice()) {
-            Ok(()) => Ok(()),
-            Err(_) => Err(Fault::Unwritable),
-        }
+        write(self.text.as_slice(), out)
     }
 }

@@ -6,12 +6,14 @@ mod command_line;
 mod ends;
 mod faults;
 mod file_keys;
+mod help;
 mod hex_words;
 mod input;
 mod line;
 mod listing;
 mod named;
 mod orders;
+mod output;
 mod overheads;
 mod performing;
 mod report;
@@ -28,7 +30,7 @@ use orders::{Chosen, LineFault};
 use performing::perform;
 use std::env;
 use std::fs::File;
-use std::io::{self, ErrorKind, Read};
+use std::io::{self, BufWriter, ErrorKind, Read};
 use std::process::ExitCode;
 use telling::tell;
 
@@ -57,7 +59,10 @@ fn words(rt: &HostRuntime) -> io::Result<Vec<String>> {
 fn run(rt: &HostRuntime, order: &Chosen) -> u8 {
     match order {
         Chosen::List | Chosen::Show(_) => run_on(rt, order, &mut io::empty()),
-        Chosen::Check(name) | Chosen::Talk(name) => match File::open(rt, name.as_str()) {
+        Chosen::Check(name) | Chosen::Talk(name) | Chosen::Replay(name) => match File::open(
+            rt,
+            name.as_str(),
+        ) {
             Ok(mut file) => run_on(rt, order, &mut file),
             Err(error) if error.kind() == ErrorKind::OutOfMemory => ends_with(rt, Fault::Memory),
             Err(_) => ends_with(rt, Fault::Unreadable),
@@ -65,8 +70,12 @@ fn run(rt: &HostRuntime, order: &Chosen) -> u8 {
     }
 }
 
+// The output goes through a buffer.
 fn run_on<R: Read>(rt: &HostRuntime, order: &Chosen, file: &mut R) -> u8 {
-    perform(rt.alloc(), order, file, &mut rt.stdout(), &mut rt.stderr())
+    match BufWriter::new(rt.alloc(), rt.stdout()) {
+        Ok(mut out) => perform(rt.alloc(), order, file, &mut out, &mut rt.stderr()),
+        Err(_) => ends_with(rt, Fault::Memory),
+    }
 }
 
 fn ends_with(rt: &HostRuntime, fault: Fault) -> u8 {

@@ -14,8 +14,10 @@ pub enum Chosen {
     Show(String),
     /// Judge the pattern text in the file of this name.
     Check(String),
-    /// Run two ends on the vector file of this name.
+    /// Run two ends on the vector file of this name, in which they only say things to one another.
     Talk(String),
+    /// Run two ends on the vector file of this name, whatever its events are.
+    Replay(String),
 }
 
 /// Why the words of a command line are no command.

@@ -1,9 +1,9 @@
 //! Doing what the command line asks for.
 
-ghost use Rattle.std.specs.Prelude.{◌≡◌, ◌⊎◌, ◌≤◌, IfErr, OnOk};
+ghost use Rattle.std.specs.Prelude.{◌≡◌, ◌⊎◌, ◌≤◌, IfErr, IfSome, OnOk};
 ghost use Rattle.noise_tool.specs.Faults.{status_of};
 ghost use Rattle.std.specs.Io.KnownBytes.{Appends};
-ghost use Rattle.noise_tool.specs.Performing.{IsDone, IsFault};
+ghost use Rattle.noise_tool.specs.Performing.{HasRun, IsDone, IsFault, IsRunFault};
 ghost use Rattle.noise_tool.specs.declared.faults.Fault.{Fault};
 
 use crate::checking::check;
@@ -11,8 +11,9 @@ use crate::faults::Fault;
 use crate::input::read_file;
 use crate::listing::list;
 use crate::orders::Chosen;
+use crate::output::{flush, write};
 use crate::showing::show;
-use crate::talk::talk;
+use crate::talk::{replay, talk};
 use crate::telling::tell;
 use crate::vector::{AllowedEvents, read_vector};
 use std::alloc::Global;
@@ -55,11 +56,26 @@ fn run<R: Read, O: Write>(
             let text = read_file(alloc, file)?;
             print(&check(alloc, &text)?, out)
         }
-        Chosen::Talk(_) => {
-            let text = read_file(alloc, file)?;
-            let vector = read_vector(alloc, &text, AllowedEvents::SayOnly)?;
-            talk(alloc, vector, out)
-        }
+        Chosen::Talk(_) => run_file(alloc, AllowedEvents::SayOnly, file, out),
+        Chosen::Replay(_) => run_file(alloc, AllowedEvents::Any, file, out),
+    }
+}
+
+// Runs two ends on a vector file, and prints what they do.
+fn run_file<R: Read, O: Write>(
+    alloc: Global,
+    allowed: AllowedEvents,
+    file: &mut R,
+    out: &mut O,
+) -> Result<(), Fault>
+    ensures done { OnOk result (IfSome (R.remaining file.old) (λ text. HasRun text (O.contents out.old) (O.contents out.new))) }
+    ensures fault { IfErr result (λ fault. (status_of fault ≡ 3) ⊎ IfSome (R.remaining file.old) (λ text. IsRunFault allowed text fault)) }
+{
+    let text = read_file(alloc, file)?;
+    let vector = read_vector(alloc, &text, allowed)?;
+    match allowed {
+        AllowedEvents::SayOnly => talk(alloc, vector, out),
+        AllowedEvents::Any => replay(alloc, vector, out),
     }
 }
 
@@ -67,8 +83,6 @@ fn print<O: Write>(text: &[u8], out: &mut O) -> Result<(), Fault>
     ensures printed { OnOk result (Appends (O.contents out.old) (O.contents out.new) text.now) }
     ensures fault { IfErr result (λ fault. status_of fault ≡ 3) }
 {
-    match out.write_all(text) {
-        Ok(()) => Ok(()),
-        Err(_) => Err(Fault::Unwritable),
-    }
+    write(text, out)?;
+    flush(out)
 }

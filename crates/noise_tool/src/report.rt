@@ -1,142 +1,158 @@
-//! What a run of two ends prints.
+//! What is printed of a run.
 
-ghost use Rattle.std.specs.Prelude.{◌≡◌, IfErr};
+ghost use Rattle.std.specs.Prelude.{◌≡◌, ◌∷◌, [], codes, decimal, flat_map, IfErr, IfOk, OnOk};
+ghost use Rattle.std.specs.Io.KnownBytes.{Appends};
+ghost use Rattle.std.specs.List.{join_with_byte};
+ghost use Rattle.noise_state.specs.History.{hash};
+ghost use Rattle.noise_session.specs.Ends.{EndView, EndStands, progress_of};
+ghost use Rattle.noise_duel.specs.Entries.{note_of, notes_of, step_of};
+ghost use Rattle.noise_duel.specs.Events.{WriteFault};
+ghost use Rattle.noise_duel.specs.HeldDuel.{DuelStands, HasFrames};
+ghost use Rattle.noise_duel.specs.Sides.{Side, Sides, side};
 ghost use Rattle.noise_tool.specs.Faults.{status_of};
+ghost use Rattle.noise_tool.specs.FileKeys.{agreement_of, public_of};
+ghost use Rattle.noise_tool.specs.Printed as print;
+ghost use Rattle.noise_tool.specs.VectorText as text;
 
 use crate::faults::Fault;
+use crate::file_keys::FileKeys;
 use crate::line::Line;
+use crate::output::flush;
+use noise_duel::{Duel, Entry, Idle, Report};
 use noise_handshake::Cause;
 use noise_names::Role;
-use noise_session::{SendFault, Stage};
+use noise_session::{End, SendFault, Stage, end_is_told};
 use std::alloc::{AllocError, Global};
 use std::io::Write;
 
-/// The lines of a run, written one by one as it goes.
-#[derive(Drop)]
-pub struct Report<'a, O> {
+/// Writes a line for each entry, in order, and then where the initiator's end and the responder's stand.
+pub fn print_run<O: Write>(
     alloc: Global,
-    out: &'a mut O,
+    duel: &Duel<FileKeys, FileKeys>,
+    report: &Report,
+    out: &mut O,
+) -> Result<(), Fault>
+    ensures printed { (d : Sides) → HasFrames report.now d → DuelStands public_of agreement_of public_of agreement_of duel.now d
+        → OnOk result (Appends (O.contents out.old) (O.contents out.new) (print.run_text (notes_of report.now.entries.items) d)) }
+    ensures fault { IfErr result (λ fault. status_of fault ≡ 3) }
+{
+    print_entries(alloc, report, out)?;
+    state_line(alloc, Role::Initiator, duel.initiator())?.write(out)?;
+    state_line(alloc, Role::Responder, duel.responder())?.write(out)?;
+    flush(out)
 }
 
-impl<'a, O: Write> Report<'a, O> {
-    /// No line yet.
-    pub fn new(alloc: Global, out: &'a mut O) -> Report<'a, O> {
-        Report { alloc, out }
+// Writes a line for each entry.
+fn print_entries<O: Write>(alloc: Global, report: &Report, out: &mut O) -> Result<(), Fault>
+    ensures printed { (d : Sides) → HasFrames report.now d → OnOk result
+        (Appends (O.contents out.old) (O.contents out.new) (flat_map (print.note_line d) (notes_of report.now.entries.items))) }
+    ensures fault { IfErr result (λ fault. status_of fault ≡ 3) }
+{
+    for (role, entry) in &report.entries {
+        entry_line(alloc, report, *role, entry)?.write(out)?;
     }
+    Ok(())
+}
 
-    /// This end wrote a frame, its own frame of this number, from 0 on.
-    pub fn wrote(&mut self, role: Role, number: u64, frame: &[u8]) -> Result<(), Fault>
-        ensures { IfErr result (λ fault. status_of fault ≡ 3) }
-    {
-        let mut line = self.line("wrote", role)?;
-        line.number(number)?;
-        line.hex(frame)?;
-        line.write(self.out)
+/// The line of an entry that is told of this role.
+pub fn entry_line(
+    alloc: Global,
+    report: &Report,
+    role: Role,
+    entry: &Entry,
+) -> Result<Line, AllocError>
+    ensures { (d : Sides) → HasFrames report.now d
+        → IfOk result (λ line. line.text.items ≡ join_with_byte 32 (print.note_words (side d role) role (note_of entry.now))) }
+{
+    match entry {
+        Entry::Wrote(number) => begun_line(alloc, "wrote", role)?
+            .number(*number as u64)?
+            .hex(frame_at(report, role, *number)),
+        Entry::WriteFault(fault) => fault_line(alloc, role, *fault),
+        Entry::Payload(payload) => begun_line(alloc, "payload", role)?.hex(payload),
+        Entry::Dropped(cause) => begun_line(alloc, "dropped", role)?.word(cause_word(*cause)),
+        Entry::Refused { token, cause } => begun_line(alloc, "refused", role)?
+            .number(u64::from(*token))?
+            .word(cause_word(*cause)),
+        Entry::Exhausted => begun_line(alloc, "exhausted", role),
+        Entry::Left(why, count) => begun_line(alloc, "left", role)?
+            .word(idle_word(*why))?
+            .number(*count as u64),
+        Entry::Missing(number) => begun_line(alloc, "missing", role)?.number(*number as u64),
+        Entry::Held(count) => begun_line(alloc, "held", role)?.number(*count as u64),
     }
+}
 
-    /// This end refused to write.
-    pub fn unwritten(&mut self, role: Role, fault: SendFault) -> Result<(), Fault>
-        ensures { IfErr result (λ fault. status_of fault ≡ 3) }
-    {
-        let mut line = self.line("unwritten", role)?;
-        send_fault(&mut line, fault)?;
-        line.write(self.out)
+// The frame of this number that this role wrote; it is in the report wherever an entry tells of it.
+fn frame_at(report: &Report, role: Role, number: usize) -> &[u8]
+    ensures { (d : Sides) → HasFrames report.now d → result.now ≡ print.frame_at (side d role) number }
+{
+    let frames = match role {
+        Role::Initiator => report.initiator.as_slice(),
+        Role::Responder => report.responder.as_slice(),
+    };
+    match frames.get(number) {
+        Some(frame) => frame,
+        None => &[],
     }
+}
 
-    /// This end accepted a frame.
-    pub fn payload(&mut self, role: Role, payload: &[u8]) -> Result<(), Fault>
-        ensures { IfErr result (λ fault. status_of fault ≡ 3) }
-    {
-        let mut line = self.line("payload", role)?;
-        line.hex(payload)?;
-        line.write(self.out)
+// Why this role wrote nothing.
+fn fault_line(alloc: Global, role: Role, fault: SendFault) -> Result<Line, AllocError>
+    ensures { (s : Side) → IfOk result (λ line. line.text.items ≡ join_with_byte 32 (print.note_words s role (WriteFault fault))) }
+{
+    let line = begun_line(alloc, "unwritten", role)?;
+    match fault {
+        SendFault::NotYourTurn => line.word("not-your-turn"),
+        SendFault::TooLong => line.word("too-long"),
+        SendFault::Agreement { token } => line.word("agreement")?.number(u64::from(token)),
+        SendFault::Ended => line.word("ended"),
+        SendFault::OneWay => line.word("one-way"),
+        SendFault::Exhausted => line.word("exhausted"),
+        SendFault::Output { written } => line.word("output")?.number(written as u64),
     }
+}
 
-    /// This end dropped a transport frame.
-    pub fn dropped(&mut self, role: Role, cause: Cause) -> Result<(), Fault>
-        ensures { IfErr result (λ fault. status_of fault ≡ 3) }
-    {
-        let mut line = self.line("dropped", role)?;
-        line.word(cause_word(cause))?;
-        line.write(self.out)
+// Where an end stands.
+fn state_line(alloc: Global, role: Role, end: &End<FileKeys>) -> Result<Line, AllocError>
+    ensures { (v : EndView) → EndStands public_of agreement_of end.now v → IfOk result (λ line. line.text.items ≡ join_with_byte 32
+        (codes "state" ∷ text.role_word role ∷ print.progress_words (progress_of v) (hash v.party.history))) }
+{
+    end_is_told::<FileKeys>();
+    let line = begun_line(alloc, "state", role)?;
+    match (end.stage(), end.hash()) {
+        (Stage::Handshake { done, ours: _ }, _) => line.word("handshake")?.number(u64::from(done)),
+        (Stage::Transport { send, receive }, Some(hash)) => line
+            .word("transport")?
+            .number(send)?
+            .number(receive)?
+            .hex(&hash),
+        (Stage::Ended, _) => line.word("ended"),
+        // An end that is open tells its hash.
+        (Stage::Transport { .. }, None) => unreachable!(),
     }
+}
 
-    /// This end refused a handshake frame at this token.
-    pub fn refused(&mut self, role: Role, token: u8, cause: Cause) -> Result<(), Fault>
-        ensures { IfErr result (λ fault. status_of fault ≡ 3) }
-    {
-        let mut line = self.line("refused", role)?;
-        line.number(u64::from(token))?;
-        line.word(cause_word(cause))?;
-        line.write(self.out)
-    }
-
-    /// This end doesn't listen, for the reason that the word names, and so many bytes are lost.
-    pub fn left(&mut self, role: Role, word: &str, count: usize) -> Result<(), Fault>
-        ensures { IfErr result (λ fault. status_of fault ≡ 3) }
-    {
-        let mut line = self.line("left", role)?;
-        line.word(word)?;
-        line.number(count as u64)?;
-        line.write(self.out)
-    }
-
-    /// This end met a frame at the reserved nonce.
-    pub fn exhausted(&mut self, role: Role) -> Result<(), Fault>
-        ensures { IfErr result (λ fault. status_of fault ≡ 3) }
-    {
-        self.line("exhausted", role)?.write(self.out)
-    }
-
-    /// This end holds so many bytes of an unfinished frame.
-    pub fn held(&mut self, role: Role, count: usize) -> Result<(), Fault>
-        ensures { IfErr result (λ fault. status_of fault ≡ 3) }
-    {
-        let mut line = self.line("held", role)?;
-        line.number(count as u64)?;
-        line.write(self.out)
-    }
-
-    /// Where this end stands when the run is over.
-    pub fn state(&mut self, role: Role, stage: Stage, hash: Option<[u8; 32]>) -> Result<(), Fault>
-        ensures { IfErr result (λ fault. status_of fault ≡ 3) }
-    {
-        let mut line = self.line("state", role)?;
-        match stage {
-            Stage::Handshake { done, ours: _ } => {
-                line.word("handshake")?;
-                line.number(u64::from(done))?;
-            }
-            Stage::Transport { send, receive } => {
-                line.word("transport")?;
-                line.number(send)?;
-                line.number(receive)?;
-                if let Some(hash) = hash {
-                    line.hex(&hash)?;
-                }
-            }
-            Stage::Ended => line.word("ended")?,
-        }
-        line.write(self.out)
-    }
-
-    // The front of a line: what it is about, and which end.
-    fn line(&self, word: &str, role: Role) -> Result<Line, AllocError> {
-        let mut line = Line::new(self.alloc, word)?;
-        line.word(role_word(role))?;
-        Ok(line)
-    }
+// The front of a line: what it tells, and of which role.
+fn begun_line(alloc: Global, word: &str, role: Role) -> Result<Line, AllocError>
+    ensures { IfOk result (λ line. line.text.items ≡ join_with_byte 32 (word.now ∷ text.role_word role ∷ [])) }
+{
+    Line::new(alloc, word)?.word(role_word(role))
 }
 
 /// The word for a role.
-pub fn role_word(role: Role) -> &'static str {
+pub fn role_word(role: Role) -> &'static str
+    ensures { result.now ≡ text.role_word role }
+{
     match role {
         Role::Initiator => "initiator",
         Role::Responder => "responder",
     }
 }
 
-fn cause_word(cause: Cause) -> &'static str {
+fn cause_word(cause: Cause) -> &'static str
+    ensures { result.now ≡ print.cause_word cause }
+{
     match cause {
         Cause::Short => "short",
         Cause::Tag => "tag",
@@ -144,20 +160,12 @@ fn cause_word(cause: Cause) -> &'static str {
     }
 }
 
-fn send_fault(line: &mut Line, fault: SendFault) -> Result<(), AllocError> {
-    match fault {
-        SendFault::NotYourTurn => line.word("not-your-turn"),
-        SendFault::TooLong => line.word("too-long"),
-        SendFault::Agreement { token } => {
-            line.word("agreement")?;
-            line.number(u64::from(token))
-        }
-        SendFault::Ended => line.word("ended"),
-        SendFault::OneWay => line.word("one-way"),
-        SendFault::Exhausted => line.word("exhausted"),
-        SendFault::Output { written } => {
-            line.word("output")?;
-            line.number(written as u64)
-        }
+fn idle_word(why: Idle) -> &'static str
+    ensures { result.now ≡ print.idle_word (step_of why) }
+{
+    match why {
+        Idle::YourTurn => "your-turn",
+        Idle::Silent => "silent",
+        Idle::Ended => "ended",
     }
 }

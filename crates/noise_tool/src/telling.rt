@@ -5,6 +5,7 @@ ghost use Rattle.noise_tool.specs.Faults.{status_of};
 
 use crate::faults::Fault;
 use crate::line::Line;
+use crate::output::flush;
 use crate::report::role_word;
 use noise_handshake::SetupFault;
 use noise_names::TextFaultKind;
@@ -35,7 +36,8 @@ fn write_fault<O: Write, E: Write>(
 {
     let line = fault_line(alloc, fault)?;
     if let Fault::Rule(_) = fault {
-        return line.write(out);
+        line.write(out)?;
+        return flush(out);
     }
     match line.write(err) {
         Err(Fault::Memory) => Err(Fault::Memory),
@@ -53,30 +55,18 @@ fn last_text(fault: Fault) -> &'static [u8] {
 
 fn fault_line(alloc: Global, fault: Fault) -> Result<Line, AllocError> {
     match fault {
-        Fault::Rule(broken) => {
-            let mut line = Line::new(alloc, "rule")?;
-            line.number(u64::from(broken.rule))?;
-            line.word("message")?;
-            line.number(u64::from(broken.message))?;
-            line.word("token")?;
-            line.number(u64::from(broken.token))?;
-            Ok(line)
-        }
-        Fault::Place(fault) => {
-            let mut line = Line::new(alloc, "psk place")?;
-            line.number(u64::from(fault.place))?;
-            Ok(line)
-        }
-        Fault::Setup(role, fault) => {
-            let mut line = Line::new(alloc, "setup")?;
-            line.word(role_word(role))?;
-            line.word(setup_word(fault))?;
-            Ok(line)
-        }
+        Fault::Rule(broken) => Line::new(alloc, "rule")?
+            .number(u64::from(broken.rule))?
+            .word("message")?
+            .number(u64::from(broken.message))?
+            .word("token")?
+            .number(u64::from(broken.token)),
+        Fault::Place(fault) => Line::new(alloc, "psk place")?.number(u64::from(fault.place)),
+        Fault::Setup(role, fault) => Line::new(alloc, "setup")?
+            .word(role_word(role))?
+            .word(setup_word(fault)),
         Fault::Name(fault) => {
-            let mut line = Line::new(alloc, "name")?;
-            line.word(format!(in alloc; "{fault}")?.as_str())?;
-            Ok(line)
+            Line::new(alloc, "name")?.word(format!(in alloc; "{fault}")?.as_str())
         }
         Fault::UnknownPattern => Line::new(alloc, "unknown pattern"),
         Fault::Text(fault) => line_fault(alloc, fault.line, text_word(fault.kind)),
@@ -89,10 +79,7 @@ fn fault_line(alloc: Global, fault: Fault) -> Result<Line, AllocError> {
 }
 
 fn line_fault(alloc: Global, number: usize, word: &str) -> Result<Line, AllocError> {
-    let mut line = Line::new(alloc, "line")?;
-    line.number(number as u64)?;
-    line.word(word)?;
-    Ok(line)
+    Line::new(alloc, "line")?.number(number as u64)?.word(word)
 }
 
 fn text_word(kind: TextFaultKind) -> &'static str {

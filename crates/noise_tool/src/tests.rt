@@ -5,6 +5,7 @@ mod commands;
 mod fakes;
 mod handshakes;
 mod outside;
+mod replays;
 mod wrong_lines;
 
 use crate::orders::Chosen;
@@ -32,6 +33,7 @@ pub fn order_of(alloc: Global, command: &str, value: &str) -> Result<Chosen, All
         "show" => Ok(Chosen::Show(value)),
         "check" => Ok(Chosen::Check(value)),
         "talk" => Ok(Chosen::Talk(value)),
+        "replay" => Ok(Chosen::Replay(value)),
         _ => Ok(Chosen::List),
     }
 }

@@ -8,11 +8,12 @@ use std::alloc::{AllocError, Global};
 use std::test::Fail;
 
 // The words of a command line, and the command and its value.
-const TAKEN: [(&str, &str, &str); 4] = [
+const TAKEN: [(&str, &str, &str); 5] = [
     ("noise list", "list", ""),
     ("noise show Noise_NN", "show", "Noise_NN"),
     ("noise check a.pattern", "check", "a.pattern"),
     ("noise talk a.vector", "talk", "a.vector"),
+    ("noise replay a.vector", "replay", "a.vector"),
 ];
 
 #[test]
@@ -41,6 +42,44 @@ fn tells_what_is_wrong_with_other_words(rt: HostRuntime) -> Result<(), Fail> {
             .err()
             .ok_or("taken")?;
         assert_eq!(rt; kind_of(fault), Some(*kind));
+    }
+    Ok(())
+}
+
+// Words that ask for a text, and what stands in it.
+const TEXTS: [(&str, &str); 6] = [
+    ("noise --version", "noise 0.1.0\n"),
+    ("noise --help", "replay"),
+    (
+        "noise show --help",
+        "A whole protocol name, as Noise_XXpsk3_25519_ChaChaPoly_SHA256",
+    ),
+    (
+        "noise check --help",
+        "Example: noise check examples/ikpsk2.pattern",
+    ),
+    (
+        "noise talk --help",
+        "Example: noise talk examples/first-message.vector",
+    ),
+    (
+        "noise replay --help",
+        "Example: noise replay examples/each-outcome.vector",
+    ),
+];
+
+#[test]
+fn tells_what_it_is_asked_for(rt: HostRuntime) -> Result<(), Fail> {
+    let alloc = rt.alloc();
+    for (words, part) in &TEXTS {
+        match chosen(alloc, words_of(alloc, words)?) {
+            Err(LineFault::Line(error)) => {
+                assert!(rt; !error.use_stderr());
+                let text = format!(in alloc; "{error}")?;
+                assert!(rt; text.as_str().contains(*part), "{text}");
+            }
+            _ => assert!(rt; false, "{words}"),
+        }
     }
     Ok(())
 }

@@ -1,8 +1,10 @@
 //! What fails with the file and the outputs.
 
-use super::fakes::Reader;
+use super::fakes::{Reader, Writer};
 use super::handshakes::N;
-use super::perform_on;
+use super::{order_of, perform_on};
+use crate::performing::perform;
+use std::io::{self, BufWriter};
 use std::test::Fail;
 
 const NAME: &str = "Noise_N_25519_ChaChaPoly_SHA256";
@@ -58,6 +60,19 @@ fn tells_that_a_write_is_refused(rt: HostRuntime) -> Result<(), Fail> {
             );
         }
     }
+    Ok(())
+}
+
+// What a buffer holds back is refused at the end.
+#[test]
+fn tells_that_a_buffer_cannot_be_written(rt: HostRuntime) -> Result<(), Fail> {
+    let alloc = rt.alloc();
+    let order = order_of(alloc, "list", "")?;
+    let mut out = BufWriter::new(alloc, Writer::new(alloc, 0))?;
+    let mut err = Writer::new(alloc, 1);
+    let status = perform(alloc, &order, &mut io::empty(), &mut out, &mut err);
+    assert_eq!(rt; status, 3);
+    assert_eq!(rt; err.taken.as_slice(), b"cannot write\n".as_slice());
     Ok(())
 }
 

@@ -5,9 +5,11 @@ use Rattle.noise_names.specs.declared.token.Role.TheVariants.{Initiator, Respond
 use Rattle.noise_names.specs.Plan.{Plan}
 use Rattle.noise_handshake.specs.View.{View}
 use Rattle.noise_session.specs.Ends.{EndStands, end_of}
+use Rattle.noise_duel.specs.HeldDuel.{HeldDuel}
 use Rattle.noise_tool.specs.FileKeys.{public_of, agreement_of}
-use Rattle.noise_tool.specs.Ends.{known_before}
-use Rattle.noise_tool.proofs.EndLemmas.{begun-same, setup-same, none-told, told-first, told-second}
+use Rattle.noise_tool.specs.Ends.{AreEnds, known_before}
+use Rattle.noise_tool.specs.declared.file_keys.FileKeys.{FileKeys}
+use Rattle.noise_tool.proofs.EndLemmas.{begun-same, both-set-up, setup-same, none-told, role-told, told-first, told-second}
 use Rattle.noise_tool.proofs.ends.make_ends.Goals as goal
 
 pub returns-in_err-first-clause-fault : goal.returns-in_err-first-clause-fault
@@ -44,6 +46,16 @@ returns-in_err-second-clause-fault c =
     rw (p.1, p.2) (told-second file plan c.in_err-second.field-0.0 _
     c.in_ok-pattern.ensures.pattern c.in_ok-pattern.ensures.valid none setup-2 c.in_err-second.ensures.fault)
 
+pub new-requires-3-clause-first : goal.new-requires-3-clause-first
+new-requires-3-clause-first c =
+    let stands = c.in_ok-initiator_end.ensures _ c.in_ok-first.ensures.stands in
+    role-told _ _ (c.end_is_told.ensures c.in_ok-initiator_end.initiator_end _ stands)
+
+pub new-requires-3-clause-second : goal.new-requires-3-clause-second
+new-requires-3-clause-second c =
+    let stands = c.in_ok-responder_end.ensures _ c.in_ok-second.ensures.stands in
+    role-told _ _ (c.end_is_told.ensures c.in_ok-responder_end.responder_end _ stands)
+
 pub returns-clause-ends : goal.returns-clause-ends
 returns-clause-ends c =
     let file = c.args.file in
@@ -61,14 +73,24 @@ returns-clause-ends c =
     (known_before plan Responder (public_of file.responder)) c.deref-2.result.now file.psks.items refl text known psks in
     let start-2 = begun-same Responder file.responder c.in_ok-same.same plan c.deref-3.result.now file.prologue.items c.known_before-of_initiator.result
     (known_before plan Initiator (public_of file.initiator)) c.deref-4.result.now file.psks.items copy text-2 known-2 psks-2 in
-    record {
+    let setup = setup-same Initiator file.initiator plan plan c.known_before-of_responder.result (known_before plan Responder (public_of file.responder))
+    c.deref-2.result.now file.psks.items refl known psks in
+    let setup-2 = setup-same Responder file.responder c.in_ok-same.same plan c.known_before-of_initiator.result
+    (known_before plan Initiator (public_of file.initiator))
+    c.deref-4.result.now file.psks.items copy known-2 psks-2 in
+    subst (λ (duel : HeldDuel FileKeys FileKeys). AreEnds file duel) (sym c.new-3.ensures) (record {
       plan = plan;
       pattern = c.in_ok-pattern.ensures.pattern;
       valid = c.in_ok-pattern.ensures.valid;
-      initiator =
-          subst (λ (v : View). EndStands public_of agreement_of c.in_ok-new.field-0 (end_of v file.interval)) start
-          (c.in_ok-new.ensures _ c.in_ok-first.ensures.stands);
-      responder =
-          subst (λ (v : View). EndStands public_of agreement_of c.in_ok-new-2.field-0 (end_of v file.interval)) start-2
-          (c.in_ok-new-2.ensures _ c.in_ok-second.ensures.stands);
-    }
+      set_up =
+          both-set-up file plan (sym setup ∙ none-told Initiator _ c.in_ok-first.ensures.fault)
+          (sym setup-2 ∙ none-told Responder _ c.in_ok-second.ensures.fault);
+      stands = record {
+        initiator =
+            subst (λ (v : View). EndStands public_of agreement_of c.in_ok-initiator_end.initiator_end (end_of v file.interval)) start
+            (c.in_ok-initiator_end.ensures _ c.in_ok-first.ensures.stands);
+        responder =
+            subst (λ (v : View). EndStands public_of agreement_of c.in_ok-responder_end.responder_end (end_of v file.interval)) start-2
+            (c.in_ok-responder_end.ensures _ c.in_ok-second.ensures.stands);
+      };
+    })

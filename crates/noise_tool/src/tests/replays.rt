@@ -1,0 +1,207 @@
+//! Runs by any events, and the line of each entry. What the runs print was worked out by hand, with frames and hashes by a program in another language.
+
+use super::tells;
+use crate::report::entry_line;
+use noise_duel::{Entry, Idle, Report};
+use noise_handshake::Cause;
+use noise_names::Role;
+use noise_session::SendFault;
+use std::alloc::{AllocError, Global};
+use std::test::Fail;
+
+// The lines of a file behind its first, its events, and what a run of them prints.
+const RUNS: [(&str, &str, &str); 4] = [
+    // A DH without an answer.
+    (
+        "protocol Noise_NN_25519_ChaChaPoly_SHA256
+prologue -
+interval 0
+initiator xor 1111111111111111111111111111111111111111111111111111111111111111 -
+responder table 2222222222222222222222222222222222222222222222222222222222222222 -
+",
+        "say initiator - -
+say responder - -
+raw responder 00
+",
+        "wrote initiator 0 00201111111111111111111111111111111111111111111111111111111111111111
+payload responder -
+unwritten responder agreement 1
+left responder ended 1
+state initiator handshake 1
+state responder ended
+",
+    ),
+    // Whose turn it is, frames that were never written, and pieces of frames.
+    (
+        "protocol Noise_NN_25519_ChaChaPoly_SHA256
+prologue -
+interval 0
+initiator xor 1111111111111111111111111111111111111111111111111111111111111111 -
+responder xor 2222222222222222222222222222222222222222222222222222222222222222 -
+",
+        "write responder -
+raw initiator 0000
+raw initiator -
+deliver responder 0 -
+raw responder 00
+raw responder -
+raw responder 01
+raw responder ff
+write responder -
+raw responder 0000
+",
+        "unwritten responder not-your-turn
+left initiator your-turn 2
+missing responder 0
+held responder 1
+held responder 1
+held responder 2
+refused responder 0 short
+unwritten responder ended
+left responder ended 2
+state initiator handshake 0
+state responder ended
+",
+    ),
+    // A one-way session: frames that are repeated, too short and foreign.
+    (
+        "protocol Noise_N_25519_ChaChaPoly_SHA256
+prologue -
+interval 0
+initiator xor 1111111111111111111111111111111111111111111111111111111111111111 -
+responder xor - 4444444444444444444444444444444444444444444444444444444444444444
+",
+        "write initiator -
+deliver responder 0 1
+deliver responder 0 0,2
+write responder -
+raw initiator 000000
+raw responder 0001ff00
+raw responder 0f000102030405060708090a0b0c0d0e00
+",
+        "wrote initiator 0 00301111111111111111111111111111111111111111111111111111111111111111ea7df000183f68f559ca5562f348f1c3
+payload responder -
+dropped responder tag
+unwritten responder one-way
+left initiator silent 3
+dropped responder short
+held responder 1
+dropped responder short
+held responder 1
+state initiator transport 0 0 038cf7ec616e3a3eb8131ce1d844fbcff37e9f3e17ad8035bd250a07acceb64d
+state responder transport 0 0 038cf7ec616e3a3eb8131ce1d844fbcff37e9f3e17ad8035bd250a07acceb64d
+",
+    ),
+    // A foreign frame in the handshake, which ends one end; the other one is open.
+    (
+        "protocol Noise_NN_25519_ChaChaPoly_SHA256
+prologue -
+interval 0
+initiator xor 1111111111111111111111111111111111111111111111111111111111111111 -
+responder xor 2222222222222222222222222222222222222222222222222222222222222222 -
+",
+        "write initiator 6869
+deliver responder 0 7
+write responder -
+raw initiator 0001ff
+write initiator -
+deliver initiator 0 -
+raw responder 0010000102030405060708090a0b0c0d0e0f
+deliver responder 7 -
+raw responder 00
+",
+        "wrote initiator 0 002211111111111111111111111111111111111111111111111111111111111111116869
+payload responder 6869
+wrote responder 0 00302222222222222222222222222222222222222222222222222222222222222222b28682addcb2b8ec6508de715e22c71d
+refused initiator 0 short
+unwritten initiator ended
+left initiator ended 50
+dropped responder tag
+missing responder 7
+held responder 1
+state initiator ended
+state responder transport 0 0 dfd299490c6aece3aa6352782a9210ba4b8ab9971f84b1896f5dcffe3a393bda
+",
+    ),
+];
+
+#[test]
+fn prints_what_a_replay_does(rt: HostRuntime) -> Result<(), Fail> {
+    let alloc = rt.alloc();
+    for (ends, events, told) in &RUNS {
+        let file = format!(in alloc; "vector 1\n{ends}{events}")?;
+        tells(&rt, alloc, &("replay", file.as_str(), 0, told, ""))?;
+    }
+    Ok(())
+}
+
+// The lines of these entries, of which the responder's.
+const LINES: [&str; 17] = [
+    "wrote responder 0 0002ffff",
+    "unwritten responder not-your-turn",
+    "unwritten responder too-long",
+    "unwritten responder agreement 3",
+    "unwritten responder ended",
+    "unwritten responder one-way",
+    "unwritten responder exhausted",
+    "payload responder 0a0a",
+    "payload responder -",
+    "dropped responder tag",
+    "refused responder 2 agreement",
+    "exhausted responder",
+    "left responder your-turn 1",
+    "left responder silent 70000",
+    "left responder ended 3",
+    "missing responder 7",
+    "held responder 65536",
+];
+
+fn entries(alloc: Global) -> Result<Vec<Entry>, AllocError> {
+    let mut entries = Vec::new(alloc);
+    entries.push(Entry::Wrote(0))?;
+    for fault in [
+        SendFault::NotYourTurn,
+        SendFault::TooLong,
+        SendFault::Agreement { token: 3 },
+        SendFault::Ended,
+        SendFault::OneWay,
+        SendFault::Exhausted,
+    ] {
+        entries.push(Entry::WriteFault(fault))?;
+    }
+    entries.push(Entry::Payload(vec![in alloc; 10u8; 2]?))?;
+    entries.push(Entry::Payload(Vec::new(alloc)))?;
+    entries.push(Entry::Dropped(Cause::Tag))?;
+    entries.push(Entry::Refused {
+        token: 2,
+        cause: Cause::Agreement,
+    })?;
+    entries.push(Entry::Exhausted)?;
+    entries.push(Entry::Left(Idle::YourTurn, 1))?;
+    entries.push(Entry::Left(Idle::Silent, 70000))?;
+    entries.push(Entry::Left(Idle::Ended, 3))?;
+    entries.push(Entry::Missing(7))?;
+    entries.push(Entry::Held(65536))?;
+    Ok(entries)
+}
+
+#[test]
+fn prints_each_entry(rt: HostRuntime) -> Result<(), Fail> {
+    let alloc = rt.alloc();
+    let mut frames = Vec::new(alloc);
+    frames.push(Vec::from_array(alloc, [0u8, 2, 255, 255])?)?;
+    let report = Report {
+        initiator: Vec::new(alloc),
+        responder: frames,
+        entries: Vec::new(alloc),
+    };
+    let entries = entries(alloc)?;
+    assert_eq!(rt; entries.len(), LINES.len());
+    for (entry, text) in entries.iter().zip(&LINES) {
+        let mut out = Vec::new(alloc);
+        let line = entry_line(alloc, &report, Role::Responder, entry)?;
+        line.write(&mut out).map_err(|_| "not written")?;
+        assert_eq!(rt; out.as_slice(), format!(in alloc; "{text}\n")?.as_bytes());
+    }
+    Ok(())
+}
