@@ -128,7 +128,11 @@ returns-in-Err-OneWay-clause-err g c v s =
     ap (λ (p : Progress). refusal p n) (sym (phase-progress g.K.Keys.public_of g.K.Keys.agreement (phase.Open c.in-Open.transport) v o))
     ∙ seal-refused (seal_fault c.in-Open.transport n) fault.OneWay told in (
       refuses v c.args.payload.now fault.OneWay why,
-      record { going = o.going; all = o.all; transport = subst (λ t. TransportStands t (transport_in v)) (sym c.in-Err-OneWay.ensures.unchanged.0) o.transport },
+      record {
+        going = o.going;
+        all = o.all;
+        transport = subst (λ t. TransportStands t (transport_in v)) (sym c.in-Err-OneWay.ensures.unchanged.0) o.transport;
+      },
     )
 
 pub returns-in-Err-TooLong-seal-clause-err : goal.returns-in-Err-TooLong-seal-clause-err
