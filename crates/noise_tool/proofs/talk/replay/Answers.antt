@@ -1,5 +1,4 @@
-use Rattle.std.proofs.Common.{rules, ◌∙◌, ap}
-use Rattle.noise_duel.specs.Acts.{events_of}
+use Rattle.std.proofs.Common.{rules}
 use Rattle.noise_tool.specs.Ends.{facing_in}
 use Rattle.noise_tool.proofs.PerformingLemmas.{has-printed}
 use Rattle.noise_tool.proofs.talk.replay.Goals as goal

@@ -1,9 +1,5 @@
-use Rattle.std.proofs.Common.{rules, ap, subst, sym, List}
-use Rattle.std.specs.List.{All}
-use Rattle.noise_duel.specs.declared.event.Event.{Event}
+use Rattle.std.proofs.Common.{rules, ap}
 use Rattle.noise_tool.specs.Ends.{facing_in}
-use Rattle.noise_tool.specs.VectorFile.{IsAllowed}
-use Rattle.noise_tool.specs.declared.vector.AllowedEvents.TheVariants.{SayOnly}
 use Rattle.noise_tool.proofs.PerformingLemmas.{has-printed, said-events}
 use Rattle.noise_tool.proofs.talk.talk.Goals as goal
 
