@@ -20,5 +20,7 @@ pub mod EquallyFar
 pub mod Transcripts
 pub mod SetUpAlike
 pub mod OwnFrames
+pub mod Happening
+pub mod Reporting
 pub mod Linking
 pub mod Received

@@ -29,12 +29,12 @@ use Rattle.noise_duel.proofs.KeysTell.{keys-tell}
 use Rattle.noise_duel.proofs.Converse.{visibly-equal-is-one}
 use Rattle.noise_duel.proofs.Prefixes.{prefix-or-forged}
 
-passes-pattern : (v w : View) (ps : List HandshakeMessage) → Exchanged v ps w → w.pattern ≡ v.pattern
+pub passes-pattern : (v w : View) (ps : List HandshakeMessage) → Exchanged v ps w → w.pattern ≡ v.pattern
 passes-pattern v w [] (none _) = refl
 passes-pattern v w (p ∷ ps) (wrote _ _ _ _ here more) = passes-pattern (behind_own v p.carried p.payload) w ps more
 passes-pattern v w (p ∷ ps) (took _ _ _ _ here more) = passes-pattern (behind_message v p.carried p.payload) w ps more
 
-passes-role : (v w : View) (ps : List HandshakeMessage) → Exchanged v ps w → w.role ≡ v.role
+pub passes-role : (v w : View) (ps : List HandshakeMessage) → Exchanged v ps w → w.role ≡ v.role
 passes-role v w [] (none _) = refl
 passes-role v w (p ∷ ps) (wrote _ _ _ _ here more) = passes-role (behind_own v p.carried p.payload) w ps more
 passes-role v w (p ∷ ps) (took _ _ _ _ here more) = passes-role (behind_message v p.carried p.payload) w ps more

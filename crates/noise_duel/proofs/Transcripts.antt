@@ -408,7 +408,14 @@ lines-come-through laws w p prologue a b interval lines notes d parts turns run 
         history = c.history ∙ behind-same laws w p p 0 0 a.secrets w.secrets v.history (start_in w p prologue) (payloads_in (length p.messages - 0) lines)
             (payloads_in (length p.messages) lines) refl refl i.secrets (start-is laws w p prologue a b i j) all;
         count = omega (arith, c.count, ap length all);
-        counterparts = c.equally_far.counterparts;
+        ends = record {
+          parties = c.equally_far.counterparts;
+          interval = c.equally_far.interval;
+          there = c.equally_far.came_there;
+          back = c.equally_far.came_back;
+          held = c.equally_far.held;
+          held_there = c.equally_far.held_there;
+        };
         there = c.equally_far.there;
         back = c.equally_far.back;
       },

@@ -19,7 +19,8 @@ use Rattle.noise_handshake.specs.declared.remote.Remote.{Remote}
 use Rattle.noise_handshake.specs.Line.{line, behind_line}
 use Rattle.noise_handshake.specs.View.{start, tokens_at, first_secret, other_secrets, own_at, remote_at, answered}
 use Rattle.noise_handshake.specs.Setup.{has_before, token_of}
-use Rattle.noise_handshake.specs.Counterparts.{is_dh, Counterparts}
+use Rattle.noise_handshake.specs.Counterparts.{is_dh}
+use Rattle.noise_session.specs.Counterparts.{EndCounterparts}
 use Rattle.noise_session.specs.Ends.{end_of}
 use Rattle.noise_session.specs.Steps.Told.{Payload}
 use Rattle.noise_session.specs.Frames.{frame}
@@ -141,7 +142,7 @@ facing p a b i j =
     record { initiator = new_side (end_of (begun_as p Initiator a) i); responder = new_side (end_of (begun_as p Responder b) j) }
 
 -- Each end has written the frames of the transcript that are its own, and what the one wrote the other has accepted. As many handshake messages have
--- passed as there were lines for, the history is that of their payloads, and the parties are counterparts: they have one history, and each knows the
+-- passed as there were lines for, the history is that of their payloads, and the ends have come equally far: they have one history, and each knows the
 -- keys that the other has sent.
 pub record ComeThrough (w : KeyMaterial) (p : Plan) (prologue : List ℕ) (interval : ℕ) (lines : List (Role × List ℕ)) (d : Sides) : Type 0 where
   pub frames : (role : Role) → (side d role).frames ≡ frames_by role (transcript w p prologue interval lines)
@@ -149,7 +150,7 @@ pub record ComeThrough (w : KeyMaterial) (p : Plan) (prologue : List ℕ) (inter
   pub responder : d.responder.passed ≡ d.initiator.passed
   pub history : d.initiator.view.party.history ≡ behind_conversation w p 0 w.secrets (start_in w p prologue) (payloads_in (length p.messages) lines)
   pub count : d.initiator.view.party.passed ≡ length (payloads_in (length p.messages) lines)
-  pub counterparts : Counterparts d.initiator.view.party d.responder.view.party
+  pub ends : EndCounterparts d.initiator.view d.responder.view
   pub there : d.responder.received ≡ d.initiator.sent
   pub back : d.initiator.received ≡ d.responder.sent
 

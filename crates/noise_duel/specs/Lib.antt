@@ -16,3 +16,6 @@ pub mod OwnFrames
 pub mod Entries
 pub mod Receiving
 pub mod OneEnd
+pub mod HeldDuel
+pub mod OneEvent
+pub mod Reports

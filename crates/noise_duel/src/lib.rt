@@ -2,6 +2,7 @@
 #![tactic(auto)]
 
 mod cuts;
+mod duel;
 mod entry;
 mod event;
 mod laws;
@@ -10,6 +11,7 @@ mod report;
 mod writing;
 
 pub use cuts::Cuts;
+pub use duel::Duel;
 pub use entry::{Entry, Idle};
 pub use event::Event;
 pub use laws::{alike_are_parts, ends_agree, ends_stand, hash_tells, lines_come_through, run_once};

@@ -1,8 +1,11 @@
 //! The report of a run.
 #![tactic(auto)]
 
+ghost use Rattle.std.specs.Prelude.{◌≡◌, []};
+
 use crate::entry::Entry;
 use noise_names::Role;
+use std::alloc::Global;
 
 /// What two ends wrote in a run, and what came of its events.
 #[derive(Debug, Drop, PartialEq, Eq)]
@@ -13,4 +16,19 @@ pub struct Report {
     pub responder: Vec<Vec<u8>>,
     /// What is told of the events, in order, each with the role that it is told of.
     pub entries: Vec<(Role, Entry)>,
+}
+
+impl Report {
+    // Before the first event.
+    pub(crate) fn new(alloc: Global) -> Report
+        ensures initiator { result.initiator.items ≡ [] }
+        ensures responder { result.responder.items ≡ [] }
+        ensures entries { result.entries.items ≡ [] }
+    {
+        Report {
+            initiator: Vec::new(alloc),
+            responder: Vec::new(alloc),
+            entries: Vec::new(alloc),
+        }
+    }
 }

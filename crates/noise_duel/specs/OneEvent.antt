@@ -1,0 +1,51 @@
+-- What comes of one event, in code: two ends and a report.
+use Rattle.std.specs.Prelude.{◌≡◌, ℕ, List, [], ◌∷◌, ◌++◌, Option, Some, None, Result, length}
+use Rattle.std.specs.Result.{result_ok}
+use Rattle.noise_names.specs.declared.token.Role.{Role}
+use Rattle.noise_handshake.specs.declared.keys.Own.{Own}
+use Rattle.noise_session.specs.declared.faults.SendFault.{SendFault}
+use Rattle.noise_session.specs.Ends.{HeldEnd, EndStands}
+use Rattle.noise_duel.specs.declared.entry.Entry.{Entry}
+use Rattle.noise_duel.specs.declared.report.Report.{Report}
+use Rattle.noise_duel.specs.Entries.{notes_of, written_note}
+use Rattle.noise_duel.specs.Events.{Event, Note, Missing, held_note, noted_by}
+use Rattle.noise_duel.specs.HeldDuel.{HeldDuel, DuelStands, HasFrames}
+use Rattle.noise_duel.specs.OneEnd.{HasReceived}
+use Rattle.noise_duel.specs.Runs.{SideWrites, SideReceives, Happens, Run}
+use Rattle.noise_duel.specs.Sides.{Side, Sides, side, with_side}
+
+module _ {K : Type 0} (public_of : K → Own → Option (List ℕ)) (agreement : K → Own → List ℕ → Option (List ℕ)) where
+  -- A frame comes to this side, or none of that number was written: then the end is as it was, and the entries are told so.
+  abbrev pub HasTaken : Side → Role → ℕ → Option (List ℕ) → HeldEnd K → List (Role × Entry) → List (Role × Entry) → Type 0
+  HasTaken s role n (Some bytes) end before after = HasReceived public_of agreement s role bytes end before after
+  HasTaken s role n None end before after =
+      EndStands public_of agreement end s.view × (notes_of after ≡ notes_of before ++ (role, Missing n) ∷ [])
+
+module _ {A B : Type 0} (public_a : A → Own → Option (List ℕ)) (agreement_a : A → Own → List ℕ → Option (List ℕ))
+    (public_b : B → Own → Option (List ℕ)) (agreement_b : B → Own → List ℕ → Option (List ℕ)) where
+  -- Behind a write of this role the ends and the report are others; the number is that of its frame.
+  pub record RoleWrote (d : Sides) (role : Role) (payload : List ℕ) (number : Option ℕ) (duel : HeldDuel A B) (before after : Report) : Type 0 where
+    pub told : Result ℕ SendFault
+    pub number_is : number ≡ result_ok told
+    pub next : Side
+    pub writes : SideWrites (side d role) payload (written_note told) next
+    pub stands : DuelStands public_a agreement_a public_b agreement_b duel (with_side d role next)
+    pub frames : HasFrames after (with_side d role next)
+    pub entries : notes_of after.entries.items ≡ notes_of before.entries.items ++ (role, written_note told) ∷ []
+
+  -- Behind an event the ends and the report are others.
+  pub record HasHappened (d : Sides) (event : Event) (duel : HeldDuel A B) (before after : Report) : Type 0 where
+    pub next : Sides
+    pub notes : List (Role × Note)
+    pub happens : Happens d event notes next
+    pub stands : DuelStands public_a agreement_a public_b agreement_b duel next
+    pub frames : HasFrames after next
+    pub entries : notes_of after.entries.items ≡ notes_of before.entries.items ++ notes
+
+  -- So far: whatever comes of the events that are left comes, behind the notes so far, of all events.
+  pub record HasComeTo (d : Sides) (events rest : List Event) (duel : HeldDuel A B) (report : Report) : Type 0 where
+    pub now : Sides
+    pub goes_on : (notes : List (Role × Note)) (last : Sides) → Run now rest notes last
+        → Run d events (notes_of report.entries.items ++ notes) last
+    pub stands : DuelStands public_a agreement_a public_b agreement_b duel now
+    pub frames : HasFrames report now

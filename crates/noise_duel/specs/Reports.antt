@@ -1,0 +1,81 @@
+-- What a run of two ends reports and leaves.
+use Rattle.std.specs.Prelude.{◌≡◌, ◌⊎◌, ℕ, List, length, Option, Some, None, if◌then◌else◌}
+use Rattle.noise_names.specs.declared.token.Role.{Role}
+use Rattle.noise_names.specs.declared.token.Role.TheVariants.{Initiator, Responder}
+use Rattle.noise_names.specs.declared.token.Token.TheVariants.{S}
+use Rattle.noise_names.specs.Plan.{Plan}
+use Rattle.noise_names.specs.Validity.{is_among}
+use Rattle.noise_handshake.specs.declared.keys.Own.{Own}
+use Rattle.noise_handshake.specs.declared.keys.Own.TheVariants.{Static}
+use Rattle.noise_handshake.specs.Passed.{passed_places}
+use Rattle.noise_session.specs.declared.phase.Phase.{Phase}
+use Rattle.noise_session.specs.declared.phase.Phase.TheVariants as phase
+use Rattle.noise_session.specs.Ends.{hash_in, remote_static_in}
+use Rattle.noise_duel.specs.declared.report.Report.{Report}
+use Rattle.noise_duel.specs.Agreement.{VisiblyEqual}
+use Rattle.noise_duel.specs.Conversation.{KeyMaterial, ComeThrough, frames_by, notes_of_lines, payloads_in, transcript}
+use Rattle.noise_duel.specs.Entries.{bytes_of, notes_of}
+use Rattle.noise_duel.specs.Events.{Event}
+use Rattle.noise_duel.specs.HeldDuel.{HeldDuel, DuelStands, HasFrames}
+use Rattle.noise_duel.specs.Invariant.{ComesOfMessages}
+use Rattle.noise_duel.specs.Messages.{Start, begun_as, keys_before, messages_of}
+use Rattle.noise_duel.specs.Networks.{HaveOneHash, HaveOneHistory, HistoriesCollide, PayloadsAgree, ShareSecrets, UsedSameSecrets}
+use Rattle.noise_duel.specs.OwnFrames.{FramesAreOwn}
+use Rattle.noise_duel.specs.Runs.{Run}
+use Rattle.noise_duel.specs.Sides.{Sides}
+
+-- What holds at the end of a run of two new ends of one pattern, over any network; their prologues, keys, secrets and intervals may differ.
+pub record EndsAgree (p : Plan) (a b : Start) (i j : ℕ) (last : Sides) : Type 0 where
+  -- each end is what the messages made of it that it wrote and accepted, and its frames are those of its own messages
+  pub initiator : ComesOfMessages (begun_as p Initiator a) i last.initiator
+  pub responder : ComesOfMessages (begun_as p Responder b) j last.responder
+  pub initiator_frames : FramesAreOwn last.initiator
+  pub responder_frames : FramesAreOwn last.responder
+  -- with equal hashes: the conversation is the same as far as it can be seen, or two hashed texts collide
+  pub seen : HaveOneHash last → VisiblyEqual p a b last.initiator.passed last.responder.passed ⊎ HistoriesCollide last
+  -- conversely: where it is the same as far as it can be seen, with the same secrets and answers, there is one history, and so one hash
+  pub back : a.prologue ≡ b.prologue → ((party : Role) → keys_before p Initiator a party ≡ keys_before p Responder b party)
+      → messages_of last.initiator.passed ≡ messages_of last.responder.passed → UsedSameSecrets p a b last → HaveOneHistory last
+  -- with equal hashes and the same secrets: all of the conversation is the same, what travelled encrypted too, or two hashed texts collide
+  pub one : HaveOneHash last → ShareSecrets p a b last → HaveOneHistory last ⊎ HistoriesCollide last
+  -- and with equal intervals: each end's accepted payloads are the first of those that the other wrote, in order, up to a forged message
+  pub payloads : i ≡ j → HaveOneHash last → ShareSecrets p a b last → PayloadsAgree i last ⊎ HistoriesCollide last
+
+-- a party's static key, where its pre-message or one of the first so many messages has it
+abbrev pub static_shown : KeyMaterial → Plan → Role → ℕ → Option (List ℕ)
+static_shown w p party passed = if is_among party S (passed_places p passed) then Some (w.public party Static) else None
+
+-- the key of the next transport message that an end writes, and of the next that it accepts; none where it isn't open
+abbrev pub send_key_in : {K : Type 0} → Phase K → Option (List ℕ)
+send_key_in (phase.Open t) = t.send_key
+send_key_in _ = None
+
+abbrev pub receive_key_in : {K : Type 0} → Phase K → Option (List ℕ)
+receive_key_in (phase.Open t) = t.receive_key
+receive_key_in _ = None
+
+module _ {A B : Type 0} (public_a : A → Own → Option (List ℕ)) (agreement_a : A → Own → List ℕ → Option (List ℕ))
+    (public_b : B → Own → Option (List ℕ)) (agreement_b : B → Own → List ℕ → Option (List ℕ)) where
+  -- The report tells what a run makes of two ends, and the ends left stand for the views behind it.
+  pub record Reports (d : Sides) (events : List Event) (duel : HeldDuel A B) (report : Report) : Type 0 where
+    pub last : Sides
+    pub run : Run d events (notes_of report.entries.items) last
+    pub frames : HasFrames report last
+    pub stands : DuelStands public_a agreement_a public_b agreement_b duel last
+
+  -- All lines have come through: the report has just each line as written and then as accepted, with its payload, and the frames of the transcript; the
+  -- ends left have come equally far, with one history, and so with equal hashes and keys, and each knows the other's static key once it was shown.
+  pub record HaveComeThrough (w : KeyMaterial) (p : Plan) (prologue : List ℕ) (interval : ℕ) (lines : List (Role × List ℕ))
+      (duel : HeldDuel A B) (report : Report) : Type 0 where
+    pub entries : notes_of report.entries.items ≡ notes_of_lines 0 0 lines
+    pub initiator_frames : bytes_of report.initiator.items ≡ frames_by Initiator (transcript w p prologue interval lines)
+    pub responder_frames : bytes_of report.responder.items ≡ frames_by Responder (transcript w p prologue interval lines)
+    pub last : Sides
+    pub stands : DuelStands public_a agreement_a public_b agreement_b duel last
+    pub through : ComeThrough w p prologue interval lines last
+    pub history : last.responder.view.party.history ≡ last.initiator.view.party.history
+    pub hash : hash_in duel.responder.phase ≡ hash_in duel.initiator.phase
+    pub keys_there : receive_key_in duel.responder.phase ≡ send_key_in duel.initiator.phase
+    pub keys_back : receive_key_in duel.initiator.phase ≡ send_key_in duel.responder.phase
+    pub initiator_knows : remote_static_in duel.initiator.phase ≡ static_shown w p Responder (length (payloads_in (length p.messages) lines))
+    pub responder_knows : remote_static_in duel.responder.phase ≡ static_shown w p Initiator (length (payloads_in (length p.messages) lines))

@@ -1,0 +1,280 @@
+//! Two ends of a session, and what events make of them.
+#![tactic(auto)]
+
+ghost use Rattle.std.specs.Prelude.{◌≡◌, ℕ, List, IfOk, OnOk, slice_get};
+ghost use Rattle.noise_names.specs.declared.token.Role.TheVariants.{Initiator, Responder};
+ghost use Rattle.noise_names.specs.Plan.{Plan};
+ghost use Rattle.noise_session.specs.Ends.{EndView, EndStands, progress};
+ghost use Rattle.noise_session.specs.Progress.{role_of};
+ghost use Rattle.noise_duel.specs.Acts.{event_of, events_of, lines_of};
+ghost use Rattle.noise_duel.specs.Conversation.{KeyMaterial, HaveParts, InTurn, facing, say_events};
+ghost use Rattle.noise_duel.specs.Entries.{bytes_of};
+ghost use Rattle.noise_duel.specs.Events.{Deliver, Raw, Say};
+ghost use Rattle.noise_duel.specs.HeldDuel.{DuelStands, HasFrames, facing_as};
+ghost use Rattle.noise_duel.specs.Messages.{Start};
+ghost use Rattle.noise_duel.specs.OneEvent.{HasHappened, HasTaken, RoleWrote};
+ghost use Rattle.noise_duel.specs.Reports.{EndsAgree, HaveComeThrough, Reports};
+ghost use Rattle.noise_duel.specs.Sides.{Side, Sides};
+
+use crate::cuts::Cuts;
+use crate::entry::Entry;
+use crate::event::Event;
+use crate::laws::{ends_agree, ends_stand, lines_come_through};
+use crate::receiving::receive;
+use crate::report::Report;
+use crate::writing::write;
+use noise_handshake::Keys;
+use noise_names::Role;
+use noise_session::{End, end_is_told};
+use std::alloc::{AllocError, Global};
+use std::marker::Model;
+
+/// Two ends of one session, and nothing between them: what the one writes comes to the other only by an event.
+#[derive(Drop)]
+pub struct Duel<A: Keys, B: Keys> {
+    initiator: End<A>,
+    responder: End<B>,
+}
+
+impl<A: Keys, B: Keys> Model for Duel<A, B> {
+    ghost use Rattle.noise_duel.specs.HeldDuel.{HeldDuel};
+
+    ghost Value = { HeldDuel A B };
+
+    ghost view = { λ d. record { initiator = d.initiator; responder = d.responder } };
+}
+
+impl<A: Keys, B: Keys> Duel<A, B> {
+    /// These two ends: the first is the initiator's, the second the responder's.
+    pub fn new(initiator: End<A>, responder: End<B>) -> Duel<A, B>
+        requires first { role_of (progress initiator) ≡ Initiator }
+        requires second { role_of (progress responder) ≡ Responder }
+        ensures { result ≡ record { initiator = initiator; responder = responder } }
+    {
+        Duel {
+            initiator,
+            responder,
+        }
+    }
+
+    /// The initiator's end.
+    pub fn initiator(&self) -> &End<A>
+        ensures { result.now ≡ self.now.initiator }
+    {
+        &self.initiator
+    }
+
+    /// The responder's end.
+    pub fn responder(&self) -> &End<B>
+        ensures { result.now ≡ self.now.responder }
+    {
+        &self.responder
+    }
+
+    /// Runs events, one after another, and tells what came of each; frames are counted anew. Nothing stops the run but want of memory, at which the ends
+    /// are gone.
+    ///
+    /// Whatever the events are: where two new ends of one pattern have opened with one hash, they have had the same conversation (Noise, 11.2), or two
+    /// texts that they hashed collide.
+    pub fn run(
+        mut self,
+        alloc: Global,
+        events: &[Event],
+    ) -> Result<(Duel<A, B>, Report), AllocError>
+        ensures reports { (v w : EndView) → DuelStands A.public_of A.agreement B.public_of B.agreement self (facing_as v w)
+            → IfOk result (λ r. Reports A.public_of A.agreement B.public_of B.agreement (facing_as v w) (events_of events.now) r.0 r.1) }
+        ensures agrees { (p : Plan) (a b : Start) (i j : ℕ) → DuelStands A.public_of A.agreement B.public_of B.agreement self (facing p a b i j)
+            → IfOk result (λ r. (left : Reports A.public_of A.agreement B.public_of B.agreement (facing p a b i j) (events_of events.now) r.0 r.1)
+            × EndsAgree p a b i j left.last) }
+    {
+        let mut report = Report::new(alloc);
+        for event in events {
+            self.apply(alloc, event, &mut report)?;
+        }
+        ends_stand();
+        ends_agree();
+        Ok((self, report))
+    }
+
+    /// Runs a conversation: each line is a payload that its role writes, whose frame comes to the other end at once, in these pieces. A line that isn't
+    /// written, or isn't accepted, is told of, and the next one follows.
+    ///
+    /// Between two new ends with their parts of one key material, lines in turn that fit all come through.
+    pub fn converse(
+        mut self,
+        alloc: Global,
+        lines: &[(Role, Vec<u8>, Cuts)],
+    ) -> Result<(Duel<A, B>, Report), AllocError>
+        ensures reports { (v w : EndView) → DuelStands A.public_of A.agreement B.public_of B.agreement self (facing_as v w)
+            → IfOk result (λ r. Reports A.public_of A.agreement B.public_of B.agreement (facing_as v w) (say_events (lines_of lines.now)) r.0 r.1) }
+        ensures comes_through { (w : KeyMaterial) (p : Plan) (prologue : List ℕ) (a b : Start) (interval : ℕ)
+            → HaveParts w p prologue a b → InTurn p 0 (lines_of lines.now)
+            → DuelStands A.public_of A.agreement B.public_of B.agreement self (facing p a b interval interval)
+            → IfOk result (λ r. HaveComeThrough A.public_of A.agreement B.public_of B.agreement w p prologue interval (lines_of lines.now) r.0 r.1) }
+    {
+        let mut report = Report::new(alloc);
+        for (role, payload, cuts) in lines {
+            self.say(alloc, *role, payload.as_slice(), cuts, &mut report)?;
+        }
+        ends_stand();
+        lines_come_through();
+        end_is_told::<A>();
+        end_is_told::<B>();
+        Ok((self, report))
+    }
+
+    // What comes of one event.
+    fn apply(&mut self, alloc: Global, event: &Event, report: &mut Report) -> Result<(), AllocError>
+        ensures { (d : Sides) → DuelStands A.public_of A.agreement B.public_of B.agreement self.old d → HasFrames report.old d
+            → OnOk result (HasHappened A.public_of A.agreement B.public_of B.agreement d (event_of event.now) self.new report.old report.new) }
+    {
+        match event {
+            Event::Write(role, payload) => {
+                self.write(alloc, *role, payload.as_slice(), report)?;
+                Ok(())
+            }
+            Event::Say(role, payload, cuts) => {
+                self.say(alloc, *role, payload.as_slice(), cuts, report)
+            }
+            Event::Deliver(role, number, cuts) => self.deliver(alloc, *role, *number, cuts, report),
+            Event::Raw(role, bytes) => self.hand_over(alloc, *role, bytes.as_slice(), report),
+        }
+    }
+
+    // This role writes a payload; the answer is its frame's number.
+    fn write(
+        &mut self,
+        alloc: Global,
+        role: Role,
+        payload: &[u8],
+        report: &mut Report,
+    ) -> Result<Option<usize>, AllocError>
+        ensures { (d : Sides) → DuelStands A.public_of A.agreement B.public_of B.agreement self.old d → HasFrames report.old d → IfOk result (λ number.
+            RoleWrote A.public_of A.agreement B.public_of B.agreement d role payload.now number self.new report.old report.new) }
+    {
+        let told = match role {
+            Role::Initiator => write(alloc, &mut self.initiator, payload, &mut report.initiator)?,
+            Role::Responder => write(alloc, &mut self.responder, payload, &mut report.responder)?,
+        };
+        match told {
+            Ok(number) => {
+                report.entries.push((role, Entry::Wrote(number)))?;
+                Ok(Some(number))
+            }
+            Err(fault) => {
+                report.entries.push((role, Entry::WriteFault(fault)))?;
+                Ok(None)
+            }
+        }
+    }
+
+    // This role writes a payload, and its frame comes to the other role at once.
+    fn say(
+        &mut self,
+        alloc: Global,
+        role: Role,
+        payload: &[u8],
+        cuts: &Cuts,
+        report: &mut Report,
+    ) -> Result<(), AllocError>
+        ensures { (d : Sides) → DuelStands A.public_of A.agreement B.public_of B.agreement self.old d → HasFrames report.old d
+            → OnOk result (HasHappened A.public_of A.agreement B.public_of B.agreement d (Say role payload.now) self.new report.old report.new) }
+    {
+        match self.write(alloc, role, payload, report)? {
+            Some(number) => self.deliver(alloc, role.other(), number, cuts, report),
+            None => Ok(()),
+        }
+    }
+
+    // The frame of this number that the other role wrote comes to this role.
+    fn deliver(
+        &mut self,
+        alloc: Global,
+        role: Role,
+        number: usize,
+        cuts: &Cuts,
+        report: &mut Report,
+    ) -> Result<(), AllocError>
+        ensures { (d : Sides) → DuelStands A.public_of A.agreement B.public_of B.agreement self.old d → HasFrames report.old d
+            → OnOk result (HasHappened A.public_of A.agreement B.public_of B.agreement d (Deliver role number) self.new report.old report.new) }
+    {
+        match role {
+            Role::Initiator => {
+                take_frame(
+                    alloc,
+                    role,
+                    &mut self.initiator,
+                    report.responder.as_slice(),
+                    number,
+                    cuts,
+                    &mut report.entries,
+                )
+            }
+            Role::Responder => {
+                take_frame(
+                    alloc,
+                    role,
+                    &mut self.responder,
+                    report.initiator.as_slice(),
+                    number,
+                    cuts,
+                    &mut report.entries,
+                )
+            }
+        }
+    }
+
+    // Any bytes come to this role, in one piece.
+    fn hand_over(
+        &mut self,
+        alloc: Global,
+        role: Role,
+        bytes: &[u8],
+        report: &mut Report,
+    ) -> Result<(), AllocError>
+        ensures { (d : Sides) → DuelStands A.public_of A.agreement B.public_of B.agreement self.old d → HasFrames report.old d
+            → OnOk result (HasHappened A.public_of A.agreement B.public_of B.agreement d (Raw role bytes.now) self.new report.old report.new) }
+    {
+        let whole = Cuts::whole();
+        match role {
+            Role::Initiator => receive(
+                alloc,
+                role,
+                &mut self.initiator,
+                bytes,
+                &whole,
+                &mut report.entries,
+            ),
+            Role::Responder => receive(
+                alloc,
+                role,
+                &mut self.responder,
+                bytes,
+                &whole,
+                &mut report.entries,
+            ),
+        }
+    }
+}
+
+// The frame of this number comes to an end, if there is one.
+fn take_frame<K: Keys>(
+    alloc: Global,
+    role: Role,
+    end: &mut End<K>,
+    frames: &[Vec<u8>],
+    number: usize,
+    cuts: &Cuts,
+    entries: &mut Vec<(Role, Entry)>,
+) -> Result<(), AllocError>
+    ensures { (s : Side) → EndStands K.public_of K.agreement end.old s.view
+        → OnOk result (HasTaken K.public_of K.agreement s role number (slice_get (bytes_of frames.now) number) end.new entries.old.items entries.new.items) }
+{
+    match frames.get(number) {
+        Some(frame) => receive(alloc, role, end, frame.as_slice(), cuts, entries),
+        None => {
+            entries.push((role, Entry::Missing(number)))?;
+            Ok(())
+        }
+    }
+}
