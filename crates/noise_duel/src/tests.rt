@@ -4,7 +4,7 @@
 use crate::{Cuts, Duel, Entry, Event, Idle, Report};
 use Role::{Initiator, Responder};
 use noise_handshake::{Cause, Handshake, Remote, XorKeys};
-use noise_names::{Pattern, PskPlaces, Role, fundamental};
+use noise_names::{Pattern, PskPlaces, Role, ValidPattern, fundamental};
 use noise_session::{End, SendFault, Transport};
 use std::alloc::{AllocError, Global};
 use std::process::Abort;
@@ -95,25 +95,41 @@ const PLAIN: Made<'static> = Made {
 };
 
 // NN, or NNpsk0 where there is a secret.
-fn pattern_of(made: Made<'_>) -> Result<Pattern, Fail> {
+fn pattern_of(made: Made<'_>) -> Result<ValidPattern, Fail> {
     let base = fundamental(b"NN").ok_or("no pattern")?;
     if made.psks.is_empty() {
-        return Ok(base);
+        return Ok(base.check()?);
     }
     let places = PskPlaces::new(&[0]).ok_or("no places")?;
-    Ok(Pattern::with_psks(&base, &places)?)
+    Ok(Pattern::with_psks(&base, &places)?.check()?)
 }
 
-// A new end, whose ephemeral public key has this byte throughout.
-fn new_end(alloc: Global, role: Role, byte: u8, made: Made<'_>) -> Result<End<XorKeys>, Fail> {
+// A new end of this handshake.
+fn end_of(
+    rt: &impl Abort,
+    alloc: Global,
+    handshake: Handshake<XorKeys>,
+    interval: u64,
+) -> Result<End<XorKeys>, AllocError> {
+    assert!(rt; !handshake.ended());
+    End::new(alloc, handshake, interval)
+}
+
+// A party whose ephemeral public key has this byte throughout.
+fn party(
+    rt: &impl Abort,
+    role: Role,
+    byte: u8,
+    made: Made<'_>,
+) -> Result<Handshake<XorKeys>, Fail> {
+    assert!(rt; made.prologue.len() < 100);
     let keys = XorKeys {
         e: Some([byte; 32]),
         s: None,
     };
     let remote = Remote { e: None, s: None };
-    let pattern = pattern_of(made)?.check()?;
-    let handshake = Handshake::new(pattern, role, made.prologue, keys, remote, made.psks)?;
-    Ok(End::new(alloc, handshake, made.interval)?)
+    let pattern = pattern_of(made)?;
+    Ok(Handshake::new(pattern, role, made.prologue, keys, remote, made.psks)?)
 }
 
 fn between(rt: &impl Abort, first: End<XorKeys>, second: End<XorKeys>) -> Ends {
@@ -123,9 +139,19 @@ fn between(rt: &impl Abort, first: End<XorKeys>, second: End<XorKeys>) -> Ends {
 }
 
 fn pair(rt: &impl Abort, alloc: Global, first: Made<'_>, second: Made<'_>) -> Result<Ends, Fail> {
-    let first = new_end(alloc, Initiator, 0x11, first)?;
-    let second = new_end(alloc, Responder, 0x22, second)?;
-    Ok(between(rt, first, second))
+    let one = end_of(
+        rt,
+        alloc,
+        party(rt, Initiator, 0x11, first)?,
+        first.interval,
+    )?;
+    let two = end_of(
+        rt,
+        alloc,
+        party(rt, Responder, 0x22, second)?,
+        second.interval,
+    )?;
+    Ok(between(rt, one, two))
 }
 
 // The initiator's first frame with the payload `hi`.
@@ -386,7 +412,9 @@ fn one_way() -> Result<(Handshake<XorKeys>, Handshake<XorKeys>), Fail> {
 fn nothing_comes_to_a_one_way_initiator(rt: HostRuntime) -> Result<(), Fail> {
     let alloc = rt.alloc();
     let (first, second) = one_way()?;
-    let duel = between(&rt, End::new(alloc, first, 0)?, End::new(alloc, second, 0)?);
+    let first = end_of(&rt, alloc, first, 0)?;
+    let second = end_of(&rt, alloc, second, 0)?;
+    let duel = between(&rt, first, second);
     let acts = [
         Act::Say(Initiator, b"hi"),
         Act::Raw(Initiator, b"abc"),
