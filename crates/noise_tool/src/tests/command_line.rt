@@ -72,16 +72,18 @@ const TEXTS: [(&str, &str); 6] = [
 fn tells_what_it_is_asked_for(rt: HostRuntime) -> Result<(), Fail> {
     let alloc = rt.alloc();
     for (words, part) in &TEXTS {
-        match chosen(alloc, words_of(alloc, words)?) {
-            Err(LineFault::Line(error)) => {
-                assert!(rt; !error.use_stderr());
-                let text = format!(in alloc; "{error}")?;
-                assert!(rt; text.as_str().contains(*part), "{text}");
-            }
-            _ => assert!(rt; false, "{words}"),
-        }
+        let fault = chosen(alloc, words_of(alloc, words)?).err().ok_or("taken")?;
+        let text = text_of(alloc, fault)?;
+        assert!(rt; text.as_str().contains(*part), "{text}");
     }
     Ok(())
+}
+
+fn text_of(alloc: Global, fault: LineFault) -> Result<String, AllocError> {
+    match fault {
+        LineFault::Memory => Err(AllocError),
+        LineFault::Line(error) => format!(in alloc; "{error}"),
+    }
 }
 
 fn kind_of(fault: LineFault) -> Option<ErrorKind> {
