@@ -10,7 +10,7 @@ use std::alloc::{AllocError, Global};
 use std::test::Fail;
 
 // The lines of a file behind its first, its events, and what a run of them prints.
-const RUNS: [(&str, &str, &str); 4] = [
+const RUNS: [(&str, &str, &str); 5] = [
     // A DH without an answer.
     (
         "protocol Noise_NN_25519_ChaChaPoly_SHA256
@@ -121,6 +121,64 @@ missing responder 7
 held responder 1
 state initiator ended
 state responder transport 0 0 dfd299490c6aece3aa6352782a9210ba4b8ab9971f84b1896f5dcffe3a393bda
+",
+    ),
+    // Transport messages that are lost, repeated, exchanged, changed and foreign, with keys that are renewed.
+    (
+        "protocol Noise_XX_25519_ChaChaPoly_SHA256
+prologue 6c6f7374
+interval 2
+initiator xor 1111111111111111111111111111111111111111111111111111111111111111 3333333333333333333333333333333333333333333333333333333333333333
+responder xor 2222222222222222222222222222222222222222222222222222222222222222 4444444444444444444444444444444444444444444444444444444444444444
+",
+        "write initiator -
+deliver responder 0 1
+say responder - -
+say initiator - 32
+write initiator 6f6e65
+write initiator 74776f
+write initiator 7468726565
+deliver responder 3 -
+deliver responder 2 1
+deliver responder 2 -
+deliver responder 4 2,3
+deliver responder 3 16
+raw responder 0010000102030405060708090a0b0c0d0e0f
+raw responder 00
+raw responder 02aabb
+raw responder 0015725d9b972d785ceb2aab304f65af776a3a617b3a65
+deliver responder 4 -
+write responder 61636b
+deliver initiator 2 -
+deliver initiator 1 0,2,0
+deliver initiator 1 -
+raw initiator -
+",
+        "wrote initiator 0 00201111111111111111111111111111111111111111111111111111111111111111
+payload responder -
+wrote responder 0 00602222222222222222222222222222222222222222222222222222222222222222024062932a82331cb7943eb5d61721a3954369945f86d74510869b1c99a467683926dd4c346199b7b6bb553ea448874fe6f0456b2de630e335a9bd6fcbce5d19
+payload initiator -
+wrote initiator 1 00403cd6abae079b3ba9584f588bb5fafdf01089cbefceeda879d70a6d520100f638aa24a72c027c6d40f82ae1b55dfe9ad345b294152a9eaa0e0fc7d0801214a9ae
+payload responder -
+wrote initiator 2 0013e77f827cf1fb704a7ee6e788dc4b3b388396c6
+wrote initiator 3 001324e49003574caadc018cefd7ce919cc030a863
+wrote initiator 4 0015725d9b972d785ceb2aab304f65af776a3a617b3a64
+dropped responder tag
+payload responder 6f6e65
+dropped responder tag
+dropped responder tag
+payload responder 74776f
+dropped responder tag
+held responder 1
+dropped responder short
+dropped responder tag
+payload responder 7468726565
+wrote responder 1 001366fe75183bdea876514da222ee133bd82f5c33
+missing initiator 2
+payload initiator 61636b
+dropped initiator tag
+state initiator transport 3 1 515e9b552714a3b46385cb283743a1150e411eb8d774a88d96f93938049fbe8c
+state responder transport 1 3 515e9b552714a3b46385cb283743a1150e411eb8d774a88d96f93938049fbe8c
 ",
     ),
 ];
