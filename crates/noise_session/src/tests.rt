@@ -1,6 +1,7 @@
 //! The frames of two ends of NN, with values worked by hand.
 #![tactic(auto)]
 
+mod datagrams;
 mod streams;
 mod transport;
 
