@@ -9,8 +9,16 @@ use noise_session::SendFault;
 use std::alloc::{AllocError, Global};
 use std::test::Fail;
 
-// The lines of a file behind its first, its events, and what a run of them prints.
-const RUNS: [(&str, &str, &str); 5] = [
+// The lines of a file of NN behind its first, before its events.
+const NN: &str = "protocol Noise_NN_25519_ChaChaPoly_SHA256
+prologue -
+interval 0
+initiator xor 1111111111111111111111111111111111111111111111111111111111111111 -
+responder xor 2222222222222222222222222222222222222222222222222222222222222222 -
+";
+
+// Such lines, the events behind them, and what a run of them prints.
+const RUNS: [(&str, &str, &str); 9] = [
     // A DH without an answer.
     (
         "protocol Noise_NN_25519_ChaChaPoly_SHA256
@@ -33,12 +41,7 @@ state responder ended
     ),
     // Whose turn it is, frames that were never written, and pieces of frames.
     (
-        "protocol Noise_NN_25519_ChaChaPoly_SHA256
-prologue -
-interval 0
-initiator xor 1111111111111111111111111111111111111111111111111111111111111111 -
-responder xor 2222222222222222222222222222222222222222222222222222222222222222 -
-",
+        NN,
         "write responder -
 raw initiator 0000
 raw initiator -
@@ -94,12 +97,7 @@ state responder transport 0 0 038cf7ec616e3a3eb8131ce1d844fbcff37e9f3e17ad8035bd
     ),
     // A foreign frame in the handshake, which ends one end; the other one is open.
     (
-        "protocol Noise_NN_25519_ChaChaPoly_SHA256
-prologue -
-interval 0
-initiator xor 1111111111111111111111111111111111111111111111111111111111111111 -
-responder xor 2222222222222222222222222222222222222222222222222222222222222222 -
-",
+        NN,
         "write initiator 6869
 deliver responder 0 7
 write responder -
@@ -179,6 +177,56 @@ payload initiator 61636b
 dropped initiator tag
 state initiator transport 3 1 515e9b552714a3b46385cb283743a1150e411eb8d774a88d96f93938049fbe8c
 state responder transport 1 3 515e9b552714a3b46385cb283743a1150e411eb8d774a88d96f93938049fbe8c
+",
+    ),
+    // A byte too early, and then a frame.
+    (
+        NN,
+        "write initiator 6869
+raw responder 00
+deliver responder 0 -
+",
+        "wrote initiator 0 002211111111111111111111111111111111111111111111111111111111111111116869
+held responder 1
+refused responder 0 short
+left responder ended 35
+state initiator handshake 1
+state responder ended
+",
+    ),
+    // A frame that nobody wrote.
+    (
+        NN,
+        "deliver responder 3 -
+",
+        "missing responder 3
+state initiator handshake 0
+state responder handshake 0
+",
+    ),
+    // More bytes than a frame has.
+    (
+        NN,
+        "raw responder 0022111111111111111111111111111111111111111111111111111111111111111168690102030405
+",
+        "payload responder 6869
+left responder your-turn 5
+state initiator handshake 0
+state responder handshake 1
+",
+    ),
+    // A handshake frame that is delivered twice.
+    (
+        NN,
+        "write initiator -
+deliver responder 0 7
+deliver responder 0 7
+",
+        "wrote initiator 0 00201111111111111111111111111111111111111111111111111111111111111111
+payload responder -
+left responder your-turn 34
+state initiator handshake 1
+state responder handshake 1
 ",
     ),
 ];
