@@ -148,7 +148,7 @@ raw responder 0015725d9b972d785ceb2aab304f65af776a3a617b3a65
 deliver responder 4 -
 write responder 61636b
 deliver initiator 2 -
-deliver initiator 1 0,2,0
+deliver initiator 1 0,2,1
 deliver initiator 1 -
 raw initiator -
 ",
