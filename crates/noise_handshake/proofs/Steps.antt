@@ -1,9 +1,10 @@
 -- The steps of reading, as the code's values have them.
 use Rattle.std.proofs.Common.{◌≡◌, ℕ, suc, ◌+◌, ◌-◌, ◌<◌, ◌≤◌, List, [], ◌∷◌, ◌++◌, length, take, drop, refl, ap, sym, subst, ◌∙◌, arith, add-one}
-use Rattle.std.proofs.Common.{drop-drop, length-take}
-use Rattle.std.proofs.lemmas.List.{take-append-le}
+use Rattle.std.proofs.Common.{drop-drop, length-take, length-drop, append-nil}
+use Rattle.std.proofs.lemmas.List.{take-append-le, drop_at, length-take-le, nil_from_length}
 use Rattle.std.proofs.Math.Seq.{drop-append_seam}
 use Rattle.std.specs.Prelude.{is_some}
+use borrow.Rule.Slice.PartMut.{put_mid}
 use Rattle.noise_names.specs.declared.token.Token.{Token}
 use Rattle.noise_state.specs.History.{History, cipher_key}
 use Rattle.noise_handshake.specs.declared.remote.Remote.{Remote}
@@ -28,6 +29,23 @@ written-at m buf post n len h b =
     ap (λ (k : ℕ). drop k (take n m ++ (buf ++ post))) (sym whole) ∙ drop-append_seam (take n m) (buf ++ post) in
     let count : (n + len) - n ≡ len = omega arith in
     ap (λ (k : ℕ). take k (drop n (take n m ++ (buf ++ post)))) count ∙ ap (take len) behind ∙ take-append-le len buf post b
+
+-- a list whose bytes from n on were written anew, but for those that stand behind the first len of them
+pub rest-at : (m buf : List ℕ) (n len : ℕ) → n ≤ length m → drop len buf ≡ drop len (drop n m)
+    → drop (n + len) (put_mid n (length m - n) m buf) ≡ drop (n + len) m
+rest-at m buf n len h rest =
+    sym (drop-drop len n (put_mid n (length m - n) m buf))
+    ∙ ap (drop len) (behind-at m buf n h)
+    ∙ rest
+    ∙ drop-drop len n m
+  where
+    behind-at : (m buf : List ℕ) (n : ℕ) → n ≤ length m → drop n (put_mid n (length m - n) m buf) ≡ buf
+    behind-at m buf n h =
+        let post = drop (length m - n) (drop n m) in
+        let none : length post ≡ 0 = omega (arith, length-drop (length m - n) (drop n m), length-drop n m) in
+        drop_at (take n m) (buf ++ post) n (length-take-le n m h)
+        ∙ ap (λ (p : List ℕ). buf ++ p) (nil_from_length post none)
+        ∙ append-nil buf
 
 module _ (v : Reader) (known known2 : Remote) (secrets secrets2 : List (List ℕ)) (r : History) (tokens ts : List Token) (t : Token) (x m m2 : List ℕ) (n : ℕ)
     (split : tokens ≡ t ∷ ts) (fits : Fits v known secrets t x) (spelled : m ≡ token_piece r t x ++ drop n m)

@@ -216,13 +216,16 @@ impl<K: Keys> Handshake<K> {
         }
     }
 
-    /// Reads a message in place, and tells from where to where its payload then stands in it, in bytes.
+    /// Reads a message in place, and tells from where to where its payload then stands in it, in bytes. The bytes in front of
+    /// the payload and behind it stay as they are: an encrypted static key isn't decrypted there.
     ///
     /// The message has at most 65535 bytes. At an `Err` its bytes are unchanged. `Refused` ends the handshake, and the
     /// other faults leave it as it was.
     pub fn read_within(&mut self, message: &mut [u8]) -> Result<(usize, usize), ReadFault>
         requires { length message.old ≤ 65535 }
         ensures range { IfOk result (λ place. (place.0 ≤ place.1) × (place.1 ≤ length message.new)) }
+        ensures beyond { IfOk result (λ place.
+            (take place.0 message.new ≡ take place.0 message.old) × (drop place.1 message.new ≡ drop place.1 message.old)) }
         ensures unchanged { OnErr result (message.new ≡ message.old) }
         ensures fault { MatchOption (read_fault self.old) (IfErr result IsRefusal) (λ fault. result ≡ Err fault) }
         ensures state { MatchResult result (λ _. Advances self.old self.new) (λ fault. self.new ≡ behind_read_fault self.old fault) }
@@ -380,11 +383,12 @@ impl<K: Keys> Handshake<K> {
         if self.ended || (self.passed as usize) < self.layout.len() {
             return Err(self);
         }
+        let hash = self.state.hash();
         let (initiator, responder) = self.state.split();
         Ok(Opened {
             role: self.role,
             one_way: self.pattern.one_way(),
-            hash: self.state.hash(),
+            hash,
             remote_static: self.remote.s,
             initiator,
             responder,

@@ -217,6 +217,8 @@ pub(crate) fn read_message<K: Keys>(
     requires nonces { nonce_now state.old + length (tokens_of placed.now) < 2 ^ 64 - 1 }
     requires known { IsTrue (are_known means.now.role (is_some known.old.e) (is_some known.old.s) (tokens_of placed.now)) }
     ensures range { IfOk result (λ place. (place.0 ≤ place.1) × (place.1 ≤ length message.new)) }
+    ensures beyond { IfOk result (λ place.
+        (take place.0 message.new ≡ take place.0 message.old) × (drop place.1 message.new ≡ drop place.1 message.old)) }
     ensures stop { IfErr result (λ stop. stop.0 ≤ length (tokens_of placed.now)) }
     ensures key { OnOk result (keyed state.new ≡ keyed_behind_tokens means.now.psks (keyed state.old) (tokens_of placed.now)) }
     ensures e { OnOk result (is_some known.new.e ≡ e_behind_tokens (is_some known.old.e) (tokens_of placed.now)) }

@@ -12,8 +12,8 @@ use Rattle.noise_names.specs.declared.seen.Seen.{Seen}
 use Rattle.noise_names.specs.Plan.{Plan, Place, Step, does, payload, transport, place, token_places, message_places, places_of, is_one_way}
 use Rattle.noise_names.specs.Tokens.{other}
 use Rattle.noise_names.specs.Checking.{seen_of, with_place, rules_by, lowest_of, Walks}
-use Rattle.noise_names.specs.Validity.{fault_or, first_fault_by, first_fault_from, first_fault, keys_stand, key_is_first, dh_is_first, dh_is_fresh}
-use Rattle.noise_names.specs.Validity.{psk_is_fresh, encrypts, comes_with, unless_kept, broken_rules, KeepsRules, IsValid, IsFirstFault}
+use Rattle.noise_names.specs.Validity.{fault_or, first_fault_by, first_fault_from, first_fault}
+use Rattle.noise_names.specs.Validity.{broken_rules, IsValid, IsFirstFault}
 
 -- each of the places, wherever it stands, breaks none after the earlier ones and those before it
 pub record Keeps (broken : List Place → Place → List ℕ) (earlier places : List Place) : Type 0 where

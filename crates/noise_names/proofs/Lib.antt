@@ -8,4 +8,5 @@ pub mod ProtocolNames
 pub mod PskTokens
 pub mod Reading
 pub mod Sections
+pub mod TextLengths
 pub mod Writing

@@ -66,7 +66,8 @@ impl ProtocolName {
 
     /// The base, 1 to 8 bytes.
     pub fn base(&self) -> &[u8]
-        ensures { result.now ≡ self.now.base }
+        ensures same { result.now ≡ self.now.base }
+        ensures limits { IsTrue (is_base self.now.base) }
     {
         &self.base
     }
@@ -80,7 +81,8 @@ impl ProtocolName {
 
     /// The name's bytes, at most 82: `Noise_`, the pattern section, `_25519_ChaChaPoly_SHA256`.
     pub fn write(&self) -> ArrayVec<u8, 255>
-        ensures { result.items ≡ name_bytes self.now }
+        ensures written { result.items ≡ name_bytes self.now }
+        ensures bound { length (name_bytes self.now) ≤ 82 }
     {
         let mut out = ArrayVec::new();
         out.try_extend_from_slice(PREFIX).unwrap();

@@ -9,7 +9,7 @@ use crate::{Pattern, TextFault};
 use std::alloc::AllocError;
 
 impl Pattern {
-    ghost use Rattle.std.specs.Prelude.{◌≡◌, ◌++◌, ℕ, List, OnOk, OnErr, IfOk, Ok};
+    ghost use Rattle.std.specs.Prelude.{◌≡◌, ◌≤◌, ◌<◌, ◌+◌, ◌++◌, ℕ, List, length, vec_len, vec_capacity, OnOk, OnErr, IfOk, Ok};
     ghost use Rattle.noise_names.specs.Plan.{Plan};
     ghost use Rattle.noise_names.specs.Text.{text_of, Spells};
 
@@ -29,7 +29,11 @@ impl Pattern {
     /// It appends at most 413 bytes. Without memory for them `out` stays as it was.
     pub fn write_text(&self, out: &mut Vec<u8>) -> Result<(), AllocError>
         ensures written { OnOk result (out.new.items ≡ out.old.items ++ text_of self.now) }
+        ensures bound { length (text_of self.now) ≤ 413 }
         ensures unchanged { OnErr result (out.new.items ≡ out.old.items) }
+
+        // It asks for memory only where the capacity is too small.
+        ensures full { OnErr result (vec_capacity out.old < vec_len out.old + length (text_of self.now)) }
     {
         out.extend_from_slice(&write::text(self))
     }

@@ -46,6 +46,14 @@ behind-nonce bytes written long =
     ∙ ap (λ (p : List ℕ). written ++ p) (nil_from_length post none)
     ∙ append-nil written
 
+pub rest-behind-nonce : (bytes written : List ℕ) (n : ℕ) → 8 ≤ length bytes → drop n written ≡ drop n (drop 8 bytes)
+    → drop (8 + n) (put_mid 8 (length bytes - 8) bytes written) ≡ drop (8 + n) bytes
+rest-behind-nonce bytes written n long rest =
+    sym (drop-drop n 8 (put_mid 8 (length bytes - 8) bytes written))
+    ∙ ap (drop n) (behind-nonce bytes written long)
+    ∙ rest
+    ∙ drop-drop n 8 bytes
+
 pub piece-packet : (key : Option (List ℕ)) (n m : ℕ) (r : History) (writer : Role) (payload : List ℕ) → key ≡ Some (split_key r writer) → n ≡ m
     → piece_under key n [] payload ≡ packet r writer 0 m payload
 piece-packet key n m r writer payload keyed same =

@@ -154,11 +154,13 @@ impl Datagrams {
         self.recent.refusal(nonce)
     }
 
-    /// Opens a datagram in place, and tells how many of its bytes from the ninth on are then the payload.
+    /// Opens a datagram in place, and tells how many of its bytes from the ninth on are then the payload. The 8 of the nonce in
+    /// front of them and the 16 of the tag behind them stay as they are.
     ///
     /// At an `Err` its bytes are unchanged.
     pub fn open_within(&mut self, datagram: &mut [u8]) -> Result<usize, DatagramFault>
         ensures len { IfOk result (λ n. n + 24 ≡ length datagram.new) }
+        ensures beyond { IfOk result (λ n. (take 8 datagram.new ≡ take 8 datagram.old) × (drop (8 + n) datagram.new ≡ drop (8 + n) datagram.old)) }
         ensures same { self.new ≡ record self.old { recent = self.new.recent } }
         ensures unchanged { OnErr result ((self.new ≡ self.old) × (datagram.new ≡ datagram.old)) }
         ensures opens { (v : DatagramView) → Pictures self.old v → MatchResult result

@@ -188,13 +188,15 @@ impl Transport {
         }
     }
 
-    /// Opens a message in place, and tells how many first bytes of it are then the payload.
+    /// Opens a message in place, and tells how many first bytes of it are then the payload. The 16 of the tag behind them stay
+    /// as they are.
     ///
     /// The message has at most 65535 bytes. At an `Err` its bytes are unchanged.
     pub fn open_within(&mut self, message: &mut [u8]) -> Result<usize, OpenFault>
         requires { length message.old ≤ 65535 }
         ensures fault { MatchOption (open_fault self.old) (IfErr result (λ fault. fault ≡ no_packet (length message.old))) (λ fault. result ≡ Err fault) }
         ensures len { IfOk result (λ n. n + 16 ≡ length message.new) }
+        ensures beyond { IfOk result (λ n. drop n message.new ≡ drop n message.old) }
         ensures counted { OnOk result (self.new ≡ record self.old { receive_key = self.new.receive_key; receive_nonce = self.old.receive_nonce + 1 }) }
         ensures unchanged { OnErr result ((self.new ≡ self.old) × (message.new ≡ message.old)) }
         ensures opens { (v : TransportView) → TransportStands self.old v → MatchResult result

@@ -74,12 +74,14 @@ impl CipherState {
         }
     }
 
+    /// Whether there is a key (HasKey, Noise 5.1): else a text passes as it is.
     pub fn has_key(&self) -> bool
         ensures { result ≡ keyed_in self.now }
     {
         self.key.is_some()
     }
 
+    /// The nonce of the next encryption or decryption with a key (`n`, Noise 5.1).
     pub fn nonce(&self) -> u64
         ensures { result ≡ nonce_in self.now }
     {

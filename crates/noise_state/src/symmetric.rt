@@ -173,6 +173,8 @@ impl SymmetricState {
         Ok(len)
     }
 
+    /// Whether its cipher state has a key (HasKey, Noise 5.1), as it has once a key input was mixed
+    /// (5.2).
     pub fn has_key(&self) -> bool
         ensures stands { (r : History) → StateStands self.now r
             → result ≡ is_some (cipher_key r) }
@@ -189,11 +191,12 @@ impl SymmetricState {
     }
 
     /// The two cipher states of the transport, the one for initiator to responder first, each with
-    /// a key at nonce 0 (Split).
-    pub fn split(&self) -> (CipherState, CipherState)
-        ensures initiator { (r : History) → StateStands self.now r
+    /// a key at nonce 0 (Split). The symmetric state is gone then: a second pair would have the same
+    /// keys, and encrypt at the same nonces.
+    pub fn split(self) -> (CipherState, CipherState)
+        ensures initiator { (r : History) → StateStands self r
             → key_in result.0 ≡ Some (initiator_key r) }
-        ensures responder { (r : History) → StateStands self.now r
+        ensures responder { (r : History) → StateStands self r
             → key_in result.1 ≡ Some (responder_key r) }
         ensures keys { IsSome (key_in result.0) × IsSome (key_in result.1) }
         ensures nonces { (nonce_in result.0 ≡ 0) × (nonce_in result.1 ≡ 0) }

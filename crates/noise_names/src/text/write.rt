@@ -18,7 +18,8 @@ type Text = ArrayVec<u8, TEXT_LEN>;
 
 // The pattern's text.
 pub(crate) fn text(pattern: &Pattern) -> Text
-    ensures { result.items ≡ text_of pattern.now }
+    ensures written { result.items ≡ text_of pattern.now }
+    ensures bound { length (text_of pattern.now) ≤ 413 }
 {
     let messages = pattern.messages();
     let mut out = Text::new();

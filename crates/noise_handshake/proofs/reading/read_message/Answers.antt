@@ -1,5 +1,7 @@
 use Rattle.std.proofs.Common.{◌≡◌, ◌<◌, ◌≤◌, ◌^◌, ℕ, ◌+◌, ◌-◌, List, length, take, drop, slice_range, ap, sym, subst, ◌∙◌, arith, length-drop}
 use Rattle.std.proofs.Common.{length-take, take_all, nat_lt, if◌then◌else◌}
+use Rattle.std.proofs.lemmas.List.{take_rest}
+use Rattle.std.proofs.lemmas.Slice.{take-put_mid_below}
 use borrow.Rule.Slice.PartMut.{put_mid}
 use Rattle.noise_state.specs.Standing.{StateStands, keyed}
 use Rattle.noise_state.specs.Standing.{nonce_now-is}
@@ -11,11 +13,22 @@ use Rattle.noise_handshake.specs.declared.faults.Cause.TheVariants.{Short, Tag}
 use Rattle.noise_handshake.proofs.Tags.{sealed_len-tag}
 use Rattle.noise_handshake.proofs.Layouts.{length-tokens_of}
 use Rattle.noise_handshake.proofs.Apart.{reads-whole, stops-last}
-use Rattle.noise_handshake.proofs.Steps.{written-at}
+use Rattle.noise_handshake.proofs.Steps.{written-at, rest-at}
 use Rattle.noise_handshake.proofs.reading.read_message.Goals as goal
 
 pub read_tokens-requires-clause-placed : goal.read_tokens-requires-clause-placed
 read_tokens-requires-clause-placed g c = (0, omega arith, c.requires.placed)
+
+pub returns-in-Ok-decrypt_and_hash-clause-beyond : goal.returns-in-Ok-decrypt_and_hash-clause-beyond
+returns-in-Ok-decrypt_and_hash-clause-beyond g c =
+    let m : List ℕ = c.args.message.now in
+    let n : ℕ = c.in-Ok.from in
+    let new : List ℕ = c.decrypt_and_hash.new.buf in
+    let within : n ≤ length m = omega (arith, c.in-Ok.ensures.within) in (
+      take-put_mid_below n (length m - n) m new n (omega arith) within,
+      rest-at m new n c.in-Ok-decrypt_and_hash.len within
+          (c.in-Ok-decrypt_and_hash.ensures.beyond ∙ ap (drop c.in-Ok-decrypt_and_hash.len) (take_rest m n)),
+    )
 
 pub returns-in-Ok-decrypt_and_hash-clause-read : goal.returns-in-Ok-decrypt_and_hash-clause-read
 returns-in-Ok-decrypt_and_hash-clause-read g c r s =

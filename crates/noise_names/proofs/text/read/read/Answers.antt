@@ -26,7 +26,7 @@ returns-in_err-plain-clause-every c = λ p h.
     let part = c.in_ok-name.ensures.every (record { base = p.base; places = p.places }) (10 ∷ lines_behind p) (pattern-section p h.is_pattern)
     (spelled-parts c.args.text.now p h) in
     let lines = line-behind _ _ _ part.1 (stripped _ (codes "\n") c.in_ok-lines.lines c.in_ok-lines.ensures.cases) in
-    let plain = c.in_err-plain.ensures.every p h.is_pattern (sym (c.base.ensures ∙ ap (λ (s : Section). s.base) part.0)) lines in
+    let plain = c.in_err-plain.ensures.every p h.is_pattern (sym (c.base.ensures.same ∙ ap (λ (s : Section). s.base) part.0)) lines in
     absurd (none-not-some _ plain)
 
 pub returns-in-Err-clause-every : goal.returns-in-Err-clause-every
@@ -34,7 +34,7 @@ returns-in-Err-clause-every c = λ p h.
     let part = c.in_ok-name.ensures.every (record { base = p.base; places = p.places }) (10 ∷ lines_behind p) (pattern-section p h.is_pattern)
     (spelled-parts c.args.text.now p h) in
     let lines = line-behind _ _ _ part.1 (stripped _ (codes "\n") c.in_ok-lines.lines c.in_ok-lines.ensures.cases) in
-    let plain = c.in_ok-plain.ensures.every p h.is_pattern (sym (c.base.ensures ∙ ap (λ (s : Section). s.base) part.0)) lines in
+    let plain = c.in_ok-plain.ensures.every p h.is_pattern (sym (c.base.ensures.same ∙ ap (λ (s : Section). s.base) part.0)) lines in
     absurd (within-places p c.in_ok-plain.plain c.places.result.now c.in-Err.field-0.place h.is_pattern (some-same _ _ plain) (c.places.ensures
     ∙ ap (λ (s : Section). s.places) part.0) c.in-Err.ensures.fault)
 
@@ -43,7 +43,7 @@ returns-then-eq-clause-every c = λ p h.
     let part = c.in_ok-name.ensures.every (record { base = p.base; places = p.places }) (10 ∷ lines_behind p) (pattern-section p h.is_pattern)
     (spelled-parts c.args.text.now p h) in
     let lines = line-behind _ _ _ part.1 (stripped _ (codes "\n") c.in_ok-lines.lines c.in_ok-lines.ensures.cases) in
-    let plain = c.in_ok-plain.ensures.every p h.is_pattern (sym (c.base.ensures ∙ ap (λ (s : Section). s.base) part.0)) lines in
+    let plain = c.in_ok-plain.ensures.every p h.is_pattern (sym (c.base.ensures.same ∙ ap (λ (s : Section). s.base) part.0)) lines in
     ap (λ (q : Plan). Some q) (placed-same p c.in-Ok.pattern c.in_ok-plain.plain c.places.result.now h.is_pattern (some-same _ _ plain) (c.places.ensures
     ∙ ap (λ (s : Section). s.places) part.0) c.in-Ok.ensures.placed)
 
@@ -52,9 +52,9 @@ returns-else-eq-clause-every c = λ p h.
     let part = c.in_ok-name.ensures.every (record { base = p.base; places = p.places }) (10 ∷ lines_behind p) (pattern-section p h.is_pattern)
     (spelled-parts c.args.text.now p h) in
     let lines = line-behind _ _ _ part.1 (stripped _ (codes "\n") c.in_ok-lines.lines c.in_ok-lines.ensures.cases) in
-    let plain = c.in_ok-plain.ensures.every p h.is_pattern (sym (c.base.ensures ∙ ap (λ (s : Section). s.base) part.0)) lines in
+    let plain = c.in_ok-plain.ensures.every p h.is_pattern (sym (c.base.ensures.same ∙ ap (λ (s : Section). s.base) part.0)) lines in
     let same : c.in-Ok.pattern ≡ p =
     placed-same p c.in-Ok.pattern c.in_ok-plain.plain c.places.result.now h.is_pattern (some-same _ _ plain) (c.places.ensures
     ∙ ap (λ (s : Section). s.places) part.0) c.in-Ok.ensures.placed in
     let decides = slice_eq-Decides Decides-eqb _ _ _ c.eq.ensures in
-    absurd (true-not-false _ (decides.1 (c.as_slice.ensures.value ∙ c.text.ensures ∙ ap text_of same ∙ sym h.spelled)) c.if-eq.false)
+    absurd (true-not-false _ (decides.1 (c.as_slice.ensures.value ∙ c.text.ensures.written ∙ ap text_of same ∙ sym h.spelled)) c.if-eq.false)

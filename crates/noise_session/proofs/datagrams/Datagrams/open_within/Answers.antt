@@ -1,5 +1,6 @@
 use Rattle.std.proofs.Common.{◌≡◌, ◌≢◌, ◌-◌, ◌≤◌, ◌<◌, length, take, drop, Some, None, sym, ◌∙◌, ap, subst, arith, length-drop}
 use Rattle.std.proofs.lemmas.List.{take_rest}
+use Rattle.std.proofs.lemmas.Slice.{take-put_mid_below}
 use borrow.Rule.Slice.PartMut.{put_mid}
 use Rattle.noise_names.specs.Tokens.{other}
 use Rattle.noise_state.specs.Cipher.{key_in, nonce_in}
@@ -8,11 +9,20 @@ use Rattle.noise_session.specs.contracts.datagrams.Datagrams.{the_view}
 use Rattle.noise_session.specs.Datagrams.{HeldDatagrams, Pictures, nonce_named, datagram_fault}
 use Rattle.noise_session.specs.Datagrams.Opens.{opened, refused, forged}
 use Rattle.noise_session.proofs.Unopened.{not_ok}
-use Rattle.noise_session.proofs.DatagramViews.{behind-nonce, piece-packet, young-here, pictures-opened}
+use Rattle.noise_session.proofs.DatagramViews.{behind-nonce, rest-behind-nonce, piece-packet, young-here, pictures-opened}
 use Rattle.noise_session.proofs.datagrams.Datagrams.open_within.Goals as goal
 
 pub returns-in-Some-clause-opens : goal.returns-in-Some-clause-opens
 returns-in-Some-clause-opens c v h = refused v c.args.datagram.now c.in-Some.fault (sym (c.in-Some.ensures.told v h))
+
+pub returns-in-Ok-clause-beyond : goal.returns-in-Ok-clause-beyond
+returns-in-Ok-clause-beyond c =
+    let d = c.args.datagram.now in
+    let least : 24 ≤ length d = c.in_default.ensures.bounds.0 in
+    let long : 8 ≤ length d = omega arith in (
+      take-put_mid_below 8 (length d - 8) d c.decrypt.new.buf 8 (omega arith) long,
+      rest-behind-nonce d c.decrypt.new.buf c.in-Ok.len long (c.in-Ok.ensures.beyond ∙ ap (drop c.in-Ok.len) (take_rest d 8)),
+    )
 
 pub returns-in-Ok-clause-opens : goal.returns-in-Ok-clause-opens
 returns-in-Ok-clause-opens c v h =
