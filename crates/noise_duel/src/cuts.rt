@@ -48,8 +48,8 @@ impl Cuts {
         }
     }
 
-    /// The length of the piece of this index, where so many bytes are left: at most that many; 0 where none are left, or for a length of 0 before the last.
-    pub fn piece_len(&self, index: usize, left: usize) -> usize
+    // The length of the piece of this index, where so many bytes are left: at most that many; 0 where none are left, or for a length of 0 before the last.
+    pub(crate) fn piece_len(&self, index: usize, left: usize) -> usize
         ensures value { result ≡ piece_len_of self.now index left }
         ensures bound { result ≤ left }
         ensures some { 8 ≤ index → 0 < left → 0 < result }
