@@ -14,9 +14,9 @@ use Rattle.noise_session.specs.Progress.{role_of}
 use Rattle.noise_session.specs.Progress.Progress.{Handshaking, Open, Closed}
 use Rattle.noise_tool.specs.declared.faults.Fault.{Fault}
 use Rattle.noise_tool.specs.declared.faults.Fault.TheVariants.{Setup}
-use Rattle.noise_tool.specs.declared.file_keys.FileKeys.{FileKeys}
-use Rattle.noise_tool.specs.declared.vector.VectorFile.{VectorFile}
-use Rattle.noise_tool.specs.FileKeys.{public_of, agreement_of}
+use Rattle.noise_vectors.specs.declared.file_keys.FileKeys.{FileKeys}
+use Rattle.noise_vectors.specs.declared.vector.VectorFile.{VectorFile}
+use Rattle.noise_vectors.specs.FileKeys.{public_of, agreement_of}
 use Rattle.noise_tool.specs.Ends.{IsPatternOf, IsStartFault, setup_of}
 
 -- the same start in other words

@@ -1,17 +1,6 @@
-pub mod BlockLemmas
 pub mod CommandLineLemmas
-pub mod CutLemmas
 pub mod EndLemmas
-pub mod EventLemmas
-pub mod HexWordLemmas
 pub mod InputLemmas
-pub mod KeyLemmas
-pub mod LackLemmas
-pub mod LineLemmas
 pub mod OutputLemmas
-pub mod PartyLemmas
 pub mod PerformingLemmas
 pub mod PrintedLemmas
-pub mod ReadingLemmas
-pub mod VectorLemmas
-pub mod WordLemmas

@@ -1,12 +1,12 @@
 -- What `talk` and `replay` have done, and why they haven't.
-use Rattle.std.proofs.Common.{◌≡◌, ◌∙◌, sym, ap, subst, ◌⊎◌, inl, inr, ℕ, List, Vec, Option, Some, None, Result, Ok, Err, OnOk, map}
+use Rattle.std.proofs.Common.{◌≡◌, ◌∙◌, refl, sym, ap, subst, ◌⊎◌, inl, inr, ℕ, List, [], ◌∷◌, Vec, Option, Some, None, Result, Ok, Err, OnOk, map}
 use Rattle.std.specs.Global.{Global}
 use Rattle.std.specs.Prelude.{IfErr, IfSome}
 use Rattle.std.specs.Io.KnownBytes.{Appends}
 use Rattle.noise_names.specs.declared.token.Role.{Role}
 use Rattle.noise_duel.specs.Acts.{events_of, lines_of}
 use Rattle.noise_duel.specs.Conversation.{say_events}
-use Rattle.noise_duel.specs.Events.{Event as Act, Note}
+use Rattle.noise_duel.specs.Events.{Event as Act, Note, Say as Said}
 use Rattle.noise_duel.specs.HeldDuel.{HeldDuel}
 use Rattle.noise_duel.specs.Runs.{Run}
 use Rattle.noise_duel.specs.Sides.{Sides}
@@ -15,13 +15,18 @@ use Rattle.noise_tool.specs.Ends.{AreEnds, IsStartFault, facing_in}
 use Rattle.noise_tool.specs.Faults.{status_of}
 use Rattle.noise_tool.specs.Performing.{HasPrinted, HasRun, IsRunFault}
 use Rattle.noise_tool.specs.Printed.{run_text}
-use Rattle.noise_tool.specs.VectorFile.{say_of}
-use Rattle.noise_tool.specs.VectorText.{text_of}
+use Rattle.noise_vectors.specs.VectorFile.{say_of}
+use Rattle.noise_vectors.specs.VectorText.{text_of}
 use Rattle.noise_tool.specs.declared.faults.Fault.{Fault}
-use Rattle.noise_tool.specs.declared.file_keys.FileKeys.{FileKeys}
-use Rattle.noise_tool.specs.declared.vector.AllowedEvents.{AllowedEvents}
-use Rattle.noise_tool.specs.declared.vector.VectorFile.{VectorFile}
-use Rattle.noise_tool.proofs.EventLemmas.{say_events-lines}
+use Rattle.noise_vectors.specs.declared.file_keys.FileKeys.{FileKeys}
+use Rattle.noise_vectors.specs.declared.vector.AllowedEvents.{AllowedEvents}
+use Rattle.noise_vectors.specs.declared.vector.VectorFile.{VectorFile}
+
+-- the lines of what is said are the events of the run
+say_events-lines : (lines : List (Role × Vec ℕ Global × List ℕ))
+    → events_of (map say_of lines) ≡ say_events (map (λ (l : Role × Vec ℕ Global × List ℕ). (l.0, l.1.items)) lines)
+say_events-lines [] = refl
+say_events-lines (l ∷ ls) = ap (λ (es : List Act). Said l.0 l.1.items ∷ es) (say_events-lines ls)
 
 -- the events of a file that are these lines
 pub said-events : (file : VectorFile) (events : List Event) (lines given : List (Role × Vec ℕ Global × List ℕ)) → events ≡ file.events.items

@@ -16,12 +16,12 @@ use Rattle.noise_duel.specs.Conversation.{facing}
 use Rattle.noise_duel.specs.HeldDuel.{HeldDuel, DuelStands}
 use Rattle.noise_duel.specs.Messages.{Start}
 use Rattle.noise_duel.specs.Sides.{Sides}
-use Rattle.noise_tool.specs.FileKeys.{public_of, agreement_of}
+use Rattle.noise_vectors.specs.FileKeys.{public_of, agreement_of}
 use Rattle.noise_tool.specs.Named.{IsNamed, IsUnnamed}
 use Rattle.noise_tool.specs.declared.faults.Fault.{Fault}
 use Rattle.noise_tool.specs.declared.faults.Fault.TheVariants.{Rule, Setup, Memory}
-use Rattle.noise_tool.specs.declared.file_keys.FileKeys.{FileKeys}
-use Rattle.noise_tool.specs.declared.vector.VectorFile.{VectorFile}
+use Rattle.noise_vectors.specs.declared.file_keys.FileKeys.{FileKeys}
+use Rattle.noise_vectors.specs.declared.vector.VectorFile.{VectorFile}
 
 -- the pattern is the one that a file spells, or else that of its protocol's name
 abbrev pub IsPatternOf : Option Plan → Section → Plan → Type 0

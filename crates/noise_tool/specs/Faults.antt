@@ -1,6 +1,8 @@
--- The exit status of each fault, and what reading a vector file can end with.
-use Rattle.std.specs.Prelude.{ℕ, ⊤}
+-- The exit status of each fault, and which fault of a command a vector file's is.
+use Rattle.std.specs.Prelude.{ℕ}
 use Rattle.noise_tool.specs.declared.faults.Fault.{Fault}
+use Rattle.noise_vectors.specs.declared.faults.VectorFault.{VectorFault}
+use Rattle.noise_vectors.specs.declared.faults.VectorFault.TheVariants as vector
 use Rattle.noise_tool.specs.declared.faults.Fault.TheVariants.{Rule, Place, Setup, Name, UnknownPattern, Text, Line, TooLong, Unreadable, Unwritable, Memory}
 
 -- 1 for a pattern or ends that can't be made, 2 for what a name or a file says, 3 for what is outside the program
@@ -18,7 +20,6 @@ status_of Unwritable = 3
 status_of Memory = 3
 
 -- a line that isn't as it has to be, or no memory
-abbrev pub IsOfLine : Fault → Type 0
-IsOfLine (Line number kind) = ⊤
-IsOfLine Memory = ⊤
-IsOfLine _ = ⊥
+abbrev pub of_vector : VectorFault → Fault
+of_vector (vector.Line number kind) = Line number kind
+of_vector vector.Memory = Memory

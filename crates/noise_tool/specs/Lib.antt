@@ -1,15 +1,7 @@
-pub mod Block
 pub mod CommandLine
-pub mod Cuts
 pub mod Ends
 pub mod Faults
-pub mod FileKeys
-pub mod HexWord
 pub mod Named
 pub mod Output
-pub mod OwnPattern
 pub mod Performing
 pub mod Printed
-pub mod VectorFile
-pub mod VectorText
-pub mod Words

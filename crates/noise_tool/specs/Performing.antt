@@ -10,17 +10,19 @@ use Rattle.noise_duel.specs.Events.{Note}
 use Rattle.noise_duel.specs.Runs.{Run}
 use Rattle.noise_duel.specs.Sides.{Sides}
 use Rattle.noise_tool.specs.Ends.{IsPatternOf, IsStartFault, facing_in, setup_of}
+use Rattle.noise_tool.specs.Faults.{of_vector}
 use Rattle.noise_tool.specs.Output.{IsCheckFault, IsShowFault, NamesPattern, check_text, list_text, show_text}
 use Rattle.noise_tool.specs.Printed.{run_text}
-use Rattle.noise_tool.specs.VectorFile.{IsReadFault}
-use Rattle.noise_tool.specs.VectorText.{text_of}
+use Rattle.noise_vectors.specs.VectorFile.{IsReadFault}
+use Rattle.noise_vectors.specs.VectorText.{text_of}
 use Rattle.noise_tool.specs.declared.faults.Fault.{Fault}
 use Rattle.noise_tool.specs.declared.faults.Fault.TheVariants.{TooLong}
 use Rattle.noise_tool.specs.declared.orders.Chosen.{Chosen}
 use Rattle.noise_tool.specs.declared.orders.Chosen.TheVariants.{List as Listing, Show, Check, Talk, Replay}
-use Rattle.noise_tool.specs.declared.vector.AllowedEvents.{AllowedEvents}
-use Rattle.noise_tool.specs.declared.vector.AllowedEvents.TheVariants.{SayOnly, Any}
-use Rattle.noise_tool.specs.declared.vector.VectorFile.{VectorFile}
+use Rattle.noise_vectors.specs.declared.faults.VectorFault.{VectorFault}
+use Rattle.noise_vectors.specs.declared.vector.AllowedEvents.{AllowedEvents}
+use Rattle.noise_vectors.specs.declared.vector.AllowedEvents.TheVariants.{SayOnly, Any}
+use Rattle.noise_vectors.specs.declared.vector.VectorFile.{VectorFile}
 
 -- The output grew by the text of the file's run: by its valid pattern, two ends start from what the file gives them, nothing is wrong with either
 -- setup, and the file's events make of them these notes and last sides. Of one pattern and one list of events there is one such run
@@ -54,9 +56,13 @@ IsTooLong text fault = (fault ≡ TooLong) × (4194304 < length text)
 abbrev pub HasNoEnds : List ℕ → Fault → Type 0
 HasNoEnds text fault = (file : VectorFile) × (text ≡ text_of file) × IsStartFault file fault
 
+-- why this text isn't read
+abbrev pub IsUnread : AllowedEvents → List ℕ → Fault → Type 0
+IsUnread allowed text fault = (why : VectorFault) × (fault ≡ of_vector why) × IsReadFault allowed text why
+
 -- why this text of a vector file, with these events, isn't run
 abbrev pub IsRunFault : AllowedEvents → List ℕ → Fault → Type 0
-IsRunFault allowed text fault = IsTooLong text fault ⊎ IsReadFault allowed text fault ⊎ HasNoEnds text fault
+IsRunFault allowed text fault = IsTooLong text fault ⊎ IsUnread allowed text fault ⊎ HasNoEnds text fault
 
 -- why a command ends before its work is done, where the fault is in what it was given; the file's bytes where they are known
 abbrev pub IsFault : Chosen → Option (List ℕ) → Fault → Type 0

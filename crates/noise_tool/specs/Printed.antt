@@ -16,8 +16,8 @@ use Rattle.noise_session.specs.Steps.{Told}
 use Rattle.noise_session.specs.Steps.Told.{Ended, YourTurn, Silent, Payload, Dropped, Refused, Exhausted}
 use Rattle.noise_duel.specs.Events.{Note, Wrote, WriteFault, Judged, Left, Missing, Held}
 use Rattle.noise_duel.specs.Sides.{Side, Sides, side}
-use Rattle.noise_tool.specs.HexWord.{hex_of}
-use Rattle.noise_tool.specs.VectorText.{role_word}
+use Rattle.noise_vectors.specs.HexWord.{hex_of}
+use Rattle.noise_vectors.specs.VectorText.{role_word}
 
 -- a line of words with a space (32) between each two
 abbrev pub line_of : List (List ℕ) → List ℕ

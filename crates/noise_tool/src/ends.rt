@@ -6,17 +6,16 @@ ghost use Rattle.std.specs.Result.{result_err};
 ghost use Rattle.noise_names.specs.Validity.{IsValid};
 ghost use Rattle.noise_handshake.specs.Party.{Stands};
 ghost use Rattle.noise_handshake.specs.Setup.{begun, setup_fault};
-ghost use Rattle.noise_tool.specs.FileKeys.{agreement_of, public_of};
+ghost use Rattle.noise_vectors.specs.FileKeys.{agreement_of, public_of};
 ghost use Rattle.noise_tool.specs.Ends.{AreEnds, IsPatternFault, IsPatternOf, IsStartFault, known_before};
 
 use crate::faults::Fault;
-use crate::file_keys::FileKeys;
 use crate::named::named_pattern;
-use crate::vector::VectorFile;
 use noise_duel::{Duel, Event};
 use noise_handshake::{Handshake, Keys, Own, Remote};
 use noise_names::{Pattern, ProtocolName, Role, Token, ValidPattern};
 use noise_session::{End, end_is_told};
+use noise_vectors::{FileKeys, VectorFile};
 use std::alloc::Global;
 
 /// The two ends that the file describes, before the first message, and the file's events.

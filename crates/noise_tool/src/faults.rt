@@ -1,45 +1,13 @@
 //! Why a command ends before its work is done.
 
 ghost use Rattle.std.specs.Prelude.{◌≡◌};
-ghost use Rattle.noise_tool.specs.Faults.{status_of};
+ghost use Rattle.noise_tool.specs.Faults.{of_vector, status_of};
 ghost use Rattle.noise_tool.specs.declared.faults.Fault.TheVariants.{Memory};
 
 use noise_handshake::SetupFault;
 use noise_names::{NameFault, PlaceFault, Role, RuleFault, TextFault};
+use noise_vectors::{LineKind, VectorFault};
 use std::alloc::AllocError;
-
-/// Which line of a vector file isn't as it has to be.
-#[derive(Clone, Copy, Debug, PartialEq, Eq)]
-pub enum LineKind {
-    Header,
-    Protocol,
-    Pattern,
-    Prologue,
-    Interval,
-    Psk,
-    Keys,
-    Answer,
-    Event,
-    Ending,
-}
-
-impl LineKind {
-    /// The word that the fault's text has for it.
-    pub fn word(self) -> &'static str {
-        match self {
-            LineKind::Header => "header",
-            LineKind::Protocol => "protocol",
-            LineKind::Pattern => "pattern",
-            LineKind::Prologue => "prologue",
-            LineKind::Interval => "interval",
-            LineKind::Psk => "psk",
-            LineKind::Keys => "keys",
-            LineKind::Answer => "answer",
-            LineKind::Event => "event",
-            LineKind::Ending => "ending",
-        }
-    }
-}
 
 /// Why a command ends before its work is done.
 #[derive(Clone, Copy, Debug, PartialEq, Eq)]
@@ -90,5 +58,16 @@ impl From<AllocError> for Fault {
 
     fn from(_error: AllocError) -> Fault {
         Fault::Memory
+    }
+}
+
+impl From<VectorFault> for Fault {
+    ghost from_gives = { λ why fault. fault ≡ of_vector why };
+
+    fn from(why: VectorFault) -> Fault {
+        match why {
+            VectorFault::Line(number, kind) => Fault::Line(number, kind),
+            VectorFault::Memory => Fault::Memory,
+        }
     }
 }

@@ -3,11 +3,11 @@
 ghost use Rattle.std.specs.Prelude.{◌≡◌, ◌++◌, ◌∷◌, [], IfErr, IfOk, OnOk, decimal};
 ghost use Rattle.std.specs.Io.KnownBytes.{Appends};
 ghost use Rattle.noise_tool.specs.Faults.{status_of};
-ghost use Rattle.noise_tool.specs.HexWord.{hex_of};
+ghost use Rattle.noise_vectors.specs.HexWord.{hex_of};
 
 use crate::faults::Fault;
-use crate::hex_words::hex_word;
 use crate::output::write;
+use noise_vectors::hex_word;
 use std::alloc::{AllocError, Global};
 use std::io::Write;
 

@@ -5,9 +5,7 @@ mod checking;
 mod command_line;
 mod ends;
 mod faults;
-mod file_keys;
 mod help;
-mod hex_words;
 mod input;
 mod line;
 mod listing;
@@ -22,7 +20,6 @@ mod talk;
 mod telling;
 #[cfg(test)]
 mod tests;
-mod vector;
 
 use command_line::chosen;
 use faults::Fault;

@@ -15,7 +15,7 @@ use crate::output::{flush, write};
 use crate::showing::show;
 use crate::talk::{replay, talk};
 use crate::telling::tell;
-use crate::vector::{AllowedEvents, read_vector};
+use noise_vectors::{AllowedEvents, read_vector};
 use std::alloc::Global;
 use std::io::{Read, Write};
 

@@ -10,18 +10,18 @@ ghost use Rattle.noise_duel.specs.Events.{WriteFault};
 ghost use Rattle.noise_duel.specs.HeldDuel.{DuelStands, HasFrames};
 ghost use Rattle.noise_duel.specs.Sides.{Side, Sides, side};
 ghost use Rattle.noise_tool.specs.Faults.{status_of};
-ghost use Rattle.noise_tool.specs.FileKeys.{agreement_of, public_of};
+ghost use Rattle.noise_vectors.specs.FileKeys.{agreement_of, public_of};
 ghost use Rattle.noise_tool.specs.Printed as print;
-ghost use Rattle.noise_tool.specs.VectorText as text;
+ghost use Rattle.noise_vectors.specs.VectorText as text;
 
 use crate::faults::Fault;
-use crate::file_keys::FileKeys;
 use crate::line::Line;
 use crate::output::flush;
 use noise_duel::{Duel, Entry, Idle, Report};
 use noise_handshake::Cause;
 use noise_names::Role;
 use noise_session::{End, SendFault, Stage, end_is_told};
+use noise_vectors::FileKeys;
 use std::alloc::{AllocError, Global};
 use std::io::Write;
 

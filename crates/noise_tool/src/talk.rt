@@ -5,13 +5,13 @@ ghost use Rattle.std.specs.List.{All};
 ghost use Rattle.noise_tool.specs.Ends.{IsStartFault};
 ghost use Rattle.noise_tool.specs.Faults.{status_of};
 ghost use Rattle.noise_tool.specs.Performing.{HasPrinted};
-ghost use Rattle.noise_tool.specs.VectorFile.{IsAllowed};
-ghost use Rattle.noise_tool.specs.declared.vector.AllowedEvents.TheVariants.{SayOnly};
+ghost use Rattle.noise_vectors.specs.VectorFile.{IsAllowed};
+ghost use Rattle.noise_vectors.specs.declared.vector.AllowedEvents.TheVariants.{SayOnly};
 
 use crate::ends::make_ends;
 use crate::faults::Fault;
 use crate::report::print_run;
-use crate::vector::{VectorFile, said_lines};
+use noise_vectors::{VectorFile, said_lines};
 use std::alloc::Global;
 use std::io::Write;
 

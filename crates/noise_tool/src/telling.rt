@@ -9,6 +9,7 @@ use crate::output::flush;
 use crate::report::role_word;
 use noise_handshake::SetupFault;
 use noise_names::TextFaultKind;
+use noise_vectors::LineKind;
 use std::alloc::{AllocError, Global};
 use std::io::Write;
 
@@ -70,7 +71,7 @@ fn fault_line(alloc: Global, fault: Fault) -> Result<Line, AllocError> {
         }
         Fault::UnknownPattern => Line::new(alloc, "unknown pattern"),
         Fault::Text(fault) => line_fault(alloc, fault.line, text_word(fault.kind)),
-        Fault::Line(number, kind) => line_fault(alloc, number, kind.word()),
+        Fault::Line(number, kind) => line_fault(alloc, number, line_word(kind)),
         Fault::TooLong => Line::new(alloc, "file too long"),
         Fault::Unreadable => Line::new(alloc, "cannot read"),
         Fault::Unwritable => Line::new(alloc, "cannot write"),
@@ -80,6 +81,21 @@ fn fault_line(alloc: Global, fault: Fault) -> Result<Line, AllocError> {
 
 fn line_fault(alloc: Global, number: usize, word: &str) -> Result<Line, AllocError> {
     Line::new(alloc, "line")?.number(number as u64)?.word(word)
+}
+
+fn line_word(kind: LineKind) -> &'static str {
+    match kind {
+        LineKind::Header => "header",
+        LineKind::Protocol => "protocol",
+        LineKind::Pattern => "pattern",
+        LineKind::Prologue => "prologue",
+        LineKind::Interval => "interval",
+        LineKind::Psk => "psk",
+        LineKind::Keys => "keys",
+        LineKind::Answer => "answer",
+        LineKind::Event => "event",
+        LineKind::Ending => "ending",
+    }
 }
 
 fn text_word(kind: TextFaultKind) -> &'static str {

@@ -6,7 +6,6 @@ mod fakes;
 mod handshakes;
 mod outside;
 mod replays;
-mod wrong_lines;
 
 use crate::orders::Chosen;
 use crate::performing::perform;

@@ -1,9 +1,9 @@
-//! The texts of each command, and of each fault of a name, a pattern and a setup.
+//! The texts of each command, and of each fault of a name, a pattern, a vector file and a setup.
 
 use super::{Run, tells};
 use std::test::Fail;
 
-const RUNS: [Run<'static>; 24] = [
+const RUNS: [Run<'static>; 25] = [
     (
         "list",
         "",
@@ -79,6 +79,7 @@ const RUNS: [Run<'static>; 24] = [
     ("talk", "vector 1\n", 2, "", "line 2 ending\n"),
     ("talk", "vector 1", 2, "", "line 1 ending\n"),
     ("talk", "vector", 2, "", "line 1 header\n"),
+    ("talk", "vector 1\nprotocol\n", 2, "", "line 2 protocol\n"),
     // A pattern of one's own without its last line, or without an LF behind it.
     (
         "talk",
@@ -116,6 +117,34 @@ const RUNS: [Run<'static>; 24] = [
 fn prints_what_a_command_does(rt: HostRuntime) -> Result<(), Fail> {
     for run in &RUNS {
         tells(&rt, rt.alloc(), run)?;
+    }
+    Ok(())
+}
+
+// What stands behind a right protocol line, and the line that is told.
+const WRONG: [(&str, &str); 6] = [
+    ("prologue\n", "line 3 prologue\n"),
+    ("prologue -\ninterval\n", "line 4 interval\n"),
+    ("prologue -\ninterval 0\npsk -\n", "line 5 psk\n"),
+    ("prologue -\ninterval 0\npsk\n", "line 5 keys\n"),
+    (
+        "prologue -\ninterval 0\ninitiator table - -\nanswer -\n",
+        "line 6 answer\n",
+    ),
+    (
+        "prologue -\ninterval 0\ninitiator xor - -\nresponder xor - -\nsay\n",
+        "line 7 event\n",
+    ),
+];
+
+#[test]
+fn tells_which_line_is_wrong(rt: HostRuntime) -> Result<(), Fail> {
+    let alloc = rt.alloc();
+    for (lines, told) in &WRONG {
+        let file = format!(in alloc;
+            "vector 1\nprotocol Noise_NN_25519_ChaChaPoly_SHA256\n{lines}"
+        )?;
+        tells(&rt, alloc, &("talk", file.as_str(), 2, "", told))?;
     }
     Ok(())
 }
@@ -160,5 +189,22 @@ fn tells_what_an_end_lacks(rt: HostRuntime) -> Result<(), Fail> {
         )?;
         tells(&rt, alloc, &("talk", file.as_str(), *status, out, err))?;
     }
+    Ok(())
+}
+
+// With its ephemeral key the message would have 65536 bytes.
+#[test]
+fn tells_that_a_message_is_too_long(rt: HostRuntime) -> Result<(), Fail> {
+    let alloc = rt.alloc();
+    let mut file = format!(in alloc;
+        "vector 1\nprotocol Noise_NN_25519_ChaChaPoly_SHA256\nprologue -\ninterval 0\ninitiator xor {E}\nresponder xor {E}\nsay initiator "
+    )?;
+    for _ in 0..65504 {
+        file.push_str("00")?;
+    }
+    file.push_str(" -\n")?;
+    let told =
+        "unwritten initiator too-long\nstate initiator handshake 0\nstate responder handshake 0\n";
+    tells(&rt, alloc, &("talk", file.as_str(), 0, told, ""))?;
     Ok(())
 }

@@ -6,9 +6,9 @@ use Rattle.noise_names.specs.Plan.{Plan}
 use Rattle.noise_handshake.specs.View.{View}
 use Rattle.noise_session.specs.Ends.{EndStands, end_of}
 use Rattle.noise_duel.specs.HeldDuel.{HeldDuel}
-use Rattle.noise_tool.specs.FileKeys.{public_of, agreement_of}
+use Rattle.noise_vectors.specs.FileKeys.{public_of, agreement_of}
 use Rattle.noise_tool.specs.Ends.{AreEnds, known_before}
-use Rattle.noise_tool.specs.declared.file_keys.FileKeys.{FileKeys}
+use Rattle.noise_vectors.specs.declared.file_keys.FileKeys.{FileKeys}
 use Rattle.noise_tool.proofs.EndLemmas.{begun-same, both-set-up, setup-same, none-told, role-told, told-first, told-second}
 use Rattle.noise_tool.proofs.ends.make_ends.Goals as goal
 

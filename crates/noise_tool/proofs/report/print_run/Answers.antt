@@ -1,7 +1,7 @@
 use Rattle.std.proofs.Common.{subst, sym}
 use Rattle.noise_session.specs.Ends.{EndStands, HeldEnd}
-use Rattle.noise_tool.specs.FileKeys.{agreement_of, public_of}
-use Rattle.noise_tool.specs.declared.file_keys.FileKeys.{FileKeys}
+use Rattle.noise_vectors.specs.FileKeys.{agreement_of, public_of}
+use Rattle.noise_vectors.specs.declared.file_keys.FileKeys.{FileKeys}
 use Rattle.noise_tool.proofs.PrintedLemmas.{kept-behind, two-lines}
 use Rattle.noise_tool.proofs.report.print_run.Goals as goal
 

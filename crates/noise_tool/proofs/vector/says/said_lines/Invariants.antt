@@ -1,6 +1,0 @@
-use Rattle.std.proofs.Common.{◌≡◌, map}
-use Rattle.noise_tool.specs.VectorFile.{say_of}
-use Rattle.noise_tool.proofs.vector.says.said_lines.Given as goal
-
-abbrev pub invariant-loop-event : goal.invariant-loop-event
-invariant-loop-event l = map say_of l.lines.items ≡ l.yielded

@@ -1,0 +1,209 @@
+-- The text of a pattern as lines none of which is `end`, and such lines as they are read.
+use Rattle.std.proofs.Common.{arith, ◌≡◌, ◌∙◌, ◌+◌, ◌-◌, ◌==◌, not, Bool, true, ap, refl, sym, ℕ, List, [], ◌∷◌, ◌++◌, codes, length, take}
+use Rattle.std.specs.List.{All, list_all}
+use Rattle.std.proofs.Math.Seq.{take-append_seam}
+use Rattle.std.proofs.lemmas.Bool.{and_parts}
+use Rattle.std.proofs.lemmas.Bool.Decides.{nat_tests}
+use Rattle.std.proofs.lemmas.List.{append_assoc, length-append}
+use Rattle.std.proofs.lemmas.List.Elements.{All-append, All-cons, All-head, All-nil, All-tail}
+use Rattle.noise_names.specs.declared.token.Role.{Role}
+use Rattle.noise_names.specs.declared.token.Role.TheVariants.{Initiator, Responder}
+use Rattle.noise_names.specs.declared.token.Token.{Token}
+use Rattle.noise_names.specs.declared.token.Token.TheVariants.{E, S, Ee, Es, Se, Ss, Psk}
+use Rattle.noise_names.specs.Limits.{IsPattern}
+use Rattle.noise_names.specs.Names.{IsSection, Section, is_section_byte, section_bytes}
+use Rattle.noise_names.specs.Plan.{Plan}
+use Rattle.noise_names.specs.Text.{message_lines, pre_line, pre_lines, token_line, word_of, words}
+use Rattle.noise_names.specs.Text.{text_of as pattern_text}
+use Rattle.noise_names.specs.Tokens.{other}
+use Rattle.noise_names.specs.Facts.{section_bytes-all}
+use Rattle.noise_vectors.specs.Block.{IsInner, itself}
+use Rattle.noise_vectors.specs.VectorText.{line, lines_of}
+use Rattle.noise_vectors.specs.Words.{lacks}
+use Rattle.noise_vectors.proofs.LackLemmas.{all_weaker, lacks-append}
+
+-- ---- lists of lines
+
+lines_of-append : (xs ys : List (List ℕ)) (rest : List ℕ) → lines_of itself (xs ++ ys) rest ≡ lines_of itself xs (lines_of itself ys rest)
+lines_of-append [] ys rest = refl
+lines_of-append (x ∷ xs) ys rest = ap (λ (t : List ℕ). line x t) (lines_of-append xs ys rest)
+
+lines_of-behind : (xs : List (List ℕ)) (rest behind : List ℕ) → lines_of itself xs rest ++ behind ≡ lines_of itself xs (rest ++ behind)
+lines_of-behind [] rest behind = refl
+lines_of-behind (x ∷ xs) rest behind =
+    append_assoc x (10 ∷ lines_of itself xs rest) behind ∙ ap (λ (t : List ℕ). line x t) (lines_of-behind xs rest behind)
+
+-- the text is that of lines which aren't the block's last one
+pub record Lined (text : List ℕ) : Type 0 where
+  pub before : List (List ℕ)
+  pub inner : All IsInner before
+  pub lines_are : text ≡ lines_of itself before []
+
+lined-none : Lined []
+lined-none = record { before = []; inner = All-nil IsInner; lines_are = refl }
+
+lined-one : (text : List ℕ) → IsInner text → Lined (text ++ 10 ∷ [])
+lined-one text h = record { before = text ∷ []; inner = All-cons IsInner text [] h (All-nil IsInner); lines_are = refl }
+
+lined-append : (front behind : List ℕ) → Lined front → Lined behind → Lined (front ++ behind)
+lined-append front behind f b = record {
+  before = f.before ++ b.before;
+  inner = All-append IsInner f.before b.before f.inner b.inner;
+  lines_are = ap (λ (t : List ℕ). t ++ behind) f.lines_are ∙ lines_of-behind f.before [] behind
+      ∙ ap (λ (t : List ℕ). lines_of itself f.before t) b.lines_are ∙ sym (lines_of-append f.before b.before []);
+}
+
+-- ---- the lines of a pattern's text
+
+lacks-word_of : (t : Token) → lacks 10 (word_of t) ≡ true
+lacks-word_of E = refl
+lacks-word_of S = refl
+lacks-word_of Ee = refl
+lacks-word_of Es = refl
+lacks-word_of Se = refl
+lacks-word_of Ss = refl
+lacks-word_of Psk = refl
+
+lacks-words : (ts : List Token) → lacks 10 (words ts) ≡ true
+lacks-words [] = refl
+lacks-words (t ∷ []) = lacks-word_of t
+lacks-words (t ∷ u ∷ ts) =
+    let first = lacks-append 10 (word_of t) (codes ", ") (lacks-word_of t) refl in
+    lacks-append 10 (word_of t ++ codes ", ") (words (u ∷ ts)) first (lacks-words (u ∷ ts))
+
+lined-token_line : (party : Role) (ts : List Token) → Lined (token_line party ts)
+lined-token_line Initiator ts =
+    lined-one (codes "  -> " ++ words ts) (lacks-append 10 (codes "  -> ") (words ts) refl (lacks-words ts), λ e. cc (e))
+lined-token_line Responder ts =
+    lined-one (codes "  <- " ++ words ts) (lacks-append 10 (codes "  <- ") (words ts) refl (lacks-words ts), λ e. cc (e))
+
+lined-pre_line : (party : Role) (ts : List Token) → Lined (pre_line party ts)
+lined-pre_line party [] = lined-none
+lined-pre_line party (t ∷ ts) = lined-token_line party (t ∷ ts)
+
+lined-both : (i r : List Token) → Lined (pre_line Initiator i ++ pre_line Responder r ++ (codes "  ..." ++ 10 ∷ []))
+lined-both i r =
+    lined-append (pre_line Initiator i ++ pre_line Responder r) (codes "  ..." ++ 10 ∷ [])
+    (lined-append (pre_line Initiator i) (pre_line Responder r) (lined-pre_line Initiator i) (lined-pre_line Responder r))
+    (lined-one (codes "  ...") (refl, λ e. cc (e)))
+
+lined-pre_lines : (i r : List Token) → Lined (pre_lines i r)
+lined-pre_lines [] [] = lined-none
+lined-pre_lines [] (u ∷ us) = lined-both [] (u ∷ us)
+lined-pre_lines (t ∷ ts) r = lined-both (t ∷ ts) r
+
+lined-message_lines : (party : Role) (ms : List (List Token)) → Lined (message_lines party ms)
+lined-message_lines party [] = lined-none
+lined-message_lines party (m ∷ ms) =
+    lined-append (token_line party m) (message_lines (other party) ms) (lined-token_line party m) (lined-message_lines (other party) ms)
+
+-- no byte of a section is a line feed
+not_feed : (b : ℕ) → is_section_byte b ≡ true → not (b == 10) ≡ true
+not_feed b h = grind (arith, nat_tests)
+
+-- nor the `e` that `end` begins with
+not_end : (section : List ℕ) → list_all is_section_byte section ≡ true → ¬ (section ++ codes ":" ≡ codes "end")
+not_end [] h e = cc (e)
+not_end (b ∷ bs) h e =
+    let parts = and_parts (is_section_byte b) (list_all is_section_byte bs) h in
+    let first : b ≡ 101 = cc (e) in
+    let bad : is_section_byte 101 ≡ true = rw first at parts.0 in
+    cc (bad)
+
+lined-heading : (s : Section) → IsSection s → Lined ((section_bytes s.base s.places ++ codes ":") ++ 10 ∷ [])
+lined-heading s h =
+    let bytes = section_bytes-all s h in
+    let plain = all_weaker is_section_byte (λ b. not (b == 10)) (section_bytes s.base s.places) not_feed bytes in
+    lined-one (section_bytes s.base s.places ++ codes ":") (
+      lacks-append 10 (section_bytes s.base s.places) (codes ":") plain refl,
+      not_end (section_bytes s.base s.places) bytes,
+    )
+
+-- the text of a pattern is that of such lines
+pub lined-pattern : (p : Plan) → IsPattern p → Lined (pattern_text p)
+lined-pattern p h =
+    let s : Section = record { base = p.base; places = p.places } in
+    let heading = lined-heading s (record { base = h.base; places = h.places }) in
+    lined-append (((section_bytes p.base p.places ++ codes ":") ++ 10 ∷ []) ++ pre_lines p.initiator p.responder) (message_lines Initiator p.messages)
+    (lined-append ((section_bytes p.base p.places ++ codes ":") ++ 10 ∷ []) (pre_lines p.initiator p.responder) heading
+    (lined-pre_lines p.initiator p.responder))
+    (lined-message_lines Initiator p.messages)
+
+-- and with `end` behind it
+pub block-lines : (p : Plan) (h : IsPattern p) (rest start : List ℕ) → start ≡ pattern_text p ++ line (codes "end") rest
+    → start ≡ lines_of itself (lined-pattern p h).before (line (codes "end") rest)
+block-lines p h rest start e =
+    let l = lined-pattern p h in
+    e ∙ ap (λ (t : List ℕ). t ++ line (codes "end") rest) l.lines_are ∙ lines_of-behind l.before [] (line (codes "end") rest)
+
+-- ---- the lines before `end`, as they are read
+
+-- these lines and `end` are still to be read
+pub record Left (rest left : List ℕ) : Type 0 where
+  pub others : List (List ℕ)
+  pub inner : All IsInner others
+  pub left_is : left ≡ lines_of itself others (line (codes "end") rest)
+
+pub Left-start : (rest : List ℕ) (before : List (List ℕ)) (left : List ℕ) → All IsInner before
+    → left ≡ lines_of itself before (line (codes "end") rest) → Left rest left
+Left-start rest before left h e = record { others = before; inner = h; left_is = e }
+
+-- what the next line is
+abbrev pub IsNext : List ℕ → List ℕ → List ℕ → Bool → Type 0
+IsNext left text behind is_ended =
+    (words more : List ℕ) → lacks 10 words ≡ true → left ≡ line words more → (text ≡ words) × (behind ≡ more) × (is_ended ≡ true)
+
+abbrev pub NoNext : List ℕ → Type 0
+NoNext left = (words more : List ℕ) → lacks 10 words ≡ true → ¬ (left ≡ line words more)
+
+-- there is a next line
+next-of : (rest left : List ℕ) (others : List (List ℕ)) → All IsInner others → left ≡ lines_of itself others (line (codes "end") rest)
+    → ¬ (NoNext left)
+next-of rest left [] inner e none = none (codes "end") rest refl e
+next-of rest left (x ∷ xs) inner e none = none x (lines_of itself xs (line (codes "end") rest)) (All-head IsInner x xs inner).0 e
+
+pub Left-next : (rest left : List ℕ) → Left rest left → ¬ (NoNext left)
+Left-next rest left l none = next-of rest left l.others l.inner l.left_is none
+
+-- `end` is the last one
+last-of : (rest left text behind : List ℕ) (is_ended : Bool) (others : List (List ℕ)) → All IsInner others
+    → left ≡ lines_of itself others (line (codes "end") rest) → IsNext left text behind is_ended → text ≡ codes "end"
+    → (left ≡ line (codes "end") rest) × (behind ≡ rest) × (is_ended ≡ true)
+last-of rest left text behind is_ended [] inner e next is =
+    let n = next (codes "end") rest refl e in
+    (e, n.1, n.2)
+last-of rest left text behind is_ended (x ∷ xs) inner e next is =
+    let first = All-head IsInner x xs inner in
+    let n = next x (lines_of itself xs (line (codes "end") rest)) first.0 e in
+    absurd (first.1 (sym n.0 ∙ is))
+
+pub Left-last : (rest left text behind : List ℕ) (is_ended : Bool) → Left rest left → IsNext left text behind is_ended → text ≡ codes "end"
+    → (left ≡ line (codes "end") rest) × (behind ≡ rest) × (is_ended ≡ true)
+Left-last rest left text behind is_ended l next is = last-of rest left text behind is_ended l.others l.inner l.left_is next is
+
+-- behind any other line the further ones are left
+step-of : (rest left text behind : List ℕ) (is_ended : Bool) (others : List (List ℕ)) → All IsInner others
+    → left ≡ lines_of itself others (line (codes "end") rest) → IsNext left text behind is_ended → ¬ (text ≡ codes "end")
+    → Left rest behind × (is_ended ≡ true)
+step-of rest left text behind is_ended [] inner e next is =
+    let n = next (codes "end") rest refl e in
+    absurd (is n.0)
+step-of rest left text behind is_ended (x ∷ xs) inner e next is =
+    let n = next x (lines_of itself xs (line (codes "end") rest)) (All-head IsInner x xs inner).0 e in
+    (record { others = xs; inner = All-tail IsInner x xs inner; left_is = n.1 }, n.2)
+
+pub Left-step : (rest left text behind : List ℕ) (is_ended : Bool) → Left rest left → IsNext left text behind is_ended → ¬ (text ≡ codes "end")
+    → Left rest behind × (is_ended ≡ true)
+Left-step rest left text behind is_ended l next is = step-of rest left text behind is_ended l.others l.inner l.left_is next is
+
+-- what stands before the rest's last line is the text of the lines before it
+pub front-is : (text left rest : List ℕ) (before : List (List ℕ)) → text ≡ lines_of itself before (line (codes "end") rest)
+    → left ≡ line (codes "end") rest → take (length text - length left) text ≡ lines_of itself before []
+front-is text left rest before e is =
+    let whole : text ≡ lines_of itself before [] ++ left =
+    e ∙ sym (lines_of-behind before [] (line (codes "end") rest)) ∙ ap (λ (t : List ℕ). lines_of itself before [] ++ t) (sym is) in
+    let len : length text ≡ length (lines_of itself before []) + length left = ap length whole ∙ length-append (lines_of itself before []) left in
+    let n : length text - length left ≡ length (lines_of itself before []) = omega arith in
+    let front : take (length (lines_of itself before [])) text ≡ lines_of itself before [] =
+    ap (take (length (lines_of itself before []))) whole ∙ take-append_seam (lines_of itself before []) left in
+    rw n front

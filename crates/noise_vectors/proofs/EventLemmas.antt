@@ -1,0 +1,91 @@
+-- The words of an event.
+use Rattle.std.proofs.Common.{arith, ◌≡◌, ◌<◌, ◌^◌, lit<, refl, true, ℕ, List, [], ◌∷◌, ◌++◌, codes}
+use Rattle.std.specs.Prelude.{decimal}
+use Rattle.std.specs.List.{All}
+use Rattle.std.proofs.lemmas.List.Elements.{All-cons, All-head, All-nil, All-tail}
+use Rattle.noise_names.specs.declared.token.Role.{Role}
+use Rattle.noise_duel.specs.declared.event.Event.{Event}
+use Rattle.noise_duel.specs.declared.event.Event.TheVariants.{Write, Say, Deliver, Raw}
+use Rattle.noise_vectors.specs.HexWord.{hex_of}
+use Rattle.noise_vectors.specs.VectorFile.{IsAllowed, IsEvent, IsShort}
+use Rattle.noise_vectors.specs.VectorText.{event_words, kind_word, lengths_word, role_word}
+use Rattle.noise_vectors.specs.Words.{lacks}
+use Rattle.noise_vectors.specs.declared.vector.AllowedEvents.{AllowedEvents}
+use Rattle.noise_vectors.specs.declared.words.EventKind.{EventKind}
+use Rattle.noise_vectors.specs.declared.words.EventKind.TheVariants as kinds
+use Rattle.noise_vectors.proofs.LackLemmas.{lacks-append, lacks-hex_of, lacks-lengths_word, role_word-plain}
+use Rattle.noise_vectors.proofs.WordLemmas.{lacks-decimal}
+
+-- ---- its parts
+
+abbrev pub kind_of : Event → EventKind
+kind_of (Say role payload cuts) = kinds.Say
+kind_of (Write role payload) = kinds.Write
+kind_of (Deliver role number cuts) = kinds.Deliver
+kind_of (Raw role bytes) = kinds.Raw
+
+abbrev pub role_of : Event → Role
+role_of (Say role payload cuts) = role
+role_of (Write role payload) = role
+role_of (Deliver role number cuts) = role
+role_of (Raw role bytes) = role
+
+-- what stands behind the role
+abbrev pub operands_of : Event → List ℕ
+operands_of (Say role payload cuts) = hex_of payload.items ++ 32 ∷ lengths_word cuts
+operands_of (Write role payload) = hex_of payload.items
+operands_of (Deliver role number cuts) = decimal number ++ 32 ∷ lengths_word cuts
+operands_of (Raw role bytes) = hex_of bytes.items
+
+pub event_words-parts : (event : Event) → event_words event ≡ kind_word (kind_of event) ++ 32 ∷ (role_word (role_of event) ++ 32 ∷ operands_of event)
+event_words-parts (Say role payload cuts) = refl
+event_words-parts (Write role payload) = refl
+event_words-parts (Deliver role number cuts) = refl
+event_words-parts (Raw role bytes) = refl
+
+-- the word of a kind has no space (32)
+pub kind_word-plain : (kind : EventKind) → lacks 32 (kind_word kind) ≡ true
+kind_word-plain kinds.Say = refl
+kind_word-plain kinds.Write = refl
+kind_word-plain kinds.Deliver = refl
+kind_word-plain kinds.Raw = refl
+
+-- ---- its line
+
+line-of : (front : List ℕ) (role : Role) (operands : List ℕ) → lacks 10 front ≡ true → lacks 10 operands ≡ true
+    → lacks 10 (front ++ (role_word role ++ 32 ∷ operands)) ≡ true
+line-of front role operands f o =
+    lacks-append 10 front (role_word role ++ 32 ∷ operands) f (lacks-append 10 (role_word role) (32 ∷ operands) (role_word-plain role).0 o)
+
+-- they have no line feed (10)
+pub event_words-line : (event : Event) → IsEvent event → lacks 10 (event_words event) ≡ true
+event_words-line (Say role payload cuts) h =
+    line-of (codes "say ") role (hex_of payload.items ++ 32 ∷ lengths_word cuts) refl
+    (lacks-append 10 (hex_of payload.items) (32 ∷ lengths_word cuts) (lacks-hex_of 10 payload.items (lit< tt) h.0.1)
+    (lacks-lengths_word 10 cuts (lit< tt) h.1.0.1))
+event_words-line (Write role payload) h = line-of (codes "write ") role (hex_of payload.items) refl (lacks-hex_of 10 payload.items (lit< tt) h.1)
+event_words-line (Deliver role number cuts) h =
+    let small : number < 2 ^ 64 = omega (arith, h.0) in
+    line-of (codes "deliver ") role (decimal number ++ 32 ∷ lengths_word cuts) refl
+    (lacks-append 10 (decimal number) (32 ∷ lengths_word cuts) (lacks-decimal 10 number (lit< tt) small) (lacks-lengths_word 10 cuts (lit< tt) h.1.0.1))
+event_words-line (Raw role bytes) h = line-of (codes "raw ") role (hex_of bytes.items) refl (lacks-hex_of 10 bytes.items (lit< tt) h.1)
+
+-- ---- its words
+
+pub payload-word : (payload : List ℕ) → IsShort payload → lacks 32 (hex_of payload) ≡ true
+payload-word payload h = lacks-hex_of 32 payload (lit< tt) h.1
+
+pub number-word : (number : ℕ) → number < 2 ^ 32 → lacks 32 (decimal number) ≡ true
+number-word number h = lacks-decimal 32 number (lit< tt) (omega (arith, h))
+
+-- ---- all of a file's events
+
+-- an event that is allowed
+abbrev pub IsRight : AllowedEvents → Event → Type 0
+IsRight allowed event = IsEvent event × IsAllowed allowed event
+
+pub all-right : (allowed : AllowedEvents) (events : List Event) → All IsEvent events → All (IsAllowed allowed) events → All (IsRight allowed) events
+all-right allowed [] h g = All-nil (IsRight allowed)
+all-right allowed (e ∷ es) h g =
+    All-cons (IsRight allowed) e es (All-head IsEvent e es h, All-head (IsAllowed allowed) e es g)
+    (all-right allowed es (All-tail IsEvent e es h) (All-tail (IsAllowed allowed) e es g))

@@ -1,0 +1,11 @@
+pub mod BlockLemmas
+pub mod CutLemmas
+pub mod EventLemmas
+pub mod HexWordLemmas
+pub mod KeyLemmas
+pub mod LackLemmas
+pub mod LineLemmas
+pub mod PartyLemmas
+pub mod ReadingLemmas
+pub mod VectorLemmas
+pub mod WordLemmas

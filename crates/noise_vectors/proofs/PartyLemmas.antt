@@ -1,0 +1,128 @@
+-- The lines that give a party its keys, as they are read.
+use Rattle.std.proofs.Common.{arith, ◌≡◌, ◌∙◌, ◌≤◌, ◌<◌, ap, sym, refl, lit<, Bool, true, false, ℕ, List, ◌∷◌, ◌++◌, Option, codes, length, get_or}
+use Rattle.std.specs.Prelude.{nat_eq, IfSome}
+use Rattle.std.specs.List.{All, starts_with}
+use Rattle.std.proofs.lemmas.List.{append_cancel_left}
+use Rattle.hex.specs.Hex.{encode_lower}
+use Rattle.noise_names.specs.declared.token.Role.{Role}
+use Rattle.noise_handshake.specs.Table.{TableEntry}
+use Rattle.noise_handshake.specs.Table as Tables
+use Rattle.noise_vectors.specs.VectorFile.{AreKeys, IsEntry}
+use Rattle.noise_vectors.specs.VectorText.{answer_words, key_word, key_words, line, lines_of, own_word, party_text, role_word}
+use Rattle.noise_vectors.specs.Words.{IsKey, lacks}
+use Rattle.noise_vectors.specs.declared.file_keys.FileKeys.{FileKeys}
+use Rattle.noise_vectors.specs.declared.file_keys.FileKeys.TheVariants.{Xor, Table}
+use Rattle.noise_vectors.proofs.LackLemmas.{lacks-append, lacks-encode_lower, lacks-key_word, own_word-plain, role_word-plain}
+
+-- what stands behind a front
+pub behind-front : (text front behind rest : List ℕ) → text ≡ front ++ behind → text ≡ front ++ rest → behind ≡ rest
+behind-front text front behind rest split is = append_cancel_left front behind rest (sym split ∙ is)
+
+-- two keys have no line feed (10)
+lacks-key_words : (e s : Option (List ℕ)) → IfSome e IsKey → IfSome s IsKey → lacks 10 (key_words e s) ≡ true
+lacks-key_words e s he hs =
+    lacks-append 10 (key_word e) (32 ∷ key_word s) (lacks-key_word 10 e (lit< tt) he) (lacks-key_word 10 s (lit< tt) hs)
+
+-- ---- an answer's line
+
+lacks-answer_keys : (entry : TableEntry) → IsEntry entry → lacks 10 (encode_lower entry.remote ++ 32 ∷ encode_lower entry.answer) ≡ true
+lacks-answer_keys entry h =
+    lacks-append 10 (encode_lower entry.remote) (32 ∷ encode_lower entry.answer)
+    (lacks-encode_lower 10 entry.remote (lit< tt) h.0.1) (lacks-encode_lower 10 entry.answer (lit< tt) h.1.1)
+
+-- which has no line feed
+pub lacks-answer_words : (entry : TableEntry) → IsEntry entry → lacks 10 (answer_words entry) ≡ true
+lacks-answer_words entry h =
+    lacks-append 10 (own_word entry.own) (32 ∷ (encode_lower entry.remote ++ 32 ∷ encode_lower entry.answer))
+    (own_word-plain entry.own).0 (lacks-answer_keys entry h)
+
+-- what a split at the first space (32) gives
+abbrev pub Splits : List ℕ → List ℕ → List ℕ → Type 0
+Splits text first behind = (b h : List ℕ) → lacks 32 b ≡ true → text ≡ b ++ 32 ∷ h → (first ≡ b) × (behind ≡ h)
+
+-- the keys behind the name of the key pair
+pub answer-keys : (line front rest own keys : List ℕ) (entry : TableEntry) → front ≡ codes "answer " → line ≡ front ++ rest → Splits rest own keys
+    → line ≡ answer_words entry → keys ≡ encode_lower entry.remote ++ 32 ∷ encode_lower entry.answer
+answer-keys line front rest own keys entry front_is split every e =
+    let whole : line ≡ codes "answer " ++ rest = split ∙ ap (λ (t : List ℕ). t ++ rest) front_is in
+    let rest_is = behind-front line (codes "answer ") rest
+    (own_word entry.own ++ 32 ∷ (encode_lower entry.remote ++ 32 ∷ encode_lower entry.answer)) whole e in
+    (every (own_word entry.own) (encode_lower entry.remote ++ 32 ∷ encode_lower entry.answer) (own_word-plain entry.own).1 rest_is).1
+
+-- whether the text begins as an answer's line does
+abbrev pub begins : List ℕ → Bool
+begins text = starts_with nat_eq text (codes "answer ")
+
+-- ---- a party's line
+
+-- what stands behind the role
+abbrev pub words_of : FileKeys → List ℕ
+words_of (Xor keys) = codes "xor " ++ key_words keys.e keys.s
+words_of (Table keys) = codes "table " ++ key_words keys.e keys.s
+
+-- what stands behind the line
+abbrev pub behind_of : FileKeys → List ℕ → List ℕ
+behind_of (Xor keys) rest = rest
+behind_of (Table keys) rest = lines_of answer_words keys.entries rest
+
+party_text-line : (role : Role) (keys : FileKeys) (rest : List ℕ)
+    → party_text role keys rest ≡ line (role_word role ++ 32 ∷ words_of keys) (behind_of keys rest)
+party_text-line role (Xor keys) rest = refl
+party_text-line role (Table keys) rest = refl
+
+lacks-words_of : (keys : FileKeys) → AreKeys keys → lacks 10 (words_of keys) ≡ true
+lacks-words_of (Xor keys) h = lacks-key_words keys.e keys.s h.0 h.1
+lacks-words_of (Table keys) h = lacks-key_words keys.e keys.s h.0 h.1
+
+lacks-party : (role : Role) (keys : FileKeys) → AreKeys keys → lacks 10 (role_word role ++ 32 ∷ words_of keys) ≡ true
+lacks-party role keys h = lacks-append 10 (role_word role) (32 ∷ words_of keys) (role_word-plain role).0 (lacks-words_of keys h)
+
+-- what reading the next line of a text gives
+abbrev pub ReadsLine : List ℕ → List ℕ → List ℕ → Bool → Type 0
+ReadsLine text read behind is_ended = (w b : List ℕ) → lacks 10 w ≡ true → text ≡ line w b → (read ≡ w) × (behind ≡ b) × (is_ended ≡ true)
+
+-- the next line is the party's
+pub party-read : (role : Role) (keys : FileKeys) (text rest read behind : List ℕ) (is_ended : Bool) → AreKeys keys → text ≡ party_text role keys rest
+    → ReadsLine text read behind is_ended → (read ≡ role_word role ++ 32 ∷ words_of keys) × (behind ≡ behind_of keys rest) × (is_ended ≡ true)
+party-read role keys text rest read behind is_ended h e every =
+    every (role_word role ++ 32 ∷ words_of keys) (behind_of keys rest) (lacks-party role keys h) (e ∙ party_text-line role keys rest)
+
+-- the party's keys are those of a table
+pub record IsTable (keys : FileKeys) (words : List ℕ) : Type 0 where
+  pub table : Tables.Table
+  pub words_are : words ≡ codes "table " ++ key_words table.e table.s
+  pub behind_is : (rest : List ℕ) → behind_of keys rest ≡ lines_of answer_words table.entries rest
+  pub e : IfSome table.e IsKey
+  pub s : IfSome table.s IsKey
+  pub few : length table.entries ≤ 8
+  pub entries_are : All IsEntry table.entries
+
+-- words that are not those of xor are a table's
+pub not-xor : (keys : FileKeys) (words front : List ℕ) → AreKeys keys → words ≡ words_of keys → front ≡ codes "xor "
+    → ((e s : Option (List ℕ)) → IfSome e IsKey → IfSome s IsKey → words ≡ front ++ key_words e s → false ≡ true) → IsTable keys words
+not-xor (Xor keys) words front h is xor none =
+    let bad = none keys.e keys.s h.0 h.1 (is ∙ ap (λ (t : List ℕ). t ++ key_words keys.e keys.s) (sym xor)) in
+    absurd (cc (bad))
+not-xor (Table keys) words front h is xor none = record {
+  table = keys;
+  words_are = is;
+  behind_is = λ rest. refl;
+  e = h.0;
+  s = h.1;
+  few = h.2;
+  entries_are = h.3;
+}
+
+other-heads : (x y : ℕ) (xs ys : List ℕ) → x < y → ¬ (x ∷ xs ≡ y ∷ ys)
+other-heads x y xs ys less e =
+    let same : x ≡ y = ap (λ (t : List ℕ). get_or t 0 0) e in
+    omega arith
+
+-- behind words of xor no answers stand
+pub xor-behind : (keys : FileKeys) (words front : List ℕ) (e s : Option (List ℕ)) (rest : List ℕ) → words ≡ words_of keys → front ≡ codes "xor "
+    → words ≡ front ++ key_words e s → behind_of keys rest ≡ rest
+xor-behind (Xor keys) words front e s rest is xor text = refl
+xor-behind (Table keys) words front e s rest is xor text =
+    let same : codes "table " ++ key_words keys.e keys.s ≡ codes "xor " ++ key_words e s =
+    sym is ∙ text ∙ ap (λ (t : List ℕ). t ++ key_words e s) xor in
+    absurd (other-heads 116 120 (codes "able " ++ key_words keys.e keys.s) (codes "or " ++ key_words e s) (lit< tt) same)

@@ -1,0 +1,76 @@
+-- What is left of a vector file's text where its lines are read one after the other.
+use Rattle.std.proofs.Common.{◌≡◌, refl, subst, sym, false, ℕ, List, [], ◌∷◌, ◌++◌, Option, codes, decimal}
+use Rattle.std.specs.Bool.{nat_eq}
+use Rattle.std.specs.List.{starts_with}
+use Rattle.noise_names.specs.declared.token.Role.TheVariants.{Initiator, Responder}
+use Rattle.noise_names.specs.Names.{Section, name_bytes}
+use Rattle.noise_names.specs.Plan.{Plan}
+use Rattle.noise_duel.specs.declared.event.Event.{Event}
+use Rattle.noise_duel.specs.declared.event.Event.TheVariants.{Write, Say, Deliver, Raw}
+use Rattle.noise_vectors.specs.HexWord.{hex_of}
+use Rattle.noise_vectors.specs.VectorFile.{IsOwn}
+use Rattle.noise_vectors.specs.VectorText.{block_text, line, lines_of, party_text, psk_words, event_words}
+use Rattle.noise_vectors.specs.declared.file_keys.FileKeys.{FileKeys}
+use Rattle.noise_vectors.specs.declared.file_keys.FileKeys.TheVariants.{Xor, Table}
+use Rattle.noise_vectors.specs.declared.vector.VectorFile.{VectorFile}
+
+-- ---- what stands behind each part of the text
+
+abbrev pub behind_responder : VectorFile → List ℕ
+behind_responder file = lines_of event_words file.events.items []
+
+abbrev pub behind_initiator : VectorFile → List ℕ
+behind_initiator file = party_text Responder file.responder (behind_responder file)
+
+abbrev pub behind_psks : VectorFile → List ℕ
+behind_psks file = party_text Initiator file.initiator (behind_initiator file)
+
+abbrev pub behind_interval : VectorFile → List ℕ
+behind_interval file = lines_of psk_words file.psks.items (behind_psks file)
+
+abbrev pub behind_prologue : VectorFile → List ℕ
+behind_prologue file = line (codes "interval " ++ decimal file.interval) (behind_interval file)
+
+abbrev pub behind_block : VectorFile → List ℕ
+behind_block file = line (codes "prologue " ++ hex_of file.prologue.items) (behind_prologue file)
+
+abbrev pub behind_protocol : VectorFile → List ℕ
+behind_protocol file = block_text file.block (behind_block file)
+
+abbrev pub behind_header : VectorFile → List ℕ
+behind_header file = line (codes "protocol " ++ name_bytes file.protocol) (behind_protocol file)
+
+-- ---- how the rest begins
+
+initiator-no_psk : (keys : FileKeys) (rest : List ℕ) → starts_with nat_eq (party_text Initiator keys rest) (codes "psk ") ≡ false
+initiator-no_psk (Xor keys) rest = refl
+initiator-no_psk (Table keys) rest = refl
+
+responder-no_answer : (keys : FileKeys) (rest : List ℕ) → starts_with nat_eq (party_text Responder keys rest) (codes "answer ") ≡ false
+responder-no_answer (Xor keys) rest = refl
+responder-no_answer (Table keys) rest = refl
+
+events-no_answer : (events : List Event) → starts_with nat_eq (lines_of event_words events []) (codes "answer ") ≡ false
+events-no_answer [] = refl
+events-no_answer (Say role payload cuts ∷ events) = refl
+events-no_answer (Write role payload ∷ events) = refl
+events-no_answer (Deliver role number cuts ∷ events) = refl
+events-no_answer (Raw role bytes ∷ events) = refl
+
+-- no psk line stands behind the psk lines
+pub psks-end : (file : VectorFile) → starts_with nat_eq (behind_psks file) (codes "psk ") ≡ false
+psks-end file = initiator-no_psk file.initiator (behind_initiator file)
+
+-- no answer stands behind the initiator's lines
+pub initiator-ends : (file : VectorFile) → starts_with nat_eq (behind_initiator file) (codes "answer ") ≡ false
+initiator-ends file = responder-no_answer file.responder (behind_responder file)
+
+-- nor behind the responder's
+pub responder-ends : (file : VectorFile) → starts_with nat_eq (behind_responder file) (codes "answer ") ≡ false
+responder-ends file = events-no_answer file.events.items
+
+-- ---- the pattern
+
+-- the block fits the name that was read, which is the file's
+pub own-read : (name read : Section) (block : Option Plan) → IsOwn name block → read ≡ name → IsOwn read block
+own-read name read block own same = subst (λ (n : Section). IsOwn n block) (sym same) own

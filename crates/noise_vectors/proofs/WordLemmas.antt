@@ -1,0 +1,110 @@
+-- Where a byte stands first, and what decimal numbers look like.
+use Rattle.std.proofs.Common.{arith, ◌≡◌, ◌∙◌, ◌+◌, ◌-◌, ◌<◌, ◌≤◌, ◌^◌, ◌==◌, not, true, false, ap, refl, sym, add-one, eq-eqb, lit<}
+use Rattle.std.proofs.Common.{ℕ, zero, suc, List, [], ◌∷◌, ◌++◌, Some, None, length, get_or, take, drop}
+use Rattle.std.specs.Prelude.{decimal, position}
+use Rattle.std.specs.List.{prefix_len}
+use Rattle.std.specs.Str.Parse.{AllDigits}
+use Rattle.std.proofs.lemmas.Bool.{and_parts, eqb-true, lt-ltb}
+use Rattle.std.proofs.lemmas.Bool.Decides.{nat_tests}
+use Rattle.std.proofs.lemmas.Fmt.{decimal_digit, decimal_is_IsNumeral, first_decimal}
+use Rattle.std.proofs.lemmas.List.{append_assoc, length-append, length-drop, take-append-drop}
+use Rattle.std.proofs.Math.Seq.{drop-append_seam, drop-cons, take-append_seam, take-length}
+use Rattle.std.proofs.lemmas.List.Quantifiers.{position-Some}
+use Rattle.std.proofs.lemmas.Str.Parse.{digit_at, tells_digits}
+use Rattle.noise_vectors.specs.Words.{lacks}
+
+-- ---- the first place of a byte
+
+first_len : (byte : ℕ) (before behind : List ℕ) → lacks byte before ≡ true
+    → prefix_len (λ b. not (b == byte)) (before ++ byte ∷ behind) ≡ length before
+first_len byte [] behind h = rw (eq-eqb byte byte refl) refl
+first_len byte (b ∷ bs) behind h =
+    let parts = and_parts (not (b == byte)) (lacks byte bs) h in
+    let more = first_len byte bs behind parts.1 in
+    rw parts.0 (omega (arith, more))
+
+-- it stands behind what lacks it
+pub position-first : (byte : ℕ) (before behind : List ℕ) → lacks byte before ≡ true
+    → position (λ b. b == byte) (before ++ byte ∷ behind) ≡ Some (length before)
+position-first byte before behind h =
+    let len = first_len byte before behind h in
+    let long = length-append before (byte ∷ behind) in
+    let small : length before < length (before ++ byte ∷ behind) = omega (arith, long) in
+    rw (len, lt-ltb (length before) (length (before ++ byte ∷ behind)) small) refl
+
+pub place-first : (byte : ℕ) (text before behind : List ℕ) (place : ℕ) → Some place ≡ position (λ b. b == byte) text
+    → lacks byte before ≡ true → text ≡ before ++ byte ∷ behind → place ≡ length before
+place-first byte text before behind place found h e =
+    let same = found ∙ ap (position (λ b. b == byte)) e ∙ position-first byte before behind h in
+    cc (same)
+
+pub no-place : (byte : ℕ) (text before behind : List ℕ) → None ≡ position (λ b. b == byte) text
+    → lacks byte before ≡ true → ¬ (text ≡ before ++ byte ∷ behind)
+no-place byte text before behind none h e =
+    let same = none ∙ ap (position (λ b. b == byte)) e ∙ position-first byte before behind h in
+    cc (same)
+
+-- what stands before that place and behind it
+pub parted : (byte : ℕ) (text before behind : List ℕ) (place : ℕ) → text ≡ before ++ byte ∷ behind → place ≡ length before
+    → (take place text ≡ before) × (take (length text - (place + 1)) (drop (place + 1) text) ≡ behind)
+parted byte text before behind place e at =
+    let len : length text ≡ length before + length (byte ∷ behind) = ap length e ∙ length-append before (byte ∷ behind) in
+    let front : take (length before) text ≡ before = ap (take (length before)) e ∙ take-append_seam before (byte ∷ behind) in
+    let whole : text ≡ (before ++ byte ∷ []) ++ behind = e ∙ sym (append_assoc before (byte ∷ []) behind) in
+    let one : length (before ++ byte ∷ []) ≡ length before + 1 = length-append before (byte ∷ []) in
+    let next : place + 1 ≡ length (before ++ byte ∷ []) = omega arith in
+    let rest : drop (length (before ++ byte ∷ [])) text ≡ behind =
+    ap (drop (length (before ++ byte ∷ []))) whole ∙ drop-append_seam (before ++ byte ∷ []) behind in
+    let left : length text - length (before ++ byte ∷ []) ≡ length behind = omega arith in
+    (rw at front, rw (next, left, rest) (take-length behind))
+
+-- the text is what stands before it, the byte, and what stands behind it
+pub parts-at : (byte : ℕ) (text : List ℕ) (place : ℕ) → Some place ≡ position (λ b. b == byte) text
+    → text ≡ take place text ++ byte ∷ take (length text - (place + 1)) (drop (place + 1) text)
+parts-at byte text place found =
+    let at = position-Some (λ b. b == byte) text place 0 (sym found) in
+    let inside : place < length text = at.0 in
+    let is : get_or text place 0 ≡ byte = eqb-true (get_or text place 0) byte at.1 in
+    let first : drop place text ≡ get_or text place 0 ∷ drop (place + 1) text = rw (add-one, drop-cons text place 0) in
+    let len : length (drop (place + 1) text) ≡ length text - (place + 1) = length-drop (place + 1) text in
+    let whole : take (length text - (place + 1)) (drop (place + 1) text) ≡ drop (place + 1) text =
+    rw (← len) (take-length (drop (place + 1) text)) in
+    rw whole (sym (take-append-drop place text)
+    ∙ ap (λ (t : List ℕ). take place text ++ t) (first ∙ ap (λ (b : ℕ). b ∷ drop (place + 1) text) is))
+
+-- a text with the byte doesn't lack it
+pub not_lacks : (byte : ℕ) (before behind : List ℕ) → ¬ (lacks byte (before ++ byte ∷ behind) ≡ true)
+not_lacks byte [] behind h =
+    let parts = and_parts (not (byte == byte)) (lacks byte behind) h in
+    let same = eq-eqb byte byte refl in
+    cc (rw same at parts.0)
+not_lacks byte (b ∷ bs) behind h =
+    let parts = and_parts (not (b == byte)) (lacks byte (bs ++ byte ∷ behind)) h in
+    not_lacks byte bs behind parts.1
+
+-- ---- decimal numbers
+
+lacks-digits : (byte : ℕ) (ds : List ℕ) → byte < 48 → AllDigits 10 ds → lacks byte ds ≡ true
+lacks-digits byte [] low h = refl
+lacks-digits byte (c ∷ cs) low h =
+    let parts = tells_digits.parts c cs h in
+    let more = lacks-digits byte cs low parts.1 in
+    let digit = parts.0 in
+    let other : (c == byte) ≡ false = grind (arith, nat_tests) in
+    rw (other, more) refl
+
+-- a number has no byte that is less than a digit
+pub lacks-decimal : (byte n : ℕ) → byte < 48 → n < 2 ^ 64 → lacks byte (decimal n) ≡ true
+lacks-decimal byte n low small =
+    let numeral = decimal_is_IsNumeral n small in
+    lacks-digits byte (decimal n) low numeral.0.1
+
+-- its first byte is a digit, and a zero only alone
+pub led-decimal : (n : ℕ) → n < 2 ^ 64
+    → (48 ≤ get_or (decimal n) 0 0) × (get_or (decimal n) 0 0 ≤ 57) × (get_or (decimal n) 0 0 ≡ 48 → length (decimal n) ≡ 1)
+led-decimal zero small = rw (decimal_digit 0 (lit< tt)) (omega arith, omega arith, λ e. refl)
+led-decimal (suc n) small =
+    let numeral = decimal_is_IsNumeral (suc n) small in
+    let first = digit_at (decimal (suc n)) 0 numeral.0.1 numeral.0.0 in
+    let high = first_decimal (suc n) (omega arith) small in
+    (first.0, first.1, λ e. absurd (omega arith))

@@ -1,0 +1,58 @@
+use Rattle.std.proofs.Common.{rules, ◌≡◌, ◌∙◌, ◌-◌, ap, refl, sym, List, [], ℕ, ◌++◌, codes, length, take}
+use Rattle.std.specs.Prelude.{IsTrue}
+use Rattle.std.proofs.lemmas.Slice.Eq.{bytes_eq-Decides}
+use Rattle.noise_vectors.specs.VectorText.{line}
+use Rattle.noise_vectors.proofs.BlockLemmas.{front-is, Left-last, Left-next, Left-start, Left-step}
+use Rattle.noise_vectors.proofs.LineLemmas.{Ends-behind, Ends-whole}
+use Rattle.noise_vectors.proofs.block.take_block.Goals as goal
+
+pub loop-lines-init : goal.loop-lines-init
+loop-lines-init c = (([], refl), λ before rest h e. Left-start rest before c.args.lines.now.rest.now h e)
+
+pub returns-in_err-next-clause-every : goal.returns-in_err-next-clause-every
+returns-in_err-next-clause-every c = λ before rest h e.
+    absurd (Left-next rest c.loop-lines.lines.rest.now (c.loop-lines.invariant.1 before rest h e) c.in_err-next.ensures.every)
+
+pub returns-then-eq-clause-text : goal.returns-then-eq-clause-text
+returns-then-eq-clause-text c =
+    let last : c.in_ok-next.field-0.now ≡ codes "end" = search rules in
+    let text = c.args.lines.now.rest.now in
+    let left = c.loop-lines.lines.rest.now in
+    λ ended. Ends-whole text left c.loop-lines.invariant.0
+    ∙ ap (λ (t : List ℕ). take (length text - length left) text ++ t)
+    (c.in_ok-next.ensures.ended ended ∙ ap (λ (t : List ℕ). line t c.next.new.self.rest.now) last)
+
+pub returns-then-eq-clause-every : goal.returns-then-eq-clause-every
+returns-then-eq-clause-every c =
+    let last : c.in_ok-next.field-0.now ≡ codes "end" = search rules in
+    let text = c.args.lines.now.rest.now in
+    let left = c.loop-lines.lines.rest.now in
+    λ before rest h e.
+    let l = Left-last rest left c.in_ok-next.field-0.now c.next.new.self.rest.now c.next.new.self.is_ended
+    (c.loop-lines.invariant.1 before rest h e) c.in_ok-next.ensures.every last in
+    (front-is text left rest before e l.0, l.1, l.2)
+
+pub returns-in_err-end-clause-every : goal.returns-in_err-end-clause-every
+returns-in_err-end-clause-every c =
+    let word : c.as_slice.result.now ≡ codes "end" = search rules in
+    let other : ¬ (c.in_ok-next.field-0.now ≡ codes "end") =
+    λ e. let yes = (bytes_eq-Decides c.in_ok-next.field-0.now c.as_slice.result.now).1 (e ∙ sym word) in cc (c.eq.ensures, yes) in
+    λ before rest h e.
+    let l = Left-step rest c.loop-lines.lines.rest.now c.in_ok-next.field-0.now c.next.new.self.rest.now c.next.new.self.is_ended
+    (c.loop-lines.invariant.1 before rest h e) c.in_ok-next.ensures.every other in
+    let ok = c.in_err-end.ensures.ended.1 l.1 in
+    cc (ok)
+
+pub loop-lines-preserved : goal.loop-lines-preserved
+loop-lines-preserved c =
+    let ended : IsTrue c.next.new.self.is_ended = search rules in
+    let word : c.as_slice.result.now ≡ codes "end" = search rules in
+    let other : ¬ (c.in_ok-next.field-0.now ≡ codes "end") =
+    λ e. let yes = (bytes_eq-Decides c.in_ok-next.field-0.now c.as_slice.result.now).1 (e ∙ sym word) in cc (c.eq.ensures, yes) in (
+      Ends-behind c.args.lines.now.rest.now c.loop-lines.lines.rest.now c.in_ok-next.field-0.now c.next.new.self.rest.now
+          c.loop-lines.invariant.0 (c.in_ok-next.ensures.ended ended),
+      λ before rest h e.
+          let l = Left-step rest c.loop-lines.lines.rest.now c.in_ok-next.field-0.now c.next.new.self.rest.now c.next.new.self.is_ended
+          (c.loop-lines.invariant.1 before rest h e) c.in_ok-next.ensures.every other in
+          l.0,
+    )

@@ -1,0 +1,16 @@
+use Rattle.std.proofs.Common.{◌≡◌, ℕ, List, codes, length}
+use Rattle.std.specs.List.{All}
+use Rattle.noise_vectors.specs.Block.{IsInner, itself}
+use Rattle.noise_vectors.specs.VectorText.{line, lines_of}
+use Rattle.noise_vectors.proofs.BlockLemmas.{Left}
+use Rattle.noise_vectors.proofs.LineLemmas.{Ends}
+use Rattle.noise_vectors.proofs.block.take_block.Given as goal
+
+abbrev pub invariant-loop-lines : goal.invariant-loop-lines
+invariant-loop-lines l =
+    Ends l.text l.lines.rest.now
+    × ((before : List (List ℕ)) (rest : List ℕ) → All IsInner before → l.fn.lines.rest.now ≡ lines_of itself before (line (codes "end") rest)
+    → Left rest l.lines.rest.now)
+
+abbrev pub decreases-loop-lines : goal.decreases-loop-lines
+decreases-loop-lines l = length l.lines.rest.now

@@ -1,0 +1,62 @@
+use Rattle.std.proofs.Common.{rules, ◌≡◌, ◌∙◌, ◌+◌, ap, sym, refl, arith, ℕ, List, [], ◌∷◌, ◌++◌, true, false, true≢false, codes, length}
+use Rattle.std.specs.Prelude.{IsTrue}
+use Rattle.std.proofs.lemmas.List.{length-append}
+use Rattle.noise_handshake.specs.Table.{Table}
+use Rattle.noise_handshake.specs.Table.{TableEntry}
+use Rattle.noise_vectors.specs.VectorText.{answer_words, line, lines_of}
+use Rattle.noise_vectors.proofs.LineLemmas.{lines_of-more, FirstLine-room, FirstLine-step, LinesLeft-begun, LinesLeft-end}
+use Rattle.noise_vectors.proofs.PartyLemmas.{begins, lacks-answer_words}
+use Rattle.noise_vectors.proofs.parties.read_table.Goals as goal
+
+pub returns-in_default-clause-every : goal.returns-in_default-clause-every
+returns-in_default-clause-every c =
+    let starts : begins c.loop-lines.lines.rest.now ≡ true = search rules in
+    λ entries rest few are other is.
+    let f = LinesLeft-begun (c.loop-lines.invariant.every entries rest few are other is) (codes "answer ") starts other in
+    let read = c.in_ok-line.ensures.every (answer_words f.next) (lines_of answer_words f.others rest) (lacks-answer_words f.next f.next_good) f.left_is in
+    let none = c.in_default.ensures.every f.next f.next_good read.0 in
+    absurd (cc (none))
+
+pub returns-then-is_err-clause-every : goal.returns-then-is_err-clause-every
+returns-then-is_err-clause-every c =
+    let starts : begins c.loop-lines.lines.rest.now ≡ true = search rules in
+    let full : length c.loop-lines.table.entries ≡ 8 = c.add.ensures.full.0 (sym c.if-is_err.ensures.value) in
+    λ entries rest few are other is.
+    let f = LinesLeft-begun (c.loop-lines.invariant.every entries rest few are other is) (codes "answer ") starts other in
+    absurd (omega (arith, FirstLine-room f, full))
+
+pub returns-in_err-end-clause-every : goal.returns-in_err-end-clause-every
+returns-in_err-end-clause-every c =
+    let starts : begins c.loop-lines.lines.rest.now ≡ true = search rules in
+    λ entries rest few are other is.
+    let f = LinesLeft-begun (c.loop-lines.invariant.every entries rest few are other is) (codes "answer ") starts other in
+    let read = c.in_ok-line.ensures.every (answer_words f.next) (lines_of answer_words f.others rest) (lacks-answer_words f.next f.next_good) f.left_is in
+    let bad = c.in_err-end.ensures.ended.1 read.2 in
+    absurd (cc (bad))
+
+pub loop-lines-preserved : goal.loop-lines-preserved
+loop-lines-preserved c =
+    let starts : begins c.loop-lines.lines.rest.now ≡ true = search rules in
+    let ended : IsTrue c.next.new.self.is_ended = search rules in
+    let found : TableEntry = record { own = c.in-Some.found.0; remote = c.in-Some.found.1; answer = c.in-Some.found.2 } in
+    let added : c.add.new.self ≡ record c.loop-lines.table { entries = c.loop-lines.table.entries ++ found ∷ [] } = search rules in
+    let one : length c.add.new.self.entries ≡ length c.loop-lines.table.entries + 1 =
+    ap (λ (t : Table). length t.entries) added ∙ length-append c.loop-lines.table.entries (found ∷ []) in
+    record {
+      e = ap (λ (t : Table). t.e) added ∙ c.loop-lines.invariant.e;
+      s = ap (λ (t : Table). t.s) added ∙ c.loop-lines.invariant.s;
+      text = lines_of-more answer_words c.args.lines.now.rest.now c.loop-lines.lines.rest.now c.in_ok-line.line.now c.next.new.self.rest.now
+          c.loop-lines.table.entries found c.loop-lines.invariant.text (c.in_ok-line.ensures.ended ended) c.in-Some.ensures.text
+          ∙ ap (λ (t : Table). lines_of answer_words t.entries c.next.new.self.rest.now) (sym added);
+      every = λ entries rest few are other is.
+          let f = LinesLeft-begun (c.loop-lines.invariant.every entries rest few are other is) (codes "answer ") starts other in
+          let read = c.in_ok-line.ensures.every (answer_words f.next) (lines_of answer_words f.others rest) (lacks-answer_words f.next f.next_good) f.left_is in
+          FirstLine-step f one read.1;
+    }
+
+pub returns-clause-every : goal.returns-clause-every
+returns-clause-every c =
+    let over : begins c.loop-lines.lines.rest.now ≡ false = search rules in
+    let none : (entry : TableEntry) (behind : List ℕ) → ¬ (c.loop-lines.lines.rest.now ≡ line (answer_words entry) behind) =
+    λ entry behind e. true≢false (sym (ap begins e) ∙ over) in
+    λ entries rest few are other is. (refl, LinesLeft-end (c.loop-lines.invariant.every entries rest few are other is) none)

@@ -1,0 +1,20 @@
+use Rattle.std.proofs.Common.{◌≡◌, ◌≤◌, ℕ, List, false, length}
+use Rattle.std.specs.List.{All}
+use Rattle.noise_handshake.specs.Table.{TableEntry}
+use Rattle.noise_vectors.specs.VectorFile.{IsEntry}
+use Rattle.noise_vectors.specs.VectorText.{answer_words, lines_of}
+use Rattle.noise_vectors.proofs.LineLemmas.{LinesLeft}
+use Rattle.noise_vectors.proofs.PartyLemmas.{begins}
+use Rattle.noise_vectors.proofs.parties.read_table.Given as goal
+
+abbrev pub invariant-loop-lines : goal.invariant-loop-lines
+invariant-loop-lines l = record {
+  e : l.table.e ≡ l.fn.e;
+  s : l.table.s ≡ l.fn.s;
+  text : l.fn.lines.rest.now ≡ lines_of answer_words l.table.entries l.lines.rest.now;
+  every : (entries : List TableEntry) (rest : List ℕ) → length entries ≤ 8 → All IsEntry entries → begins rest ≡ false
+      → l.fn.lines.rest.now ≡ lines_of answer_words entries rest → LinesLeft answer_words IsEntry 8 (length l.table.entries) l.lines.rest.now rest;
+}
+
+abbrev pub decreases-loop-lines : goal.decreases-loop-lines
+decreases-loop-lines l = length l.lines.rest.now

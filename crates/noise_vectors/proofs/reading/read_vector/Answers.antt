@@ -1,0 +1,90 @@
+use Rattle.std.proofs.Common.{◌≡◌, ◌∙◌}
+use Rattle.std.proofs.lemmas.Bool.{false≢true}
+use Rattle.std.proofs.lemmas.Result.{err_from_is_err_and}
+use Rattle.noise_vectors.specs.VectorFile.{IsVectorFile}
+use Rattle.noise_vectors.specs.VectorText.{text_of}
+use Rattle.noise_vectors.specs.declared.vector.VectorFile.{VectorFile}
+use Rattle.noise_vectors.proofs.VectorLemmas.{behind_block, behind_header, behind_initiator, behind_interval, behind_prologue, behind_protocol}
+use Rattle.noise_vectors.proofs.VectorLemmas.{behind_psks, behind_responder, initiator-ends, own-read, psks-end, responder-ends}
+use Rattle.noise_vectors.proofs.reading.read_vector.Goals.{After-read_party, After-read_prologue}
+use Rattle.noise_vectors.proofs.reading.read_vector.Goals as goal
+
+-- the lines as far as those of the pattern are read
+pattern-read : (c : After-read_prologue) (file : VectorFile) → IsVectorFile file → c.args.text.now ≡ text_of file
+    → (c.in_ok-protocol.protocol ≡ file.protocol) × (c.in_ok-block.block ≡ file.block) × (c.read_own_pattern.new.lines.rest.now ≡ behind_block file)
+pattern-read c file h e =
+    let header = c.in_ok-read_header.ensures.every (behind_header file) (c.new-lines.ensures.0 ∙ e) in
+    let protocol = c.in_ok-protocol.ensures.every file.protocol (behind_protocol file) h.protocol header.1 in
+    let own = own-read file.protocol c.in_ok-protocol.protocol file.block h.own protocol.0 in
+    let block = c.in_ok-block.ensures.every file.block (behind_block file) own protocol.1 in
+    (protocol.0, block.0, block.1)
+
+-- the lines from there to the last psk are read
+psks-read : (c : After-read_party) (file : VectorFile) → IsVectorFile file → c.read_own_pattern.new.lines.rest.now ≡ behind_block file
+    → c.read_psks.new.lines.rest.now ≡ behind_psks file
+psks-read c file h e =
+    let prologue = c.in_ok-prologue.ensures.every file.prologue.items (behind_prologue file) h.prologue e in
+    let interval = c.in_ok-interval.ensures.every file.interval (behind_interval file) h.interval prologue in
+    (c.in_ok-psks.ensures.every file.psks.items (behind_psks file) h.psks (psks-end file) interval.1).1
+
+pub returns-in_err-protocol-clause-every : goal.returns-in_err-protocol-clause-every
+returns-in_err-protocol-clause-every c = λ file h allowed e.
+    let header = c.in_ok-read_header.ensures.every (behind_header file) (c.new-lines.ensures.0 ∙ e) in
+    absurd (c.in_err-protocol.ensures.every file.protocol (behind_protocol file) h.protocol header.1)
+
+pub returns-in_err-block-clause-every : goal.returns-in_err-block-clause-every
+returns-in_err-block-clause-every c = λ file h allowed e.
+    let header = c.in_ok-read_header.ensures.every (behind_header file) (c.new-lines.ensures.0 ∙ e) in
+    let protocol = c.in_ok-protocol.ensures.every file.protocol (behind_protocol file) h.protocol header.1 in
+    let own = own-read file.protocol c.in_ok-protocol.protocol file.block h.own protocol.0 in
+    absurd (c.in_err-block.ensures.every file.block (behind_block file) own protocol.1)
+
+pub returns-in_err-prologue-clause-every : goal.returns-in_err-prologue-clause-every
+returns-in_err-prologue-clause-every c =
+    let p = err_from_is_err_and c.from_residual-in_err-prologue.result c.from_residual-in_err-prologue.ensures.1 in
+    λ file h allowed e.
+    let pattern = pattern-read (goal.at.returns-in_err-prologue-clause-every c).After-read_prologue file h e in
+    rw (p.1, p.2) (c.in_err-prologue.ensures.every file.prologue.items (behind_prologue file) h.prologue pattern.2)
+
+pub returns-in_err-interval-clause-every : goal.returns-in_err-interval-clause-every
+returns-in_err-interval-clause-every c = λ file h allowed e.
+    let pattern = pattern-read (goal.at.returns-in_err-interval-clause-every c).After-read_prologue file h e in
+    let prologue = c.in_ok-prologue.ensures.every file.prologue.items (behind_prologue file) h.prologue pattern.2 in
+    let bad = c.in_err-interval.ensures.every file.interval (behind_interval file) h.interval prologue in
+    absurd (false≢true bad.0)
+
+pub returns-in_err-psks-clause-every : goal.returns-in_err-psks-clause-every
+returns-in_err-psks-clause-every c = λ file h allowed e.
+    let pattern = pattern-read (goal.at.returns-in_err-psks-clause-every c).After-read_prologue file h e in
+    let prologue = c.in_ok-prologue.ensures.every file.prologue.items (behind_prologue file) h.prologue pattern.2 in
+    let interval = c.in_ok-interval.ensures.every file.interval (behind_interval file) h.interval prologue in
+    let bad = c.in_err-psks.ensures.every file.psks.items (behind_psks file) h.psks (psks-end file) interval.1 in
+    absurd (false≢true bad.0)
+
+pub returns-in_err-initiator-clause-every : goal.returns-in_err-initiator-clause-every
+returns-in_err-initiator-clause-every c = λ file h allowed e.
+    let g = goal.at.returns-in_err-initiator-clause-every c in
+    let pattern = pattern-read g.After-read_prologue file h e in
+    let psks = psks-read g.After-read_party file h pattern.2 in
+    let bad = c.in_err-initiator.ensures.every file.initiator (behind_initiator file) h.initiator (initiator-ends file) psks in
+    absurd (false≢true bad.0)
+
+pub returns-in_err-responder-clause-every : goal.returns-in_err-responder-clause-every
+returns-in_err-responder-clause-every c = λ file h allowed e.
+    let g = goal.at.returns-in_err-responder-clause-every c in
+    let pattern = pattern-read g.After-read_prologue file h e in
+    let psks = psks-read g.After-read_party file h pattern.2 in
+    let initiator = c.in_ok-initiator.ensures.every file.initiator (behind_initiator file) h.initiator (initiator-ends file) psks in
+    let bad = c.in_err-responder.ensures.every file.responder (behind_responder file) h.responder (responder-ends file) initiator.1 in
+    absurd (false≢true bad.0)
+
+pub returns-in_err-events-clause-every : goal.returns-in_err-events-clause-every
+returns-in_err-events-clause-every c =
+    let p = err_from_is_err_and c.from_residual-in_err-events.result c.from_residual-in_err-events.ensures.1 in
+    λ file h allowed e.
+    let g = goal.at.returns-in_err-events-clause-every c in
+    let pattern = pattern-read g.After-read_prologue file h e in
+    let psks = psks-read g.After-read_party file h pattern.2 in
+    let initiator = c.in_ok-initiator.ensures.every file.initiator (behind_initiator file) h.initiator (initiator-ends file) psks in
+    let responder = c.in_ok-responder.ensures.every file.responder (behind_responder file) h.responder (responder-ends file) initiator.1 in
+    rw (p.1, p.2) (c.in_err-events.ensures.every file.events.items h.events allowed responder.1)

@@ -1,0 +1,32 @@
+use Rattle.std.proofs.Common.{arith, ◌≡◌, ◌<◌, ◌≤◌, ◌/◌, ap, ℕ, List, [], ◌∷◌, Option, Some, None, length, Vec, Global, vec_len}
+use Rattle.std.specs.Prelude.{IfSome}
+use Rattle.std.proofs.lemmas.Result.{IfOk-weaker}
+use Rattle.noise_vectors.specs.HexWord.{hex_of}
+use Rattle.noise_vectors.specs.VectorFile.{AreBytes}
+use Rattle.noise_vectors.proofs.HexWordLemmas.{length-hex_of, length-hex_word}
+use Rattle.noise_vectors.proofs.words.read_bytes.Goals as goal
+
+-- the bytes of a short word are few
+few : (word : List ℕ) (most : ℕ) → length word / 2 ≤ most → (found : Option (Vec ℕ Global)) → IfSome found (λ bytes. word ≡ hex_of bytes.items)
+    → IfSome found (λ bytes. vec_len bytes ≤ most)
+few word most h None e = tt
+few word most h (Some bytes) e =
+    let long = length-hex_word word bytes.items e in
+    omega (arith, long, bytes.ok.0)
+
+pub returns-clause-bound : goal.returns-clause-bound
+returns-clause-bound c = IfOk-weaker c.read_hex.result _ _ (few c.args.word.now c.args.most c.if-word-most.false) c.read_hex.ensures.value
+
+-- the word of few bytes is short
+short : (word bytes : List ℕ) (most : ℕ) → AreBytes most bytes → word ≡ hex_of bytes → ¬ (most < length word / 2)
+short word [] most h e long =
+    let len : length word ≡ 1 = ap length e in
+    omega arith
+short word (b ∷ bs) most h e long =
+    let twice = length-hex_of (b ∷ bs) (omega arith) in
+    let few : length (b ∷ bs) ≤ most = h.0 in
+    let len : length word ≡ length (hex_of (b ∷ bs)) = ap length e in
+    omega (arith, twice)
+
+pub returns-then-word-most-clause-every : goal.returns-then-word-most-clause-every
+returns-then-word-most-clause-every c = λ bytes h e. absurd (short c.args.word.now bytes c.args.most h e c.if-word-most.true)

@@ -1,0 +1,19 @@
+use Rattle.std.proofs.Common.{rules, arith, ◌≡◌, ◌∙◌, ap, sym, refl, ℕ, List, Option, Some, None, codes, length}
+use Rattle.std.specs.Prelude.{IfSome}
+use Rattle.noise_vectors.specs.VectorText.{key_word}
+use Rattle.noise_vectors.specs.Words.{IsKey}
+use Rattle.noise_vectors.proofs.KeyLemmas.{length-key}
+use Rattle.noise_vectors.proofs.words.read_optional_key.Goals as goal
+
+-- a hyphen is the word of no key
+hyphen : (word : List ℕ) → word ≡ codes "-" → (key : Option (List ℕ)) → IfSome key IsKey → word ≡ key_word key → key ≡ None
+hyphen word e None h is = refl
+hyphen word e (Some key) h is =
+    let long = length-key key h.0 in
+    let same = ap length (sym e ∙ is) in
+    absurd (omega (arith, long, same))
+
+pub returns-then-eq-clause-every : goal.returns-then-eq-clause-every
+returns-then-eq-clause-every c =
+    let is : c.args.word.now ≡ codes "-" = search rules in
+    λ key h e. ap Some (sym (hyphen c.args.word.now is key h e))

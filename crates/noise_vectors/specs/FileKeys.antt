@@ -1,0 +1,17 @@
+-- What the keys of a file answer: each kind as its own type does.
+use Rattle.std.specs.Prelude.{ℕ, List, Option}
+use Rattle.noise_handshake.specs.declared.keys.Own.{Own}
+use Rattle.noise_handshake.specs.Keys.{key_of, xor_answer}
+use Rattle.noise_handshake.specs.Table.{answer_in}
+use Rattle.noise_vectors.specs.declared.file_keys.FileKeys.{FileKeys}
+use Rattle.noise_vectors.specs.declared.file_keys.FileKeys.TheVariants.{Xor, Table}
+
+-- the public key of a key pair, if there is one
+abbrev pub public_of : FileKeys → Own → Option (List ℕ)
+public_of (Xor keys) own = key_of own keys.e keys.s
+public_of (Table keys) own = key_of own keys.e keys.s
+
+-- the answer of a key pair to a remote public key, if there is one: the xor of the two keys, or what the table has for them
+abbrev pub agreement_of : FileKeys → Own → List ℕ → Option (List ℕ)
+agreement_of (Xor keys) own remote = xor_answer (key_of own keys.e keys.s) remote
+agreement_of (Table keys) own remote = answer_in keys.entries own remote

@@ -1,0 +1,92 @@
+-- The text of a vector file.
+use Rattle.std.specs.Prelude.{ℕ, List, [], ◌∷◌, ◌++◌, Option, Some, None, codes, map, decimal}
+use Rattle.std.specs.List.{join_with_byte}
+use Rattle.hex.specs.Hex.{encode_lower}
+use Rattle.noise_names.specs.declared.token.Role.{Role}
+use Rattle.noise_names.specs.declared.token.Role.TheVariants.{Initiator, Responder}
+use Rattle.noise_names.specs.Names.{name_bytes}
+use Rattle.noise_names.specs.Plan.{Plan}
+use Rattle.noise_names.specs.Text as PatternText
+use Rattle.noise_handshake.specs.declared.keys.Own.{Own}
+use Rattle.noise_handshake.specs.declared.keys.Own.TheVariants.{Ephemeral, Static}
+use Rattle.noise_handshake.specs.Table.{TableEntry}
+use Rattle.noise_duel.specs.declared.event.Event.{Event}
+use Rattle.noise_duel.specs.declared.event.Event.TheVariants.{Write, Say, Deliver, Raw}
+use Rattle.noise_vectors.specs.HexWord.{hex_of}
+use Rattle.noise_vectors.specs.declared.file_keys.FileKeys.{FileKeys}
+use Rattle.noise_vectors.specs.declared.file_keys.FileKeys.TheVariants.{Xor, Table}
+use Rattle.noise_vectors.specs.declared.vector.VectorFile.{VectorFile}
+use Rattle.noise_vectors.specs.declared.words.EventKind.{EventKind}
+use Rattle.noise_vectors.specs.declared.words.EventKind.TheVariants as kinds
+
+-- a line with its LF (10), and the text behind it
+abbrev pub line : List ℕ → List ℕ → List ℕ
+line text rest = text ++ 10 ∷ rest
+
+-- a line for each, with these words, and the text behind them
+abbrev pub lines_of : {A : Type 0} → (A → List ℕ) → List A → List ℕ → List ℕ
+lines_of words [] rest = rest
+lines_of words (x ∷ xs) rest = line (words x) (lines_of words xs rest)
+
+-- a key as 64 digits, or a hyphen for none
+abbrev pub key_word : Option (List ℕ) → List ℕ
+key_word None = codes "-"
+key_word (Some key) = encode_lower key
+
+-- an ephemeral and a static key, with a space (32) between them
+abbrev pub key_words : Option (List ℕ) → Option (List ℕ) → List ℕ
+key_words e s = key_word e ++ 32 ∷ key_word s
+
+abbrev pub role_word : Role → List ℕ
+role_word Initiator = codes "initiator"
+role_word Responder = codes "responder"
+
+abbrev pub own_word : Own → List ℕ
+own_word Ephemeral = codes "e"
+own_word Static = codes "s"
+
+abbrev pub kind_word : EventKind → List ℕ
+kind_word kinds.Say = codes "say"
+kind_word kinds.Write = codes "write"
+kind_word kinds.Deliver = codes "deliver"
+kind_word kinds.Raw = codes "raw"
+
+-- the lengths with commas (44) between them, or a hyphen for none
+abbrev pub lengths_word : List ℕ → List ℕ
+lengths_word [] = codes "-"
+lengths_word (n ∷ ns) = join_with_byte 44 (map decimal (n ∷ ns))
+
+-- the pattern's text and the line behind it, where the file spells one
+abbrev pub block_text : Option Plan → List ℕ → List ℕ
+block_text None rest = rest
+block_text (Some pattern) rest = PatternText.text_of pattern ++ line (codes "end") rest
+
+abbrev pub psk_words : List ℕ → List ℕ
+psk_words psk = codes "psk " ++ encode_lower psk
+
+abbrev pub answer_words : TableEntry → List ℕ
+answer_words a = codes "answer " ++ (own_word a.own ++ 32 ∷ (encode_lower a.remote ++ 32 ∷ encode_lower a.answer))
+
+-- a party's line, and the answers of its table
+abbrev pub party_text : Role → FileKeys → List ℕ → List ℕ
+party_text role (Xor keys) rest = line (role_word role ++ (codes " xor " ++ key_words keys.e keys.s)) rest
+party_text role (Table keys) rest =
+    line (role_word role ++ (codes " table " ++ key_words keys.e keys.s)) (lines_of answer_words keys.entries rest)
+
+abbrev pub event_words : Event → List ℕ
+event_words (Say role payload cuts) = codes "say " ++ (role_word role ++ 32 ∷ (hex_of payload.items ++ 32 ∷ lengths_word cuts))
+event_words (Write role payload) = codes "write " ++ (role_word role ++ 32 ∷ hex_of payload.items)
+event_words (Deliver role number cuts) = codes "deliver " ++ (role_word role ++ 32 ∷ (decimal number ++ 32 ∷ lengths_word cuts))
+event_words (Raw role bytes) = codes "raw " ++ (role_word role ++ 32 ∷ hex_of bytes.items)
+
+abbrev pub text_of : VectorFile → List ℕ
+text_of file =
+    line (codes "vector 1")
+    (line (codes "protocol " ++ name_bytes file.protocol)
+    (block_text file.block
+    (line (codes "prologue " ++ hex_of file.prologue.items)
+    (line (codes "interval " ++ decimal file.interval)
+    (lines_of psk_words file.psks.items
+    (party_text Initiator file.initiator
+    (party_text Responder file.responder
+    (lines_of event_words file.events.items []))))))))

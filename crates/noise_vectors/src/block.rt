@@ -1,0 +1,83 @@
+//! The pattern that a file spells itself.
+
+ghost use Rattle.std.specs.Prelude.{◌≡◌, ◌++◌, [], ℕ, List, IfErr, IfOk, IsTrue, MatchResult, Ok, codes};
+ghost use Rattle.std.specs.List.{All};
+ghost use Rattle.noise_names.specs.Limits.{IsPattern};
+ghost use Rattle.noise_names.specs.Plan.{Plan};
+ghost use Rattle.noise_names.specs.Text.{text_of as pattern_text};
+ghost use Rattle.noise_vectors.specs.Block.{IsInner, itself};
+ghost use Rattle.noise_vectors.specs.VectorText.{line, lines_of};
+ghost use Rattle.noise_vectors.specs.OwnPattern.{HasName};
+
+use crate::faults::{LineKind, VectorFault};
+use crate::lines::Lines;
+use crate::words::split_once;
+use noise_names::{Pattern, ProtocolName};
+
+/// The pattern of this name that the lines before the next line `end` spell, and that line.
+pub(crate) fn read_block(
+    lines: &mut Lines<'_>,
+    protocol: &ProtocolName,
+) -> Result<Pattern, VectorFault>
+    ensures text { IfOk result (λ pattern. lines.old.rest.now ≡ pattern_text pattern ++ line (codes "end") lines.new.rest.now) }
+    ensures named { IfOk result (λ pattern. HasName pattern protocol.now) }
+    ensures every { (pattern : Plan) (rest : List ℕ) → IsPattern pattern → HasName pattern protocol.now
+        → lines.old.rest.now ≡ pattern_text pattern ++ line (codes "end") rest
+        → MatchResult result (λ read. (read ≡ pattern) × (lines.new.rest.now ≡ rest)) (λ fault. ⊥) }
+{
+    let before = lines.number;
+    let text = take_block(lines)?;
+    match pattern_of(text, protocol) {
+        Ok(pattern) => {
+            lines.end()?;
+            Ok(pattern)
+        }
+        Err(number) => Err(VectorFault::Line(before.saturating_add(number), LineKind::Pattern)),
+    }
+}
+
+// The lines before the next line `end`, which is read too.
+fn take_block<'a>(lines: &mut Lines<'a>) -> Result<&'a [u8], VectorFault>
+    ensures text { IfOk result (λ text. IsTrue lines.new.is_ended → lines.old.rest.now ≡ text.now ++ line (codes "end") lines.new.rest.now) }
+    ensures every { (before : List (List ℕ)) (rest : List ℕ) → All IsInner before
+        → lines.old.rest.now ≡ lines_of itself before (line (codes "end") rest)
+        → MatchResult result (λ text. (text.now ≡ lines_of itself before []) × (lines.new.rest.now ≡ rest) × IsTrue lines.new.is_ended) (λ fault. ⊥) }
+{
+    let text = lines.rest;
+    loop {
+        let left = lines.rest.len();
+        if lines.next()? == b"end".as_slice() {
+            return Ok(&text[..text.len() - left]);
+        }
+        lines.end()?;
+    }
+}
+
+// The pattern of this name that the text spells, or the number of the text's first line with a fault.
+fn pattern_of(text: &[u8], protocol: &ProtocolName) -> Result<Pattern, usize>
+    ensures spelled { IfOk result (λ pattern. text.now ≡ pattern_text pattern) }
+    ensures named { IfOk result (λ pattern. HasName pattern protocol.now) }
+    ensures every { (pattern : Plan) → IsPattern pattern → HasName pattern protocol.now → text.now ≡ pattern_text pattern
+        → result ≡ Ok pattern }
+{
+    match Pattern::parse_text(text) {
+        Ok(pattern) if pattern.name() == *protocol => Ok(pattern),
+        Err(fault) if has_heading(text, protocol) => Err(fault.line),
+        _ => Err(1),
+    }
+}
+
+// Whether the first line is the pattern section of this name, which stands between its first two `_`, and a colon.
+fn has_heading(text: &[u8], protocol: &ProtocolName) -> bool {
+    let name = protocol.write();
+    let Some((_, behind)) = split_once(&name, b'_') else {
+        return false;
+    };
+    let Some((section, _)) = split_once(behind, b'_') else {
+        return false;
+    };
+    match text.strip_prefix(section) {
+        Some(behind) => behind.starts_with(b":\n".as_slice()),
+        None => false,
+    }
+}

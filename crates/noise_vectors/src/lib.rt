@@ -1,0 +1,24 @@
+//! Reads vector files: what a file says that two ends of a session start from, and what is done to them.
+#![tactic(auto)]
+
+mod block;
+mod cuts;
+mod events;
+mod faults;
+mod file_keys;
+mod hex_words;
+mod lines;
+mod parties;
+mod reading;
+mod says;
+#[cfg(test)]
+mod tests;
+mod vector;
+mod words;
+
+pub use faults::{LineKind, VectorFault};
+pub use file_keys::FileKeys;
+pub use hex_words::{hex_word, read_hex};
+pub use reading::read_vector;
+pub use says::said_lines;
+pub use vector::{AllowedEvents, VectorFile};

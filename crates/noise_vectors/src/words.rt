@@ -1,0 +1,166 @@
+//! The words that stand in the lines of a vector file.
+
+ghost use Rattle.std.specs.Prelude.{◌≡◌, ◌↔◌, ◌<◌, ◌≤◌, ◌^◌, ◌==◌, ℕ, List, ◌∷◌, ◌++◌, Option, Some, decimal, length, position, slice_index, vec_len};
+ghost use Rattle.std.specs.Prelude.{IfOk, IfSome, IsSome, IsTrue, MatchOption};
+ghost use Rattle.noise_vectors.specs.HexWord.{hex_of};
+ghost use Rattle.hex.specs.Hex.{encode_lower};
+ghost use Rattle.noise_handshake.specs.declared.keys.Own.{Own};
+ghost use Rattle.noise_names.specs.declared.token.Role.{Role};
+ghost use Rattle.noise_vectors.specs.VectorFile.{AreBytes};
+ghost use Rattle.noise_vectors.specs.VectorText.{key_word, kind_word, own_word, role_word};
+ghost use Rattle.noise_vectors.specs.declared.words.EventKind.{EventKind};
+ghost use Rattle.noise_vectors.specs.Words.{IsKey, lacks};
+
+use crate::hex_words::{is_digits, read_hex};
+use noise_handshake::Own;
+use noise_names::Role;
+use std::alloc::{AllocError, Global};
+use std::str;
+
+/// The kinds of events.
+#[derive(Clone, Copy, Debug, PartialEq, Eq)]
+pub(crate) enum EventKind {
+    Say,
+    Write,
+    Deliver,
+    Raw,
+}
+
+/// What stands before the first such byte, and what stands behind it.
+pub(crate) fn split_once(text: &[u8], separator: u8) -> Option<(&[u8], &[u8])>
+    ensures parts { IfSome result (λ parts. text.now ≡ parts.0.now ++ separator ∷ parts.1.now) }
+    ensures every { (before behind : List ℕ) → IsTrue (lacks separator before) → text.now ≡ before ++ separator ∷ behind
+        → MatchOption result (Unit {0} → ⊥) (λ parts. (parts.0.now ≡ before) × (parts.1.now ≡ behind)) }
+{
+    let place = place_of(text, separator)?;
+    Some((&text[..place], &text[place + 1..]))
+}
+
+// Where the first such byte stands.
+fn place_of(text: &[u8], byte: u8) -> Option<usize>
+    ensures { result ≡ position (λ b. b == byte) text.now }
+{
+    text.iter().position(|b| *b == byte)
+}
+
+/// A decimal number below 2^64, without sign or leading zeros.
+pub(crate) fn read_number(word: &[u8]) -> Option<u64>
+    ensures value { IfSome result (λ number. word.now ≡ decimal number) }
+    ensures every { (number : ℕ) → number < 2 ^ 64 → word.now ≡ decimal number → result ≡ Some number }
+{
+    if !is_led(word) {
+        return None;
+    }
+    match str::from_utf8(word).ok()?.parse() {
+        Ok(number) => Some(number),
+        Err(_) => None,
+    }
+}
+
+// Whether it begins as a number does: with a digit that is no leading zero.
+fn is_led(word: &[u8]) -> bool
+    ensures { IsTrue result ↔ (48 ≤ slice_index word.now 0) × (slice_index word.now 0 ≤ 57) × (slice_index word.now 0 ≡ 48 → length word.now ≡ 1) }
+{
+    match word {
+        [b'0'] => true,
+        [b'1'..=b'9', ..] => true,
+        _ => false,
+    }
+}
+
+/// A number below 65536.
+pub(crate) fn read_length(word: &[u8]) -> Option<u16>
+    ensures value { IfSome result (λ length. word.now ≡ decimal length) }
+    ensures every { (length : ℕ) → length < 65536 → word.now ≡ decimal length → result ≡ Some length }
+{
+    u16::try_from(read_number(word)?).ok()
+}
+
+/// A key of 64 lower-case hex digits.
+pub(crate) fn read_key(word: &[u8]) -> Option<[u8; 32]>
+    ensures value { IfSome result (λ key. word.now ≡ encode_lower key) }
+    ensures every { (key : List ℕ) → IsKey key → word.now ≡ encode_lower key → result ≡ Some key }
+{
+    if !is_digits(word) {
+        return None;
+    }
+    let mut key = [0; 32];
+    hex::decode_to_slice(word, &mut key).ok()?;
+    Some(key)
+}
+
+/// A key, or `-` for none.
+pub(crate) fn read_optional_key(word: &[u8]) -> Option<Option<[u8; 32]>>
+    ensures value { IfSome result (λ key. word.now ≡ key_word key) }
+    ensures every { (key : Option (List ℕ)) → IfSome key IsKey → word.now ≡ key_word key → result ≡ Some key }
+{
+    if word == b"-".as_slice() {
+        return Some(None);
+    }
+    Some(Some(read_key(word)?))
+}
+
+/// `initiator` or `responder`.
+pub(crate) fn read_role(word: &[u8]) -> Option<Role>
+    ensures value { IfSome result (λ role. word.now ≡ role_word role) }
+    ensures every { (role : Role) → word.now ≡ role_word role → result ≡ Some role }
+{
+    match word {
+        b"initiator" => Some(Role::Initiator),
+        b"responder" => Some(Role::Responder),
+        _ => None,
+    }
+}
+
+/// `say`, `write`, `deliver` or `raw`.
+pub(crate) fn read_kind(word: &[u8]) -> Option<EventKind>
+    ensures value { IfSome result (λ kind. word.now ≡ kind_word kind) }
+    ensures every { (kind : EventKind) → word.now ≡ kind_word kind → result ≡ Some kind }
+{
+    match word {
+        b"say" => Some(EventKind::Say),
+        b"write" => Some(EventKind::Write),
+        b"deliver" => Some(EventKind::Deliver),
+        b"raw" => Some(EventKind::Raw),
+        _ => None,
+    }
+}
+
+/// `e` for the ephemeral key pair, or `s` for the static one.
+pub(crate) fn read_own(word: &[u8]) -> Option<Own>
+    ensures value { IfSome result (λ own. word.now ≡ own_word own) }
+    ensures every { (own : Own) → word.now ≡ own_word own → result ≡ Some own }
+{
+    match word {
+        b"e" => Some(Own::Ephemeral),
+        b"s" => Some(Own::Static),
+        _ => None,
+    }
+}
+
+/// A number below 2^32.
+pub(crate) fn read_frame_number(word: &[u8]) -> Option<usize>
+    ensures value { IfSome result (λ number. word.now ≡ decimal number) }
+    ensures every { (number : ℕ) → number < 2 ^ 32 → word.now ≡ decimal number → result ≡ Some number }
+{
+    match u32::try_from(read_number(word)?) {
+        Ok(number) => Some(number as usize),
+        Err(_) => None,
+    }
+}
+
+/// The bytes of a hex word, at most so many.
+pub(crate) fn read_bytes(
+    alloc: Global,
+    word: &[u8],
+    most: usize,
+) -> Result<Option<Vec<u8>>, AllocError>
+    ensures text { IfOk result (λ found. IfSome found (λ bytes. word.now ≡ hex_of bytes.items)) }
+    ensures bound { IfOk result (λ found. IfSome found (λ bytes. vec_len bytes ≤ most)) }
+    ensures every { (bytes : List ℕ) → AreBytes most bytes → word.now ≡ hex_of bytes → IfOk result (λ found. IsSome found) }
+{
+    if word.len() / 2 > most {
+        return Ok(None);
+    }
+    read_hex(alloc, word)
+}
