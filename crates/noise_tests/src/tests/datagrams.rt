@@ -25,9 +25,9 @@ fn new_pair(rt: &impl Abort, window: Window) -> Pair {
 fn datagram(rt: &impl Abort, sender: &mut Transport, nonce: u64) -> [u8; 26] {
     let mut bytes = [0; 26];
     bytes[..8].copy_from_slice(&nonce.to_be_bytes());
-    assert_eq!(rt; sender.interval(), 0);
+    assert!(rt; sender.interval() == 0);
     sender.set_nonces(nonce, 0);
-    assert_eq!(rt; sender.seal(b"hi", &mut bytes[8..]), Ok(18));
+    assert!(rt; sender.seal(b"hi", &mut bytes[8..]) == Ok(18));
     bytes
 }
 
@@ -40,7 +40,7 @@ fn opens(rt: &impl Abort, receiver: &mut Datagrams, mut bytes: [u8; 26]) {
 // These bytes come, and this is told; they stay.
 fn refuses(rt: &impl Abort, receiver: &mut Datagrams, sent: [u8; 26], fault: DatagramFault) {
     let mut bytes = sent;
-    assert_eq!(rt; receiver.open(&mut bytes).err(), Some(fault));
+    assert!(rt; receiver.open(&mut bytes).err() == Some(fault));
     assert!(rt; bytes == sent);
 }
 
@@ -68,10 +68,7 @@ const ONCE: [Coming; 4] = [
 fn opens_each_nonce_once(rt: HostRuntime) {
     let mut pair = new_pair(&rt, Window::W64);
     come(&rt, &mut pair, &ONCE);
-    assert_eq!(rt;
-        pair.receiver.open(&mut [0; 23]).err(),
-        Some(DatagramFault::Short)
-    );
+    assert!(rt; pair.receiver.open(&mut [0; 23]).err() == Some(DatagramFault::Short));
     refuses(&rt, &mut pair.receiver, [0xff; 26], DatagramFault::Reserved);
 }
 
@@ -80,7 +77,7 @@ fn names_its_nonce_in_front(rt: HostRuntime) {
     let mut pair = new_pair(&rt, Window::W64);
     let mut bytes = datagram(&rt, &mut pair.sender, 37);
     assert!(rt; bytes.starts_with(&[0, 0, 0, 0, 0, 0, 0, 0x25]));
-    assert_eq!(rt; pair.receiver.open_within(&mut bytes), Ok(2));
+    assert!(rt; pair.receiver.open_within(&mut bytes) == Ok(2));
 }
 
 const BEHIND: [Coming; 3] = [(64, None), (0, Some(Old)), (1, Some(Repeated))];
@@ -153,23 +150,20 @@ fn seals_up_to_the_longest(rt: HostRuntime) {
     let mut receiver = Datagrams::new(responder);
     let more = zeros(&rt, rt.alloc(), 65520);
     let mut bytes = zeros(&rt, rt.alloc(), 65543);
-    assert_eq!(rt; sender.seal(&more[1..], &mut bytes), Ok(65543));
+    assert!(rt; sender.seal(&more[1..], &mut bytes) == Ok(65543));
     assert!(rt; bytes.starts_with(&[0; 8]));
-    assert_eq!(rt; sender.seal(&more, &mut bytes), Err(SendFault::TooLong));
-    assert_eq!(rt; sender.send_nonce(), 1);
+    assert!(rt; sender.seal(&more, &mut bytes) == Err(SendFault::TooLong));
+    assert!(rt; sender.send_nonce() == 1);
     let opened = receiver.open(&mut bytes).expect(&rt, "a payload");
     assert!(rt; &*opened == &more[1..]);
     let mut longer = zeros(&rt, rt.alloc(), 65544);
-    assert_eq!(rt;
-        receiver.open(&mut longer).err(),
-        Some(DatagramFault::TooLong)
-    );
+    assert!(rt; receiver.open(&mut longer).err() == Some(DatagramFault::TooLong));
 }
 
 // The datagram that it seals of the payload `hi`.
 fn sealed(rt: &impl Abort, datagrams: &mut Datagrams) -> [u8; 26] {
     let mut bytes = [0; 26];
-    assert_eq!(rt; datagrams.seal(b"hi", &mut bytes), Ok(26));
+    assert!(rt; datagrams.seal(b"hi", &mut bytes) == Ok(26));
     bytes
 }
 
@@ -179,7 +173,7 @@ fn one_way_datagrams_have_one_writer(rt: HostRuntime) {
     let mut initiator = Datagrams::new(initiator);
     let mut responder = Datagrams::new(responder);
     refuses(&rt, &mut initiator, [0; 26], DatagramFault::OneWay);
-    assert_eq!(rt; responder.seal(b"hi", &mut [0; 26]), Err(SendFault::OneWay));
+    assert!(rt; responder.seal(b"hi", &mut [0; 26]) == Err(SendFault::OneWay));
     opens(&rt, &mut responder, sealed(&rt, &mut initiator));
 }
 

@@ -12,19 +12,19 @@ use std::process::Abort;
 
 // The end stands in the handshake, behind so many messages.
 fn stands(rt: &impl Abort, end: &End<XorKeys>, done: u8, ours: bool) {
-    assert_eq!(rt; end.stage(), Stage::Handshake { done, ours });
+    assert!(rt; end.stage() == Stage::Handshake { done, ours });
 }
 
 #[test]
 fn writes_the_first_frame(rt: HostRuntime) {
     let (mut initiator, _) = ends(&rt, rt.alloc());
-    assert_eq!(rt; initiator.role(), Role::Initiator);
+    assert!(rt; initiator.role() == Role::Initiator);
     stands(&rt, &initiator, 0, true);
     takes(&rt, &mut initiator, b"early", 0, Step::YourTurn);
     let frame = frame(&rt, rt.alloc(), &mut initiator, b"hi");
     assert!(rt; frame.as_slice() == first_frame().as_slice());
     stands(&rt, &initiator, 1, false);
-    assert_eq!(rt; initiator.hash(), None);
+    assert!(rt; initiator.hash().is_none());
     unwritten(&rt, &mut initiator, b"hi", SendFault::NotYourTurn);
 }
 
@@ -34,11 +34,11 @@ fn takes_a_byte_a_call(rt: HostRuntime) {
     let frame = first_frame();
     takes(&rt, &mut responder, b"", 0, Step::More);
     for i in 0..35 {
-        assert_eq!(rt; responder.held(), i);
+        assert!(rt; responder.held() == i);
         takes(&rt, &mut responder, &frame[i..i + 1], 1, Step::More);
     }
     takes(&rt, &mut responder, &frame[35..], 1, Step::Payload(b"hi"));
-    assert_eq!(rt; responder.held(), 0);
+    assert!(rt; responder.held() == 0);
     stands(&rt, &responder, 1, true);
 }
 
@@ -65,7 +65,7 @@ fn ends_at_a_refused_frame(rt: HostRuntime) {
         33,
         Step::Refused { token, cause },
     );
-    assert_eq!(rt; responder.stage(), Stage::Ended);
+    assert!(rt; responder.stage() == Stage::Ended);
     takes(&rt, &mut responder, &first_frame(), 0, Step::Ended);
     takes(&rt, &mut responder, b"", 0, Step::Ended);
     unwritten(&rt, &mut responder, b"hi", SendFault::Ended);
@@ -78,7 +78,7 @@ fn keeps_to_the_longest_frame(rt: HostRuntime) {
     unwritten(&rt, &mut initiator, &payload, SendFault::TooLong);
     stands(&rt, &initiator, 0, true);
     let frame = frame(&rt, rt.alloc(), &mut initiator, &payload[1..]);
-    assert_eq!(rt; frame.len(), 65537);
+    assert!(rt; frame.len() == 65537);
     assert!(rt; frame.starts_with(&[0xff, 0xff, 0x11]));
 }
 
@@ -86,11 +86,11 @@ fn keeps_to_the_longest_frame(rt: HostRuntime) {
 fn opens_behind_the_last_message(rt: HostRuntime) {
     let (initiator, responder) = open_ends(&rt, rt.alloc());
     let (send, receive) = (0, 0);
-    assert_eq!(rt; initiator.stage(), Stage::Transport { send, receive });
-    assert_eq!(rt; responder.stage(), Stage::Transport { send, receive });
+    assert!(rt; initiator.stage() == Stage::Transport { send, receive });
+    assert!(rt; responder.stage() == Stage::Transport { send, receive });
     assert!(rt; initiator.hash().is_some());
-    assert_eq!(rt; initiator.hash(), responder.hash());
-    assert_eq!(rt; initiator.remote_static(), None);
+    assert!(rt; initiator.hash() == responder.hash());
+    assert!(rt; initiator.remote_static().is_none());
 }
 
 #[test]
@@ -98,7 +98,7 @@ fn drops_what_is_no_packet(rt: HostRuntime) {
     let alloc = rt.alloc();
     let (mut initiator, mut responder) = open_ends(&rt, alloc);
     let empty = frame(&rt, alloc, &mut initiator, b"");
-    assert_eq!(rt; empty.len(), 18);
+    assert!(rt; empty.len() == 18);
     assert!(rt; empty.starts_with(&[0x00, 0x10]));
     let next = frame(&rt, alloc, &mut initiator, b"hi");
     let mut short = [0; 17];
@@ -110,9 +110,9 @@ fn drops_what_is_no_packet(rt: HostRuntime) {
     takes(&rt, &mut responder, &empty, 18, Step::Dropped(Cause::Tag));
     takes(&rt, &mut responder, &next, 20, Step::Payload(b"hi"));
     let (send, receive) = (0, 2);
-    assert_eq!(rt; responder.stage(), Stage::Transport { send, receive });
+    assert!(rt; responder.stage() == Stage::Transport { send, receive });
     takes(&rt, &mut responder, &[0], 1, Step::More);
-    assert_eq!(rt; responder.held(), 1);
+    assert!(rt; responder.held() == 1);
 }
 
 #[test]
@@ -121,7 +121,7 @@ fn keeps_to_the_longest_packet(rt: HostRuntime) {
     let payload = zeros(&rt, rt.alloc(), 65520);
     unwritten(&rt, &mut initiator, &payload, SendFault::TooLong);
     let longest = frame(&rt, rt.alloc(), &mut initiator, &payload[1..]);
-    assert_eq!(rt; longest.len(), 65537);
+    assert!(rt; longest.len() == 65537);
 }
 
 // An end that is open at these nonces.
@@ -133,7 +133,7 @@ fn open_at(rt: &impl Abort, alloc: Global, send: u64, receive: u64) -> End<XorKe
 #[test]
 fn ends_at_the_reserved_nonce(rt: HostRuntime) {
     let mut writer = open_at(&rt, rt.alloc(), u64::MAX - 1, 0);
-    assert_eq!(rt; frame(&rt, rt.alloc(), &mut writer, b"").len(), 18);
+    assert!(rt; frame(&rt, rt.alloc(), &mut writer, b"").len() == 18);
     unwritten(&rt, &mut writer, b"", SendFault::Exhausted);
     unwritten(&rt, &mut writer, b"", SendFault::Ended);
     let mut reader = open_at(&rt, rt.alloc(), 0, u64::MAX);
@@ -154,5 +154,5 @@ fn one_way_ends_keep_to_it(rt: HostRuntime) {
     for _ in 0..5 {
         passes(&rt, alloc, &mut initiator, &mut responder, b"hi");
     }
-    assert_eq!(rt; initiator.remote_static(), Some([0x33; 32]));
+    assert!(rt; initiator.remote_static() == Some([0x33; 32]));
 }

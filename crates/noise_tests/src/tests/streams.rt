@@ -90,11 +90,11 @@ fn goes_on(rt: &impl Abort, alloc: Global, place: usize, kind: ErrorKind) {
     let mut from = failing_reader(place, Some(kind));
     let failed = responder.receive(&mut from) == Err(ReceiveFault::Input);
     assert!(rt; failed);
-    assert_eq!(rt; responder.held(), place);
-    assert_eq!(rt; from.failures(), 1);
+    assert!(rt; responder.held() == place);
+    assert!(rt; from.failures() == 1);
     let whole = responder.receive(&mut from) == Ok(Some(Step::Payload(b"hi")));
     assert!(rt; whole);
-    assert_eq!(rt; from.failures(), 1);
+    assert!(rt; from.failures() == 1);
 }
 
 #[test]
@@ -116,8 +116,8 @@ fn tells_where_the_input_ends(rt: HostRuntime) {
         };
         let ended = responder.receive(&mut from) == told;
         assert!(rt; ended, "at {place}");
-        assert_eq!(rt; responder.held(), place);
-        assert_eq!(rt; from.failures(), 0);
+        assert!(rt; responder.held() == place);
+        assert!(rt; from.failures() == 0);
     }
 }
 
@@ -126,11 +126,11 @@ fn ends_at(rt: &impl Abort, alloc: Global, place: usize, failure: Option<ErrorKi
     let (mut initiator, _) = ends(rt, alloc);
     let mut out = failing_writer(place, failure);
     let told = initiator.write_to(b"hi", &mut out);
-    assert_eq!(rt; told, Err(SendFault::Output { written: place }));
-    assert_eq!(rt; initiator.stage(), Stage::Ended);
-    assert_eq!(rt; out.failures(), 1);
+    assert!(rt; told == Err(SendFault::Output { written: place }));
+    assert!(rt; initiator.stage() == Stage::Ended);
+    assert!(rt; out.failures() == 1);
     let out = out.into_inner();
-    assert_eq!(rt; out.at, place);
+    assert!(rt; out.at == place);
     assert!(rt; place <= 36 && out.taken[..place] == first_frame()[..place]);
 }
 
@@ -147,8 +147,8 @@ fn ends_where_a_write_fails(rt: HostRuntime) {
 fn writes_a_byte_a_call(rt: HostRuntime) {
     let (mut initiator, _) = ends(&rt, rt.alloc());
     let mut out = failing_writer(36, Some(ErrorKind::Other));
-    assert_eq!(rt; initiator.write_to(b"hi", &mut out), Ok(36));
-    assert_eq!(rt; out.failures(), 0);
+    assert!(rt; initiator.write_to(b"hi", &mut out) == Ok(36));
+    assert!(rt; out.failures() == 0);
     assert!(rt; out.into_inner().taken == first_frame());
 }
 
@@ -186,7 +186,7 @@ fn asks(rt: &impl Abort, alloc: Global, bytes: [u8; 36], step: Step<'_>, asked: 
     });
     let told = responder.receive(&mut from) == Ok(Some(step));
     assert!(rt; told);
-    assert_eq!(rt; from.into_inner().asked, asked);
+    assert!(rt; from.into_inner().asked == asked);
 }
 
 #[test]
@@ -233,7 +233,7 @@ fn flush_is_passed_on_and_not_counted(rt: HostRuntime) {
     let mut out = Counted::new(Flushing { flushed: false });
     assert!(rt; out.flush().is_ok());
     assert!(rt; out.flush().is_err());
-    assert_eq!(rt; out.failures(), 0);
+    assert!(rt; out.failures() == 0);
     assert!(rt; out.into_inner().flushed);
 }
 
@@ -244,6 +244,6 @@ fn an_end_or_no_memory(rt: HostRuntime) {
     let made: std::result::Result<End<XorKeys>, _> = End::from_transport(rt.alloc(), transport);
     if let Ok(end) = made {
         let (send, receive) = (7, 9);
-        assert_eq!(rt; end.stage(), Stage::Transport { send, receive });
+        assert!(rt; end.stage() == Stage::Transport { send, receive });
     }
 }

@@ -86,7 +86,7 @@ pub fn one_way(rt: &impl Abort) -> (Opened, Opened) {
 /// The transport of such a party, without renewals, at these nonces.
 pub fn at_nonces(rt: &impl Abort, opened: Opened, send: u64, receive: u64) -> Transport {
     let mut transport = Transport::new(opened, 0);
-    assert_eq!(rt; transport.interval(), 0);
+    assert!(rt; transport.interval() == 0);
     transport.set_nonces(send, receive);
     transport
 }
@@ -124,21 +124,21 @@ pub fn zeros(rt: &impl Abort, alloc: Global, count: usize) -> Vec<u8>
 pub fn frame(rt: &impl Abort, alloc: Global, end: &mut End<XorKeys>, payload: &[u8]) -> Vec<u8> {
     let len = end.frame_len(payload.len()).expect(rt, "a length");
     let mut out = zeros(rt, alloc, len);
-    assert_eq!(rt; end.write_into(payload, out.as_mut_slice()), Ok(len));
+    assert!(rt; end.write_into(payload, out.as_mut_slice()) == Ok(len));
     out
 }
 
 /// The end writes nothing of this payload, for this fault.
 pub fn unwritten(rt: &impl Abort, end: &mut End<XorKeys>, payload: &[u8], fault: SendFault) {
     assert!(rt; end.frame_len(payload.len()).is_none());
-    assert_eq!(rt; end.write_into(payload, &mut []), Err(fault));
+    assert!(rt; end.write_into(payload, &mut []) == Err(fault));
 }
 
 /// The end takes so many bytes of the piece, and tells this.
 pub fn takes(rt: &impl Abort, end: &mut End<XorKeys>, piece: &[u8], count: usize, step: Step<'_>) {
     let (taken, told) = end.take(piece);
-    assert_eq!(rt; taken, count);
-    assert_eq!(rt; told, step);
+    assert!(rt; taken == count);
+    assert!(rt; told == step);
 }
 
 /// One end writes a payload, and the other takes its frame.

@@ -27,7 +27,7 @@ fn says(
     payload: &[u8; 2],
 ) -> [u8; 18] {
     let mut message = [0; 18];
-    assert_eq!(rt; sender.seal(payload, &mut message), Ok(18));
+    assert!(rt; sender.seal(payload, &mut message) == Ok(18));
     let sealed = message;
     let opened = receiver.open(&mut message).expect(rt, "a payload");
     assert!(rt; &*opened == payload.as_slice());
@@ -36,7 +36,7 @@ fn says(
 
 // The sender seals nothing, for this fault.
 fn unsealed(rt: &impl Abort, sender: &mut Transport, fault: SendFault) {
-    assert_eq!(rt; sender.seal(b"hi", &mut [0; 18]), Err(fault));
+    assert!(rt; sender.seal(b"hi", &mut [0; 18]) == Err(fault));
 }
 
 // The receiver opens nothing, for this fault, and the bytes stay.
@@ -49,7 +49,7 @@ fn refused(
 ) {
     let mut bytes = *message;
     assert!(rt; count <= 18);
-    assert_eq!(rt; receiver.open(&mut bytes[..count]).err(), Some(fault));
+    assert!(rt; receiver.open(&mut bytes[..count]).err() == Some(fault));
     assert!(rt; bytes == *message);
 }
 
@@ -73,15 +73,15 @@ fn renews_at_each_multiple(rt: HostRuntime) {
         let message = says(&rt, &mut initiator, &mut responder, b"hi");
         assert!(rt; message == sealed(&key, n), "at {n}");
     }
-    assert_eq!(rt; initiator.send_nonce(), 6);
-    assert_eq!(rt; responder.receive_nonce(), 6);
+    assert!(rt; initiator.send_nonce() == 6);
+    assert!(rt; responder.receive_nonce() == 6);
 }
 
 #[test]
 fn ends_at_the_last_nonce(rt: HostRuntime) {
     let (mut initiator, mut responder) = both_ways(&rt, 0);
-    assert_eq!(rt; initiator.interval(), 0);
-    assert_eq!(rt; responder.interval(), 0);
+    assert!(rt; initiator.interval() == 0);
+    assert!(rt; responder.interval() == 0);
     initiator.set_nonces(u64::MAX - 1, 7);
     responder.set_nonces(7, u64::MAX - 1);
     says(&rt, &mut responder, &mut initiator, b"yo");
@@ -98,8 +98,8 @@ fn one_way_sessions_have_one_writer(rt: HostRuntime) {
     let mut initiator = Transport::new(initiator, 0);
     let mut responder = Transport::new(responder, 0);
     assert!(rt; initiator.one_way());
-    assert_eq!(rt; initiator.remote_static(), Some([0x33; 32]));
-    assert_eq!(rt; initiator.hash(), responder.hash());
+    assert!(rt; initiator.remote_static() == Some([0x33; 32]));
+    assert!(rt; initiator.hash() == responder.hash());
     unsealed(&rt, &mut responder, SendFault::OneWay);
     refused(&rt, &mut initiator, &[0; 18], 18, OpenFault::OneWay);
     says(&rt, &mut initiator, &mut responder, b"hi");
@@ -110,13 +110,10 @@ fn payloads_of_the_least_and_most_bytes(rt: HostRuntime) {
     let (mut initiator, mut responder) = both_ways(&rt, 1);
     let mut message = zeros(&rt, rt.alloc(), 65535);
     let more = zeros(&rt, rt.alloc(), 65520);
-    assert_eq!(rt; initiator.seal(&[], &mut message), Ok(16));
-    assert_eq!(rt; responder.open_within(&mut message[..16]), Ok(0));
-    assert_eq!(rt;
-        initiator.seal(&more, &mut message),
-        Err(SendFault::TooLong)
-    );
-    assert_eq!(rt; initiator.seal(&more[1..], &mut message), Ok(65535));
+    assert!(rt; initiator.seal(&[], &mut message) == Ok(16));
+    assert!(rt; responder.open_within(&mut message[..16]) == Ok(0));
+    assert!(rt; initiator.seal(&more, &mut message) == Err(SendFault::TooLong));
+    assert!(rt; initiator.seal(&more[1..], &mut message) == Ok(65535));
     let opened = responder.open(&mut message).expect(&rt, "a payload");
     assert!(rt; &*opened == &more[1..]);
 }
@@ -125,12 +122,12 @@ fn payloads_of_the_least_and_most_bytes(rt: HostRuntime) {
 fn a_refused_message_changes_nothing(rt: HostRuntime) {
     let (mut initiator, mut responder) = both_ways(&rt, 0);
     let mut message = [0; 18];
-    assert_eq!(rt; initiator.seal(b"hi", &mut message), Ok(18));
+    assert!(rt; initiator.seal(b"hi", &mut message) == Ok(18));
     let mut wrong = message;
     wrong[17] ^= 1;
     refused(&rt, &mut responder, &wrong, 18, OpenFault::Tag);
     refused(&rt, &mut responder, &wrong, 15, OpenFault::Short);
-    assert_eq!(rt; responder.receive_nonce(), 0);
+    assert!(rt; responder.receive_nonce() == 0);
     let opened = responder.open(&mut message).expect(&rt, "a payload");
     assert!(rt; &*opened == b"hi".as_slice());
 }
