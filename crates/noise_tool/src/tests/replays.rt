@@ -7,6 +7,7 @@ use noise_handshake::Cause;
 use noise_names::Role;
 use noise_session::SendFault;
 use std::alloc::{AllocError, Global};
+use std::process::Abort;
 use std::test::Fail;
 
 // The lines of a file of NN behind its first, before its events.
@@ -428,23 +429,34 @@ fn entries(alloc: Global) -> Result<Vec<Entry>, AllocError> {
     Ok(entries)
 }
 
+// A report in which the responder wrote one frame.
+fn report(rt: &impl Abort, alloc: Global) -> Report {
+    let frame = b"\x00\x02\xff\xff".to_vec(alloc).expect(rt, "memory");
+    let mut responder = Vec::new(alloc);
+    responder.push(frame).expect(rt, "memory");
+    Report {
+        initiator: Vec::new(alloc),
+        responder,
+        entries: Vec::new(alloc),
+    }
+}
+
+// The line of an entry that is told of the responder.
+fn is_line(rt: &impl Abort, alloc: Global, report: &Report, entry: &Entry, text: &str) {
+    let line = entry_line(alloc, report, Role::Responder, entry).expect(rt, "memory");
+    let mut out = Vec::new(alloc);
+    assert!(rt; line.write(&mut out).is_ok());
+    assert!(rt; out.strip_suffix(b"\n") == Some(text.as_bytes()), "{text}");
+}
+
 #[test]
 fn prints_each_entry(rt: HostRuntime) -> Result<(), Fail> {
     let alloc = rt.alloc();
-    let mut frames = Vec::new(alloc);
-    frames.push(Vec::from_array(alloc, [0u8, 2, 255, 255])?)?;
-    let report = Report {
-        initiator: Vec::new(alloc),
-        responder: frames,
-        entries: Vec::new(alloc),
-    };
+    let report = report(&rt, alloc);
     let entries = entries(alloc)?;
     assert_eq!(rt; entries.len(), LINES.len());
     for (entry, text) in entries.iter().zip(&LINES) {
-        let mut out = Vec::new(alloc);
-        let line = entry_line(alloc, &report, Role::Responder, entry)?;
-        line.write(&mut out).map_err(|_| "not written")?;
-        assert_eq!(rt; out.as_slice(), format!(in alloc; "{text}\n")?.as_bytes());
+        is_line(&rt, alloc, &report, entry, text);
     }
     Ok(())
 }
