@@ -16,6 +16,3 @@ pub use entry::{Entry, Idle};
 pub use event::Event;
 pub use laws::{alike_are_parts, ends_agree, ends_stand, hash_tells, lines_come_through, run_once};
 pub use report::Report;
-
-#[cfg(test)]
-mod tests;

@@ -35,6 +35,3 @@ pub use stage::Stage;
 pub use step::Step;
 pub use transport::Transport;
 pub use window::Window;
-
-#[cfg(test)]
-mod tests;

@@ -2,6 +2,7 @@
 
 mod command_line;
 mod commands;
+mod failing;
 mod fakes;
 mod handshakes;
 mod outside;

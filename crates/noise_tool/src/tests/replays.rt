@@ -7,6 +7,7 @@ use noise_handshake::Cause;
 use noise_names::Role;
 use noise_session::SendFault;
 use std::alloc::{AllocError, Global};
+use std::process::Abort;
 use std::test::Fail;
 
 // The lines of a file of NN behind its first, before its events.
@@ -18,7 +19,7 @@ responder xor 2222222222222222222222222222222222222222222222222222222222222222 -
 ";
 
 // Such lines, the events behind them, and what a run of them prints.
-const RUNS: [(&str, &str, &str); 9] = [
+const RUNS: [(&str, &str, &str); 11] = [
     // A DH without an answer.
     (
         "protocol Noise_NN_25519_ChaChaPoly_SHA256
@@ -79,6 +80,7 @@ deliver responder 0 1
 deliver responder 0 0,2
 write responder -
 raw initiator 000000
+raw initiator -
 raw responder 0001ff00
 raw responder 0f000102030405060708090a0b0c0d0e00
 ",
@@ -229,6 +231,50 @@ state initiator handshake 1
 state responder handshake 1
 ",
     ),
+    // What is told of each kind of event, before and behind the handshake.
+    (
+        NN,
+        "raw initiator 616263
+write responder 6561726c79
+deliver responder 0 1,2,5
+write initiator 6869
+raw responder 0022111111
+raw responder 11111111111111111111111111111111111111111111111111111111116869
+deliver responder 0 1,2,5
+say responder - 1,2,5
+raw initiator 0000
+deliver initiator 1 1,2,5
+",
+        "left initiator your-turn 3
+unwritten responder not-your-turn
+missing responder 0
+wrote initiator 0 002211111111111111111111111111111111111111111111111111111111111111116869
+held responder 5
+payload responder 6869
+left responder your-turn 36
+wrote responder 0 00302222222222222222222222222222222222222222222222222222222222222222b28682addcb2b8ec6508de715e22c71d
+payload initiator -
+dropped initiator short
+missing initiator 1
+state initiator transport 0 0 dfd299490c6aece3aa6352782a9210ba4b8ab9971f84b1896f5dcffe3a393bda
+state responder transport 0 0 dfd299490c6aece3aa6352782a9210ba4b8ab9971f84b1896f5dcffe3a393bda
+",
+    ),
+    // A handshake frame that is too short, behind which the run goes on.
+    (
+        NN,
+        "raw responder 001f11111111111111111111111111111111111111111111111111111111111111
+say initiator 6869 1,2,5
+write responder 6c617465
+",
+        "refused responder 0 short
+wrote initiator 0 002211111111111111111111111111111111111111111111111111111111111111116869
+left responder ended 36
+unwritten responder ended
+state initiator handshake 1
+state responder ended
+",
+    ),
 ];
 
 #[test]
@@ -237,6 +283,98 @@ fn prints_what_a_replay_does(rt: HostRuntime) -> Result<(), Fail> {
     for (ends, events, told) in &RUNS {
         let file = format!(in alloc; "vector 1\n{ends}{events}")?;
         tells(&rt, alloc, &("replay", file.as_str(), 0, told, ""))?;
+    }
+    Ok(())
+}
+
+// Both messages of a handshake, and two transport messages that don't come yet; what is printed of them; and where the ends stand at last, but for how
+// many messages the responder took.
+const WRITTEN: &str = "say initiator - 1,2,5
+say responder - 1,2,5
+write initiator 61
+write initiator 62
+";
+
+const WRITTEN_TOLD: &str =
+    "wrote initiator 0 00201111111111111111111111111111111111111111111111111111111111111111
+payload responder -
+wrote responder 0 0030222222222222222222222222222222222222222222222222222222222222222227fcdb52a02daaf97b96eb20f7029ced
+payload initiator -
+wrote initiator 1 00116d4fe073473d0beebf376c0c9fe2135b2a
+wrote initiator 2 00112b47c9968f3f0c7abf43fda8076edf014f
+";
+
+const HASH: &str = "a40551f7a1d9e63611fc3269b125774f3301e1d1768bc761cebef4dee1c6beaf";
+
+// How the two come, what is printed of that, and how many messages the responder took.
+const COMING: [(&str, &str, u8); 5] = [
+    // The first is lost.
+    ("deliver responder 2 1,2,5\n", "dropped responder tag\n", 0),
+    // It comes twice.
+    (
+        "deliver responder 1 1,2,5\ndeliver responder 1 1,2,5\ndeliver responder 2 1,2,5\n",
+        "payload responder 61\ndropped responder tag\npayload responder 62\n",
+        2,
+    ),
+    // They are exchanged.
+    (
+        "deliver responder 2 1,2,5\ndeliver responder 1 1,2,5\ndeliver responder 2 1,2,5\n",
+        "dropped responder tag\npayload responder 61\npayload responder 62\n",
+        2,
+    ),
+    // The first lacks its last byte.
+    (
+        "raw responder 00116d4fe073473d0beebf376c0c9fe2135b\ndeliver responder 2 1,2,5\n",
+        "held responder 18\ndropped responder tag\nheld responder 18\n",
+        0,
+    ),
+    // A bit of it is flipped.
+    (
+        "raw responder 00116d4fe073473d0beebf376c0c9fe2135b2b\ndeliver responder 1 1,2,5\ndeliver responder 2 1,2,5\n",
+        "dropped responder tag\npayload responder 61\npayload responder 62\n",
+        2,
+    ),
+];
+
+#[test]
+fn prints_what_comes_of_a_bad_network(rt: HostRuntime) -> Result<(), Fail> {
+    let alloc = rt.alloc();
+    for (events, told, count) in &COMING {
+        let file = format!(in alloc; "vector 1\n{NN}{WRITTEN}{events}")?;
+        let text = format!(in alloc;
+            "{WRITTEN_TOLD}{told}state initiator transport 2 0 {HASH}\nstate responder transport 0 {count} {HASH}\n"
+        )?;
+        tells(&rt, alloc, &("replay", file.as_str(), 0, text.as_str(), ""))?;
+    }
+    Ok(())
+}
+
+// A conversation, and what it prints as one and as a run.
+const LINES_SAID: &str = "say initiator 6869 -
+say responder 796573 1,7
+say responder 6d6f7265 -
+say initiator - -
+";
+
+const LINES_TOLD: &str =
+    "wrote initiator 0 002211111111111111111111111111111111111111111111111111111111111111116869
+payload responder 6869
+wrote responder 0 00332222222222222222222222222222222222222222222222222222222222222222b60dcd41a88a2ba77fe6fde5744d1e7e45f36b
+payload initiator 796573
+wrote responder 1 0014240e24155e4c6838fe2d92913af72ebdf8f36163
+payload initiator 6d6f7265
+wrote initiator 1 001023ecbe5ac860704a7f4cd63edc0ae0d4
+payload responder -
+state initiator transport 1 1 e44ee44933ccb7dae805f3fbb5f1e538cb3dcc9c2cc5d8184b366b4a270fd013
+state responder transport 1 1 e44ee44933ccb7dae805f3fbb5f1e538cb3dcc9c2cc5d8184b366b4a270fd013
+";
+
+#[test]
+fn talks_as_it_replays(rt: HostRuntime) -> Result<(), Fail> {
+    let alloc = rt.alloc();
+    let file = format!(in alloc; "vector 1\n{NN}{LINES_SAID}")?;
+    for command in ["talk", "replay"] {
+        tells(&rt, alloc, &(command, file.as_str(), 0, LINES_TOLD, ""))?;
     }
     Ok(())
 }
@@ -291,23 +429,34 @@ fn entries(alloc: Global) -> Result<Vec<Entry>, AllocError> {
     Ok(entries)
 }
 
+// A report in which the responder wrote one frame.
+fn report(rt: &impl Abort, alloc: Global) -> Report {
+    let frame = b"\x00\x02\xff\xff".to_vec(alloc).expect(rt, "memory");
+    let mut responder = Vec::new(alloc);
+    responder.push(frame).expect(rt, "memory");
+    Report {
+        initiator: Vec::new(alloc),
+        responder,
+        entries: Vec::new(alloc),
+    }
+}
+
+// The line of an entry that is told of the responder.
+fn is_line(rt: &impl Abort, alloc: Global, report: &Report, entry: &Entry, text: &str) {
+    let line = entry_line(alloc, report, Role::Responder, entry).expect(rt, "memory");
+    let mut out = Vec::new(alloc);
+    assert!(rt; line.write(&mut out).is_ok());
+    assert!(rt; out.strip_suffix(b"\n") == Some(text.as_bytes()), "{text}");
+}
+
 #[test]
 fn prints_each_entry(rt: HostRuntime) -> Result<(), Fail> {
     let alloc = rt.alloc();
-    let mut frames = Vec::new(alloc);
-    frames.push(Vec::from_array(alloc, [0u8, 2, 255, 255])?)?;
-    let report = Report {
-        initiator: Vec::new(alloc),
-        responder: frames,
-        entries: Vec::new(alloc),
-    };
+    let report = report(&rt, alloc);
     let entries = entries(alloc)?;
     assert_eq!(rt; entries.len(), LINES.len());
     for (entry, text) in entries.iter().zip(&LINES) {
-        let mut out = Vec::new(alloc);
-        let line = entry_line(alloc, &report, Role::Responder, entry)?;
-        line.write(&mut out).map_err(|_| "not written")?;
-        assert_eq!(rt; out.as_slice(), format!(in alloc; "{text}\n")?.as_bytes());
+        is_line(&rt, alloc, &report, entry, text);
     }
     Ok(())
 }

@@ -1,0 +1,9 @@
+//! What no contract says: worked frames and packets, what readers and writers that fail come to, and that each call can succeed.
+
+mod datagrams;
+mod duels;
+mod frames;
+mod streams;
+mod support;
+mod transport;
+mod using;
