@@ -9,9 +9,10 @@ use std::alloc::Global;
 use std::process::Abort;
 use std::slice::from_ref;
 
-type Ends = Duel<XorKeys, XorKeys>;
+pub type Ends = Duel<XorKeys, XorKeys>;
 
-fn between(rt: &impl Abort, first: End<XorKeys>, second: End<XorKeys>) -> Ends {
+/// Two ends as a duel.
+pub fn between(rt: &impl Abort, first: End<XorKeys>, second: End<XorKeys>) -> Ends {
     assert!(rt; first.role() == Role::Initiator);
     assert!(rt; second.role() == Role::Responder);
     Duel::new(first, second)
@@ -25,8 +26,8 @@ fn happens(rt: &impl Abort, alloc: Global, duel: Ends, event: Event, told: &str)
     duel
 }
 
-// This role says a payload, whose frame comes in pieces of 1, 2 and then 5 bytes.
-fn says(
+/// This role says a payload, whose frame comes in pieces of 1, 2 and then 5 bytes.
+pub fn says(
     rt: &impl Abort,
     alloc: Global,
     duel: Ends,
