@@ -132,3 +132,18 @@ fn a_window_comes_the_other_way_round(rt: HostRuntime) {
         "[(Responder, Payload([64])), (Responder, Rejected(Old)), (Responder, Rejected(Repeated))]";
     tells(&rt, alloc, &report, 129, last);
 }
+
+// It passes whichever allocation of the run itself fails: see `rt try --test --fail-alloc N`.
+#[test]
+fn a_run_or_no_memory(rt: HostRuntime) {
+    let alloc = rt.alloc();
+    let mut events = Vec::new(alloc);
+    seals(&rt, alloc, &mut events, Role::Initiator, 1);
+    opens(&rt, &mut events, Role::Responder, 0);
+    let duel = open_duel(&rt, alloc);
+    if let Ok((_, report)) = duel.run(alloc, events.as_slice()) {
+        let mut told = report.entries.as_slice().iter().skip(1);
+        assert!(rt; is_payload(told.next().expect(&rt, "an entry"), 1));
+        assert!(rt; told.next().is_none());
+    }
+}
