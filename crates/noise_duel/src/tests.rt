@@ -1,6 +1,8 @@
 //! Runs of two ends, with what is to be told of them worked by hand.
 #![tactic(auto)]
 
+mod datagrams;
+
 use crate::{Cuts, Duel, Entry, Event, Idle, Report};
 use Role::{Initiator, Responder};
 use noise_handshake::{Cause, Handshake, Remote, XorKeys};
