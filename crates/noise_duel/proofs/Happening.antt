@@ -9,17 +9,17 @@ use Rattle.noise_names.specs.Tokens.{other}
 use Rattle.noise_handshake.specs.declared.keys.Own.{Own}
 use Rattle.noise_session.specs.declared.faults.SendFault.{SendFault}
 use Rattle.noise_session.specs.Frames.{frame}
-use Rattle.noise_session.specs.Ends.{HeldEnd, EndStands}
+use Rattle.noise_session.specs.Ends.{HeldEnd}
 use Rattle.noise_duel.specs.declared.entry.Entry.{Entry}
 use Rattle.noise_duel.specs.declared.report.Report.{Report}
 use Rattle.noise_duel.specs.Entries.{note_of, notes_of, written_note}
-use Rattle.noise_duel.specs.Events.{Event, Write, Say, Deliver, Raw, Note, Wrote, WriteFault, Missing, held_note, noted_by}
+use Rattle.noise_duel.specs.Events.{Event, Write, Say, Deliver, Raw, Note, Wrote, Missing, held_note, noted_by}
 use Rattle.noise_duel.specs.HeldDuel.{HeldDuel, DuelStands, HasFrames}
 use Rattle.noise_duel.specs.OneEnd.{HasReceived}
 use Rattle.noise_duel.specs.OneEvent.{HasTaken, RoleWrote, HasHappened, HasComeTo}
 use Rattle.noise_duel.specs.Reports.{Reports}
 use Rattle.noise_duel.specs.Runs.{SideWrites, SideReceives, Happens, Run}
-use Rattle.noise_duel.specs.Runs.SideWrites.{writes_nothing, writes_handshake, writes_transport}
+use Rattle.noise_duel.specs.Runs.SideWrites.{writes_handshake, writes_transport}
 use Rattle.noise_duel.specs.Runs.Happens.{writes, says_nothing, says, delivers, misses, injects}
 use Rattle.noise_duel.specs.Runs.Run.{ends, begins}
 use Rattle.noise_duel.specs.Sides.{Side, Sides, side, with_side}

@@ -24,3 +24,6 @@ pub mod Happening
 pub mod Reporting
 pub mod Linking
 pub mod Received
+pub mod DatagramHappening
+pub mod DatagramAgreeing
+pub mod DatagramRunOnce

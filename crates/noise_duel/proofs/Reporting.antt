@@ -1,5 +1,5 @@
 -- What the laws say of a run, for the ends and the report that are left.
-use Rattle.std.proofs.Common.{◌≡◌, ◌≢◌, ℕ, zero, suc, ◌+◌, List, [], ◌∷◌, ◌++◌, length, take, refl, ap, sym, subst, ◌∙◌, append_assoc, Option, Some, None}
+use Rattle.std.proofs.Common.{◌≡◌, ℕ, zero, suc, ◌+◌, List, [], ◌∷◌, ◌++◌, length, take, refl, ap, sym, subst, ◌∙◌, append_assoc, Option, Some, None}
 use Rattle.std.specs.Prelude.{Bool, true, false, ◌&&◌, ◌||◌, ◌==◌, if◌then◌else◌}
 use Rattle.std.specs.List.{list_any}
 use Rattle.noise_names.specs.declared.token.Role.{Role}
@@ -19,23 +19,22 @@ use Rattle.noise_handshake.specs.Setup.{token_of}
 use Rattle.noise_handshake.specs.View.{View}
 use Rattle.noise_session.specs.declared.phase.Phase.{Phase}
 use Rattle.noise_session.specs.declared.phase.Phase.TheVariants as phase
-use Rattle.noise_session.specs.Counterparts.{EndCounterparts}
-use Rattle.noise_session.specs.Ends.{EndView, EndStands, HeldEnd, IsToldBy, PhaseStands, hash_in, remote_static_in, session_hash, session_remote_static}
+use Rattle.noise_session.specs.Ends.{EndView, EndStands, HeldEnd, IsToldBy, PhaseStands}
 use Rattle.noise_session.specs.Transport.{transport_key}
 use Rattle.noise_duel.specs.declared.report.Report.{Report}
-use Rattle.noise_duel.specs.Conversation.{KeyMaterial, ComeThrough, HaveParts, InTurn, IsPart, LinesComeThrough}
-use Rattle.noise_duel.specs.Conversation.{facing, frames_by, payloads_in, say_events, transcript}
+use Rattle.noise_duel.specs.Conversation.{KeyMaterial, HaveParts, InTurn, LinesComeThrough}
+use Rattle.noise_duel.specs.Conversation.{facing, payloads_in, say_events}
 use Rattle.noise_duel.specs.Entries.{notes_of}
 use Rattle.noise_duel.specs.Events.{Event, Note}
 use Rattle.noise_duel.specs.HeldDuel.{HeldDuel}
-use Rattle.noise_duel.specs.Invariant.{ComesOfMessages, EndsStand}
+use Rattle.noise_duel.specs.Invariant.{EndsStand}
 use Rattle.noise_duel.specs.Messages.{HandshakeMessage, Exchanged, Start, begun_as}
 use Rattle.noise_duel.specs.Messages.Exchanged.{none, wrote, took}
 use Rattle.noise_duel.specs.Networks.{HashesTell, PayloadsCome, SecretsMakeOne, VisiblyEqualGivesOne}
 use Rattle.noise_duel.specs.OwnFrames.{EndsFrame}
 use Rattle.noise_duel.specs.Reports.{EndsAgree, HaveComeThrough, Reports, receive_key_in, send_key_in, static_shown}
 use Rattle.noise_duel.specs.Runs.{Run}
-use Rattle.noise_duel.specs.Sides.{Side, Sides, side}
+use Rattle.noise_duel.specs.Sides.{Sides}
 use Rattle.noise_duel.proofs.Networks.{passes-pattern, passes-role}
 
 -- ---- agreement

@@ -4,7 +4,7 @@ use Rattle.noise_handshake.specs.declared.keys.Own.{Own}
 use Rattle.noise_session.specs.Ends.{EndView, HeldEnd, EndStands}
 use Rattle.noise_duel.specs.declared.report.Report.{Report}
 use Rattle.noise_duel.specs.Entries.{bytes_of}
-use Rattle.noise_duel.specs.Sides.{Side, Sides, new_side}
+use Rattle.noise_duel.specs.Sides.{Sides, new_side}
 
 -- two ends as contracts see them
 pub record HeldDuel (A B : Type 0) : Type 0 where

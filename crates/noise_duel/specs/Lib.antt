@@ -19,3 +19,9 @@ pub mod OneEnd
 pub mod HeldDuel
 pub mod OneEvent
 pub mod Reports
+pub mod DatagramEvents
+pub mod DatagramSides
+pub mod DatagramRuns
+pub mod DatagramReports
+pub mod OneDatagram
+pub mod DatagramAgreement

@@ -1,5 +1,5 @@
 -- What comes of one event, in code: two ends and a report.
-use Rattle.std.specs.Prelude.{◌≡◌, ℕ, List, [], ◌∷◌, ◌++◌, Option, Some, None, Result, length}
+use Rattle.std.specs.Prelude.{◌≡◌, ℕ, List, [], ◌∷◌, ◌++◌, Option, Some, None, Result}
 use Rattle.std.specs.Result.{result_ok}
 use Rattle.noise_names.specs.declared.token.Role.{Role}
 use Rattle.noise_handshake.specs.declared.keys.Own.{Own}
@@ -8,10 +8,10 @@ use Rattle.noise_session.specs.Ends.{HeldEnd, EndStands}
 use Rattle.noise_duel.specs.declared.entry.Entry.{Entry}
 use Rattle.noise_duel.specs.declared.report.Report.{Report}
 use Rattle.noise_duel.specs.Entries.{notes_of, written_note}
-use Rattle.noise_duel.specs.Events.{Event, Note, Missing, held_note, noted_by}
+use Rattle.noise_duel.specs.Events.{Event, Note, Missing}
 use Rattle.noise_duel.specs.HeldDuel.{HeldDuel, DuelStands, HasFrames}
 use Rattle.noise_duel.specs.OneEnd.{HasReceived}
-use Rattle.noise_duel.specs.Runs.{SideWrites, SideReceives, Happens, Run}
+use Rattle.noise_duel.specs.Runs.{SideWrites, Happens, Run}
 use Rattle.noise_duel.specs.Sides.{Side, Sides, side, with_side}
 
 module _ {K : Type 0} (public_of : K → Own → Option (List ℕ)) (agreement : K → Own → List ℕ → Option (List ℕ)) where

@@ -1,13 +1,17 @@
 //! Two ends of a session, and what events make of them.
 #![tactic(auto)]
 
-ghost use Rattle.std.specs.Prelude.{◌≡◌, ℕ, List, IfOk, OnOk, slice_get};
+ghost use Rattle.std.specs.Prelude.{◌≡◌, ◌↔◌, ℕ, List, IsOk, IfOk, IfErr, OnOk, slice_get, true};
 ghost use Rattle.noise_names.specs.declared.token.Role.TheVariants.{Initiator, Responder};
 ghost use Rattle.noise_names.specs.Plan.{Plan};
 ghost use Rattle.noise_session.specs.Ends.{EndView, EndStands, progress};
 ghost use Rattle.noise_session.specs.Progress.{role_of};
+ghost use Rattle.noise_session.specs.Datagrams.{datagrams_of};
+ghost use Rattle.noise_session.specs.EndDatagrams.{is_datagram_ready};
 ghost use Rattle.noise_duel.specs.Acts.{event_of, events_of, lines_of};
 ghost use Rattle.noise_duel.specs.Conversation.{KeyMaterial, HaveParts, InTurn, facing, say_events};
+ghost use Rattle.noise_duel.specs.DatagramReports.{DuelPictures};
+ghost use Rattle.noise_duel.specs.DatagramSides.{meeting};
 ghost use Rattle.noise_duel.specs.Entries.{bytes_of};
 ghost use Rattle.noise_duel.specs.Events.{Deliver, Raw, Say};
 ghost use Rattle.noise_duel.specs.HeldDuel.{DuelStands, HasFrames, facing_as};
@@ -17,6 +21,7 @@ ghost use Rattle.noise_duel.specs.Reports.{EndsAgree, HaveComeThrough, Reports};
 ghost use Rattle.noise_duel.specs.Sides.{Side, Sides};
 
 use crate::cuts::Cuts;
+use crate::datagram_duel::DatagramDuel;
 use crate::entry::Entry;
 use crate::event::Event;
 use crate::laws::{ends_agree, ends_stand, lines_come_through};
@@ -25,7 +30,7 @@ use crate::report::Report;
 use crate::writing::write;
 use noise_handshake::Keys;
 use noise_names::Role;
-use noise_session::{End, end_is_told};
+use noise_session::{End, Window, end_is_told};
 use std::alloc::{AllocError, Global};
 use std::marker::Model;
 
@@ -121,6 +126,21 @@ impl<A: Keys, B: Keys> Duel<A, B> {
         end_is_told::<A>();
         end_is_told::<B>();
         Ok((self, report))
+    }
+
+    /// The datagrams of both parties, with this window (Noise, 11.4), if both ends are ready for them (`End::datagram_ready`); else the duel as it was.
+    pub fn into_datagrams(self, window: Window) -> Result<DatagramDuel, Duel<A, B>>
+        ensures when { IsOk result ↔ ((is_datagram_ready self.initiator ≡ true) × (is_datagram_ready self.responder ≡ true)) }
+        ensures begun { (v w : EndView) → DuelStands A.public_of A.agreement B.public_of B.agreement self (facing_as v w)
+            → IfOk result (λ duel. DuelPictures duel (meeting (datagrams_of v.party window) (datagrams_of w.party window))) }
+        ensures back { IfErr result (λ duel. duel ≡ self) }
+    {
+        if !(self.initiator.datagram_ready() && self.responder.datagram_ready()) {
+            return Err(self);
+        }
+        let initiator = self.initiator.into_datagrams(window);
+        let responder = self.responder.into_datagrams(window);
+        Ok(DatagramDuel::new(initiator, responder))
     }
 
     // What comes of one event.

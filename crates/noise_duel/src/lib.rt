@@ -1,7 +1,12 @@
-//! Two ends of a session, under any schedule of events.
+//! Two ends of a session, under any schedule of events: over a stream of frames, or over datagrams.
 #![tactic(auto)]
 
 mod cuts;
+mod datagram_duel;
+mod datagram_event;
+mod datagram_laws;
+mod datagram_party;
+mod datagram_report;
 mod duel;
 mod entry;
 mod event;
@@ -11,6 +16,10 @@ mod report;
 mod writing;
 
 pub use cuts::Cuts;
+pub use datagram_duel::DatagramDuel;
+pub use datagram_event::DatagramEvent;
+pub use datagram_laws::{datagram_run_once, datagrams_agree};
+pub use datagram_report::{DatagramEntry, DatagramReport};
 pub use duel::Duel;
 pub use entry::{Entry, Idle};
 pub use event::Event;

@@ -1,0 +1,89 @@
+-- A run of datagrams is determined: of two parties and a list of events one list of notes and one pair of parties comes.
+use Rattle.std.proofs.Common.{◌≡◌, ℕ, List, ◌∷◌, Option, Some, None, refl, ap, sym, subst, ◌∙◌}
+use Rattle.std.specs.Prelude.{Ok, Err, Result}
+use Rattle.noise_names.specs.declared.token.Role.{Role}
+use Rattle.noise_names.specs.Tokens.{other}
+use Rattle.noise_session.specs.declared.datagram_fault.DatagramFault.{DatagramFault}
+use Rattle.noise_session.specs.Datagrams.{DatagramView, Opens, nonce_named}
+use Rattle.noise_session.specs.Datagrams.Opens.{opened, refused, forged}
+use Rattle.noise_duel.specs.DatagramEvents.{DatagramEvent, DatagramNote, Payload, Rejected, SealFault}
+use Rattle.noise_duel.specs.DatagramRuns.{DatagramHappens, DatagramRun, DatagramRunOnce, PartyOpens, PartySeals}
+use Rattle.noise_duel.specs.DatagramRuns.DatagramHappens.{is_sealed, is_opened, is_missing, is_put_in}
+use Rattle.noise_duel.specs.DatagramRuns.DatagramRun.{begins, ends}
+use Rattle.noise_duel.specs.DatagramRuns.PartyOpens.{opens, rejects}
+use Rattle.noise_duel.specs.DatagramRuns.PartySeals.{seals, seals_nothing}
+use Rattle.noise_duel.specs.DatagramSides.{DatagramSide, DatagramSides, opening, party, with_party}
+use Rattle.noise_duel.proofs.Prefixes.{packet-same}
+
+some-same : {X : Type 0} (x y : X) → Some x ≡ Some y → x ≡ y
+some-same x y e = cc
+
+some-none : {X : Type 0} (o : Option X) (x : X) → o ≡ Some x → o ≡ None → ⊥
+some-none o x e f = cc
+
+abbrev opens_as : List ℕ → Result (List ℕ) DatagramFault
+opens_as payload = Ok payload
+
+abbrev refused_as : DatagramFault → Result (List ℕ) DatagramFault
+refused_as why = Err why
+
+ok-same : (p q : List ℕ) → opens_as p ≡ opens_as q → p ≡ q
+ok-same p q e = cc
+
+err-same : (x y : DatagramFault) → refused_as x ≡ refused_as y → x ≡ y
+err-same x y e = cc
+
+not-both : (p : List ℕ) (why : DatagramFault) → opens_as p ≡ refused_as why → ⊥
+not-both p why e = cc
+
+opens-once : (v : DatagramView) (bytes : List ℕ) (w x : DatagramView) (p q : Result (List ℕ) DatagramFault) → Opens v bytes p w → Opens v bytes q x → p ≡ q
+opens-once v bytes w x p q (opened _ _ a none is) (opened _ _ b also be) =
+    ap opens_as (packet-same v.history (other v.role) 0 (nonce_named bytes) a b (sym is ∙ be))
+opens-once v bytes w x p q (opened _ _ a none is) (refused _ _ why e) = absurd (some-none _ why e none)
+opens-once v bytes w x p q (opened _ _ a none is) (forged _ _ also never) = absurd (never a is)
+opens-once v bytes w x p q (refused _ _ why e) (opened _ _ b none is) = absurd (some-none _ why e none)
+opens-once v bytes w x p q (refused _ _ why e) (refused _ _ because f) = ap refused_as (some-same why because (sym e ∙ f))
+opens-once v bytes w x p q (refused _ _ why e) (forged _ _ none never) = absurd (some-none _ why e none)
+opens-once v bytes w x p q (forged _ _ none never) (opened _ _ b also is) = absurd (never b is)
+opens-once v bytes w x p q (forged _ _ none never) (refused _ _ why e) = absurd (some-none _ why e none)
+opens-once v bytes w x p q (forged _ _ none never) (forged _ _ also again) = refl
+
+party-seals-once : (s : DatagramSide) (payload : List ℕ) (x y : DatagramSide) (m n : DatagramNote) → PartySeals s payload m x → PartySeals s payload n y → (m ≡ n) × (x ≡ y)
+party-seals-once s payload x y m n (seals _ _ none) (seals _ _ also) = (refl, refl)
+party-seals-once s payload x y m n (seals _ _ none) (seals_nothing _ _ why e) = absurd (some-none _ why e none)
+party-seals-once s payload x y m n (seals_nothing _ _ why e) (seals _ _ none) = absurd (some-none _ why e none)
+party-seals-once s payload x y m n (seals_nothing _ _ why e) (seals_nothing _ _ because f) = (ap SealFault (some-same why because (sym e ∙ f)), refl)
+
+party-opens-once : (s : DatagramSide) (bytes : List ℕ) (x y : DatagramSide) (m n : DatagramNote) → PartyOpens s bytes m x → PartyOpens s bytes n y → (m ≡ n) × (x ≡ y)
+party-opens-once s bytes x y m n (opens _ _ a o) (opens _ _ b u) =
+    let same = ok-same a b (opens-once s.view bytes _ _ (opens_as a) (opens_as b) o u) in (ap Payload same, ap (opening s bytes) same)
+party-opens-once s bytes x y m n (opens _ _ a o) (rejects _ _ why u) =
+    absurd (not-both a why (opens-once s.view bytes _ _ (opens_as a) (refused_as why) o u))
+party-opens-once s bytes x y m n (rejects _ _ why o) (opens _ _ b u) =
+    absurd (not-both b why (opens-once s.view bytes _ _ (opens_as b) (refused_as why) u o))
+party-opens-once s bytes x y m n (rejects _ _ why o) (rejects _ _ because u) =
+    (ap Rejected (err-same why because (opens-once s.view bytes _ _ (refused_as why) (refused_as because) o u)), refl)
+
+happens-once : (d x y : DatagramSides) (event : DatagramEvent) (m n : Role × DatagramNote) → DatagramHappens d event m x → DatagramHappens d event n y
+    → (m ≡ n) × (x ≡ y)
+happens-once d x y event m n (is_sealed _ role payload note next h) (is_sealed _ _ _ told after k) =
+    let one = party-seals-once (party d role) payload next after note told h k in
+    (ap (λ (z : DatagramNote). (role, z)) one.0, ap (with_party d role) one.1)
+happens-once d x y event m n (is_opened _ role i bytes note next at h) (is_opened _ _ _ others told after there k) =
+    let same : bytes ≡ others = some-same bytes others (sym at ∙ there) in
+    let one = party-opens-once (party d role) bytes next after note told h
+    (subst (λ (z : List ℕ). PartyOpens (party d role) z told after) (sym same) k) in
+    (ap (λ (z : DatagramNote). (role, z)) one.0, ap (with_party d role) one.1)
+happens-once d x y event m n (is_opened _ role i bytes note next at h) (is_missing _ _ _ none) = absurd (some-none _ bytes at none)
+happens-once d x y event m n (is_missing _ role i none) (is_opened _ _ _ bytes note next at h) = absurd (some-none _ bytes at none)
+happens-once d x y event m n (is_missing _ role i none) (is_missing _ _ _ also) = (refl, refl)
+happens-once d x y event m n (is_put_in _ role bytes note next h) (is_put_in _ _ _ told after k) =
+    let one = party-opens-once (party d role) bytes next after note told h k in
+    (ap (λ (z : DatagramNote). (role, z)) one.0, ap (with_party d role) one.1)
+
+pub datagram-run-once : DatagramRunOnce
+datagram-run-once d x y events ms ns (ends _) (ends _) = (refl, refl)
+datagram-run-once d x y events ms ns (begins _ next _ event later now more h run) (begins _ after _ _ _ first rest k on) =
+    let one = happens-once d next after event now first h k in
+    let two = datagram-run-once next x y later more rest run (subst (λ (z : DatagramSides). DatagramRun z later rest y) (sym one.1) on) in
+    (ap (λ (z : Role × DatagramNote). z ∷ more) one.0 ∙ ap (λ (zs : List (Role × DatagramNote)). first ∷ zs) two.0, two.1)

@@ -1,0 +1,54 @@
+-- What a run of two parties' datagrams reports and leaves.
+use Rattle.std.specs.Prelude.{◌&&◌, List, Bool, map}
+use Rattle.noise_names.specs.declared.token.Role.{Role}
+use Rattle.noise_session.specs.Datagrams.{HeldDatagrams, Pictures}
+use Rattle.noise_session.specs.EndDatagrams.{is_datagram_ready}
+use Rattle.noise_duel.specs.declared.datagram_event.DatagramEvent.{DatagramEvent as Given}
+use Rattle.noise_duel.specs.declared.datagram_event.DatagramEvent.TheVariants as given
+use Rattle.noise_duel.specs.declared.datagram_report.DatagramEntry.{DatagramEntry}
+use Rattle.noise_duel.specs.declared.datagram_report.DatagramEntry.TheVariants as entry
+use Rattle.noise_duel.specs.declared.datagram_report.DatagramReport.{DatagramReport}
+use Rattle.noise_duel.specs.DatagramEvents.{DatagramEvent, Seal, Open, Raw, DatagramNote, Sealed, SealFault, Payload, Rejected, Missing}
+use Rattle.noise_duel.specs.DatagramRuns.{DatagramRun}
+use Rattle.noise_duel.specs.DatagramSides.{DatagramSides}
+use Rattle.noise_duel.specs.HeldDuel.{HeldDuel}
+
+-- the events of code
+abbrev pub datagram_event_of : Given → DatagramEvent
+datagram_event_of (given.Seal role payload) = Seal role payload.items
+datagram_event_of (given.Open role number) = Open role number
+datagram_event_of (given.Raw role bytes) = Raw role bytes.items
+
+abbrev pub datagram_events_of : List Given → List DatagramEvent
+datagram_events_of events = map datagram_event_of events
+
+-- the entries of code
+abbrev pub datagram_note_of : DatagramEntry → DatagramNote
+datagram_note_of (entry.Sealed number datagram) = Sealed number datagram.items
+datagram_note_of (entry.SealFault why) = SealFault why
+datagram_note_of (entry.Payload bytes) = Payload bytes.items
+datagram_note_of (entry.Rejected why) = Rejected why
+datagram_note_of (entry.Missing number) = Missing number
+
+abbrev pub datagram_notes_of : List (Role × DatagramEntry) → List (Role × DatagramNote)
+datagram_notes_of entries = map (λ e. (e.0, datagram_note_of e.1)) entries
+
+-- the datagrams of two parties as contracts see them
+pub record HeldDatagramDuel : Type 0 where
+  pub initiator : HeldDatagrams
+  pub responder : HeldDatagrams
+
+-- whether both ends may go over to datagrams
+abbrev pub are_datagram_ready : {A B : Type 0} → HeldDuel A B → Bool
+are_datagram_ready duel = is_datagram_ready duel.initiator && is_datagram_ready duel.responder
+
+-- each holds what its view says
+pub record DuelPictures (duel : HeldDatagramDuel) (d : DatagramSides) : Type 0 where
+  pub initiator : Pictures duel.initiator d.initiator.view
+  pub responder : Pictures duel.responder d.responder.view
+
+-- The report tells what a run makes of the two, and those left picture the views behind it.
+pub record DatagramReports (d : DatagramSides) (events : List DatagramEvent) (duel : HeldDatagramDuel) (report : DatagramReport) : Type 0 where
+  pub last : DatagramSides
+  pub run : DatagramRun d events (datagram_notes_of report.entries.items) last
+  pub pictures : DuelPictures duel last

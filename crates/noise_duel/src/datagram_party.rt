@@ -1,0 +1,77 @@
+//! One party seals and opens datagrams.
+#![tactic(auto)]
+
+ghost use Rattle.std.specs.Prelude.{◌≡◌, ℕ, List, length, IfOk, slice_get};
+ghost use Rattle.noise_session.specs.Datagrams.{Pictures};
+ghost use Rattle.noise_duel.specs.DatagramSides.{DatagramSide, datagrams_in};
+ghost use Rattle.noise_duel.specs.Entries.{bytes_of};
+ghost use Rattle.noise_duel.specs.OneDatagram.{HasFound, HasOpened, HasSealed};
+
+use crate::datagram_report::DatagramEntry;
+use noise_session::Datagrams;
+use std::alloc::{AllocError, Global};
+
+// The bytes of a nonce and a tag.
+const OVERHEAD: usize = 24;
+
+// The longest payload in bytes.
+const PAYLOAD_MAX: usize = 65519;
+
+/// Seals a payload, keeps the datagram behind those that were sealed before, and tells of it.
+pub(crate) fn seal(
+    alloc: Global,
+    datagrams: &mut Datagrams,
+    payload: &[u8],
+    sealed: &mut Vec<Vec<u8>>,
+) -> Result<DatagramEntry, AllocError>
+    ensures { (s : DatagramSide) → Pictures datagrams.old s.view → bytes_of sealed.old.items ≡ datagrams_in s
+        → IfOk result (λ entry. HasSealed s payload.now entry datagrams.new sealed.new.items) }
+{
+    let room = if payload.len() > PAYLOAD_MAX {
+        0
+    } else {
+        payload.len() + OVERHEAD
+    };
+    let mut datagram = vec![in alloc; 0u8; room]?;
+    match datagrams.seal(payload, datagram.as_mut_slice()) {
+        Ok(len) => {
+            let number = sealed.len();
+            datagram.truncate(len);
+            let told = Vec::from_slice(alloc, datagram.as_slice())?;
+            sealed.push(datagram)?;
+            Ok(DatagramEntry::Sealed(number, told))
+        }
+        Err(fault) => Ok(DatagramEntry::SealFault(fault)),
+    }
+}
+
+/// Opens a copy of these bytes as one datagram, and tells what came of it.
+pub(crate) fn open(
+    alloc: Global,
+    datagrams: &mut Datagrams,
+    bytes: &[u8],
+) -> Result<DatagramEntry, AllocError>
+    ensures { (s : DatagramSide) → Pictures datagrams.old s.view → IfOk result (λ entry. HasOpened s bytes.now entry datagrams.new) }
+{
+    let mut datagram = Vec::from_slice(alloc, bytes)?;
+    match datagrams.open(datagram.as_mut_slice()) {
+        Ok(payload) => Ok(DatagramEntry::Payload(Vec::from_slice(alloc, payload)?)),
+        Err(fault) => Ok(DatagramEntry::Rejected(fault)),
+    }
+}
+
+/// Opens a copy of the datagram of this number, if there is one, and tells what came of it.
+pub(crate) fn open_numbered(
+    alloc: Global,
+    datagrams: &mut Datagrams,
+    sealed: &[Vec<u8>],
+    number: usize,
+) -> Result<DatagramEntry, AllocError>
+    ensures { (s : DatagramSide) → Pictures datagrams.old s.view
+        → IfOk result (λ entry. HasFound s number (slice_get (bytes_of sealed.now) number) entry datagrams.new) }
+{
+    match sealed.get(number) {
+        Some(datagram) => open(alloc, datagrams, datagram.as_slice()),
+        None => Ok(DatagramEntry::Missing(number)),
+    }
+}
