@@ -15,7 +15,7 @@ use Rattle.noise_tool.specs.Ends.{AreEnds, IsStartFault, facing_in}
 use Rattle.noise_tool.specs.Faults.{status_of}
 use Rattle.noise_tool.specs.Performing.{HasPrinted, HasRun, IsRunFault}
 use Rattle.noise_tool.specs.Printed.{run_text}
-use Rattle.noise_vectors.specs.VectorFile.{say_of}
+use Rattle.noise_vectors.specs.VectorFile.{IsVectorFile, say_of}
 use Rattle.noise_vectors.specs.VectorText.{text_of}
 use Rattle.noise_tool.specs.declared.faults.Fault.{Fault}
 use Rattle.noise_vectors.specs.declared.file_keys.FileKeys.{FileKeys}
@@ -56,30 +56,31 @@ has-printed file duel ends events notes last before after (Err fault) same run p
 -- ---- of a file's bytes
 
 run-known : (known : Option (List ℕ)) (text : List ℕ) (file : VectorFile) (before after : Option (List ℕ)) → IfSome known (λ bytes. text ≡ bytes)
-    → text ≡ text_of file → HasPrinted file before after → IfSome known (λ bytes. HasRun bytes before after)
-run-known None text file before after h e printed = tt
-run-known (Some bytes) text file before after h e printed = (file, sym h ∙ e, printed)
+    → IsVectorFile file → text ≡ text_of file → HasPrinted file before after → IfSome known (λ bytes. HasRun bytes before after)
+run-known None text file before after h right e printed = tt
+run-known (Some bytes) text file before after h right e printed = (file, right, sym h ∙ e, printed)
 
 pub has-run : (known : Option (List ℕ)) (text : List ℕ) (file : VectorFile) (before after : Option (List ℕ)) (result : Result Unit Fault)
-    → IfSome known (λ bytes. text ≡ bytes) → text ≡ text_of file
+    → IfSome known (λ bytes. text ≡ bytes) → IsVectorFile file → text ≡ text_of file
     → OnOk result (HasPrinted file before after) → OnOk result (IfSome known (λ bytes. HasRun bytes before after))
-has-run known text file before after (Ok u) h e printed = run-known known text file before after h e printed
-has-run known text file before after (Err fault) h e printed = tt
+has-run known text file before after (Ok u) h right e printed = run-known known text file before after h right e printed
+has-run known text file before after (Err fault) h right e printed = tt
 
-no-run-known : (allowed : AllowedEvents) (known : Option (List ℕ)) (text : List ℕ) (file : VectorFile) (fault : Fault) → IfSome known (λ bytes. text ≡ bytes)
-    → text ≡ text_of file → IsStartFault file fault → IfSome known (λ bytes. IsRunFault allowed bytes fault)
-no-run-known allowed None text file fault h e why = tt
-no-run-known allowed (Some bytes) text file fault h e why = inr (inr (file, sym h ∙ e, why))
+no-run-known : (allowed : AllowedEvents) (known : Option (List ℕ)) (text : List ℕ) (file : VectorFile) (fault : Fault)
+    → IfSome known (λ bytes. text ≡ bytes) → IsVectorFile file → text ≡ text_of file → IsStartFault file fault
+    → IfSome known (λ bytes. IsRunFault allowed bytes fault)
+no-run-known allowed None text file fault h right e why = tt
+no-run-known allowed (Some bytes) text file fault h right e why = inr (inr (file, right, sym h ∙ e, why))
 
-no-run-of : (allowed : AllowedEvents) (known : Option (List ℕ)) (text : List ℕ) (file : VectorFile) (fault : Fault) → IfSome known (λ bytes. text ≡ bytes)
-    → text ≡ text_of file → (status_of fault ≡ 3) ⊎ IsStartFault file fault
+no-run-of : (allowed : AllowedEvents) (known : Option (List ℕ)) (text : List ℕ) (file : VectorFile) (fault : Fault)
+    → IfSome known (λ bytes. text ≡ bytes) → IsVectorFile file → text ≡ text_of file → (status_of fault ≡ 3) ⊎ IsStartFault file fault
     → (status_of fault ≡ 3) ⊎ IfSome known (λ bytes. IsRunFault allowed bytes fault)
-no-run-of allowed known text file fault h e (inl outside) = inl outside
-no-run-of allowed known text file fault h e (inr why) = inr (no-run-known allowed known text file fault h e why)
+no-run-of allowed known text file fault h right e (inl outside) = inl outside
+no-run-of allowed known text file fault h right e (inr why) = inr (no-run-known allowed known text file fault h right e why)
 
 pub no-run : (allowed : AllowedEvents) (known : Option (List ℕ)) (text : List ℕ) (file : VectorFile) (result : Result Unit Fault)
-    → IfSome known (λ bytes. text ≡ bytes) → text ≡ text_of file
+    → IfSome known (λ bytes. text ≡ bytes) → IsVectorFile file → text ≡ text_of file
     → IfErr result (λ fault. (status_of fault ≡ 3) ⊎ IsStartFault file fault)
     → IfErr result (λ fault. (status_of fault ≡ 3) ⊎ IfSome known (λ bytes. IsRunFault allowed bytes fault))
-no-run allowed known text file (Ok u) h e why = tt
-no-run allowed known text file (Err fault) h e why = no-run-of allowed known text file fault h e why
+no-run allowed known text file (Ok u) h right e why = tt
+no-run allowed known text file (Err fault) h right e why = no-run-of allowed known text file fault h right e why

@@ -1,5 +1,5 @@
 -- What a command has done that ends with status 0, and why it ends with another.
-use Rattle.std.specs.Prelude.{◌≡◌, ◌⊎◌, ◌<◌, ℕ, List, length, Option, None, IfSome, string_bytes}
+use Rattle.std.specs.Prelude.{⊤, ◌≡◌, ◌⊎◌, ◌<◌, ℕ, List, length, Option, None, IfSome, string_bytes}
 use Rattle.std.specs.Io.KnownBytes.{Appends}
 use Rattle.noise_names.specs.declared.token.Role.{Role}
 use Rattle.noise_names.specs.Plan.{Plan}
@@ -13,10 +13,10 @@ use Rattle.noise_tool.specs.Ends.{IsPatternOf, IsStartFault, facing_in, setup_of
 use Rattle.noise_tool.specs.Faults.{of_vector}
 use Rattle.noise_tool.specs.Output.{IsCheckFault, IsShowFault, NamesPattern, check_text, list_text, show_text}
 use Rattle.noise_tool.specs.Printed.{run_text}
-use Rattle.noise_vectors.specs.VectorFile.{IsReadFault}
+use Rattle.noise_vectors.specs.VectorFile.{IsReadFault, IsVectorFile}
 use Rattle.noise_vectors.specs.VectorText.{text_of}
 use Rattle.noise_tool.specs.declared.faults.Fault.{Fault}
-use Rattle.noise_tool.specs.declared.faults.Fault.TheVariants.{TooLong}
+use Rattle.noise_tool.specs.declared.faults.Fault.TheVariants.{Rule, TooLong}
 use Rattle.noise_tool.specs.declared.orders.Chosen.{Chosen}
 use Rattle.noise_tool.specs.declared.orders.Chosen.TheVariants.{List as Listing, Show, Check, Talk, Replay}
 use Rattle.noise_vectors.specs.declared.faults.VectorFault.{VectorFault}
@@ -37,9 +37,9 @@ pub record HasPrinted (file : VectorFile) (before after : Option (List ℕ)) : T
   pub run : Run (facing_in file plan) (events_of file.events.items) notes last
   pub printed : Appends before after (run_text notes last)
 
--- a vector file has this text, and its run was printed
+-- a right vector file has this text, and its run was printed
 abbrev pub HasRun : List ℕ → Option (List ℕ) → Option (List ℕ) → Type 0
-HasRun text before after = (file : VectorFile) × (text ≡ text_of file) × HasPrinted file before after
+HasRun text before after = (file : VectorFile) × IsVectorFile file × (text ≡ text_of file) × HasPrinted file before after
 
 -- of the file's bytes, and of the output's before and after, each where they are known: the text of the command stands behind what was there before
 abbrev pub IsDone : Chosen → Option (List ℕ) → Option (List ℕ) → Option (List ℕ) → Type 0
@@ -52,9 +52,9 @@ IsDone (Replay path) file before after = IfSome file (λ text. HasRun text befor
 abbrev pub IsTooLong : List ℕ → Fault → Type 0
 IsTooLong text fault = (fault ≡ TooLong) × (4194304 < length text)
 
--- a vector file has this text, and its pattern or a setup has this fault
+-- a right vector file has this text, and its pattern or a setup has this fault
 abbrev pub HasNoEnds : List ℕ → Fault → Type 0
-HasNoEnds text fault = (file : VectorFile) × (text ≡ text_of file) × IsStartFault file fault
+HasNoEnds text fault = (file : VectorFile) × IsVectorFile file × (text ≡ text_of file) × IsStartFault file fault
 
 -- why this text isn't read
 abbrev pub IsUnread : AllowedEvents → List ℕ → Fault → Type 0
@@ -71,3 +71,15 @@ IsFault (Show name) file fault = IsShowFault (string_bytes name) fault
 IsFault (Check path) file fault = IfSome file (λ text. IsTooLong text fault ⊎ IsCheckFault text fault)
 IsFault (Talk path) file fault = IfSome file (λ text. IsRunFault SayOnly text fault)
 IsFault (Replay path) file fault = IfSome file (λ text. IsRunFault Any text fault)
+
+-- `list` and `show` leave the file as it was
+abbrev pub LeavesFile : {R : Type 0} → Chosen → R → R → Type 0
+LeavesFile Listing before after = after ≡ before
+LeavesFile (Show name) before after = after ≡ before
+LeavesFile _ before after = ⊤
+
+-- A broken rule is told on the output and leaves the error output as it was; any other fault is told on the error output and leaves the output as it
+-- was. Both are given before and after.
+abbrev pub LeavesOther : {O E : Type 0} → Fault → O → O → E → E → Type 0
+LeavesOther (Rule fault) out out_after err err_after = err_after ≡ err
+LeavesOther fault out out_after err err_after = out_after ≡ out

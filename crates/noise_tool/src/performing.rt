@@ -3,7 +3,7 @@
 ghost use Rattle.std.specs.Prelude.{◌≡◌, ◌⊎◌, ◌≤◌, IfErr, IfSome, OnOk};
 ghost use Rattle.noise_tool.specs.Faults.{status_of};
 ghost use Rattle.std.specs.Io.KnownBytes.{Appends};
-ghost use Rattle.noise_tool.specs.Performing.{HasRun, IsDone, IsFault, IsRunFault};
+ghost use Rattle.noise_tool.specs.Performing.{HasRun, IsDone, IsFault, IsRunFault, LeavesFile, LeavesOther};
 ghost use Rattle.noise_tool.specs.declared.faults.Fault.{Fault};
 
 use crate::checking::check;
@@ -32,7 +32,11 @@ pub fn perform<R: Read, O: Write, E: Write>(
 ) -> u8
     ensures status { result ≤ 3 }
     ensures done { result ≡ 0 → IsDone chosen.now (R.remaining file.old) (O.contents out.old) (O.contents out.new) }
-    ensures fault { 1 ≤ result → (result ≡ 3) ⊎ ((fault : Fault) × (status_of fault ≡ result) × IsFault chosen.now (R.remaining file.old) fault) }
+    ensures fault { 1 ≤ result → (result ≡ 3) ⊎ ((fault : Fault) × (status_of fault ≡ result) × IsFault chosen.now (R.remaining file.old) fault
+        × LeavesOther fault out.old out.new err.old err.new) }
+    ensures unwritten { result ≡ 2 → out.new ≡ out.old }
+    ensures quiet { result ≡ 0 → err.new ≡ err.old }
+    ensures unread { LeavesFile chosen.now file.old file.new }
 {
     match run(alloc, chosen, file, out) {
         Ok(()) => 0,
@@ -48,6 +52,8 @@ fn run<R: Read, O: Write>(
 ) -> Result<(), Fault>
     ensures done { OnOk result (IsDone chosen.now (R.remaining file.old) (O.contents out.old) (O.contents out.new)) }
     ensures fault { IfErr result (λ fault. (status_of fault ≡ 3) ⊎ IsFault chosen.now (R.remaining file.old) fault) }
+    ensures unwritten { IfErr result (λ fault. (status_of fault ≡ 3) ⊎ (out.new ≡ out.old)) }
+    ensures unread { LeavesFile chosen.now file.old file.new }
 {
     match chosen {
         Chosen::List => print(&list(alloc)?, out),
@@ -70,6 +76,7 @@ fn run_file<R: Read, O: Write>(
 ) -> Result<(), Fault>
     ensures done { OnOk result (IfSome (R.remaining file.old) (λ text. HasRun text (O.contents out.old) (O.contents out.new))) }
     ensures fault { IfErr result (λ fault. (status_of fault ≡ 3) ⊎ IfSome (R.remaining file.old) (λ text. IsRunFault allowed text fault)) }
+    ensures unwritten { IfErr result (λ fault. (status_of fault ≡ 3) ⊎ (out.new ≡ out.old)) }
 {
     let text = read_file(alloc, file)?;
     let vector = read_vector(alloc, &text, allowed)?;

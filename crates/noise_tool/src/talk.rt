@@ -22,6 +22,7 @@ pub fn talk<O: Write>(alloc: Global, file: VectorFile, out: &mut O) -> Result<()
     requires { All (IsAllowed SayOnly) file.events.items }
     ensures printed { OnOk result (HasPrinted file (O.contents out.old) (O.contents out.new)) }
     ensures fault { IfErr result (λ fault. (status_of fault ≡ 3) ⊎ IsStartFault file fault) }
+    ensures unwritten { IfErr result (λ fault. (status_of fault ≡ 3) ⊎ (out.new ≡ out.old)) }
 {
     let (duel, events) = make_ends(alloc, file)?;
     let lines = said_lines(alloc, events)?;
@@ -33,6 +34,7 @@ pub fn talk<O: Write>(alloc: Global, file: VectorFile, out: &mut O) -> Result<()
 pub fn replay<O: Write>(alloc: Global, file: VectorFile, out: &mut O) -> Result<(), Fault>
     ensures printed { OnOk result (HasPrinted file (O.contents out.old) (O.contents out.new)) }
     ensures fault { IfErr result (λ fault. (status_of fault ≡ 3) ⊎ IsStartFault file fault) }
+    ensures unwritten { IfErr result (λ fault. (status_of fault ≡ 3) ⊎ (out.new ≡ out.old)) }
 {
     let (duel, events) = make_ends(alloc, file)?;
     let (duel, report) = duel.run(alloc, &events)?;

@@ -1,7 +1,8 @@
 //! The texts of faults.
 
-ghost use Rattle.std.specs.Prelude.{◌≡◌, ◌⊎◌, IfErr};
+ghost use Rattle.std.specs.Prelude.{◌≡◌, ◌⊎◌, IfErr, OnOk};
 ghost use Rattle.noise_tool.specs.Faults.{status_of};
+ghost use Rattle.noise_tool.specs.Performing.{LeavesOther};
 
 use crate::faults::Fault;
 use crate::line::Line;
@@ -16,7 +17,8 @@ use std::io::Write;
 /// Writes what the fault is, a broken rule to `out` and any other to `err`, and gives the exit status. Where memory for the text or a
 /// write to `out` is refused, that is the fault; a refused write to `err` changes nothing.
 pub fn tell<O: Write, E: Write>(alloc: Global, fault: Fault, out: &mut O, err: &mut E) -> u8
-    ensures { (result ≡ status_of fault) ⊎ (result ≡ 3) }
+    ensures status { (result ≡ status_of fault) ⊎ (result ≡ 3) }
+    ensures other { (result ≡ 3) ⊎ LeavesOther fault out.old out.new err.old err.new }
 {
     match write_fault(alloc, fault, out, err) {
         Ok(()) => fault.status(),
@@ -33,7 +35,8 @@ fn write_fault<O: Write, E: Write>(
     out: &mut O,
     err: &mut E,
 ) -> Result<(), Fault>
-    ensures { IfErr result (λ other. status_of other ≡ 3) }
+    ensures other { OnOk result (LeavesOther fault out.old out.new err.old err.new) }
+    ensures fault { IfErr result (λ other. status_of other ≡ 3) }
 {
     let line = fault_line(alloc, fault)?;
     if let Fault::Rule(_) = fault {

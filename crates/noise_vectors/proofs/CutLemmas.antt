@@ -1,9 +1,9 @@
 -- Numbers with commas between them, as they are read one after the other.
 use Rattle.std.proofs.Common.{arith, ◌≡◌, ◌∙◌, ◌+◌, ◌-◌, ◌<◌, ◌≤◌, ap, sym, refl, subst, lit<, ℕ, List, [], ◌∷◌, ◌++◌, map, codes, length}
 use Rattle.std.proofs.Common.{Bool, true, false, Option, Some, None}
-use Rattle.std.specs.Prelude.{decimal, slice_index_or, if◌then◌else◌, IfSome}
+use Rattle.std.specs.Prelude.{decimal, nat_le, nat_lt, slice_index_or, if◌then◌else◌, IfSome}
 use Rattle.std.specs.List.{All, join_with_byte}
-use Rattle.std.proofs.lemmas.Bool.{le-leb, lt-ltb}
+use Rattle.std.proofs.lemmas.Bool.{and_parts, le-leb, lt-ltb, ltb-true}
 use Rattle.std.proofs.lemmas.Fmt.{decimal_injective, decimal_nonempty}
 use Rattle.std.proofs.lemmas.List.{append_assoc, length-append}
 use Rattle.std.proofs.lemmas.List.Elements.{All-head, All-tail}
@@ -50,7 +50,7 @@ before-more word rest first more ns n whole split number =
 
 -- ---- what is still to be read
 
-abbrev are_small : ℕ → Type 0
+abbrev pub are_small : ℕ → Type 0
 are_small n = n < 65536
 
 -- of all numbers these are done, and the rest is the word of the others
@@ -209,3 +209,12 @@ pub cuts-made : (made : Option (List ℕ)) (ns cuts : List ℕ) → made ≡ (if
 cuts-made made ns cuts e same h =
     let yes = are_cuts-true cuts h in
     rw (e, same, yes) refl
+
+-- what is made of such numbers is right
+pub cuts-right : (made : Option (List ℕ)) (ns : List ℕ) → made ≡ (if are_cuts ns then Some ns else None) → AreLengths ns → IfSome made AreCuts
+cuts-right made ns e h = rw e (at (are_cuts ns) refl) where
+  at : (test : Bool) → are_cuts ns ≡ test → IfSome (if test then Some ns else None) AreCuts
+  at true holds =
+      let parts = and_parts (nat_le (length ns) 8) (nat_lt 0 (slice_index_or ns (length ns - 1) 1)) holds in
+      (h, ltb-true 0 (slice_index_or ns (length ns - 1) 1) parts.1)
+  at false over = tt

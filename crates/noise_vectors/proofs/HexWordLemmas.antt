@@ -1,8 +1,9 @@
 -- Lower-case digits read as bytes, and bytes read back from their digits.
 use Rattle.std.proofs.Common.{◌≡◌, ℕ, zero, suc, ◌+◌, ◌*◌, ◌/◌, ◌%◌, ◌<◌, ◌≤◌, ◌==◌, Bool, true, false, ◌&&◌, ◌||◌, not, ◌⊎◌, inl, inr}
-use Rattle.std.proofs.Common.{List, [], ◌∷◌, length, slice_index, Option, Some, None, Result, Ok, Err, refl, sym, ap, ◌∙◌, arith, codes}
+use Rattle.std.proofs.Common.{List, [], ◌∷◌, length, slice_index, Option, Some, None, Result, Ok, Err, refl, sym, ap, subst, ◌∙◌, arith, codes}
 use Rattle.std.specs.Prelude.{nat_lt}
-use Rattle.std.proofs.lemmas.Bool.{and_parts, cases_lt, eqb-true, ltb-true}
+use Rattle.std.proofs.Math.ListN.{get_or-eq_default}
+use Rattle.std.proofs.lemmas.Bool.{and_parts, cases_lt, eqb-true, ltb-false, ltb-true}
 use Rattle.std.proofs.lemmas.Bool.Decides.{nat_tests}
 use Rattle.std.proofs.lemmas.List.Elements.{All-cons, All-head, All-nil, All-tail}
 use Rattle.std.specs.List.{All, AllPass}
@@ -194,6 +195,47 @@ digits_of-decoded word bytes n h e =
     let same : Ok s.bytes ≡ Ok bytes = sym s.decoded ∙ sym (decode_of-even word h.1) ∙ sym twice ∙ e in
     let bytes_are : s.bytes ≡ bytes = cc in
     sym (rw (← bytes_are) s.back)
+
+-- and that is bytes
+pub bytes_of-decoded : (word bytes : List ℕ) (n : ℕ) → IsDigits word → decode_sized word n ≡ Ok bytes → All (λ b. b < 256) bytes
+bytes_of-decoded word bytes n h e =
+    let s = spelled 0 word h.1 h.2 in
+    let twice = decode_sized-twice word n (decode_sized-ok word n bytes e) in
+    let same : Ok s.bytes ≡ Ok bytes = sym s.decoded ∙ sym (decode_of-even word h.1) ∙ sym twice ∙ e in
+    let bytes_are : s.bytes ≡ bytes = cc in
+    subst (λ (bs : List ℕ). All (λ b. b < 256) bs) bytes_are s.small
+
+-- the table has a digit at the first sixteen places alone
+within : (n : ℕ) → is_lower_at n ≡ true → n < 16
+within n h = at (nat_lt n 16) refl where
+  at : (test : Bool) → nat_lt n 16 ≡ test → n < 16
+  at true below = ltb-true n 16 below
+  at false over =
+      let none : slice_index lower_digits n ≡ 0 = get_or-eq_default lower_digits 0 (ltb-false n 16 over) in
+      let bad : is_lower_digit 0 ≡ true = subst (λ (c : ℕ). is_lower_digit c ≡ true) none h in
+      absurd (cc (bad))
+
+-- only bytes have digits for each of them
+bytes_of-digits : (bytes : List ℕ) → AllPass is_lower_digit (encode_lower bytes) → All (λ b. b < 256) bytes
+unfolding encode_with
+bytes_of-digits [] h = All-nil byte_holds
+bytes_of-digits (b ∷ rest) h =
+    let high = within (b / 16) (All-head lower_holds (slice_index lower_digits (b / 16)) (slice_index lower_digits (b % 16) ∷ encode_lower rest) h) in
+    let tail = All-tail lower_holds (slice_index lower_digits (b / 16)) (slice_index lower_digits (b % 16) ∷ encode_lower rest) h in
+    All-cons byte_holds b rest (omega (arith, high)) (bytes_of-digits rest (All-tail lower_holds (slice_index lower_digits (b % 16)) (encode_lower rest) tail))
+
+-- the numbers whose word is that of some bytes are bytes
+pub bytes_of-word : (word bytes : List ℕ) → word ≡ hex_of bytes → IsHexWord word → All (λ b. b < 256) bytes
+bytes_of-word word [] e h = All-nil byte_holds
+bytes_of-word word (b ∷ rest) e h =
+    elim (IsHexWord-cases word h) [
+      | inl hyphen ↦
+          let one : length word ≡ 1 = ap length hyphen in
+          let long = length-hex_of (b ∷ rest) (omega arith) in
+          let same : length word ≡ length (hex_of (b ∷ rest)) = ap length e in
+          absurd (omega (arith, one, long, same))
+      | inr digits ↦ bytes_of-digits (b ∷ rest) (subst (AllPass is_lower_digit) e digits.2)
+    ]
 
 -- a word has at least two digits for each byte
 pub length-hex_word : (word bytes : List ℕ) → word ≡ hex_of bytes → 2 * length bytes ≤ length word

@@ -20,6 +20,7 @@ pub(crate) fn read_block(
     protocol: &ProtocolName,
 ) -> Result<Pattern, VectorFault>
     ensures text { IfOk result (λ pattern. lines.old.rest.now ≡ pattern_text pattern ++ line (codes "end") lines.new.rest.now) }
+    ensures right { IfOk result IsPattern }
     ensures named { IfOk result (λ pattern. HasName pattern protocol.now) }
     ensures every { (pattern : Plan) (rest : List ℕ) → IsPattern pattern → HasName pattern protocol.now
         → lines.old.rest.now ≡ pattern_text pattern ++ line (codes "end") rest
@@ -56,6 +57,7 @@ fn take_block<'a>(lines: &mut Lines<'a>) -> Result<&'a [u8], VectorFault>
 // The pattern of this name that the text spells, or the number of the text's first line with a fault.
 fn pattern_of(text: &[u8], protocol: &ProtocolName) -> Result<Pattern, usize>
     ensures spelled { IfOk result (λ pattern. text.now ≡ pattern_text pattern) }
+    ensures right { IfOk result IsPattern }
     ensures named { IfOk result (λ pattern. HasName pattern protocol.now) }
     ensures every { (pattern : Plan) → IsPattern pattern → HasName pattern protocol.now → text.now ≡ pattern_text pattern
         → result ≡ Ok pattern }

@@ -12,6 +12,7 @@ use noise_duel::Cuts;
 /// `-` for one piece, or 1 to 8 numbers below 65536, joined by commas, the last not 0.
 pub(crate) fn read_cuts(word: &[u8]) -> Option<Cuts>
     ensures value { IfSome result (λ cuts. word.now ≡ lengths_word cuts) }
+    ensures right { IfSome result AreCuts }
     ensures every { (cuts : List ℕ) → AreCuts cuts → word.now ≡ lengths_word cuts → result ≡ Some cuts }
 {
     if word == b"-".as_slice() {
@@ -24,6 +25,7 @@ pub(crate) fn read_cuts(word: &[u8]) -> Option<Cuts>
 // 1 to 8 numbers below 65536, joined by commas.
 fn read_lengths(word: &[u8]) -> Option<ArrayVec<u16, 8>>
     ensures value { IfSome result (λ lengths. (0 < array_vec_len lengths) × (word.now ≡ lengths_word lengths.items)) }
+    ensures right { IfSome result (λ lengths. AreLengths lengths.items) }
     ensures every { (n : ℕ) (ns : List ℕ) → AreLengths (n ∷ ns) → word.now ≡ lengths_word (n ∷ ns)
         → MatchOption result (Unit {0} → ⊥) (λ lengths. lengths.items ≡ n ∷ ns) }
 {

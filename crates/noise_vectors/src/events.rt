@@ -27,6 +27,7 @@ pub(crate) fn read_events(
     allowed: AllowedEvents,
 ) -> Result<Vec<Event>, VectorFault>
     ensures text { IfOk result (λ events. lines.old.rest.now ≡ lines_of event_words events.items []) }
+    ensures right { IfOk result (λ events. All IsEvent events.items) }
     ensures allowed { IfOk result (λ events. All (IsAllowed allowed) events.items) }
     ensures every { (events : List Event) → All IsEvent events → All (IsAllowed allowed) events
         → lines.old.rest.now ≡ lines_of event_words events []
@@ -53,6 +54,7 @@ fn read_event(
     allowed: AllowedEvents,
 ) -> Result<Option<Event>, AllocError>
     ensures text { IfOk result (λ found. IfSome found (λ event. text.now ≡ event_words event)) }
+    ensures right { IfOk result (λ found. IfSome found IsEvent) }
     ensures allowed { IfOk result (λ found. IfSome found (IsAllowed allowed)) }
     ensures every { (event : Event) → IsEvent event → IsAllowed allowed event → text.now ≡ event_words event
         → IfOk result (λ found. IsSome found) }
@@ -95,6 +97,7 @@ fn split_event(text: &[u8]) -> Option<(EventKind, Role, &[u8])>
 // A payload and the cuts of its frame.
 fn read_say(alloc: Global, words: &[u8]) -> Result<Option<(Vec<u8>, Cuts)>, AllocError>
     ensures text { IfOk result (λ found. IfSome found (λ say. words.now ≡ hex_of say.0.items ++ 32 ∷ lengths_word say.1)) }
+    ensures right { IfOk result (λ found. IfSome found (λ say. IsShort say.0.items × AreCuts say.1)) }
     ensures every { (payload cuts : List ℕ) → IsShort payload → AreCuts cuts → words.now ≡ hex_of payload ++ 32 ∷ lengths_word cuts
         → IfOk result (λ found. IsSome found) }
 {
@@ -113,6 +116,7 @@ fn read_say(alloc: Global, words: &[u8]) -> Result<Option<(Vec<u8>, Cuts)>, Allo
 // A frame's number and its cuts.
 fn read_delivery(words: &[u8]) -> Option<(usize, Cuts)>
     ensures text { IfSome result (λ delivery. words.now ≡ decimal delivery.0 ++ 32 ∷ lengths_word delivery.1) }
+    ensures right { IfSome result (λ delivery. (delivery.0 < 2 ^ 32) × AreCuts delivery.1) }
     ensures every { (number : ℕ) (cuts : List ℕ) → number < 2 ^ 32 → AreCuts cuts → words.now ≡ decimal number ++ 32 ∷ lengths_word cuts
         → IsSome result }
 {

@@ -18,6 +18,7 @@ use noise_names::Role;
 /// The line of a party's keys, and behind a table's line its answers.
 pub(crate) fn read_party(lines: &mut Lines<'_>, role: Role) -> Result<FileKeys, VectorFault>
     ensures text { IfOk result (λ keys. lines.old.rest.now ≡ party_text role keys lines.new.rest.now) }
+    ensures right { IfOk result AreKeys }
     ensures every { (keys : FileKeys) (rest : List ℕ) → AreKeys keys → IsFalse (starts_with nat_eq rest (codes "answer "))
         → lines.old.rest.now ≡ party_text role keys rest
         → IsOk result × (lines.new.rest.now ≡ rest) }
@@ -53,6 +54,7 @@ fn behind_role(line: &[u8], role: Role) -> Option<&[u8]>
 // The two keys behind this front.
 fn keys_of(words: &[u8], front: &[u8]) -> Option<(Option<[u8; 32]>, Option<[u8; 32]>)>
     ensures text { IfSome result (λ keys. words.now ≡ front.now ++ key_words keys.0 keys.1) }
+    ensures right { IfSome result (λ keys. IfSome keys.0 IsKey × IfSome keys.1 IsKey) }
     ensures every { (e s : Option (List ℕ)) → IfSome e IsKey → IfSome s IsKey → words.now ≡ front.now ++ key_words e s
         → IsSome result }
 {
@@ -68,6 +70,7 @@ fn read_table(
 ) -> Result<TableKeys, VectorFault>
     ensures keys { IfOk result (λ table. (table.e ≡ e) × (table.s ≡ s)) }
     ensures text { IfOk result (λ table. lines.old.rest.now ≡ lines_of answer_words table.entries lines.new.rest.now) }
+    ensures right { IfOk result (λ table. (length table.entries ≤ 8) × All IsEntry table.entries) }
     ensures every { (entries : List TableEntry) (rest : List ℕ) → length entries ≤ 8 → All IsEntry entries
         → IsFalse (starts_with nat_eq rest (codes "answer "))
         → lines.old.rest.now ≡ lines_of answer_words entries rest
@@ -92,6 +95,7 @@ fn read_table(
 // The key pair, the remote public key and the answer.
 fn read_answer(line: &[u8]) -> Option<(Own, [u8; 32], [u8; 32])>
     ensures text { IfSome result (λ answer. line.now ≡ answer_words (record { own = answer.0; remote = answer.1; answer = answer.2 })) }
+    ensures right { IfSome result (λ answer. IsKey answer.1 × IsKey answer.2) }
     ensures every { (entry : TableEntry) → IsEntry entry → line.now ≡ answer_words entry → IsSome result }
 {
     let (own, keys) = split_once(line.strip_prefix(b"answer ".as_slice())?, b' ')?;

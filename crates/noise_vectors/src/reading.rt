@@ -32,11 +32,7 @@ pub fn read_vector(
     allowed: AllowedEvents,
 ) -> Result<VectorFile, VectorFault>
     ensures text { IfOk result (λ file. text.now ≡ text_of file) }
-
-    // A pattern of its own stands in it exactly where the name's base isn't that of a fundamental one.
-    ensures own { IfOk result (λ file. IsSome file.block ↔ (fundamental_of file.protocol.base ≡ None)) }
-    ensures named { IfOk result (λ file. IfSome file.block (λ pattern. HasName pattern file.protocol)) }
-
+    ensures right { IfOk result IsVectorFile }
     ensures allowed { IfOk result (λ file. All (IsAllowed allowed) file.events.items) }
 
     // The text of a right file is refused only for want of memory.
@@ -79,6 +75,7 @@ fn read_header(lines: &mut Lines<'_>) -> Result<(), VectorFault>
 
 fn read_protocol(lines: &mut Lines<'_>) -> Result<ProtocolName, VectorFault>
     ensures text { IfOk result (λ name. lines.old.rest.now ≡ line (codes "protocol " ++ name_bytes name) lines.new.rest.now) }
+    ensures right { IfOk result IsSection }
     ensures every { (name : Section) (rest : List ℕ) → IsSection name
         → lines.old.rest.now ≡ line (codes "protocol " ++ name_bytes name) rest
         → MatchResult result (λ read. (read ≡ name) × (lines.new.rest.now ≡ rest)) (λ fault. ⊥) }
@@ -94,6 +91,7 @@ fn read_protocol(lines: &mut Lines<'_>) -> Result<ProtocolName, VectorFault>
 // The name that stands in the line.
 fn protocol_of(line: &[u8]) -> Option<ProtocolName>
     ensures text { IfSome result (λ name. line.now ≡ codes "protocol " ++ name_bytes name) }
+    ensures right { IfSome result IsSection }
     ensures every { (name : Section) → IsSection name → line.now ≡ codes "protocol " ++ name_bytes name
         → result ≡ Some name }
 {
@@ -106,8 +104,7 @@ fn read_own_pattern(
     protocol: &ProtocolName,
 ) -> Result<Option<Pattern>, VectorFault>
     ensures text { IfOk result (λ block. lines.old.rest.now ≡ block_text block lines.new.rest.now) }
-    ensures there { IfOk result (λ block. IsSome block ↔ (fundamental_of protocol.now.base ≡ None)) }
-    ensures named { IfOk result (λ block. IfSome block (λ pattern. HasName pattern protocol.now)) }
+    ensures right { IfOk result (IsOwn protocol.now) }
     ensures every { (block : Option Plan) (rest : List ℕ) → IsOwn protocol.now block
         → lines.old.rest.now ≡ block_text block rest
         → MatchResult result (λ found. (found ≡ block) × (lines.new.rest.now ≡ rest)) (λ fault. ⊥) }
@@ -121,6 +118,7 @@ fn read_own_pattern(
 fn read_prologue(alloc: Global, lines: &mut Lines<'_>) -> Result<Vec<u8>, VectorFault>
     ensures text { IfOk result (λ bytes. lines.old.rest.now ≡ line (codes "prologue " ++ hex_of bytes.items) lines.new.rest.now) }
     ensures bound { IfOk result (λ bytes. vec_len bytes ≤ 65535) }
+    ensures right { IfOk result (λ bytes. IsShort bytes.items) }
     ensures every { (bytes rest : List ℕ) → IsShort bytes → lines.old.rest.now ≡ line (codes "prologue " ++ hex_of bytes) rest
         → MatchResult result (λ read. lines.new.rest.now ≡ rest) (λ fault. fault ≡ Memory) }
 {
@@ -136,6 +134,7 @@ fn read_prologue(alloc: Global, lines: &mut Lines<'_>) -> Result<Vec<u8>, Vector
 fn prologue_of(alloc: Global, line: &[u8]) -> Result<Option<Vec<u8>>, AllocError>
     ensures text { IfOk result (λ found. IfSome found (λ bytes. line.now ≡ codes "prologue " ++ hex_of bytes.items)) }
     ensures bound { IfOk result (λ found. IfSome found (λ bytes. vec_len bytes ≤ 65535)) }
+    ensures right { IfOk result (λ found. IfSome found (λ bytes. IsShort bytes.items)) }
     ensures every { (bytes : List ℕ) → IsShort bytes → line.now ≡ codes "prologue " ++ hex_of bytes
         → IfOk result (λ found. IsSome found) }
 {
@@ -170,6 +169,7 @@ fn interval_of(line: &[u8]) -> Option<u64>
 
 fn read_psks(lines: &mut Lines<'_>) -> Result<ArrayVec<[u8; 32], 9>, VectorFault>
     ensures text { IfOk result (λ psks. lines.old.rest.now ≡ lines_of psk_words psks.items lines.new.rest.now) }
+    ensures right { IfOk result (λ psks. ArePsks psks.items) }
     ensures every { (psks : List (List ℕ)) (rest : List ℕ) → ArePsks psks → IsFalse (starts_with nat_eq rest (codes "psk "))
         → lines.old.rest.now ≡ lines_of psk_words psks rest
         → IsOk result × (lines.new.rest.now ≡ rest) }
@@ -190,6 +190,7 @@ fn read_psks(lines: &mut Lines<'_>) -> Result<ArrayVec<[u8; 32], 9>, VectorFault
 
 fn read_psk(line: &[u8]) -> Option<[u8; 32]>
     ensures text { IfSome result (λ psk. line.now ≡ psk_words psk) }
+    ensures right { IfSome result IsKey }
     ensures every { (psk : List ℕ) → IsKey psk → line.now ≡ psk_words psk → IsSome result }
 {
     read_key(line.strip_prefix(b"psk ".as_slice())?)

@@ -79,6 +79,7 @@ pub(crate) fn read_length(word: &[u8]) -> Option<u16>
 /// A key of 64 lower-case hex digits.
 pub(crate) fn read_key(word: &[u8]) -> Option<[u8; 32]>
     ensures value { IfSome result (λ key. word.now ≡ encode_lower key) }
+    ensures right { IfSome result IsKey }
     ensures every { (key : List ℕ) → IsKey key → word.now ≡ encode_lower key → result ≡ Some key }
 {
     if !is_digits(word) {
@@ -92,6 +93,7 @@ pub(crate) fn read_key(word: &[u8]) -> Option<[u8; 32]>
 /// A key, or `-` for none.
 pub(crate) fn read_optional_key(word: &[u8]) -> Option<Option<[u8; 32]>>
     ensures value { IfSome result (λ key. word.now ≡ key_word key) }
+    ensures right { IfSome result (λ key. IfSome key IsKey) }
     ensures every { (key : Option (List ℕ)) → IfSome key IsKey → word.now ≡ key_word key → result ≡ Some key }
 {
     if word == b"-".as_slice() {
@@ -141,6 +143,7 @@ pub(crate) fn read_own(word: &[u8]) -> Option<Own>
 /// A number below 2^32.
 pub(crate) fn read_frame_number(word: &[u8]) -> Option<usize>
     ensures value { IfSome result (λ number. word.now ≡ decimal number) }
+    ensures right { IfSome result (λ number. number < 2 ^ 32) }
     ensures every { (number : ℕ) → number < 2 ^ 32 → word.now ≡ decimal number → result ≡ Some number }
 {
     match u32::try_from(read_number(word)?) {
@@ -157,10 +160,14 @@ pub(crate) fn read_bytes(
 ) -> Result<Option<Vec<u8>>, AllocError>
     ensures text { IfOk result (λ found. IfSome found (λ bytes. word.now ≡ hex_of bytes.items)) }
     ensures bound { IfOk result (λ found. IfSome found (λ bytes. vec_len bytes ≤ most)) }
+    ensures right { IfOk result (λ found. IfSome found (λ bytes. AreBytes most bytes.items)) }
     ensures every { (bytes : List ℕ) → AreBytes most bytes → word.now ≡ hex_of bytes → IfOk result (λ found. IsSome found) }
 {
     if word.len() / 2 > most {
         return Ok(None);
     }
-    read_hex(alloc, word)
+    match read_hex(alloc, word)? {
+        Some(bytes) => Ok(Some(bytes)),
+        None => Ok(None),
+    }
 }

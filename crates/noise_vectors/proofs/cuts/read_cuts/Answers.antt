@@ -1,7 +1,8 @@
-use Rattle.std.proofs.Common.{rules, ◌≡◌, ◌∙◌, ap, sym, [], codes}
+use Rattle.std.proofs.Common.{rules, ◌≡◌, ◌∙◌, ap, subst, sym, [], codes}
 use Rattle.std.proofs.lemmas.Slice.Eq.{bytes_eq-Decides}
+use Rattle.noise_vectors.specs.Cuts.{AreLengths}
 use Rattle.noise_vectors.specs.VectorText.{lengths_word}
-use Rattle.noise_vectors.proofs.CutLemmas.{cuts-made, cuts-word, hyphen-cuts, no-cuts, other-cuts}
+use Rattle.noise_vectors.proofs.CutLemmas.{cuts-made, cuts-right, cuts-word, hyphen-cuts, no-cuts, other-cuts}
 use Rattle.noise_vectors.proofs.cuts.read_cuts.Goals as goal
 
 pub returns-then-eq-clause-every : goal.returns-then-eq-clause-every
@@ -29,3 +30,7 @@ returns-clause-every c =
     λ cuts h e.
     let same = other-cuts c.args.word.now c.in_ok-lengths.lengths.items cuts other c.in_ok-lengths.ensures.every h.0 e in
     cuts-made c.new-2.result c.deref.result.now cuts c.new-2.ensures (c.deref.ensures.0 ∙ same) h
+
+pub returns-clause-right : goal.returns-clause-right
+returns-clause-right c =
+    cuts-right c.new-2.result c.deref.result.now c.new-2.ensures (subst AreLengths (sym c.deref.ensures.0) c.in_ok-lengths.ensures.right)

@@ -1,4 +1,5 @@
-use Rattle.std.proofs.Common.{◌≡◌, ◌++◌, ℕ, List, ◌∷◌, length}
+use Rattle.std.proofs.Common.{◌≡◌, ◌<◌, ◌++◌, ℕ, List, ◌∷◌, length}
+use Rattle.std.specs.List.{All}
 use Rattle.noise_vectors.specs.Cuts.{AreLengths}
 use Rattle.noise_vectors.specs.VectorText.{lengths_word}
 use Rattle.noise_vectors.proofs.CutLemmas.{before, Left}
@@ -7,6 +8,7 @@ use Rattle.noise_vectors.proofs.cuts.read_lengths.Given as goal
 abbrev pub invariant-loop-first : goal.invariant-loop-first
 invariant-loop-first l =
     (l.fn.word ≡ before l.lengths.items ++ l.rest)
+    × All (λ n. n < 65536) l.lengths.items
     × ((n : ℕ) (ns : List ℕ) → AreLengths (n ∷ ns) → l.fn.word ≡ lengths_word (n ∷ ns) → Left (n ∷ ns) l.lengths.items l.rest)
 
 abbrev pub decreases-loop-first : goal.decreases-loop-first

@@ -11,6 +11,7 @@ abbrev pub invariant-loop-alloc : goal.invariant-loop-alloc
 invariant-loop-alloc l =
     (l.fn.lines.rest.now ≡ lines_of event_words l.events.items l.lines.rest.now)
     × All (IsAllowed l.allowed) l.events.items
+    × All IsEvent l.events.items
     × ((events : List Event) → All IsEvent events → All (IsAllowed l.allowed) events → l.fn.lines.rest.now ≡ lines_of event_words events []
     → LinesLeft event_words (IsRight l.allowed) (length events) (vec_len l.events) l.lines.rest.now [])
 

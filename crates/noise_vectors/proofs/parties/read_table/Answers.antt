@@ -1,8 +1,11 @@
-use Rattle.std.proofs.Common.{rules, ◌≡◌, ◌∙◌, ◌+◌, ap, sym, refl, arith, ℕ, List, [], ◌∷◌, ◌++◌, true, false, true≢false, codes, length}
+use Rattle.std.proofs.Common.{rules, ◌≡◌, ◌∙◌, ◌+◌, ◌≤◌, ap, subst, sym, refl, arith, ℕ, List, [], ◌∷◌, ◌++◌, true, false, true≢false, codes, length}
 use Rattle.std.specs.Prelude.{IsTrue}
+use Rattle.std.specs.List.{All}
 use Rattle.std.proofs.lemmas.List.{length-append}
+use Rattle.std.proofs.lemmas.List.Elements.{All-push}
 use Rattle.noise_handshake.specs.Table.{Table}
 use Rattle.noise_handshake.specs.Table.{TableEntry}
+use Rattle.noise_vectors.specs.VectorFile.{IsEntry}
 use Rattle.noise_vectors.specs.VectorText.{answer_words, line, lines_of}
 use Rattle.noise_vectors.proofs.LineLemmas.{lines_of-more, FirstLine-room, FirstLine-step, LinesLeft-begun, LinesLeft-end}
 use Rattle.noise_vectors.proofs.PartyLemmas.{begins, lacks-answer_words}
@@ -42,12 +45,17 @@ loop-lines-preserved c =
     let added : c.add.new.self ≡ record c.loop-lines.table { entries = c.loop-lines.table.entries ++ found ∷ [] } = search rules in
     let one : length c.add.new.self.entries ≡ length c.loop-lines.table.entries + 1 =
     ap (λ (t : Table). length t.entries) added ∙ length-append c.loop-lines.table.entries (found ∷ []) in
+    let other : ¬ (length c.loop-lines.table.entries ≡ 8) = λ e. let full = c.add.ensures.full.1 e in cc (full, c.is_err.ensures.value, c.if-is_err.false) in
+    let room : length c.add.new.self.entries ≤ 8 = omega (arith, c.loop-lines.invariant.few, one) in
     record {
       e = ap (λ (t : Table). t.e) added ∙ c.loop-lines.invariant.e;
       s = ap (λ (t : Table). t.s) added ∙ c.loop-lines.invariant.s;
       text = lines_of-more answer_words c.args.lines.now.rest.now c.loop-lines.lines.rest.now c.in_ok-line.line.now c.next.new.self.rest.now
           c.loop-lines.table.entries found c.loop-lines.invariant.text (c.in_ok-line.ensures.ended ended) c.in-Some.ensures.text
           ∙ ap (λ (t : Table). lines_of answer_words t.entries c.next.new.self.rest.now) (sym added);
+      few = room;
+      right = subst (λ (t : Table). All IsEntry t.entries) (sym added)
+          (All-push IsEntry c.loop-lines.table.entries found c.loop-lines.invariant.right c.in-Some.ensures.right);
       every = λ entries rest few are other is.
           let f = LinesLeft-begun (c.loop-lines.invariant.every entries rest few are other is) (codes "answer ") starts other in
           let read = c.in_ok-line.ensures.every (answer_words f.next) (lines_of answer_words f.others rest) (lacks-answer_words f.next f.next_good) f.left_is in

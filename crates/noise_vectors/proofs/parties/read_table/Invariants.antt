@@ -12,6 +12,8 @@ invariant-loop-lines l = record {
   e : l.table.e ≡ l.fn.e;
   s : l.table.s ≡ l.fn.s;
   text : l.fn.lines.rest.now ≡ lines_of answer_words l.table.entries l.lines.rest.now;
+  few : length l.table.entries ≤ 8;
+  right : All IsEntry l.table.entries;
   every : (entries : List TableEntry) (rest : List ℕ) → length entries ≤ 8 → All IsEntry entries → begins rest ≡ false
       → l.fn.lines.rest.now ≡ lines_of answer_words entries rest → LinesLeft answer_words IsEntry 8 (length l.table.entries) l.lines.rest.now rest;
 }

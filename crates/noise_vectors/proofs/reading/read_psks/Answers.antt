@@ -1,8 +1,10 @@
-use Rattle.std.proofs.Common.{rules, arith, ◌≡◌, ◌+◌, ◌∙◌, ap, sym, refl, true, false, true≢false, List, ℕ, [], ◌∷◌, ◌++◌, codes, length}
+use Rattle.std.proofs.Common.{rules, arith, ◌≡◌, ◌+◌, ◌≤◌, ◌∙◌, ap, subst, sym, refl, true, false, true≢false, List, ℕ, [], ◌∷◌, ◌++◌, codes, length}
 use Rattle.std.specs.Prelude.{IsTrue}
 use Rattle.std.specs.Bool.{nat_eq}
-use Rattle.std.specs.List.{starts_with}
+use Rattle.std.specs.List.{All, starts_with}
 use Rattle.std.proofs.lemmas.List.{length-append}
+use Rattle.std.proofs.lemmas.List.Elements.{All-nil, All-push}
+use Rattle.noise_vectors.specs.VectorFile.{ArePsks}
 use Rattle.noise_vectors.specs.VectorText.{line, lines_of, psk_words}
 use Rattle.noise_vectors.specs.Words.{IsKey}
 use Rattle.noise_vectors.proofs.LineLemmas.{lines_of-more, FirstLine-room, FirstLine-step}
@@ -14,6 +16,7 @@ pub loop-lines-init : goal.loop-lines-init
 loop-lines-init c =
     let none : c.new-psks.result.items ≡ [] = search rules in (
       ap (λ (psks : List (List ℕ)). lines_of psk_words psks c.args.lines.now.rest.now) (sym none),
+      subst ArePsks (sym none) (omega arith, All-nil IsKey),
       λ psks rest h other e. LinesLeft-start psk_words IsKey 9 (length c.new-psks.result.items) psks c.args.lines.now.rest.now rest (ap length none) e h.1 h.0,
     )
 
@@ -21,7 +24,7 @@ pub returns-in_default-clause-every : goal.returns-in_default-clause-every
 returns-in_default-clause-every c =
     let begun : starts_with nat_eq c.loop-lines.lines.rest.now (codes "psk ") ≡ true = search rules in
     λ psks rest h other e.
-    let f = LinesLeft-begun (c.loop-lines.invariant.1 psks rest h other e) (codes "psk ") begun other in
+    let f = LinesLeft-begun (c.loop-lines.invariant.2 psks rest h other e) (codes "psk ") begun other in
     let read = c.in_ok-line.ensures.every (psk_words f.next) (lines_of psk_words f.others rest) (psk-plain f.next f.next_good) f.left_is in
     let some = c.in_default.ensures.every f.next f.next_good read.0 in
     absurd (cc (some))
@@ -31,14 +34,14 @@ returns-then-is_err-clause-every c =
     let begun : starts_with nat_eq c.loop-lines.lines.rest.now (codes "psk ") ≡ true = search rules in
     let full : length c.loop-lines.psks.items ≡ 9 = search rules in
     λ psks rest h other e.
-    let f = LinesLeft-begun (c.loop-lines.invariant.1 psks rest h other e) (codes "psk ") begun other in
+    let f = LinesLeft-begun (c.loop-lines.invariant.2 psks rest h other e) (codes "psk ") begun other in
     absurd (omega (arith, FirstLine-room f))
 
 pub returns-in_err-end-clause-every : goal.returns-in_err-end-clause-every
 returns-in_err-end-clause-every c =
     let begun : starts_with nat_eq c.loop-lines.lines.rest.now (codes "psk ") ≡ true = search rules in
     λ psks rest h other e.
-    let f = LinesLeft-begun (c.loop-lines.invariant.1 psks rest h other e) (codes "psk ") begun other in
+    let f = LinesLeft-begun (c.loop-lines.invariant.2 psks rest h other e) (codes "psk ") begun other in
     let read = c.in_ok-line.ensures.every (psk_words f.next) (lines_of psk_words f.others rest) (psk-plain f.next f.next_good) f.left_is in
     let ended = c.in_err-end.ensures.ended.1 read.2 in
     absurd (cc (ended))
@@ -48,13 +51,20 @@ loop-lines-preserved c =
     let ended : IsTrue c.next.new.self.is_ended = search rules in
     let begun : starts_with nat_eq c.loop-lines.lines.rest.now (codes "psk ") ≡ true = search rules in
     let pushed : c.try_push.new.self.items ≡ c.loop-lines.psks.items ++ c.in-Some.psk ∷ [] = search rules in
+    let is_key : IsKey c.in-Some.psk = search rules in
+    let few : length c.try_push.new.self.items ≤ 9 = search rules in
     let more : length c.try_push.new.self.items ≡ length c.loop-lines.psks.items + 1 =
     ap length pushed ∙ length-append c.loop-lines.psks.items (c.in-Some.psk ∷ []) in (
       lines_of-more psk_words c.args.lines.now.rest.now c.loop-lines.lines.rest.now c.in_ok-line.line.now c.next.new.self.rest.now
           c.loop-lines.psks.items c.in-Some.psk c.loop-lines.invariant.0 (c.in_ok-line.ensures.ended ended) c.in-Some.ensures.text
           ∙ ap (λ (psks : List (List ℕ)). lines_of psk_words psks c.next.new.self.rest.now) (sym pushed),
+      (
+        few,
+        subst (λ (psks : List (List ℕ)). All IsKey psks) (sym pushed)
+            (All-push IsKey c.loop-lines.psks.items c.in-Some.psk c.loop-lines.invariant.1.1 is_key),
+      ),
       λ psks rest h other e.
-          let f = LinesLeft-begun (c.loop-lines.invariant.1 psks rest h other e) (codes "psk ") begun other in
+          let f = LinesLeft-begun (c.loop-lines.invariant.2 psks rest h other e) (codes "psk ") begun other in
           let read = c.in_ok-line.ensures.every (psk_words f.next) (lines_of psk_words f.others rest) (psk-plain f.next f.next_good) f.left_is in
           FirstLine-step f more read.1,
     )
@@ -64,4 +74,4 @@ returns-clause-every c =
     let over : starts_with nat_eq c.loop-lines.lines.rest.now (codes "psk ") ≡ false = search rules in
     let none : (psk behind : List ℕ) → ¬ (c.loop-lines.lines.rest.now ≡ line (psk_words psk) behind) =
     λ psk behind e. true≢false (sym (ap (λ (t : List ℕ). starts_with nat_eq t (codes "psk ")) e) ∙ over) in
-    λ psks rest h other e. (refl, LinesLeft-end (c.loop-lines.invariant.1 psks rest h other e) none)
+    λ psks rest h other e. (refl, LinesLeft-end (c.loop-lines.invariant.2 psks rest h other e) none)

@@ -11,6 +11,7 @@ use Rattle.noise_vectors.proofs.reading.read_psks.Given as goal
 abbrev pub invariant-loop-lines : goal.invariant-loop-lines
 invariant-loop-lines l =
     (l.fn.lines.rest.now ≡ lines_of psk_words l.psks.items l.lines.rest.now)
+    × ArePsks l.psks.items
     × ((psks : List (List ℕ)) (rest : List ℕ) → ArePsks psks → IsFalse (starts_with nat_eq rest (codes "psk "))
     → l.fn.lines.rest.now ≡ lines_of psk_words psks rest
     → LinesLeft psk_words IsKey 9 (length l.psks.items) l.lines.rest.now rest)

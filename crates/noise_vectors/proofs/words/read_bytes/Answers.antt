@@ -1,9 +1,8 @@
-use Rattle.std.proofs.Common.{arith, ◌≡◌, ◌<◌, ◌≤◌, ◌/◌, ap, ℕ, List, [], ◌∷◌, Option, Some, None, length, Vec, Global, vec_len}
-use Rattle.std.specs.Prelude.{IfSome}
-use Rattle.std.proofs.lemmas.Result.{IfOk-weaker}
+use Rattle.std.proofs.Common.{rules, arith, ◌≡◌, ◌<◌, ◌≤◌, ◌/◌, ap, ℕ, List, [], ◌∷◌, Option, Some, None, length, Vec, Global, vec_len}
+use Rattle.std.specs.Prelude.{IfSome, IsSome}
 use Rattle.noise_vectors.specs.HexWord.{hex_of}
 use Rattle.noise_vectors.specs.VectorFile.{AreBytes}
-use Rattle.noise_vectors.proofs.HexWordLemmas.{length-hex_of, length-hex_word}
+use Rattle.noise_vectors.proofs.HexWordLemmas.{bytes_of-word, length-hex_of, length-hex_word}
 use Rattle.noise_vectors.proofs.words.read_bytes.Goals as goal
 
 -- the bytes of a short word are few
@@ -14,8 +13,17 @@ few word most h (Some bytes) e =
     let long = length-hex_word word bytes.items e in
     omega (arith, long, bytes.ok.0)
 
-pub returns-clause-bound : goal.returns-clause-bound
-returns-clause-bound c = IfOk-weaker c.read_hex.result _ _ (few c.args.word.now c.args.most c.if-word-most.false) c.read_hex.ensures.value
+pub returns-in-Some-clause-bound : goal.returns-in-Some-clause-bound
+returns-in-Some-clause-bound c =
+    few c.args.word.now c.args.most c.if-word-most.false (Some c.in-Some.bytes) (rw c.in-Some.is at c.in_ok-bytes.ensures.value)
+
+pub returns-in-Some-clause-right : goal.returns-in-Some-clause-right
+returns-in-Some-clause-right c =
+    let word : c.args.word.now ≡ hex_of c.in-Some.bytes.items = rw c.in-Some.is at c.in_ok-bytes.ensures.value in
+    let some : IsSome c.in_ok-bytes.field-0 = search rules in
+    let short : vec_len c.in-Some.bytes ≤ c.args.most =
+    few c.args.word.now c.args.most c.if-word-most.false (Some c.in-Some.bytes) word in
+    (omega (arith, short, c.in-Some.bytes.ok.0), bytes_of-word c.args.word.now c.in-Some.bytes.items word (c.in_ok-bytes.ensures.found.0 some))
 
 -- the word of few bytes is short
 short : (word bytes : List ℕ) (most : ℕ) → AreBytes most bytes → word ≡ hex_of bytes → ¬ (most < length word / 2)

@@ -1,7 +1,7 @@
-use Rattle.std.proofs.Common.{rules, ap, Some, IsErr}
+use Rattle.std.proofs.Common.{rules, ◌≡◌, ap, length, Some, IsErr}
 use Rattle.std.specs.Prelude.{IsOk}
 use Rattle.hex.specs.Hex.{decode_sized}
-use Rattle.noise_vectors.proofs.HexWordLemmas.{decoded_is, digits_of-decoded}
+use Rattle.noise_vectors.proofs.HexWordLemmas.{bytes_of-decoded, decoded_is, digits_of-decoded}
 use Rattle.noise_vectors.proofs.KeyLemmas.{IsDigits-key, decoded-key, written-key}
 use Rattle.noise_vectors.proofs.words.read_key.Goals as goal
 
@@ -29,3 +29,12 @@ returns-clause-every c = λ key h e.
     let good = written-key (decode_sized c.args.word.now 32) key c.decode_to_slice.result c.decode_to_slice.new.out
     c.decode_to_slice.ensures.value (decoded-key key c.args.word.now h e) in
     ap Some good.1
+
+pub returns-clause-right : goal.returns-clause-right
+returns-clause-right c =
+    let ok : IsOk c.decode_to_slice.result = search rules in
+    let len : length c.decode_to_slice.new.out ≡ 32 = search rules in (
+      len,
+      bytes_of-decoded c.args.word.now c.decode_to_slice.new.out 32 (c.is_digits.ensures.0 c.if-not-is_digits.false)
+          (decoded_is (decode_sized c.args.word.now 32) c.decode_to_slice.result c.decode_to_slice.new.out c.decode_to_slice.ensures.value ok),
+    )
