@@ -4,6 +4,7 @@ mod command_line;
 mod commands;
 mod fakes;
 mod handshakes;
+mod hostile;
 mod outside;
 mod replays;
 mod wrong_lines;
