@@ -5,6 +5,7 @@ mod commands;
 mod failing;
 mod fakes;
 mod handshakes;
+mod hostile;
 mod outside;
 mod replays;
 
