@@ -123,8 +123,8 @@ impl Session {
 
     /// The bytes of a message's frame behind its public keys.
     pub fn payload_in(&self, message: usize, frame: &[u8]) -> Result<Vec<u8>, Fail> {
-        let mut pieces = self.pieces.iter().filter(|piece| piece.payload);
-        let piece = pieces.find(|piece| piece.message == message);
+        let mut pieces = self.pieces.iter();
+        let piece = pieces.find(|piece| piece.message == message && piece.payload);
         let from = piece.ok_or("no message")?.from;
         Ok(
             frame

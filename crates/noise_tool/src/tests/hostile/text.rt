@@ -51,12 +51,12 @@ pub fn lines(alloc: Global, report: &Report, duel: &Ends) -> Result<String, Fail
 }
 
 /// The frame of this number that this role wrote.
-pub fn frame_of(report: &Report, role: Role, number: usize) -> Result<&[u8], Fail> {
-    let frames = match role {
+pub fn frame_of(report: &Report, place: (Role, usize)) -> Result<&[u8], Fail> {
+    let frames = match place.0 {
         Role::Initiator => &report.initiator,
         Role::Responder => &report.responder,
     };
-    Ok(frames.get(number).ok_or("no frame")?)
+    Ok(frames.get(place.1).ok_or("no frame")?)
 }
 
 // Of entries those that a case has.
@@ -64,7 +64,7 @@ fn push_line(text: &mut String, report: &Report, role: Role, entry: &Entry) -> R
     let name = who(&role);
     match entry {
         Entry::Wrote(number) => {
-            let frame = frame_of(report, role, *number)?;
+            let frame = frame_of(report, (role, *number))?;
             writeln!(text, "wrote {name} {number} {}", Hex(frame))?;
         }
         Entry::Payload(payload) => writeln!(text, "payload {name} {}", Hex(payload))?,
