@@ -12,7 +12,7 @@ use Rattle.noise_handshake.specs.declared.faults.Cause.{Cause}
 use Rattle.noise_handshake.specs.Line.{token_piece, behind_token, front, behind_front}
 use Rattle.noise_handshake.specs.View.{View, Reader, reader, Fits, Fit, known_behind, secrets_behind, Leads, Reaches, Reads, Stops, Accepts, cause_of}
 use Rattle.noise_handshake.specs.View.{cause_at, tokens_now}
-use Rattle.noise_handshake.specs.inner.Listening.{Fails}
+use Rattle.noise_handshake.specs.inner.Listening.{Fails, StopsKnowing}
 use Rattle.noise_handshake.specs.declared.faults.Cause.TheVariants.{Short, Tag}
 
 pub split-apart : (a b p q : List ℕ) → length a ≡ length b → a ++ p ≡ b ++ q → (a ≡ b) × (p ≡ q)
@@ -94,16 +94,19 @@ leads-fails v known secrets r t (x ∷ []) m rest bad l = bad x rest l.fit.0 (l.
 leads-fails v known secrets r t (x ∷ y ∷ ys) m rest bad l = l.fit.1
 
 pub stops-here : (v : Reader) (known : Remote) (secrets : List (List ℕ)) (r : History) (t : Token) (ts : List Token) (m : List ℕ) (cause : Cause)
-    → Fails v known secrets r t m → cause ≡ cause_of (is_some (cipher_key r)) t m → Stops v known secrets r (t ∷ ts) m 0 cause
-stops-here v known secrets r t ts m cause bad why = record {
-  within = omega arith;
-  carried = [];
-  rest = m;
-  leads = leads-none v known secrets r m;
-  further = λ _ reaches. leads-fails v known secrets r t reaches.carried m reaches.rest bad reaches.leads;
-  unread = λ e. absurd (omega arith);
-  why = why;
-}
+    → Fails v known secrets r t m → cause ≡ cause_of (is_some (cipher_key r)) t m → StopsKnowing v known secrets r (t ∷ ts) m 0 cause known
+stops-here v known secrets r t ts m cause bad why = (
+  record {
+    within = omega arith;
+    carried = [];
+    rest = m;
+    leads = leads-none v known secrets r m;
+    further = λ _ reaches. leads-fails v known secrets r t reaches.carried m reaches.rest bad reaches.leads;
+    unread = λ e. absurd (omega arith);
+    why = why;
+  },
+  refl,
+)
 
 -- what leads beyond a token leads from behind it
 leads-less : (v : Reader) (known : Remote) (secrets : List (List ℕ)) (r : History) (t : Token) (x : List ℕ) (ts : List Token) (xs : List (List ℕ))
@@ -124,19 +127,22 @@ leads-less v known secrets r t x ts (y ∷ ys) m more rest f e l =
     }
 
 pub stops-later : (v : Reader) (known : Remote) (secrets : List (List ℕ)) (r : History) (t : Token) (x : List ℕ) (ts : List Token) (m more : List ℕ)
-    (k : ℕ) (cause : Cause)
+    (k : ℕ) (cause : Cause) (here : Remote)
     → k < length ts → Fits v known secrets t x → m ≡ token_piece r t x ++ more
-    → Stops v (known_behind known t x) (secrets_behind secrets t) (behind_token v.psks r t x) ts more k cause
-    → Stops v known secrets r (t ∷ ts) m (suc k) cause
-stops-later v known secrets r t x ts m more k cause h f e s = record {
-  within = omega (arith, h);
-  carried = x ∷ s.carried;
-  rest = s.rest;
-  leads = leads-more v known secrets r t x (take k ts) s.carried m more s.rest f e s.leads;
-  further = λ _ reaches. s.further h (leads-less v known secrets r t x (take (suc k) ts) reaches.carried m more reaches.rest f e reaches.leads);
-  unread = λ e. absurd (omega (arith, h));
-  why = s.why;
-}
+    → StopsKnowing v (known_behind known t x) (secrets_behind secrets t) (behind_token v.psks r t x) ts more k cause here
+    → StopsKnowing v known secrets r (t ∷ ts) m (suc k) cause here
+stops-later v known secrets r t x ts m more k cause here h f e (s, knows) = (
+  record {
+    within = omega (arith, h);
+    carried = x ∷ s.carried;
+    rest = s.rest;
+    leads = leads-more v known secrets r t x (take k ts) s.carried m more s.rest f e s.leads;
+    further = λ _ reaches. s.further h (leads-less v known secrets r t x (take (suc k) ts) reaches.carried m more reaches.rest f e reaches.leads);
+    unread = λ e. absurd (omega (arith, h));
+    why = s.why;
+  },
+  knows,
+)
 
 cause_at-end : (keyed : Bool) (ts : List Token) (rest : List ℕ) → cause_at keyed ts (length ts) rest ≡ (if nat_lt (length rest) 16 then Short else Tag)
 cause_at-end keyed [] rest = refl

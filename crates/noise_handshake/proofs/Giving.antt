@@ -12,7 +12,7 @@ use Rattle.noise_handshake.specs.View.{View, secrets_behind, tokens_now}
 use Rattle.noise_handshake.specs.Writing.{Writer, writer, Gives, Given, LacksAt, Writes, Lacks}
 
 -- one token more in front
-lacks-later : (w : Writer) (known : Remote) (secrets : List (List ℕ)) (t : Token) (ts : List Token) (x : List ℕ) (k : ℕ)
+pub lacks-later : (w : Writer) (known : Remote) (secrets : List (List ℕ)) (t : Token) (ts : List Token) (x : List ℕ) (k : ℕ)
     → Gives w known secrets t x → LacksAt w known (secrets_behind secrets t) ts k → LacksAt w known secrets (t ∷ ts) (suc k)
 lacks-later w known secrets t ts x k g l = record {
   within = omega (arith, l.within);

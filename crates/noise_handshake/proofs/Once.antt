@@ -28,16 +28,15 @@ same-cause v known secrets r ts m k c d a b =
     ∙ ap (λ (rest : List ℕ). cause_at (is_some (cipher_key (behind_front v.psks r (take k ts) b.carried))) ts k rest) h.1
     ∙ sym b.why
 
+pub stops-one : (v : Reader) (known : Remote) (secrets : List (List ℕ)) (r : History) (ts : List Token) (m : List ℕ) (k j : ℕ) (c d : Cause)
+    → Stops v known secrets r ts m k c → Stops v known secrets r ts m j d → (k ≡ j) × (c ≡ d)
+stops-one v known secrets r ts m k j c d a b =
+    let e : k ≡ j = same-place k j (not-earlier v known secrets r ts m k j c d a b) (not-earlier v known secrets r ts m j k d c b a) in
+    (e, same-cause v known secrets r ts m k c d a (subst (λ (i : ℕ). Stops v known secrets r ts m i d) (sym e) b))
+
 -- one token and one cause
 pub refuses-one : (v : View) (m : List ℕ) (k j : ℕ) (c d : Cause) → Refuses v m k c → Refuses v m j d → (k ≡ j) × (c ≡ d)
-refuses-one v m k j c d a b =
-    let u : Reader = reader v in
-    let e : k ≡ j = same-place k j (not-earlier u v.remote v.secrets v.history (tokens_now v) m k j c d a.stops b.stops)
-    (not-earlier u v.remote v.secrets v.history (tokens_now v) m j k d c b.stops a.stops) in (
-      e,
-      same-cause u v.remote v.secrets v.history (tokens_now v) m k c d a.stops
-          (subst (λ (i : ℕ). Stops u v.remote v.secrets v.history (tokens_now v) m i d) (sym e) b.stops),
-    )
+refuses-one v m k j c d a b = stops-one (reader v) v.remote v.secrets v.history (tokens_now v) m k j c d a.stops b.stops
 
 -- what is accepted isn't refused
 pub accepts-or : (v : View) (m : List ℕ) (xs : List (List ℕ)) (p : List ℕ) (k : ℕ) (c : Cause) → Accepts v m xs p → Refuses v m k c → ⊥

@@ -47,6 +47,19 @@ told false true ours = (refl, refl)
 told false false true = (refl, refl, refl)
 told false false false = (refl, refl, refl)
 
+no-fault : (ended all ours : Bool) → ended ≡ false → all ≡ false → ours ≡ false
+    → (if ended then Some read.Ended else if all then Some read.Done else if ours then Some read.NotYourTurn else None) ≡ None
+no-fault true all ours e a o = absurd (cc)
+no-fault false true ours e a o = absurd (cc)
+no-fault false false true e a o = absurd (cc)
+no-fault false false false e a o = refl
+
+not-self : (a b : Role) → a ≡ other b → same_role a b ≡ false
+not-self Initiator Initiator e = absurd (cc)
+not-self Initiator Responder e = refl
+not-self Responder Initiator e = refl
+not-self Responder Responder e = absurd (cc)
+
 -- where a message is due there is one
 pub due : {K : Type 0} (h : Held K) → h.passed ≤ length h.pattern.messages → read_fault h ≡ None → h.passed < length h.pattern.messages
 due h w e =
@@ -77,6 +90,16 @@ module _ {K : Type 0} (public_of : K → Own → Option (List ℕ)) (agreement :
       subst (Told h.ended (h.passed == length h.pattern.messages) (is_turn h.role h.passed)) e
       (told h.ended (h.passed == length h.pattern.messages) (is_turn h.role h.passed)) in
       record { going = going t.0; more = few w t.1; turn = other-role (turn_from Initiator v.passed) v.role (turn false t.2) }
+
+  -- where one is due there is no fault
+  pub reads-due : Listens v → read_fault h ≡ None
+  reads-due l =
+      let less : h.passed < length h.pattern.messages =
+      subst (λ (k : ℕ). k < length h.pattern.messages) (sym s.passed) (subst (λ (p : Plan). v.passed < length p.messages) (sym s.pattern) l.more) in
+      let all : (h.passed == length h.pattern.messages) ≡ false = grind (arith, nat_tests) in
+      no-fault h.ended (h.passed == length h.pattern.messages) (is_turn h.role h.passed) (s.ended ∙ l.going) all
+      (ap (λ (k : ℕ). same_role (turn_from Initiator k) h.role) s.passed ∙ ap (λ (r : Role). same_role (turn_from Initiator v.passed) r) s.role
+      ∙ not-self (turn_from Initiator v.passed) v.role l.turn)
 
   pub tokens-are : tokens_at h.pattern.messages h.passed ≡ tokens_now v
   tokens-are = ap (λ (p : Plan). tokens_at p.messages h.passed) s.pattern ∙ ap (λ (k : ℕ). tokens_at v.pattern.messages k) s.passed
@@ -129,7 +152,7 @@ module _ {K : Type 0} (public_of : K → Own → Option (List ℕ)) (agreement :
 -- what holds of a party's parts holds of the view that it listens for
 module _ (v : View) (role : Role) (psks : Bool) (agree : Own → List ℕ → Option (List ℕ)) (secrets : List (List ℕ)) (known : Remote) (tokens : List Token)
     (l : Listening v role psks agree secrets known tokens) where
-  for-view : (P : Reader → Remote → List (List ℕ) → List Token → Type 0) → P (record { role = role; psks = psks; agree = agree }) known secrets tokens
+  pub for-view : (P : Reader → Remote → List (List ℕ) → List Token → Type 0) → P (record { role = role; psks = psks; agree = agree }) known secrets tokens
       → P (reader v) v.remote v.secrets (tokens_now v)
   for-view P h =
       let h1 = subst (λ (z : Role). P (record { role = z; psks = psks; agree = agree }) known secrets tokens) l.role_is h in

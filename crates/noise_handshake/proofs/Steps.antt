@@ -12,14 +12,17 @@ use Rattle.noise_handshake.specs.declared.faults.Cause.{Cause}
 use Rattle.noise_state.specs.Standing.{StateStands}
 use Rattle.noise_state.specs.declared.symmetric.SymmetricState.{SymmetricState}
 use Rattle.noise_handshake.specs.Line.{token_piece, behind_token, behind_front}
-use Rattle.noise_handshake.specs.View.{Reader, Fits, Leads, Stops, known_behind, secrets_behind, learned, cause_of}
-use Rattle.noise_handshake.specs.inner.Listening.{Fails}
+use Rattle.noise_handshake.specs.View.{Reader, Fits, Leads, known_behind, secrets_behind, learned, cause_of}
+use Rattle.noise_handshake.specs.inner.Listening.{Fails, StopsKnowing}
 use Rattle.noise_handshake.proofs.Apart.{leads-none, leads-more, stops-here, stops-later}
 
 pub stopped : (v : Reader) (known : Remote) (secrets : List (List ℕ)) (r : History) (tokens ts : List Token) (t : Token) (m : List ℕ) (cause : Cause)
-    → tokens ≡ t ∷ ts → Fails v known secrets r t m → cause ≡ cause_of (is_some (cipher_key r)) t m → Stops v known secrets r tokens m 0 cause
-stopped v known secrets r tokens ts t m cause e bad why =
-    subst (λ (us : List Token). Stops v known secrets r us m 0 cause) (sym e) (stops-here v known secrets r t ts m cause bad why)
+    (here : Remote)
+    → tokens ≡ t ∷ ts → Fails v known secrets r t m → cause ≡ cause_of (is_some (cipher_key r)) t m → here ≡ known
+    → StopsKnowing v known secrets r tokens m 0 cause here
+stopped v known secrets r tokens ts t m cause here e bad why same =
+    subst (λ (us : List Token). StopsKnowing v known secrets r us m 0 cause here) (sym e)
+    (subst (λ (z : Remote). StopsKnowing v known secrets r (t ∷ ts) m 0 cause z) (sym same) (stops-here v known secrets r t ts m cause bad why))
 
 -- what stands in a list behind its first n bytes, once those behind were written
 pub written-at : (m buf post : List ℕ) (n len : ℕ) → n ≤ length m → len ≤ length buf → take ((n + len) - n) (drop n (take n m ++ (buf ++ post))) ≡ take len buf
@@ -63,15 +66,17 @@ module _ (v : Reader) (known known2 : Remote) (secrets secrets2 : List (List ℕ
   pub learned-on : (xs : List (List ℕ)) (known3 : Remote) → known3 ≡ learned known2 ts xs → known3 ≡ learned known tokens (x ∷ xs)
   learned-on xs known3 e = e ∙ ap (λ (z : Remote). learned z ts xs) knows ∙ ap (λ (us : List Token). learned known us (x ∷ xs)) (sym split)
 
-  pub stopped-later : (k : ℕ) (cause : Cause) → k < length ts → Stops v known2 secrets2 (behind_token v.psks r t x) ts m2 k cause
-      → Stops v known secrets r tokens m (k + 1) cause
-  stopped-later k cause h s =
-      let l1 = subst (λ (z : Remote). Stops v z secrets2 (behind_token v.psks r t x) ts m2 k cause) knows s in
-      let l2 = subst (λ (z : List (List ℕ)). Stops v (known_behind known t x) z (behind_token v.psks r t x) ts m2 k cause) holds l1 in
-      let l3 = subst (λ (z : List ℕ). Stops v (known_behind known t x) (secrets_behind secrets t) (behind_token v.psks r t x) ts z k cause) goes l2 in
-      let l4 = stops-later v known secrets r t x ts m (drop n m) k cause h fits spelled l3 in
-      let l5 = subst (λ (us : List Token). Stops v known secrets r us m (suc k) cause) (sym split) l4 in
-      rw add-one l5
+  pub stopped-later : (k : ℕ) (cause : Cause) (here : Remote) → k < length ts
+      → StopsKnowing v known2 secrets2 (behind_token v.psks r t x) ts m2 k cause here → StopsKnowing v known secrets r tokens m (k + 1) cause here
+  stopped-later k cause here h s =
+      let l1 = subst (λ (z : Remote). StopsKnowing v z secrets2 (behind_token v.psks r t x) ts m2 k cause here) knows s in
+      let l2 = subst (λ (z : List (List ℕ)). StopsKnowing v (known_behind known t x) z (behind_token v.psks r t x) ts m2 k cause here) holds l1 in
+      let l3 = subst (λ (z : List ℕ). StopsKnowing v (known_behind known t x) (secrets_behind secrets t) (behind_token v.psks r t x) ts z k cause here)
+      goes l2 in
+      let l4 = stops-later v known secrets r t x ts m (drop n m) k cause here h fits spelled l3 in
+      let l5 = subst (λ (us : List Token). StopsKnowing v known secrets r us m (suc k) cause here) (sym split) l4 in
+      let next : suc k ≡ k + 1 = omega arith in
+      subst (λ (i : ℕ). StopsKnowing v known secrets r tokens m i cause here) next l5
 
 -- no tokens
 pub led-none : (v : Reader) (known : Remote) (secrets : List (List ℕ)) (r : History) (tokens : List Token) (m : List ℕ) (state : SymmetricState)

@@ -132,7 +132,7 @@ module _ {K : Type 0} (public_of : K → Own → Option (List ℕ)) (h : Held K)
 module _ (v : View) (role : Role) (psks : Bool) (own : Own → Option (List ℕ)) (agree : Own → List ℕ → Option (List ℕ)) (secrets : List (List ℕ))
     (known : Remote) (tokens : List Token)
     (l : Speaking v role psks own agree secrets known tokens) where
-  for-view : (P : Writer → Remote → List (List ℕ) → List Token → Type 0)
+  pub for-view : (P : Writer → Remote → List (List ℕ) → List Token → Type 0)
       → P (record { role = role; psks = psks; own = own; agree = agree }) known secrets tokens
       → P (writer v) v.remote v.secrets (tokens_now v)
   for-view P h =

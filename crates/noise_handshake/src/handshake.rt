@@ -2,15 +2,15 @@
 #![tactic(auto)]
 
 ghost use Rattle.std.specs.Prelude.{◌≡◌, ◌≤◌, ◌<◌, ◌+◌, ◌-◌, true, false, ℕ, List, ◌↔◌, length, take, drop, slice_range, Some, None, IsOk, IfOk};
-ghost use Rattle.std.specs.Prelude.{IfErr, OnErr, MatchResult, MatchOption};
+ghost use Rattle.std.specs.Prelude.{IfErr, OnErr, MatchResult, MatchOption, IsSome, IfSome, not, ◌&&◌, ◌==◌};
 ghost use Rattle.std.specs.Option.{ForSome};
 
 use crate::layout::{MessageLayout, lay_out};
-use crate::reading::read_message;
+use crate::reading::{read_lacking, read_message};
 use crate::setup::{public_keys, setup_fault, start};
 use crate::tokens::Means;
-use crate::writing::write_message;
-use crate::{Keys, Opened, ReadFault, Remote, SetupFault, WriteFault};
+use crate::writing::{write_lacking, write_message};
+use crate::{Keys, Opened, Own, Parts, ReadFault, Remote, SetupFault, WriteFault};
 use arrayvec::ArrayVec;
 use noise_names::{Role, ValidPattern};
 use noise_state::SymmetricState;
@@ -82,12 +82,15 @@ impl<K: Keys> Handshake<K> {
     ghost use Rattle.noise_names.specs.Overhead.{has_key, overhead_of};
     ghost use Rattle.noise_handshake.specs.Passed.{passed_places};
     ghost use Rattle.noise_handshake.specs.inner.Layout.{IsLaid};
-    ghost use Rattle.noise_handshake.specs.View.{View, Accepts, tokens_at};
+    ghost use Rattle.noise_handshake.specs.View.{View, Accepts, Refuses, tokens_at};
     ghost use Rattle.noise_handshake.specs.Held.{is_turn, read_fault, behind_read_fault, write_fault, behind_write_fault, message_len_of, IsRefusal};
     ghost use Rattle.noise_handshake.specs.Held.{IsAgreement, Advances};
     ghost use Rattle.noise_handshake.specs.Opening.{Opens};
+    ghost use Rattle.noise_handshake.specs.Parts.{held_of, IsWhole};
     ghost use Rattle.noise_handshake.specs.Setup.{begun, setup_fault};
-    ghost use Rattle.noise_handshake.specs.Writing.{Writes};
+    ghost use Rattle.noise_handshake.specs.Writing.{Writes, Lacks};
+    ghost use Rattle.noise_handshake.specs.Wanting.{WantsToRead, WantsToWrite};
+    ghost use Rattle.noise_handshake.specs.declared.faults.Cause.{Cause};
     ghost use Rattle.noise_handshake.specs.Party.{Stands, behind_message, behind_own, Declines, behind_declined, Withholds, behind_withheld};
 
     /// The handshake of one party before its first message.
@@ -129,6 +132,56 @@ impl<K: Keys> Handshake<K> {
             psks: with_psks,
             layout,
             state,
+        })
+    }
+
+    /// What it holds, for a caller that keeps it itself until the next message.
+    pub fn into_parts(self) -> Parts<K>
+        ensures same { held_of result ≡ self }
+        ensures whole { IsWhole K.public_of self }
+    {
+        let mut secrets = ArrayVec::new();
+        secrets
+            .try_extend_from_slice(&self.secrets[self.used..])
+            .unwrap();
+        Parts {
+            pattern: self.pattern,
+            role: self.role,
+            keys: self.keys,
+            remote: self.remote,
+            secrets,
+            passed: self.passed,
+            ended: self.ended,
+            state: self.state.into_parts(),
+        }
+    }
+
+    /// The handshake that holds these parts, or None for parts that no handshake holds. It stands for what the handshake stood
+    /// for that was taken apart; at None the parts are gone.
+    ///
+    /// A handshake that was taken apart is put together once: two of them would encrypt at the same nonce.
+    pub fn from_parts(parts: Parts<K>) -> Option<Handshake<K>>
+        ensures whole { IsSome result ↔ IsWhole K.public_of (held_of parts) }
+        ensures same { IfSome result (λ h. h ≡ held_of parts) }
+    {
+        if !parts.are_whole() {
+            return None;
+        }
+        let plan = parts.pattern.pattern();
+        let psks = !plan.is_plain();
+        let layout = lay_out(plan, psks, parts.pattern.has_key(0));
+        Some(Handshake {
+            pattern: parts.pattern,
+            role: parts.role,
+            keys: parts.keys,
+            remote: parts.remote,
+            secrets: parts.secrets,
+            used: 0,
+            passed: parts.passed,
+            ended: parts.ended,
+            psks,
+            layout,
+            state: SymmetricState::from_parts(parts.state),
         })
     }
 
@@ -289,6 +342,35 @@ impl<K: Keys> Handshake<K> {
         Ok(&mut message[from..to])
     }
 
+    /// For want of which DH answer reading this message would be refused: of which key pair of this party, and to which public
+    /// key of the other, as the message tells it. None where it wouldn't be refused for that. Nothing changes.
+    ///
+    /// So a caller whose private keys lie elsewhere asks, has the answer made, puts it to its keys, and asks again.
+    pub fn wants_to_read(&self, message: &[u8]) -> Option<(Own, [u8; 32])>
+        ensures { (v : View) → Stands K.public_of K.agreement self.now v → MatchOption result
+            ((token : ℕ) → Refuses v message.now token Cause.Agreement → ⊥)
+            (λ want. WantsToRead v message.now want.0 want.1) }
+    {
+        if let Some(_) = self.read_fault() {
+            return None;
+        }
+        let means = Means {
+            keys: &self.keys,
+            role: self.role,
+            psks: self.psks,
+        };
+        let laid = self.next_layout();
+        let secrets = &self.secrets[self.used..];
+        read_lacking(
+            &self.state,
+            &self.remote,
+            &means,
+            secrets,
+            &laid.tokens,
+            message,
+        )
+    }
+
     /// The handshake hash (Noise, 11.2), 32 bytes, of the start and the messages that passed, also after the handshake has
     /// ended.
     pub fn hash(&self) -> [u8; 32]
@@ -372,6 +454,33 @@ impl<K: Keys> Handshake<K> {
                 Err(WriteFault::Agreement { token: token as u8 })
             }
         }
+    }
+
+    // Whether a message of this party is due.
+    fn speaks(&self) -> bool
+        ensures { result ≡ (not self.now.ended && not (self.now.passed == length self.now.pattern.messages) && is_turn self.now.role self.now.passed) }
+    {
+        !self.ended && self.passed as usize != self.layout.len() && self.writes_next()
+    }
+
+    /// For want of which DH answer no message would be written now: of which key pair of this party, and to which public key of
+    /// the other. None where a message is due and lacks no answer, and where none is due. Nothing changes.
+    pub fn wants_to_write(&self) -> Option<(Own, [u8; 32])>
+        ensures { (v : View) → Stands K.public_of K.agreement self.now v → MatchOption result
+            ((token : ℕ) → Lacks v token → ⊥)
+            (λ want. WantsToWrite v want.0 want.1) }
+    {
+        if !self.speaks() {
+            return None;
+        }
+        let means = Means {
+            keys: &self.keys,
+            role: self.role,
+            psks: self.psks,
+        };
+        let laid = self.next_layout();
+        let secrets = &self.secrets[self.used..];
+        write_lacking(&self.remote, &means, secrets, &laid.tokens)
     }
 
     /// What the handshake leaves once all messages have passed and it hasn't ended; else it comes back as it was.

@@ -2,7 +2,7 @@
 #![tactic(auto)]
 
 ghost use Rattle.std.specs.Prelude.{◌≡◌, ◌≤◌, ◌<◌, ◌+◌, ◌-◌, ◌*◌, ◌^◌, ◌++◌, ℕ, List, length, take, drop, count_by, is_some, Option, Some, None};
-ghost use Rattle.std.specs.Prelude.{MatchOption, MatchResult, IfOk, IfErr, OnOk, OnErr, slice_range, nat_lt, if◌then◌else◌, IsTrue, true};
+ghost use Rattle.std.specs.Prelude.{MatchOption, MatchResult, IfOk, IfErr, OnOk, OnErr, slice_range, slice_index_or, nat_lt, if◌then◌else◌, IsTrue, true};
 ghost use Rattle.noise_state.specs.Standing.{StateStands, keyed, nonce_now};
 ghost use Rattle.noise_state.specs.History.{History, Part, and_then, piece, cipher_key, nonce};
 ghost use Rattle.noise_handshake.specs.Line.{with_ephemeral, token_piece, behind_token, behind_front, behind_line};
@@ -10,15 +10,16 @@ ghost use Rattle.noise_handshake.specs.inner.Known.{is_known, are_known, e_behin
 ghost use Rattle.noise_handshake.specs.Length.{keyed_behind, keyed_behind_tokens, token_width};
 ghost use Rattle.noise_handshake.specs.View.{Reader, Fits, Leads, Stops, known_behind, learned, Reads};
 ghost use Rattle.noise_handshake.specs.View.{cause_of, secrets_behind};
-ghost use Rattle.noise_handshake.specs.inner.Listening.{Fails, width_of_key};
+ghost use Rattle.noise_handshake.specs.inner.Listening.{Fails, StopsKnowing, width_of_key};
 ghost use Rattle.noise_names.specs.declared.token.Token.{Token};
 ghost use Rattle.noise_handshake.specs.inner.Layout.{tokens_of, ArePlaced};
 ghost use Rattle.noise_names.specs.Tokens.{is_psk};
-ghost use Rattle.noise_handshake.specs.declared.faults.Cause.TheVariants.{Short, Tag};
+ghost use Rattle.noise_handshake.specs.declared.faults.Cause.TheVariants.{Short, Tag, Agreement};
+ghost use Rattle.noise_handshake.specs.Wanting.{StopsFor};
 
 use crate::layout::PlacedToken;
-use crate::tokens::{Means, answer_at, mix_ephemeral, secrets_behind};
-use crate::{Cause, Keys, Remote};
+use crate::tokens::{Means, answer_at, asked_at, mix_ephemeral, secrets_behind};
+use crate::{Cause, Keys, Own, Remote};
 use noise_names::Token;
 use noise_state::{CipherFault, SymmetricState};
 
@@ -34,6 +35,7 @@ fn read_e(
     ensures key { OnOk result (keyed state.new ≡ keyed_behind psks (keyed state.old) Token.E) }
     ensures known { OnOk result ((is_some known.new.e ≡ true) × (known.new.s ≡ known.old.s)) }
     ensures nonce { nonce_now state.new ≤ nonce_now state.old }
+    ensures unchanged { OnErr result (known.new ≡ known.old) }
     ensures read { (r : History) → StateStands state.old r → MatchResult result
         (λ n. (x : List ℕ) × (length x ≡ 32) × (message.now ≡ x ++ drop n message.now) × StateStands state.new (with_ephemeral psks r x)
         × (known.new ≡ record known.old { e = Some x }))
@@ -88,6 +90,7 @@ fn read_s(
     ensures key { keyed state.new ≡ keyed state.old }
     ensures known { OnOk result ((known.new.e ≡ known.old.e) × (is_some known.new.s ≡ true)) }
     ensures nonce { nonce_now state.new ≤ nonce_now state.old + 1 }
+    ensures unchanged { OnErr result (known.new ≡ known.old) }
     ensures read { (r : History) → StateStands state.old r → MatchResult result
         (λ n. (x : List ℕ) × (length x ≡ 32) × (message.now ≡ piece r x ++ drop n message.now) × StateStands state.new (and_then r (Part (piece r x)))
         × (known.new ≡ record known.old { s = Some x }))
@@ -127,6 +130,7 @@ fn read_token<K: Keys>(
     ensures e { OnOk result (is_some known.new.e ≡ e_behind (is_some known.old.e) placed.token) }
     ensures s { OnOk result (is_some known.new.s ≡ s_behind (is_some known.old.s) placed.token) }
     ensures nonce { nonce_now state.new ≤ nonce_now state.old + 1 }
+    ensures unchanged { OnErr result (known.new ≡ known.old) }
     ensures read { (r : History) → StateStands state.old r
         → let v : Reader = record { role = means.now.role; psks = means.now.psks; agree = K.agreement means.now.keys.now } in MatchResult result
         (λ n. (x : List ℕ) × Fits v known.old secrets.now placed.token x × (message.now ≡ token_piece r placed.token x ++ drop n message.now)
@@ -185,7 +189,7 @@ fn read_tokens<K: Keys>(
         let tokens : List Token = tokens_of placed.now in MatchResult result
         (λ n. (xs : List (List ℕ)) × Leads v known.old secrets.now r tokens xs (drop place message.now) (drop (place + n) message.now)
         × StateStands state.new (behind_front means.now.psks r tokens xs) × (known.new ≡ learned known.old tokens xs))
-        (λ stop. Stops v known.old secrets.now r tokens (drop place message.now) stop.0 stop.1) }
+        (λ stop. StopsKnowing v known.old secrets.now r tokens (drop place message.now) stop.0 stop.1 known.new) }
 {
     let Some((first, later)) = placed.split_first() else {
         return Ok(0);
@@ -199,6 +203,46 @@ fn read_tokens<K: Keys>(
     match read_tokens(state, known, means, others, later, message) {
         Ok(more) => Ok(n + more),
         Err((k, cause)) => Err((k + 1, cause)),
+    }
+}
+
+// A token by its number.
+fn token_at(placed: &[PlacedToken], k: usize) -> Token
+    requires { k < length placed.now }
+    ensures { result ≡ slice_index_or (tokens_of placed.now) k result }
+{
+    placed[k].token
+}
+
+// The DH without an answer at which reading a message's tokens stops, if it stops at one: of which key pair it is, and to which
+// remote key.
+pub(crate) fn read_lacking<K: Keys>(
+    state: &SymmetricState,
+    known: &Remote,
+    means: &Means<K>,
+    secrets: &[[u8; 32]],
+    placed: &[PlacedToken],
+    message: &[u8],
+) -> Option<(Own, [u8; 32])>
+    requires placed { ArePlaced means.now.psks (keyed state.now) 0 placed.now }
+    requires secrets { count_by is_psk (tokens_of placed.now) ≤ length secrets.now }
+    requires nonces { nonce_now state.now + length (tokens_of placed.now) < 2 ^ 64 - 1 }
+    requires known { IsTrue (are_known means.now.role (is_some known.now.e) (is_some known.now.s) (tokens_of placed.now)) }
+    ensures { (r : History) → StateStands state.now r
+        → let v : Reader = record { role = means.now.role; psks = means.now.psks; agree = K.agreement means.now.keys.now } in
+        let tokens : List Token = tokens_of placed.now in MatchOption result
+        ((k : ℕ) → Stops v known.now secrets.now r tokens message.now k Agreement → ⊥)
+        (λ want. StopsFor v known.now secrets.now r tokens message.now want.0 want.1) }
+{
+    let mut trial = state.for_trial();
+    let mut learned = *known;
+    match read_tokens(&mut trial, &mut learned, means, secrets, placed, message) {
+        Ok(_) => None,
+        Err((k, cause)) => match cause {
+            Cause::Agreement => asked_at(means.role, &learned, token_at(placed, k)),
+            Cause::Short => None,
+            Cause::Tag => None,
+        },
     }
 }
 

@@ -79,6 +79,18 @@ fn uses(pattern: &Pattern, role: Role, own: Own) -> bool
     sends_in(pattern.messages(), Role::Initiator, role, own)
 }
 
+// Whether a role has sent such a key in its pre-message or one of so many messages.
+pub(crate) fn was_sent(pattern: &Pattern, passed: usize, role: Role, own: Own) -> bool
+    requires { passed ≤ length pattern.now.messages }
+    ensures { result ≡ is_among role (token_of own) (passed_places pattern.now passed) }
+{
+    let before = has_token(pattern.pre(role), own);
+    if before {
+        return true;
+    }
+    sends_in(&pattern.messages()[..passed], Role::Initiator, role, own)
+}
+
 // How many secrets the tokens take.
 pub(crate) fn psk_count(tokens: &[Token]) -> usize
     ensures { result ≡ count_by is_psk tokens.now }
@@ -90,7 +102,7 @@ pub(crate) fn psk_count(tokens: &[Token]) -> usize
 }
 
 // How many secrets the messages take.
-fn psk_total(messages: &[Message]) -> usize
+pub(crate) fn psk_total(messages: &[Message]) -> usize
     requires { length messages.now ≤ 8 }
     ensures total { result ≡ secrets_of messages.now }
     ensures bound { result ≤ 10 * length messages.now }
@@ -102,7 +114,7 @@ fn psk_total(messages: &[Message]) -> usize
 }
 
 // Whether the role has such a key's token in the pattern, and not the key.
-fn lacks_own<K: Keys>(pattern: &Pattern, role: Role, keys: &K, own: Own) -> bool
+pub(crate) fn lacks_own<K: Keys>(pattern: &Pattern, role: Role, keys: &K, own: Own) -> bool
     ensures { result ≡ lacks_own pattern.now role (token_of own) (K.public_of keys.now own) }
 {
     uses(pattern, role, own) && keys.public(own).is_none()

@@ -1,7 +1,7 @@
 //! What a token asks of a party, whether it writes or reads it (Noise, 5.3 and 9.2).
 #![tactic(auto)]
 
-ghost use Rattle.std.specs.Prelude.{◌≡◌, ◌<◌, ◌≤◌, length, is_some, IsTrue};
+ghost use Rattle.std.specs.Prelude.{◌≡◌, ◌<◌, ◌≤◌, length, is_some, Some, None, IsTrue, MatchOption};
 ghost use Rattle.noise_names.specs.declared.token.Token.{Token};
 ghost use Rattle.noise_state.specs.Standing.{StateStands, keyed, nonce_now};
 ghost use Rattle.noise_state.specs.History.{History};
@@ -42,6 +42,15 @@ fn remote_at(role: Role, known: &Remote, token: Token) -> Option<[u8; 32]>
         (Role::Responder, Token::Se | Token::Ss) => known.s,
         _ => known.e,
     }
+}
+
+// Of which own key a DH token asks the answer, and to which remote key, if that is known.
+pub(crate) fn asked_at(role: Role, known: &Remote, token: Token) -> Option<(Own, [u8; 32])>
+    ensures { MatchOption result (remote_at role known.now token ≡ None)
+        (λ want. (want.0 ≡ own_at role token) × (remote_at role known.now token ≡ Some want.1)) }
+{
+    let key = remote_at(role, known, token)?;
+    Some((own_at(role, token), key))
 }
 
 // The answer at a DH token.

@@ -2,21 +2,22 @@
 #![tactic(auto)]
 
 ghost use Rattle.std.specs.Prelude.{◌≡◌, ◌≤◌, ◌<◌, ◌+◌, ◌-◌, ◌^◌, ℕ, List, length, take, drop, count_by, IsTrue, MatchOption, MatchResult, IfSome};
-ghost use Rattle.std.specs.Prelude.{IfOk, is_some};
+ghost use Rattle.std.specs.Prelude.{IfOk, is_some, None};
 ghost use Rattle.std.specs.List.{list_all};
 ghost use Rattle.noise_state.specs.Standing.{StateStands, keyed, nonce_now};
 ghost use Rattle.noise_state.specs.History.{History, Part, and_then, piece};
 ghost use Rattle.noise_handshake.specs.Line.{token_piece, behind_token, front, behind_front, line, behind_line, with_ephemeral};
-ghost use Rattle.noise_handshake.specs.inner.Known.{is_known};
+ghost use Rattle.noise_handshake.specs.inner.Known.{is_known, remote_known};
 ghost use Rattle.noise_handshake.specs.Length.{keyed_behind, keyed_behind_tokens, tag_width, token_width, tokens_width, added_width};
 ghost use Rattle.noise_handshake.specs.Writing.{Writer, Gives, Given, LacksAt};
+ghost use Rattle.noise_handshake.specs.Wanting.{LacksFor};
 ghost use Rattle.noise_handshake.specs.inner.Speaking.{has_own};
 ghost use Rattle.noise_names.specs.declared.token.Token.{Token};
 ghost use Rattle.noise_handshake.specs.inner.Layout.{tokens_of};
 ghost use Rattle.noise_names.specs.Tokens.{is_psk};
 
 use crate::layout::PlacedToken;
-use crate::tokens::{Means, answer_at, mix_ephemeral, secrets_behind};
+use crate::tokens::{Means, answer_at, asked_at, mix_ephemeral, secrets_behind};
 use crate::{Keys, Own, Remote};
 use noise_names::Token;
 use noise_state::SymmetricState;
@@ -166,6 +167,63 @@ fn write_tokens<K: Keys>(
     match write_tokens(state, known, means, others, later, &mut out[n..]) {
         Ok(more) => Ok(n + more),
         Err(k) => Err(k + 1),
+    }
+}
+
+// What a token of the party's own carries, where the party has it: its public key, the secret, or the answer.
+fn text_at<K: Keys>(
+    known: &Remote,
+    means: &Means<K>,
+    secrets: &[[u8; 32]],
+    token: Token,
+) -> Option<[u8; 32]>
+    requires secret { token ≡ Token.Psk → 0 < length secrets.now }
+    requires own { IsTrue (has_own (K.public_of means.now.keys.now) token) }
+    requires known { IsTrue (is_known means.now.role (is_some known.now.e) (is_some known.now.s) token) }
+    ensures text { let w : Writer = record {
+      role = means.now.role;
+      psks = means.now.psks;
+      own = K.public_of means.now.keys.now;
+      agree = K.agreement means.now.keys.now;
+    } in
+        MatchOption result ((x : List ℕ) → Gives w known.now secrets.now token x → ⊥) (λ x. Gives w known.now secrets.now token x) }
+    ensures dh { result ≡ None → IsTrue (remote_known means.now.role (is_some known.now.e) (is_some known.now.s) token) }
+{
+    match token {
+        Token::E => means.keys.public(Own::Ephemeral),
+        Token::S => means.keys.public(Own::Static),
+        Token::Psk => Some(secrets[0]),
+        _ => answer_at(means.keys, means.role, known, token),
+    }
+}
+
+// The first DH without an answer among the tokens, if there is one: of which key pair it is, and to which remote key.
+pub(crate) fn write_lacking<K: Keys>(
+    known: &Remote,
+    means: &Means<K>,
+    secrets: &[[u8; 32]],
+    placed: &[PlacedToken],
+) -> Option<(Own, [u8; 32])>
+    requires secrets { count_by is_psk (tokens_of placed.now) ≤ length secrets.now }
+    requires own { IsTrue (list_all (has_own (K.public_of means.now.keys.now)) (tokens_of placed.now)) }
+    requires known { IsTrue (list_all (is_known means.now.role (is_some known.now.e) (is_some known.now.s)) (tokens_of placed.now)) }
+    ensures { let w : Writer = record {
+      role = means.now.role;
+      psks = means.now.psks;
+      own = K.public_of means.now.keys.now;
+      agree = K.agreement means.now.keys.now;
+    } in
+        MatchOption result
+        ((k : ℕ) → LacksAt w known.now secrets.now (tokens_of placed.now) k → ⊥)
+        (λ want. LacksFor w known.now secrets.now (tokens_of placed.now) want.0 want.1) }
+{
+    let (first, later) = placed.split_first()?;
+    match text_at(known, means, secrets, first.token) {
+        Some(_) => {
+            let others = secrets_behind(secrets, first.token);
+            write_lacking(known, means, others, later)
+        }
+        None => asked_at(means.role, known, first.token),
     }
 }
 

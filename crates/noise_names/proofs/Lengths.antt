@@ -23,7 +23,7 @@ occurs-e [] = refl
 occurs-e (p ∷ places) = ap (λ (b : Bool). is_at E p.step || b) (occurs-e places)
     ∙ by_party p.party (is_at E p.step) (is_among Initiator E places) (is_among Responder E places)
 
-key_by-seen_of : (plan : Plan) (earlier : List Place) → key_by (seen_of earlier) (has_psk plan) ≡ has_key plan earlier
+pub key_by-seen_of : (plan : Plan) (earlier : List Place) → key_by (seen_of earlier) (has_psk plan) ≡ has_key plan earlier
 unfolding seen_of
 key_by-seen_of plan earlier =
     ap (λ (b : Bool). occurs Ee earlier || occurs Es earlier || occurs Se earlier || occurs Ss earlier || occurs Psk earlier || (has_psk plan && b))

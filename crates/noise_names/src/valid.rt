@@ -26,8 +26,8 @@ impl Model for ValidPattern {
 }
 
 impl ValidPattern {
-    ghost use Rattle.noise_names.specs.Plan.{is_one_way};
-    ghost use Rattle.noise_names.specs.Overhead.{overhead_of};
+    ghost use Rattle.noise_names.specs.Plan.{is_one_way, first_places};
+    ghost use Rattle.noise_names.specs.Overhead.{has_key, overhead_of};
     ghost use Rattle.noise_names.specs.Validity.{IsValid, TokensKeepRules};
 
     /// The pattern.
@@ -66,6 +66,19 @@ impl ValidPattern {
         seen.add_tokens(Role::Responder, self.pattern.pre(Role::Responder));
         let party = seen.add_messages(&messages[..index]);
         seen.overhead(self.pattern.has_psk(), party, &messages[index])
+    }
+
+    /// Whether there is a cipher key behind the pre-messages and so many messages (Noise, 5.2 and 9.2).
+    pub fn has_key(&self, passed: u8) -> bool
+        requires { passed ≤ length self.now.messages }
+        ensures { result ≡ has_key self.now (first_places self.now passed) }
+    {
+        let messages = self.pattern.messages();
+        let mut seen = Seen::new();
+        seen.add_tokens(Role::Initiator, self.pattern.pre(Role::Initiator));
+        seen.add_tokens(Role::Responder, self.pattern.pre(Role::Responder));
+        let _ = seen.add_messages(&messages[..usize::from(passed)]);
+        seen.has_key(self.pattern.has_psk())
     }
 }
 

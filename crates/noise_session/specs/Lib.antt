@@ -15,3 +15,4 @@ pub mod inner
 pub mod Windows
 pub mod Datagrams
 pub mod EndDatagrams
+pub mod Parts

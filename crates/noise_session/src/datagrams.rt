@@ -10,10 +10,12 @@ ghost use Rattle.noise_handshake.specs.Opening.{Opens as HandshakeOpens};
 ghost use Rattle.noise_session.specs.Transport.{last_nonce};
 ghost use Rattle.noise_session.specs.HeldTransport.{TransportView, TransportStands};
 ghost use Rattle.noise_session.specs.EndDatagrams.{datagrams_behind};
+ghost use Rattle.noise_session.specs.Parts.{datagrams_in};
 ghost use Rattle.noise_session.specs.Datagrams.{DatagramView, Pictures, Opens, datagram, datagrams_of, nonce_named, accepting, unsealed, datagram_fault};
 
+use crate::parts::key_and_nonce;
 use crate::window::Ring;
-use crate::{DatagramFault, SendFault, Transport, Window};
+use crate::{DatagramFault, DatagramParts, SendFault, Transport, Window};
 use noise_handshake::Opened;
 use noise_names::Role;
 use noise_state::CipherState;
@@ -93,6 +95,41 @@ impl Datagrams {
             sending,
             receiving,
             recent: Ring::new(window),
+        }
+    }
+
+    /// What they hold, for a caller that keeps it itself until the next datagram.
+    pub fn into_parts(self) -> DatagramParts
+        ensures { datagrams_in result ≡ self }
+    {
+        let (send_key, send_nonce) = key_and_nonce(self.sending);
+        let (receive_key, _) = key_and_nonce(self.receiving);
+        let (window, greatest, words) = self.recent.into_parts();
+        DatagramParts {
+            role: self.role,
+            one_way: self.one_way,
+            send_key,
+            send_nonce,
+            receive_key,
+            window,
+            greatest,
+            words,
+        }
+    }
+
+    /// The datagrams that hold these parts: they stand for what those stood for that were taken apart.
+    ///
+    /// Datagrams that were taken apart are put together once: two of them would seal at the same nonce.
+    pub fn from_parts(parts: DatagramParts) -> Datagrams
+        ensures { result ≡ datagrams_in parts }
+    {
+        let words = parts.words;
+        Datagrams {
+            role: parts.role,
+            one_way: parts.one_way,
+            sending: CipherState::from_parts(Some(parts.send_key), parts.send_nonce),
+            receiving: CipherState::from_parts(Some(parts.receive_key), 0),
+            recent: Ring::from_parts(parts.window, parts.greatest, words),
         }
     }
 

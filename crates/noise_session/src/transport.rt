@@ -8,9 +8,11 @@ ghost use Rattle.noise_state.specs.History.{rekeyed_times};
 ghost use Rattle.noise_handshake.specs.View.{View};
 ghost use Rattle.noise_handshake.specs.Opening.{Opens};
 ghost use Rattle.noise_session.specs.Transport.{renewals};
+ghost use Rattle.noise_session.specs.Parts.{transport_in};
 ghost use Rattle.noise_session.specs.HeldTransport.{TransportView, TransportStands, transport_of, next_packet, due_packet, seal_fault, open_fault, no_packet};
 
-use crate::{OpenFault, SendFault};
+use crate::parts::key_and_nonce;
+use crate::{OpenFault, SendFault, TransportParts};
 use noise_handshake::Opened;
 use noise_names::Role;
 use noise_state::{CipherFault, CipherState};
@@ -83,6 +85,44 @@ impl Transport {
             interval,
             sending,
             receiving,
+        }
+    }
+
+    /// What it holds, for a caller that keeps it itself until the next message.
+    pub fn into_parts(self) -> TransportParts
+        ensures { transport_in result ≡ self }
+    {
+        let hash = self.hash;
+        let (send_key, send_nonce) = key_and_nonce(self.sending);
+        let (receive_key, receive_nonce) = key_and_nonce(self.receiving);
+        TransportParts {
+            role: self.role,
+            one_way: self.one_way,
+            hash,
+            remote_static: self.remote_static,
+            interval: self.interval,
+            send_key,
+            send_nonce,
+            receive_key,
+            receive_nonce,
+        }
+    }
+
+    /// The transport that holds these parts: it stands for what the transport stood for that was taken apart.
+    ///
+    /// A transport that was taken apart is put together once: two of them would seal at the same nonce.
+    pub fn from_parts(parts: TransportParts) -> Transport
+        ensures { result ≡ transport_in parts }
+    {
+        let hash = parts.hash;
+        Transport {
+            role: parts.role,
+            one_way: parts.one_way,
+            hash,
+            remote_static: parts.remote_static,
+            interval: parts.interval,
+            sending: CipherState::from_parts(Some(parts.send_key), parts.send_nonce),
+            receiving: CipherState::from_parts(Some(parts.receive_key), parts.receive_nonce),
         }
     }
 

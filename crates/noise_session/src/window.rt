@@ -83,6 +83,28 @@ impl Ring {
         }
     }
 
+    // The window, the greatest accepted nonce, and the words.
+    pub(crate) fn into_parts(self) -> (Window, u64, [u64; MOST_WORDS])
+        ensures { self ≡ record { window = result.0; greatest = result.1; words = result.2 } }
+    {
+        let Ring {
+            window,
+            greatest,
+            words,
+        } = self;
+        (window, greatest, words)
+    }
+
+    pub(crate) fn from_parts(window: Window, greatest: u64, words: [u64; MOST_WORDS]) -> Ring
+        ensures { result ≡ record { window = window; greatest = greatest; words = words } }
+    {
+        Ring {
+            window,
+            greatest,
+            words,
+        }
+    }
+
     // Why no datagram of this nonce is opened.
     pub(crate) fn refusal(&self, nonce: u64) -> Option<DatagramFault>
         ensures { (accepted : List ℕ) → Recalls self.now accepted → result ≡ window_fault (width_of self.now.window) accepted nonce }

@@ -8,6 +8,10 @@ use Rattle.noise_state.specs.declared.cipher.CipherFault.TheVariants.{Exhausted,
 abbrev pub key_in : CipherState → Option (List ℕ)
 key_in c = c.key
 
+-- the cipher state of a key, or of none, and a nonce
+abbrev pub cipher_of : Option (List ℕ) → ℕ → CipherState
+cipher_of key nonce = record { key = key; nonce = nonce }
+
 -- whether there is one
 abbrev pub keyed_in : CipherState → Bool
 keyed_in c = is_some (key_in c)

@@ -2,6 +2,8 @@
 use Rattle.std.specs.Prelude.{◌≡◌, ℕ, Bool, List, Option, is_some}
 use Rattle.std.proofs.Common.{ap}
 use Rattle.noise_state.specs.declared.symmetric.SymmetricState.{SymmetricState}
+use Rattle.noise_state.specs.declared.symmetric.StateParts.{StateParts}
+use Rattle.noise_state.specs.Cipher.{cipher_of}
 use Rattle.noise_state.specs.History.{History, chaining_key, hash, cipher_key, nonce}
 
 -- whether a key is there
@@ -11,6 +13,10 @@ keyed s = is_some s.cipher.key
 -- the nonce of the next encryption or decryption
 abbrev pub nonce_now : SymmetricState → ℕ
 nonce_now s = s.cipher.nonce
+
+-- the state of these parts
+abbrev pub state_of : StateParts → SymmetricState
+state_of p = record { chaining_key = p.chaining_key; hash = p.hash; cipher = cipher_of p.key p.nonce }
 
 -- the state is the one that the history leads to
 pub record StateStands (s : SymmetricState) (r : History) : Type 0 where

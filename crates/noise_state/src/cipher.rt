@@ -40,7 +40,7 @@ pub struct CipherState {
 }
 
 impl CipherState {
-    ghost use Rattle.noise_state.specs.Cipher.{key_in, keyed_in, nonce_in, sealed_len, next_nonce, HasNonce, EncryptRefused, DecryptRefused};
+    ghost use Rattle.noise_state.specs.Cipher.{cipher_of, key_in, keyed_in, nonce_in, sealed_len, next_nonce, HasNonce, EncryptRefused, DecryptRefused};
 
     /// A cipher state without a key, at nonce 0.
     pub fn empty() -> CipherState
@@ -62,6 +62,21 @@ impl CipherState {
             key: Some(key),
             nonce: 0,
         }
+    }
+
+    /// Its key, or none, and its nonce, for a caller that keeps the two itself until the next use.
+    pub fn into_parts(self) -> (Option<[u8; 32]>, u64)
+        ensures { cipher_of result.0 result.1 ≡ self }
+    {
+        (self.key, self.nonce)
+    }
+
+    /// The cipher state of a key, or of none, and a nonce: those of the state that was taken apart,
+    /// which can't be put together twice. A nonce that was used before must not be used again.
+    pub fn from_parts(key: Option<[u8; 32]>, nonce: u64) -> CipherState
+        ensures { result ≡ cipher_of key nonce }
+    {
+        CipherState { key, nonce }
     }
 
     // The same state again, for the trial of a symmetric state.

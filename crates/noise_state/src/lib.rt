@@ -23,4 +23,4 @@ mod tests;
 
 pub use cipher::{CipherFault, CipherState};
 pub use laws::{length_of_hash, length_of_piece, piece_same};
-pub use symmetric::SymmetricState;
+pub use symmetric::{StateParts, SymmetricState};

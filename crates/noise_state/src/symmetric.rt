@@ -33,6 +33,18 @@ fn hash_of_both(hash: &[u8; 32], text: &[u8]) -> [u8; 32]
     hasher.finalize()
 }
 
+/// What a symmetric state holds (Noise 5.2), for a caller that keeps it itself between two messages.
+#[derive(Drop)]
+pub struct StateParts {
+    pub chaining_key: [u8; 32],
+    /// The handshake hash.
+    pub hash: [u8; 32],
+    /// The cipher key, if there is one.
+    pub key: Option<[u8; 32]>,
+    /// The nonce of the next use of the key.
+    pub nonce: u64,
+}
+
 /// The state of a handshake's key schedule (Noise 5.2). It stands for a history: the protocol name,
 /// and what was mixed and encrypted since.
 ///
@@ -45,7 +57,7 @@ pub struct SymmetricState {
 }
 
 impl SymmetricState {
-    ghost use Rattle.noise_state.specs.Standing.{StateStands, keyed, nonce_now};
+    ghost use Rattle.noise_state.specs.Standing.{StateStands, keyed, nonce_now, state_of};
     ghost use Rattle.noise_state.specs.Cipher.{key_in, nonce_in, sealed_len, next_nonce, HasNonce, EncryptRefused, DecryptRefused};
 
     /// The state of a protocol name, with nothing mixed and no key (InitializeSymmetric).
@@ -74,6 +86,41 @@ impl SymmetricState {
             chaining_key: self.chaining_key,
             hash: self.hash,
             cipher: self.cipher.for_trial(),
+        }
+    }
+
+    /// What it holds.
+    pub fn into_parts(self) -> StateParts
+        ensures { state_of result ≡ self }
+    {
+        let SymmetricState {
+            chaining_key,
+            hash,
+            cipher,
+        } = self;
+        let (key, nonce) = cipher.into_parts();
+        StateParts {
+            chaining_key,
+            hash,
+            key,
+            nonce,
+        }
+    }
+
+    /// The state of these parts: it stands for what the state stood for that was taken apart.
+    pub fn from_parts(parts: StateParts) -> SymmetricState
+        ensures { result ≡ state_of parts }
+    {
+        let StateParts {
+            chaining_key,
+            hash,
+            key,
+            nonce,
+        } = parts;
+        SymmetricState {
+            chaining_key,
+            hash,
+            cipher: CipherState::from_parts(key, nonce),
         }
     }
 

@@ -1,17 +1,22 @@
 -- What the private functions of reading say of a party that listens.
-use Rattle.std.specs.Prelude.{◌≡◌, ℕ, List, ◌++◌, Bool, Option, is_some, if◌then◌else◌}
+use Rattle.std.specs.Prelude.{◌≡◌, ℕ, List, ◌++◌, take, Bool, Option, is_some, if◌then◌else◌}
 use Rattle.noise_names.specs.declared.token.Token.{Token}
 use Rattle.noise_names.specs.declared.token.Role.{Role}
 use Rattle.noise_names.specs.Plan.{has_psk}
 use Rattle.noise_state.specs.History.{History, cipher_key}
 use Rattle.noise_handshake.specs.declared.keys.Own.{Own}
 use Rattle.noise_handshake.specs.declared.remote.Remote.{Remote}
+use Rattle.noise_handshake.specs.declared.faults.Cause.{Cause}
 use Rattle.noise_handshake.specs.Line.{token_piece}
-use Rattle.noise_handshake.specs.View.{View, Reader, Fits, Listens, tokens_now}
+use Rattle.noise_handshake.specs.View.{View, Reader, Fits, Listens, Stops, learned, tokens_now}
 
 -- no text of token t fits here
 abbrev pub Fails : Reader → Remote → List (List ℕ) → History → Token → List ℕ → Type 0
 Fails v known secrets r t m = (x rest : List ℕ) → Fits v known secrets t x → m ≡ token_piece r t x ++ rest → ⊥
+
+-- Reading stops at token k for this cause, and these keys of the other party are known there.
+abbrev pub StopsKnowing : Reader → Remote → List (List ℕ) → History → List Token → List ℕ → ℕ → Cause → Remote → Type 0
+StopsKnowing v known secrets r ts m k cause here = (s : Stops v known secrets r ts m k cause) × (here ≡ learned known (take k ts) s.carried)
 
 -- how many bytes a static key takes
 abbrev pub width_of_key : History → ℕ

@@ -104,9 +104,9 @@ returns-in-Err-clause-read g t c r place s within are =
     let u = first-placed psks key place c.args.placed.now first c.in-Some.later.now c.in-Some.ensures.cases.0 are in
     let here : c.bytes_from-rest.result.now ≡ drop place m = c.bytes_from-rest.ensures ∙ ap (λ (k : ℕ). drop k m) u.0 in
     let d = c.in-Err.ensures.read r s in
-    stopped v c.args.known.now c.args.secrets.now r (tokens_of c.args.placed.now) later token (drop place m) c.in-Err.cause split
+    stopped v c.args.known.now c.args.secrets.now r (tokens_of c.args.placed.now) later token (drop place m) c.in-Err.cause c.read_token.new.known split
     (subst (λ (z : List ℕ). Fails v c.args.known.now c.args.secrets.now r token z) here d.0)
-    (subst (λ (z : List ℕ). c.in-Err.cause ≡ cause_of (is_some (cipher_key r)) token z) here d.1)
+    (subst (λ (z : List ℕ). c.in-Err.cause ≡ cause_of (is_some (cipher_key r)) token z) here d.1) c.in-Err.ensures.unchanged
 
 pub returns-in-Ok-read_tokens-clause-read : goal.returns-in-Ok-read_tokens-clause-read
 returns-in-Ok-read_tokens-clause-read g t c r place s within are =
@@ -175,7 +175,7 @@ returns-in-Err-read_tokens-clause-read g t c r place s within are =
     stopped-later v c.args.known.now c.read_token.new.known c.args.secrets.now c.secrets_behind-others.result.now r
     (tokens_of c.args.placed.now) later token d.0
     rest (drop (place + first.width) m) n split d.1 spelled d.4 c.secrets_behind-others.ensures goes
-    c.in-Err-read_tokens.k c.in-Err-read_tokens.cause c.in-Err-read_tokens.ensures.stop i
+    c.in-Err-read_tokens.k c.in-Err-read_tokens.cause c.read_tokens.new.known c.in-Err-read_tokens.ensures.stop i
 
 pub returns-in_default-clause-read : goal.returns-in_default-clause-read
 returns-in_default-clause-read g t c r place s within are =

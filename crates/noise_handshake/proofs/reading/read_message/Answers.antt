@@ -78,4 +78,4 @@ returns-in-Err-Short-clause-read g c r s =
     (length-tokens_of c.args.placed.now) last
 
 pub returns-in-Err-clause-read : goal.returns-in-Err-clause-read
-returns-in-Err-clause-read g c r s = c.in-Err.ensures.read r 0 s (omega arith) c.requires.placed
+returns-in-Err-clause-read g c r s = (c.in-Err.ensures.read r 0 s (omega arith) c.requires.placed).0

@@ -1,0 +1,191 @@
+-- Which DH answer the next message lacks: writing.
+use Rattle.std.proofs.Common.{◌≡◌, ℕ, zero, suc, ◌<◌, ◌≤◌, List, [], ◌∷◌, length, take, refl, ap, sym, subst, ◌∙◌, arith}
+use Rattle.std.specs.Prelude.{Bool, true, false, not, ◌&&◌, ◌==◌, Option, Some, None, is_some, IsTrue, MatchOption}
+use Rattle.std.proofs.lemmas.Bool.Decides.{nat_tests}
+use Rattle.noise_names.specs.declared.token.Token.{Token}
+use Rattle.noise_names.specs.declared.token.Role.{Role}
+use Rattle.noise_names.specs.declared.token.Role.TheVariants.{Initiator, Responder}
+use Rattle.noise_names.specs.Tokens.{same_role, turn_from}
+use Rattle.noise_names.specs.Plan.{Plan, has_psk}
+use Rattle.noise_handshake.specs.declared.keys.Own.{Own}
+use Rattle.noise_handshake.specs.declared.remote.Remote.{Remote}
+use Rattle.noise_handshake.specs.Held.{Held, is_turn}
+use Rattle.noise_handshake.specs.Party.{Stands}
+use Rattle.noise_handshake.specs.View.{View, Speaks, own_at, remote_at, secrets_behind, tokens_now}
+use Rattle.noise_handshake.specs.Wanting.{LacksFor, WantsToWrite}
+use Rattle.noise_handshake.specs.Writing.{Writer, writer, Gives, Given, LacksAt, Lacks}
+use Rattle.noise_handshake.specs.inner.Known.{remote_known}
+use Rattle.noise_handshake.specs.inner.Speaking.{Speaking}
+use Rattle.noise_handshake.proofs.Giving.{lacks-later}
+use Rattle.noise_handshake.proofs.Knowing.{is_some-remote}
+use Rattle.noise_handshake.proofs.Wrote.{for-view}
+
+-- no tokens lack nothing
+pub lacks-none : (w : Writer) (known : Remote) (secrets : List (List ℕ)) (ts : List Token) (k : ℕ) → ts ≡ [] → LacksAt w known secrets ts k → ⊥
+lacks-none w known secrets ts k e l = omega (arith, l.within, ap length e)
+
+lacks-tail : (w : Writer) (known : Remote) (secrets : List (List ℕ)) (t : Token) (ts : List Token) (x : List ℕ) (k : ℕ) (xs : List (List ℕ))
+    → k < length ts → Gives w known secrets t x → Given w known secrets (take (suc k) (t ∷ ts)) xs
+    → ((ys : List (List ℕ)) → Given w known secrets (take (suc (suc k)) (t ∷ ts)) ys → ⊥) → LacksAt w known (secrets_behind secrets t) ts k
+lacks-tail w known secrets t ts x k [] h g given none = absurd given
+lacks-tail w known secrets t ts x k (y ∷ ys) h g given none = record {
+  within = h;
+  before = ys;
+  given = given.1;
+  none = λ zs z. none (x ∷ zs) (g, z);
+}
+
+-- where the first token has its text the others lack what all lack
+lacks-behind : (w : Writer) (known : Remote) (secrets : List (List ℕ)) (t : Token) (ts : List Token) (x : List ℕ) → Gives w known secrets t x
+    → ((k : ℕ) → LacksAt w known (secrets_behind secrets t) ts k → ⊥) → (k : ℕ) → LacksAt w known secrets (t ∷ ts) k → ⊥
+lacks-behind w known secrets t ts x g f zero l = l.none (x ∷ []) (g, tt)
+lacks-behind w known secrets t ts x g f (suc k) l =
+    f k (lacks-tail w known secrets t ts x k l.before (omega (arith, l.within)) g l.given l.none)
+
+later-one : (w : Writer) (known : Remote) (secrets : List (List ℕ)) (t : Token) (ts : List Token) (x : List ℕ) → Gives w known secrets t x
+    → (o : Option (Own × List ℕ))
+    → MatchOption o ((k : ℕ) → LacksAt w known (secrets_behind secrets t) ts k → ⊥) (λ want. LacksFor w known (secrets_behind secrets t) ts want.0 want.1)
+    → MatchOption o ((k : ℕ) → LacksAt w known secrets (t ∷ ts) k → ⊥) (λ want. LacksFor w known secrets (t ∷ ts) want.0 want.1)
+later-one w known secrets t ts x g None h = lacks-behind w known secrets t ts x g h
+later-one w known secrets t ts x g (Some want) h = record {
+  before = t ∷ h.before;
+  token = h.token;
+  later = h.later;
+  tokens = ap (λ (us : List Token). t ∷ us) h.tokens;
+  lacks = lacks-later w known secrets t ts x (length h.before) g h.lacks;
+  own_is = h.own_is;
+  key_is = h.key_is;
+}
+
+-- what the later tokens lack
+pub asked-later : (w : Writer) (known : Remote) (secrets others : List (List ℕ)) (tokens ts : List Token) (t : Token) (x : List ℕ) → tokens ≡ t ∷ ts
+    → others ≡ secrets_behind secrets t → Gives w known secrets t x → (o : Option (Own × List ℕ))
+    → MatchOption o ((k : ℕ) → LacksAt w known others ts k → ⊥) (λ want. LacksFor w known others ts want.0 want.1)
+    → MatchOption o ((k : ℕ) → LacksAt w known secrets tokens k → ⊥) (λ want. LacksFor w known secrets tokens want.0 want.1)
+asked-later w known secrets others tokens ts t x e f g o h =
+    let h1 = subst (λ (z : List (List ℕ)). MatchOption o ((k : ℕ) → LacksAt w known z ts k → ⊥) (λ want. LacksFor w known z ts want.0 want.1)) f h in
+    subst (λ (us : List Token). MatchOption o ((k : ℕ) → LacksAt w known secrets us k → ⊥) (λ want. LacksFor w known secrets us want.0 want.1)) (sym e)
+    (later-one w known secrets t ts x g o h1)
+
+first-lacks : (w : Writer) (known : Remote) (secrets : List (List ℕ)) (t : Token) (ts : List Token)
+    → ((x : List ℕ) → Gives w known secrets t x → ⊥) → LacksAt w known secrets (t ∷ ts) 0
+first-lacks w known secrets t ts bad = record { within = omega arith; before = []; given = tt; none = no-text }
+  where
+    no-text : (xs : List (List ℕ)) → Given w known secrets (take 1 (t ∷ ts)) xs → ⊥
+    no-text [] h = h
+    no-text (x ∷ xs) h = bad x h.0
+
+none-some : (o : Option (List ℕ)) → is_some o ≡ true → o ≡ None → ⊥
+none-some (Some x) h e = cc
+none-some None h e = cc
+
+first-one : (w : Writer) (known : Remote) (secrets : List (List ℕ)) (t : Token) (ts : List Token) → ((x : List ℕ) → Gives w known secrets t x → ⊥)
+    → IsTrue (remote_known w.role (is_some known.e) (is_some known.s) t) → (o : Option (Own × List ℕ))
+    → MatchOption o (remote_at w.role known t ≡ None) (λ want. (want.0 ≡ own_at w.role t) × (remote_at w.role known t ≡ Some want.1))
+    → MatchOption o ((k : ℕ) → LacksAt w known secrets (t ∷ ts) k → ⊥) (λ want. LacksFor w known secrets (t ∷ ts) want.0 want.1)
+first-one w known secrets t ts bad dh None h = absurd (none-some (remote_at w.role known t) (is_some-remote w.role known t ∙ dh) h)
+first-one w known secrets t ts bad dh (Some want) h = record {
+  before = [];
+  token = t;
+  later = ts;
+  tokens = refl;
+  lacks = first-lacks w known secrets t ts bad;
+  own_is = h.0;
+  key_is = h.1;
+}
+
+-- what the first token lacks
+pub asked-first : (w : Writer) (known : Remote) (secrets : List (List ℕ)) (tokens ts : List Token) (t : Token) → tokens ≡ t ∷ ts
+    → ((x : List ℕ) → Gives w known secrets t x → ⊥)
+    → IsTrue (remote_known w.role (is_some known.e) (is_some known.s) t) → (o : Option (Own × List ℕ))
+    → MatchOption o (remote_at w.role known t ≡ None) (λ want. (want.0 ≡ own_at w.role t) × (remote_at w.role known t ≡ Some want.1))
+    → MatchOption o ((k : ℕ) → LacksAt w known secrets tokens k → ⊥) (λ want. LacksFor w known secrets tokens want.0 want.1)
+asked-first w known secrets tokens ts t e bad dh o h =
+    subst (λ (us : List Token). MatchOption o ((k : ℕ) → LacksAt w known secrets us k → ⊥) (λ want. LacksFor w known secrets us want.0 want.1)) (sym e)
+    (first-one w known secrets t ts bad dh o h)
+
+-- ---- whether a message of this party is due
+
+same-role : (a b : Role) → same_role a b ≡ true → a ≡ b
+same-role Initiator Initiator e = refl
+same-role Initiator Responder e = absurd (cc)
+same-role Responder Initiator e = absurd (cc)
+same-role Responder Responder e = refl
+
+same-self : (a b : Role) → a ≡ b → same_role a b ≡ true
+same-self Initiator Initiator e = refl
+same-self Initiator Responder e = absurd (cc)
+same-self Responder Initiator e = absurd (cc)
+same-self Responder Responder e = refl
+
+tests-of : (ended all ours : Bool) → (not ended && not all && ours) ≡ true → (ended ≡ false) × (all ≡ false) × (ours ≡ true)
+tests-of true all ours e = absurd (cc)
+tests-of false true ours e = absurd (cc)
+tests-of false false true e = (refl, refl, refl)
+tests-of false false false e = absurd (cc)
+
+tests-all : (ended all ours : Bool) → ended ≡ false → all ≡ false → ours ≡ true → (not ended && not all && ours) ≡ true
+tests-all true all ours e a o = absurd (cc)
+tests-all false true ours e a o = absurd (cc)
+tests-all false false true e a o = refl
+tests-all false false false e a o = absurd (cc)
+
+module _ {K : Type 0} (h : Held K) where
+  abbrev is-due : Bool
+  is-due = not h.ended && not (h.passed == length h.pattern.messages) && is_turn h.role h.passed
+
+  pub due-within : h.passed ≤ length h.pattern.messages → is-due ≡ true → h.passed < length h.pattern.messages
+  due-within w e =
+      let unequal : (h.passed == length h.pattern.messages) ≡ false =
+      (tests-of h.ended (h.passed == length h.pattern.messages) (is_turn h.role h.passed) e).1 in
+      grind (arith, nat_tests)
+
+  pub due-turn : is-due ≡ true → turn_from Initiator h.passed ≡ h.role
+  due-turn e = same-role (turn_from Initiator h.passed) h.role (tests-of h.ended (h.passed == length h.pattern.messages) (is_turn h.role h.passed) e).2
+
+  module _ (public_of : K → Own → Option (List ℕ)) (agreement : K → Own → List ℕ → Option (List ℕ)) (v : View) (s : Stands public_of agreement h v) where
+    pub due-here : Speaks v → is-due ≡ true
+    due-here l =
+        let less : h.passed < length h.pattern.messages =
+        subst (λ (k : ℕ). k < length h.pattern.messages) (sym s.passed) (subst (λ (p : Plan). v.passed < length p.messages) (sym s.pattern) l.more) in
+        let all : (h.passed == length h.pattern.messages) ≡ false = grind (arith, nat_tests) in
+        tests-all h.ended (h.passed == length h.pattern.messages) (is_turn h.role h.passed) (s.ended ∙ l.going) all
+        (same-self (turn_from Initiator h.passed) h.role (ap (turn_from Initiator) s.passed ∙ l.turn ∙ sym s.role))
+
+    pub due-speaking : h.passed ≤ length h.pattern.messages → is-due ≡ true → (psks : Bool) (secrets : List (List ℕ)) (tokens : List Token)
+        → psks ≡ has_psk h.pattern → secrets ≡ h.secrets → tokens ≡ tokens_now v
+        → Speaking v h.role psks (public_of h.keys) (agreement h.keys) secrets h.remote tokens
+    due-speaking w e psks secrets tokens b d f = record {
+      speaks = record {
+        going = sym s.ended ∙ (tests-of h.ended (h.passed == length h.pattern.messages) (is_turn h.role h.passed) e).0;
+        more = subst (λ (k : ℕ). k < length v.pattern.messages) s.passed
+            (subst (λ (p : Plan). h.passed < length p.messages) s.pattern (due-within w e));
+        turn = ap (turn_from Initiator) (sym s.passed) ∙ due-turn e ∙ s.role;
+      };
+      role_is = s.role;
+      psks_is = b ∙ ap has_psk s.pattern;
+      own_is = s.own;
+      agree_is = s.agree;
+      secrets_are = d ∙ s.secrets;
+      known_is = s.remote;
+      tokens_are = f;
+    }
+
+-- ---- for a party that speaks
+
+wants-of : (v : View) (o : Option (Own × List ℕ)) → Speaks v
+    → MatchOption o ((k : ℕ) → LacksAt (writer v) v.remote v.secrets (tokens_now v) k → ⊥)
+    (λ want. LacksFor (writer v) v.remote v.secrets (tokens_now v) want.0 want.1)
+    → MatchOption o ((k : ℕ) → Lacks v k → ⊥) (λ want. WantsToWrite v want.0 want.1)
+wants-of v None l h = λ k lacks. h k lacks.lacks
+wants-of v (Some want) l h = record { speaks = l; lacks = h }
+
+pub wants : (v : View) (o : Option (Own × List ℕ)) (role : Role) (psks : Bool) (own : Own → Option (List ℕ))
+    (agree : Own → List ℕ → Option (List ℕ)) (secrets : List (List ℕ)) (known : Remote) (ts : List Token)
+    → Speaking v role psks own agree secrets known ts
+    → MatchOption o ((k : ℕ) → LacksAt (record { role = role; psks = psks; own = own; agree = agree }) known secrets ts k → ⊥)
+    (λ want. LacksFor (record { role = role; psks = psks; own = own; agree = agree }) known secrets ts want.0 want.1)
+    → MatchOption o ((k : ℕ) → Lacks v k → ⊥) (λ want. WantsToWrite v want.0 want.1)
+wants v o role psks own agree secrets known ts l h =
+    wants-of v o l.speaks (for-view v role psks own agree secrets known ts l
+    (λ w z s us. MatchOption o ((k : ℕ) → LacksAt w z s us k → ⊥) (λ want. LacksFor w z s us want.0 want.1)) h)

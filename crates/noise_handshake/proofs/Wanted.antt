@@ -1,0 +1,241 @@
+-- Which DH answer the next message lacks: reading.
+use Rattle.std.proofs.Common.{◌≡◌, ℕ, zero, suc, ◌+◌, ◌<◌, ◌≤◌, List, [], ◌∷◌, ◌++◌, length, take, drop, get_or, refl, ap, sym, subst, ◌∙◌, arith}
+use Rattle.std.proofs.Common.{append_assoc, drop-cons, add-one, length-take}
+use Rattle.std.proofs.lemmas.List.{take-append-drop}
+use Rattle.std.proofs.Math.Seq.{take-append_seam}
+use Rattle.std.specs.Prelude.{Bool, true, false, ◌&&◌, Option, Some, None, is_some, nat_lt, if◌then◌else◌, MatchOption}
+use Rattle.noise_names.specs.declared.token.Token.{Token}
+use Rattle.noise_names.specs.declared.token.Token.TheVariants.{E, S, Ee, Es, Se, Ss, Psk}
+use Rattle.noise_names.specs.declared.token.Role.{Role}
+use Rattle.noise_state.specs.History.{History, cipher_key}
+use Rattle.noise_handshake.specs.declared.keys.Own.{Own}
+use Rattle.noise_handshake.specs.declared.remote.Remote.{Remote}
+use Rattle.noise_handshake.specs.declared.faults.Cause.TheVariants.{Short, Tag, Agreement}
+use Rattle.noise_handshake.specs.declared.layout.PlacedToken.{PlacedToken}
+use Rattle.noise_handshake.specs.Line.{token_piece, behind_token, front, behind_front}
+use Rattle.noise_handshake.specs.View.{View, Reader, reader, Listens, Fit, Leads, Reaches, Stops, Refuses, known_behind, secrets_behind, learned}
+use Rattle.noise_handshake.specs.View.{first_secret, own_at, remote_at, cause_of, cause_at, tokens_now}
+use Rattle.noise_handshake.specs.Wanting.{StopsFor, WantsToRead}
+use Rattle.noise_handshake.specs.inner.Known.{is_known, are_known, e_behind, s_behind, e_behind_tokens, s_behind_tokens}
+use Rattle.noise_handshake.specs.inner.Layout.{tokens_of}
+use Rattle.noise_handshake.specs.inner.Listening.{Listening, StopsKnowing}
+use Rattle.noise_handshake.proofs.Apart.{leads-none, leads-more, reads-leads}
+use Rattle.noise_handshake.proofs.Knowing.{is_some-remote, known-dh}
+use Rattle.noise_handshake.proofs.Standing.{for-view}
+
+-- ---- a token of a list
+
+pub split-at : {X : Type 0} (xs : List X) (k : ℕ) (x : X) → k < length xs → x ≡ get_or xs k x → xs ≡ take k xs ++ x ∷ drop (k + 1) xs
+split-at xs k x h is = sym (take-append-drop k xs) ∙ ap (λ (ys : List _). take k xs ++ ys) (drop-cons xs k x h ∙ rw (← is, add-one k) refl)
+
+pub take-through : (before later : List Token) (t : Token) → take (suc (length before)) (before ++ t ∷ later) ≡ before ++ t ∷ []
+take-through [] later t = refl
+take-through (u ∷ before) later t = ap (λ (us : List Token). u ∷ us) (take-through before later t)
+
+-- the token at a place
+pub token-placed : (ps : List PlacedToken) (k : ℕ) (d : PlacedToken) → k < length ps
+    → (get_or ps k d).token ≡ get_or (tokens_of ps) k (get_or ps k d).token
+token-placed [] k d h = absurd (omega arith)
+token-placed (p ∷ ps) zero d h = refl
+token-placed (p ∷ ps) (suc k) d h = token-placed ps k d (omega arith)
+
+-- ---- what is known there
+
+left-true : (a b : Bool) → (a && b) ≡ true → a ≡ true
+left-true true b h = refl
+left-true false b h = cc
+
+right-true : (a b : Bool) → (a && b) ≡ true → b ≡ true
+right-true true b h = h
+right-true false b h = cc
+
+-- the remote key of a DH among tokens
+known-there : (role : Role) (e s : Bool) (before later : List Token) (t : Token) → are_known role e s (before ++ t ∷ later) ≡ true
+    → is_known role (e_behind_tokens e before) (s_behind_tokens s before) t ≡ true
+known-there role e s [] later t h = left-true (is_known role e s t) (are_known role (e_behind e t) (s_behind s t) later) h
+known-there role e s (u ∷ before) later t h =
+    known-there role (e_behind e u) (s_behind s u) before later t
+    (right-true (is_known role e s u) (are_known role (e_behind e u) (s_behind s u) (before ++ t ∷ later)) h)
+
+e-one : (known : Remote) (t : Token) (x : List ℕ) → is_some (known_behind known t x).e ≡ e_behind (is_some known.e) t
+e-one known E x = refl
+e-one known S x = refl
+e-one known Ee x = refl
+e-one known Es x = refl
+e-one known Se x = refl
+e-one known Ss x = refl
+e-one known Psk x = refl
+
+s-one : (known : Remote) (t : Token) (x : List ℕ) → is_some (known_behind known t x).s ≡ s_behind (is_some known.s) t
+s-one known E x = refl
+s-one known S x = refl
+s-one known Ee x = refl
+s-one known Es x = refl
+s-one known Se x = refl
+s-one known Ss x = refl
+s-one known Psk x = refl
+
+e-many : (v : Reader) (known : Remote) (secrets : List (List ℕ)) (ts : List Token) (xs : List (List ℕ)) → Fit v known secrets ts xs
+    → is_some (learned known ts xs).e ≡ e_behind_tokens (is_some known.e) ts
+e-many v known secrets [] xs f = refl
+e-many v known secrets (t ∷ ts) [] f = absurd f
+e-many v known secrets (t ∷ ts) (x ∷ xs) f =
+    e-many v (known_behind known t x) (secrets_behind secrets t) ts xs f.1 ∙ ap (λ (b : Bool). e_behind_tokens b ts) (e-one known t x)
+
+s-many : (v : Reader) (known : Remote) (secrets : List (List ℕ)) (ts : List Token) (xs : List (List ℕ)) → Fit v known secrets ts xs
+    → is_some (learned known ts xs).s ≡ s_behind_tokens (is_some known.s) ts
+s-many v known secrets [] xs f = refl
+s-many v known secrets (t ∷ ts) [] f = absurd f
+s-many v known secrets (t ∷ ts) (x ∷ xs) f =
+    s-many v (known_behind known t x) (secrets_behind secrets t) ts xs f.1 ∙ ap (λ (b : Bool). s_behind_tokens b ts) (s-one known t x)
+
+-- ---- why reading stops at a token
+
+no-short : Agreement ≡ Short → ⊥
+no-short e = cc
+
+no-cause : (b : Bool) → Agreement ≡ (if b then Short else Tag) → ⊥
+no-cause true e = cc
+no-cause false e = cc
+
+cause-there : (keyed : Bool) (before later : List Token) (t : Token) (rest : List ℕ) → cause_at keyed (before ++ t ∷ later) (length before) rest ≡ cause_of keyed t rest
+cause-there keyed [] later t rest = refl
+cause-there keyed (u ∷ before) later t rest = cause-there keyed before later t rest
+
+cause-end : (keyed : Bool) (ts : List Token) (k : ℕ) (rest : List ℕ) → length ts ≤ k → cause_at keyed ts k rest ≡ (if nat_lt (length rest) 16 then Short else Tag)
+cause-end keyed [] k rest h = refl
+cause-end keyed (t ∷ ts) zero rest h = absurd (omega arith)
+cause-end keyed (t ∷ ts) (suc k) rest h = cause-end keyed ts k rest (omega arith)
+
+below : (k n : ℕ) → (n ≤ k → ⊥) → k < n
+below k n f = grind arith
+
+-- for want of an answer it stops at a token
+stops-within : (v : Reader) (known : Remote) (secrets : List (List ℕ)) (r : History) (ts : List Token) (m : List ℕ) (k : ℕ)
+    → Stops v known secrets r ts m k Agreement → k < length ts
+stops-within v known secrets r ts m k s =
+    let keyed : Bool = is_some (cipher_key (behind_front v.psks r (take k ts) s.carried)) in
+    below k (length ts) (λ h. no-cause (nat_lt (length s.rest) 16) (s.why ∙ cause-end keyed ts k s.rest h))
+
+-- where all tokens are read it stops at none
+pub all-read : (v : Reader) (known : Remote) (secrets : List (List ℕ)) (r : History) (ts : List Token) (xs : List (List ℕ)) (m rest : List ℕ) (k : ℕ)
+    → Leads v known secrets r ts xs m rest → Stops v known secrets r ts m k Agreement → ⊥
+all-read v known secrets r ts xs m rest k l s =
+    s.further (stops-within v known secrets r ts m k s) (reads-leads v known secrets r ts xs m rest (suc k) l)
+
+-- a secret is always there
+psk-goes : (v : Reader) (known : Remote) (secrets : List (List ℕ)) (r : History) (before : List Token) (xs : List (List ℕ)) (m rest : List ℕ)
+    → Leads v known secrets r before xs m rest → Reaches v known secrets r (before ++ Psk ∷ []) m
+psk-goes v known secrets r [] xs m rest l = record {
+  carried = first_secret secrets ∷ [];
+  rest = m;
+  leads = leads-more v known secrets r Psk (first_secret secrets) [] [] m m m refl refl
+      (leads-none v known (secrets_behind secrets Psk) (behind_token v.psks r Psk (first_secret secrets)) m);
+}
+psk-goes v known secrets r (t ∷ before) [] m rest l = absurd l.fit
+psk-goes v known secrets r (t ∷ before) (x ∷ xs) m rest l =
+    let next : History = behind_token v.psks r t x in
+    let more : List ℕ = front v.psks next before xs ++ rest in
+    let e : m ≡ token_piece r t x ++ more = l.spelled ∙ append_assoc (token_piece r t x) (front v.psks next before xs) rest in
+    let i = psk-goes v (known_behind known t x) (secrets_behind secrets t) next before xs more rest (record { fit = l.fit.1; spelled = refl }) in
+    record {
+      carried = x ∷ i.carried;
+      rest = i.rest;
+      leads = leads-more v known secrets r t x (before ++ Psk ∷ []) i.carried m more i.rest l.fit.0 e i.leads;
+    }
+
+none-some : (o : Option (List ℕ)) → is_some o ≡ true → o ≡ None → ⊥
+none-some (Some x) h e = cc
+none-some None h e = cc
+
+-- ---- the answer that is wanted
+
+module _ (v : Reader) (known : Remote) (secrets : List (List ℕ)) (r : History) (m : List ℕ) (before later : List Token) (t : Token)
+    (knows : are_known v.role (is_some known.e) (is_some known.s) (before ++ t ∷ later) ≡ true)
+    (s : Stops v known secrets r (before ++ t ∷ later) m (length before) Agreement) where
+  abbrev keyed-there : Bool
+  keyed-there = is_some (cipher_key (behind_front v.psks r (take (length before) (before ++ t ∷ later)) s.carried))
+
+  leads : Leads v known secrets r before s.carried m s.rest
+  leads = subst (λ (us : List Token). Leads v known secrets r us s.carried m s.rest) (take-append_seam before (t ∷ later)) s.leads
+
+  why : Agreement ≡ cause_of keyed-there t s.rest
+  why = s.why ∙ cause-there keyed-there before later t s.rest
+
+  on : Reaches v known secrets r (before ++ t ∷ []) m → ⊥
+  on h = s.further (stops-within v known secrets r (before ++ t ∷ later) m (length before) s)
+      (subst (λ (us : List Token). Reaches v known secrets r us m) (sym (take-through before later t)) h)
+
+  here : is_known v.role (is_some (learned known before s.carried).e) (is_some (learned known before s.carried).s) t ≡ true
+  here =
+      let h = known-there v.role (is_some known.e) (is_some known.s) before later t knows in
+      subst (λ (b : Bool). is_known v.role b (is_some (learned known before s.carried).s) t ≡ true)
+      (sym (e-many v known secrets before s.carried leads.fit))
+      (subst (λ (b : Bool). is_known v.role (e_behind_tokens (is_some known.e) before) b t ≡ true)
+      (sym (s-many v known secrets before s.carried leads.fit)) h)
+
+  -- the token is a DH, whose remote key is known there
+  remote-there : remote_at v.role (learned known before s.carried) t ≡ None → ⊥
+  remote-there =
+      none-some (remote_at v.role (learned known before s.carried) t)
+      (is_some-remote v.role (learned known before s.carried) t
+      ∙ known-dh v.role (is_some (learned known before s.carried).e) (is_some (learned known before s.carried).s) t
+      (λ e. no-short (why ∙ ap (λ (u : Token). cause_of keyed-there u s.rest) e))
+      (λ e. no-cause (nat_lt (length s.rest) (if keyed-there then 48 else 32)) (why ∙ ap (λ (u : Token). cause_of keyed-there u s.rest) e))
+      (λ e. on (subst (λ (u : Token). Reaches v known secrets r (before ++ u ∷ []) m) (sym e) (psk-goes v known secrets r before s.carried m s.rest leads)))
+      here)
+
+  asked-there : (o : Option (Own × List ℕ))
+      → MatchOption o (remote_at v.role (learned known before s.carried) t ≡ None)
+      (λ want. (want.0 ≡ own_at v.role t) × (remote_at v.role (learned known before s.carried) t ≡ Some want.1))
+      → MatchOption o ((j : ℕ) → Stops v known secrets r (before ++ t ∷ later) m j Agreement → ⊥)
+      (λ want. StopsFor v known secrets r (before ++ t ∷ later) m want.0 want.1)
+  asked-there None h = absurd (remote-there h)
+  asked-there (Some want) h = record {
+    before = before;
+    token = t;
+    later = later;
+    tokens = refl;
+    stops = s;
+    own_is = h.0;
+    key_is = h.1;
+  }
+
+-- what is asked at the token where reading stops
+pub asked : (v : Reader) (known here : Remote) (secrets : List (List ℕ)) (r : History) (ts : List Token) (m : List ℕ) (k : ℕ) (t : Token)
+    → k < length ts → t ≡ get_or ts k t → are_known v.role (is_some known.e) (is_some known.s) ts ≡ true
+    → StopsKnowing v known secrets r ts m k Agreement here → (o : Option (Own × List ℕ))
+    → MatchOption o (remote_at v.role here t ≡ None) (λ want. (want.0 ≡ own_at v.role t) × (remote_at v.role here t ≡ Some want.1))
+    → MatchOption o ((j : ℕ) → Stops v known secrets r ts m j Agreement → ⊥) (λ want. StopsFor v known secrets r ts m want.0 want.1)
+asked v known here secrets r ts m k t less is knows s o h =
+    let before : List Token = take k ts in
+    let later : List Token = drop (k + 1) ts in
+    let split : ts ≡ before ++ t ∷ later = split-at ts k t less is in
+    let count : k ≡ length before = omega (arith, length-take k ts, less) in
+    let s1 = subst (λ (us : List Token). StopsKnowing v known secrets r us m k Agreement here) split s in
+    let s2 = subst (λ (i : ℕ). StopsKnowing v known secrets r (before ++ t ∷ later) m i Agreement here) count s1 in
+    let same : here ≡ learned known before s2.0.carried =
+    s2.1 ∙ ap (λ (us : List Token). learned known us s2.0.carried) (take-append_seam before (t ∷ later)) in
+    let knows1 = subst (λ (us : List Token). are_known v.role (is_some known.e) (is_some known.s) us ≡ true) split knows in
+    let h1 = subst (λ (z : Remote). MatchOption o (remote_at v.role z t ≡ None)
+    (λ want. (want.0 ≡ own_at v.role t) × (remote_at v.role z t ≡ Some want.1))) same h in
+    subst (λ (us : List Token). MatchOption o ((j : ℕ) → Stops v known secrets r us m j Agreement → ⊥)
+    (λ want. StopsFor v known secrets r us m want.0 want.1)) (sym split)
+    (asked-there v known secrets r m before later t knows1 s2.0 o h1)
+
+-- for a party that listens
+wants-of : (v : View) (m : List ℕ) (o : Option (Own × List ℕ)) → Listens v
+    → MatchOption o ((j : ℕ) → Stops (reader v) v.remote v.secrets v.history (tokens_now v) m j Agreement → ⊥)
+    (λ want. StopsFor (reader v) v.remote v.secrets v.history (tokens_now v) m want.0 want.1)
+    → MatchOption o ((j : ℕ) → Refuses v m j Agreement → ⊥) (λ want. WantsToRead v m want.0 want.1)
+wants-of v m None l h = λ j refuses. h j refuses.stops
+wants-of v m (Some want) l h = record { listens = l; stops = h }
+
+pub wants : (v : View) (m : List ℕ) (o : Option (Own × List ℕ)) (role : Role) (psks : Bool) (agree : Own → List ℕ → Option (List ℕ))
+    (secrets : List (List ℕ)) (known : Remote) (ts : List Token) → Listening v role psks agree secrets known ts
+    → MatchOption o ((j : ℕ) → Stops (record { role = role; psks = psks; agree = agree }) known secrets v.history ts m j Agreement → ⊥)
+    (λ want. StopsFor (record { role = role; psks = psks; agree = agree }) known secrets v.history ts m want.0 want.1)
+    → MatchOption o ((j : ℕ) → Refuses v m j Agreement → ⊥) (λ want. WantsToRead v m want.0 want.1)
+wants v m o role psks agree secrets known ts l h =
+    wants-of v m o l.listens (for-view v role psks agree secrets known ts l
+    (λ w z s us. MatchOption o ((j : ℕ) → Stops w z s v.history us m j Agreement → ⊥) (λ want. StopsFor w z s v.history us m want.0 want.1)) h)

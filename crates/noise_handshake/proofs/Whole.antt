@@ -1,0 +1,131 @@
+-- What holds of every handshake, and what a caller's parts are tested for.
+use Rattle.std.proofs.Common.{◌≡◌, ℕ, ◌*◌, ◌≤◌, List, Bool, true, false, length, drop, refl, arith}
+use Rattle.std.specs.Prelude.{not, ◌&&◌, ◌||◌, Option, is_some, is_none}
+use Rattle.noise_names.specs.declared.token.Token.TheVariants.{E, S}
+use Rattle.noise_names.specs.Tokens.{other}
+use Rattle.noise_names.specs.Validity.{is_among}
+use Rattle.noise_names.specs.Overhead.{has_key}
+use Rattle.noise_names.specs.Plan.{places_of}
+use Rattle.noise_state.specs.Standing.{keyed, nonce_now}
+use Rattle.noise_handshake.specs.declared.keys.Own.{Own}
+use Rattle.noise_handshake.specs.declared.keys.Own.TheVariants.{Ephemeral, Static}
+use Rattle.noise_handshake.specs.Held.{Held}
+use Rattle.noise_handshake.specs.Parts.{IsWhole}
+use Rattle.noise_handshake.specs.Passed.{passed_places}
+use Rattle.noise_handshake.specs.Setup.{lacks_own, secrets_of}
+use Rattle.noise_handshake.specs.inner.Known.{KnowsRemote}
+use Rattle.noise_handshake.specs.inner.Sound.{IsSound}
+
+left : (a b : Bool) → (not a && not b) ≡ true → a ≡ false
+left false b e = refl
+left true b e = cc
+
+right : (a b : Bool) → (not a && not b) ≡ true → b ≡ false
+right false false e = refl
+right false true e = cc
+right true b e = cc
+
+both : (a b : Bool) → a ≡ false → b ≡ false → (not a && not b) ≡ true
+both false false e f = refl
+both false true e f = cc
+both true b e f = cc
+
+one : (a b c d : Bool) → ((not a || b) && (not c || d)) ≡ true → a ≡ true → b ≡ true
+one true true c d e f = refl
+one true false c d e f = cc
+one false b c d e f = cc
+
+two : (a b c d : Bool) → ((not a || b) && (not c || d)) ≡ true → c ≡ true → d ≡ true
+two a b true true e f = refl
+two true true true false e f = cc
+two true false true false e f = cc
+two false b true false e f = cc
+two a b false d e f = cc
+
+none : (a b : Bool) → (a ≡ true → b ≡ true) → (not a || b) ≡ true
+none true b f = f refl
+none false b f = refl
+
+and-true : (a b : Bool) → a ≡ true → b ≡ true → (a && b) ≡ true
+and-true true b e h = h
+and-true false b e h = cc
+
+absent : (a : Bool) (key : Option (List ℕ)) → (a && is_none key) ≡ false → a ≡ true → is_some key ≡ true
+absent true key e f = grind arith
+absent false key e f = cc
+
+present : (a : Bool) (key : Option (List ℕ)) → (a ≡ true → is_some key ≡ true) → (a && is_none key) ≡ false
+present true key f = let h = f refl in grind arith
+present false key f = refl
+
+module _ {K : Type 0} (public_of : K → Own → Option (List ℕ)) (h : Held K) where
+  abbrev pub Counted : Type 0
+  Counted = (h.passed ≤ length h.pattern.messages) × (length h.secrets ≡ secrets_of (drop h.passed h.pattern.messages))
+
+  abbrev pub owns : Bool
+  owns = not (lacks_own h.pattern h.role E (public_of h.keys Ephemeral)) && not (lacks_own h.pattern h.role S (public_of h.keys Static))
+
+  abbrev pub knows : Bool
+  knows = (not (is_among (other h.role) E (passed_places h.pattern h.passed)) || is_some h.remote.e)
+      && (not (is_among (other h.role) S (passed_places h.pattern h.passed)) || is_some h.remote.s)
+
+  abbrev pub Keyed : Type 0
+  Keyed = (keyed h.state ≡ has_key h.pattern (passed_places h.pattern h.passed)) × (nonce_now h.state ≤ 11 * h.passed)
+
+  pub is-whole : Counted → owns ≡ true → knows ≡ true → Keyed → IsWhole public_of h
+  is-whole a b c d = record {
+    within = a.0;
+    secrets = a.1;
+    own_e = left (lacks_own h.pattern h.role E (public_of h.keys Ephemeral)) (lacks_own h.pattern h.role S (public_of h.keys Static)) b;
+    own_s = right (lacks_own h.pattern h.role E (public_of h.keys Ephemeral)) (lacks_own h.pattern h.role S (public_of h.keys Static)) b;
+    remote_e = one (is_among (other h.role) E (passed_places h.pattern h.passed)) (is_some h.remote.e)
+        (is_among (other h.role) S (passed_places h.pattern h.passed)) (is_some h.remote.s) c;
+    remote_s = two (is_among (other h.role) E (passed_places h.pattern h.passed)) (is_some h.remote.e)
+        (is_among (other h.role) S (passed_places h.pattern h.passed)) (is_some h.remote.s) c;
+    key = d.0;
+    nonce = d.1;
+  }
+
+  pub whole-counted : IsWhole public_of h → Counted
+  whole-counted w = (w.within, w.secrets)
+
+  pub whole-owns : IsWhole public_of h → owns ≡ true
+  whole-owns w =
+      both (lacks_own h.pattern h.role E (public_of h.keys Ephemeral)) (lacks_own h.pattern h.role S (public_of h.keys Static)) w.own_e w.own_s
+
+  pub whole-knows : IsWhole public_of h → knows ≡ true
+  whole-knows w =
+      and-true (not (is_among (other h.role) E (passed_places h.pattern h.passed)) || is_some h.remote.e)
+      (not (is_among (other h.role) S (passed_places h.pattern h.passed)) || is_some h.remote.s)
+      (none (is_among (other h.role) E (passed_places h.pattern h.passed)) (is_some h.remote.e) w.remote_e)
+      (none (is_among (other h.role) S (passed_places h.pattern h.passed)) (is_some h.remote.s) w.remote_s)
+
+  pub whole-keyed : IsWhole public_of h → Keyed
+  whole-keyed w = (w.key, w.nonce)
+
+  -- the same as a handshake keeps it
+  pub whole-sound : length h.pattern.messages ≤ 8 → IsWhole public_of h → IsSound public_of h
+  whole-sound few w = record {
+    within = w.within;
+    few = few;
+    secrets = w.secrets;
+    has_e = absent (is_among h.role E (places_of h.pattern)) (public_of h.keys Ephemeral) w.own_e;
+    has_s = absent (is_among h.role S (places_of h.pattern)) (public_of h.keys Static) w.own_s;
+    keyed = w.key;
+    nonce = w.nonce;
+  }
+
+  pub whole-known : IsWhole public_of h → KnowsRemote h
+  whole-known w = record { e = w.remote_e; s = w.remote_s }
+
+  pub sound-whole : IsSound public_of h → KnowsRemote h → IsWhole public_of h
+  sound-whole s k = record {
+    within = s.within;
+    secrets = s.secrets;
+    own_e = present (is_among h.role E (places_of h.pattern)) (public_of h.keys Ephemeral) s.has_e;
+    own_s = present (is_among h.role S (places_of h.pattern)) (public_of h.keys Static) s.has_s;
+    remote_e = k.e;
+    remote_s = k.s;
+    key = s.keyed;
+    nonce = s.nonce;
+  }

@@ -1,0 +1,30 @@
+-- The parts of a transport, for a caller that keeps them itself between two messages.
+use Rattle.std.specs.Prelude.{Some}
+use Rattle.noise_session.specs.declared.parts.TransportParts.{TransportParts}
+use Rattle.noise_session.specs.declared.parts.DatagramParts.{DatagramParts}
+use Rattle.noise_session.specs.HeldTransport.{HeldTransport}
+use Rattle.noise_session.specs.Datagrams.{HeldDatagrams}
+
+-- what these parts hold
+abbrev pub transport_in : TransportParts → HeldTransport
+transport_in p = record {
+  role = p.role;
+  one_way = p.one_way;
+  hash = p.hash;
+  remote_static = p.remote_static;
+  interval = p.interval;
+  send_key = Some p.send_key;
+  send_nonce = p.send_nonce;
+  receive_key = Some p.receive_key;
+  receive_nonce = p.receive_nonce;
+}
+
+abbrev pub datagrams_in : DatagramParts → HeldDatagrams
+datagrams_in p = record {
+  role = p.role;
+  one_way = p.one_way;
+  send_key = Some p.send_key;
+  send_nonce = p.send_nonce;
+  receive_key = Some p.receive_key;
+  recent = record { window = p.window; greatest = p.greatest; words = p.words };
+}

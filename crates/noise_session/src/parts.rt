@@ -1,0 +1,55 @@
+//! What a transport holds, for a caller that keeps it itself.
+#![tactic(auto)]
+
+ghost use Rattle.std.specs.Prelude.{◌≡◌, Some, IsSome};
+ghost use Rattle.noise_state.specs.Cipher.{key_in, nonce_in};
+
+use crate::Window;
+use noise_names::Role;
+use noise_state::CipherState;
+
+/// What a transport holds between two messages, for a caller that keeps it itself, as one in another language.
+#[derive(Drop)]
+pub struct TransportParts {
+    pub role: Role,
+    /// Whether only the initiator writes (Noise, 7.4).
+    pub one_way: bool,
+    /// The hash of the whole handshake (Noise, 11.2).
+    pub hash: [u8; 32],
+    /// The other party's static public key, where the handshake told it.
+    pub remote_static: Option<[u8; 32]>,
+    /// After how many messages of a direction its key is renewed; 0 for never.
+    pub interval: u64,
+    pub send_key: [u8; 32],
+    pub send_nonce: u64,
+    pub receive_key: [u8; 32],
+    pub receive_nonce: u64,
+}
+
+/// What a transport of datagrams holds between two of them.
+#[derive(Drop)]
+pub struct DatagramParts {
+    pub role: Role,
+    /// Whether only the initiator writes (Noise, 7.4).
+    pub one_way: bool,
+    pub send_key: [u8; 32],
+    pub send_nonce: u64,
+    pub receive_key: [u8; 32],
+    pub window: Window,
+    /// The greatest nonce that was opened, 0 where there is none.
+    pub greatest: u64,
+    /// A bit for each nonce near it.
+    pub words: [u64; 17],
+}
+
+// The key and the nonce of a cipher state.
+pub(crate) fn key_and_nonce(cipher: CipherState) -> ([u8; 32], u64)
+    requires { IsSome (key_in cipher) }
+    ensures key { key_in cipher ≡ Some result.0 }
+    ensures nonce { nonce_in cipher ≡ result.1 }
+{
+    match cipher.into_parts() {
+        (Some(key), nonce) => (key, nonce),
+        (None, _) => unreachable!(),
+    }
+}
