@@ -16,11 +16,11 @@ use Rattle.noise_session.specs.Transport.{packet, last_nonce}
 use Rattle.noise_session.specs.Windows.{is_among, is_old, window_fault}
 use Rattle.noise_session.specs.Datagrams.{AreOnce, DatagramView, IsSealed, Opens, datagram_fault, nonce_named}
 use Rattle.noise_session.specs.Datagrams.Opens.{opened}
-use Rattle.noise_duel.specs.DatagramAgreement.{AreAtNonces, AreCounted, ArriveOnce, ComesOfDatagrams, HaveOneBeginning}
-use Rattle.noise_duel.specs.DatagramAgreement.{DatagramRunsAgree, DatagramsAgree, RunsMakeOneBeginning}
+use Rattle.noise_duel.specs.DatagramAgreement.{AreAtNonces, AreCounted, ArriveOnce, ComesOfDatagrams}
+use Rattle.noise_duel.specs.DatagramAgreement.{DatagramRunsAgree, RunsMakeOneBeginning}
 use Rattle.noise_duel.specs.DatagramEvents.{DatagramEvent, DatagramNote}
 use Rattle.noise_duel.specs.DatagramRuns.{DatagramHappens, DatagramRun, PartyOpens, PartySeals}
-use Rattle.noise_duel.specs.DatagramRuns.DatagramHappens.{is_sealed, is_opened, is_missing, is_put_in}
+use Rattle.noise_duel.specs.DatagramRuns.DatagramHappens.{is_sealed, is_delivered, is_missing, is_put_in}
 use Rattle.noise_duel.specs.DatagramRuns.DatagramRun.{begins, ends}
 use Rattle.noise_duel.specs.DatagramRuns.PartyOpens.{opens, rejects}
 use Rattle.noise_duel.specs.DatagramRuns.PartySeals.{seals, seals_nothing}
@@ -131,9 +131,9 @@ hold-happened r d next event note (is_sealed _ Initiator payload told s p) h =
     record { initiator = holds-sealed Initiator r d.initiator payload s told p h.initiator; responder = h.responder }
 hold-happened r d next event note (is_sealed _ Responder payload told s p) h =
     record { initiator = h.initiator; responder = holds-sealed Responder r d.responder payload s told p h.responder }
-hold-happened r d next event note (is_opened _ Initiator n bytes told s got p) h =
+hold-happened r d next event note (is_delivered _ Initiator n bytes told s got p) h =
     record { initiator = holds-opened Initiator r d.initiator bytes s told p h.initiator; responder = h.responder }
-hold-happened r d next event note (is_opened _ Responder n bytes told s got p) h =
+hold-happened r d next event note (is_delivered _ Responder n bytes told s got p) h =
     record { initiator = h.initiator; responder = holds-opened Responder r d.responder bytes s told p h.responder }
 hold-happened r d next event note (is_missing _ role n none) h = h
 hold-happened r d next event note (is_put_in _ Initiator bytes told s p) h =

@@ -14,7 +14,7 @@ use Rattle.noise_duel.specs.declared.datagram_report.DatagramReport.{DatagramRep
 use Rattle.noise_duel.specs.DatagramEvents.{DatagramEvent, DatagramNote, Open, Payload, Raw, Rejected, Seal, Sealed}
 use Rattle.noise_duel.specs.DatagramReports.{DatagramReports, DuelPictures, HeldDatagramDuel, datagram_note_of, datagram_notes_of}
 use Rattle.noise_duel.specs.DatagramRuns.{DatagramHappens, DatagramRun, PartyOpens, PartySeals}
-use Rattle.noise_duel.specs.DatagramRuns.DatagramHappens.{is_sealed, is_opened, is_missing, is_put_in}
+use Rattle.noise_duel.specs.DatagramRuns.DatagramHappens.{is_sealed, is_delivered, is_missing, is_put_in}
 use Rattle.noise_duel.specs.DatagramRuns.DatagramRun.{begins, ends}
 use Rattle.noise_duel.specs.DatagramRuns.PartyOpens.{opens, rejects}
 use Rattle.noise_duel.specs.DatagramRuns.PartySeals.{seals}
@@ -156,7 +156,7 @@ pub found-initiator : (d : DatagramSides) (role : Role) (n : ℕ) (found : Optio
 found-initiator d Responder n found entry duel next sealed is got p k same h = cc
 found-initiator d Initiator n (Some bytes) entry duel next sealed is got p k same h =
     came-initiator d (Open Initiator n) bytes entry duel next sealed p k same h
-    (is_opened d Initiator n bytes (datagram_note_of entry) h.next got h.opens)
+    (is_delivered d Initiator n bytes (datagram_note_of entry) h.next got h.opens)
 found-initiator d Initiator n None entry duel next sealed is got p k same h = record {
   next = d;
   happens = subst (λ (note : DatagramNote). DatagramHappens d (Open Initiator n) (Initiator, note) d) (sym h.0) (is_missing d Initiator n got);
@@ -170,7 +170,7 @@ pub found-responder : (d : DatagramSides) (role : Role) (n : ℕ) (found : Optio
 found-responder d Initiator n found entry duel next sealed is got p k same h = cc
 found-responder d Responder n (Some bytes) entry duel next sealed is got p k same h =
     came-responder d (Open Responder n) bytes entry duel next sealed p k same h
-    (is_opened d Responder n bytes (datagram_note_of entry) h.next got h.opens)
+    (is_delivered d Responder n bytes (datagram_note_of entry) h.next got h.opens)
 found-responder d Responder n None entry duel next sealed is got p k same h = record {
   next = d;
   happens = subst (λ (note : DatagramNote). DatagramHappens d (Open Responder n) (Responder, note) d) (sym h.0) (is_missing d Responder n got);

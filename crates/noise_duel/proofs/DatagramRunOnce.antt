@@ -8,7 +8,7 @@ use Rattle.noise_session.specs.Datagrams.{DatagramView, Opens, nonce_named}
 use Rattle.noise_session.specs.Datagrams.Opens.{opened, refused, forged}
 use Rattle.noise_duel.specs.DatagramEvents.{DatagramEvent, DatagramNote, Payload, Rejected, SealFault}
 use Rattle.noise_duel.specs.DatagramRuns.{DatagramHappens, DatagramRun, DatagramRunOnce, PartyOpens, PartySeals}
-use Rattle.noise_duel.specs.DatagramRuns.DatagramHappens.{is_sealed, is_opened, is_missing, is_put_in}
+use Rattle.noise_duel.specs.DatagramRuns.DatagramHappens.{is_sealed, is_delivered, is_missing, is_put_in}
 use Rattle.noise_duel.specs.DatagramRuns.DatagramRun.{begins, ends}
 use Rattle.noise_duel.specs.DatagramRuns.PartyOpens.{opens, rejects}
 use Rattle.noise_duel.specs.DatagramRuns.PartySeals.{seals, seals_nothing}
@@ -69,13 +69,13 @@ happens-once : (d x y : DatagramSides) (event : DatagramEvent) (m n : Role × Da
 happens-once d x y event m n (is_sealed _ role payload note next h) (is_sealed _ _ _ told after k) =
     let one = party-seals-once (party d role) payload next after note told h k in
     (ap (λ (z : DatagramNote). (role, z)) one.0, ap (with_party d role) one.1)
-happens-once d x y event m n (is_opened _ role i bytes note next at h) (is_opened _ _ _ others told after there k) =
+happens-once d x y event m n (is_delivered _ role i bytes note next at h) (is_delivered _ _ _ others told after there k) =
     let same : bytes ≡ others = some-same bytes others (sym at ∙ there) in
     let one = party-opens-once (party d role) bytes next after note told h
     (subst (λ (z : List ℕ). PartyOpens (party d role) z told after) (sym same) k) in
     (ap (λ (z : DatagramNote). (role, z)) one.0, ap (with_party d role) one.1)
-happens-once d x y event m n (is_opened _ role i bytes note next at h) (is_missing _ _ _ none) = absurd (some-none _ bytes at none)
-happens-once d x y event m n (is_missing _ role i none) (is_opened _ _ _ bytes note next at h) = absurd (some-none _ bytes at none)
+happens-once d x y event m n (is_delivered _ role i bytes note next at h) (is_missing _ _ _ none) = absurd (some-none _ bytes at none)
+happens-once d x y event m n (is_missing _ role i none) (is_delivered _ _ _ bytes note next at h) = absurd (some-none _ bytes at none)
 happens-once d x y event m n (is_missing _ role i none) (is_missing _ _ _ also) = (refl, refl)
 happens-once d x y event m n (is_put_in _ role bytes note next h) (is_put_in _ _ _ told after k) =
     let one = party-opens-once (party d role) bytes next after note told h k in

@@ -25,7 +25,7 @@ pub data PartyOpens : DatagramSide → List ℕ → DatagramNote → DatagramSid
 pub data DatagramHappens : DatagramSides → DatagramEvent → Role × DatagramNote → DatagramSides → Type 0 where
   is_sealed : (d : DatagramSides) (role : Role) (payload : List ℕ) (note : DatagramNote) (next : DatagramSide)
       → PartySeals (party d role) payload note next → DatagramHappens d (Seal role payload) (role, note) (with_party d role next)
-  is_opened : (d : DatagramSides) (role : Role) (n : ℕ) (bytes : List ℕ) (note : DatagramNote) (next : DatagramSide)
+  is_delivered : (d : DatagramSides) (role : Role) (n : ℕ) (bytes : List ℕ) (note : DatagramNote) (next : DatagramSide)
       → slice_get (datagrams_in (party d (other role))) n ≡ Some bytes → PartyOpens (party d role) bytes note next
       → DatagramHappens d (Open role n) (role, note) (with_party d role next)
   is_missing : (d : DatagramSides) (role : Role) (n : ℕ) → slice_get (datagrams_in (party d (other role))) n ≡ None
