@@ -1,149 +1,161 @@
-//! Runs of datagrams between two ends.
+//! Runs of datagrams between two ends. The bytes were worked out by a program in another language.
 
-use super::duels::{between, says};
-use super::support::{ends, open_ends, zeros};
-use noise_duel::{DatagramDuel, DatagramEntry, DatagramEvent, DatagramReport};
+use super::duels::{Ends, between, says};
+use super::support::{ends, open_ends, opened};
+use noise_duel::{DatagramDuel, DatagramEntry, DatagramEvent};
 use noise_names::Role;
-use noise_session::Window;
+use noise_session::{End, Transport, Window};
 use std::alloc::Global;
 use std::process::Abort;
 
 // The datagrams of an open session of NN.
-fn open_duel(rt: &impl Abort, alloc: Global) -> DatagramDuel {
-    let (first, second) = open_ends(rt, alloc);
-    let duel = between(rt, first, second);
-    duel.into_datagrams(Window::W64)
-        .ok()
-        .expect(rt, "datagrams")
+fn open_nn(rt: &impl Abort, alloc: Global) -> DatagramDuel {
+    let (initiator, responder) = open_ends(rt, alloc);
+    let duel: Ends = between(rt, initiator, responder);
+    let went_over = duel.into_datagrams(Window::W64).ok();
+    went_over.expect(rt, "both ends are open")
 }
 
 // This role seals a payload of one byte.
-fn seals(rt: &impl Abort, alloc: Global, events: &mut Vec<DatagramEvent>, role: Role, byte: u8) {
-    let payload = [byte].to_vec(alloc).expect(rt, "memory");
-    events
-        .push(DatagramEvent::Seal(role, payload))
-        .expect(rt, "memory");
+fn seal(rt: &impl Abort, alloc: Global, role: Role, byte: u8) -> DatagramEvent {
+    DatagramEvent::Seal(role, vec![in alloc; byte; 1].expect(rt, "memory"))
 }
 
-// This role is handed the other's datagram of this number.
-fn opens(rt: &impl Abort, events: &mut Vec<DatagramEvent>, role: Role, number: usize) {
-    events
-        .push(DatagramEvent::Open(role, number))
-        .expect(rt, "memory");
-}
-
-// A run of these events between open ends.
-fn runs(
-    rt: &impl Abort,
-    alloc: Global,
-    events: &[DatagramEvent],
-) -> (DatagramDuel, DatagramReport) {
-    open_duel(rt, alloc).run(alloc, events).expect(rt, "memory")
-}
-
-// Behind so many entries just this is told.
-fn tells(rt: &impl Abort, alloc: Global, report: &DatagramReport, behind: usize, told: &str) {
-    let entries = report
-        .entries
-        .as_slice()
-        .get(behind..)
-        .expect(rt, "entries");
-    let text = format!(in alloc; "{:?}", entries).expect(rt, "memory");
-    assert!(rt; text.as_str() == told);
+// Just this is told of an event.
+fn is_told(rt: &impl Abort, alloc: Global, entry: Option<&(Role, DatagramEntry)>, told: &str) {
+    let text = format!(in alloc; "{:?}", entry.expect(rt, "an entry")).expect(rt, "memory");
+    assert_eq!(rt; text.as_str(), told);
 }
 
 #[test]
 fn both_ends_have_to_be_open(rt: HostRuntime) {
     let alloc = rt.alloc();
-    let (first, second) = ends(&rt, alloc);
-    let duel = between(&rt, first, second);
-    let told = "[(Initiator, Wrote(0)), (Responder, Payload([]))]";
-    let duel = says(&rt, alloc, duel, Role::Initiator, b"", told);
-    let back = duel
-        .into_datagrams(Window::W64)
-        .err()
-        .expect(&rt, "the duel");
-    let told = "[(Responder, Wrote(0)), (Initiator, Payload([]))]";
-    let duel = says(&rt, alloc, back, Role::Responder, b"", told);
+    let (initiator, responder) = ends(&rt, alloc);
+    let duel = between(&rt, initiator, responder);
+    let first = "[(Initiator, Wrote(0)), (Responder, Payload([]))]";
+    let second = "[(Responder, Wrote(0)), (Initiator, Payload([]))]";
+    let duel = says(&rt, alloc, duel, Role::Initiator, b"", first);
+    let back = duel.into_datagrams(Window::W64).err();
+    let back = back.expect(&rt, "the initiator's end isn't open");
+    let duel = says(&rt, alloc, back, Role::Responder, b"", second);
     assert!(rt; duel.into_datagrams(Window::W64).is_ok());
+}
+
+const TOLD: [&str; 10] = [
+    "(Initiator, Sealed(0, [0, 0, 0, 0, 0, 0, 0, 0, 13, 29, 132, 208, 219, 172, 39, 116, 47, 97, 240, 204, 60, 193, 205, 216, 244]))",
+    "(Initiator, Sealed(1, [0, 0, 0, 0, 0, 0, 0, 1, 75, 157, 177, 201, 111, 189, 177, 221, 167, 191, 3, 56, 138, 157, 174, 131, 21]))",
+    "(Responder, Payload([2]))",
+    "(Responder, Payload([1]))",
+    "(Responder, Rejected(Repeated))",
+    "(Initiator, Missing(0))",
+    "(Responder, Rejected(Tag))",
+    "(Initiator, SealFault(TooLong))",
+    "(Responder, Sealed(0, [0, 0, 0, 0, 0, 0, 0, 0, 74, 89, 86, 222, 37, 182, 104, 64, 108, 209, 187, 180, 69, 107, 168, 161, 101]))",
+    "(Initiator, Payload([3]))",
+];
+
+// The events of which that is told.
+fn events(rt: &impl Abort, alloc: Global) -> Vec<DatagramEvent> {
+    // Nonce 5, and a tag of zeros.
+    let mut wrong = (5u128 << 64)
+        .to_be_bytes()
+        .to_vec(alloc)
+        .expect(rt, "memory");
+    wrong.extend_from_slice(&[0; 8]).expect(rt, "memory");
+    let longer = vec![in alloc; 0u8; 65520].expect(rt, "memory");
+    let mut events = Vec::new(alloc);
+    let all = &mut events;
+    all.push(seal(rt, alloc, Role::Initiator, 1))
+        .expect(rt, "memory");
+    all.push(seal(rt, alloc, Role::Initiator, 2))
+        .expect(rt, "memory");
+    for number in [1, 0, 1] {
+        all.push(DatagramEvent::Open(Role::Responder, number))
+            .expect(rt, "memory");
+    }
+    all.push(DatagramEvent::Open(Role::Initiator, 0))
+        .expect(rt, "memory");
+    all.push(DatagramEvent::Raw(Role::Responder, wrong))
+        .expect(rt, "memory");
+    all.push(DatagramEvent::Seal(Role::Initiator, longer))
+        .expect(rt, "memory");
+    all.push(seal(rt, alloc, Role::Responder, 3))
+        .expect(rt, "memory");
+    all.push(DatagramEvent::Open(Role::Initiator, 0))
+        .expect(rt, "memory");
+    events
 }
 
 #[test]
 fn tells_of_each_datagram(rt: HostRuntime) {
     let alloc = rt.alloc();
-    let mut events = Vec::new(alloc);
-    seals(&rt, alloc, &mut events, Role::Initiator, 1);
-    seals(&rt, alloc, &mut events, Role::Initiator, 2);
-    seals(&rt, alloc, &mut events, Role::Responder, 3);
-    opens(&rt, &mut events, Role::Responder, 1);
-    opens(&rt, &mut events, Role::Responder, 0);
-    opens(&rt, &mut events, Role::Responder, 1);
-    opens(&rt, &mut events, Role::Initiator, 0);
-    opens(&rt, &mut events, Role::Initiator, 1);
-    let mut wrong = [0; 24];
-    wrong[7] = 5;
-    let wrong = wrong.to_vec(alloc).expect(&rt, "memory");
-    events
-        .push(DatagramEvent::Raw(Role::Initiator, wrong))
-        .expect(&rt, "memory");
-    let long = zeros(&rt, alloc, 65520);
-    events
-        .push(DatagramEvent::Seal(Role::Initiator, long))
-        .expect(&rt, "memory");
-    let told =
-        "[(Responder, Payload([2])), (Responder, Payload([1])), (Responder, Rejected(Repeated)), \
-                (Initiator, Payload([3])), (Initiator, Missing(1)), (Initiator, Rejected(Tag)), \
-                (Initiator, SealFault(TooLong))]";
-    let (duel, report) = runs(&rt, alloc, events.as_slice());
-    tells(&rt, alloc, &report, 3, told);
+    let events = events(&rt, alloc);
+    let ran = open_nn(&rt, alloc).run(alloc, &events);
+    let (duel, report) = ran.expect(&rt, "memory");
+    assert!(rt; report.entries.len() == TOLD.len());
+    for (entry, told) in report.entries.iter().zip(&TOLD) {
+        is_told(&rt, alloc, Some(entry), told);
+    }
     assert!(rt; duel.initiator().send_nonce() == 2);
     assert!(rt; duel.responder().send_nonce() == 1);
 }
 
-// The responder opened a datagram whose payload is this one byte.
-fn is_payload(told: &(Role, DatagramEntry), byte: u8) -> bool {
-    match &told.1 {
-        DatagramEntry::Payload(payload) => {
-            told.0 == Role::Responder && payload.as_slice() == [byte].as_slice()
-        }
-        _ => false,
-    }
-}
-
-#[test]
-fn a_window_comes_the_other_way_round(rt: HostRuntime) {
-    let alloc = rt.alloc();
+// The initiator seals 65 datagrams; the first 64 come the other way round, then the last one, and the first two again.
+fn window_events(rt: &impl Abort, alloc: Global) -> Vec<DatagramEvent> {
     let mut events = Vec::new(alloc);
     for byte in 0..65 {
-        seals(&rt, alloc, &mut events, Role::Initiator, byte);
+        let event = seal(rt, alloc, Role::Initiator, byte);
+        events.push(event).expect(rt, "memory");
     }
-    for number in (0..64).rev() {
-        opens(&rt, &mut events, Role::Responder, number);
+    for number in (0..64).rev().chain([64, 0, 1]) {
+        let event = DatagramEvent::Open(Role::Responder, number);
+        events.push(event).expect(rt, "memory");
     }
-    for number in [64, 0, 1] {
-        opens(&rt, &mut events, Role::Responder, number);
-    }
-    let (_, report) = runs(&rt, alloc, events.as_slice());
-    let mut told = report.entries.as_slice().iter().skip(65);
-    for byte in (0..64).rev() {
-        assert!(rt; is_payload(told.next().expect(&rt, "an entry"), byte));
-    }
-    let last =
-        "[(Responder, Payload([64])), (Responder, Rejected(Old)), (Responder, Rejected(Repeated))]";
-    tells(&rt, alloc, &report, 129, last);
+    events
 }
 
-// It passes whichever allocation of the run itself fails: see `rt try --test --fail-alloc N`.
 #[test]
-fn a_run_or_no_memory(rt: HostRuntime) {
+fn a_window_of_nonces_comes_the_other_way_round(rt: HostRuntime) {
     let alloc = rt.alloc();
-    let mut events = Vec::new(alloc);
-    seals(&rt, alloc, &mut events, Role::Initiator, 1);
-    opens(&rt, &mut events, Role::Responder, 0);
-    let duel = open_duel(&rt, alloc);
-    if let Ok((_, report)) = duel.run(alloc, events.as_slice()) {
-        let mut told = report.entries.as_slice().iter().skip(1);
-        assert!(rt; is_payload(told.next().expect(&rt, "an entry"), 1));
-        assert!(rt; told.next().is_none());
+    let events = window_events(&rt, alloc);
+    let ran = open_nn(&rt, alloc).run(alloc, &events);
+    let (_, report) = ran.expect(&rt, "memory");
+    let mut entries = report.entries.iter().skip(65);
+    for byte in (0..64).rev() {
+        let told = format!(in alloc; "(Responder, Payload([{byte}]))").expect(&rt, "memory");
+        is_told(&rt, alloc, entries.next(), told.as_str());
+    }
+    is_told(&rt, alloc, entries.next(), "(Responder, Payload([64]))");
+    is_told(&rt, alloc, entries.next(), "(Responder, Rejected(Old))");
+    is_told(
+        &rt,
+        alloc,
+        entries.next(),
+        "(Responder, Rejected(Repeated))",
+    );
+    assert!(rt; entries.next().is_none());
+}
+
+// It passes whichever allocation fails: see `rt try --test --fail-alloc N`.
+#[test]
+fn datagrams_or_no_memory(rt: HostRuntime) {
+    let alloc = rt.alloc();
+    let (first, second) = opened(&rt);
+    let Ok(first) = End::from_transport(alloc, Transport::new(first, 0)) else {
+        return;
+    };
+    let Ok(second) = End::from_transport(alloc, Transport::new(second, 0)) else {
+        return;
+    };
+    let Ok(payload) = b"hi".to_vec(alloc) else {
+        return;
+    };
+    let duel = between(&rt, first, second).into_datagrams(Window::W64).ok();
+    let duel = duel.expect(&rt, "both ends are open");
+    let seal = DatagramEvent::Seal(Role::Initiator, payload);
+    let open = DatagramEvent::Open(Role::Responder, 0);
+    if let Ok((duel, report)) = duel.run(alloc, &[seal, open]) {
+        assert!(rt; report.entries.len() == 2);
+        assert!(rt; duel.initiator().send_nonce() == 1);
     }
 }

@@ -9,9 +9,10 @@ use std::alloc::Global;
 use std::process::Abort;
 use std::slice::from_ref;
 
+/// Two ends with the toy keys.
 pub type Ends = Duel<XorKeys, XorKeys>;
 
-/// Two ends as a duel.
+/// These two ends.
 pub fn between(rt: &impl Abort, first: End<XorKeys>, second: End<XorKeys>) -> Ends {
     assert!(rt; first.role() == Role::Initiator);
     assert!(rt; second.role() == Role::Responder);
