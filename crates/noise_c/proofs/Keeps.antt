@@ -1,0 +1,60 @@
+-- What is kept stands for what the handshake stood for.
+use Rattle.std.proofs.Common.{◌≡◌, ℕ, ◌+◌, ◌-◌, ◌≤◌, List, refl, ap, sym, subst, ◌∙◌, arith, slice_range}
+use Rattle.noise_names.specs.Plan.{Plan}
+use Rattle.noise_handshake.specs.declared.faults.ReadFault.{ReadFault}
+use Rattle.noise_handshake.specs.declared.faults.ReadFault.TheVariants as read
+use Rattle.noise_handshake.specs.declared.faults.WriteFault.{WriteFault}
+use Rattle.noise_handshake.specs.declared.faults.WriteFault.TheVariants as write
+use Rattle.noise_handshake.specs.Held.{Held, behind_read_fault, behind_write_fault}
+use Rattle.noise_handshake.specs.Table.{Table}
+use Rattle.noise_handshake.specs.View.{View, Accepts}
+use Rattle.noise_handshake.specs.Party.{Stands, behind_message, behind_own, behind_declined, Declines}
+use Rattle.noise_handshake.specs.Writing.{Writes}
+use Rattle.noise_c.specs.declared.kept.NoiseHandshake.{NoiseHandshake}
+use Rattle.noise_c.specs.Kept.{public_in, agreement_in, name_in, held_in, IsPatternOf, KeepsView, WasRead, WasWritten, WasDeclined}
+use Rattle.noise_c.specs.Codes.{read_code, token_in}
+
+pub read-pattern : (h : Held Table) (fault : ReadFault) → (behind_read_fault h fault).pattern ≡ h.pattern
+read-pattern h read.Ended = refl
+read-pattern h read.Done = refl
+read-pattern h read.NotYourTurn = refl
+read-pattern h (read.Refused token cause) = refl
+
+pub write-pattern : (h : Held Table) (fault : WriteFault) → (behind_write_fault h fault).pattern ≡ h.pattern
+write-pattern h write.Ended = refl
+write-pattern h write.Done = refl
+write-pattern h write.NotYourTurn = refl
+write-pattern h write.TooLong = refl
+write-pattern h (write.Agreement token) = refl
+
+module _ (old new : NoiseHandshake) (h h2 : Held Table) (p : Plan) (v : View) (one : (q : Plan) → IsPatternOf (name_in old) q → q ≡ h.pattern) (same : h ≡ held_in h.pattern old)
+    (stays : h2.pattern ≡ h.pattern) (name : name_in new ≡ name_in old) (kept : held_in h2.pattern new ≡ h2) (k : KeepsView old p v) where
+  -- the handshake that was opened stands for the view
+  pub opened : Stands public_in agreement_in h v
+  opened = subst (λ (z : Held Table). Stands public_in agreement_in z v) (ap (λ (q : Plan). held_in q old) (one p k.pattern) ∙ sym same) k.stands
+
+  -- and what it became is kept
+  pub keeps : (w : View) → Stands public_in agreement_in h2 w → KeepsView new p w
+  keeps w s = record {
+    pattern = subst (λ (z : List ℕ). IsPatternOf z p) (sym name) k.pattern;
+    stands = subst (λ (z : Held Table). Stands public_in agreement_in z w) (sym (ap (λ (q : Plan). held_in q new) (one p k.pattern ∙ sym stays) ∙ kept)) s;
+  }
+
+  pub was-read : (message new_message : List ℕ) (start end : ℕ) → start ≤ end
+      → (xs : List (List ℕ)) → Accepts v message xs (slice_range new_message start end) → Stands public_in agreement_in h2 (behind_message v xs (slice_range new_message start end))
+      → WasRead p v message (slice_range new_message start (start + (end - start))) new
+  was-read message new_message start end r xs a s =
+      let n : end ≡ start + (end - start) = omega (arith, r) in
+      subst (λ (z : ℕ). WasRead p v message (slice_range new_message start z) new) n
+      (record { carried = xs; accepts = a; keeps = keeps (behind_message v xs (slice_range new_message start end)) s })
+
+  pub was-declined : (message : List ℕ) (fault : ReadFault) (code token : ℕ) → code ≡ read_code fault → token ≡ token_in fault → Declines v message fault → Stands public_in agreement_in h2 (behind_declined v fault)
+      → WasDeclined p v message code token new
+  was-declined message fault code token e t d s = record { fault = fault; code_is = e; token_is = t; declines = d; keeps = keeps (behind_declined v fault) s }
+
+  pub was-written : (payload message : List ℕ) (xs : List (List ℕ)) → Writes v payload xs message → Stands public_in agreement_in h2 (behind_own v xs payload) → WasWritten p v payload message new
+  was-written payload message xs w s = record { carried = xs; writes = w; keeps = keeps (behind_own v xs payload) s }
+
+-- a handshake that was opened stands for what is kept
+pub stands-for : (old : NoiseHandshake) (h : Held Table) (p : Plan) (v : View) → ((q : Plan) → IsPatternOf (name_in old) q → q ≡ h.pattern) → h ≡ held_in h.pattern old → KeepsView old p v → Stands public_in agreement_in h v
+stands-for old h p v one same k = subst (λ (z : Held Table). Stands public_in agreement_in z v) (ap (λ (q : Plan). held_in q old) (one p k.pattern) ∙ sym same) k.stands

@@ -1,0 +1,133 @@
+//! Exports: handshakes.
+#![tactic(auto)]
+
+ghost use Rattle.std.specs.Prelude.{◌≡◌, ◌≤◌, ◌<◌, ◌+◌, ◌⊎◌, ℕ, length, slice_range};
+ghost use Rattle.noise_names.specs.Plan.{Plan};
+ghost use Rattle.noise_handshake.specs.View.{View, Refuses};
+ghost use Rattle.noise_handshake.specs.declared.faults.Cause.{Cause};
+ghost use Rattle.noise_handshake.specs.Wanting.{WantsToRead};
+ghost use Rattle.noise_c.specs.Kept.{own_in, IsAdded, IsUsable, KeepsView, WasRead, WasDeclined};
+
+use crate::codes::{AGREEMENT, FULL, LENGTH, OK, STRUCT, WANTED, read_code};
+use crate::held::{handshake_of, keep};
+use crate::kept::{NoiseAnswer, NoiseHandshake, NoiseTold};
+use noise_handshake::Own;
+
+const MAX_LEN: usize = 65535;
+
+/// How many bytes a handshake takes in the caller's memory.
+#[unsafe(no_mangle)]
+pub extern "C" fn noise_size() -> usize {
+    std::mem::size_of::<NoiseHandshake>()
+}
+
+/// Hands in the answer of a key pair of this party to a public key of the other: the result of X25519, 32 bytes. There is room
+/// for 8 answers.
+#[unsafe(no_mangle)]
+pub extern "C" fn noise_answer(
+    kept: &mut NoiseHandshake,
+    of_static: u8,
+    remote: &[u8; 32],
+    answer: &[u8; 32],
+) -> u32
+    ensures full { result ≡ 21 → (8 ≤ kept.old.answer_count) × (kept.new ≡ kept.old) }
+    ensures added { result ≡ 0 → IsAdded kept.old kept.new (record { own = own_in of_static; remote = remote.now; answer = answer.now }) }
+    ensures room { kept.old.answer_count < 8 → result ≡ 0 }
+    ensures codes { (result ≡ 0) ⊎ (result ≡ 21) }
+{
+    let count = kept.answer_count as usize;
+    if count >= 8 {
+        return FULL;
+    }
+    kept.answers[count] = NoiseAnswer {
+        of_static,
+        remote: *remote,
+        answer: *answer,
+    };
+    kept.answer_count += 1;
+    OK
+}
+
+fn number_of(own: Own) -> u8
+    ensures { own_in result ≡ own }
+{
+    match own {
+        Own::Static => 1,
+        Own::Ephemeral => 0,
+    }
+}
+
+// Tells which answer is wanted.
+fn tell(want: (Own, [u8; 32]), told: &mut NoiseTold)
+    ensures own { own_in told.new.of_static ≡ want.0 }
+    ensures key { told.new.remote ≡ want.1 }
+{
+    let (own, key) = want;
+    told.of_static = number_of(own);
+    told.remote = key;
+}
+
+// Tells which answer reading this message lacks.
+fn tell_wanted_to_read(kept: &NoiseHandshake, message: &[u8], told: &mut NoiseTold) -> u32
+    ensures wanted { result ≡ 20 → (p : Plan) (v : View) → KeepsView kept.now p v
+        → WantsToRead v message.now (own_in told.new.of_static) told.new.remote }
+    ensures none { result ≡ 14 → (p : Plan) (v : View) → KeepsView kept.now p v → (token : ℕ) → Refuses v message.now token Cause.Agreement → ⊥ }
+    ensures unusable { result ≡ 23 → IsUsable kept.now → ⊥ }
+    ensures codes { (result ≡ 14) ⊎ (result ≡ 20) ⊎ (result ≡ 23) }
+{
+    let Some(handshake) = handshake_of(kept) else {
+        return STRUCT;
+    };
+    match handshake.wants_to_read(message) {
+        Some(want) => {
+            tell(want, told);
+            WANTED
+        }
+        None => AGREEMENT,
+    }
+}
+
+/// Reads a message in place, and tells where its payload stands. At any answer but OK its bytes are unchanged.
+///
+/// WANTED tells the DH answer that is lacking, and changes nothing: hand it in, and call again.
+#[unsafe(no_mangle)]
+pub extern "C" fn noise_read(
+    kept: &mut NoiseHandshake,
+    message: &mut [u8],
+    told: &mut NoiseTold,
+) -> u32
+    ensures unusable { result ≡ 23 → (IsUsable kept.old → ⊥) × (kept.new ≡ kept.old) }
+    ensures length { result ≡ 24 → (65535 < length message.old) × (kept.new ≡ kept.old) }
+    ensures accepted { result ≡ 0 → (p : Plan) (v : View) → KeepsView kept.old p v
+        → WasRead p v message.old (slice_range message.new told.new.from (told.new.from + told.new.len)) kept.new }
+    ensures wanted { result ≡ 20 → (kept.new ≡ kept.old) × ((p : Plan) (v : View) → KeepsView kept.old p v
+        → WantsToRead v message.old (own_in told.new.of_static) told.new.remote) }
+    ensures declined { 10 ≤ result → result ≤ 16 → (p : Plan) (v : View) → KeepsView kept.old p v
+        → WasDeclined p v message.old result told.new.token kept.new }
+    ensures unchanged { 0 < result → message.new ≡ message.old }
+    ensures stays { result ≡ 0 → IsUsable kept.new }
+{
+    let Some(mut handshake) = handshake_of(kept) else {
+        return STRUCT;
+    };
+    if message.len() > MAX_LEN {
+        return LENGTH;
+    }
+    match handshake.read_within(message) {
+        Ok((start, end)) => {
+            told.from = start;
+            told.len = end - start;
+            keep(kept, handshake);
+            OK
+        }
+        Err(fault) => {
+            let (code, token) = read_code(fault);
+            if code == AGREEMENT {
+                return tell_wanted_to_read(kept, message, told);
+            }
+            told.token = token;
+            keep(kept, handshake);
+            code
+        }
+    }
+}
