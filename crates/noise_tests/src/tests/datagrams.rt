@@ -219,7 +219,7 @@ fn agrees(rt: &impl Abort, alloc: Global, window: Window) {
     let mut pair = new_pair(rt, window);
     let mut opened: Vec<u64> = Vec::new(alloc);
     let mut state: u64 = 1;
-    for i in 0..400 {
+    for i in 0..10_000 {
         state = state
             .wrapping_mul(6364136223846793005)
             .wrapping_add(1442695040888963407);
