@@ -1,5 +1,6 @@
 pub mod Block
 pub mod Cuts
+pub mod Expectations
 pub mod FileKeys
 pub mod HexWord
 pub mod OwnPattern

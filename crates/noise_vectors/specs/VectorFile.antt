@@ -10,6 +10,8 @@ use Rattle.noise_handshake.specs.Table.{TableEntry}
 use Rattle.noise_names.specs.declared.token.Role.{Role}
 use Rattle.noise_duel.specs.declared.event.Event.{Event}
 use Rattle.noise_duel.specs.declared.event.Event.TheVariants.{Write, Say, Deliver, Raw}
+use Rattle.noise_duel.specs.declared.datagram_event.DatagramEvent.{DatagramEvent}
+use Rattle.noise_duel.specs.declared.datagram_event.DatagramEvent.TheVariants as datagram
 use Rattle.noise_vectors.specs.Cuts.{AreCuts}
 use Rattle.noise_vectors.specs.OwnPattern.{HasName}
 use Rattle.noise_vectors.specs.VectorText.{text_of}
@@ -20,7 +22,10 @@ use Rattle.noise_vectors.specs.declared.file_keys.FileKeys.{FileKeys}
 use Rattle.noise_vectors.specs.declared.file_keys.FileKeys.TheVariants.{Xor, Table}
 use Rattle.noise_vectors.specs.declared.vector.VectorFile.{VectorFile}
 use Rattle.noise_vectors.specs.declared.vector.AllowedEvents.{AllowedEvents}
-use Rattle.noise_vectors.specs.declared.vector.AllowedEvents.TheVariants.{SayOnly, Any}
+use Rattle.noise_vectors.specs.declared.vector.AllowedEvents.TheVariants.{SayOnly, Any, VersionOne}
+use Rattle.noise_vectors.specs.declared.vector.FileDatagrams.{FileDatagrams}
+use Rattle.noise_vectors.specs.declared.vector.Version.{Version}
+use Rattle.noise_vectors.specs.declared.vector.Version.TheVariants.{One, Two}
 
 -- a pattern of its own is there exactly where the base is of no fundamental one, and is within the limits and of the protocol's name
 abbrev pub IsOwn : Section → Option Plan → Type 0
@@ -54,11 +59,38 @@ IsEvent (Write role payload) = IsShort payload.items
 IsEvent (Deliver role number cuts) = (number < 2 ^ 32) × AreCuts cuts
 IsEvent (Raw role bytes) = AreBytes 131072 bytes.items
 
+-- a payload has at most 65535 bytes, a datagram's number is below 2^32, and bytes from anywhere are at most 131072
+abbrev pub IsDatagramEvent : DatagramEvent → Type 0
+IsDatagramEvent (datagram.Seal role payload) = IsShort payload.items
+IsDatagramEvent (datagram.Open role number) = number < 2 ^ 32
+IsDatagramEvent (datagram.Raw role bytes) = AreBytes 131072 bytes.items
+
+-- at least one byte, and each one is printed: a space (32) to a tilde (126)
+abbrev pub IsExpected : List ℕ → Type 0
+IsExpected words = (0 < length words) × All (λ b. (32 ≤ b) × (b ≤ 126)) words
+
+-- what only the version has
+abbrev pub IsVersion : Version → Type 0
+IsVersion One = ⊤
+IsVersion (Two additions) = IfSome additions.datagrams (λ over. All IsDatagramEvent over.events.items)
+    × All (λ words. IsExpected words.items) additions.expected.items
+
 -- where only `say` is allowed, no other event is
 abbrev pub IsAllowed : AllowedEvents → Event → Type 0
 IsAllowed SayOnly (Say role payload cuts) = ⊤
 IsAllowed SayOnly event = ⊥
 IsAllowed Any event = ⊤
+IsAllowed VersionOne event = ⊤
+
+-- where only `say` is allowed, there are no datagrams
+abbrev pub IsAllowedVersion : AllowedEvents → Version → Type 0
+IsAllowedVersion SayOnly One = ⊤
+IsAllowedVersion SayOnly (Two additions) = additions.datagrams ≡ None
+IsAllowedVersion Any version = ⊤
+IsAllowedVersion VersionOne version = version ≡ One
+
+abbrev pub IsAllowedFile : AllowedEvents → VectorFile → Type 0
+IsAllowedFile allowed file = All (IsAllowed allowed) file.events.items × IsAllowedVersion allowed file.version
 
 -- what an end says, as an event
 abbrev pub say_of : Role × Vec ℕ Global × List ℕ → Event
@@ -74,9 +106,10 @@ pub record IsVectorFile (file : VectorFile) : Type 0 where
   pub initiator : AreKeys file.initiator
   pub responder : AreKeys file.responder
   pub events : All IsEvent file.events.items
+  pub version : IsVersion file.version
 
--- why a text isn't read: it is that of no vector file with such events, or memory ran out
+-- why a text isn't read: it is that of no vector file that is allowed, or memory ran out
 abbrev pub IsReadFault : AllowedEvents → List ℕ → VectorFault → Type 0
 IsReadFault allowed text (Line number kind) =
-    (file : VectorFile) → IsVectorFile file → All (IsAllowed allowed) file.events.items → text ≡ text_of file → ⊥
+    (file : VectorFile) → IsVectorFile file → IsAllowedFile allowed file → text ≡ text_of file → ⊥
 IsReadFault allowed text Memory = ⊤

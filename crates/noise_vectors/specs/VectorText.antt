@@ -1,5 +1,6 @@
 -- The text of a vector file.
-use Rattle.std.specs.Prelude.{ℕ, List, [], ◌∷◌, ◌++◌, Option, Some, None, codes, map, decimal}
+use Rattle.std.specs.Global.{Global}
+use Rattle.std.specs.Prelude.{ℕ, Vec, List, [], ◌∷◌, ◌++◌, Option, Some, None, codes, map, decimal}
 use Rattle.std.specs.List.{join_with_byte}
 use Rattle.hex.specs.Hex.{encode_lower}
 use Rattle.noise_names.specs.declared.token.Role.{Role}
@@ -12,10 +13,17 @@ use Rattle.noise_handshake.specs.declared.keys.Own.TheVariants.{Ephemeral, Stati
 use Rattle.noise_handshake.specs.Table.{TableEntry}
 use Rattle.noise_duel.specs.declared.event.Event.{Event}
 use Rattle.noise_duel.specs.declared.event.Event.TheVariants.{Write, Say, Deliver, Raw}
+use Rattle.noise_duel.specs.declared.datagram_event.DatagramEvent.{DatagramEvent}
+use Rattle.noise_duel.specs.declared.datagram_event.DatagramEvent.TheVariants as datagram
+use Rattle.noise_session.specs.declared.window.Window.{Window}
+use Rattle.noise_session.specs.Windows.{width_of}
 use Rattle.noise_vectors.specs.HexWord.{hex_of}
 use Rattle.noise_vectors.specs.declared.file_keys.FileKeys.{FileKeys}
 use Rattle.noise_vectors.specs.declared.file_keys.FileKeys.TheVariants.{Xor, Table}
+use Rattle.noise_vectors.specs.declared.vector.FileDatagrams.{FileDatagrams}
 use Rattle.noise_vectors.specs.declared.vector.VectorFile.{VectorFile}
+use Rattle.noise_vectors.specs.declared.vector.Version.{Version}
+use Rattle.noise_vectors.specs.declared.vector.Version.TheVariants.{One, Two}
 use Rattle.noise_vectors.specs.declared.words.EventKind.{EventKind}
 use Rattle.noise_vectors.specs.declared.words.EventKind.TheVariants as kinds
 
@@ -79,9 +87,36 @@ event_words (Write role payload) = codes "write " ++ (role_word role ++ 32 ∷ h
 event_words (Deliver role number cuts) = codes "deliver " ++ (role_word role ++ 32 ∷ (decimal number ++ 32 ∷ lengths_word cuts))
 event_words (Raw role bytes) = codes "raw " ++ (role_word role ++ 32 ∷ hex_of bytes.items)
 
+-- an event behind `datagrams`; bytes from anywhere are `foreign`
+abbrev pub datagram_event_words : DatagramEvent → List ℕ
+datagram_event_words (datagram.Seal role payload) = codes "seal " ++ (role_word role ++ 32 ∷ hex_of payload.items)
+datagram_event_words (datagram.Open role number) = codes "open " ++ (role_word role ++ 32 ∷ decimal number)
+datagram_event_words (datagram.Raw role bytes) = codes "foreign " ++ (role_word role ++ 32 ∷ hex_of bytes.items)
+
+-- the line that both ends go over with: the window's width
+abbrev pub window_words : Window → List ℕ
+window_words window = codes "datagrams " ++ decimal (width_of window)
+
+-- the datagrams, where the file has them
+abbrev pub datagrams_text : Option FileDatagrams → List ℕ → List ℕ
+datagrams_text None rest = rest
+datagrams_text (Some over) rest = line (window_words over.window) (lines_of datagram_event_words over.events.items rest)
+
+abbrev pub expect_words : Vec ℕ Global → List ℕ
+expect_words words = codes "expect " ++ words.items
+
+abbrev pub header_words : Version → List ℕ
+header_words One = codes "vector 1"
+header_words (Two additions) = codes "vector 2"
+
+-- what only the version has, behind the events
+abbrev pub version_text : Version → List ℕ
+version_text One = []
+version_text (Two additions) = datagrams_text additions.datagrams (lines_of expect_words additions.expected.items [])
+
 abbrev pub text_of : VectorFile → List ℕ
 text_of file =
-    line (codes "vector 1")
+    line (header_words file.version)
     (line (codes "protocol " ++ name_bytes file.protocol)
     (block_text file.block
     (line (codes "prologue " ++ hex_of file.prologue.items)
@@ -89,4 +124,4 @@ text_of file =
     (lines_of psk_words file.psks.items
     (party_text Initiator file.initiator
     (party_text Responder file.responder
-    (lines_of event_words file.events.items []))))))))
+    (lines_of event_words file.events.items (version_text file.version)))))))))

@@ -17,6 +17,7 @@ pub enum LineKind {
     Keys,
     Answer,
     Event,
+    Expect,
     Ending,
 }
 

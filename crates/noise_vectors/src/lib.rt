@@ -21,4 +21,4 @@ pub use file_keys::FileKeys;
 pub use hex_words::{hex_word, read_hex};
 pub use reading::read_vector;
 pub use says::said_lines;
-pub use vector::{AllowedEvents, VectorFile};
+pub use vector::{Additions, AllowedEvents, FileDatagrams, VectorFile, Version};

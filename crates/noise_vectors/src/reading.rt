@@ -10,7 +10,7 @@ ghost use Rattle.noise_names.specs.Fundamental.{fundamental_of};
 ghost use Rattle.noise_vectors.specs.HexWord.{hex_of};
 ghost use Rattle.noise_vectors.specs.VectorText.{block_text, line, lines_of, psk_words, text_of};
 ghost use Rattle.noise_vectors.specs.OwnPattern.{HasName};
-ghost use Rattle.noise_vectors.specs.VectorFile.{ArePsks, IsAllowed, IsOwn, IsShort, IsVectorFile};
+ghost use Rattle.noise_vectors.specs.VectorFile.{ArePsks, IsAllowedFile, IsOwn, IsShort, IsVectorFile};
 ghost use Rattle.noise_vectors.specs.Words.{IsKey};
 ghost use Rattle.noise_vectors.specs.declared.faults.VectorFault.TheVariants.{Memory};
 
@@ -33,10 +33,10 @@ pub fn read_vector(
 ) -> Result<VectorFile, VectorFault>
     ensures text { IfOk result (λ file. text.now ≡ text_of file) }
     ensures right { IfOk result IsVectorFile }
-    ensures allowed { IfOk result (λ file. All (IsAllowed allowed) file.events.items) }
+    ensures allowed { IfOk result (IsAllowedFile allowed) }
 
     // The text of a right file is refused only for want of memory.
-    ensures every { (file : VectorFile) → IsVectorFile file → All (IsAllowed allowed) file.events.items → text.now ≡ text_of file
+    ensures every { (file : VectorFile) → IsVectorFile file → IsAllowedFile allowed file → text.now ≡ text_of file
         → IfErr result (λ fault. fault ≡ Memory) }
 {
     let mut lines = Lines::new(text);

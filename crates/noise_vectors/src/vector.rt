@@ -4,8 +4,9 @@ ghost use Rattle.std.specs.Prelude.{◌≤◌, vec_len};
 
 use crate::file_keys::FileKeys;
 use arrayvec::ArrayVec;
-use noise_duel::Event;
+use noise_duel::{DatagramEvent, Event};
 use noise_names::{Pattern, ProtocolName};
+use noise_session::Window;
 
 /// What a vector file says.
 #[derive(Debug, Drop)]
@@ -21,14 +22,41 @@ pub struct VectorFile {
     pub initiator: FileKeys,
     pub responder: FileKeys,
     pub events: Vec<Event>,
+    /// The file's version, and what only that version has.
+    pub version: Version,
     pub ghost short: { vec_len prologue ≤ 65535 },
 }
 
-/// Which events a file may have.
+/// The version of a vector file, and what only that version has, which stands behind the events.
+#[derive(Debug, Drop)]
+pub enum Version {
+    One,
+    Two(Additions),
+}
+
+/// What version 2 adds.
+#[derive(Debug, Drop)]
+pub struct Additions {
+    /// Where both ends go over to datagrams behind the events.
+    pub datagrams: Option<FileDatagrams>,
+    /// The lines of output that are expected, each without its LF; none where nothing is expected.
+    pub expected: Vec<Vec<u8>>,
+}
+
+/// How both ends go over to datagrams, and what happens then.
+#[derive(Debug, Drop)]
+pub struct FileDatagrams {
+    pub window: Window,
+    pub events: Vec<DatagramEvent>,
+}
+
+/// What a file may have.
 #[derive(Clone, Copy, Debug, PartialEq, Eq)]
 pub enum AllowedEvents {
-    /// `say` alone.
+    /// The event `say` alone, and no datagrams; either version.
     SayOnly,
-    /// All four.
+    /// All that either version has.
     Any,
+    /// All that version 1 has, and that version alone.
+    VersionOne,
 }
