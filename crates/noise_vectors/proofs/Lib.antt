@@ -1,3 +1,4 @@
+pub mod AdditionLemmas
 pub mod BlockLemmas
 pub mod CutLemmas
 pub mod EventLemmas

@@ -1,5 +1,6 @@
 -- What is left of a vector file's text where its lines are read one after the other.
-use Rattle.std.proofs.Common.{◌≡◌, refl, subst, sym, false, ℕ, List, [], ◌∷◌, ◌++◌, Option, codes, decimal}
+use Rattle.std.proofs.Common.{◌≡◌, refl, subst, sym, false, ℕ, Vec, List, [], ◌∷◌, ◌++◌, Option, Some, None, codes, decimal}
+use Rattle.std.specs.Global.{Global}
 use Rattle.std.specs.Bool.{nat_eq}
 use Rattle.std.specs.List.{starts_with}
 use Rattle.noise_names.specs.declared.token.Role.TheVariants.{Initiator, Responder}
@@ -9,15 +10,18 @@ use Rattle.noise_duel.specs.declared.event.Event.{Event}
 use Rattle.noise_duel.specs.declared.event.Event.TheVariants.{Write, Say, Deliver, Raw}
 use Rattle.noise_vectors.specs.HexWord.{hex_of}
 use Rattle.noise_vectors.specs.VectorFile.{IsOwn}
-use Rattle.noise_vectors.specs.VectorText.{block_text, line, lines_of, party_text, psk_words, event_words}
+use Rattle.noise_vectors.specs.VectorText.{block_text, datagrams_text, event_words, expect_words, line, lines_of, party_text, psk_words, version_text}
 use Rattle.noise_vectors.specs.declared.file_keys.FileKeys.{FileKeys}
 use Rattle.noise_vectors.specs.declared.file_keys.FileKeys.TheVariants.{Xor, Table}
+use Rattle.noise_vectors.specs.declared.vector.FileDatagrams.{FileDatagrams}
 use Rattle.noise_vectors.specs.declared.vector.VectorFile.{VectorFile}
+use Rattle.noise_vectors.specs.declared.vector.Version.{Version}
+use Rattle.noise_vectors.specs.declared.vector.Version.TheVariants.{One, Two}
 
 -- ---- what stands behind each part of the text
 
 abbrev pub behind_responder : VectorFile → List ℕ
-behind_responder file = lines_of event_words file.events.items []
+behind_responder file = lines_of event_words file.events.items (version_text file.version)
 
 abbrev pub behind_initiator : VectorFile → List ℕ
 behind_initiator file = party_text Responder file.responder (behind_responder file)
@@ -50,12 +54,26 @@ responder-no_answer : (keys : FileKeys) (rest : List ℕ) → starts_with nat_eq
 responder-no_answer (Xor keys) rest = refl
 responder-no_answer (Table keys) rest = refl
 
-events-no_answer : (events : List Event) → starts_with nat_eq (lines_of event_words events []) (codes "answer ") ≡ false
-events-no_answer [] = refl
-events-no_answer (Say role payload cuts ∷ events) = refl
-events-no_answer (Write role payload ∷ events) = refl
-events-no_answer (Deliver role number cuts ∷ events) = refl
-events-no_answer (Raw role bytes ∷ events) = refl
+expected-no_answer : (expected : List (Vec ℕ Global)) → starts_with nat_eq (lines_of expect_words expected []) (codes "answer ") ≡ false
+expected-no_answer [] = refl
+expected-no_answer (words ∷ more) = refl
+
+datagrams-no_answer : (over : Option FileDatagrams) (expected : List (Vec ℕ Global))
+    → starts_with nat_eq (datagrams_text over (lines_of expect_words expected [])) (codes "answer ") ≡ false
+datagrams-no_answer None expected = expected-no_answer expected
+datagrams-no_answer (Some over) expected = refl
+
+version-no_answer : (version : Version) → starts_with nat_eq (version_text version) (codes "answer ") ≡ false
+version-no_answer One = refl
+version-no_answer (Two additions) = datagrams-no_answer additions.datagrams additions.expected.items
+
+events-no_answer : (events : List Event) (version : Version)
+    → starts_with nat_eq (lines_of event_words events (version_text version)) (codes "answer ") ≡ false
+events-no_answer [] version = version-no_answer version
+events-no_answer (Say role payload cuts ∷ events) version = refl
+events-no_answer (Write role payload ∷ events) version = refl
+events-no_answer (Deliver role number cuts ∷ events) version = refl
+events-no_answer (Raw role bytes ∷ events) version = refl
 
 -- no psk line stands behind the psk lines
 pub psks-end : (file : VectorFile) → starts_with nat_eq (behind_psks file) (codes "psk ") ≡ false
@@ -67,7 +85,7 @@ initiator-ends file = responder-no_answer file.responder (behind_responder file)
 
 -- nor behind the responder's
 pub responder-ends : (file : VectorFile) → starts_with nat_eq (behind_responder file) (codes "answer ") ≡ false
-responder-ends file = events-no_answer file.events.items
+responder-ends file = events-no_answer file.events.items file.version
 
 -- ---- the pattern
 

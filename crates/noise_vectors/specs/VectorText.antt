@@ -1,7 +1,8 @@
 -- The text of a vector file.
 use Rattle.std.specs.Global.{Global}
-use Rattle.std.specs.Prelude.{ℕ, Vec, List, [], ◌∷◌, ◌++◌, Option, Some, None, codes, map, decimal}
-use Rattle.std.specs.List.{join_with_byte}
+use Rattle.std.specs.Prelude.{◌≡◌, ◌⊎◌, IsTrue, ℕ, Vec, List, [], ◌∷◌, ◌++◌, Option, Some, None, Bool, true, false, if◌then◌else◌, codes, map, decimal}
+use Rattle.std.specs.Bool.{nat_eq}
+use Rattle.std.specs.List.{join_with_byte, starts_with}
 use Rattle.hex.specs.Hex.{encode_lower}
 use Rattle.noise_names.specs.declared.token.Role.{Role}
 use Rattle.noise_names.specs.declared.token.Role.TheVariants.{Initiator, Responder}
@@ -24,6 +25,8 @@ use Rattle.noise_vectors.specs.declared.vector.FileDatagrams.{FileDatagrams}
 use Rattle.noise_vectors.specs.declared.vector.VectorFile.{VectorFile}
 use Rattle.noise_vectors.specs.declared.vector.Version.{Version}
 use Rattle.noise_vectors.specs.declared.vector.Version.TheVariants.{One, Two}
+use Rattle.noise_vectors.specs.declared.words.DatagramKind.{DatagramKind}
+use Rattle.noise_vectors.specs.declared.words.DatagramKind.TheVariants as of_datagrams
 use Rattle.noise_vectors.specs.declared.words.EventKind.{EventKind}
 use Rattle.noise_vectors.specs.declared.words.EventKind.TheVariants as kinds
 
@@ -87,6 +90,11 @@ event_words (Write role payload) = codes "write " ++ (role_word role ++ 32 ∷ h
 event_words (Deliver role number cuts) = codes "deliver " ++ (role_word role ++ 32 ∷ (decimal number ++ 32 ∷ lengths_word cuts))
 event_words (Raw role bytes) = codes "raw " ++ (role_word role ++ 32 ∷ hex_of bytes.items)
 
+abbrev pub datagram_kind_word : DatagramKind → List ℕ
+datagram_kind_word of_datagrams.Seal = codes "seal"
+datagram_kind_word of_datagrams.Open = codes "open"
+datagram_kind_word of_datagrams.Foreign = codes "foreign"
+
 -- an event behind `datagrams`; bytes from anywhere are `foreign`
 abbrev pub datagram_event_words : DatagramEvent → List ℕ
 datagram_event_words (datagram.Seal role payload) = codes "seal " ++ (role_word role ++ 32 ∷ hex_of payload.items)
@@ -105,9 +113,14 @@ datagrams_text (Some over) rest = line (window_words over.window) (lines_of data
 abbrev pub expect_words : Vec ℕ Global → List ℕ
 expect_words words = codes "expect " ++ words.items
 
-abbrev pub header_words : Version → List ℕ
-header_words One = codes "vector 1"
-header_words (Two additions) = codes "vector 2"
+-- whether it is version 2
+abbrev pub is_second : Version → Bool
+is_second One = false
+is_second (Two additions) = true
+
+-- the first line, of version 2 or of version 1
+abbrev pub header_words : Bool → List ℕ
+header_words second = if second then codes "vector 2" else codes "vector 1"
 
 -- what only the version has, behind the events
 abbrev pub version_text : Version → List ℕ
@@ -116,7 +129,7 @@ version_text (Two additions) = datagrams_text additions.datagrams (lines_of expe
 
 abbrev pub text_of : VectorFile → List ℕ
 text_of file =
-    line (header_words file.version)
+    line (header_words (is_second file.version))
     (line (codes "protocol " ++ name_bytes file.protocol)
     (block_text file.block
     (line (codes "prologue " ++ hex_of file.prologue.items)
@@ -125,3 +138,11 @@ text_of file =
     (party_text Initiator file.initiator
     (party_text Responder file.responder
     (lines_of event_words file.events.items (version_text file.version)))))))))
+
+-- what may stand behind the lines of the events: nothing, the datagrams, or what is expected
+abbrev pub BehindEvents : List ℕ → Type 0
+BehindEvents rest = (rest ≡ []) ⊎ IsTrue (starts_with nat_eq rest (codes "datagrams ")) ⊎ IsTrue (starts_with nat_eq rest (codes "expect "))
+
+-- what may stand behind the lines of the datagrams
+abbrev pub BehindDatagrams : List ℕ → Type 0
+BehindDatagrams rest = (rest ≡ []) ⊎ IsTrue (starts_with nat_eq rest (codes "expect "))

@@ -1,13 +1,13 @@
 //! The lines of events.
 
-ghost use Rattle.std.specs.Prelude.{◌≡◌, ◌<◌, ◌^◌, ◌∷◌, ◌++◌, [], ℕ, List, IfErr, IfOk, IfSome, IsSome, MatchOption, decimal};
+ghost use Rattle.std.specs.Prelude.{◌≡◌, ◌<◌, ◌^◌, ◌∷◌, ◌++◌, ◌↔◌, ℕ, List, IfOk, IfSome, IsSome, IsTrue, MatchOption, MatchResult, decimal};
 ghost use Rattle.std.specs.List.{All};
 ghost use Rattle.noise_names.specs.declared.token.Role.{Role};
 ghost use Rattle.noise_duel.specs.declared.event.Event.{Event};
 ghost use Rattle.noise_vectors.specs.Cuts.{AreCuts};
 ghost use Rattle.noise_vectors.specs.HexWord.{hex_of};
 ghost use Rattle.noise_vectors.specs.VectorFile.{IsAllowed, IsEvent, IsShort};
-ghost use Rattle.noise_vectors.specs.VectorText.{event_words, kind_word, lengths_word, lines_of, role_word};
+ghost use Rattle.noise_vectors.specs.VectorText.{BehindEvents, event_words, kind_word, lengths_word, lines_of, role_word};
 ghost use Rattle.noise_vectors.specs.declared.words.EventKind.{EventKind};
 ghost use Rattle.noise_vectors.specs.declared.faults.VectorFault.TheVariants.{Memory};
 
@@ -20,21 +20,22 @@ use noise_duel::{Cuts, Event};
 use noise_names::Role;
 use std::alloc::{AllocError, Global};
 
-/// The events that the lines to the text's end are. One that isn't allowed is a fault.
+/// The events that the lines are, as far as those of the datagrams, those of what is expected, or the text's end. One that isn't allowed is a
+/// fault.
 pub(crate) fn read_events(
     alloc: Global,
     lines: &mut Lines<'_>,
     allowed: AllowedEvents,
 ) -> Result<Vec<Event>, VectorFault>
-    ensures text { IfOk result (λ events. lines.old.rest.now ≡ lines_of event_words events.items []) }
+    ensures text { IfOk result (λ events. lines.old.rest.now ≡ lines_of event_words events.items lines.new.rest.now) }
     ensures right { IfOk result (λ events. All IsEvent events.items) }
     ensures allowed { IfOk result (λ events. All (IsAllowed allowed) events.items) }
-    ensures every { (events : List Event) → All IsEvent events → All (IsAllowed allowed) events
-        → lines.old.rest.now ≡ lines_of event_words events []
-        → IfErr result (λ fault. fault ≡ Memory) }
+    ensures every { (events : List Event) (rest : List ℕ) → All IsEvent events → All (IsAllowed allowed) events → BehindEvents rest
+        → lines.old.rest.now ≡ lines_of event_words events rest
+        → MatchResult result (λ read. lines.new.rest.now ≡ rest) (λ fault. fault ≡ Memory) }
 {
     let mut events = Vec::new(alloc);
-    while !lines.is_empty() {
+    while !is_behind_events(lines.rest) {
         let line = lines.next()?;
         let Some(event) = read_event(alloc, line, allowed)? else {
             return Err(lines.fault(LineKind::Event));
@@ -45,6 +46,15 @@ pub(crate) fn read_events(
         }
     }
     Ok(events)
+}
+
+// Whether no event stands next.
+fn is_behind_events(rest: &[u8]) -> bool
+    ensures { IsTrue result ↔ BehindEvents rest.now }
+{
+    rest.is_empty()
+        || rest.starts_with(b"datagrams ".as_slice())
+        || rest.starts_with(b"expect ".as_slice())
 }
 
 // The event that a line is, where it is allowed.

@@ -1,9 +1,12 @@
 //! Reads vector files: what a file says that two ends of a session start from, and what is done to them.
 #![tactic(auto)]
 
+mod additions;
 mod block;
 mod cuts;
+mod datagram_events;
 mod events;
+mod expected;
 mod faults;
 mod file_keys;
 mod hex_words;

@@ -1,6 +1,6 @@
 //! Reading a vector file: the order of its lines.
 
-ghost use Rattle.std.specs.Prelude.{◌≡◌, ◌<◌, ◌≤◌, ◌^◌, ◌++◌, ◌↔◌, ℕ, List, Option, Some, None, codes, decimal, length, vec_len};
+ghost use Rattle.std.specs.Prelude.{◌≡◌, ◌<◌, ◌≤◌, ◌^◌, ◌++◌, ◌↔◌, ℕ, List, Option, Some, None, Bool, false, codes, decimal, length, vec_len};
 ghost use Rattle.std.specs.Prelude.{IfErr, IfOk, IfSome, IsFalse, IsOk, IsSome, MatchResult, OnOk};
 ghost use Rattle.std.specs.Bool.{nat_eq};
 ghost use Rattle.std.specs.List.{All, starts_with};
@@ -8,12 +8,14 @@ ghost use Rattle.noise_names.specs.Names.{IsSection, Section, name_bytes};
 ghost use Rattle.noise_names.specs.Plan.{Plan};
 ghost use Rattle.noise_names.specs.Fundamental.{fundamental_of};
 ghost use Rattle.noise_vectors.specs.HexWord.{hex_of};
-ghost use Rattle.noise_vectors.specs.VectorText.{block_text, line, lines_of, psk_words, text_of};
+ghost use Rattle.noise_vectors.specs.VectorText.{block_text, header_words, line, lines_of, psk_words, text_of};
 ghost use Rattle.noise_vectors.specs.OwnPattern.{HasName};
 ghost use Rattle.noise_vectors.specs.VectorFile.{ArePsks, IsAllowedFile, IsOwn, IsShort, IsVectorFile};
 ghost use Rattle.noise_vectors.specs.Words.{IsKey};
 ghost use Rattle.noise_vectors.specs.declared.faults.VectorFault.TheVariants.{Memory};
+ghost use Rattle.noise_vectors.specs.declared.vector.AllowedEvents.TheVariants.{VersionOne};
 
+use crate::additions::read_version;
 use crate::block::read_block;
 use crate::events::read_events;
 use crate::faults::{LineKind, VectorFault};
@@ -40,7 +42,7 @@ pub fn read_vector(
         → IfErr result (λ fault. fault ≡ Memory) }
 {
     let mut lines = Lines::new(text);
-    read_header(&mut lines)?;
+    let second = read_header(&mut lines, allowed)?;
     let protocol = read_protocol(&mut lines)?;
     let block = read_own_pattern(&mut lines, &protocol)?;
     let prologue = read_prologue(alloc, &mut lines)?;
@@ -49,6 +51,7 @@ pub fn read_vector(
     let initiator = read_party(&mut lines, Role::Initiator)?;
     let responder = read_party(&mut lines, Role::Responder)?;
     let events = read_events(alloc, &mut lines, allowed)?;
+    let version = read_version(alloc, &mut lines, second, allowed)?;
     Ok(VectorFile {
         protocol,
         block,
@@ -58,19 +61,39 @@ pub fn read_vector(
         initiator,
         responder,
         events,
+        version,
     })
 }
 
-fn read_header(lines: &mut Lines<'_>) -> Result<(), VectorFault>
-    ensures text { OnOk result (lines.old.rest.now ≡ line (codes "vector 1") lines.new.rest.now) }
-    ensures every { (rest : List ℕ) → lines.old.rest.now ≡ line (codes "vector 1") rest
-        → IsOk result × (lines.new.rest.now ≡ rest) }
+// Whether the file is of version 2.
+fn read_header(lines: &mut Lines<'_>, allowed: AllowedEvents) -> Result<bool, VectorFault>
+    ensures text { IfOk result (λ second. lines.old.rest.now ≡ line (header_words second) lines.new.rest.now) }
+    ensures allowed { IfOk result (λ second. allowed ≡ VersionOne → second ≡ false) }
+    ensures every { (second : Bool) (rest : List ℕ) → (allowed ≡ VersionOne → second ≡ false)
+        → lines.old.rest.now ≡ line (header_words second) rest
+        → MatchResult result (λ read. (read ≡ second) × (lines.new.rest.now ≡ rest)) (λ fault. ⊥) }
 {
     let line = lines.next()?;
-    if line != b"vector 1".as_slice() {
+    let Some(second) = is_second(line) else {
+        return Err(lines.fault(LineKind::Header));
+    };
+    if second && allowed == AllowedEvents::VersionOne {
         return Err(lines.fault(LineKind::Header));
     }
-    lines.end()
+    lines.end()?;
+    Ok(second)
+}
+
+// Whether the line is the header of version 2, where it is a header.
+fn is_second(line: &[u8]) -> Option<bool>
+    ensures text { IfSome result (λ second. line.now ≡ header_words second) }
+    ensures every { (second : Bool) → line.now ≡ header_words second → result ≡ Some second }
+{
+    match line.strip_prefix(b"vector ".as_slice())? {
+        [b'1'] => Some(false),
+        [b'2'] => Some(true),
+        _ => None,
+    }
 }
 
 fn read_protocol(lines: &mut Lines<'_>) -> Result<ProtocolName, VectorFault>

@@ -7,7 +7,8 @@ ghost use Rattle.hex.specs.Hex.{encode_lower};
 ghost use Rattle.noise_handshake.specs.declared.keys.Own.{Own};
 ghost use Rattle.noise_names.specs.declared.token.Role.{Role};
 ghost use Rattle.noise_vectors.specs.VectorFile.{AreBytes};
-ghost use Rattle.noise_vectors.specs.VectorText.{key_word, kind_word, own_word, role_word};
+ghost use Rattle.noise_vectors.specs.VectorText.{datagram_kind_word, key_word, kind_word, own_word, role_word};
+ghost use Rattle.noise_vectors.specs.declared.words.DatagramKind.{DatagramKind};
 ghost use Rattle.noise_vectors.specs.declared.words.EventKind.{EventKind};
 ghost use Rattle.noise_vectors.specs.Words.{IsKey, lacks};
 
@@ -24,6 +25,14 @@ pub(crate) enum EventKind {
     Write,
     Deliver,
     Raw,
+}
+
+/// The kinds of events behind `datagrams`.
+#[derive(Clone, Copy, Debug, PartialEq, Eq)]
+pub(crate) enum DatagramKind {
+    Seal,
+    Open,
+    Foreign,
 }
 
 /// What stands before the first such byte, and what stands behind it.
@@ -124,6 +133,19 @@ pub(crate) fn read_kind(word: &[u8]) -> Option<EventKind>
         b"write" => Some(EventKind::Write),
         b"deliver" => Some(EventKind::Deliver),
         b"raw" => Some(EventKind::Raw),
+        _ => None,
+    }
+}
+
+/// `seal`, `open` or `foreign`.
+pub(crate) fn read_datagram_kind(word: &[u8]) -> Option<DatagramKind>
+    ensures value { IfSome result (λ kind. word.now ≡ datagram_kind_word kind) }
+    ensures every { (kind : DatagramKind) → word.now ≡ datagram_kind_word kind → result ≡ Some kind }
+{
+    match word {
+        b"seal" => Some(DatagramKind::Seal),
+        b"open" => Some(DatagramKind::Open),
+        b"foreign" => Some(DatagramKind::Foreign),
         _ => None,
     }
 }

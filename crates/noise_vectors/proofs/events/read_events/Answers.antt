@@ -1,12 +1,13 @@
-use Rattle.std.proofs.Common.{rules, arith, ◌≡◌, ◌+◌, ◌∙◌, ap, sym, subst, List, [], ◌∷◌, ◌++◌, length, vec_len}
+use Rattle.std.proofs.Common.{rules, arith, ◌≡◌, ◌+◌, ◌∙◌, ap, sym, refl, subst, ℕ, List, [], ◌∷◌, ◌++◌, length, vec_len}
 use Rattle.std.specs.Prelude.{IsSome, IsTrue}
 use Rattle.std.specs.List.{All}
 use Rattle.std.proofs.lemmas.List.Elements.{All-nil, All-push}
 use Rattle.noise_duel.specs.declared.event.Event.{Event}
 use Rattle.noise_vectors.specs.VectorFile.{IsAllowed, IsEvent}
-use Rattle.noise_vectors.specs.VectorText.{event_words, lines_of}
+use Rattle.noise_vectors.specs.VectorText.{BehindEvents, event_words, line, lines_of}
+use Rattle.noise_vectors.proofs.AdditionLemmas.{event-stands}
 use Rattle.noise_vectors.proofs.EventLemmas.{all-right, event_words-line, IsRight}
-use Rattle.noise_vectors.proofs.LineLemmas.{lines_of-more, FirstLine-step, LinesLeft-first, LinesLeft-start}
+use Rattle.noise_vectors.proofs.LineLemmas.{lines_of-more, FirstLine-step, LinesLeft-end, LinesLeft-first, LinesLeft-start}
 use Rattle.noise_vectors.proofs.events.read_events.Goals as goal
 
 pub loop-alloc-init : goal.loop-alloc-init
@@ -14,31 +15,28 @@ loop-alloc-init c = (
   ap (λ (events : List Event). lines_of event_words events c.args.lines.now.rest.now) (sym c.new-events.ensures.items),
   subst (λ (events : List Event). All (IsAllowed c.args.allowed) events) (sym c.new-events.ensures.items) (All-nil (IsAllowed c.args.allowed)),
   subst (λ (events : List Event). All IsEvent events) (sym c.new-events.ensures.items) (All-nil IsEvent),
-  λ events right allowed e. LinesLeft-start event_words (IsRight c.args.allowed) (length events) (vec_len c.new-events.result) events
-      c.args.lines.now.rest.now [] c.new-events.ensures.len e (all-right c.args.allowed events right allowed) (omega arith),
+  λ events rest right allowed over e. LinesLeft-start event_words (IsRight c.args.allowed) (length events) (vec_len c.new-events.result) events
+      c.args.lines.now.rest.now rest c.new-events.ensures.len e (all-right c.args.allowed events right allowed) (omega arith),
 )
 
 pub returns-in_default-clause-every : goal.returns-in_default-clause-every
-returns-in_default-clause-every c =
-    let some : ¬ (c.loop-alloc.lines.rest.now ≡ []) = λ e. let yes = c.is_empty.ensures.1 e in cc (yes) in
-    λ events right allowed e.
-    let f = LinesLeft-first (c.loop-alloc.invariant.3 events right allowed e) some in
-    let read = c.in_ok-line.ensures.every (event_words f.next) (lines_of event_words f.others []) (event_words-line f.next f.next_good.0) f.left_is in
+returns-in_default-clause-every c = λ events rest right allowed over e.
+    let some : ¬ (c.loop-alloc.lines.rest.now ≡ rest) = λ same. let yes = c.is_behind_events.ensures.1 (subst BehindEvents (sym same) over) in cc (yes) in
+    let f = LinesLeft-first (c.loop-alloc.invariant.3 events rest right allowed over e) some in
+    let read = c.in_ok-line.ensures.every (event_words f.next) (lines_of event_words f.others rest) (event_words-line f.next f.next_good.0) f.left_is in
     let found : IsSome c.in_ok-event.field-0 = c.in_ok-event.ensures.every f.next f.next_good.0 f.next_good.1 read.0 in
     absurd (let none = rw c.in_default.is at found in cc)
 
 pub returns-in_err-end-clause-every : goal.returns-in_err-end-clause-every
-returns-in_err-end-clause-every c =
-    let some : ¬ (c.loop-alloc.lines.rest.now ≡ []) = λ e. let yes = c.is_empty.ensures.1 e in cc (yes) in
-    λ events right allowed e.
-    let f = LinesLeft-first (c.loop-alloc.invariant.3 events right allowed e) some in
-    let read = c.in_ok-line.ensures.every (event_words f.next) (lines_of event_words f.others []) (event_words-line f.next f.next_good.0) f.left_is in
+returns-in_err-end-clause-every c = λ events rest right allowed over e.
+    let some : ¬ (c.loop-alloc.lines.rest.now ≡ rest) = λ same. let yes = c.is_behind_events.ensures.1 (subst BehindEvents (sym same) over) in cc (yes) in
+    let f = LinesLeft-first (c.loop-alloc.invariant.3 events rest right allowed over e) some in
+    let read = c.in_ok-line.ensures.every (event_words f.next) (lines_of event_words f.others rest) (event_words-line f.next f.next_good.0) f.left_is in
     let bad = c.in_err-end.ensures.ended.1 read.2 in
     absurd (cc (bad))
 
 pub loop-alloc-preserved : goal.loop-alloc-preserved
 loop-alloc-preserved c =
-    let some : ¬ (c.loop-alloc.lines.rest.now ≡ []) = λ e. let yes = c.is_empty.ensures.1 e in cc (yes) in
     let ended : IsTrue c.next.new.self.is_ended = search rules in
     let found : c.in_ok-line.line.now ≡ event_words c.in-Some.event = search rules in
     let is_allowed : IsAllowed c.args.allowed c.in-Some.event = search rules in
@@ -52,8 +50,16 @@ loop-alloc-preserved c =
           (All-push (IsAllowed c.args.allowed) c.loop-alloc.events.items c.in-Some.event c.loop-alloc.invariant.1 is_allowed),
       subst (λ (events : List Event). All IsEvent events) (sym pushed)
           (All-push IsEvent c.loop-alloc.events.items c.in-Some.event c.loop-alloc.invariant.2 is_event),
-      λ events right allowed e.
-          let f = LinesLeft-first (c.loop-alloc.invariant.3 events right allowed e) some in
-          let read = c.in_ok-line.ensures.every (event_words f.next) (lines_of event_words f.others []) (event_words-line f.next f.next_good.0) f.left_is in
+      λ events rest right allowed over e.
+          let some : ¬ (c.loop-alloc.lines.rest.now ≡ rest) = λ same. let yes = c.is_behind_events.ensures.1 (subst BehindEvents (sym same) over) in cc (yes) in
+          let f = LinesLeft-first (c.loop-alloc.invariant.3 events rest right allowed over e) some in
+          let read = c.in_ok-line.ensures.every (event_words f.next) (lines_of event_words f.others rest) (event_words-line f.next f.next_good.0) f.left_is in
           FirstLine-step f len read.1,
     )
+
+pub returns-clause-every : goal.returns-clause-every
+returns-clause-every c = λ events rest right allowed over e.
+    let behind : BehindEvents c.loop-alloc.lines.rest.now = search rules in
+    let none : (event : Event) (text : List ℕ) → ¬ (c.loop-alloc.lines.rest.now ≡ line (event_words event) text) =
+    λ event text same. event-stands event text (subst BehindEvents same behind) in
+    LinesLeft-end (c.loop-alloc.invariant.3 events rest right allowed over e) none

@@ -1,0 +1,179 @@
+-- What version 2 adds: how its lines begin, and that they have no line feed (10).
+use Rattle.std.proofs.Common.{arith, ◌≡◌, ◌∙◌, ◌<◌, ◌^◌, ◌==◌, ◌≤◌, ◌⊎◌, inl, inr, not, lit<, ap, refl, sym, true, false, true≢false, ℕ, Vec, Option, Some, None, List, [], ◌∷◌, ◌++◌, codes}
+use Rattle.std.specs.Global.{Global}
+use Rattle.std.specs.Prelude.{decimal, IsTrue}
+use Rattle.std.specs.Bool.{nat_eq}
+use Rattle.std.specs.List.{All, starts_with}
+use Rattle.std.proofs.lemmas.Bool.{and_parts}
+use Rattle.std.proofs.lemmas.Bool.Decides.{nat_tests}
+use Rattle.std.proofs.lemmas.List.Elements.{All-head, All-tail}
+use Rattle.noise_names.specs.declared.token.Role.{Role}
+use Rattle.noise_session.specs.declared.window.Window.{Window}
+use Rattle.noise_session.specs.declared.window.Window.TheVariants.{W64, W256, W1024}
+use Rattle.noise_session.specs.Windows.{width_of}
+use Rattle.noise_duel.specs.declared.datagram_event.DatagramEvent.{DatagramEvent}
+use Rattle.noise_duel.specs.declared.datagram_event.DatagramEvent.TheVariants.{Open, Raw, Seal}
+use Rattle.noise_duel.specs.declared.event.Event.{Event}
+use Rattle.noise_duel.specs.declared.event.Event.TheVariants as event
+use Rattle.noise_vectors.specs.HexWord.{hex_of}
+use Rattle.noise_vectors.specs.VectorFile.{IsAllowedVersion, IsDatagramEvent, IsExpected}
+use Rattle.noise_vectors.specs.VectorText.{BehindDatagrams, BehindEvents, datagram_event_words, datagram_kind_word, event_words, expect_words}
+use Rattle.noise_vectors.specs.VectorText.{datagrams_text, is_second, line, lines_of, role_word, version_text, window_words}
+use Rattle.noise_vectors.specs.Words.{lacks}
+use Rattle.noise_vectors.specs.declared.vector.Additions.{Additions}
+use Rattle.noise_vectors.specs.declared.vector.AllowedEvents.{AllowedEvents}
+use Rattle.noise_vectors.specs.declared.vector.AllowedEvents.TheVariants.{SayOnly, Any, VersionOne}
+use Rattle.noise_vectors.specs.declared.vector.FileDatagrams.{FileDatagrams}
+use Rattle.noise_vectors.specs.declared.vector.Version.{Version}
+use Rattle.noise_vectors.specs.declared.vector.Version.TheVariants.{One, Two}
+use Rattle.noise_vectors.specs.declared.words.DatagramKind.{DatagramKind}
+use Rattle.noise_vectors.specs.declared.words.DatagramKind.TheVariants as kinds
+use Rattle.noise_vectors.proofs.LackLemmas.{lacks-append, lacks-hex_of, role_word-plain}
+use Rattle.noise_vectors.proofs.WordLemmas.{lacks-decimal}
+
+-- ---- what stands next
+
+-- the line of an event isn't behind the events
+pub event-stands : (e : Event) (behind : List ℕ) → ¬ BehindEvents (line (event_words e) behind)
+event-stands (event.Say role payload cuts) behind (inl none) = absurd (cc none)
+event-stands (event.Say role payload cuts) behind (inr (inl begun)) = absurd (cc begun)
+event-stands (event.Say role payload cuts) behind (inr (inr begun)) = absurd (cc begun)
+event-stands (event.Write role payload) behind (inl none) = absurd (cc none)
+event-stands (event.Write role payload) behind (inr (inl begun)) = absurd (cc begun)
+event-stands (event.Write role payload) behind (inr (inr begun)) = absurd (cc begun)
+event-stands (event.Deliver role number cuts) behind (inl none) = absurd (cc none)
+event-stands (event.Deliver role number cuts) behind (inr (inl begun)) = absurd (cc begun)
+event-stands (event.Deliver role number cuts) behind (inr (inr begun)) = absurd (cc begun)
+event-stands (event.Raw role bytes) behind (inl none) = absurd (cc none)
+event-stands (event.Raw role bytes) behind (inr (inl begun)) = absurd (cc begun)
+event-stands (event.Raw role bytes) behind (inr (inr begun)) = absurd (cc begun)
+
+-- nor is that of one of the datagrams' behind them
+pub datagram_event-stands : (e : DatagramEvent) (behind : List ℕ) → ¬ BehindDatagrams (line (datagram_event_words e) behind)
+datagram_event-stands (Seal role payload) behind (inl none) = absurd (cc none)
+datagram_event-stands (Seal role payload) behind (inr begun) = absurd (cc begun)
+datagram_event-stands (Open role number) behind (inl none) = absurd (cc none)
+datagram_event-stands (Open role number) behind (inr begun) = absurd (cc begun)
+datagram_event-stands (Raw role bytes) behind (inl none) = absurd (cc none)
+datagram_event-stands (Raw role bytes) behind (inr begun) = absurd (cc begun)
+
+-- ---- the parts of an event's words
+
+abbrev pub datagram_kind_of : DatagramEvent → DatagramKind
+datagram_kind_of (Seal role payload) = kinds.Seal
+datagram_kind_of (Open role number) = kinds.Open
+datagram_kind_of (Raw role bytes) = kinds.Foreign
+
+abbrev pub datagram_role_of : DatagramEvent → Role
+datagram_role_of (Seal role payload) = role
+datagram_role_of (Open role number) = role
+datagram_role_of (Raw role bytes) = role
+
+-- what stands behind the role
+abbrev pub datagram_operand_of : DatagramEvent → List ℕ
+datagram_operand_of (Seal role payload) = hex_of payload.items
+datagram_operand_of (Open role number) = decimal number
+datagram_operand_of (Raw role bytes) = hex_of bytes.items
+
+pub datagram_event_words-parts : (e : DatagramEvent)
+    → datagram_event_words e ≡ datagram_kind_word (datagram_kind_of e) ++ 32 ∷ (role_word (datagram_role_of e) ++ 32 ∷ datagram_operand_of e)
+datagram_event_words-parts (Seal role payload) = refl
+datagram_event_words-parts (Open role number) = refl
+datagram_event_words-parts (Raw role bytes) = refl
+
+-- the word of a kind has no space (32)
+pub datagram_kind_word-plain : (kind : DatagramKind) → lacks 32 (datagram_kind_word kind) ≡ true
+datagram_kind_word-plain kinds.Seal = refl
+datagram_kind_word-plain kinds.Open = refl
+datagram_kind_word-plain kinds.Foreign = refl
+
+-- ---- no line feed (10)
+
+operand-line : (role : Role) (operand : List ℕ) → lacks 10 operand ≡ true → lacks 10 (role_word role ++ 32 ∷ operand) ≡ true
+operand-line role operand h = lacks-append 10 (role_word role) (32 ∷ operand) (role_word-plain role).0 h
+
+pub datagram_event_words-line : (e : DatagramEvent) → IsDatagramEvent e → lacks 10 (datagram_event_words e) ≡ true
+datagram_event_words-line (Seal role payload) h =
+    lacks-append 10 (codes "seal ") (role_word role ++ 32 ∷ hex_of payload.items) refl
+    (operand-line role (hex_of payload.items) (lacks-hex_of 10 payload.items (lit< tt) h.1))
+datagram_event_words-line (Open role number) h =
+    let small : number < 2 ^ 64 = omega (arith, h) in
+    lacks-append 10 (codes "open ") (role_word role ++ 32 ∷ decimal number) refl (operand-line role (decimal number) (lacks-decimal 10 number (lit< tt) small))
+datagram_event_words-line (Raw role bytes) h =
+    lacks-append 10 (codes "foreign ") (role_word role ++ 32 ∷ hex_of bytes.items) refl
+    (operand-line role (hex_of bytes.items) (lacks-hex_of 10 bytes.items (lit< tt) h.1))
+
+pub width-small : (window : Window) → width_of window < 2 ^ 64
+width-small W64 = omega arith
+width-small W256 = omega arith
+width-small W1024 = omega arith
+
+pub window_words-line : (window : Window) → lacks 10 (window_words window) ≡ true
+window_words-line window = lacks-append 10 (codes "datagrams ") (decimal (width_of window)) refl
+    (lacks-decimal 10 (width_of window) (lit< tt) (width-small window))
+
+abbrev pub IsPrinted : ℕ → Type 0
+IsPrinted b = (32 ≤ b) × (b ≤ 126)
+
+printed-line : (words : List ℕ) → All IsPrinted words → lacks 10 words ≡ true
+printed-line [] h = refl
+printed-line (b ∷ bs) h =
+    let here : IsPrinted b = All-head IsPrinted b bs h in
+    let low : 32 ≤ b = here.0 in
+    let other : (b == 10) ≡ false = grind (arith, nat_tests) in
+    let more = printed-line bs (All-tail IsPrinted b bs h) in
+    rw (other, more) refl
+
+pub expected-line : (words : List ℕ) → IsExpected words → lacks 10 (codes "expect " ++ words) ≡ true
+expected-line words h = lacks-append 10 (codes "expect ") words refl (printed-line words h.1)
+
+-- ---- what a version may have
+
+-- what is expected begins otherwise than the datagrams
+expect-begun : (rest : List ℕ) → starts_with nat_eq rest (codes "expect ") ≡ true → starts_with nat_eq rest (codes "datagrams ") ≡ false
+expect-begun [] h = absurd (cc h)
+expect-begun (b ∷ bs) h =
+    let first : nat_eq 101 b ≡ true = (and_parts (nat_eq 101 b) _ h).0 in
+    let other : nat_eq 100 b ≡ false = grind (arith, nat_tests) in
+    rw other refl
+
+behind-begun : (rest : List ℕ) → BehindDatagrams rest → starts_with nat_eq rest (codes "datagrams ") ≡ false
+behind-begun rest (inl none) = rw none refl
+behind-begun rest (inr begun) = expect-begun rest begun
+
+-- where their first line stands next, there are datagrams
+pub over-stands : (over : Option FileDatagrams) (left rest : List ℕ) → starts_with nat_eq left (codes "datagrams ") ≡ true → BehindDatagrams rest
+    → left ≡ datagrams_text over rest → (d : FileDatagrams) × (over ≡ Some d)
+over-stands (Some d) left rest begun behind e = (d, refl)
+over-stands None left rest begun behind e =
+    absurd (true≢false (sym begun ∙ ap (λ (t : List ℕ). starts_with nat_eq t (codes "datagrams ")) e ∙ behind-begun rest behind))
+
+pub second-has : (version : Version) → is_second version ≡ true → (a : Additions) × (version ≡ Two a)
+second-has One e = absurd (cc e)
+second-has (Two a) e = (a, refl)
+
+pub no-datagrams : (allowed : AllowedEvents) (a : Additions) → IsAllowedVersion allowed (Two a) → allowed ≡ SayOnly → a.datagrams ≡ None
+no-datagrams SayOnly a h e = h
+no-datagrams Any a h e = absurd (cc e)
+no-datagrams VersionOne a h e = absurd (cc e)
+
+pub no-second : (allowed : AllowedEvents) (version : Version) → IsAllowedVersion allowed version → allowed ≡ VersionOne → is_second version ≡ false
+no-second SayOnly version h e = absurd (cc e)
+no-second Any version h e = absurd (cc e)
+no-second VersionOne version h e = ap is_second h
+
+pub expected-behind : (expected : List (Vec ℕ Global)) → BehindDatagrams (lines_of expect_words expected [])
+expected-behind [] = inl refl
+expected-behind (w ∷ ws) = inr refl
+
+expected-end : (expected : List (Vec ℕ Global)) → BehindEvents (lines_of expect_words expected [])
+expected-end [] = inl refl
+expected-end (w ∷ ws) = inr (inr refl)
+
+additions-end : (over : Option FileDatagrams) (expected : List (Vec ℕ Global)) → BehindEvents (datagrams_text over (lines_of expect_words expected []))
+additions-end None expected = expected-end expected
+additions-end (Some d) expected = inr (inl refl)
+
+pub version-behind : (version : Version) → BehindEvents (version_text version)
+version-behind One = inl refl
+version-behind (Two a) = additions-end a.datagrams a.expected.items

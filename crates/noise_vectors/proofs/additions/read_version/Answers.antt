@@ -1,0 +1,30 @@
+use Rattle.std.proofs.Common.{rules, ◌≡◌, ◌∙◌, ap, subst, true, []}
+use Rattle.std.proofs.lemmas.Result.{err_from_is_err_and}
+use Rattle.noise_vectors.specs.VectorFile.{IsAllowedVersion, IsVersion}
+use Rattle.noise_vectors.specs.VectorText.{expect_words, lines_of, version_text}
+use Rattle.noise_vectors.specs.declared.vector.Version.{Version}
+use Rattle.noise_vectors.proofs.AdditionLemmas.{expected-behind, no-datagrams, second-has}
+use Rattle.noise_vectors.proofs.additions.read_version.Goals as goal
+
+pub returns-in_err-datagrams-clause-every : goal.returns-in_err-datagrams-clause-every
+returns-in_err-datagrams-clause-every c =
+    let p = err_from_is_err_and c.from_residual-in_err-datagrams.result c.from_residual-in_err-datagrams.ensures.1 in
+    let second : c.args.second ≡ true = search rules in
+    λ version right allowed which e.
+    let (a, is) = second-has version (which ∙ second) in
+    let h = subst IsVersion is right in
+    let none = no-datagrams c.args.allowed a (subst (IsAllowedVersion c.args.allowed) is allowed) in
+    rw (p.1, p.2) (c.in_err-datagrams.ensures.every a.datagrams (lines_of expect_words a.expected.items []) h.0 none
+    (expected-behind a.expected.items) (e ∙ ap version_text is))
+
+pub returns-in_err-expected-clause-every : goal.returns-in_err-expected-clause-every
+returns-in_err-expected-clause-every c =
+    let p = err_from_is_err_and c.from_residual-in_err-expected.result c.from_residual-in_err-expected.ensures.1 in
+    let second : c.args.second ≡ true = search rules in
+    λ version right allowed which e.
+    let (a, is) = second-has version (which ∙ second) in
+    let h = subst IsVersion is right in
+    let none = no-datagrams c.args.allowed a (subst (IsAllowedVersion c.args.allowed) is allowed) in
+    let read = c.in_ok-datagrams.ensures.every a.datagrams (lines_of expect_words a.expected.items []) h.0 none
+    (expected-behind a.expected.items) (e ∙ ap version_text is) in
+    rw (p.1, p.2) (c.in_err-expected.ensures.every a.expected.items h.1 read)

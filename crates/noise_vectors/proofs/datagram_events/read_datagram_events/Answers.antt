@@ -1,0 +1,66 @@
+use Rattle.std.proofs.Common.{rules, arith, ◌≡◌, ◌+◌, ◌∙◌, ap, sym, subst, ℕ, List, [], ◌∷◌, ◌++◌, length, vec_len}
+use Rattle.std.specs.Prelude.{IsSome, IsTrue}
+use Rattle.std.specs.List.{All}
+use Rattle.std.proofs.lemmas.List.Elements.{All-nil, All-push}
+use Rattle.noise_duel.specs.declared.datagram_event.DatagramEvent.{DatagramEvent}
+use Rattle.noise_vectors.specs.VectorFile.{IsDatagramEvent}
+use Rattle.noise_vectors.specs.VectorText.{BehindDatagrams, datagram_event_words, line, lines_of}
+use Rattle.noise_vectors.proofs.AdditionLemmas.{datagram_event-stands, datagram_event_words-line}
+use Rattle.noise_vectors.proofs.LineLemmas.{lines_of-more, FirstLine-step, LinesLeft-end, LinesLeft-first, LinesLeft-start}
+use Rattle.noise_vectors.proofs.datagram_events.read_datagram_events.Goals as goal
+
+pub loop-alloc-init : goal.loop-alloc-init
+loop-alloc-init c = (
+  ap (λ (events : List DatagramEvent). lines_of datagram_event_words events c.args.lines.now.rest.now) (sym c.new-events.ensures.items),
+  subst (λ (events : List DatagramEvent). All IsDatagramEvent events) (sym c.new-events.ensures.items) (All-nil IsDatagramEvent),
+  λ events rest right over e. LinesLeft-start datagram_event_words IsDatagramEvent (length events) (vec_len c.new-events.result) events
+      c.args.lines.now.rest.now rest c.new-events.ensures.len e right (omega arith),
+)
+
+pub returns-in_default-clause-every : goal.returns-in_default-clause-every
+returns-in_default-clause-every c = λ events rest right over e.
+    let some : ¬ (c.loop-alloc.lines.rest.now ≡ rest) =
+    λ same. let yes = c.is_behind_datagrams.ensures.1 (subst BehindDatagrams (sym same) over) in cc (yes) in
+    let f = LinesLeft-first (c.loop-alloc.invariant.2 events rest right over e) some in
+    let read = c.in_ok-line.ensures.every (datagram_event_words f.next) (lines_of datagram_event_words f.others rest)
+    (datagram_event_words-line f.next f.next_good) f.left_is in
+    let found : IsSome c.in_ok-event.field-0 = c.in_ok-event.ensures.every f.next f.next_good read.0 in
+    absurd (let none = rw c.in_default.is at found in cc)
+
+pub returns-in_err-end-clause-every : goal.returns-in_err-end-clause-every
+returns-in_err-end-clause-every c = λ events rest right over e.
+    let some : ¬ (c.loop-alloc.lines.rest.now ≡ rest) =
+    λ same. let yes = c.is_behind_datagrams.ensures.1 (subst BehindDatagrams (sym same) over) in cc (yes) in
+    let f = LinesLeft-first (c.loop-alloc.invariant.2 events rest right over e) some in
+    let read = c.in_ok-line.ensures.every (datagram_event_words f.next) (lines_of datagram_event_words f.others rest)
+    (datagram_event_words-line f.next f.next_good) f.left_is in
+    let bad = c.in_err-end.ensures.ended.1 read.2 in
+    absurd (cc (bad))
+
+pub loop-alloc-preserved : goal.loop-alloc-preserved
+loop-alloc-preserved c =
+    let ended : IsTrue c.next.new.self.is_ended = search rules in
+    let found : c.in_ok-line.line.now ≡ datagram_event_words c.in-Some.event = search rules in
+    let is_event : IsDatagramEvent c.in-Some.event = search rules in
+    let pushed : c.push.new.self.items ≡ c.loop-alloc.events.items ++ c.in-Some.event ∷ [] = search rules in
+    let len : vec_len c.push.new.self ≡ vec_len c.loop-alloc.events + 1 = search rules in (
+      lines_of-more datagram_event_words c.args.lines.now.rest.now c.loop-alloc.lines.rest.now c.in_ok-line.line.now c.next.new.self.rest.now
+          c.loop-alloc.events.items c.in-Some.event c.loop-alloc.invariant.0 (c.in_ok-line.ensures.ended ended) found
+          ∙ ap (λ (events : List DatagramEvent). lines_of datagram_event_words events c.next.new.self.rest.now) (sym pushed),
+      subst (λ (events : List DatagramEvent). All IsDatagramEvent events) (sym pushed)
+          (All-push IsDatagramEvent c.loop-alloc.events.items c.in-Some.event c.loop-alloc.invariant.1 is_event),
+      λ events rest right over e.
+          let some : ¬ (c.loop-alloc.lines.rest.now ≡ rest) =
+          λ same. let yes = c.is_behind_datagrams.ensures.1 (subst BehindDatagrams (sym same) over) in cc (yes) in
+          let f = LinesLeft-first (c.loop-alloc.invariant.2 events rest right over e) some in
+          let read = c.in_ok-line.ensures.every (datagram_event_words f.next) (lines_of datagram_event_words f.others rest)
+          (datagram_event_words-line f.next f.next_good) f.left_is in
+          FirstLine-step f len read.1,
+    )
+
+pub returns-clause-every : goal.returns-clause-every
+returns-clause-every c = λ events rest right over e.
+    let behind : BehindDatagrams c.loop-alloc.lines.rest.now = search rules in
+    let none : (event : DatagramEvent) (text : List ℕ) → ¬ (c.loop-alloc.lines.rest.now ≡ line (datagram_event_words event) text) =
+    λ event text same. datagram_event-stands event text (subst BehindDatagrams same behind) in
+    LinesLeft-end (c.loop-alloc.invariant.2 events rest right over e) none
