@@ -1,7 +1,7 @@
 -- What version 2 adds: how its lines begin, and that they have no line feed (10).
-use Rattle.std.proofs.Common.{arith, ◌≡◌, ◌∙◌, ◌<◌, ◌^◌, ◌==◌, ◌≤◌, ◌⊎◌, inl, inr, not, lit<, ap, refl, sym, true, false, true≢false, ℕ, Vec, Option, Some, None, List, [], ◌∷◌, ◌++◌, codes}
+use Rattle.std.proofs.Common.{arith, ◌≡◌, ◌∙◌, ◌<◌, ◌^◌, ◌==◌, ◌≤◌, inl, inr, lit<, ap, refl, sym, true, false, true≢false, ℕ, Vec, Option, Some, None, List, [], ◌∷◌, ◌++◌, codes}
 use Rattle.std.specs.Global.{Global}
-use Rattle.std.specs.Prelude.{decimal, IsTrue}
+use Rattle.std.specs.Prelude.{decimal}
 use Rattle.std.specs.Bool.{nat_eq}
 use Rattle.std.specs.List.{All, starts_with}
 use Rattle.std.proofs.lemmas.Bool.{and_parts}

@@ -2,6 +2,7 @@ pub mod AdditionLemmas
 pub mod BlockLemmas
 pub mod CutLemmas
 pub mod EventLemmas
+pub mod ExpectationLemmas
 pub mod HexWordLemmas
 pub mod KeyLemmas
 pub mod LackLemmas

@@ -6,6 +6,7 @@ mod block;
 mod cuts;
 mod datagram_events;
 mod events;
+mod expectations;
 mod expected;
 mod faults;
 mod file_keys;
@@ -19,6 +20,7 @@ mod tests;
 mod vector;
 mod words;
 
+pub use expectations::first_unmet;
 pub use faults::{LineKind, VectorFault};
 pub use file_keys::FileKeys;
 pub use hex_words::{hex_word, read_hex};

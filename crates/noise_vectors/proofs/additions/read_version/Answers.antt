@@ -2,7 +2,6 @@ use Rattle.std.proofs.Common.{rules, ◌≡◌, ◌∙◌, ap, subst, true, []}
 use Rattle.std.proofs.lemmas.Result.{err_from_is_err_and}
 use Rattle.noise_vectors.specs.VectorFile.{IsAllowedVersion, IsVersion}
 use Rattle.noise_vectors.specs.VectorText.{expect_words, lines_of, version_text}
-use Rattle.noise_vectors.specs.declared.vector.Version.{Version}
 use Rattle.noise_vectors.proofs.AdditionLemmas.{expected-behind, no-datagrams, second-has}
 use Rattle.noise_vectors.proofs.additions.read_version.Goals as goal
 

@@ -1,4 +1,4 @@
-use Rattle.std.proofs.Common.{rules, arith, ◌≡◌, ◌+◌, ◌∙◌, ap, sym, subst, ℕ, Vec, List, [], ◌∷◌, ◌++◌, codes, length, vec_len}
+use Rattle.std.proofs.Common.{rules, arith, ◌≡◌, ◌+◌, ◌∙◌, ap, sym, subst, ℕ, Vec, List, [], ◌∷◌, ◌++◌, length, vec_len}
 use Rattle.std.specs.Global.{Global}
 use Rattle.std.specs.Prelude.{IsTrue}
 use Rattle.std.specs.List.{All}
