@@ -51,11 +51,12 @@ differs x name other = at (bytes_eq x name) refl where
 
 -- no other name states an order
 pub stated_by-unknown : (name : Text) (rows : List Row) → (name ≡ codes "list" → ⊥) → (name ≡ codes "show" → ⊥) → (name ≡ codes "check" → ⊥)
-    → (name ≡ codes "talk" → ⊥) → (name ≡ codes "replay" → ⊥) → stated_by name rows ≡ None
-stated_by-unknown name rows list show check talk replay =
+    → (name ≡ codes "talk" → ⊥) → (name ≡ codes "replay" → ⊥) → (name ≡ codes "convert" → ⊥) → stated_by name rows ≡ None
+stated_by-unknown name rows list show check talk replay convert =
     let no_list = differs (codes "list") name list in
     let no_show = differs (codes "show") name show in
     let no_check = differs (codes "check") name check in
     let no_talk = differs (codes "talk") name talk in
     let no_replay = differs (codes "replay") name replay in
-    rw (no_list, no_show, no_check, no_talk, no_replay) refl
+    let no_convert = differs (codes "convert") name convert in
+    rw (no_list, no_show, no_check, no_talk, no_replay, no_convert) refl

@@ -16,6 +16,7 @@ commands =
     ∷ (codes "check", Some (codes "FILE"))
     ∷ (codes "talk", Some (codes "FILE"))
     ∷ (codes "replay", Some (codes "FILE"))
+    ∷ (codes "convert", Some (codes "FILE"))
     ∷ []
 
 -- a value that has to be there
@@ -40,6 +41,7 @@ order_of (chosen.Show name) = (codes "show", Some (string_bytes name))
 order_of (chosen.Check file) = (codes "check", Some (string_bytes file))
 order_of (chosen.Talk file) = (codes "talk", Some (string_bytes file))
 order_of (chosen.Replay file) = (codes "replay", Some (string_bytes file))
+order_of (chosen.Convert file) = (codes "convert", Some (string_bytes file))
 
 -- the order for a command, where its matches have the value that it wants
 abbrev pub order_with : List Row → Text × Option Text → Option (Text × Option Text)

@@ -5,3 +5,5 @@ pub mod Named
 pub mod Output
 pub mod Performing
 pub mod Printed
+pub mod PrintedDatagrams
+pub mod Running

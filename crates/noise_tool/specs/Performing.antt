@@ -1,45 +1,48 @@
 -- What a command has done that ends with status 0, and why it ends with another.
-use Rattle.std.specs.Prelude.{⊤, ◌≡◌, ◌⊎◌, ◌<◌, ℕ, List, length, Option, None, IfSome, string_bytes}
+use Rattle.std.specs.Prelude.{⊤, ◌≡◌, ◌≢◌, ◌⊎◌, ◌<◌, ℕ, List, [], length, Option, IfSome, string_bytes}
 use Rattle.std.specs.Io.KnownBytes.{Appends}
-use Rattle.noise_names.specs.declared.token.Role.{Role}
 use Rattle.noise_names.specs.Plan.{Plan}
 use Rattle.noise_names.specs.Text.{Spells}
 use Rattle.noise_names.specs.Validity.{IsValid}
-use Rattle.noise_duel.specs.Acts.{events_of}
-use Rattle.noise_duel.specs.Events.{Note}
-use Rattle.noise_duel.specs.Runs.{Run}
-use Rattle.noise_duel.specs.Sides.{Sides}
-use Rattle.noise_tool.specs.Ends.{IsPatternOf, IsStartFault, facing_in, setup_of}
+use Rattle.noise_tool.specs.Ends.{IsStartFault}
 use Rattle.noise_tool.specs.Faults.{of_vector}
 use Rattle.noise_tool.specs.Output.{IsCheckFault, IsShowFault, NamesPattern, check_text, list_text, show_text}
-use Rattle.noise_tool.specs.Printed.{run_text}
+use Rattle.noise_tool.specs.Printed.{lines_text}
+use Rattle.noise_tool.specs.Running.{IsMet, IsRunOf, converted_text, expected_in}
+use Rattle.noise_vectors.specs.Expectations.{IsFirstUnmet, bytes_of}
 use Rattle.noise_vectors.specs.VectorFile.{IsReadFault, IsVectorFile}
 use Rattle.noise_vectors.specs.VectorText.{text_of}
 use Rattle.noise_tool.specs.declared.faults.Fault.{Fault}
-use Rattle.noise_tool.specs.declared.faults.Fault.TheVariants.{Rule, TooLong}
+use Rattle.noise_tool.specs.declared.faults.Fault.TheVariants.{Rule, TooLong, Unmet}
+use Rattle.noise_tool.specs.declared.running.Outcome.{Outcome}
 use Rattle.noise_tool.specs.declared.orders.Chosen.{Chosen}
-use Rattle.noise_tool.specs.declared.orders.Chosen.TheVariants.{List as Listing, Show, Check, Talk, Replay}
+use Rattle.noise_tool.specs.declared.orders.Chosen.TheVariants.{List as Listing, Show, Check, Talk, Replay, Convert}
 use Rattle.noise_vectors.specs.declared.faults.VectorFault.{VectorFault}
 use Rattle.noise_vectors.specs.declared.vector.AllowedEvents.{AllowedEvents}
-use Rattle.noise_vectors.specs.declared.vector.AllowedEvents.TheVariants.{SayOnly, Any}
+use Rattle.noise_vectors.specs.declared.vector.AllowedEvents.TheVariants.{SayOnly, Any, VersionOne}
+use Rattle.noise_vectors.specs.declared.vector.Version.TheVariants.{One}
 use Rattle.noise_vectors.specs.declared.vector.VectorFile.{VectorFile}
 
--- The output grew by the text of the file's run: by its valid pattern, two ends start from what the file gives them, nothing is wrong with either
--- setup, and the file's events make of them these notes and last sides. Of one pattern and one list of events there is one such run
--- (`noise_duel::run_once`), so its text is a function of what the file says.
+-- The output grew by the lines of the file's run, and they are those that the file expects, if it expects any.
 pub record HasPrinted (file : VectorFile) (before after : Option (List ℕ)) : Type 0 where
-  pub plan : Plan
-  pub pattern : IsPatternOf file.block file.protocol plan
-  pub valid : IsValid plan
-  pub set_up : (role : Role) → setup_of file plan role ≡ None
-  pub notes : List (Role × Note)
-  pub last : Sides
-  pub run : Run (facing_in file plan) (events_of file.events.items) notes last
-  pub printed : Appends before after (run_text notes last)
+  pub lines : List (List ℕ)
+  pub run : IsRunOf file lines
+  pub printed : Appends before after (lines_text lines)
+  pub met : IsMet (expected_in file.version) lines
 
 -- a right vector file has this text, and its run was printed
 abbrev pub HasRun : List ℕ → Option (List ℕ) → Option (List ℕ) → Type 0
 HasRun text before after = (file : VectorFile) × IsVectorFile file × (text ≡ text_of file) × HasPrinted file before after
+
+-- A right vector file of version 1 has this text, and the output grew by it, as one of version 2 that expects the lines of its run.
+pub record HasConverted (text : List ℕ) (before after : Option (List ℕ)) : Type 0 where
+  pub file : VectorFile
+  pub right : IsVectorFile file
+  pub first : file.version ≡ One
+  pub text_is : text ≡ text_of file
+  pub lines : List (List ℕ)
+  pub run : IsRunOf file lines
+  pub printed : Appends before after (converted_text file lines)
 
 -- of the file's bytes, and of the output's before and after, each where they are known: the text of the command stands behind what was there before
 abbrev pub IsDone : Chosen → Option (List ℕ) → Option (List ℕ) → Option (List ℕ) → Type 0
@@ -48,6 +51,7 @@ IsDone (Show name) file before after = (p : Plan) × NamesPattern (string_bytes 
 IsDone (Check path) file before after = IfSome file (λ text. (p : Plan) × Spells text p × IsValid p × Appends before after (check_text p))
 IsDone (Talk path) file before after = IfSome file (λ text. HasRun text before after)
 IsDone (Replay path) file before after = IfSome file (λ text. HasRun text before after)
+IsDone (Convert path) file before after = IfSome file (λ text. HasConverted text before after)
 
 abbrev pub IsTooLong : List ℕ → Fault → Type 0
 IsTooLong text fault = (fault ≡ TooLong) × (4194304 < length text)
@@ -60,23 +64,57 @@ HasNoEnds text fault = (file : VectorFile) × IsVectorFile file × (text ≡ tex
 abbrev pub IsUnread : AllowedEvents → List ℕ → Fault → Type 0
 IsUnread allowed text fault = (why : VectorFault) × (fault ≡ of_vector why) × IsReadFault allowed text why
 
--- why this text of a vector file, with these events, isn't run
+-- why this text of a vector file, of what is allowed, isn't run
 abbrev pub IsRunFault : AllowedEvents → List ℕ → Fault → Type 0
 IsRunFault allowed text fault = IsTooLong text fault ⊎ IsUnread allowed text fault ⊎ HasNoEnds text fault
 
--- why a command ends before its work is done, where the fault is in what it was given; the file's bytes where they are known
-abbrev pub IsFault : Chosen → Option (List ℕ) → Fault → Type 0
-IsFault Listing file fault = ⊥
-IsFault (Show name) file fault = IsShowFault (string_bytes name) fault
-IsFault (Check path) file fault = IfSome file (λ text. IsTooLong text fault ⊎ IsCheckFault text fault)
-IsFault (Talk path) file fault = IfSome file (λ text. IsRunFault SayOnly text fault)
-IsFault (Replay path) file fault = IfSome file (λ text. IsRunFault Any text fault)
+-- a right vector file has this text, the output grew by all lines of its run, and this is the first that differs from what it expects
+pub record HasUnmet (text : List ℕ) (before after : Option (List ℕ)) (number : ℕ) : Type 0 where
+  pub file : VectorFile
+  pub right : IsVectorFile file
+  pub text_is : text ≡ text_of file
+  pub lines : List (List ℕ)
+  pub run : IsRunOf file lines
+  pub printed : Appends before after (lines_text lines)
+  pub some : expected_in file.version ≢ []
+  pub unmet : IsFirstUnmet lines (expected_in file.version) number
+
+-- an outcome's lines were printed, and this is the first that differs from what is expected
+abbrev pub IsUnlike : Outcome → Option (List ℕ) → Option (List ℕ) → Fault → Type 0
+IsUnlike outcome before after (Unmet number) = Appends before after (lines_text (bytes_of outcome.lines.items))
+    × (bytes_of outcome.expected.items ≢ []) × IsFirstUnmet (bytes_of outcome.lines.items) (bytes_of outcome.expected.items) number
+IsUnlike outcome before after fault = ⊥
+
+-- the lines of the run aren't those that are expected
+abbrev pub IsUnmet : List ℕ → Option (List ℕ) → Option (List ℕ) → Fault → Type 0
+IsUnmet text before after (Unmet number) = HasUnmet text before after number
+IsUnmet text before after fault = ⊥
+
+-- the converted text of a right vector file of version 1 has too many bytes
+abbrev pub IsTooLongConverted : List ℕ → Fault → Type 0
+IsTooLongConverted text fault = (fault ≡ TooLong) × (file : VectorFile) × IsVectorFile file × (file.version ≡ One) × (text ≡ text_of file)
+    × (lines : List (List ℕ)) × IsRunOf file lines × (4194304 < length (converted_text file lines))
+
+-- why a command ends before its work is done, where the fault is in what it was given; the file's bytes and the output's, before and after, each
+-- where they are known
+abbrev pub IsFault : Chosen → Option (List ℕ) → Option (List ℕ) → Option (List ℕ) → Fault → Type 0
+IsFault Listing file before after fault = ⊥
+IsFault (Show name) file before after fault = IsShowFault (string_bytes name) fault
+IsFault (Check path) file before after fault = IfSome file (λ text. IsTooLong text fault ⊎ IsCheckFault text fault)
+IsFault (Talk path) file before after fault = IfSome file (λ text. IsRunFault SayOnly text fault ⊎ IsUnmet text before after fault)
+IsFault (Replay path) file before after fault = IfSome file (λ text. IsRunFault Any text fault ⊎ IsUnmet text before after fault)
+IsFault (Convert path) file before after fault = IfSome file (λ text. IsRunFault VersionOne text fault ⊎ IsTooLongConverted text fault)
 
 -- `list` and `show` leave the file as it was
 abbrev pub LeavesFile : {R : Type 0} → Chosen → R → R → Type 0
 LeavesFile Listing before after = after ≡ before
 LeavesFile (Show name) before after = after ≡ before
 LeavesFile _ before after = ⊤
+
+-- behind this fault alone the output has the lines of a run
+abbrev pub IsOfLines : Fault → Type 0
+IsOfLines (Unmet number) = ⊤
+IsOfLines fault = ⊥
 
 -- A broken rule is told on the output and leaves the error output as it was; any other fault is told on the error output and leaves the output as it
 -- was. Both are given before and after.

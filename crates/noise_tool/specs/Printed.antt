@@ -1,4 +1,4 @@
--- What is printed of a run: a line for each note, and then one for each of the two ends.
+-- What is printed of a run: a line for each note, and then one for each of the two ends. Each line is without its LF here.
 use Rattle.std.specs.Prelude.{ℕ, List, [], ◌∷◌, ◌++◌, codes, decimal, flat_map, slice_get, unwrap_or}
 use Rattle.std.specs.List.{join_with_byte}
 use Rattle.noise_names.specs.declared.token.Role.{Role}
@@ -21,7 +21,11 @@ use Rattle.noise_vectors.specs.VectorText.{role_word}
 
 -- a line of words with a space (32) between each two
 abbrev pub line_of : List (List ℕ) → List ℕ
-line_of words = line (join_with_byte 32 words)
+line_of words = join_with_byte 32 words
+
+-- the text of lines, each with an LF behind it
+abbrev pub lines_text : List (List ℕ) → List ℕ
+lines_text lines = flat_map line lines
 
 abbrev pub cause_word : Cause → List ℕ
 cause_word cause.Short = codes "short"
@@ -79,6 +83,6 @@ progress_words (Closed role) hash = codes "ended" ∷ []
 abbrev pub state_line : Role → EndView → List ℕ
 state_line role v = line_of (codes "state" ∷ role_word role ∷ progress_words (progress_of v) (hash v.party.history))
 
--- all lines of a run with these notes, behind which these two sides stand
-abbrev pub run_text : List (Role × Note) → Sides → List ℕ
-run_text notes d = flat_map (note_line d) notes ++ (state_line Initiator d.initiator.view ++ state_line Responder d.responder.view)
+-- where both ends stand
+abbrev pub state_lines : Sides → List (List ℕ)
+state_lines d = state_line Initiator d.initiator.view ∷ state_line Responder d.responder.view ∷ []

@@ -38,6 +38,7 @@ fn command<'a>(alloc: Global) -> Result<Command<'a>, AllocError>
     let check = with_value(alloc, "check", "FILE", &help::CHECK)?;
     let talk = with_value(alloc, "talk", "FILE", &help::TALK)?;
     let replay = with_value(alloc, "replay", "FILE", &help::REPLAY)?;
+    let convert = with_value(alloc, "convert", "FILE", &help::CONVERT)?;
     Command::new(alloc, "noise")
         .bin_name("noise")?
         .version("0.1.0")
@@ -47,7 +48,8 @@ fn command<'a>(alloc: Global) -> Result<Command<'a>, AllocError>
         .subcommand(show)?
         .subcommand(check)?
         .subcommand(talk)?
-        .subcommand(replay)
+        .subcommand(replay)?
+        .subcommand(convert)
 }
 
 // The command of this name, which has to have a value.
@@ -80,6 +82,7 @@ fn order(alloc: Global, matches: &ArgMatches<'_>) -> Result<Option<Chosen>, Allo
         "check" => Ok(value(alloc, found, "FILE")?.map(Chosen::Check)),
         "talk" => Ok(value(alloc, found, "FILE")?.map(Chosen::Talk)),
         "replay" => Ok(value(alloc, found, "FILE")?.map(Chosen::Replay)),
+        "convert" => Ok(value(alloc, found, "FILE")?.map(Chosen::Convert)),
         _ => Ok(None),
     }
 }

@@ -15,19 +15,20 @@ use noise_duel::{Duel, Event};
 use noise_handshake::{Handshake, Keys, Own, Remote};
 use noise_names::{Pattern, ProtocolName, Role, Token, ValidPattern};
 use noise_session::{End, end_is_told};
-use noise_vectors::{FileKeys, VectorFile};
+use noise_vectors::{FileKeys, VectorFile, Version};
 use std::alloc::Global;
 
-/// The two ends that the file describes, before the first message, and the file's events.
+/// The two ends that the file describes, before the first message, the file's events, and its version.
 ///
 /// At `Err` the fault is the first of these: a psk place beyond the messages of the pattern, a rule that the pattern breaks, the initiator's setup,
 /// the responder's setup.
 pub fn make_ends(
     alloc: Global,
     file: VectorFile,
-) -> Result<(Duel<FileKeys, FileKeys>, Vec<Event>), Fault>
+) -> Result<(Duel<FileKeys, FileKeys>, Vec<Event>, Version), Fault>
     ensures ends { IfOk result (λ made. AreEnds file made.0) }
     ensures events { IfOk result (λ made. made.1 ≡ file.events) }
+    ensures version { IfOk result (λ made. made.2 ≡ file.version) }
     ensures fault { IfErr result (λ fault. IsStartFault file fault) }
 {
     let VectorFile {
@@ -39,6 +40,7 @@ pub fn make_ends(
         initiator,
         responder,
         events,
+        version,
     } = file;
     let pattern = valid_pattern(block, &protocol)?;
     let of_initiator = known_before(pattern.pattern(), Role::Initiator, &initiator);
@@ -63,7 +65,7 @@ pub fn make_ends(
     let initiator_end = End::new(alloc, first, interval)?;
     let responder_end = End::new(alloc, second, interval)?;
     end_is_told::<FileKeys>();
-    Ok((Duel::new(initiator_end, responder_end), events))
+    Ok((Duel::new(initiator_end, responder_end), events, version))
 }
 
 // The pattern that a file spells, or else that of its protocol's name.

@@ -26,6 +26,8 @@ pub enum Fault {
     Text(TextFault),
     /// The line of this number of a vector file, from 1 on, isn't as it has to be.
     Line(usize, LineKind),
+    /// The lines of a run aren't those that the file expects: the number of the first that differs, from 1 on.
+    Unmet(usize),
     /// The file has more bytes than are read.
     TooLong,
     /// The file can't be opened or read.
@@ -42,7 +44,7 @@ impl Fault {
         ensures { result ≡ status_of self.now }
     {
         match self {
-            Fault::Rule(_) | Fault::Place(_) | Fault::Setup(_, _) => 1,
+            Fault::Rule(_) | Fault::Place(_) | Fault::Setup(_, _) | Fault::Unmet(_) => 1,
             Fault::Name(_)
             | Fault::UnknownPattern
             | Fault::Text(_)

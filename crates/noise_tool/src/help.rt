@@ -25,12 +25,18 @@ pub const CHECK: Help<'static> = Help {
 
 pub const TALK: Help<'static> = Help {
     about: "Run two ends on a vector file and print what each writes and takes",
-    value: "A vector file whose events are all say",
+    value: "A vector file whose events are all say; lines that it expects are compared",
     example: "Example: noise talk examples/first-message.vector",
 };
 
 pub const REPLAY: Help<'static> = Help {
     about: "Run two ends on a vector file whose frames may be lost, repeated or foreign",
-    value: "A vector file with events of all kinds: say, write, deliver, raw",
+    value: "A vector file with events of all kinds, and datagrams; lines that it expects are compared",
     example: "Example: noise replay examples/each-outcome.vector",
+};
+
+pub const CONVERT: Help<'static> = Help {
+    about: "Print a version 1 vector file as one of version 2 that expects what its run prints",
+    value: "A vector file of version 1",
+    example: "Example: noise convert examples/first-message.vector",
 };

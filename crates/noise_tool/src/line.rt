@@ -54,6 +54,13 @@ impl Line {
         Ok(self)
     }
 
+    /// The line, without an LF.
+    pub fn into_bytes(self) -> Vec<u8>
+        ensures { result.items ≡ self.text.items }
+    {
+        self.text
+    }
+
     /// Writes the line, with an LF behind it.
     pub fn write<W: Write>(mut self, out: &mut W) -> Result<(), Fault>
         ensures written { OnOk result (Appends (W.contents out.old) (W.contents out.new) (self.text.items ++ 10 ∷ [])) }

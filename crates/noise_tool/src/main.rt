@@ -3,6 +3,8 @@
 
 mod checking;
 mod command_line;
+mod converting;
+mod datagram_report;
 mod ends;
 mod faults;
 mod help;
@@ -15,8 +17,8 @@ mod output;
 mod overheads;
 mod performing;
 mod report;
+mod running;
 mod showing;
-mod talk;
 mod telling;
 #[cfg(test)]
 mod tests;
@@ -56,7 +58,10 @@ fn words(rt: &HostRuntime) -> io::Result<Vec<String>> {
 fn run(rt: &HostRuntime, order: &Chosen) -> u8 {
     match order {
         Chosen::List | Chosen::Show(_) => run_on(rt, order, &mut io::empty()),
-        Chosen::Check(name) | Chosen::Talk(name) | Chosen::Replay(name) => match File::open(
+        Chosen::Check(name)
+        | Chosen::Talk(name)
+        | Chosen::Replay(name)
+        | Chosen::Convert(name) => match File::open(
             rt,
             name.as_str(),
         ) {

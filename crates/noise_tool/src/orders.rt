@@ -18,6 +18,8 @@ pub enum Chosen {
     Talk(String),
     /// Run two ends on the vector file of this name, whatever its events are.
     Replay(String),
+    /// Print the version 1 vector file of this name as one of version 2 that expects what its run prints.
+    Convert(String),
 }
 
 /// Why the words of a command line are no command.

@@ -3,24 +3,30 @@
 ghost use Rattle.std.specs.Prelude.{◌≡◌, ◌⊎◌, ◌≤◌, IfErr, IfSome, OnOk};
 ghost use Rattle.noise_tool.specs.Faults.{status_of};
 ghost use Rattle.std.specs.Io.KnownBytes.{Appends};
-ghost use Rattle.noise_tool.specs.Performing.{HasRun, IsDone, IsFault, IsRunFault, LeavesFile, LeavesOther};
+ghost use Rattle.noise_vectors.specs.Expectations.{bytes_of};
+ghost use Rattle.noise_vectors.specs.declared.vector.AllowedEvents.TheVariants.{VersionOne};
+ghost use Rattle.noise_tool.specs.Performing.{HasConverted, HasRun, IsDone, IsFault, IsOfLines, IsRunFault, IsTooLongConverted, IsUnlike, IsUnmet};
+ghost use Rattle.noise_tool.specs.Performing.{LeavesFile, LeavesOther};
+ghost use Rattle.noise_tool.specs.Printed.{lines_text};
+ghost use Rattle.noise_tool.specs.Running.{IsMet};
 ghost use Rattle.noise_tool.specs.declared.faults.Fault.{Fault};
 
 use crate::checking::check;
+use crate::converting::convert;
 use crate::faults::Fault;
 use crate::input::read_file;
 use crate::listing::list;
 use crate::orders::Chosen;
-use crate::output::{flush, write};
+use crate::output::{flush, write, write_lines};
+use crate::running::{Outcome, replay, talk};
 use crate::showing::show;
-use crate::talk::{replay, talk};
 use crate::telling::tell;
-use noise_vectors::{AllowedEvents, read_vector};
+use noise_vectors::{AllowedEvents, first_unmet, read_vector};
 use std::alloc::Global;
 use std::io::{Read, Write};
 
 /// Does what was chosen, with the opened file, and gives the exit status: 0 without a fault; 1 where a pattern breaks a rule of validity or has
-/// fewer messages than a psk place needs, or the ends of a vector file can't be made; 2 where the name is none, is of no fundamental pattern,
+/// fewer messages than a psk place needs, the ends of a vector file can't be made, or the lines of its run aren't those that it expects; 2 where the name is none, is of no fundamental pattern,
 /// or the file isn't a pattern text or a vector file; 3 where the file can't be read, the output can't be written, or memory runs out. A refused
 /// write to `err` leaves the status. `list` and `show` read no byte of `file`.
 pub fn perform<R: Read, O: Write, E: Write>(
@@ -32,8 +38,8 @@ pub fn perform<R: Read, O: Write, E: Write>(
 ) -> u8
     ensures status { result ≤ 3 }
     ensures done { result ≡ 0 → IsDone chosen.now (R.remaining file.old) (O.contents out.old) (O.contents out.new) }
-    ensures fault { 1 ≤ result → (result ≡ 3) ⊎ ((fault : Fault) × (status_of fault ≡ result) × IsFault chosen.now (R.remaining file.old) fault
-        × LeavesOther fault out.old out.new err.old err.new) }
+    ensures fault { 1 ≤ result → (result ≡ 3) ⊎ ((fault : Fault) × (status_of fault ≡ result) × IsFault chosen.now (R.remaining file.old) (O.contents out.old) (O.contents out.new) fault
+        × (IsOfLines fault ⊎ LeavesOther fault out.old out.new err.old err.new)) }
     ensures unwritten { result ≡ 2 → out.new ≡ out.old }
     ensures quiet { result ≡ 0 → err.new ≡ err.old }
     ensures unread { LeavesFile chosen.now file.old file.new }
@@ -51,8 +57,9 @@ fn run<R: Read, O: Write>(
     out: &mut O,
 ) -> Result<(), Fault>
     ensures done { OnOk result (IsDone chosen.now (R.remaining file.old) (O.contents out.old) (O.contents out.new)) }
-    ensures fault { IfErr result (λ fault. (status_of fault ≡ 3) ⊎ IsFault chosen.now (R.remaining file.old) fault) }
-    ensures unwritten { IfErr result (λ fault. (status_of fault ≡ 3) ⊎ (out.new ≡ out.old)) }
+    ensures fault { IfErr result (λ fault. (status_of fault ≡ 3)
+        ⊎ IsFault chosen.now (R.remaining file.old) (O.contents out.old) (O.contents out.new) fault) }
+    ensures unwritten { IfErr result (λ fault. (status_of fault ≡ 3) ⊎ IsOfLines fault ⊎ (out.new ≡ out.old)) }
     ensures unread { LeavesFile chosen.now file.old file.new }
 {
     match chosen {
@@ -64,10 +71,11 @@ fn run<R: Read, O: Write>(
         }
         Chosen::Talk(_) => run_file(alloc, AllowedEvents::SayOnly, file, out),
         Chosen::Replay(_) => run_file(alloc, AllowedEvents::Any, file, out),
+        Chosen::Convert(_) => convert_file(alloc, file, out),
     }
 }
 
-// Runs two ends on a vector file, and prints what they do.
+// Runs two ends on a vector file, prints what they do, and compares it with what the file expects.
 fn run_file<R: Read, O: Write>(
     alloc: Global,
     allowed: AllowedEvents,
@@ -75,15 +83,52 @@ fn run_file<R: Read, O: Write>(
     out: &mut O,
 ) -> Result<(), Fault>
     ensures done { OnOk result (IfSome (R.remaining file.old) (λ text. HasRun text (O.contents out.old) (O.contents out.new))) }
-    ensures fault { IfErr result (λ fault. (status_of fault ≡ 3) ⊎ IfSome (R.remaining file.old) (λ text. IsRunFault allowed text fault)) }
-    ensures unwritten { IfErr result (λ fault. (status_of fault ≡ 3) ⊎ (out.new ≡ out.old)) }
+    ensures fault { IfErr result (λ fault. (status_of fault ≡ 3)
+        ⊎ IfSome (R.remaining file.old) (λ text. IsRunFault allowed text fault ⊎ IsUnmet text (O.contents out.old) (O.contents out.new) fault)) }
+    ensures unwritten { IfErr result (λ fault. (status_of fault ≡ 3) ⊎ IsOfLines fault ⊎ (out.new ≡ out.old)) }
 {
     let text = read_file(alloc, file)?;
     let vector = read_vector(alloc, &text, allowed)?;
-    match allowed {
-        AllowedEvents::SayOnly => talk(alloc, vector, out),
-        AllowedEvents::Any => replay(alloc, vector, out),
+    let outcome = match allowed {
+        AllowedEvents::SayOnly => talk(alloc, vector)?,
+        AllowedEvents::Any | AllowedEvents::VersionOne => replay(alloc, vector)?,
+    };
+    print_outcome(&outcome, out)
+}
+
+// Prints the lines of a run, and compares them with those that are expected, if any are.
+fn print_outcome<O: Write>(outcome: &Outcome, out: &mut O) -> Result<(), Fault>
+    ensures printed { OnOk result (Appends (O.contents out.old) (O.contents out.new) (lines_text (bytes_of outcome.now.lines.items))) }
+    ensures met { OnOk result (IsMet (bytes_of outcome.now.expected.items) (bytes_of outcome.now.lines.items)) }
+    ensures fault { IfErr result (λ fault. (status_of fault ≡ 3) ⊎ IsUnlike outcome.now (O.contents out.old) (O.contents out.new) fault) }
+{
+    write_lines(&outcome.lines, out)?;
+    flush(out)?;
+    if outcome.expected.is_empty() {
+        return Ok(());
     }
+    match first_unmet(&outcome.lines, &outcome.expected) {
+        Some(number) => Err(Fault::Unmet(number)),
+        None => Ok(()),
+    }
+}
+
+// Prints a version 1 vector file as one of version 2.
+fn convert_file<R: Read, O: Write>(
+    alloc: Global,
+    file: &mut R,
+    out: &mut O,
+) -> Result<(), Fault>
+    ensures done { OnOk result (IfSome (R.remaining file.old) (λ text. HasConverted text (O.contents out.old) (O.contents out.new))) }
+    ensures fault { IfErr result (λ fault. (status_of fault ≡ 3)
+        ⊎ IfSome (R.remaining file.old) (λ text. IsRunFault VersionOne text fault ⊎ IsTooLongConverted text fault)) }
+    ensures unwritten { IfErr result (λ fault. (status_of fault ≡ 3) ⊎ (out.new ≡ out.old)) }
+{
+    let text = read_file(alloc, file)?;
+    let vector = read_vector(alloc, &text, AllowedEvents::VersionOne)?;
+    let outcome = replay(alloc, vector)?;
+    let converted = convert(alloc, &text, &outcome.lines)?;
+    print(&converted, out)
 }
 
 fn print<O: Write>(text: &[u8], out: &mut O) -> Result<(), Fault>

@@ -1,7 +1,6 @@
-//! What is printed of a run.
+//! The lines of a run.
 
-ghost use Rattle.std.specs.Prelude.{◌≡◌, ◌∷◌, [], codes, decimal, flat_map, IfErr, IfOk, OnOk};
-ghost use Rattle.std.specs.Io.KnownBytes.{Appends};
+ghost use Rattle.std.specs.Prelude.{◌≡◌, ◌∷◌, ◌++◌, [], codes, decimal, map, IfOk, OnOk};
 ghost use Rattle.std.specs.List.{join_with_byte};
 ghost use Rattle.noise_state.specs.History.{hash};
 ghost use Rattle.noise_session.specs.Ends.{EndView, EndStands, progress_of};
@@ -9,48 +8,45 @@ ghost use Rattle.noise_duel.specs.Entries.{note_of, notes_of, step_of};
 ghost use Rattle.noise_duel.specs.Events.{WriteFault};
 ghost use Rattle.noise_duel.specs.HeldDuel.{DuelStands, HasFrames};
 ghost use Rattle.noise_duel.specs.Sides.{Side, Sides, side};
-ghost use Rattle.noise_tool.specs.Faults.{status_of};
+ghost use Rattle.noise_vectors.specs.Expectations.{bytes_of};
 ghost use Rattle.noise_vectors.specs.FileKeys.{agreement_of, public_of};
 ghost use Rattle.noise_tool.specs.Printed as print;
 ghost use Rattle.noise_vectors.specs.VectorText as text;
 
-use crate::faults::Fault;
 use crate::line::Line;
-use crate::output::flush;
 use noise_duel::{Duel, Entry, Idle, Report};
 use noise_handshake::Cause;
 use noise_names::Role;
 use noise_session::{End, SendFault, Stage, end_is_told};
 use noise_vectors::FileKeys;
 use std::alloc::{AllocError, Global};
-use std::io::Write;
 
-/// Writes a line for each entry, in order, and then where the initiator's end and the responder's stand.
-pub fn print_run<O: Write>(
-    alloc: Global,
-    duel: &Duel<FileKeys, FileKeys>,
-    report: &Report,
-    out: &mut O,
-) -> Result<(), Fault>
-    ensures printed { (d : Sides) → HasFrames report.now d → DuelStands public_of agreement_of public_of agreement_of duel.now d
-        → OnOk result (Appends (O.contents out.old) (O.contents out.new) (print.run_text (notes_of report.now.entries.items) d)) }
-    ensures fault { IfErr result (λ fault. status_of fault ≡ 3) }
+/// A line for each entry, in order.
+pub fn entry_lines(alloc: Global, report: &Report) -> Result<Vec<Vec<u8>>, AllocError>
+    ensures { (d : Sides) → HasFrames report.now d
+        → IfOk result (λ lines. bytes_of lines.items ≡ map (print.note_line d) (notes_of report.now.entries.items)) }
 {
-    print_entries(alloc, report, out)?;
-    state_line(alloc, Role::Initiator, duel.initiator())?.write(out)?;
-    state_line(alloc, Role::Responder, duel.responder())?.write(out)?;
-    flush(out)
+    let mut lines = Vec::new(alloc);
+    for (role, entry) in &report.entries {
+        let line = entry_line(alloc, report, *role, entry)?;
+        lines.push(line.into_bytes())?;
+    }
+    Ok(lines)
 }
 
-// Writes a line for each entry.
-fn print_entries<O: Write>(alloc: Global, report: &Report, out: &mut O) -> Result<(), Fault>
-    ensures printed { (d : Sides) → HasFrames report.now d → OnOk result
-        (Appends (O.contents out.old) (O.contents out.new) (flat_map (print.note_line d) (notes_of report.now.entries.items))) }
-    ensures fault { IfErr result (λ fault. status_of fault ≡ 3) }
+/// Appends where the initiator's end and the responder's stand.
+pub fn push_state_lines(
+    alloc: Global,
+    duel: &Duel<FileKeys, FileKeys>,
+    lines: &mut Vec<Vec<u8>>,
+) -> Result<(), AllocError>
+    ensures { (d : Sides) → DuelStands public_of agreement_of public_of agreement_of duel.now d
+        → OnOk result (bytes_of lines.new.items ≡ bytes_of lines.old.items ++ print.state_lines d) }
 {
-    for (role, entry) in &report.entries {
-        entry_line(alloc, report, *role, entry)?.write(out)?;
-    }
+    let first = state_line(alloc, Role::Initiator, duel.initiator())?;
+    lines.push(first.into_bytes())?;
+    let second = state_line(alloc, Role::Responder, duel.responder())?;
+    lines.push(second.into_bytes())?;
     Ok(())
 }
 
@@ -68,7 +64,7 @@ pub fn entry_line(
         Entry::Wrote(number) => begun_line(alloc, "wrote", role)?
             .number(*number as u64)?
             .hex(frame_at(report, role, *number)),
-        Entry::WriteFault(fault) => fault_line(alloc, role, *fault),
+        Entry::WriteFault(fault) => fault_line(alloc, "unwritten", role, *fault),
         Entry::Payload(payload) => begun_line(alloc, "payload", role)?.hex(payload),
         Entry::Dropped(cause) => begun_line(alloc, "dropped", role)?.word(cause_word(*cause)),
         Entry::Refused { token, cause } => begun_line(alloc, "refused", role)?
@@ -97,11 +93,16 @@ fn frame_at(report: &Report, role: Role, number: usize) -> &[u8]
     }
 }
 
-// Why this role wrote nothing.
-fn fault_line(alloc: Global, role: Role, fault: SendFault) -> Result<Line, AllocError>
-    ensures { (s : Side) → IfOk result (λ line. line.text.items ≡ join_with_byte 32 (print.note_words s role (WriteFault fault))) }
+/// Why this role wrote nothing, behind this word.
+pub fn fault_line(
+    alloc: Global,
+    word: &str,
+    role: Role,
+    fault: SendFault,
+) -> Result<Line, AllocError>
+    ensures { IfOk result (λ line. line.text.items ≡ join_with_byte 32 (word.now ∷ text.role_word role ∷ print.fault_words fault)) }
 {
-    let line = begun_line(alloc, "unwritten", role)?;
+    let line = begun_line(alloc, word, role)?;
     match fault {
         SendFault::NotYourTurn => line.word("not-your-turn"),
         SendFault::TooLong => line.word("too-long"),
@@ -133,8 +134,8 @@ fn state_line(alloc: Global, role: Role, end: &End<FileKeys>) -> Result<Line, Al
     }
 }
 
-// The front of a line: what it tells, and of which role.
-fn begun_line(alloc: Global, word: &str, role: Role) -> Result<Line, AllocError>
+/// The front of a line: what it tells, and of which role.
+pub fn begun_line(alloc: Global, word: &str, role: Role) -> Result<Line, AllocError>
     ensures { IfOk result (λ line. line.text.items ≡ join_with_byte 32 (word.now ∷ text.role_word role ∷ [])) }
 {
     Line::new(alloc, word)?.word(role_word(role))

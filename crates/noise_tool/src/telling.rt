@@ -75,6 +75,7 @@ fn fault_line(alloc: Global, fault: Fault) -> Result<Line, AllocError> {
         Fault::UnknownPattern => Line::new(alloc, "unknown pattern"),
         Fault::Text(fault) => line_fault(alloc, fault.line, text_word(fault.kind)),
         Fault::Line(number, kind) => line_fault(alloc, number, line_word(kind)),
+        Fault::Unmet(number) => Line::new(alloc, "unmet")?.number(number as u64),
         Fault::TooLong => Line::new(alloc, "file too long"),
         Fault::Unreadable => Line::new(alloc, "cannot read"),
         Fault::Unwritable => Line::new(alloc, "cannot write"),
@@ -97,6 +98,7 @@ fn line_word(kind: LineKind) -> &'static str {
         LineKind::Keys => "keys",
         LineKind::Answer => "answer",
         LineKind::Event => "event",
+        LineKind::Expect => "expect",
         LineKind::Ending => "ending",
     }
 }

@@ -110,8 +110,11 @@ abbrev pub datagrams_text : Option FileDatagrams → List ℕ → List ℕ
 datagrams_text None rest = rest
 datagrams_text (Some over) rest = line (window_words over.window) (lines_of datagram_event_words over.events.items rest)
 
+abbrev pub expect_line : List ℕ → List ℕ
+expect_line words = codes "expect " ++ words
+
 abbrev pub expect_words : Vec ℕ Global → List ℕ
-expect_words words = codes "expect " ++ words.items
+expect_words words = expect_line words.items
 
 -- whether it is version 2
 abbrev pub is_second : Version → Bool
@@ -127,17 +130,20 @@ abbrev pub version_text : Version → List ℕ
 version_text One = []
 version_text (Two additions) = datagrams_text additions.datagrams (lines_of expect_words additions.expected.items [])
 
-abbrev pub text_of : VectorFile → List ℕ
-text_of file =
-    line (header_words (is_second file.version))
-    (line (codes "protocol " ++ name_bytes file.protocol)
+-- the lines of both versions behind the header, and the text behind them
+abbrev pub text_body : VectorFile → List ℕ → List ℕ
+text_body file rest =
+    line (codes "protocol " ++ name_bytes file.protocol)
     (block_text file.block
     (line (codes "prologue " ++ hex_of file.prologue.items)
     (line (codes "interval " ++ decimal file.interval)
     (lines_of psk_words file.psks.items
     (party_text Initiator file.initiator
     (party_text Responder file.responder
-    (lines_of event_words file.events.items (version_text file.version)))))))))
+    (lines_of event_words file.events.items rest)))))))
+
+abbrev pub text_of : VectorFile → List ℕ
+text_of file = line (header_words (is_second file.version)) (text_body file (version_text file.version))
 
 -- what may stand behind the lines of the events: nothing, the datagrams, or what is expected
 abbrev pub BehindEvents : List ℕ → Type 0

@@ -28,5 +28,6 @@ returns c =
     let with_show = c.in_ok-subcommand-2.ensures.shape c.in_ok-show.ensures.local ∙ ap₂ with_subcommand with_list c.in_ok-show.ensures.shape in
     let with_check = c.in_ok-subcommand-3.ensures.shape c.in_ok-check.ensures.local ∙ ap₂ with_subcommand with_show c.in_ok-check.ensures.shape in
     let with_talk = c.in_ok-subcommand-4.ensures.shape c.in_ok-talk.ensures.local ∙ ap₂ with_subcommand with_check c.in_ok-talk.ensures.shape in
-    IfOk-weaker c.subcommand-5.result _ _
-    (λ r h. h.shape c.in_ok-replay.ensures.local ∙ ap₂ with_subcommand with_talk c.in_ok-replay.ensures.shape) c.subcommand-5.ensures
+    let with_replay = c.in_ok-subcommand-5.ensures.shape c.in_ok-replay.ensures.local ∙ ap₂ with_subcommand with_talk c.in_ok-replay.ensures.shape in
+    IfOk-weaker c.subcommand-6.result _ _
+    (λ r h. h.shape c.in_ok-convert.ensures.local ∙ ap₂ with_subcommand with_replay c.in_ok-convert.ensures.shape) c.subcommand-6.ensures

@@ -11,4 +11,4 @@ returns-in_default-name c =
     let rows : List Row = rows_of (found_of c.in-Some.found.now) in
     sym (stated_in-found (subcommand_rows_of m) c.in-Some.name.now rows (c.in-Some.ensures.name ∙ subcommand_name_of-rows m) c.in-Some.ensures.rows
     ∙ stated_by-unknown c.in-Some.name.now rows c.in_default-name.not-list c.in_default-name.not-show c.in_default-name.not-check c.in_default-name.not-talk
-    c.in_default-name.not-replay)
+    c.in_default-name.not-replay c.in_default-name.not-convert)

@@ -1,0 +1,79 @@
+-- The run of a vector file: its lines, and whether they are those that the file expects.
+use Rattle.std.specs.Prelude.{◌≡◌, ◌⊎◌, ◌&&◌, ◌==◌, ℕ, List, [], ◌∷◌, ◌++◌, codes, length, map, Bool, true, false, Option, None, Some}
+use Rattle.noise_names.specs.declared.token.Role.{Role}
+use Rattle.noise_names.specs.Plan.{Plan}
+use Rattle.noise_names.specs.Validity.{IsValid}
+use Rattle.noise_session.specs.declared.window.Window.{Window}
+use Rattle.noise_session.specs.Datagrams.{datagrams_of}
+use Rattle.noise_session.specs.EndDatagrams.{is_untouched}
+use Rattle.noise_session.specs.Ends.{EndView, progress_of}
+use Rattle.noise_duel.specs.Acts.{events_of}
+use Rattle.noise_duel.specs.DatagramEvents.{DatagramNote}
+use Rattle.noise_duel.specs.DatagramReports.{datagram_events_of}
+use Rattle.noise_duel.specs.DatagramRuns.{DatagramRun}
+use Rattle.noise_duel.specs.DatagramSides.{DatagramSides, meeting}
+use Rattle.noise_duel.specs.Events.{Note}
+use Rattle.noise_duel.specs.Runs.{Run}
+use Rattle.noise_duel.specs.Sides.{Sides}
+use Rattle.noise_vectors.specs.Expectations.{bytes_of}
+use Rattle.noise_vectors.specs.VectorText.{expect_line, line, lines_of, text_body, window_words}
+use Rattle.noise_vectors.specs.declared.vector.FileDatagrams.{FileDatagrams}
+use Rattle.noise_vectors.specs.declared.vector.VectorFile.{VectorFile}
+use Rattle.noise_vectors.specs.declared.vector.Version.{Version}
+use Rattle.noise_vectors.specs.declared.vector.Version.TheVariants.{One, Two}
+use Rattle.noise_tool.specs.Ends.{IsPatternOf, facing_in, setup_of}
+use Rattle.noise_tool.specs.Printed.{note_line, state_lines}
+use Rattle.noise_tool.specs.PrintedDatagrams.{datagram_line, datagram_state_lines}
+
+-- the datagrams that both ends go over to, if the file has them
+abbrev pub datagrams_in : Version → Option FileDatagrams
+datagrams_in One = None
+datagrams_in (Two additions) = additions.datagrams
+
+-- the lines that are expected
+abbrev pub expected_in : Version → List (List ℕ)
+expected_in One = []
+expected_in (Two additions) = bytes_of additions.expected.items
+
+-- whether an end may go over: it is open, no transport message was sent or received, and nothing has come of a frame
+abbrev pub is_ready : EndView → Bool
+is_ready v = is_untouched (progress_of v) && (length v.held == 0)
+
+abbrev pub are_ready : Sides → Bool
+are_ready d = is_ready d.initiator.view && is_ready d.responder.view
+
+-- both parties, gone over with this window
+abbrev pub gone_over : Sides → Window → DatagramSides
+gone_over d window = meeting (datagrams_of d.initiator.view.party window) (datagrams_of d.responder.view.party window)
+
+-- The lines behind those of the events: where both ends stand; or, where the file has datagrams, that both have gone over, what came of each event
+-- there, and where both stand then; or that they can't, and the datagrams' events aren't run.
+pub data AreLast : Option FileDatagrams → Sides → List (List ℕ) → Type 0 where
+  without : (d : Sides) → AreLast None d (state_lines d)
+  unready : (over : FileDatagrams) (d : Sides) → are_ready d ≡ false → AreLast (Some over) d (codes "no-datagrams" ∷ state_lines d)
+  ready : (over : FileDatagrams) (d : Sides) (notes : List (Role × DatagramNote)) (last : DatagramSides) → are_ready d ≡ true
+      → DatagramRun (gone_over d over.window) (datagram_events_of over.events.items) notes last
+      → AreLast (Some over) d (window_words over.window ∷ (map datagram_line notes ++ datagram_state_lines last))
+
+-- These are the lines of the file's run: by its valid pattern, two ends start from what the file gives them, nothing is wrong with either setup, and
+-- the file's events make of them these notes and last sides. Of one pattern and one list of events there is one such run (`noise_duel::run_once`,
+-- `datagram_run_once`), so the lines are a function of what the file says.
+pub record IsRunOf (file : VectorFile) (lines : List (List ℕ)) : Type 0 where
+  pub plan : Plan
+  pub pattern : IsPatternOf file.block file.protocol plan
+  pub valid : IsValid plan
+  pub set_up : (role : Role) → setup_of file plan role ≡ None
+  pub notes : List (Role × Note)
+  pub last : Sides
+  pub run : Run (facing_in file plan) (events_of file.events.items) notes last
+  pub behind : List (List ℕ)
+  pub are_last : AreLast (datagrams_in file.version) last behind
+  pub lines_are : lines ≡ map (note_line last) notes ++ behind
+
+-- nothing is expected, or these lines
+abbrev pub IsMet : List (List ℕ) → List (List ℕ) → Type 0
+IsMet expected lines = (expected ≡ []) ⊎ (lines ≡ expected)
+
+-- the text of a version 1 file, as one of version 2 that expects these lines
+abbrev pub converted_text : VectorFile → List (List ℕ) → List ℕ
+converted_text file lines = line (codes "vector 2") (text_body file (lines_of expect_line lines []))

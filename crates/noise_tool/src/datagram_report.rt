@@ -1,0 +1,88 @@
+//! The lines of a run of datagrams.
+
+ghost use Rattle.std.specs.Prelude.{◌≡◌, ◌++◌, map, IfOk, OnOk};
+ghost use Rattle.noise_session.specs.Datagrams.{DatagramView, Pictures};
+ghost use Rattle.noise_duel.specs.DatagramReports.{DuelPictures, datagram_note_of, datagram_notes_of};
+ghost use Rattle.noise_duel.specs.DatagramSides.{DatagramSides};
+ghost use Rattle.noise_vectors.specs.Expectations.{bytes_of};
+ghost use Rattle.noise_tool.specs.Printed.{line_of};
+ghost use Rattle.noise_tool.specs.PrintedDatagrams as print;
+
+use crate::line::Line;
+use crate::report::{begun_line, fault_line};
+use noise_duel::{DatagramDuel, DatagramEntry, DatagramReport};
+use noise_names::Role;
+use noise_session::{DatagramFault, Datagrams};
+use std::alloc::{AllocError, Global};
+
+/// Appends a line for each entry, in order.
+pub fn push_datagram_lines(
+    alloc: Global,
+    report: &DatagramReport,
+    lines: &mut Vec<Vec<u8>>,
+) -> Result<(), AllocError>
+    ensures { OnOk result (bytes_of lines.new.items
+        ≡ bytes_of lines.old.items ++ map print.datagram_line (datagram_notes_of report.now.entries.items)) }
+{
+    for (role, entry) in &report.entries {
+        let line = datagram_line(alloc, *role, entry)?;
+        lines.push(line.into_bytes())?;
+    }
+    Ok(())
+}
+
+// The line of an entry that is told of this role.
+fn datagram_line(alloc: Global, role: Role, entry: &DatagramEntry) -> Result<Line, AllocError>
+    ensures { IfOk result (λ line. line.text.items ≡ line_of (print.datagram_words role (datagram_note_of entry.now))) }
+{
+    match entry {
+        DatagramEntry::Sealed(number, datagram) => begun_line(alloc, "sealed", role)?
+            .number(*number as u64)?
+            .hex(datagram),
+        DatagramEntry::SealFault(fault) => fault_line(alloc, "unsealed", role, *fault),
+        DatagramEntry::Payload(payload) => begun_line(alloc, "payload", role)?.hex(payload),
+        DatagramEntry::Rejected(fault) => {
+            begun_line(alloc, "rejected", role)?.word(rejection_word(*fault))
+        }
+        DatagramEntry::Missing(number) => begun_line(alloc, "missing", role)?.number(*number as u64),
+    }
+}
+
+fn rejection_word(fault: DatagramFault) -> &'static str
+    ensures { result.now ≡ print.rejection_word fault }
+{
+    match fault {
+        DatagramFault::OneWay => "one-way",
+        DatagramFault::Short => "short",
+        DatagramFault::TooLong => "too-long",
+        DatagramFault::Reserved => "reserved",
+        DatagramFault::Old => "old",
+        DatagramFault::Repeated => "repeated",
+        DatagramFault::Tag => "tag",
+    }
+}
+
+/// Appends where the initiator and the responder stand.
+pub fn push_datagram_states(
+    alloc: Global,
+    duel: &DatagramDuel,
+    lines: &mut Vec<Vec<u8>>,
+) -> Result<(), AllocError>
+    ensures { (d : DatagramSides) → DuelPictures duel.now d
+        → OnOk result (bytes_of lines.new.items ≡ bytes_of lines.old.items ++ print.datagram_state_lines d) }
+{
+    let first = datagram_state(alloc, Role::Initiator, duel.initiator())?;
+    lines.push(first.into_bytes())?;
+    let second = datagram_state(alloc, Role::Responder, duel.responder())?;
+    lines.push(second.into_bytes())?;
+    Ok(())
+}
+
+// Where a party stands.
+fn datagram_state(alloc: Global, role: Role, datagrams: &Datagrams) -> Result<Line, AllocError>
+    ensures { (v : DatagramView) → Pictures datagrams.now v → IfOk result (λ line. line.text.items ≡ print.datagram_state_line role v) }
+{
+    begun_line(alloc, "state", role)?
+        .word("datagrams")?
+        .number(datagrams.send_nonce())
+}

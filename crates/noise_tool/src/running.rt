@@ -1,0 +1,101 @@
+//! The run of a vector file.
+
+ghost use Rattle.std.specs.Prelude.{◌≡◌, ◌⊎◌, ◌++◌, ℕ, List, Option, IfErr, IfOk, OnOk};
+ghost use Rattle.std.specs.List.{All};
+ghost use Rattle.noise_duel.specs.HeldDuel.{DuelStands};
+ghost use Rattle.noise_duel.specs.Sides.{Sides};
+ghost use Rattle.noise_vectors.specs.Expectations.{bytes_of};
+ghost use Rattle.noise_vectors.specs.FileKeys.{agreement_of, public_of};
+ghost use Rattle.noise_vectors.specs.VectorFile.{IsAllowedFile};
+ghost use Rattle.noise_vectors.specs.declared.vector.AllowedEvents.TheVariants.{SayOnly};
+ghost use Rattle.noise_tool.specs.Ends.{IsStartFault};
+ghost use Rattle.noise_tool.specs.Running.{AreLast, IsRunOf, datagrams_in, expected_in};
+
+use crate::datagram_report::{push_datagram_lines, push_datagram_states};
+use crate::ends::make_ends;
+use crate::faults::Fault;
+use crate::line::Line;
+use crate::report::{entry_lines, push_state_lines};
+use noise_duel::Duel;
+use noise_vectors::{FileDatagrams, FileKeys, VectorFile, Version, said_lines};
+use std::alloc::{AllocError, Global};
+
+/// What comes of the run of a file.
+#[derive(Debug, Drop)]
+pub struct Outcome {
+    /// The lines of the run, each without its LF.
+    pub lines: Vec<Vec<u8>>,
+    /// The lines that the file expects; none where it expects nothing.
+    pub expected: Vec<Vec<u8>>,
+}
+
+/// Makes the two ends that the file describes, and lets them say what it says.
+///
+/// Where there are no such ends, the fault is that of `make_ends`.
+pub fn talk(alloc: Global, file: VectorFile) -> Result<Outcome, Fault>
+    requires { IsAllowedFile SayOnly file }
+    ensures lines { IfOk result (λ outcome. IsRunOf file (bytes_of outcome.lines.items)) }
+    ensures expected { IfOk result (λ outcome. bytes_of outcome.expected.items ≡ expected_in file.version) }
+    ensures fault { IfErr result (λ fault. IsStartFault file fault) }
+{
+    let (duel, events, version) = make_ends(alloc, file)?;
+    let said = said_lines(alloc, events)?;
+    let (duel, report) = duel.converse(alloc, &said)?;
+    let mut lines = entry_lines(alloc, &report)?;
+    push_state_lines(alloc, &duel, &mut lines)?;
+    let (_, expected) = split_version(alloc, version);
+    Ok(Outcome { lines, expected })
+}
+
+/// The same of all kinds of events, and of datagrams.
+pub fn replay(alloc: Global, file: VectorFile) -> Result<Outcome, Fault>
+    ensures lines { IfOk result (λ outcome. IsRunOf file (bytes_of outcome.lines.items)) }
+    ensures expected { IfOk result (λ outcome. bytes_of outcome.expected.items ≡ expected_in file.version) }
+    ensures fault { IfErr result (λ fault. IsStartFault file fault) }
+{
+    let (duel, events, version) = make_ends(alloc, file)?;
+    let (duel, report) = duel.run(alloc, &events)?;
+    let mut lines = entry_lines(alloc, &report)?;
+    let (datagrams, expected) = split_version(alloc, version);
+    go_over(alloc, duel, datagrams, &mut lines)?;
+    Ok(Outcome { lines, expected })
+}
+
+// The datagrams of a version, and the lines that it expects.
+fn split_version(alloc: Global, version: Version) -> (Option<FileDatagrams>, Vec<Vec<u8>>)
+    ensures datagrams { result.0 ≡ datagrams_in version }
+    ensures expected { bytes_of result.1.items ≡ expected_in version }
+{
+    match version {
+        Version::One => (None, Vec::new(alloc)),
+        Version::Two(additions) => (additions.datagrams, additions.expected),
+    }
+}
+
+// Appends the lines behind those of the events: of datagrams, where there are some, and where both ends stand.
+fn go_over(
+    alloc: Global,
+    duel: Duel<FileKeys, FileKeys>,
+    datagrams: Option<FileDatagrams>,
+    lines: &mut Vec<Vec<u8>>,
+) -> Result<(), AllocError>
+    ensures { (d : Sides) → DuelStands public_of agreement_of public_of agreement_of duel d
+        → OnOk result ((behind : List (List ℕ)) × AreLast datagrams d behind × (bytes_of lines.new.items ≡ bytes_of lines.old.items ++ behind)) }
+{
+    let Some(over) = datagrams else {
+        return push_state_lines(alloc, &duel, lines);
+    };
+    match duel.into_datagrams(over.window) {
+        Ok(duel) => {
+            let line = Line::new(alloc, "datagrams")?.number(over.window.width())?;
+            lines.push(line.into_bytes())?;
+            let (duel, report) = duel.run(alloc, &over.events)?;
+            push_datagram_lines(alloc, &report, lines)?;
+            push_datagram_states(alloc, &duel, lines)
+        }
+        Err(duel) => {
+            lines.push(Line::new(alloc, "no-datagrams")?.into_bytes())?;
+            push_state_lines(alloc, &duel, lines)
+        }
+    }
+}
