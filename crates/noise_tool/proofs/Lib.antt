@@ -4,3 +4,4 @@ pub mod InputLemmas
 pub mod OutputLemmas
 pub mod PerformingLemmas
 pub mod PrintedLemmas
+pub mod RunningLemmas
