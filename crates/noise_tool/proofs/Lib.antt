@@ -1,4 +1,5 @@
 pub mod CommandLineLemmas
+pub mod ConvertingLemmas
 pub mod EndLemmas
 pub mod InputLemmas
 pub mod OutputLemmas

@@ -18,7 +18,7 @@ use crate::input::read_file;
 use crate::listing::list;
 use crate::orders::Chosen;
 use crate::output::{flush, write, write_lines};
-use crate::running::{Outcome, replay, talk};
+use crate::running::{Outcome, replay, run_vector};
 use crate::showing::show;
 use crate::telling::tell;
 use noise_vectors::{AllowedEvents, first_unmet, read_vector};
@@ -89,10 +89,7 @@ fn run_file<R: Read, O: Write>(
 {
     let text = read_file(alloc, file)?;
     let vector = read_vector(alloc, &text, allowed)?;
-    let outcome = match allowed {
-        AllowedEvents::SayOnly => talk(alloc, vector)?,
-        AllowedEvents::Any | AllowedEvents::VersionOne => replay(alloc, vector)?,
-    };
+    let outcome = run_vector(alloc, vector, allowed)?;
     print_outcome(&outcome, out)
 }
 

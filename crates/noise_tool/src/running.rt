@@ -18,7 +18,7 @@ use crate::line::Line;
 use crate::report::{entry_lines, push_state_lines};
 use noise_duel::Duel;
 use noise_session::end_is_told;
-use noise_vectors::{FileDatagrams, FileKeys, VectorFile, Version, said_lines};
+use noise_vectors::{AllowedEvents, FileDatagrams, FileKeys, VectorFile, Version, said_lines};
 use std::alloc::{AllocError, Global};
 
 /// What comes of the run of a file.
@@ -60,6 +60,23 @@ pub fn replay(alloc: Global, file: VectorFile) -> Result<Outcome, Fault>
     let (datagrams, expected) = split_version(alloc, version);
     go_over(alloc, duel, datagrams, &mut lines)?;
     Ok(Outcome { lines, expected })
+}
+
+/// One of the two, by what the file is allowed to have.
+pub fn run_vector(
+    alloc: Global,
+    file: VectorFile,
+    allowed: AllowedEvents,
+) -> Result<Outcome, Fault>
+    requires { IsAllowedFile allowed file }
+    ensures lines { IfOk result (λ outcome. IsRunOf file (bytes_of outcome.lines.items)) }
+    ensures expected { IfOk result (λ outcome. bytes_of outcome.expected.items ≡ expected_in file.version) }
+    ensures fault { IfErr result (λ fault. IsStartFault file fault) }
+{
+    match allowed {
+        AllowedEvents::SayOnly => talk(alloc, file),
+        AllowedEvents::Any | AllowedEvents::VersionOne => replay(alloc, file),
+    }
 }
 
 // The datagrams of a version, and the lines that it expects.

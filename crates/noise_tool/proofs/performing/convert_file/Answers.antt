@@ -1,0 +1,55 @@
+use Rattle.std.proofs.Common.{rules, ◌≡◌, ◌∙◌, sym, inl, inr, List, ℕ}
+use Rattle.std.proofs.lemmas.Result.{err_from_is_err_and}
+use Rattle.noise_vectors.specs.Expectations.{bytes_of}
+use Rattle.noise_vectors.specs.VectorText.{text_of}
+use Rattle.noise_vectors.specs.declared.vector.AllowedEvents.TheVariants.{VersionOne}
+use Rattle.noise_vectors.specs.declared.vector.Version.TheVariants.{One}
+use Rattle.noise_tool.proofs.PerformingLemmas.{Ran, convert-fault, has-converted, no-converted, no-start}
+use Rattle.noise_tool.proofs.performing.convert_file.Goals as goal
+
+pub returns-in_err-outcome-clause-fault : goal.returns-in_err-outcome-clause-fault
+returns-in_err-outcome-clause-fault g c =
+    let p = err_from_is_err_and c.from_residual-in_err-outcome.result c.from_residual-in_err-outcome.ensures.1 in
+    let spelled = sym c.deref.ensures.value ∙ c.in_ok-vector.ensures.text in
+    rw (p.1, p.2) (inr (no-start VersionOne (g.R.Read.remaining c.args.file.now) c.in_ok-text.text.items c.in_ok-vector.vector _ _
+    c.in_ok-text.ensures.bytes c.in_ok-vector.ensures.right spelled c.in_err-outcome.ensures.fault))
+
+pub convert-requires : goal.convert-requires
+convert-requires g c =
+    let one : c.in_ok-vector.vector.version ≡ One = c.in_ok-vector.ensures.allowed.1 in
+    (c.in_ok-vector.vector, one, c.deref-2.ensures.value ∙ sym c.deref.ensures.value ∙ c.in_ok-vector.ensures.text)
+
+pub returns-in_err-converted-clause-fault : goal.returns-in_err-converted-clause-fault
+returns-in_err-converted-clause-fault g c =
+    let p = err_from_is_err_and c.from_residual-in_err-converted.result c.from_residual-in_err-converted.ensures.1 in
+    let one : c.in_ok-vector.vector.version ≡ One = c.in_ok-vector.ensures.allowed.1 in
+    let spelled = sym c.deref.ensures.value ∙ c.in_ok-vector.ensures.text in
+    let ran : Ran (g.R.Read.remaining c.args.file.now) c.in_ok-vector.vector c.in_ok-outcome.outcome = record {
+      text = c.in_ok-text.text.items;
+      bytes = c.in_ok-text.ensures.bytes;
+      right = c.in_ok-vector.ensures.right;
+      spelled = spelled;
+      run = c.in_ok-outcome.ensures.lines;
+      expected = c.in_ok-outcome.ensures.expected;
+    } in
+    let lines : c.deref-3.result.now ≡ c.in_ok-outcome.outcome.lines.items = search rules in
+    rw (p.1, p.2) (no-converted (g.R.Read.remaining c.args.file.now) c.in_ok-vector.vector c.in_ok-outcome.outcome _ ran one
+    (convert-fault c.in_ok-vector.vector c.in_ok-outcome.outcome c.deref-3.result.now c.deref-2.result.now _ one (c.deref-2.ensures.value ∙ spelled) lines
+    c.in_err-converted.ensures.fault))
+
+pub returns-clause-done : goal.returns-clause-done
+returns-clause-done g c =
+    let one : c.in_ok-vector.vector.version ≡ One = c.in_ok-vector.ensures.allowed.1 in
+    let spelled = sym c.deref.ensures.value ∙ c.in_ok-vector.ensures.text in
+    let ran : Ran (g.R.Read.remaining c.args.file.now) c.in_ok-vector.vector c.in_ok-outcome.outcome = record {
+      text = c.in_ok-text.text.items;
+      bytes = c.in_ok-text.ensures.bytes;
+      right = c.in_ok-vector.ensures.right;
+      spelled = spelled;
+      run = c.in_ok-outcome.ensures.lines;
+      expected = c.in_ok-outcome.ensures.expected;
+    } in
+    let lines : c.deref-3.result.now ≡ c.in_ok-outcome.outcome.lines.items = search rules in
+    let text : c.deref-4.result.now ≡ c.in_ok-converted.converted.items = search rules in
+    has-converted (g.R.Read.remaining c.args.file.now) c.in_ok-vector.vector c.in_ok-outcome.outcome _ _ c.deref-4.result.now c.print.result ran one
+    (text ∙ rw (← lines) (c.in_ok-converted.ensures.converted c.in_ok-vector.vector one (c.deref-2.ensures.value ∙ spelled))) c.print.ensures.printed

@@ -1,0 +1,38 @@
+use Rattle.std.proofs.Common.{◌∙◌, sym, inr}
+use Rattle.std.proofs.lemmas.Result.{err_from_is_err_and}
+use Rattle.noise_tool.specs.Performing.{IsUnmet}
+use Rattle.noise_tool.proofs.PerformingLemmas.{Ran, has-run, no-run, no-start}
+use Rattle.noise_tool.proofs.performing.run_file.Goals as goal
+
+pub returns-in_err-outcome-clause-fault : goal.returns-in_err-outcome-clause-fault
+returns-in_err-outcome-clause-fault g c =
+    let p = err_from_is_err_and c.from_residual-in_err-outcome.result c.from_residual-in_err-outcome.ensures.1 in
+    let spelled = sym c.deref.ensures.value ∙ c.in_ok-vector.ensures.text in
+    rw (p.1, p.2) (inr (no-start c.args.allowed (g.R.Read.remaining c.args.file.now) c.in_ok-text.text.items c.in_ok-vector.vector _ _
+    c.in_ok-text.ensures.bytes c.in_ok-vector.ensures.right spelled c.in_err-outcome.ensures.fault))
+
+pub returns-clause-done : goal.returns-clause-done
+returns-clause-done g c =
+    let ran : Ran (g.R.Read.remaining c.args.file.now) c.in_ok-vector.vector c.in_ok-outcome.outcome = record {
+      text = c.in_ok-text.text.items;
+      bytes = c.in_ok-text.ensures.bytes;
+      right = c.in_ok-vector.ensures.right;
+      spelled = sym c.deref.ensures.value ∙ c.in_ok-vector.ensures.text;
+      run = c.in_ok-outcome.ensures.lines;
+      expected = c.in_ok-outcome.ensures.expected;
+    } in
+    has-run (g.R.Read.remaining c.args.file.now) c.in_ok-vector.vector c.in_ok-outcome.outcome _ _ c.print_outcome.result ran
+    c.print_outcome.ensures.printed c.print_outcome.ensures.met
+
+pub returns-clause-fault : goal.returns-clause-fault
+returns-clause-fault g c =
+    let ran : Ran (g.R.Read.remaining c.args.file.now) c.in_ok-vector.vector c.in_ok-outcome.outcome = record {
+      text = c.in_ok-text.text.items;
+      bytes = c.in_ok-text.ensures.bytes;
+      right = c.in_ok-vector.ensures.right;
+      spelled = sym c.deref.ensures.value ∙ c.in_ok-vector.ensures.text;
+      run = c.in_ok-outcome.ensures.lines;
+      expected = c.in_ok-outcome.ensures.expected;
+    } in
+    no-run c.args.allowed (g.R.Read.remaining c.args.file.now) c.in_ok-vector.vector c.in_ok-outcome.outcome _ _ c.print_outcome.result ran
+    c.print_outcome.ensures.fault
