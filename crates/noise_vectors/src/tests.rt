@@ -49,7 +49,7 @@ const FULL: [&str; 33] = [
 
 // A line, in front of which line of that file it stands, and which kind of line it is told not to be.
 const WRONG: [(&str, usize, LineKind); 38] = [
-    ("vector 2", 1, LineKind::Header),
+    ("vector 3", 1, LineKind::Header),
     ("", 1, LineKind::Header),
     ("protocol", 2, LineKind::Protocol),
     (
@@ -123,10 +123,126 @@ const WRONG_IN_OWN: [(&str, usize, LineKind); 8] = [
     (ANSWER, 12, LineKind::Keys),
 ];
 
+// The lines of a right file of version 2.
+const SECOND: [&str; 13] = [
+    "vector 2",
+    "protocol Noise_NN_25519_ChaChaPoly_SHA256",
+    "prologue -",
+    "interval 0",
+    "initiator xor - -",
+    "responder xor - -",
+    "say initiator - -",
+    "datagrams 256",
+    "seal initiator 6869",
+    "open responder 4294967295",
+    "foreign responder -",
+    "expect  ",
+    "expect initiator: ~",
+];
+
+// Without `datagrams` no datagram is an event, and behind it nothing else is. A line is told as one of what is expected only behind the first such line.
+const WRONG_IN_SECOND: [(&str, usize, LineKind); 33] = [
+    ("vector 3", 1, LineKind::Header),
+    ("seal initiator -", 8, LineKind::Event),
+    ("open responder 0", 8, LineKind::Event),
+    ("foreign responder 00", 8, LineKind::Event),
+    ("datagrams", 8, LineKind::Event),
+    ("datagrams 65", 8, LineKind::Event),
+    ("datagrams 064", 8, LineKind::Event),
+    ("datagrams 64 ", 8, LineKind::Event),
+    ("expect ", 8, LineKind::Event),
+    ("datagrams 256", 9, LineKind::Event),
+    ("say initiator - -", 9, LineKind::Event),
+    ("write initiator -", 9, LineKind::Event),
+    ("deliver responder 0 -", 10, LineKind::Event),
+    ("raw responder 00", 12, LineKind::Event),
+    ("", 9, LineKind::Event),
+    ("seal initiator", 9, LineKind::Event),
+    ("seal nobody -", 9, LineKind::Event),
+    ("seal initiator 686", 9, LineKind::Event),
+    ("seal initiator 6869 1", 9, LineKind::Event),
+    ("open responder -", 10, LineKind::Event),
+    ("open responder 00", 10, LineKind::Event),
+    ("open responder 4294967296", 10, LineKind::Event),
+    ("foreign responder 0A", 11, LineKind::Event),
+    ("expect", 12, LineKind::Event),
+    ("expect ", 12, LineKind::Event),
+    ("expect one\ttwo", 12, LineKind::Event),
+    ("expect", 13, LineKind::Expect),
+    ("expect ", 13, LineKind::Expect),
+    ("expect \u{7f}", 13, LineKind::Expect),
+    ("expect \u{e9}", 13, LineKind::Expect),
+    ("", 13, LineKind::Expect),
+    ("datagrams 64", 13, LineKind::Expect),
+    ("seal initiator -", 13, LineKind::Expect),
+];
+
+// What stands in the file's line of this number, the last one and without an LF, and which kind of line it is told not to be.
+const UNENDED: [(&str, usize, LineKind); 8] = [
+    ("vector 2", 1, LineKind::Ending),
+    ("datagrams 64", 8, LineKind::Ending),
+    ("datagrams 65", 8, LineKind::Event),
+    ("open responder 0", 9, LineKind::Ending),
+    ("expect one", 12, LineKind::Ending),
+    ("expect ", 12, LineKind::Event),
+    ("expect two", 13, LineKind::Ending),
+    ("expect ", 13, LineKind::Expect),
+];
+
+// What is allowed, and which line of that file is told.
+const ALLOWED: [(AllowedEvents, Option<VectorFault>); 3] = [
+    (AllowedEvents::Any, None),
+    (
+        AllowedEvents::SayOnly,
+        Some(VectorFault::Line(8, LineKind::Event)),
+    ),
+    (
+        AllowedEvents::VersionOne,
+        Some(VectorFault::Line(1, LineKind::Header)),
+    ),
+];
+
+#[test]
+fn tells_what_version_2_adds(rt: HostRuntime) -> Result<(), Fail> {
+    let alloc = rt.alloc();
+    for (last, number, kind) in &UNENDED {
+        let file = file_to(alloc, &SECOND, last, *number)?;
+        let fault = fault_of(alloc, file.as_str(), AllowedEvents::Any);
+        assert!(rt; fault == Some(VectorFault::Line(*number, *kind)), "{last}");
+    }
+    for (allowed, told) in &ALLOWED {
+        let file = file_to(alloc, &SECOND, "", 14)?;
+        assert!(rt; fault_of(alloc, file.as_str(), *allowed) == *told);
+        let file = file_to(alloc, &FULL, "", 34)?;
+        assert!(rt; fault_of(alloc, file.as_str(), *allowed).is_none());
+    }
+    Ok(())
+}
+
+// The lines in front of that of this number, and behind them a last one without an LF.
+fn file_to(alloc: Global, lines: &[&str], last: &str, number: usize) -> Result<String, AllocError> {
+    let mut text = String::new(alloc);
+    for (index, line) in lines.iter().enumerate() {
+        if index + 1 < number {
+            text.push_str(line)?;
+            text.push_str("\n")?;
+        }
+    }
+    text.push_str(last)?;
+    Ok(text)
+}
+
 #[test]
 fn tells_the_first_wrong_line(rt: HostRuntime) -> Result<(), Fail> {
-    tells_each(&rt, rt.alloc(), &FULL, &WRONG)?;
-    tells_each(&rt, rt.alloc(), &OWN, &WRONG_IN_OWN)?;
+    tells_each(&rt, rt.alloc(), AllowedEvents::SayOnly, &FULL, &WRONG)?;
+    tells_each(&rt, rt.alloc(), AllowedEvents::SayOnly, &OWN, &WRONG_IN_OWN)?;
+    tells_each(
+        &rt,
+        rt.alloc(),
+        AllowedEvents::Any,
+        &SECOND,
+        &WRONG_IN_SECOND,
+    )?;
     Ok(())
 }
 
@@ -134,13 +250,14 @@ fn tells_the_first_wrong_line(rt: HostRuntime) -> Result<(), Fail> {
 fn tells_each(
     rt: &impl Abort,
     alloc: Global,
+    allowed: AllowedEvents,
     lines: &[&str],
     rows: &[(&str, usize, LineKind)],
 ) -> Result<(), AllocError> {
     for (wrong, number, kind) in rows {
         let file = file_with(alloc, lines, wrong, *number)?;
-        let fault = fault_of(alloc, file.as_str(), AllowedEvents::SayOnly);
-        assert_eq!(rt; fault, Some(VectorFault::Line(*number, *kind)), "{wrong}");
+        let fault = fault_of(alloc, file.as_str(), allowed);
+        assert!(rt; fault == Some(VectorFault::Line(*number, *kind)), "{wrong}");
     }
     Ok(())
 }
@@ -164,8 +281,8 @@ fn file_with(
     Ok(text)
 }
 
-// Lines that are no events, where all kinds of events are allowed.
-const NO_EVENTS: [&str; 30] = [
+// Lines that are no events, where all kinds of events are allowed. In version 1 those that version 2 adds aren't either.
+const NO_EVENTS: [&str; 33] = [
     "",
     "say",
     "hear initiator -",
@@ -196,6 +313,9 @@ const NO_EVENTS: [&str; 30] = [
     "raw responder",
     "raw responder 0A",
     "raw responder - 1",
+    "datagrams 64",
+    "seal initiator -",
+    "expect one",
 ];
 
 // Lines that are events. Where `say` alone is allowed, all but the first are refused.
@@ -242,28 +362,32 @@ fn fault_of(alloc: Global, text: &str, allowed: AllowedEvents) -> Option<VectorF
     read_vector(alloc, text.as_bytes(), allowed).err()
 }
 
-// The front of an event's line, how many bytes stand behind it, and whether it is an event.
-const SIZES: [(&str, usize, bool); 4] = [
-    ("write initiator ", 65535, true),
-    ("write initiator ", 65536, false),
-    ("raw responder ", 131072, true),
-    ("raw responder ", 131073, false),
+// The front of an event's line, in front of which line of the file of version 2 it stands, how many bytes stand behind it, and whether it is an event.
+const SIZES: [(&str, usize, usize, bool); 8] = [
+    ("write initiator ", 8, 65535, true),
+    ("write initiator ", 8, 65536, false),
+    ("raw responder ", 8, 131072, true),
+    ("raw responder ", 8, 131073, false),
+    ("seal initiator ", 9, 65535, true),
+    ("seal initiator ", 9, 65536, false),
+    ("foreign responder ", 9, 131072, true),
+    ("foreign responder ", 9, 131073, false),
 ];
 
 #[test]
 fn tells_an_event_with_too_many_bytes(rt: HostRuntime) -> Result<(), Fail> {
     let alloc = rt.alloc();
-    for (front, count, is_event) in &SIZES {
+    for (front, number, count, is_event) in &SIZES {
         let mut line = String::from_str(alloc, front)?;
         push_digits(&mut line, *count)?;
-        let file = file_with(alloc, &FULL, line.as_str(), 33)?;
+        let file = file_with(alloc, &SECOND, line.as_str(), *number)?;
         let told = if *is_event {
             None
         } else {
-            Some(VectorFault::Line(33, LineKind::Event))
+            Some(VectorFault::Line(*number, LineKind::Event))
         };
         let fault = fault_of(alloc, file.as_str(), AllowedEvents::Any);
-        assert_eq!(rt; fault, told, "{front}{count}");
+        assert!(rt; fault == told, "{front}{count}");
     }
     Ok(())
 }
