@@ -7,5 +7,6 @@ pub mod LackLemmas
 pub mod LineLemmas
 pub mod PartyLemmas
 pub mod ReadingLemmas
+pub mod UnmetLemmas
 pub mod VectorLemmas
 pub mod WordLemmas

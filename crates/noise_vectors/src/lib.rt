@@ -4,6 +4,7 @@
 mod block;
 mod cuts;
 mod events;
+mod expectations;
 mod faults;
 mod file_keys;
 mod hex_words;
@@ -16,6 +17,7 @@ mod tests;
 mod vector;
 mod words;
 
+pub use expectations::first_unmet;
 pub use faults::{LineKind, VectorFault};
 pub use file_keys::FileKeys;
 pub use hex_words::{hex_word, read_hex};
