@@ -1,5 +1,6 @@
 -- The first line at which two lists differ.
-use Rattle.std.proofs.Common.{arith, ◌≡◌, ◌≢◌, ◌+◌, ◌<◌, ◌≤◌, inl, inr, ap, sym, refl, not, Bool, true, false, ℕ, zero, suc, List, [], ◌∷◌, length, Option, Some, None}
+use Rattle.std.proofs.Common.{arith, ◌≡◌, ◌≢◌, ◌+◌, ◌<◌, ◌≤◌, inl, inr, ap, sym, refl, not, Bool, true, false, ℕ, zero, suc}
+use Rattle.std.proofs.Common.{List, [], ◌∷◌, length, Option, Some, None}
 use Rattle.std.specs.Prelude.{◌↔◌, Vec, bytes_eq, slice_get, slice_index_or}
 use Rattle.std.specs.Global.{Global}
 use Rattle.std.proofs.lemmas.Bool.{cases_lt}
