@@ -1,5 +1,7 @@
 //! Which line of a wrong vector file is told, and that a right one is read.
 
+mod expectations;
+
 use crate::{AllowedEvents, LineKind, VectorFault, read_vector};
 use std::alloc::{AllocError, Global};
 use std::process::Abort;
