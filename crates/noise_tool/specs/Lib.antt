@@ -2,6 +2,7 @@ pub mod CommandLine
 pub mod Ends
 pub mod Faults
 pub mod Named
+pub mod OneRun
 pub mod Output
 pub mod Performing
 pub mod Printed

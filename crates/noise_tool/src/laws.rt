@@ -1,0 +1,13 @@
+//! Laws of the runs of vector files: each function does nothing, and its contract is the law.
+
+ghost use Rattle.noise_tool.specs.OneRun.{OneRun};
+
+use noise_duel::{datagram_run_once, run_once};
+
+/// Files that say the same print the same lines; so a file has one list of lines.
+pub fn file_run_once()
+    ensures { OneRun }
+{
+    run_once();
+    datagram_run_once();
+}
