@@ -5,3 +5,4 @@ pub mod OneRunLemmas
 pub mod OutputLemmas
 pub mod PerformingLemmas
 pub mod PrintedLemmas
+pub mod RunningLemmas

@@ -17,6 +17,7 @@ use crate::faults::Fault;
 use crate::line::Line;
 use crate::report::{entry_lines, push_state_lines};
 use noise_duel::Duel;
+use noise_session::end_is_told;
 use noise_vectors::{FileDatagrams, FileKeys, VectorFile, Version, said_lines};
 use std::alloc::{AllocError, Global};
 
@@ -82,6 +83,7 @@ fn go_over(
     ensures { (d : Sides) → DuelStands public_of agreement_of public_of agreement_of duel d
         → OnOk result ((behind : List (List ℕ)) × AreLast datagrams d behind × (bytes_of lines.new.items ≡ bytes_of lines.old.items ++ behind)) }
 {
+    end_is_told::<FileKeys>();
     let Some(over) = datagrams else {
         return push_state_lines(alloc, &duel, lines);
     };

@@ -1,0 +1,75 @@
+-- The lines behind those of the events.
+use Rattle.std.proofs.Common.{◌≡◌, ◌∙◌, ap, ap₂, sym, refl, subst, ◌&&◌, ◌==◌, Bool, true, false, ℕ, List, [], ◌∷◌, ◌++◌, Option, Some, None, Result, Ok, Err, OnOk, length, map, codes, append_assoc}
+use Rattle.noise_names.specs.declared.token.Role.{Role}
+use Rattle.noise_session.specs.EndDatagrams.{is_datagram_ready, is_untouched}
+use Rattle.noise_session.specs.Ends.{EndView, HeldEnd, IsToldBy}
+use Rattle.noise_session.specs.Progress.{Progress}
+use Rattle.noise_duel.specs.DatagramEvents.{DatagramNote}
+use Rattle.noise_duel.specs.DatagramReports.{datagram_events_of}
+use Rattle.noise_duel.specs.DatagramRuns.{DatagramRun}
+use Rattle.noise_duel.specs.DatagramSides.{DatagramSides}
+use Rattle.noise_duel.specs.HeldDuel.{HeldDuel}
+use Rattle.noise_duel.specs.Sides.{Sides}
+use Rattle.noise_vectors.specs.VectorText.{window_words}
+use Rattle.noise_vectors.specs.declared.file_keys.FileKeys.{FileKeys}
+use Rattle.noise_vectors.specs.declared.vector.FileDatagrams.{FileDatagrams}
+use Rattle.noise_tool.specs.Printed.{state_lines}
+use Rattle.noise_tool.specs.PrintedDatagrams.{datagram_line, datagram_state_lines}
+use Rattle.noise_tool.specs.Running.{AreLast, are_ready, gone_over, is_ready, ready, unready, without}
+
+pub on_ok : {A E : Type 0} (r : Result A E) (P Q : Type 0) → (P → Q) → OnOk r P → OnOk r Q
+on_ok (Ok a) P Q f p = f p
+on_ok (Err e) P Q f p = tt
+
+-- ---- which ends are ready
+
+ready-told : (e : HeldEnd FileKeys) (v : EndView) → IsToldBy v e → is_datagram_ready e ≡ is_ready v
+ready-told e v told = ap₂ (λ (p : Progress) (h : List ℕ). is_untouched p && (length h == 0)) told.progress told.held
+
+pub both-ready : (duel : HeldDuel FileKeys FileKeys) (d : Sides) → IsToldBy d.initiator.view duel.initiator → IsToldBy d.responder.view duel.responder
+    → (is_datagram_ready duel.initiator ≡ true) × (is_datagram_ready duel.responder ≡ true) → are_ready d ≡ true
+both-ready duel d one other h =
+    let a : is_ready d.initiator.view ≡ true = sym (ready-told duel.initiator d.initiator.view one) ∙ h.0 in
+    let b : is_ready d.responder.view ≡ true = sym (ready-told duel.responder d.responder.view other) ∙ h.1 in
+    rw (a, b) refl
+
+pub not-ready : (duel : HeldDuel FileKeys FileKeys) (d : Sides) → IsToldBy d.initiator.view duel.initiator → IsToldBy d.responder.view duel.responder
+    → ¬ ((is_datagram_ready duel.initiator ≡ true) × (is_datagram_ready duel.responder ≡ true)) → are_ready d ≡ false
+not-ready duel d one other h = at (is_ready d.initiator.view) (is_ready d.responder.view) refl refl where
+  at : (a b : Bool) → is_ready d.initiator.view ≡ a → is_ready d.responder.view ≡ b → are_ready d ≡ false
+  at true true p q =
+      absurd (h (ready-told duel.initiator d.initiator.view one ∙ p, ready-told duel.responder d.responder.view other ∙ q))
+  at true false p q = rw (p, q) refl
+  at false b p q = rw p refl
+
+-- ---- the lines
+
+pub behind-without : {E : Type 0} (given : Option FileDatagrams) (d : Sides) (r : Result Unit E) (old new : List (List ℕ)) → given ≡ None
+    → OnOk r (new ≡ old ++ state_lines d) → OnOk r ((x : List (List ℕ)) × AreLast given d x × (new ≡ old ++ x))
+behind-without given d r old new none h =
+    on_ok r _ _ (λ e. (state_lines d, subst (λ (o : Option FileDatagrams). AreLast o d (state_lines d)) (sym none) (without d), e)) h
+
+pub behind-unready : {E : Type 0} (given : Option FileDatagrams) (over : FileDatagrams) (d : Sides) (r : Result Unit E) (old one new : List (List ℕ))
+    → given ≡ Some over → are_ready d ≡ false → one ≡ old ++ codes "no-datagrams" ∷ [] → OnOk r (new ≡ one ++ state_lines d)
+    → OnOk r ((x : List (List ℕ)) × AreLast given d x × (new ≡ old ++ x))
+behind-unready given over d r old one new some not_ready first h =
+    on_ok r _ _ (λ e. (
+      codes "no-datagrams" ∷ state_lines d,
+      subst (λ (o : Option FileDatagrams). AreLast o d (codes "no-datagrams" ∷ state_lines d)) (sym some) (unready over d not_ready),
+      e ∙ ap (λ (t : List (List ℕ)). t ++ state_lines d) first ∙ append_assoc old (codes "no-datagrams" ∷ []) (state_lines d),
+    )) h
+
+pub behind-ready : {E : Type 0} (given : Option FileDatagrams) (over : FileDatagrams) (d : Sides) (notes : List (Role × DatagramNote))
+    (last : DatagramSides) (r : Result Unit E) (old one two new : List (List ℕ)) → given ≡ Some over → are_ready d ≡ true
+    → DatagramRun (gone_over d over.window) (datagram_events_of over.events.items) notes last
+    → one ≡ old ++ window_words over.window ∷ [] → two ≡ one ++ map datagram_line notes → OnOk r (new ≡ two ++ datagram_state_lines last)
+    → OnOk r ((x : List (List ℕ)) × AreLast given d x × (new ≡ old ++ x))
+behind-ready given over d notes last r old one two new some are run first more h =
+    let lines : List (List ℕ) = window_words over.window ∷ (map datagram_line notes ++ datagram_state_lines last) in
+    on_ok r _ _ (λ e. (
+      lines,
+      subst (λ (o : Option FileDatagrams). AreLast o d lines) (sym some) (ready over d notes last are run),
+      e ∙ ap (λ (t : List (List ℕ)). t ++ datagram_state_lines last) (more ∙ ap (λ (t : List (List ℕ)). t ++ map datagram_line notes) first)
+          ∙ append_assoc (old ++ window_words over.window ∷ []) (map datagram_line notes) (datagram_state_lines last)
+          ∙ append_assoc old (window_words over.window ∷ []) (map datagram_line notes ++ datagram_state_lines last),
+    )) h
