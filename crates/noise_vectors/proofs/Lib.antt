@@ -9,5 +9,8 @@ pub mod LackLemmas
 pub mod LineLemmas
 pub mod PartyLemmas
 pub mod ReadingLemmas
+pub mod UniqueLines
+pub mod UniqueTexts
+pub mod UniqueWords
 pub mod VectorLemmas
 pub mod WordLemmas

@@ -65,16 +65,16 @@ abbrev pub behind_of : FileKeys → List ℕ → List ℕ
 behind_of (Xor keys) rest = rest
 behind_of (Table keys) rest = lines_of answer_words keys.entries rest
 
-party_text-line : (role : Role) (keys : FileKeys) (rest : List ℕ)
+pub party_text-line : (role : Role) (keys : FileKeys) (rest : List ℕ)
     → party_text role keys rest ≡ line (role_word role ++ 32 ∷ words_of keys) (behind_of keys rest)
 party_text-line role (Xor keys) rest = refl
 party_text-line role (Table keys) rest = refl
 
-lacks-words_of : (keys : FileKeys) → AreKeys keys → lacks 10 (words_of keys) ≡ true
+pub lacks-words_of : (keys : FileKeys) → AreKeys keys → lacks 10 (words_of keys) ≡ true
 lacks-words_of (Xor keys) h = lacks-key_words keys.e keys.s h.0 h.1
 lacks-words_of (Table keys) h = lacks-key_words keys.e keys.s h.0 h.1
 
-lacks-party : (role : Role) (keys : FileKeys) → AreKeys keys → lacks 10 (role_word role ++ 32 ∷ words_of keys) ≡ true
+pub lacks-party : (role : Role) (keys : FileKeys) → AreKeys keys → lacks 10 (role_word role ++ 32 ∷ words_of keys) ≡ true
 lacks-party role keys h = lacks-append 10 (role_word role) (32 ∷ words_of keys) (role_word-plain role).0 (lacks-words_of keys h)
 
 -- what reading the next line of a text gives

@@ -1,0 +1,249 @@
+-- No lines of a vector file are those of two values.
+use Rattle.std.proofs.Common.{arith, ◌≡◌, ◌∙◌, ◌<◌, ◌≤◌, ◌^◌, ◌==◌, ◌||◌, ap, sym, refl, lit<, Bool, true, false, true≢false}
+use Rattle.std.proofs.Common.{ℕ, List, [], ◌∷◌, ◌++◌, map, codes, get_or, Option}
+use Rattle.std.specs.Prelude.{decimal, IfSome, Vec}
+use Rattle.std.specs.Global.{Global}
+use Rattle.std.specs.List.{All}
+use Rattle.std.proofs.lemmas.Bool.Decides.{nat_tests}
+use Rattle.std.proofs.lemmas.Fmt.{decimal_injective}
+use Rattle.std.proofs.lemmas.List.{append_cancel_left}
+use Rattle.std.proofs.lemmas.List.Elements.{All-head, All-tail}
+use Rattle.hex.specs.Hex.{encode_lower}
+use Rattle.noise_names.specs.declared.token.Role.{Role}
+use Rattle.noise_duel.specs.Acts.{event_of}
+use Rattle.noise_duel.specs.DatagramReports.{datagram_event_of}
+use Rattle.noise_duel.specs.declared.datagram_event.DatagramEvent.{DatagramEvent}
+use Rattle.noise_duel.specs.declared.datagram_event.DatagramEvent.TheVariants as datagram
+use Rattle.noise_duel.specs.declared.event.Event.{Event}
+use Rattle.noise_duel.specs.declared.event.Event.TheVariants.{Write, Say, Deliver, Raw}
+use Rattle.noise_handshake.specs.Table.{TableEntry}
+use Rattle.noise_vectors.specs.HexWord.{hex_of}
+use Rattle.noise_vectors.specs.SameFile.{cuts_of}
+use Rattle.noise_vectors.specs.VectorFile.{IsDatagramEvent, IsEntry, IsEvent, IsExpected}
+use Rattle.noise_vectors.specs.VectorText.{answer_words, datagram_event_words, event_words, expect_words, key_word, key_words, lengths_word, line, lines_of}
+use Rattle.noise_vectors.specs.VectorText.{own_word, psk_words, role_word}
+use Rattle.noise_vectors.specs.Words.{IsKey, lacks}
+use Rattle.noise_vectors.proofs.EventLemmas.{event_words-line}
+use Rattle.noise_vectors.proofs.LackLemmas.{lacks-append, lacks-encode_lower, lacks-hex_of, lacks-key_word, own_word-plain, role_word-plain}
+use Rattle.noise_vectors.proofs.PartyLemmas.{lacks-answer_words}
+use Rattle.noise_vectors.proofs.ReadingLemmas.{psk-plain}
+use Rattle.noise_vectors.proofs.UniqueWords.{first-byte, hex-one, key-one, key_word-one, lengths-one, numbers-apart, own-one, parted-one, role-one}
+use Rattle.noise_vectors.proofs.WordLemmas.{lacks-decimal}
+
+-- ---- lists of lines
+
+-- Good lines of one kind, behind which no such line stands, are those of one list, as far as it is seen.
+pub lines-one : {A B : Type 0} (words : A → List ℕ) (Good : A → Type 0) (view : A → B) (begins : List ℕ → Bool)
+    → ((x : A) → Good x → lacks 10 (words x) ≡ true) → ((x : A) (rest : List ℕ) → begins (line (words x) rest) ≡ true)
+    → ((x y : A) → Good x → Good y → words x ≡ words y → view x ≡ view y)
+    → (xs ys : List A) (u v : List ℕ) → All Good xs → All Good ys → begins u ≡ false → begins v ≡ false
+    → lines_of words xs u ≡ lines_of words ys v → (map view xs ≡ map view ys) × (u ≡ v)
+lines-one words Good view begins plain front one [] [] u v h k hu hv e = (refl, e)
+lines-one words Good view begins plain front one [] (y ∷ ys) u v h k hu hv e =
+    absurd (true≢false (sym (front y (lines_of words ys v)) ∙ ap begins (sym e) ∙ hu))
+lines-one words Good view begins plain front one (x ∷ xs) [] u v h k hu hv e =
+    absurd (true≢false (sym (front x (lines_of words xs u)) ∙ ap begins e ∙ hv))
+lines-one words Good view begins plain front one (x ∷ xs) (y ∷ ys) u v h k hu hv e =
+    let good = All-head Good x xs h in
+    let also = All-head Good y ys k in
+    let parts = parted-one 10 (words x) (words y) (lines_of words xs u) (lines_of words ys v) (plain x good) (plain y also) e in
+    let first = one x y good also parts.0 in
+    let more = lines-one words Good view begins plain front one xs ys u v (All-tail Good x xs h) (All-tail Good y ys k) hu hv parts.1 in
+    (cc (first, more.0), more.1)
+
+abbrev pub itself : List ℕ → List ℕ
+itself text = text
+
+pub map-itself : (xs : List (List ℕ)) → map itself xs ≡ xs
+map-itself [] = refl
+map-itself (x ∷ xs) = ap (λ (ys : List (List ℕ)). x ∷ ys) (map-itself xs)
+
+abbrev entry_itself : TableEntry → TableEntry
+entry_itself entry = entry
+
+map-entries : (xs : List TableEntry) → map entry_itself xs ≡ xs
+map-entries [] = refl
+map-entries (x ∷ xs) = ap (λ (ys : List TableEntry). x ∷ ys) (map-entries xs)
+
+-- ---- psks
+
+abbrev pub begins_psk : List ℕ → Bool
+begins_psk text = get_or text 0 0 == 112
+
+psk-one : (a b : List ℕ) → IsKey a → IsKey b → psk_words a ≡ psk_words b → a ≡ b
+psk-one a b h k e = key-one a b h k (append_cancel_left (codes "psk ") (encode_lower a) (encode_lower b) e)
+
+pub psks-one : (xs bs : List (List ℕ)) (u v : List ℕ) → All IsKey xs → All IsKey bs → begins_psk u ≡ false → begins_psk v ≡ false
+    → lines_of psk_words xs u ≡ lines_of psk_words bs v → (xs ≡ bs) × (u ≡ v)
+psks-one xs bs u v h k hu hv e =
+    let parts = lines-one psk_words IsKey itself begins_psk psk-plain (λ x rest. refl) psk-one xs bs u v h k hu hv e in
+    (sym (map-itself xs) ∙ parts.0 ∙ map-itself bs, parts.1)
+
+-- ---- answers
+
+abbrev pub begins_answer : List ℕ → Bool
+begins_answer text = get_or text 0 0 == 97
+
+answer-one : (a b : TableEntry) → IsEntry a → IsEntry b → answer_words a ≡ answer_words b → a ≡ b
+answer-one a b h k e =
+    let behind = append_cancel_left (codes "answer ") (own_word a.own ++ 32 ∷ (encode_lower a.remote ++ 32 ∷ encode_lower a.answer))
+    (own_word b.own ++ 32 ∷ (encode_lower b.remote ++ 32 ∷ encode_lower b.answer)) e in
+    let owns = parted-one 32 (own_word a.own) (own_word b.own) (encode_lower a.remote ++ 32 ∷ encode_lower a.answer)
+    (encode_lower b.remote ++ 32 ∷ encode_lower b.answer) (own_word-plain a.own).1 (own_word-plain b.own).1 behind in
+    let keys = parted-one 32 (encode_lower a.remote) (encode_lower b.remote) (encode_lower a.answer) (encode_lower b.answer)
+    (lacks-encode_lower 32 a.remote (lit< tt) h.0.1) (lacks-encode_lower 32 b.remote (lit< tt) k.0.1) owns.1 in
+    let own = own-one a.own b.own owns.0 in
+    let remote = key-one a.remote b.remote h.0 k.0 keys.0 in
+    let answer = key-one a.answer b.answer h.1 k.1 keys.1 in
+    ap (λ (o : _). record a { own = o }) own ∙ ap (λ (t : List ℕ). record a { own = b.own; remote = t }) remote
+    ∙ ap (λ (t : List ℕ). record b { answer = t }) answer
+
+pub answers-one : (xs bs : List TableEntry) (u v : List ℕ) → All IsEntry xs → All IsEntry bs → begins_answer u ≡ false → begins_answer v ≡ false
+    → lines_of answer_words xs u ≡ lines_of answer_words bs v → (xs ≡ bs) × (u ≡ v)
+answers-one xs bs u v h k hu hv e =
+    let parts = lines-one answer_words IsEntry entry_itself begins_answer lacks-answer_words (λ x rest. refl) answer-one xs bs u v h k hu hv e in
+    (sym (map-entries xs) ∙ parts.0 ∙ map-entries bs, parts.1)
+
+-- two keys
+pub keys-one : (e s f t : Option (List ℕ)) → IfSome e IsKey → IfSome s IsKey → IfSome f IsKey → IfSome t IsKey → key_words e s ≡ key_words f t
+    → (e ≡ f) × (s ≡ t)
+keys-one e s f t he hs hf ht same =
+    let parts = parted-one 32 (key_word e) (key_word f) (key_word s) (key_word t) (lacks-key_word 32 e (lit< tt) he)
+    (lacks-key_word 32 f (lit< tt) hf) same in
+    (key_word-one e f he hf parts.0, key_word-one s t hs ht parts.1)
+
+-- ---- events
+
+-- a role, and what stands behind it
+roles-one : (r s : Role) (x y : List ℕ) → role_word r ++ 32 ∷ x ≡ role_word s ++ 32 ∷ y → (r ≡ s) × (x ≡ y)
+roles-one r s x y e =
+    let parts = parted-one 32 (role_word r) (role_word s) x y (role_word-plain r).1 (role_word-plain s).1 e in
+    (role-one r s parts.0, parts.1)
+
+behind-front : (front x y : List ℕ) → front ++ x ≡ front ++ y → x ≡ y
+behind-front front x y e = append_cancel_left front x y e
+
+same-number : (m n : ℕ) → m < 2 ^ 32 → n < 2 ^ 32 → decimal m ≡ decimal n → m ≡ n
+same-number m n h k e = decimal_injective m n (omega (arith, h)) (omega (arith, k)) e
+
+number-plain : (byte n : ℕ) → byte < 48 → n < 2 ^ 32 → lacks byte (decimal n) ≡ true
+number-plain byte n low h = lacks-decimal byte n low (omega (arith, h))
+
+third : (x y : List ℕ) → x ≡ y → get_or x 2 0 ≡ get_or y 2 0
+third x y e = ap (λ (t : List ℕ). get_or t 2 0) e
+
+pub event-one : (x y : Event) → IsEvent x → IsEvent y → event_words x ≡ event_words y → (event_of x ≡ event_of y) × (cuts_of x ≡ cuts_of y)
+event-one (Say r p c) (Say s q d) h k e =
+    let roles = roles-one r s (hex_of p.items ++ 32 ∷ lengths_word c) (hex_of q.items ++ 32 ∷ lengths_word d) (behind-front (codes "say ") _ _ e) in
+    let parts = parted-one 32 (hex_of p.items) (hex_of q.items) (lengths_word c) (lengths_word d)
+    (lacks-hex_of 32 p.items (lit< tt) h.0.1) (lacks-hex_of 32 q.items (lit< tt) k.0.1) roles.1 in
+    let payload = hex-one p.items q.items h.0.1 k.0.1 parts.0 in
+    (cc (roles.0, payload), lengths-one c d h.1.0 k.1.0 parts.1)
+event-one (Write r p) (Write s q) h k e =
+    let roles = roles-one r s (hex_of p.items) (hex_of q.items) (behind-front (codes "write ") _ _ e) in
+    let payload = hex-one p.items q.items h.1 k.1 roles.1 in
+    (cc (roles.0, payload), refl)
+event-one (Deliver r m c) (Deliver s n d) h k e =
+    let roles = roles-one r s (decimal m ++ 32 ∷ lengths_word c) (decimal n ++ 32 ∷ lengths_word d) (behind-front (codes "deliver ") _ _ e) in
+    let parts = parted-one 32 (decimal m) (decimal n) (lengths_word c) (lengths_word d) (number-plain 32 m (lit< tt) h.0) (number-plain 32 n (lit< tt) k.0)
+    roles.1 in
+    let number = same-number m n h.0 k.0 parts.0 in
+    (cc (roles.0, number), lengths-one c d h.1.0 k.1.0 parts.1)
+event-one (Raw r p) (Raw s q) h k e =
+    let roles = roles-one r s (hex_of p.items) (hex_of q.items) (behind-front (codes "raw ") _ _ e) in
+    let bytes = hex-one p.items q.items h.1 k.1 roles.1 in
+    (cc (roles.0, bytes), refl)
+event-one x y h k e = absurd (numbers-apart _ _ (third (event_words x) (event_words y) e) refl)
+
+-- the third byte of such a line is that of say, write, deliver or raw
+abbrev pub begins_event : List ℕ → Bool
+begins_event text = (get_or text 2 0 == 121) || ((get_or text 2 0 == 105) || ((get_or text 2 0 == 108) || (get_or text 2 0 == 119)))
+
+event-begins : (x : Event) (rest : List ℕ) → begins_event (line (event_words x) rest) ≡ true
+event-begins (Say r p c) rest = refl
+event-begins (Write r p) rest = refl
+event-begins (Deliver r n c) rest = refl
+event-begins (Raw r p) rest = refl
+
+pub events-one : (xs ys : List Event) (u v : List ℕ) → All IsEvent xs → All IsEvent ys → begins_event u ≡ false → begins_event v ≡ false
+    → lines_of event_words xs u ≡ lines_of event_words ys v → (map event_of xs ≡ map event_of ys) × (map cuts_of xs ≡ map cuts_of ys) × (u ≡ v)
+events-one xs ys u v h k hu hv e =
+    let events = lines-one event_words IsEvent event_of begins_event event_words-line event-begins (λ x y hx hy s. (event-one x y hx hy s).0)
+    xs ys u v h k hu hv e in
+    let cuts = lines-one event_words IsEvent cuts_of begins_event event_words-line event-begins (λ x y hx hy s. (event-one x y hx hy s).1)
+    xs ys u v h k hu hv e in
+    (events.0, cuts.0, events.1)
+
+-- ---- events of datagrams
+
+datagram-one : (x y : DatagramEvent) → IsDatagramEvent x → IsDatagramEvent y → datagram_event_words x ≡ datagram_event_words y
+    → datagram_event_of x ≡ datagram_event_of y
+datagram-one (datagram.Seal r p) (datagram.Seal s q) h k e =
+    let roles = roles-one r s (hex_of p.items) (hex_of q.items) (behind-front (codes "seal ") _ _ e) in
+    let payload = hex-one p.items q.items h.1 k.1 roles.1 in
+    cc (roles.0, payload)
+datagram-one (datagram.Open r m) (datagram.Open s n) h k e =
+    let roles = roles-one r s (decimal m) (decimal n) (behind-front (codes "open ") _ _ e) in
+    let number = same-number m n h k roles.1 in
+    cc (roles.0, number)
+datagram-one (datagram.Raw r p) (datagram.Raw s q) h k e =
+    let roles = roles-one r s (hex_of p.items) (hex_of q.items) (behind-front (codes "foreign ") _ _ e) in
+    let bytes = hex-one p.items q.items h.1 k.1 roles.1 in
+    cc (roles.0, bytes)
+datagram-one x y h k e = absurd (numbers-apart _ _ (first-byte (datagram_event_words x) (datagram_event_words y) e) refl)
+
+-- the first byte of such a line is that of seal, open or foreign
+abbrev pub begins_datagram : List ℕ → Bool
+begins_datagram text = (get_or text 0 0 == 115) || ((get_or text 0 0 == 111) || (get_or text 0 0 == 102))
+
+datagram-begins : (x : DatagramEvent) (rest : List ℕ) → begins_datagram (line (datagram_event_words x) rest) ≡ true
+datagram-begins (datagram.Seal r p) rest = refl
+datagram-begins (datagram.Open r n) rest = refl
+datagram-begins (datagram.Raw r p) rest = refl
+
+behind-role : (front : List ℕ) (role : Role) (operands : List ℕ) → lacks 10 front ≡ true → lacks 10 operands ≡ true
+    → lacks 10 (front ++ (role_word role ++ 32 ∷ operands)) ≡ true
+behind-role front role operands f o =
+    lacks-append 10 front (role_word role ++ 32 ∷ operands) f (lacks-append 10 (role_word role) (32 ∷ operands) (role_word-plain role).0 o)
+
+datagram-plain : (x : DatagramEvent) → IsDatagramEvent x → lacks 10 (datagram_event_words x) ≡ true
+datagram-plain (datagram.Seal r p) h = behind-role (codes "seal ") r (hex_of p.items) refl (lacks-hex_of 10 p.items (lit< tt) h.1)
+datagram-plain (datagram.Open r n) h = behind-role (codes "open ") r (decimal n) refl (number-plain 10 n (lit< tt) h)
+datagram-plain (datagram.Raw r p) h = behind-role (codes "foreign ") r (hex_of p.items) refl (lacks-hex_of 10 p.items (lit< tt) h.1)
+
+pub datagrams-one : (xs ys : List DatagramEvent) (u v : List ℕ) → All IsDatagramEvent xs → All IsDatagramEvent ys → begins_datagram u ≡ false
+    → begins_datagram v ≡ false → lines_of datagram_event_words xs u ≡ lines_of datagram_event_words ys v
+    → (map datagram_event_of xs ≡ map datagram_event_of ys) × (u ≡ v)
+datagrams-one xs ys u v h k hu hv e =
+    lines-one datagram_event_words IsDatagramEvent datagram_event_of begins_datagram datagram-plain datagram-begins datagram-one xs ys u v h k hu hv e
+
+-- ---- lines that are expected
+
+abbrev pub IsExpectedLine : Vec ℕ Global → Type 0
+IsExpectedLine words = IsExpected words.items
+
+abbrev is_printed : ℕ → Type 0
+is_printed b = (32 ≤ b) × (b ≤ 126)
+
+printed-plain : (bytes : List ℕ) → All (λ b. (32 ≤ b) × (b ≤ 126)) bytes → lacks 10 bytes ≡ true
+printed-plain [] h = refl
+printed-plain (b ∷ bs) h =
+    let first = All-head is_printed b bs h in
+    let more = printed-plain bs (All-tail is_printed b bs h) in
+    let low : 32 ≤ b = first.0 in
+    let other : (b == 10) ≡ false = no-feed b low in
+    rw (other, more) refl where
+      no-feed : (n : ℕ) → 32 ≤ n → (n == 10) ≡ false
+      no-feed n h = grind (arith, nat_tests)
+
+abbrev pub begins_expect : List ℕ → Bool
+begins_expect text = get_or text 0 0 == 101
+
+expect-one : (a b : Vec ℕ Global) → IsExpectedLine a → IsExpectedLine b → expect_words a ≡ expect_words b → a.items ≡ b.items
+expect-one a b h k e = behind-front (codes "expect ") a.items b.items e
+
+pub expected-one : (xs bs : List (Vec ℕ Global)) → All (λ words. IsExpected words.items) xs → All (λ words. IsExpected words.items) bs
+    → lines_of expect_words xs [] ≡ lines_of expect_words bs [] → map (λ l. l.items) xs ≡ map (λ l. l.items) bs
+expected-one xs bs h k e =
+    (lines-one expect_words IsExpectedLine (λ l. l.items) begins_expect (λ x g. printed-plain x.items g.1) (λ x rest. refl) expect-one xs bs [] [] h k
+    refl refl e).0

@@ -1,0 +1,298 @@
+-- No text is that of two vector files that say different things.
+use Rattle.std.proofs.Common.{◌≡◌, ◌∙◌, ap, sym, refl, subst, true, false, ◌==◌, ℕ, List, [], ◌∷◌, ◌++◌, codes, get_or, Option, Some, None}
+use Rattle.std.specs.Prelude.{decimal, IfSome, Vec}
+use Rattle.std.specs.Global.{Global}
+use Rattle.std.specs.List.{All}
+use Rattle.std.proofs.lemmas.Fmt.{decimal_injective}
+use Rattle.std.proofs.lemmas.List.{append_cancel_left}
+use Rattle.std.proofs.lemmas.List.Elements.{All-head, All-tail}
+use Rattle.noise_names.specs.declared.token.Role.{Role}
+use Rattle.noise_names.specs.declared.token.Role.TheVariants.{Initiator, Responder}
+use Rattle.noise_names.specs.Limits.{IsPattern}
+use Rattle.noise_names.specs.Names.{Section, name_bytes}
+use Rattle.noise_names.specs.Plan.{Plan}
+use Rattle.noise_names.specs.Text.{Spells}
+use Rattle.noise_names.specs.Text.{text_of as pattern_text}
+use Rattle.noise_duel.specs.declared.event.Event.{Event}
+use Rattle.noise_duel.specs.declared.event.Event.TheVariants.{Write, Say, Deliver, Raw}
+use Rattle.noise_session.specs.Windows.{width_of}
+use Rattle.noise_vectors.specs.Block.{IsInner}
+use Rattle.noise_vectors.specs.Block as Blocks
+use Rattle.noise_vectors.specs.HexWord.{hex_of}
+use Rattle.noise_vectors.specs.SameFile.{VectorTextsAreUnique, datagrams_of, expected_of, held_datagrams, number_of}
+use Rattle.noise_vectors.specs.VectorFile.{AreKeys, IsDatagramEvent, IsOwn, IsVectorFile, IsVersion}
+use Rattle.noise_vectors.specs.VectorText.{block_text, datagram_event_words, datagrams_text, event_words, expect_words, header_words, key_words}
+use Rattle.noise_vectors.specs.VectorText.{line, lines_of, party_text, psk_words}
+use Rattle.noise_vectors.specs.VectorText.{role_word, text_of, version_text, window_words}
+use Rattle.noise_vectors.specs.Words.{lacks}
+use Rattle.noise_vectors.specs.declared.file_keys.FileKeys.{FileKeys}
+use Rattle.noise_vectors.specs.declared.file_keys.FileKeys.TheVariants.{Xor, Table}
+use Rattle.noise_vectors.specs.declared.vector.FileDatagrams.{FileDatagrams}
+use Rattle.noise_vectors.specs.declared.vector.VectorFile.{VectorFile}
+use Rattle.noise_vectors.specs.declared.vector.Version.{Version}
+use Rattle.noise_vectors.specs.declared.vector.Version.TheVariants.{One, Two}
+use Rattle.noise_vectors.proofs.BlockLemmas.{block-lines, lined-pattern}
+use Rattle.noise_vectors.proofs.PartyLemmas.{behind_of, lacks-party, party_text-line, words_of}
+use Rattle.noise_vectors.proofs.ReadingLemmas.{interval-plain, prologue-plain, protocol-plain}
+use Rattle.noise_vectors.proofs.UniqueLines.{answers-one, begins_answer, begins_datagram, begins_event, begins_psk, datagrams-one}
+use Rattle.noise_vectors.proofs.UniqueLines.{events-one, expected-one, keys-one}
+use Rattle.noise_vectors.proofs.UniqueLines.{psks-one}
+use Rattle.noise_vectors.proofs.UniqueWords.{first-byte, hex-one, name-one, numbers-apart, parted-one, window-one, window-plain}
+
+-- ---- the pattern that a file spells
+
+-- lines before `end` are those of one list
+inner-one : (xs ys : List (List ℕ)) (u v : List ℕ) → All IsInner xs → All IsInner ys
+    → lines_of Blocks.itself xs (line (codes "end") u) ≡ lines_of Blocks.itself ys (line (codes "end") v) → (xs ≡ ys) × (u ≡ v)
+inner-one [] [] u v h k e = (refl, (parted-one 10 (codes "end") (codes "end") u v refl refl e).1)
+inner-one [] (y ∷ ys) u v h k e =
+    let good = All-head IsInner y ys k in
+    let parts = parted-one 10 (codes "end") y u (lines_of Blocks.itself ys (line (codes "end") v)) refl good.0 e in
+    absurd (good.1 (sym parts.0))
+inner-one (x ∷ xs) [] u v h k e =
+    let good = All-head IsInner x xs h in
+    let parts = parted-one 10 x (codes "end") (lines_of Blocks.itself xs (line (codes "end") u)) v good.0 refl e in
+    absurd (good.1 parts.0)
+inner-one (x ∷ xs) (y ∷ ys) u v h k e =
+    let good = All-head IsInner x xs h in
+    let also = All-head IsInner y ys k in
+    let parts = parted-one 10 x y (lines_of Blocks.itself xs (line (codes "end") u)) (lines_of Blocks.itself ys (line (codes "end") v)) good.0 also.0 e in
+    let more = inner-one xs ys u v (All-tail IsInner x xs h) (All-tail IsInner y ys k) parts.1 in
+    (cc (parts.0, more.0), more.1)
+
+-- no text spells two patterns
+abbrev PatternsOnce : Type 0
+PatternsOnce = (text : List ℕ) (p q : Plan) → Spells text p → Spells text q → p ≡ q
+
+patterns-one : PatternsOnce → (p q : Plan) (u v : List ℕ) → IsPattern p → IsPattern q
+    → pattern_text p ++ line (codes "end") u ≡ pattern_text q ++ line (codes "end") v → (p ≡ q) × (u ≡ v)
+patterns-one once p q u v h k e =
+    let lp = lined-pattern p h in
+    let lq = lined-pattern q k in
+    let whole = sym (block-lines p h u (pattern_text p ++ line (codes "end") u) refl) ∙ e
+    ∙ block-lines q k v (pattern_text q ++ line (codes "end") v) refl in
+    let parts = inner-one lp.before lq.before u v lp.inner lq.inner whole in
+    let same : pattern_text p ≡ pattern_text q =
+    lp.lines_are ∙ ap (λ (xs : List (List ℕ)). lines_of Blocks.itself xs []) parts.0 ∙ sym lq.lines_are in
+    (once (pattern_text p) p q (record { is_pattern = h; spelled = refl }) (record { is_pattern = k; spelled = same }), parts.1)
+
+-- of one name, both files spell a pattern, or none does
+blocks-one : PatternsOnce → (name : Section) (a b : Option Plan) (u v : List ℕ) → IsOwn name a → IsOwn name b → block_text a u ≡ block_text b v
+    → (a ≡ b) × (u ≡ v)
+blocks-one once name None None u v h k e = (refl, e)
+blocks-one once name None (Some q) u v h k e = absurd (cc (h.0.1 (k.0.0 refl)))
+blocks-one once name (Some p) None u v h k e = absurd (cc (k.0.1 (h.0.0 refl)))
+blocks-one once name (Some p) (Some q) u v h k e =
+    let parts = patterns-one once p q u v h.1.0 k.1.0 e in
+    (ap Some parts.0, parts.1)
+
+-- ---- parties
+
+first-apart : (x y : List ℕ) → x ≡ y → (get_or x 0 0 == get_or y 0 0) ≡ false → ⊥
+first-apart x y e differ = numbers-apart (get_or x 0 0) (get_or y 0 0) (first-byte x y e) differ
+
+-- of the same words both are keys of one kind, and what stands behind the answers is one
+keys-behind : (a b : FileKeys) (u v : List ℕ) → AreKeys a → AreKeys b → begins_answer u ≡ false → begins_answer v ≡ false
+    → words_of a ≡ words_of b → behind_of a u ≡ behind_of b v → (a ≡ b) × (u ≡ v)
+keys-behind (Xor a) (Xor b) u v h k hu hv e behind =
+    let keys = append_cancel_left (codes "xor ") (key_words a.e a.s) (key_words b.e b.s) e in
+    let parts = keys-one a.e a.s b.e b.s h.0 h.1 k.0 k.1 keys in
+    (ap (λ (x : _). Xor (record a { e = x })) parts.0 ∙ ap (λ (x : _). Xor (record b { s = x })) parts.1, behind)
+keys-behind (Table a) (Table b) u v h k hu hv e behind =
+    let keys = append_cancel_left (codes "table ") (key_words a.e a.s) (key_words b.e b.s) e in
+    let parts = keys-one a.e a.s b.e b.s h.0 h.1 k.0 k.1 keys in
+    let answers = answers-one a.entries b.entries u v h.3 k.3 hu hv behind in (
+      ap (λ (x : _). Table (record a { e = x })) parts.0 ∙ ap (λ (x : _). Table (record a { e = b.e; s = x })) parts.1
+          ∙ ap (λ (x : _). Table (record b { entries = x })) answers.0,
+      answers.1,
+    )
+keys-behind a b u v h k hu hv e behind = absurd (first-apart (words_of a) (words_of b) e refl)
+
+party-one : (role : Role) (a b : FileKeys) (u v : List ℕ) → AreKeys a → AreKeys b → begins_answer u ≡ false → begins_answer v ≡ false
+    → party_text role a u ≡ party_text role b v → (a ≡ b) × (u ≡ v)
+party-one role a b u v h k hu hv e =
+    let lines = sym (party_text-line role a u) ∙ e ∙ party_text-line role b v in
+    let parts = parted-one 10 (role_word role ++ 32 ∷ words_of a) (role_word role ++ 32 ∷ words_of b) (behind_of a u) (behind_of b v)
+    (lacks-party role a h) (lacks-party role b k) lines in
+    let front = append_cancel_left (role_word role) (32 ∷ words_of a) (32 ∷ words_of b) parts.0 in
+    let words : words_of a ≡ words_of b = cc (front) in
+    keys-behind a b u v h k hu hv words parts.1
+
+-- ---- how the rest begins
+
+initiator-no_psk : (keys : FileKeys) (rest : List ℕ) → begins_psk (party_text Initiator keys rest) ≡ false
+initiator-no_psk (Xor keys) rest = refl
+initiator-no_psk (Table keys) rest = refl
+
+responder-no_answer : (keys : FileKeys) (rest : List ℕ) → begins_answer (party_text Responder keys rest) ≡ false
+responder-no_answer (Xor keys) rest = refl
+responder-no_answer (Table keys) rest = refl
+
+datagrams-no_answer : (over : Option FileDatagrams) (expected : List (Vec ℕ Global))
+    → begins_answer (datagrams_text over (lines_of expect_words expected [])) ≡ false
+datagrams-no_answer None [] = refl
+datagrams-no_answer None (x ∷ xs) = refl
+datagrams-no_answer (Some over) xs = refl
+
+version-no_answer : (version : Version) → begins_answer (version_text version) ≡ false
+version-no_answer One = refl
+version-no_answer (Two additions) = datagrams-no_answer additions.datagrams additions.expected.items
+
+events-no_answer : (events : List Event) (version : Version) → begins_answer (lines_of event_words events (version_text version)) ≡ false
+events-no_answer [] version = version-no_answer version
+events-no_answer (Say role payload cuts ∷ events) version = refl
+events-no_answer (Write role payload ∷ events) version = refl
+events-no_answer (Deliver role number cuts ∷ events) version = refl
+events-no_answer (Raw role bytes ∷ events) version = refl
+
+datagrams-no_event : (over : Option FileDatagrams) (expected : List (Vec ℕ Global))
+    → begins_event (datagrams_text over (lines_of expect_words expected [])) ≡ false
+datagrams-no_event None [] = refl
+datagrams-no_event None (x ∷ xs) = refl
+datagrams-no_event (Some over) xs = refl
+
+version-no_event : (version : Version) → begins_event (version_text version) ≡ false
+version-no_event One = refl
+version-no_event (Two additions) = datagrams-no_event additions.datagrams additions.expected.items
+
+expected-no_datagram : (expected : List (Vec ℕ Global)) → begins_datagram (lines_of expect_words expected []) ≡ false
+expected-no_datagram [] = refl
+expected-no_datagram (x ∷ xs) = refl
+
+-- ---- versions
+
+header-plain : (version : Version) → lacks 10 (header_words version) ≡ true
+header-plain One = refl
+header-plain (Two additions) = refl
+
+header-one : (a b : Version) → header_words a ≡ header_words b → number_of a ≡ number_of b
+header-one One One e = refl
+header-one (Two a) (Two b) e = refl
+header-one a b e = absurd (numbers-apart _ _ (ap (λ (t : List ℕ). get_or t 7 0) e) refl)
+
+-- the datagrams and the lines that are expected
+over-one : (a b : Option FileDatagrams) (xs ys : List (Vec ℕ Global)) → IfSome a (λ over. All IsDatagramEvent over.events.items)
+    → IfSome b (λ over. All IsDatagramEvent over.events.items)
+    → datagrams_text a (lines_of expect_words xs []) ≡ datagrams_text b (lines_of expect_words ys [])
+    → (held_datagrams a ≡ held_datagrams b) × (lines_of expect_words xs [] ≡ lines_of expect_words ys [])
+over-one None None xs ys h k e = (refl, e)
+over-one None (Some b) [] ys h k e = absurd (cc (e))
+over-one None (Some b) (x ∷ xs) ys h k e =
+    absurd (first-apart (lines_of expect_words (x ∷ xs) []) (datagrams_text (Some b) (lines_of expect_words ys [])) e refl)
+over-one (Some a) None xs [] h k e = absurd (cc (e))
+over-one (Some a) None xs (y ∷ ys) h k e =
+    absurd (first-apart (datagrams_text (Some a) (lines_of expect_words xs [])) (lines_of expect_words (y ∷ ys) []) e refl)
+over-one (Some a) (Some b) xs ys h k e =
+    let u = lines_of expect_words xs [] in
+    let v = lines_of expect_words ys [] in
+    let parts = parted-one 10 (window_words a.window) (window_words b.window) (lines_of datagram_event_words a.events.items u)
+    (lines_of datagram_event_words b.events.items v) (window-plain a.window) (window-plain b.window) e in
+    let window = window-one a.window b.window
+    (append_cancel_left (codes "datagrams ") (decimal (width_of a.window)) (decimal (width_of b.window)) parts.0) in
+    let events = datagrams-one a.events.items b.events.items u v h k (expected-no_datagram xs) (expected-no_datagram ys) parts.1 in
+    (cc (window, events.0), events.1)
+
+version-one : (a b : Version) → IsVersion a → IsVersion b → number_of a ≡ number_of b → version_text a ≡ version_text b
+    → (datagrams_of a ≡ datagrams_of b) × (expected_of a ≡ expected_of b)
+version-one One One h k n e = (refl, refl)
+version-one (Two a) (Two b) h k n e =
+    let over = over-one a.datagrams b.datagrams a.expected.items b.expected.items h.0 k.0 e in
+    (over.0, expected-one a.expected.items b.expected.items h.1 k.1 over.1)
+version-one a b h k n e = absurd (numbers-apart (number_of a) (number_of b) n refl)
+
+-- ---- whole files
+
+abbrev behind_responder : VectorFile → List ℕ
+behind_responder f = lines_of event_words f.events.items (version_text f.version)
+
+abbrev behind_initiator : VectorFile → List ℕ
+behind_initiator f = party_text Responder f.responder (behind_responder f)
+
+abbrev behind_psks : VectorFile → List ℕ
+behind_psks f = party_text Initiator f.initiator (behind_initiator f)
+
+abbrev behind_interval : VectorFile → List ℕ
+behind_interval f = lines_of psk_words f.psks.items (behind_psks f)
+
+abbrev behind_prologue : VectorFile → List ℕ
+behind_prologue f = line (codes "interval " ++ decimal f.interval) (behind_interval f)
+
+abbrev behind_block : VectorFile → List ℕ
+behind_block f = line (codes "prologue " ++ hex_of f.prologue.items) (behind_prologue f)
+
+abbrev behind_protocol : VectorFile → List ℕ
+behind_protocol f = block_text f.block (behind_block f)
+
+abbrev behind_header : VectorFile → List ℕ
+behind_header f = line (codes "protocol " ++ name_bytes f.protocol) (behind_protocol f)
+
+-- the first lines
+record Heads (f g : VectorFile) : Type 0 where
+  number : number_of f.version ≡ number_of g.version
+  protocol : f.protocol ≡ g.protocol
+  block : f.block ≡ g.block
+  behind : behind_block f ≡ behind_block g
+
+heads-one : PatternsOnce → (f g : VectorFile) → IsVectorFile f → IsVectorFile g → text_of f ≡ text_of g → Heads f g
+heads-one once f g h k e =
+    let header = parted-one 10 (header_words f.version) (header_words g.version) (behind_header f) (behind_header g) (header-plain f.version)
+    (header-plain g.version) e in
+    let names = parted-one 10 (codes "protocol " ++ name_bytes f.protocol) (codes "protocol " ++ name_bytes g.protocol) (behind_protocol f)
+    (behind_protocol g) (protocol-plain f.protocol h.protocol) (protocol-plain g.protocol k.protocol) header.1 in
+    let protocol = name-one f.protocol g.protocol h.protocol k.protocol
+    (append_cancel_left (codes "protocol ") (name_bytes f.protocol) (name_bytes g.protocol) names.0) in
+    let own : IsOwn f.protocol g.block = subst (λ (n : Section). IsOwn n g.block) (sym protocol) k.own in
+    let blocks = blocks-one once f.protocol f.block g.block (behind_block f) (behind_block g) h.own own names.1 in
+    record {
+      number = header-one f.version g.version header.0;
+      protocol = protocol;
+      block = blocks.0;
+      behind = blocks.1;
+    }
+
+-- the lines between those and the parties
+record Middles (f g : VectorFile) : Type 0 where
+  prologue : f.prologue.items ≡ g.prologue.items
+  interval : f.interval ≡ g.interval
+  psks : f.psks.items ≡ g.psks.items
+  behind : behind_psks f ≡ behind_psks g
+
+middles-one : (f g : VectorFile) → IsVectorFile f → IsVectorFile g → behind_block f ≡ behind_block g → Middles f g
+middles-one f g h k e =
+    let first = parted-one 10 (codes "prologue " ++ hex_of f.prologue.items) (codes "prologue " ++ hex_of g.prologue.items) (behind_prologue f)
+    (behind_prologue g) (prologue-plain f.prologue.items h.prologue) (prologue-plain g.prologue.items k.prologue) e in
+    let prologue = hex-one f.prologue.items g.prologue.items h.prologue.1 k.prologue.1
+    (append_cancel_left (codes "prologue ") (hex_of f.prologue.items) (hex_of g.prologue.items) first.0) in
+    let second = parted-one 10 (codes "interval " ++ decimal f.interval) (codes "interval " ++ decimal g.interval) (behind_interval f)
+    (behind_interval g) (interval-plain f.interval h.interval) (interval-plain g.interval k.interval) first.1 in
+    let interval = decimal_injective f.interval g.interval h.interval k.interval
+    (append_cancel_left (codes "interval ") (decimal f.interval) (decimal g.interval) second.0) in
+    let psks = psks-one f.psks.items g.psks.items (behind_psks f) (behind_psks g) h.psks.1 k.psks.1
+    (initiator-no_psk f.initiator (behind_initiator f)) (initiator-no_psk g.initiator (behind_initiator g)) second.1 in
+    record { prologue = prologue; interval = interval; psks = psks.0; behind = psks.1 }
+
+pub texts-one : PatternsOnce → VectorTextsAreUnique
+texts-one once f g h k e =
+    let heads = heads-one once f g h k e in
+    let middles = middles-one f g h k heads.behind in
+    let initiators = party-one Initiator f.initiator g.initiator (behind_initiator f) (behind_initiator g) h.initiator k.initiator
+    (responder-no_answer f.responder (behind_responder f)) (responder-no_answer g.responder (behind_responder g)) middles.behind in
+    let responders = party-one Responder f.responder g.responder (behind_responder f) (behind_responder g) h.responder k.responder
+    (events-no_answer f.events.items f.version) (events-no_answer g.events.items g.version) initiators.1 in
+    let events = events-one f.events.items g.events.items (version_text f.version) (version_text g.version) h.events k.events
+    (version-no_event f.version) (version-no_event g.version) responders.1 in
+    let versions = version-one f.version g.version h.version k.version heads.number events.2 in
+    record {
+      protocol = heads.protocol;
+      block = heads.block;
+      prologue = middles.prologue;
+      interval = middles.interval;
+      psks = middles.psks;
+      initiator = initiators.0;
+      responder = responders.0;
+      events = events.0;
+      cuts = events.1;
+      version = heads.number;
+      datagrams = versions.0;
+      expected = versions.1;
+    }

@@ -1,0 +1,60 @@
+-- Vector files that say the same. A file of the program holds vectors too, with their place in memory and their room, of which a text says nothing.
+-- So what is the same is what the vectors hold: all that a text is made of, and all that both ends start from and go through.
+use Rattle.std.specs.Prelude.{◌≡◌, ℕ, List, [], map, Option, Some, None}
+use Rattle.noise_session.specs.declared.window.Window.{Window}
+use Rattle.noise_duel.specs.Acts.{events_of}
+use Rattle.noise_duel.specs.DatagramEvents.{DatagramEvent}
+use Rattle.noise_duel.specs.DatagramReports.{datagram_events_of}
+use Rattle.noise_duel.specs.declared.event.Event.{Event}
+use Rattle.noise_duel.specs.declared.event.Event.TheVariants.{Write, Say, Deliver, Raw}
+use Rattle.noise_vectors.specs.Expectations.{bytes_of}
+use Rattle.noise_vectors.specs.VectorFile.{IsVectorFile}
+use Rattle.noise_vectors.specs.VectorText.{text_of}
+use Rattle.noise_vectors.specs.declared.vector.FileDatagrams.{FileDatagrams}
+use Rattle.noise_vectors.specs.declared.vector.VectorFile.{VectorFile}
+use Rattle.noise_vectors.specs.declared.vector.Version.{Version}
+use Rattle.noise_vectors.specs.declared.vector.Version.TheVariants.{One, Two}
+
+-- the pieces that an event's frame is handed over in
+abbrev pub cuts_of : Event → List ℕ
+cuts_of (Say role payload cuts) = cuts
+cuts_of (Write role payload) = []
+cuts_of (Deliver role number cuts) = cuts
+cuts_of (Raw role bytes) = []
+
+abbrev pub number_of : Version → ℕ
+number_of One = 1
+number_of (Two additions) = 2
+
+-- the window and the events of the datagrams, where there are any
+abbrev pub held_datagrams : Option FileDatagrams → Option (Window × List DatagramEvent)
+held_datagrams None = None
+held_datagrams (Some over) = Some (over.window, datagram_events_of over.events.items)
+
+abbrev pub datagrams_of : Version → Option (Window × List DatagramEvent)
+datagrams_of One = None
+datagrams_of (Two additions) = held_datagrams additions.datagrams
+
+-- the lines that are expected
+abbrev pub expected_of : Version → List (List ℕ)
+expected_of One = []
+expected_of (Two additions) = bytes_of additions.expected.items
+
+-- both files say the same
+pub record SaySame (f g : VectorFile) : Type 0 where
+  pub protocol : f.protocol ≡ g.protocol
+  pub block : f.block ≡ g.block
+  pub prologue : f.prologue.items ≡ g.prologue.items
+  pub interval : f.interval ≡ g.interval
+  pub psks : f.psks.items ≡ g.psks.items
+  pub initiator : f.initiator ≡ g.initiator
+  pub responder : f.responder ≡ g.responder
+  pub events : events_of f.events.items ≡ events_of g.events.items
+  pub cuts : map cuts_of f.events.items ≡ map cuts_of g.events.items
+  pub version : number_of f.version ≡ number_of g.version
+  pub datagrams : datagrams_of f.version ≡ datagrams_of g.version
+  pub expected : expected_of f.version ≡ expected_of g.version
+
+-- no text is that of two vector files that say different things
+abbrev pub VectorTextsAreUnique : Type 0
+VectorTextsAreUnique = (f g : VectorFile) → IsVectorFile f → IsVectorFile g → text_of f ≡ text_of g → SaySame f g

@@ -1,0 +1,12 @@
+//! Laws of vector files: each function does nothing, and its contract is the law.
+
+ghost use Rattle.noise_vectors.specs.SameFile.{VectorTextsAreUnique};
+
+use noise_names::Pattern;
+
+/// No text is that of two vector files that say different things, of either version.
+pub fn vector_texts_are_unique()
+    ensures { VectorTextsAreUnique }
+{
+    Pattern::texts_are_unique();
+}
