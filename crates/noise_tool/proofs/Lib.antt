@@ -1,4 +1,5 @@
 pub mod CommandLineLemmas
+pub mod ConversionLemmas
 pub mod EndLemmas
 pub mod InputLemmas
 pub mod OneRunLemmas

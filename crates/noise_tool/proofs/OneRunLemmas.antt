@@ -1,5 +1,5 @@
 -- A vector file has one run.
-use Rattle.std.proofs.Common.{◌≡◌, ◌∙◌, ap, ap₂, sym, refl, subst, ℕ, ◌+◌, List, [], ◌∷◌, ◌++◌, map, Option, Some, None}
+use Rattle.std.proofs.Common.{◌≡◌, ◌∙◌, ap, ap₂, sym, refl, subst, ℕ, ◌+◌, List, [], ◌∷◌, ◌++◌, length, map, Option, Some, None}
 use Rattle.std.proofs.lemmas.Bool.{false≢true}
 use Rattle.noise_names.specs.declared.token.Role.{Role}
 use Rattle.noise_names.specs.declared.token.Role.TheVariants.{Initiator, Responder}
@@ -23,12 +23,14 @@ use Rattle.noise_vectors.specs.FileKeys.{agreement_of, public_of}
 use Rattle.noise_vectors.specs.declared.file_keys.FileKeys.{FileKeys}
 use Rattle.noise_vectors.specs.declared.vector.FileDatagrams.{FileDatagrams}
 use Rattle.noise_vectors.specs.declared.vector.VectorFile.{VectorFile}
-use Rattle.noise_tool.specs.Ends.{IsPatternOf, facing_in, known_before}
+use Rattle.noise_tool.specs.Ends.{IsPatternOf, facing_in, known_before, setup_of}
+use Rattle.noise_handshake.specs.Setup.{setup_fault}
 use Rattle.noise_tool.specs.Named.{IsNamed}
-use Rattle.noise_tool.specs.OneRun.{OneRun, RunAlike, said_of}
+use Rattle.noise_tool.specs.OneRun.{OneRun, RunAlike}
+use Rattle.noise_vectors.specs.SameFile.{held_datagrams}
 use Rattle.noise_tool.specs.Printed.{note_line}
 use Rattle.noise_tool.specs.PrintedDatagrams.{datagram_line, datagram_state_lines}
-use Rattle.noise_tool.specs.Running.{AreLast, datagrams_in, gone_over}
+use Rattle.noise_tool.specs.Running.{AreLast, IsRunOf, datagrams_in, gone_over}
 use Rattle.noise_tool.specs.Running.AreLast.{without, unready, ready}
 use Rattle.noise_vectors.specs.VectorText.{window_words}
 
@@ -114,7 +116,7 @@ over-once once d v w es fs ms ns x y same events h k =
     ap (λ (z : Window). over_lines z ms x) same
     ∙ ap₂ (λ (a : List (Role × DatagramNote)) (b : DatagramSides). over_lines w a b) one.0 one.1
 
-last-once : DatagramRunOnce → (o u : Option FileDatagrams) (d : Sides) (xs ys : List (List ℕ)) → said_of o ≡ said_of u → AreLast o d xs → AreLast u d ys
+last-once : DatagramRunOnce → (o u : Option FileDatagrams) (d : Sides) (xs ys : List (List ℕ)) → held_datagrams o ≡ held_datagrams u → AreLast o d xs → AreLast u d ys
     → xs ≡ ys
 last-once once _ _ d xs ys e (without _) (without _) = refl
 last-once once _ _ d xs ys e (without _) (unready over _ held) = absurd (cc)
@@ -149,3 +151,46 @@ one-run once datagrams f g xs ys same a b =
     ∙ ap₂ (λ (ns : List (Role × Note)) (d : Sides). map (note_line d) ns ++ a.behind) one.0 one.1
     ∙ ap (λ (z : List (List ℕ)). map (note_line b.last) b.notes ++ z) behind
     ∙ sym b.lines_are
+
+-- ---- a run of a file is one of each file that says the same
+
+last-moves : (o u : Option FileDatagrams) (d : Sides) (xs : List (List ℕ)) → held_datagrams o ≡ held_datagrams u → AreLast o d xs → AreLast u d xs
+last-moves _ None d xs e (without _) = without d
+last-moves _ (Some also) d xs e (without _) = absurd (cc)
+last-moves _ None d xs e (unready over _ held) = absurd (cc)
+last-moves _ (Some also) d xs e (unready over _ held) = unready also d held
+last-moves _ None d xs e (ready over _ notes last may run) = absurd (cc)
+last-moves _ (Some also) d xs e (ready over _ notes last may run) =
+    let same : (over.window, datagram_events_of over.events.items) ≡ (also.window, datagram_events_of also.events.items) = cc in
+    let window : over.window ≡ also.window = ap (λ (p : Window × List DatagramEvent). p.0) same in
+    let events : datagram_events_of over.events.items ≡ datagram_events_of also.events.items = ap (λ (p : Window × List DatagramEvent). p.1) same in
+    subst (λ (z : Window). AreLast (Some also) d (over_lines z notes last)) (sym window)
+    (ready also d notes last may
+    (subst (λ (z : Window). DatagramRun (gone_over d z) (datagram_events_of also.events.items) notes last) window
+    (subst (λ (z : List DatagramEvent). DatagramRun (gone_over d over.window) z notes last) events run)))
+
+setup-alike : (f g : VectorFile) (plan : Plan) (role : Role) → RunAlike f g → setup_of f plan role ≡ setup_of g plan role
+setup-alike f g plan Initiator same =
+    ap (λ (z : FileKeys). setup_fault plan Initiator (public_of z) (known_before plan Responder (public_of f.responder)) (length f.psks.items)) same.initiator
+    ∙ ap (λ (z : FileKeys). setup_fault plan Initiator (public_of g.initiator) (known_before plan Responder (public_of z)) (length f.psks.items)) same.responder
+    ∙ ap (λ (z : List (List ℕ)). setup_fault plan Initiator (public_of g.initiator) (known_before plan Responder (public_of g.responder)) (length z)) same.psks
+setup-alike f g plan Responder same =
+    ap (λ (z : FileKeys). setup_fault plan Responder (public_of z) (known_before plan Initiator (public_of f.initiator)) (length f.psks.items)) same.responder
+    ∙ ap (λ (z : FileKeys). setup_fault plan Responder (public_of g.responder) (known_before plan Initiator (public_of z)) (length f.psks.items)) same.initiator
+    ∙ ap (λ (z : List (List ℕ)). setup_fault plan Responder (public_of g.responder) (known_before plan Initiator (public_of g.initiator)) (length z)) same.psks
+
+pub run-moves : (f g : VectorFile) (xs : List (List ℕ)) → RunAlike f g → IsRunOf f xs → IsRunOf g xs
+run-moves f g xs same a = record {
+  plan = a.plan;
+  pattern = subst (λ (z : Option Plan). IsPatternOf z g.protocol a.plan) same.block
+      (subst (λ (z : Section). IsPatternOf f.block z a.plan) same.protocol a.pattern);
+  valid = a.valid;
+  set_up = λ role. sym (setup-alike f g a.plan role same) ∙ a.set_up role;
+  notes = a.notes;
+  last = a.last;
+  run = subst (λ (z : Sides). Run z (events_of g.events.items) a.notes a.last) (facing-same f g a.plan same)
+      (subst (λ (z : List Event). Run (facing_in f a.plan) z a.notes a.last) same.events a.run);
+  behind = a.behind;
+  are_last = last-moves (datagrams_in f.version) (datagrams_in g.version) a.last a.behind same.datagrams a.are_last;
+  lines_are = a.lines_are;
+}

@@ -1,4 +1,5 @@
 pub mod CommandLine
+pub mod Conversion
 pub mod Ends
 pub mod Faults
 pub mod Named

@@ -1,17 +1,9 @@
 -- A vector file has one run: files that say the same print the same lines.
-use Rattle.std.specs.Prelude.{◌≡◌, ℕ, List, Option, None, Some}
-use Rattle.noise_session.specs.declared.window.Window.{Window}
+use Rattle.std.specs.Prelude.{◌≡◌, ℕ, List}
 use Rattle.noise_duel.specs.Acts.{events_of}
-use Rattle.noise_duel.specs.DatagramEvents.{DatagramEvent}
-use Rattle.noise_duel.specs.DatagramReports.{datagram_events_of}
-use Rattle.noise_vectors.specs.declared.vector.FileDatagrams.{FileDatagrams}
+use Rattle.noise_vectors.specs.SameFile.{held_datagrams}
 use Rattle.noise_vectors.specs.declared.vector.VectorFile.{VectorFile}
 use Rattle.noise_tool.specs.Running.{IsRunOf, datagrams_in}
-
--- the window and the events of the datagrams, where there are any
-abbrev pub said_of : Option FileDatagrams → Option (Window × List DatagramEvent)
-said_of None = None
-said_of (Some over) = Some (over.window, datagram_events_of over.events.items)
 
 -- Both files say the same of the ends and of what is done to them. Their headers, the pieces that frames come in, and what they expect may differ.
 pub record RunAlike (f g : VectorFile) : Type 0 where
@@ -23,7 +15,7 @@ pub record RunAlike (f g : VectorFile) : Type 0 where
   pub initiator : f.initiator ≡ g.initiator
   pub responder : f.responder ≡ g.responder
   pub events : events_of f.events.items ≡ events_of g.events.items
-  pub datagrams : said_of (datagrams_in f.version) ≡ said_of (datagrams_in g.version)
+  pub datagrams : held_datagrams (datagrams_in f.version) ≡ held_datagrams (datagrams_in g.version)
 
 -- files that say the same have the same lines, and so one file has one list of lines
 abbrev pub OneRun : Type 0
