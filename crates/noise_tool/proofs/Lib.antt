@@ -1,7 +1,9 @@
 pub mod CommandLineLemmas
+pub mod ConversionLemmas
 pub mod ConvertingLemmas
 pub mod EndLemmas
 pub mod InputLemmas
+pub mod OneRunLemmas
 pub mod OutputLemmas
 pub mod PerformingLemmas
 pub mod PrintedLemmas

@@ -1,7 +1,9 @@
 pub mod CommandLine
+pub mod Conversion
 pub mod Ends
 pub mod Faults
 pub mod Named
+pub mod OneRun
 pub mod Output
 pub mod Performing
 pub mod Printed

@@ -9,6 +9,7 @@ mod ends;
 mod faults;
 mod help;
 mod input;
+mod laws;
 mod line;
 mod listing;
 mod named;

@@ -2,6 +2,7 @@
 
 mod command_line;
 mod commands;
+mod expectations;
 mod failing;
 mod fakes;
 mod handshakes;
@@ -35,6 +36,7 @@ pub fn order_of(alloc: Global, command: &str, value: &str) -> Result<Chosen, All
         "check" => Ok(Chosen::Check(value)),
         "talk" => Ok(Chosen::Talk(value)),
         "replay" => Ok(Chosen::Replay(value)),
+        "convert" => Ok(Chosen::Convert(value)),
         _ => Ok(Chosen::List),
     }
 }

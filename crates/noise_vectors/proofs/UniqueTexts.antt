@@ -21,7 +21,7 @@ use Rattle.noise_vectors.specs.Block as Blocks
 use Rattle.noise_vectors.specs.HexWord.{hex_of}
 use Rattle.noise_vectors.specs.SameFile.{VectorTextsAreUnique, datagrams_of, expected_of, held_datagrams, number_of}
 use Rattle.noise_vectors.specs.VectorFile.{AreKeys, IsDatagramEvent, IsOwn, IsVectorFile, IsVersion}
-use Rattle.noise_vectors.specs.VectorText.{block_text, datagram_event_words, datagrams_text, event_words, expect_words, header_words, key_words}
+use Rattle.noise_vectors.specs.VectorText.{block_text, datagram_event_words, datagrams_text, event_words, expect_words, header_words, is_second, key_words}
 use Rattle.noise_vectors.specs.VectorText.{line, lines_of, party_text, psk_words}
 use Rattle.noise_vectors.specs.VectorText.{role_word, text_of, version_text, window_words}
 use Rattle.noise_vectors.specs.Words.{lacks}
@@ -161,11 +161,11 @@ expected-no_datagram (x ∷ xs) = refl
 
 -- ---- versions
 
-header-plain : (version : Version) → lacks 10 (header_words version) ≡ true
+header-plain : (version : Version) → lacks 10 (header_words (is_second version)) ≡ true
 header-plain One = refl
 header-plain (Two additions) = refl
 
-header-one : (a b : Version) → header_words a ≡ header_words b → number_of a ≡ number_of b
+header-one : (a b : Version) → header_words (is_second a) ≡ header_words (is_second b) → number_of a ≡ number_of b
 header-one One One e = refl
 header-one (Two a) (Two b) e = refl
 header-one a b e = absurd (numbers-apart _ _ (ap (λ (t : List ℕ). get_or t 7 0) e) refl)
@@ -235,7 +235,7 @@ record Heads (f g : VectorFile) : Type 0 where
 
 heads-one : PatternsOnce → (f g : VectorFile) → IsVectorFile f → IsVectorFile g → text_of f ≡ text_of g → Heads f g
 heads-one once f g h k e =
-    let header = parted-one 10 (header_words f.version) (header_words g.version) (behind_header f) (behind_header g) (header-plain f.version)
+    let header = parted-one 10 (header_words (is_second f.version)) (header_words (is_second g.version)) (behind_header f) (behind_header g) (header-plain f.version)
     (header-plain g.version) e in
     let names = parted-one 10 (codes "protocol " ++ name_bytes f.protocol) (codes "protocol " ++ name_bytes g.protocol) (behind_protocol f)
     (behind_protocol g) (protocol-plain f.protocol h.protocol) (protocol-plain g.protocol k.protocol) header.1 in

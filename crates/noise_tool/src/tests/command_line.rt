@@ -8,12 +8,13 @@ use std::alloc::{AllocError, Global};
 use std::test::Fail;
 
 // The words of a command line, and the command and its value.
-const TAKEN: [(&str, &str, &str); 5] = [
+const TAKEN: [(&str, &str, &str); 6] = [
     ("noise list", "list", ""),
     ("noise show Noise_NN", "show", "Noise_NN"),
     ("noise check a.pattern", "check", "a.pattern"),
     ("noise talk a.vector", "talk", "a.vector"),
     ("noise replay a.vector", "replay", "a.vector"),
+    ("noise convert a.vector", "convert", "a.vector"),
 ];
 
 #[test]
@@ -47,7 +48,7 @@ fn tells_what_is_wrong_with_other_words(rt: HostRuntime) -> Result<(), Fail> {
 }
 
 // Words that ask for a text, and what stands in it.
-const TEXTS: [(&str, &str); 6] = [
+const TEXTS: [(&str, &str); 7] = [
     ("noise --version", "noise 0.1.0\n"),
     ("noise --help", "replay"),
     (
@@ -65,6 +66,10 @@ const TEXTS: [(&str, &str); 6] = [
     (
         "noise replay --help",
         "Example: noise replay examples/each-outcome.vector",
+    ),
+    (
+        "noise convert --help",
+        "Example: noise convert examples/first-message.vector",
     ),
 ];
 

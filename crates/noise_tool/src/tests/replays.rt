@@ -1,5 +1,6 @@
 //! Runs by any events, and the line of each entry. What the runs print was worked out by hand, with frames and hashes by a program in another language.
 
+use super::expectations::comes_back;
 use super::tells;
 use crate::report::entry_line;
 use noise_duel::{Entry, Idle, Report};
@@ -283,6 +284,7 @@ fn prints_what_a_replay_does(rt: HostRuntime) -> Result<(), Fail> {
     for (ends, events, told) in &RUNS {
         let file = format!(in alloc; "vector 1\n{ends}{events}")?;
         tells(&rt, alloc, &("replay", file.as_str(), 0, told, ""))?;
+        comes_back(&rt, alloc, file.as_str(), told)?;
     }
     Ok(())
 }

@@ -1,0 +1,83 @@
+-- A conversion that is replayed meets what it expects.
+use Rattle.std.proofs.Common.{◌≡◌, ◌∙◌, ap, sym, refl, subst, ℕ, Vec, List, [], ◌∷◌, None, codes}
+use Rattle.std.specs.Global.{Global}
+use Rattle.std.specs.List.{All}
+use Rattle.noise_vectors.specs.Expectations.{bytes_of}
+use Rattle.noise_vectors.specs.VectorFile.{IsExpected, IsVectorFile}
+use Rattle.noise_vectors.specs.VectorText.{expect_line, expect_words, line, lines_of, text_body, text_of}
+use Rattle.noise_vectors.specs.declared.vector.VectorFile.{VectorFile}
+use Rattle.noise_vectors.specs.declared.vector.Version.{Version}
+use Rattle.noise_vectors.specs.declared.vector.Version.TheVariants.{One, Two}
+use Rattle.noise_vectors.specs.SameFile.{SaySame, VectorTextsAreUnique, datagrams_of, expected_of, held_datagrams}
+use Rattle.noise_tool.specs.Conversion.{ConversionsMeetThemselves}
+use Rattle.noise_tool.specs.OneRun.{OneRun, RunAlike}
+use Rattle.noise_tool.specs.Running.{IsRunOf, converted_text, datagrams_in, expected_in}
+use Rattle.noise_tool.proofs.OneRunLemmas.{run-moves}
+
+-- the file of version 2 that expects these lines
+abbrev converted : VectorFile → Vec (Vec ℕ Global) Global → VectorFile
+converted file lines = record file { version = Two (record { datagrams = None; expected = lines }) }
+
+converted-right : (file : VectorFile) (lines : Vec (Vec ℕ Global) Global) → IsVectorFile file → All (λ words. IsExpected words.items) lines.items
+    → IsVectorFile (converted file lines)
+converted-right file lines right printed = record {
+  protocol = right.protocol;
+  own = right.own;
+  prologue = right.prologue;
+  interval = right.interval;
+  psks = right.psks;
+  initiator = right.initiator;
+  responder = right.responder;
+  events = right.events;
+  version = (tt, printed);
+}
+
+expect-lines : (lines : List (Vec ℕ Global)) → lines_of expect_words lines [] ≡ lines_of expect_line (bytes_of lines) []
+expect-lines [] = refl
+expect-lines (l ∷ ls) = ap (λ (rest : List ℕ). line (expect_line l.items) rest) (expect-lines ls)
+
+converted-text : (file : VectorFile) (lines : Vec (Vec ℕ Global) Global) → text_of (converted file lines) ≡ converted_text file (bytes_of lines.items)
+converted-text file lines = ap (λ (rest : List ℕ). line (codes "vector 2") (text_body file rest)) (expect-lines lines.items)
+
+-- ---- the two ways to name what a version has
+
+expected-same : (v : Version) → expected_of v ≡ expected_in v
+expected-same One = refl
+expected-same (Two additions) = refl
+
+datagrams-same : (v : Version) → datagrams_of v ≡ held_datagrams (datagrams_in v)
+datagrams-same One = refl
+datagrams-same (Two additions) = refl
+
+-- ---- a file of the conversion's text
+
+run-alike : (file other : VectorFile) (lines : Vec (Vec ℕ Global) Global) → file.version ≡ One → SaySame (converted file lines) other → RunAlike file other
+run-alike file other lines one same = record {
+  protocol = same.protocol;
+  block = same.block;
+  prologue = same.prologue;
+  interval = same.interval;
+  psks = same.psks;
+  initiator = same.initiator;
+  responder = same.responder;
+  events = same.events;
+  datagrams = ap (λ (v : Version). held_datagrams (datagrams_in v)) one ∙ same.datagrams ∙ datagrams-same other.version;
+}
+
+says-same : VectorTextsAreUnique → (file other : VectorFile) (lines : Vec (Vec ℕ Global) Global) → IsVectorFile file
+    → All (λ words. IsExpected words.items) lines.items → IsVectorFile other → converted_text file (bytes_of lines.items) ≡ text_of other
+    → SaySame (converted file lines) other
+says-same unique file other lines right printed also e =
+    unique (converted file lines) other (converted-right file lines right printed) also (converted-text file lines ∙ e)
+
+pub conversions-meet : VectorTextsAreUnique → OneRun → ConversionsMeetThemselves
+conversions-meet unique once file lines right one printed run = record {
+  readable = (converted file lines, converted-right file lines right printed, sym (converted-text file lines));
+  expects = λ other also e.
+      sym (expected-same other.version) ∙ sym (says-same unique file other lines right printed also e).expected;
+  runs = λ other also e others.
+      let alike = run-alike file other lines one (says-same unique file other lines right printed also e) in (
+        (λ h. sym (once file other (bytes_of lines.items) others alike run h)),
+        (λ same. subst (λ (z : List (List ℕ)). IsRunOf other z) (sym same) (run-moves file other (bytes_of lines.items) alike run)),
+      );
+}

@@ -1,0 +1,196 @@
+-- A vector file has one run.
+use Rattle.std.proofs.Common.{◌≡◌, ◌∙◌, ap, ap₂, sym, refl, subst, ℕ, ◌+◌, List, [], ◌∷◌, ◌++◌, length, map, Option, Some, None}
+use Rattle.std.proofs.lemmas.Bool.{false≢true}
+use Rattle.noise_names.specs.declared.token.Role.{Role}
+use Rattle.noise_names.specs.declared.token.Role.TheVariants.{Initiator, Responder}
+use Rattle.noise_names.specs.declared.token.Token.{Token}
+use Rattle.noise_names.specs.Limits.{HavePsksAt, Placed, with_psk_tokens}
+use Rattle.noise_names.specs.Names.{Section}
+use Rattle.noise_names.specs.Plan.{Plan, plain_of}
+use Rattle.noise_names.specs.Tokens.{own_tokens}
+use Rattle.noise_session.specs.declared.window.Window.{Window}
+use Rattle.noise_duel.specs.Acts.{events_of}
+use Rattle.noise_duel.specs.Conversation.{facing}
+use Rattle.noise_duel.specs.DatagramEvents.{DatagramEvent, DatagramNote}
+use Rattle.noise_duel.specs.DatagramReports.{datagram_events_of}
+use Rattle.noise_duel.specs.DatagramRuns.{DatagramRun, DatagramRunOnce}
+use Rattle.noise_duel.specs.DatagramSides.{DatagramSides}
+use Rattle.noise_duel.specs.Events.{Event, Note}
+use Rattle.noise_duel.specs.Messages.{Start}
+use Rattle.noise_duel.specs.Runs.{Run, RunOnce}
+use Rattle.noise_duel.specs.Sides.{Sides}
+use Rattle.noise_vectors.specs.FileKeys.{agreement_of, public_of}
+use Rattle.noise_vectors.specs.declared.file_keys.FileKeys.{FileKeys}
+use Rattle.noise_vectors.specs.declared.vector.FileDatagrams.{FileDatagrams}
+use Rattle.noise_vectors.specs.declared.vector.VectorFile.{VectorFile}
+use Rattle.noise_tool.specs.Ends.{IsPatternOf, facing_in, known_before, setup_of}
+use Rattle.noise_handshake.specs.Setup.{setup_fault}
+use Rattle.noise_tool.specs.Named.{IsNamed}
+use Rattle.noise_tool.specs.OneRun.{OneRun, RunAlike}
+use Rattle.noise_vectors.specs.SameFile.{held_datagrams}
+use Rattle.noise_tool.specs.Printed.{note_line}
+use Rattle.noise_tool.specs.PrintedDatagrams.{datagram_line, datagram_state_lines}
+use Rattle.noise_tool.specs.Running.{AreLast, IsRunOf, datagrams_in, gone_over}
+use Rattle.noise_tool.specs.Running.AreLast.{without, unready, ready}
+use Rattle.noise_vectors.specs.VectorText.{window_words}
+
+-- ---- the pattern
+
+-- messages with psk tokens at the same places are those of their other tokens
+messages-once : (places : List ℕ) (n : ℕ) (xs ys : List (List Token)) → map own_tokens xs ≡ map own_tokens ys → HavePsksAt places n xs
+    → HavePsksAt places n ys → xs ≡ ys
+messages-once places n [] [] e h k = refl
+messages-once places n [] (y ∷ ys) e h k = absurd (cc)
+messages-once places n (x ∷ xs) [] e h k = absurd (cc)
+messages-once places n (x ∷ xs) (y ∷ ys) e h k =
+    let first : own_tokens x ≡ own_tokens y = cc in
+    let rest : map own_tokens xs ≡ map own_tokens ys = cc in
+    ap₂ (λ (t : List Token) (ts : List (List Token)). t ∷ ts) (h.0 ∙ ap (with_psk_tokens places n) first ∙ sym k.0)
+    (messages-once places (n + 1) xs ys rest h.1 k.1)
+
+plan-same : (p q : Plan) → plain_of p ≡ plain_of q → p.places ≡ q.places → p.messages ≡ q.messages → p ≡ q
+plan-same p q e places messages =
+    ap (λ (z : Plan). record z { places = p.places; messages = p.messages }) e
+    ∙ ap₂ (λ (n : List ℕ) (ts : List (List Token)). record q { places = n; messages = ts }) places messages
+
+placed-once : (plain : Plan) (places : List ℕ) (p q : Plan) → Placed plain places p → Placed plain places q → p ≡ q
+placed-once plain places p q h k =
+    let same : plain_of p ≡ plain_of q = h.without ∙ sym k.without in
+    plan-same p q same (h.places_are ∙ sym k.places_are)
+    (messages-once places 1 p.messages q.messages (ap (λ (z : Plan). z.messages) same) h.psks.tokens k.psks.tokens)
+
+some-same : {X : Type 0} (x y : X) → Some x ≡ Some y → x ≡ y
+some-same x y e = cc
+
+named-once : (name : Section) (p q : Plan) → IsNamed name p → IsNamed name q → p ≡ q
+named-once name p q h k =
+    let same : h.plain ≡ k.plain = some-same h.plain k.plain (sym h.known ∙ k.known) in
+    placed-once h.plain name.places p q h.placed (subst (λ (z : Plan). Placed z name.places q) (sym same) k.placed)
+
+pattern-once : (block : Option Plan) (name : Section) (p q : Plan) → IsPatternOf block name p → IsPatternOf block name q → p ≡ q
+pattern-once (Some pattern) name p q h k = h ∙ sym k
+pattern-once None name p q h k = named-once name p q h k
+
+-- ---- what both ends start from
+
+abbrev start_from : Plan → Role → List ℕ → List (List ℕ) → FileKeys → FileKeys → Start
+start_from plan role prologue psks own other = record {
+  prologue = prologue;
+  own = public_of own;
+  agree = agreement_of own;
+  remote = known_before plan role (public_of other);
+  secrets = psks;
+}
+
+abbrev facing_from : Plan → List ℕ → ℕ → List (List ℕ) → FileKeys → FileKeys → Sides
+facing_from plan prologue interval psks first second =
+    facing plan (start_from plan Responder prologue psks first second) (start_from plan Initiator prologue psks second first) interval interval
+
+facing-is : (f : VectorFile) (plan : Plan)
+    → facing_in f plan ≡ facing_from plan f.prologue.items f.interval f.psks.items f.initiator f.responder
+facing-is f plan = refl
+
+facing-same : (f g : VectorFile) (plan : Plan) → RunAlike f g → facing_in f plan ≡ facing_in g plan
+facing-same f g plan same =
+    facing-is f plan
+    ∙ ap (λ (z : List ℕ). facing_from plan z f.interval f.psks.items f.initiator f.responder) same.prologue
+    ∙ ap (λ (z : ℕ). facing_from plan g.prologue.items z f.psks.items f.initiator f.responder) same.interval
+    ∙ ap (λ (z : List (List ℕ)). facing_from plan g.prologue.items g.interval z f.initiator f.responder) same.psks
+    ∙ ap (λ (z : FileKeys). facing_from plan g.prologue.items g.interval g.psks.items z f.responder) same.initiator
+    ∙ ap (λ (z : FileKeys). facing_from plan g.prologue.items g.interval g.psks.items g.initiator z) same.responder
+    ∙ sym (facing-is g plan)
+
+-- ---- the last lines
+
+-- the lines of datagrams
+abbrev over_lines : Window → List (Role × DatagramNote) → DatagramSides → List (List ℕ)
+over_lines window notes last = window_words window ∷ (map datagram_line notes ++ datagram_state_lines last)
+
+over-once : DatagramRunOnce → (d : Sides) (v w : Window) (es fs : List DatagramEvent) (ms ns : List (Role × DatagramNote)) (x y : DatagramSides)
+    → v ≡ w → es ≡ fs → DatagramRun (gone_over d v) es ms x → DatagramRun (gone_over d w) fs ns y → over_lines v ms x ≡ over_lines w ns y
+over-once once d v w es fs ms ns x y same events h k =
+    let other : DatagramRun (gone_over d v) es ns y =
+    subst (λ (z : Window). DatagramRun (gone_over d z) es ns y) (sym same)
+    (subst (λ (z : List DatagramEvent). DatagramRun (gone_over d w) z ns y) (sym events) k) in
+    let one = once (gone_over d v) x y es ms ns h other in
+    ap (λ (z : Window). over_lines z ms x) same
+    ∙ ap₂ (λ (a : List (Role × DatagramNote)) (b : DatagramSides). over_lines w a b) one.0 one.1
+
+last-once : DatagramRunOnce → (o u : Option FileDatagrams) (d : Sides) (xs ys : List (List ℕ)) → held_datagrams o ≡ held_datagrams u → AreLast o d xs → AreLast u d ys
+    → xs ≡ ys
+last-once once _ _ d xs ys e (without _) (without _) = refl
+last-once once _ _ d xs ys e (without _) (unready over _ held) = absurd (cc)
+last-once once _ _ d xs ys e (without _) (ready over _ notes last may run) = absurd (cc)
+last-once once _ _ d xs ys e (unready over _ held) (without _) = absurd (cc)
+last-once once _ _ d xs ys e (unready over _ held) (unready also _ more) = refl
+last-once once _ _ d xs ys e (unready over _ held) (ready also _ notes last may run) = absurd (false≢true (sym held ∙ may))
+last-once once _ _ d xs ys e (ready over _ notes last may run) (without _) = absurd (cc)
+last-once once _ _ d xs ys e (ready over _ notes last may run) (unready also _ held) = absurd (false≢true (sym held ∙ may))
+last-once once _ _ d xs ys e (ready over _ notes last may run) (ready also _ told left indeed again) =
+    let same : (over.window, datagram_events_of over.events.items) ≡ (also.window, datagram_events_of also.events.items) = cc in
+    over-once once d over.window also.window (datagram_events_of over.events.items) (datagram_events_of also.events.items) notes told last left
+    (ap (λ (p : Window × List DatagramEvent). p.0) same) (ap (λ (p : Window × List DatagramEvent). p.1) same) run again
+
+-- ---- all lines
+
+pub one-run : RunOnce → DatagramRunOnce → OneRun
+one-run once datagrams f g xs ys same a b =
+    let pattern : IsPatternOf f.block f.protocol b.plan =
+    subst (λ (z : Option Plan). IsPatternOf z f.protocol b.plan) (sym same.block)
+    (subst (λ (z : Section). IsPatternOf g.block z b.plan) (sym same.protocol) b.pattern) in
+    let plan : a.plan ≡ b.plan = pattern-once f.block f.protocol a.plan b.plan a.pattern pattern in
+    let start : facing_in f a.plan ≡ facing_in g b.plan = ap (facing_in f) plan ∙ facing-same f g b.plan same in
+    let run : Run (facing_in f a.plan) (events_of f.events.items) b.notes b.last =
+    subst (λ (z : Sides). Run z (events_of f.events.items) b.notes b.last) (sym start)
+    (subst (λ (z : List Event). Run (facing_in g b.plan) z b.notes b.last) (sym same.events) b.run) in
+    let one = once (facing_in f a.plan) a.last b.last (events_of f.events.items) a.notes b.notes a.run run in
+    let behind : a.behind ≡ b.behind =
+    last-once datagrams (datagrams_in f.version) (datagrams_in g.version) a.last a.behind b.behind same.datagrams a.are_last
+    (subst (λ (z : Sides). AreLast (datagrams_in g.version) z b.behind) (sym one.1) b.are_last) in
+    a.lines_are
+    ∙ ap₂ (λ (ns : List (Role × Note)) (d : Sides). map (note_line d) ns ++ a.behind) one.0 one.1
+    ∙ ap (λ (z : List (List ℕ)). map (note_line b.last) b.notes ++ z) behind
+    ∙ sym b.lines_are
+
+-- ---- a run of a file is one of each file that says the same
+
+last-moves : (o u : Option FileDatagrams) (d : Sides) (xs : List (List ℕ)) → held_datagrams o ≡ held_datagrams u → AreLast o d xs → AreLast u d xs
+last-moves _ None d xs e (without _) = without d
+last-moves _ (Some also) d xs e (without _) = absurd (cc)
+last-moves _ None d xs e (unready over _ held) = absurd (cc)
+last-moves _ (Some also) d xs e (unready over _ held) = unready also d held
+last-moves _ None d xs e (ready over _ notes last may run) = absurd (cc)
+last-moves _ (Some also) d xs e (ready over _ notes last may run) =
+    let same : (over.window, datagram_events_of over.events.items) ≡ (also.window, datagram_events_of also.events.items) = cc in
+    let window : over.window ≡ also.window = ap (λ (p : Window × List DatagramEvent). p.0) same in
+    let events : datagram_events_of over.events.items ≡ datagram_events_of also.events.items = ap (λ (p : Window × List DatagramEvent). p.1) same in
+    subst (λ (z : Window). AreLast (Some also) d (over_lines z notes last)) (sym window)
+    (ready also d notes last may
+    (subst (λ (z : Window). DatagramRun (gone_over d z) (datagram_events_of also.events.items) notes last) window
+    (subst (λ (z : List DatagramEvent). DatagramRun (gone_over d over.window) z notes last) events run)))
+
+setup-alike : (f g : VectorFile) (plan : Plan) (role : Role) → RunAlike f g → setup_of f plan role ≡ setup_of g plan role
+setup-alike f g plan Initiator same =
+    ap (λ (z : FileKeys). setup_fault plan Initiator (public_of z) (known_before plan Responder (public_of f.responder)) (length f.psks.items)) same.initiator
+    ∙ ap (λ (z : FileKeys). setup_fault plan Initiator (public_of g.initiator) (known_before plan Responder (public_of z)) (length f.psks.items)) same.responder
+    ∙ ap (λ (z : List (List ℕ)). setup_fault plan Initiator (public_of g.initiator) (known_before plan Responder (public_of g.responder)) (length z)) same.psks
+setup-alike f g plan Responder same =
+    ap (λ (z : FileKeys). setup_fault plan Responder (public_of z) (known_before plan Initiator (public_of f.initiator)) (length f.psks.items)) same.responder
+    ∙ ap (λ (z : FileKeys). setup_fault plan Responder (public_of g.responder) (known_before plan Initiator (public_of z)) (length f.psks.items)) same.initiator
+    ∙ ap (λ (z : List (List ℕ)). setup_fault plan Responder (public_of g.responder) (known_before plan Initiator (public_of g.initiator)) (length z)) same.psks
+
+pub run-moves : (f g : VectorFile) (xs : List (List ℕ)) → RunAlike f g → IsRunOf f xs → IsRunOf g xs
+run-moves f g xs same a = record {
+  plan = a.plan;
+  pattern = subst (λ (z : Option Plan). IsPatternOf z g.protocol a.plan) same.block
+      (subst (λ (z : Section). IsPatternOf f.block z a.plan) same.protocol a.pattern);
+  valid = a.valid;
+  set_up = λ role. sym (setup-alike f g a.plan role same) ∙ a.set_up role;
+  notes = a.notes;
+  last = a.last;
+  run = subst (λ (z : Sides). Run z (events_of g.events.items) a.notes a.last) (facing-same f g a.plan same)
+      (subst (λ (z : List Event). Run (facing_in f a.plan) z a.notes a.last) same.events a.run);
+  behind = a.behind;
+  are_last = last-moves (datagrams_in f.version) (datagrams_in g.version) a.last a.behind same.datagrams a.are_last;
+  lines_are = a.lines_are;
+}
