@@ -3,7 +3,6 @@ pub mod Fundamentals
 pub mod Lengths
 pub mod Modifiers
 pub mod Numbers
-pub mod OnePlacing
 pub mod OneText
 pub mod ProtocolNames
 pub mod PskTokens

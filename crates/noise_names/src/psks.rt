@@ -1,13 +1,13 @@
 #![tactic(auto)]
 
-ghost use Rattle.std.specs.Prelude.{◌≡◌, ◌≤◌, ℕ, List, [], length, find, nat_lt, slice_index_or, IsFalse, IfOk, IfErr, Some};
+ghost use Rattle.std.specs.Prelude.{◌≡◌, ◌≤◌, ℕ, [], length, find, nat_lt, slice_index_or, IsFalse, IfOk, IfErr, Some};
 ghost use Rattle.noise_names.specs.Limits.{with_psk_tokens, with_psks_from};
 
 use crate::{Message, Pattern, PlaceFault, PskPlaces, Role, Token};
 use arrayvec::ArrayVec;
 
 impl Pattern {
-    ghost use Rattle.noise_names.specs.Plan.{Plan, has_psk};
+    ghost use Rattle.noise_names.specs.Plan.{has_psk};
     ghost use Rattle.noise_names.specs.Limits.{Placed, first_beyond};
 
     /// The pattern with psk tokens at these places (Noise, 9.4): place 0 is in front of the first message, and place n at
@@ -28,12 +28,6 @@ impl Pattern {
         let responder = base.pre(Role::Responder);
         Ok(Pattern::of(base.base(), places, initiator, responder, messages))
     }
-
-    /// There is one pattern with psk tokens at the same places of the same plain pattern (Noise, 9.4). It does nothing: its contract
-    /// is the law.
-    pub fn placed_patterns_are_unique()
-        ensures { (plain : Plan) (places : List ℕ) (p q : Plan) → Placed plain places p → Placed plain places q → p ≡ q }
-    {}
 }
 
 // The first place beyond so many messages.
