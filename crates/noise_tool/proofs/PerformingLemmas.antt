@@ -1,5 +1,5 @@
 -- What `talk`, `replay` and `convert` have done, and why they haven't.
-use Rattle.std.proofs.Common.{◌≡◌, ◌≢◌, ◌∙◌, refl, sym, ap, subst, ◌⊎◌, inl, inr, ◌<◌, ℕ, List, [], ◌∷◌, Vec, Option, Some, None, Result, Ok, Err, OnOk, length, map}
+use Rattle.std.proofs.Common.{◌≡◌, ◌≢◌, ◌∙◌, refl, sym, ap, subst, ◌⊎◌, inl, inr, ◌<◌, ◌≤◌, ℕ, List, [], ◌∷◌, Vec, Option, Some, None, Result, Ok, Err, OnOk, length, map}
 use Rattle.std.specs.Global.{Global}
 use Rattle.std.specs.Prelude.{IfErr, IfSome}
 use Rattle.std.specs.Io.KnownBytes.{Appends}
@@ -128,24 +128,26 @@ no-run allowed known file outcome before after (Err why) r h = unlike-of allowed
 -- ---- of a converted file
 
 converted-known : (known : Option (List ℕ)) (file : VectorFile) (outcome : Outcome) (before after : Option (List ℕ)) (converted : List ℕ)
-    → Ran known file outcome → file.version ≡ One → converted ≡ converted_text file (bytes_of outcome.lines.items) → Appends before after converted
+    → Ran known file outcome → file.version ≡ One → converted ≡ converted_text file (bytes_of outcome.lines.items) → length converted ≤ 4194304 → Appends before after converted
     → IfSome known (λ bytes. HasConverted bytes before after)
-converted-known None file outcome before after converted r one is printed = tt
-converted-known (Some bytes) file outcome before after converted r one is printed = record {
+converted-known None file outcome before after converted r one is short printed = tt
+converted-known (Some bytes) file outcome before after converted r one is short printed = record {
   file = file;
   right = r.right;
   first = one;
   text_is = sym r.bytes ∙ r.spelled;
   lines = bytes_of outcome.lines.items;
   run = r.run;
+  short = subst (λ (t : List ℕ). length t ≤ 4194304) is short;
   printed = subst (λ (t : List ℕ). Appends before after t) is printed;
 }
 
 pub has-converted : (known : Option (List ℕ)) (file : VectorFile) (outcome : Outcome) (before after : Option (List ℕ)) (converted : List ℕ)
     (result : Result Unit Fault) → Ran known file outcome → file.version ≡ One → converted ≡ converted_text file (bytes_of outcome.lines.items)
-    → OnOk result (Appends before after converted) → OnOk result (IfSome known (λ bytes. HasConverted bytes before after))
-has-converted known file outcome before after converted (Ok u) r one is printed = converted-known known file outcome before after converted r one is printed
-has-converted known file outcome before after converted (Err why) r one is printed = tt
+    → length converted ≤ 4194304 → OnOk result (Appends before after converted) → OnOk result (IfSome known (λ bytes. HasConverted bytes before after))
+has-converted known file outcome before after converted (Ok u) r one is short printed =
+    converted-known known file outcome before after converted r one is short printed
+has-converted known file outcome before after converted (Err why) r one is short printed = tt
 
 pub too-long : (known : Option (List ℕ)) (file : VectorFile) (outcome : Outcome) (why : Fault) → Ran known file outcome → file.version ≡ One
     → why ≡ fault.TooLong → 4194304 < length (converted_text file (bytes_of outcome.lines.items))

@@ -1,5 +1,5 @@
 -- What a command has done that ends with status 0, and why it ends with another.
-use Rattle.std.specs.Prelude.{⊤, ◌≡◌, ◌≢◌, ◌⊎◌, ◌<◌, ℕ, List, [], length, Option, IfSome, string_bytes}
+use Rattle.std.specs.Prelude.{⊤, ◌≡◌, ◌≢◌, ◌⊎◌, ◌<◌, ◌≤◌, ℕ, List, [], length, Option, IfSome, string_bytes}
 use Rattle.std.specs.Io.KnownBytes.{Appends}
 use Rattle.noise_names.specs.Plan.{Plan}
 use Rattle.noise_names.specs.Text.{Spells}
@@ -42,6 +42,7 @@ pub record HasConverted (text : List ℕ) (before after : Option (List ℕ)) : T
   pub text_is : text ≡ text_of file
   pub lines : List (List ℕ)
   pub run : IsRunOf file lines
+  pub short : length (converted_text file lines) ≤ 4194304
   pub printed : Appends before after (converted_text file lines)
 
 -- of the file's bytes, and of the output's before and after, each where they are known: the text of the command stands behind what was there before

@@ -1,6 +1,6 @@
 //! A version 1 vector file as one of version 2.
 
-ghost use Rattle.std.specs.Prelude.{◌≡◌, ◌⊎◌, ◌<◌, ◌++◌, [], IfErr, IfOk, OnOk, length};
+ghost use Rattle.std.specs.Prelude.{◌≡◌, ◌⊎◌, ◌<◌, ◌≤◌, ◌++◌, [], IfErr, IfOk, OnOk, length};
 ghost use Rattle.noise_vectors.specs.Expectations.{bytes_of};
 ghost use Rattle.noise_vectors.specs.VectorText.{expect_line, lines_of, text_of};
 ghost use Rattle.noise_vectors.specs.declared.vector.VectorFile.{VectorFile};
@@ -20,6 +20,7 @@ pub fn convert(alloc: Global, text: &[u8], lines: &[Vec<u8>]) -> Result<Vec<u8>,
     requires { (file : VectorFile) × (file.version ≡ One) × (text.now ≡ text_of file) }
     ensures converted { (file : VectorFile) → file.version ≡ One → text.now ≡ text_of file
         → IfOk result (λ converted. converted.items ≡ converted_text file (bytes_of lines.now)) }
+    ensures short { IfOk result (λ converted. length converted.items ≤ 4194304) }
     ensures fault { IfErr result (λ fault. (fault ≡ Memory) ⊎ ((fault ≡ TooLong) × ((file : VectorFile) → file.version ≡ One → text.now ≡ text_of file
         → 4194304 < length (converted_text file (bytes_of lines.now))))) }
 {

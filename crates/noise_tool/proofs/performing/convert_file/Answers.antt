@@ -52,4 +52,5 @@ returns-clause-done g c =
     let lines : c.deref-3.result.now ≡ c.in_ok-outcome.outcome.lines.items = search rules in
     let text : c.deref-4.result.now ≡ c.in_ok-converted.converted.items = search rules in
     has-converted (g.R.Read.remaining c.args.file.now) c.in_ok-vector.vector c.in_ok-outcome.outcome _ _ c.deref-4.result.now c.print.result ran one
-    (text ∙ rw (← lines) (c.in_ok-converted.ensures.converted c.in_ok-vector.vector one (c.deref-2.ensures.value ∙ spelled))) c.print.ensures.printed
+    (text ∙ rw (← lines) (c.in_ok-converted.ensures.converted c.in_ok-vector.vector one (c.deref-2.ensures.value ∙ spelled)))
+    (rw text c.in_ok-converted.ensures.short) c.print.ensures.printed
