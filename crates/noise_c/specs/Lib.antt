@@ -1,2 +1,4 @@
 pub mod Codes
 pub mod Kept
+pub mod TransportCodes
+pub mod KeptTransport

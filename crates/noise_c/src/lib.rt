@@ -6,3 +6,6 @@ mod codes;
 mod handshakes;
 mod held;
 mod kept;
+mod kept_transport;
+mod transport_codes;
+mod transports;
