@@ -1,3 +1,3 @@
 pub mod Keeps
 pub mod Named
-pub mod Finishing
+pub mod Finished

@@ -9,11 +9,12 @@ ghost use Rattle.noise_c.specs.Kept.{key_in, held_in, IsUsable, KeepsView};
 ghost use Rattle.noise_c.specs.TransportCodes.{open_code};
 ghost use Rattle.noise_c.specs.KeptTransport.{is_party, transport_kept_in, finish_code, transport_seal_code, transport_open_refusal};
 
-use crate::codes::{ENDED, LENGTH, OK, STRUCT};
-use crate::held::{handshake_of, kept_key};
+use crate::codes::{LENGTH, OK, STRUCT};
+use crate::finishing::opened_of;
+use crate::held::kept_key;
 use crate::kept::{NoiseHandshake, NoiseKey, NoiseTold};
 use crate::kept_transport::{NoiseTransport, kept_transport, transport_of};
-use crate::transport_codes::{NOT_DONE, ROOM, open_code, seal_code};
+use crate::transport_codes::{ROOM, open_code, seal_code};
 use noise_session::Transport;
 
 const TAG_LEN: usize = 16;
@@ -45,15 +46,12 @@ pub extern "C" fn noise_finish(
     ensures unchanged { 0 < result → transport.new ≡ transport.old }
     ensures codes { (result ≡ 0) ⊎ (result ≡ 13) ⊎ (result ≡ 19) ⊎ (result ≡ 23) }
 {
-    let Some(handshake) = handshake_of(kept) else {
-        return STRUCT;
-    };
-    match handshake.finish() {
+    match opened_of(kept) {
         Ok(opened) => {
             *transport = kept_transport(Transport::new(opened, interval));
             OK
         }
-        Err(_) => { if kept.ended != 0 { ENDED } else { NOT_DONE } }
+        Err(code) => code,
     }
 }
 
@@ -61,7 +59,8 @@ pub extern "C" fn noise_finish(
 /// not overlap the payload.
 ///
 /// ROOM where `out` has fewer than 16 bytes more than the payload, looked for first; then ONE_WAY, TOO_LONG and EXHAUSTED. These change
-/// nothing. A copy that is used beside the original seals twice at one nonce, which tells both payloads.
+/// nothing. A copy of the transport that is used beside the original seals twice at one nonce: whoever has both messages learns how their
+/// payloads differ, and can forge others.
 #[unsafe(no_mangle)]
 pub extern "C" fn noise_transport_seal(
     kept: &mut NoiseTransport,
@@ -71,8 +70,8 @@ pub extern "C" fn noise_transport_seal(
 ) -> u32
     ensures code { result ≡ transport_seal_code kept.old (length payload.now) (length out.old) }
     ensures place { result ≡ 0 → told.new ≡ record told.old { from = 0; len = length payload.now + 16 } }
-    ensures seals { result ≡ 0 → (v : TransportView) → TransportStands (transport_kept_in kept.old) v → (take (length payload.now + 16) out.new ≡ next_packet v payload.now)
-        × TransportStands (transport_kept_in kept.new) (record v { sent = v.sent + 1 }) }
+    ensures seals { result ≡ 0 → (v : TransportView) → TransportStands (transport_kept_in kept.old) v
+        → (take (length payload.now + 16) out.new ≡ next_packet v payload.now) × TransportStands (transport_kept_in kept.new) (record v { sent = v.sent + 1 }) }
     ensures rest { drop (length payload.now + 16) out.new ≡ drop (length payload.now + 16) out.old }
     ensures counted { result ≡ 0 → transport_kept_in kept.new ≡ record (transport_kept_in kept.old) {
       send_key = (transport_kept_in kept.new).send_key;

@@ -1,27 +1,8 @@
-use Rattle.std.proofs.Common.{◌≡◌, false, refl, ap, sym, subst, ◌∙◌, arith}
-use Rattle.std.proofs.lemmas.Bool.Decides.{nat_tests}
-use Rattle.noise_handshake.specs.Held.{Held}
-use Rattle.noise_handshake.specs.Table.{Table}
+use Rattle.std.proofs.Common.{sym, subst}
 use Rattle.noise_session.specs.HeldTransport.{HeldTransport, TransportStands, transport_of}
-use Rattle.noise_c.specs.KeptTransport.{finish_code}
-use Rattle.noise_c.proofs.Keeps.{stands-for}
-use Rattle.noise_c.proofs.Finishing.{finish-done, finish-early, kept-by, contrary}
 use Rattle.noise_c.proofs.transports.noise_finish.Goals as goal
-
-pub returns-in-Ok-clause-code : goal.returns-in-Ok-clause-code
-returns-in-Ok-clause-code c u =
-    let h = c.in-Some.handshake in
-    let w = c.in-Ok.ensures.when.0 refl in
-    sym (ap finish_code (kept-by c.args.kept.now h c.in-Some.ensures.one c.in-Some.ensures.same u) ∙ finish-done h w.0 w.1)
 
 pub returns-in-Ok-clause-stands : goal.returns-in-Ok-clause-stands
 returns-in-Ok-clause-stands c e p v k =
-    let o = c.in-Ok.ensures.opened v (stands-for c.args.kept.now c.in-Some.handshake p v c.in-Some.ensures.one c.in-Some.ensures.same k) in
-    subst (λ (z : HeldTransport). TransportStands z (transport_of v c.args.interval)) (sym c.kept_transport.ensures.same) (c.new.ensures.stands v o)
-
-pub returns-else-kept-ne0-clause-code : goal.returns-else-kept-ne0-clause-code
-returns-else-kept-ne0-clause-code c u =
-    let h = c.in-Some.handshake in
-    let going : h.ended ≡ false = ap (λ (z : Held Table). z.ended) c.in-Some.ensures.same ∙ grind (arith, nat_tests, c.if-kept-ne0.false) in
-    sym (ap finish_code (kept-by c.args.kept.now h c.in-Some.ensures.one c.in-Some.ensures.same u)
-    ∙ finish-early h going (λ n. contrary (c.in-Err.ensures.when.1 (going, n))))
+    subst (λ (z : HeldTransport). TransportStands z (transport_of v c.args.interval)) (sym c.kept_transport.ensures.same)
+    (c.new.ensures.stands v (c.in-Ok.ensures.opens p v k))
