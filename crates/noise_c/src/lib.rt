@@ -6,3 +6,4 @@ mod codes;
 mod handshakes;
 mod held;
 mod kept;
+mod starting;
