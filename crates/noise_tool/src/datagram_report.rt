@@ -44,7 +44,9 @@ fn datagram_line(alloc: Global, role: Role, entry: &DatagramEntry) -> Result<Lin
         DatagramEntry::Rejected(fault) => {
             begun_line(alloc, "rejected", role)?.word(rejection_word(*fault))
         }
-        DatagramEntry::Missing(number) => begun_line(alloc, "missing", role)?.number(*number as u64),
+        DatagramEntry::Missing(number) => begun_line(alloc, "missing", role)?.number(
+            *number as u64,
+        ),
     }
 }
 

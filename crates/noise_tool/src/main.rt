@@ -59,17 +59,15 @@ fn words(rt: &HostRuntime) -> io::Result<Vec<String>> {
 fn run(rt: &HostRuntime, order: &Chosen) -> u8 {
     match order {
         Chosen::List | Chosen::Show(_) => run_on(rt, order, &mut io::empty()),
-        Chosen::Check(name)
-        | Chosen::Talk(name)
-        | Chosen::Replay(name)
-        | Chosen::Convert(name) => match File::open(
-            rt,
-            name.as_str(),
-        ) {
-            Ok(mut file) => run_on(rt, order, &mut file),
-            Err(error) if error.kind() == ErrorKind::OutOfMemory => ends_with(rt, Fault::Memory),
-            Err(_) => ends_with(rt, Fault::Unreadable),
-        },
+        Chosen::Check(name) | Chosen::Talk(name) | Chosen::Replay(name) | Chosen::Convert(name) =>
+            match File::open(rt, name.as_str()) {
+                Ok(mut file) => run_on(rt, order, &mut file),
+                Err(error) if error.kind() == ErrorKind::OutOfMemory => ends_with(
+                    rt,
+                    Fault::Memory,
+                ),
+                Err(_) => ends_with(rt, Fault::Unreadable),
+            },
     }
 }
 

@@ -26,9 +26,10 @@ use std::alloc::Global;
 use std::io::{Read, Write};
 
 /// Does what was chosen, with the opened file, and gives the exit status: 0 without a fault; 1 where a pattern breaks a rule of validity or has
-/// fewer messages than a psk place needs, the ends of a vector file can't be made, or the lines of its run aren't those that it expects; 2 where the name is none, is of no fundamental pattern,
-/// or the file isn't a pattern text or a vector file; 3 where the file can't be read, the output can't be written, or memory runs out. A refused
-/// write to `err` leaves the status. `list` and `show` read no byte of `file`.
+/// fewer messages than a psk place needs, the ends of a vector file can't be made, or the lines of its run aren't those that it expects; 2 where
+/// the name is none, is of no fundamental pattern, or the file isn't a pattern text or a vector file, or what it is converted to is too long; 3
+/// where the file can't be read, the output can't be written, or memory runs out. A refused write to `err` leaves the status. `list` and `show`
+/// read no byte of `file`.
 pub fn perform<R: Read, O: Write, E: Write>(
     alloc: Global,
     chosen: &Chosen,
@@ -38,7 +39,8 @@ pub fn perform<R: Read, O: Write, E: Write>(
 ) -> u8
     ensures status { result ≤ 3 }
     ensures done { result ≡ 0 → IsDone chosen.now (R.remaining file.old) (O.contents out.old) (O.contents out.new) }
-    ensures fault { 1 ≤ result → (result ≡ 3) ⊎ ((fault : Fault) × (status_of fault ≡ result) × IsFault chosen.now (R.remaining file.old) (O.contents out.old) (O.contents out.new) fault
+    ensures fault { 1 ≤ result → (result ≡ 3) ⊎ ((fault : Fault) × (status_of fault ≡ result)
+        × IsFault chosen.now (R.remaining file.old) (O.contents out.old) (O.contents out.new) fault
         × (IsOfLines fault ⊎ LeavesOther fault out.old out.new err.old err.new)) }
     ensures unwritten { result ≡ 2 → out.new ≡ out.old }
     ensures quiet { result ≡ 0 → err.new ≡ err.old }
@@ -111,11 +113,7 @@ fn print_outcome<O: Write>(outcome: &Outcome, out: &mut O) -> Result<(), Fault>
 }
 
 // Prints a version 1 vector file as one of version 2.
-fn convert_file<R: Read, O: Write>(
-    alloc: Global,
-    file: &mut R,
-    out: &mut O,
-) -> Result<(), Fault>
+fn convert_file<R: Read, O: Write>(alloc: Global, file: &mut R, out: &mut O) -> Result<(), Fault>
     ensures done { OnOk result (IfSome (R.remaining file.old) (λ text. HasConverted text (O.contents out.old) (O.contents out.new))) }
     ensures fault { IfErr result (λ fault. (status_of fault ≡ 3)
         ⊎ IfSome (R.remaining file.old) (λ text. IsRunFault VersionOne text fault ⊎ IsTooLongConverted text fault)) }

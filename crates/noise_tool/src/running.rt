@@ -63,11 +63,7 @@ pub fn replay(alloc: Global, file: VectorFile) -> Result<Outcome, Fault>
 }
 
 /// One of the two, by what the file is allowed to have.
-pub fn run_vector(
-    alloc: Global,
-    file: VectorFile,
-    allowed: AllowedEvents,
-) -> Result<Outcome, Fault>
+pub fn run_vector(alloc: Global, file: VectorFile, allowed: AllowedEvents) -> Result<Outcome, Fault>
     requires { IsAllowedFile allowed file }
     ensures lines { IfOk result (λ outcome. IsRunOf file (bytes_of outcome.lines.items)) }
     ensures expected { IfOk result (λ outcome. bytes_of outcome.expected.items ≡ expected_in file.version) }
