@@ -7,3 +7,4 @@ mod handshakes;
 mod held;
 mod kept;
 mod starting;
+mod writing;
