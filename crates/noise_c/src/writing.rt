@@ -1,7 +1,7 @@
 //! Exports: writing a message of a handshake.
 #![tactic(auto)]
 
-ghost use Rattle.std.specs.Prelude.{◌≡◌, ◌≤◌, ◌<◌, ◌⊎◌, ◌↔◌, length, take, drop, Some};
+ghost use Rattle.std.specs.Prelude.{◌≡◌, ◌≤◌, ◌<◌, ◌⊎◌, ◌↔◌, ℕ, length, take, drop, Some};
 ghost use Rattle.noise_names.specs.Plan.{Plan};
 ghost use Rattle.noise_handshake.specs.View.{View};
 ghost use Rattle.noise_handshake.specs.Held.{message_len_of};
@@ -13,9 +13,10 @@ use crate::handshakes::tell;
 use crate::held::{handshake_of, keep};
 use crate::kept::{NoiseHandshake, NoiseTold};
 
-/// Writes a message to the front of `out`, and tells its length. At any answer but OK `out` and the struct are unchanged.
+/// Writes a message to the front of `out`, and tells its length, in bytes. At any answer but OK the struct and `out` are unchanged.
 ///
 /// ROOM tells the length that `out` is too short for. WANTED tells the DH answer that is lacking: hand it in, and call again.
+/// AGREEMENT can only come of memory that no call has left, and leaves open what `out` holds.
 #[unsafe(no_mangle)]
 pub extern "C" fn noise_write(
     kept: &mut NoiseHandshake,
@@ -32,6 +33,8 @@ pub extern "C" fn noise_write(
     ensures beyond { result ≡ 0 → drop told.new.len out.new ≡ drop told.new.len out.old }
     ensures room { result ≡ 18 → (length out.old < told.new.len) × ((p : Plan) → IsPatternOf (text_in kept.old) p
         → message_len_of (held_in p kept.old) (length payload.now) ≡ Some told.new.len) }
+    ensures short { (p : Plan) → IsPatternOf (text_in kept.old) p → (n : ℕ) → message_len_of (held_in p kept.old) (length payload.now) ≡ Some n
+        → length out.old < n → (result ≡ 18) ⊎ (result ≡ 23) }
     ensures wanted { result ≡ 20 → (p : Plan) (v : View) → KeepsView kept.old p v → WantsToWrite v (own_in told.new.of_static) told.new.remote }
     ensures withheld { 10 ≤ result → result ≤ 14 → (p : Plan) (v : View) → KeepsView kept.old p v → WasWithheld v (length payload.now) result }
     ensures answered { result ≡ 14 → (p : Plan) (v : View) → KeepsView kept.old p v → ⊥ }

@@ -10,6 +10,8 @@ use Rattle.noise_handshake.specs.View.{View}
 use Rattle.noise_handshake.specs.Wanting.{WantsToWrite}
 use Rattle.noise_handshake.specs.Writing.{Lacks}
 use Rattle.noise_c.specs.Codes.{write_code}
+use Rattle.noise_names.specs.Plan.{Plan}
+use Rattle.noise_c.specs.Kept.{held_in}
 use Rattle.noise_c.proofs.Keeps.{opened, was-written, stands-for}
 use Rattle.noise_c.proofs.writing.noise_write.Goals.{in-Some-message_len+else-needed-out+in_default-wants_to_write, in_default-message_len}
 use Rattle.noise_c.proofs.writing.noise_write.Goals as goal
@@ -106,3 +108,19 @@ pub returns-in-Err-clause-out : goal.returns-in-Err-clause-out
 returns-in-Err-clause-out c some other =
     kept-out (write_fault c.in-Some.handshake (length c.args.payload.now)) c.in-Err.fault (c.write.new.out ≡ c.args.out.now) c.in-Err.ensures.fault
     (λ e. other (c.write_code.ensures ∙ e))
+
+some-same : (a b : ℕ) → ◌≡◌ {A = Option ℕ} (Some a) (Some b) → a ≡ b
+some-same a b e = cc
+
+pub returns-in-Err-clause-short : goal.returns-in-Err-clause-short
+returns-in-Err-clause-short c p named n due low =
+    let held : c.in-Some.handshake ≡ held_in p c.args.kept.now =
+    c.in-Some.ensures.same ∙ sym (ap (λ (q : Plan). held_in q c.args.kept.now) (c.in-Some.ensures.one p named)) in
+    let len : c.message_len.result ≡ Some n =
+    c.message_len.ensures ∙ ap (λ (h : Held Table). message_len_of h (length c.args.payload.now)) held ∙ due in
+    absurd (elim c.match-message_len.branch [
+      | in-Some-message_len+else-needed-out+in_default-wants_to_write w ↦
+          let same : w.in-Some-message_len.needed ≡ n = some-same w.in-Some-message_len.needed n (sym w.in-Some-message_len.is ∙ len) in
+          omega (arith, same, low, w.if-needed-out.false)
+      | in_default-message_len w ↦ some-none n (sym len ∙ w.in_default-message_len.is)
+    ])
