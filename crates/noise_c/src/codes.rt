@@ -36,6 +36,8 @@ pub(crate) const SHORT: u32 = 15;
 
 pub(crate) const TAG: u32 = 16;
 
+pub(crate) const ROOM: u32 = 18;
+
 pub(crate) const WANTED: u32 = 20;
 
 pub(crate) const FULL: u32 = 21;

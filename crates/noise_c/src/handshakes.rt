@@ -58,7 +58,7 @@ fn number_of(own: Own) -> u8
 }
 
 // Tells which answer is wanted.
-fn tell(want: (Own, [u8; 32]), told: &mut NoiseTold)
+pub(crate) fn tell(want: (Own, [u8; 32]), told: &mut NoiseTold)
     ensures own { own_in told.new.of_static ≡ want.0 }
     ensures key { told.new.remote ≡ want.1 }
 {
@@ -106,6 +106,7 @@ pub extern "C" fn noise_read(
         → WasDeclined p v message.old result told.new.token kept.new }
     ensures unchanged { 0 < result → message.new ≡ message.old }
     ensures stays { result ≡ 0 → IsUsable kept.new }
+    ensures codes { (result ≡ 0) ⊎ (result ≡ 10) ⊎ ((12 ≤ result) × (result ≤ 16)) ⊎ (result ≡ 20) ⊎ (result ≡ 23) ⊎ (result ≡ 24) }
 {
     let Some(mut handshake) = handshake_of(kept) else {
         return STRUCT;

@@ -13,3 +13,4 @@ mod kept_transport;
 mod starting;
 mod transport_codes;
 mod transports;
+mod writing;

@@ -62,3 +62,24 @@ returns-else-code-eq-AGREEMENT-clause-declined c e f p v k =
     was-declined c.args.kept.now c.keep-in-Err.new.kept c.in-Some.handshake c.read_within.new.self p v c.in-Some.ensures.one c.in-Some.ensures.same stays
     c.keep-in-Err.ensures.text c.keep-in-Err.ensures.same k
     c.args.message.now c.in-Err.fault c.read_code-code.result.0 c.read_code-code.result.1 c.read_code-code.ensures.code c.read_code-code.ensures.token r.0 r.1
+
+-- the number of a fault
+read-number : (n : ℕ) (fault : ReadFault) → n ≡ read_code fault
+    → (n ≡ 0) ⊎ (n ≡ 10) ⊎ ((12 ≤ n) × (n ≤ 16)) ⊎ (n ≡ 20) ⊎ (n ≡ 23) ⊎ (n ≡ 24)
+read-number n read.NotYourTurn e = inr (inl e)
+read-number n read.Done e = inr (inr (inl (omega (arith, e), omega (arith, e))))
+read-number n read.Ended e = inr (inr (inl (omega (arith, e), omega (arith, e))))
+read-number n (read.Refused token Short) e = inr (inr (inl (omega (arith, e), omega (arith, e))))
+read-number n (read.Refused token Tag) e = inr (inr (inl (omega (arith, e), omega (arith, e))))
+read-number n (read.Refused token Agreement) e = inr (inr (inl (omega (arith, e), omega (arith, e))))
+
+tell-number : (n : ℕ) → (n ≡ 14) ⊎ (n ≡ 20) ⊎ (n ≡ 23) → (n ≡ 0) ⊎ (n ≡ 10) ⊎ ((12 ≤ n) × (n ≤ 16)) ⊎ (n ≡ 20) ⊎ (n ≡ 23) ⊎ (n ≡ 24)
+tell-number n (inl e) = inr (inr (inl (omega (arith, e), omega (arith, e))))
+tell-number n (inr (inl e)) = inr (inr (inr (inl e)))
+tell-number n (inr (inr e)) = inr (inr (inr (inr (inl e))))
+
+pub returns-then-code-eq-AGREEMENT-clause-codes : goal.returns-then-code-eq-AGREEMENT-clause-codes
+returns-then-code-eq-AGREEMENT-clause-codes c = tell-number c.tell_wanted_to_read.result c.tell_wanted_to_read.ensures.codes
+
+pub returns-else-code-eq-AGREEMENT-clause-codes : goal.returns-else-code-eq-AGREEMENT-clause-codes
+returns-else-code-eq-AGREEMENT-clause-codes c = read-number c.read_code-code.result.0 c.in-Err.fault c.read_code-code.ensures.code

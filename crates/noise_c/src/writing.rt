@@ -1,0 +1,67 @@
+//! Exports: writing a message of a handshake.
+#![tactic(auto)]
+
+ghost use Rattle.std.specs.Prelude.{◌≡◌, ◌≤◌, ◌<◌, ◌⊎◌, ◌↔◌, ℕ, length, take, drop, Some};
+ghost use Rattle.noise_names.specs.Plan.{Plan};
+ghost use Rattle.noise_handshake.specs.View.{View};
+ghost use Rattle.noise_handshake.specs.Held.{message_len_of};
+ghost use Rattle.noise_handshake.specs.Wanting.{WantsToWrite};
+ghost use Rattle.noise_c.specs.Kept.{own_in, text_in, held_in, IsPatternOf, IsUsable, KeepsView, WasWritten, WasWithheld};
+
+use crate::codes::{OK, ROOM, STRUCT, WANTED, write_code};
+use crate::handshakes::tell;
+use crate::held::{handshake_of, keep};
+use crate::kept::{NoiseHandshake, NoiseTold};
+
+/// Writes a message to the front of `out`, and tells its length, in bytes. At any answer but OK the struct and `out` are unchanged.
+///
+/// ROOM tells the length that `out` is too short for. WANTED tells the DH answer that is lacking: hand it in, and call again.
+/// AGREEMENT can only come of memory that no call has left, and leaves open what `out` holds.
+#[unsafe(no_mangle)]
+pub extern "C" fn noise_write(
+    kept: &mut NoiseHandshake,
+    payload: &[u8],
+    out: &mut [u8],
+    told: &mut NoiseTold,
+) -> u32
+    ensures unusable { result ≡ 23 ↔ (IsUsable kept.old → ⊥) }
+    ensures written { result ≡ 0 → (p : Plan) (v : View) → KeepsView kept.old p v → WasWritten p v payload.now (take told.new.len out.new) kept.new }
+    ensures stays { result ≡ 0 → IsUsable kept.new }
+    ensures len { result ≡ 0 → (p : Plan) → IsPatternOf (text_in kept.old) p
+        → message_len_of (held_in p kept.old) (length payload.now) ≡ Some told.new.len }
+    ensures within { result ≡ 0 → (told.new.from ≡ 0) × (told.new.len ≤ length out.new) }
+    ensures beyond { result ≡ 0 → drop told.new.len out.new ≡ drop told.new.len out.old }
+    ensures room { result ≡ 18 → (length out.old < told.new.len) × ((p : Plan) → IsPatternOf (text_in kept.old) p
+        → message_len_of (held_in p kept.old) (length payload.now) ≡ Some told.new.len) }
+    ensures short { (p : Plan) → IsPatternOf (text_in kept.old) p → (n : ℕ) → message_len_of (held_in p kept.old) (length payload.now) ≡ Some n
+        → length out.old < n → (result ≡ 18) ⊎ (result ≡ 23) }
+    ensures wanted { result ≡ 20 → (p : Plan) (v : View) → KeepsView kept.old p v → WantsToWrite v (own_in told.new.of_static) told.new.remote }
+    ensures withheld { 10 ≤ result → result ≤ 14 → (p : Plan) (v : View) → KeepsView kept.old p v → WasWithheld v (length payload.now) result }
+    ensures answered { result ≡ 14 → (p : Plan) (v : View) → KeepsView kept.old p v → ⊥ }
+    ensures unchanged { 0 < result → kept.new ≡ kept.old }
+    ensures out { 0 < result → (result ≡ 14 → ⊥) → out.new ≡ out.old }
+    ensures codes { (result ≡ 0) ⊎ ((10 ≤ result) × (result ≤ 14)) ⊎ (result ≡ 18) ⊎ (result ≡ 20) ⊎ (result ≡ 23) }
+{
+    let Some(mut handshake) = handshake_of(kept) else {
+        return STRUCT;
+    };
+    if let Some(needed) = handshake.message_len(payload.len()) {
+        if needed > out.len() {
+            told.len = needed;
+            return ROOM;
+        }
+        if let Some(want) = handshake.wants_to_write() {
+            tell(want, told);
+            return WANTED;
+        }
+    }
+    match handshake.write(payload, out) {
+        Ok(len) => {
+            told.from = 0;
+            told.len = len;
+            keep(kept, handshake);
+            OK
+        }
+        Err(fault) => write_code(fault),
+    }
+}
