@@ -44,6 +44,8 @@ pub(crate) const STRUCT: u32 = 23;
 
 pub(crate) const LENGTH: u32 = 24;
 
+pub(crate) const NOT_DUE: u32 = 29;
+
 // The number of a fault of a setup.
 pub(crate) fn setup_code(fault: SetupFault) -> u32
     ensures { result ≡ setup_code fault }

@@ -66,3 +66,13 @@ pub struct NoiseTold {
     pub of_static: u8,
     pub remote: [u8; 32],
 }
+
+/// Where a handshake stands: how many messages its pattern has and how many have passed, and two flags, 0 or 1.
+#[repr(C)]
+#[derive(Clone, Copy)]
+pub struct NoiseStageTold {
+    pub messages: u8,
+    pub passed: u8,
+    pub ended: u8,
+    pub writes_next: u8,
+}

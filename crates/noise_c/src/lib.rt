@@ -2,6 +2,7 @@
 //! caller is told which DH answer is wanted, and hands it in.
 #![tactic(auto)]
 
+mod asking;
 mod codes;
 mod handshakes;
 mod held;
