@@ -76,3 +76,15 @@ pub struct NoiseStageTold {
     pub ended: u8,
     pub writes_next: u8,
 }
+
+/// What a check of a pattern text tells beside its number: the line of a fault, counted from 1; the rule of validity that is
+/// broken, and where; how many messages the pattern has.
+#[repr(C)]
+#[derive(Clone, Copy)]
+pub struct NoisePatternTold {
+    pub line: usize,
+    pub rule: u8,
+    pub message: u8,
+    pub token: u8,
+    pub messages: u8,
+}

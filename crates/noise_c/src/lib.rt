@@ -3,6 +3,7 @@
 #![tactic(auto)]
 
 mod asking;
+mod checking;
 mod codes;
 mod handshakes;
 mod held;
