@@ -1,5 +1,7 @@
 -- The numbers of the faults. No number is used twice.
 use Rattle.std.specs.Prelude.{ℕ}
+use Rattle.noise_names.specs.declared.faults.TextFaultKind.{TextFaultKind}
+use Rattle.noise_names.specs.declared.faults.TextFaultKind.TheVariants as text
 use Rattle.noise_handshake.specs.declared.faults.Cause.{Cause}
 use Rattle.noise_handshake.specs.declared.faults.Cause.TheVariants.{Short, Tag, Agreement}
 use Rattle.noise_handshake.specs.declared.faults.ReadFault.{ReadFault}
@@ -38,3 +40,14 @@ write_code write.TooLong = 11
 write_code write.Done = 12
 write_code write.Ended = 13
 write_code (write.Agreement token) = 14
+
+abbrev pub text_code : TextFaultKind → ℕ
+text_code text.Heading = 30
+text_code text.Arrow = 31
+text_code text.Token = 32
+text_code text.PreMessage = 33
+text_code text.Turn = 34
+text_code text.PskPlace = 35
+text_code text.NameTaken = 36
+text_code text.Limit = 37
+text_code text.Ending = 38

@@ -18,7 +18,7 @@ use Rattle.noise_handshake.specs.declared.faults.WriteFault.{WriteFault}
 use Rattle.noise_handshake.specs.declared.remote.Remote.{Remote}
 use Rattle.noise_handshake.specs.Keys.{key_of}
 use Rattle.noise_handshake.specs.Table.{Table, TableEntry, answer_in}
-use Rattle.noise_handshake.specs.Held.{Held}
+use Rattle.noise_handshake.specs.Held.{Held, is_turn}
 use Rattle.noise_handshake.specs.Parts.{IsWhole}
 use Rattle.noise_handshake.specs.Setup.{begun, setup_fault}
 use Rattle.noise_handshake.specs.View.{View, Accepts}
@@ -28,6 +28,7 @@ use Rattle.noise_c.specs.declared.kept.NoiseKey.{NoiseKey}
 use Rattle.noise_c.specs.declared.kept.NoiseAnswer.{NoiseAnswer}
 use Rattle.noise_c.specs.declared.kept.NoiseHandshake.{NoiseHandshake}
 use Rattle.noise_c.specs.declared.kept.NoiseSetup.{NoiseSetup}
+use Rattle.noise_c.specs.declared.kept.NoiseStageTold.{NoiseStageTold}
 use Rattle.noise_c.specs.Codes.{read_code, token_in, write_code, setup_code}
 
 -- a key, if there is one
@@ -191,3 +192,10 @@ start_code p prologue setup =
 -- one of the numbers of a start
 abbrev pub IsStartCode : ℕ → Type 0
 IsStartCode n = (n ≡ 0) ⊎ (n ≡ 1) ⊎ (n ≡ 2) ⊎ ((4 ≤ n) × (n ≤ 8)) ⊎ (n ≡ 24)
+
+-- where the handshake stands
+pub record TellsStage (h : Held Table) (told : NoiseStageTold) : Type 0 where
+  pub messages : told.messages ≡ length h.pattern.messages
+  pub passed : told.passed ≡ h.passed
+  pub ended : told.ended ≡ (if h.ended then 1 else 0)
+  pub writes_next : told.writes_next ≡ (if is_turn h.role h.passed then 1 else 0)

@@ -1,3 +1,4 @@
+pub mod Checked
 pub mod Codes
 pub mod Kept
 pub mod TransportCodes

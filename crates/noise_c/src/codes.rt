@@ -2,9 +2,10 @@
 #![tactic(auto)]
 
 ghost use Rattle.std.specs.Prelude.{◌≡◌};
-ghost use Rattle.noise_c.specs.Codes.{cause_code, read_code, write_code, setup_code, token_in};
+ghost use Rattle.noise_c.specs.Codes.{cause_code, read_code, write_code, setup_code, text_code, token_in};
 
 use noise_handshake::{Cause, ReadFault, SetupFault, WriteFault};
+use noise_names::TextFaultKind;
 
 pub(crate) const OK: u32 = 0;
 
@@ -45,6 +46,28 @@ pub(crate) const FULL: u32 = 21;
 pub(crate) const STRUCT: u32 = 23;
 
 pub(crate) const LENGTH: u32 = 24;
+
+pub(crate) const NOT_DUE: u32 = 29;
+
+pub(crate) const HEADING: u32 = 30;
+
+pub(crate) const ARROW: u32 = 31;
+
+pub(crate) const TOKEN: u32 = 32;
+
+pub(crate) const PRE_MESSAGE: u32 = 33;
+
+pub(crate) const TURN: u32 = 34;
+
+pub(crate) const PSK_PLACE: u32 = 35;
+
+pub(crate) const NAME_TAKEN: u32 = 36;
+
+pub(crate) const LIMIT: u32 = 37;
+
+pub(crate) const ENDING: u32 = 38;
+
+pub(crate) const RULE: u32 = 39;
 
 // The number of a fault of a setup.
 pub(crate) fn setup_code(fault: SetupFault) -> u32
@@ -92,5 +115,22 @@ pub(crate) fn write_code(fault: WriteFault) -> u32
         WriteFault::Done => DONE,
         WriteFault::Agreement { token: _ } => AGREEMENT,
         WriteFault::Ended => ENDED,
+    }
+}
+
+// The number of a fault of a pattern text.
+pub(crate) fn text_code(kind: TextFaultKind) -> u32
+    ensures { result ≡ text_code kind }
+{
+    match kind {
+        TextFaultKind::Heading => HEADING,
+        TextFaultKind::Arrow => ARROW,
+        TextFaultKind::Token => TOKEN,
+        TextFaultKind::PreMessage => PRE_MESSAGE,
+        TextFaultKind::Turn => TURN,
+        TextFaultKind::PskPlace => PSK_PLACE,
+        TextFaultKind::NameTaken => NAME_TAKEN,
+        TextFaultKind::Limit => LIMIT,
+        TextFaultKind::Ending => ENDING,
     }
 }

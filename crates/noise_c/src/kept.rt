@@ -66,3 +66,25 @@ pub struct NoiseTold {
     pub of_static: u8,
     pub remote: [u8; 32],
 }
+
+/// Where a handshake stands: how many messages its pattern has and how many have passed, and two flags, 0 or 1.
+#[repr(C)]
+#[derive(Clone, Copy)]
+pub struct NoiseStageTold {
+    pub messages: u8,
+    pub passed: u8,
+    pub ended: u8,
+    pub writes_next: u8,
+}
+
+/// What a check of a pattern text tells beside its number: the line of a fault, counted from 1; the rule of validity that is
+/// broken, and where; how many messages the pattern has.
+#[repr(C)]
+#[derive(Clone, Copy)]
+pub struct NoisePatternTold {
+    pub line: usize,
+    pub rule: u8,
+    pub message: u8,
+    pub token: u8,
+    pub messages: u8,
+}

@@ -2,6 +2,8 @@
 //! caller is told which DH answer is wanted, and hands it in.
 #![tactic(auto)]
 
+mod asking;
+mod checking;
 mod codes;
 mod datagrams;
 mod finishing;
