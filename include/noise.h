@@ -155,7 +155,7 @@ enum {
 
 /* What the caller keeps. What stands in them is the library's: hand it back as a call left it. */
 typedef struct { NOISE_ALIGNED unsigned char kept[1472]; } noise_handshake;
-typedef struct { NOISE_ALIGNED unsigned char kept[168]; } noise_transport;
+typedef struct { NOISE_ALIGNED unsigned char kept[160]; } noise_transport;
 typedef struct { NOISE_ALIGNED unsigned char kept[296]; } noise_datagrams;
 
 /* A public key; none where present is 0. */

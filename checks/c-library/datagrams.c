@@ -1,7 +1,7 @@
 // Datagrams: in order, late, repeated, too late, changed, of both directions; and against the transport messages of the same handshake.
 #include "ends.h"
 
-enum { ROOM = NOISE_MAX_DATAGRAM + 1, COUNT = 3000 };
+enum { ROOM = NOISE_MAX_DATAGRAM + 1, COUNT = 3100 };
 
 static uint8_t message[ROOM], before[ROOM], payload[ROOM];
 static uint8_t sealed[COUNT][40];                        // datagrams with payloads of 16 bytes
@@ -101,7 +101,7 @@ static void check_sizes(void) {
     old = d[0];
     memset(message, 0x44, sizeof message);
     MUST(noise_datagrams_seal(&d[0], payload, NOISE_MAX_DATAGRAM - 23, message, sizeof message, &told) == NOISE_TOO_LONG);
-    MUST(noise_datagrams_seal(&d[0], payload, sizeof payload, message, sizeof message, &told) == NOISE_TOO_LONG);
+    MUST(noise_datagrams_seal(&d[0], payload, sizeof payload, message, sizeof message, &told) == NOISE_ROOM);
     for (size_t room = 0; room < 34; room++) MUST(noise_datagrams_seal(&d[0], payload, 10, message, room, &told) == NOISE_ROOM);
     MUST(!memcmp(&old, &d[0], sizeof old));
     for (size_t i = 0; i < sizeof message; i++) MUST(message[i] == 0x44);

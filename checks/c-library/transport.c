@@ -55,7 +55,7 @@ static void check_sizes(void) {
     noise_told told;
     open_pair(&p, 0, t);
     must_not_seal(&t[0], NOISE_MAX_MESSAGE - 15, sizeof message, NOISE_TOO_LONG);
-    must_not_seal(&t[0], NOISE_MAX_MESSAGE + 1, sizeof message, NOISE_TOO_LONG);
+    must_not_seal(&t[0], NOISE_MAX_MESSAGE + 1, sizeof message, NOISE_ROOM);         // looked for first
     for (size_t room = 0; room < 26; room++) must_not_seal(&t[0], 10, room, NOISE_ROOM);
     must_be_at(&t[0], 0, 0);
     memset(message, 0x33, sizeof message);

@@ -45,8 +45,8 @@ static void put_head(run *r) {
 }
 
 static uint32_t write_next(run *r, unsigned role, const uint8_t *payload, size_t len, uint8_t *out, noise_told *told) {
-    if (r->is_open) return noise_transport_seal(&r->transports[role], payload, len, out, NOISE_MAX_MESSAGE, told);
-    return write_on(&r->ends[role], payload, len, out, NOISE_MAX_MESSAGE, told);
+    if (r->is_open) return noise_transport_seal(&r->transports[role], payload, len, out, LONGEST, told);
+    return write_on(&r->ends[role], payload, len, out, LONGEST, told);
 }
 
 static uint32_t read_next(run *r, unsigned role, uint8_t *message, size_t len, noise_told *told) {
@@ -62,7 +62,7 @@ static void put_unwritten(run *r, unsigned role, uint32_t code) {
 
 // This role says a payload of this length to the other one.
 static void say(run *r, unsigned role, size_t len, unsigned number) {
-    static uint8_t payload[NOISE_MAX_MESSAGE], message[NOISE_MAX_MESSAGE];
+    static uint8_t payload[NOISE_MAX_MESSAGE], message[LONGEST];
     noise_told told;
     fill(payload, len, number);
     fprintf(r->vector, "say %s ", role_names[role]);
