@@ -156,7 +156,7 @@ enum {
 /* What the caller keeps. What stands in them is the library's: hand it back as a call left it. */
 typedef struct { NOISE_ALIGNED unsigned char kept[1472]; } noise_handshake;
 typedef struct { NOISE_ALIGNED unsigned char kept[160]; } noise_transport;
-typedef struct { NOISE_ALIGNED unsigned char kept[296]; } noise_datagrams;
+typedef struct { NOISE_ALIGNED unsigned char kept[224]; } noise_datagrams;
 
 /* A public key; none where present is 0. */
 typedef struct {
@@ -272,8 +272,8 @@ size_t noise_transport_size(void);
 uint32_t noise_finish(const noise_handshake *h, uint64_t interval, noise_transport *t);
 
 /* Seals a payload as the next message, to the front of out: 16 bytes longer than the payload.
-   OK: told->len bytes of out are the message; the bytes behind it are unchanged · STRUCT · ONE_WAY · TOO_LONG: a payload of more than 65519
-   bytes · EXHAUSTED · ROOM. At any code but OK neither *t nor out is changed. */
+   OK: told->len bytes of out are the message; the bytes behind it are unchanged · STRUCT · ROOM: out isn't 16 bytes longer than the payload ·
+   ONE_WAY · TOO_LONG: a payload of more than 65519 bytes · EXHAUSTED; of several the first. At any code but OK neither *t nor out is changed. */
 uint32_t noise_transport_seal(noise_transport *t, const uint8_t *payload, size_t payload_len, uint8_t *out, size_t out_len, noise_told *told);
 
 /* Opens the next message of the other party, in place.
@@ -296,10 +296,11 @@ size_t noise_datagrams_size(void);
 
 /* Makes the state of datagrams of a handshake whose messages have all passed (and were sent in order, each answered: the handshake itself
    isn't for such a network). A datagram may come behind others of nonces less than `window` greater: 64, 256 or 1024. Keys are never renewed.
-   OK · STRUCT · WINDOW · NOT_DONE · ENDED. *h is unchanged; overwrite it then, and make no second state or transport of it. */
+   OK · WINDOW · STRUCT · NOT_DONE · ENDED. *h is unchanged; overwrite it then, and make no second state or transport of it. */
 uint32_t noise_finish_datagrams(const noise_handshake *h, uint32_t window, noise_datagrams *d);
 
-/* Seals a payload as a datagram, to the front of out: 24 bytes longer than the payload. Codes as of noise_transport_seal. */
+/* Seals a payload as a datagram, to the front of out: 24 bytes longer than the payload. Codes as of noise_transport_seal, with ROOM where out
+   isn't 24 bytes longer. */
 uint32_t noise_datagrams_seal(noise_datagrams *d, const uint8_t *payload, size_t payload_len, uint8_t *out, size_t out_len, noise_told *told);
 
 /* Opens a datagram of the other party, in place.
