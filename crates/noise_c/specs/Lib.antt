@@ -1,2 +1,5 @@
 pub mod Codes
 pub mod Kept
+pub mod TransportCodes
+pub mod KeptTransport
+pub mod KeptDatagrams

@@ -3,6 +3,12 @@
 #![tactic(auto)]
 
 mod codes;
+mod datagrams;
+mod finishing;
 mod handshakes;
 mod held;
 mod kept;
+mod kept_datagrams;
+mod kept_transport;
+mod transport_codes;
+mod transports;

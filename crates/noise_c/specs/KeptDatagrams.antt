@@ -1,0 +1,37 @@
+-- What the memory that C keeps of datagrams stands for.
+use Rattle.std.specs.Prelude.{ℕ, ◌==◌, ◌+◌, nat_lt, not, ◌||◌, ◌&&◌, Bool, Some, if◌then◌else◌}
+use Rattle.noise_session.specs.declared.window.Window.{Window}
+use Rattle.noise_session.specs.declared.window.Window.TheVariants.{W64, W256, W1024}
+use Rattle.noise_session.specs.Datagrams.{HeldDatagrams, unsealed}
+use Rattle.noise_c.specs.declared.kept_datagrams.NoiseDatagrams.{NoiseDatagrams}
+use Rattle.noise_c.specs.KeptTransport.{is_party, party_in}
+use Rattle.noise_c.specs.TransportCodes.{sealing_code}
+
+-- the number of nonces of a window
+abbrev pub is_window : ℕ → Bool
+is_window width = (width == 64) || (width == 256) || (width == 1024)
+
+abbrev pub window_in : ℕ → Window
+window_in width = if width == 64 then W64 else if width == 256 then W256 else W1024
+
+-- A call has left this: memory of zeros stands for no datagrams.
+abbrev pub is_datagrams : NoiseDatagrams → Bool
+is_datagrams k = is_party k.party && is_window k.window
+
+-- the datagrams
+abbrev pub datagrams_kept_in : NoiseDatagrams → HeldDatagrams
+datagrams_kept_in k = record {
+  role = party_in k.party;
+  one_way = not (k.one_way == 0);
+  send_key = Some k.send_key;
+  send_nonce = k.send_nonce;
+  receive_key = Some k.receive_key;
+  recent = record { window = window_in k.window; greatest = k.greatest; words = k.words };
+}
+
+-- the number that sealing tells, by the lengths of the payload and of what there is room for
+abbrev pub datagrams_seal_code : NoiseDatagrams → ℕ → ℕ → ℕ
+datagrams_seal_code k payload room =
+    if not (is_datagrams k) then 23
+    else if nat_lt room (payload + 24) then 18
+    else sealing_code (unsealed (party_in k.party) (not (k.one_way == 0)) k.send_nonce payload)

@@ -1,0 +1,159 @@
+//! Exports: datagrams.
+#![tactic(auto)]
+
+ghost use Rattle.std.specs.Prelude.{◌≡◌, ◌≢◌, ◌↔◌, ◌<◌, ◌+◌, ◌⊎◌, length, take, drop, slice_range, Ok, Err, true, false};
+ghost use Rattle.noise_names.specs.Plan.{Plan};
+ghost use Rattle.noise_handshake.specs.View.{View};
+ghost use Rattle.noise_session.specs.declared.datagram_fault.DatagramFault.{DatagramFault};
+ghost use Rattle.noise_session.specs.Datagrams.{DatagramView, Pictures, Opens, datagram, datagrams_of, accepting, nonce_named};
+ghost use Rattle.noise_c.specs.Kept.{held_in, IsUsable, KeepsView};
+ghost use Rattle.noise_c.specs.TransportCodes.{datagram_code};
+ghost use Rattle.noise_c.specs.KeptTransport.{finish_code};
+ghost use Rattle.noise_c.specs.KeptDatagrams.{is_window, window_in, is_datagrams, datagrams_kept_in, datagrams_seal_code};
+
+use crate::codes::{OK, STRUCT};
+use crate::finishing::opened_of;
+use crate::kept::{NoiseHandshake, NoiseTold};
+use crate::kept_datagrams::{NoiseDatagrams, datagrams_of, kept_datagrams, window_named};
+use crate::transport_codes::{ROOM, WINDOW, datagram_code, seal_code};
+use noise_session::Datagrams;
+
+// The bytes of a nonce, which stand in front.
+const NONCE_LEN: usize = 8;
+
+// Those of a nonce and a tag.
+const OVERHEAD: usize = 24;
+
+/// How many bytes the datagrams of a party take in the caller's memory.
+#[unsafe(no_mangle)]
+pub extern "C" fn noise_datagrams_size() -> usize {
+    std::mem::size_of::<NoiseDatagrams>()
+}
+
+/// Makes the datagrams of a handshake whose messages have all passed (Noise, 11.4): none is sealed or opened yet. The handshake is only
+/// read: of one handshake make one transport or one of these, since a second one would seal at the nonces of the first.
+///
+/// The window has 64, 256 or 1024 nonces: a datagram is opened that comes fewer nonces behind the greatest one. WINDOW at another number,
+/// looked for first.
+#[unsafe(no_mangle)]
+pub extern "C" fn noise_finish_datagrams(
+    kept: &NoiseHandshake,
+    window: u32,
+    datagrams: &mut NoiseDatagrams,
+) -> u32
+    ensures window { result ≡ 25 ↔ is_window window ≡ false }
+    ensures unusable { result ≡ 23 ↔ (is_window window ≡ true) × (IsUsable kept.now → ⊥) }
+    ensures code { is_window window ≡ true → (u : IsUsable kept.now) → result ≡ finish_code (held_in u.pattern kept.now) }
+    ensures stands { result ≡ 0 → (p : Plan) (v : View) → KeepsView kept.now p v
+        → Pictures (datagrams_kept_in datagrams.new) (datagrams_of v (window_in window)) }
+    ensures known { result ≡ 0 → is_datagrams datagrams.new ≡ true }
+    ensures unchanged { 0 < result → datagrams.new ≡ datagrams.old }
+    ensures codes { (result ≡ 0) ⊎ (result ≡ 13) ⊎ (result ≡ 19) ⊎ (result ≡ 23) ⊎ (result ≡ 25) }
+{
+    let Some(window) = window_named(window) else {
+        return WINDOW;
+    };
+    match opened_of(kept) {
+        Ok(opened) => {
+            *datagrams = kept_datagrams(Datagrams::with_window(opened, window));
+            OK
+        }
+        Err(code) => code,
+    }
+}
+
+/// Seals a payload of at most 65519 bytes into the first bytes of `out`, 24 more than it has, and tells how many: the nonce in 8 bytes,
+/// the highest first, and the transport message of that nonce (Noise, 11.4). `out` must not overlap the payload.
+///
+/// ROOM where `out` has fewer than 24 bytes more than the payload, looked for first; then ONE_WAY, TOO_LONG and EXHAUSTED. These change
+/// nothing. A copy of the datagrams that is used beside the original seals twice at one nonce: whoever has both learns how their payloads
+/// differ, and can forge others.
+#[unsafe(no_mangle)]
+pub extern "C" fn noise_datagrams_seal(
+    kept: &mut NoiseDatagrams,
+    payload: &[u8],
+    out: &mut [u8],
+    told: &mut NoiseTold,
+) -> u32
+    ensures code { result ≡ datagrams_seal_code kept.old (length payload.now) (length out.old) }
+    ensures place { result ≡ 0 → told.new ≡ record told.old { from = 0; len = length payload.now + 24 } }
+    ensures seals { result ≡ 0 → (v : DatagramView) → Pictures (datagrams_kept_in kept.old) v
+        → (take (length payload.now + 24) out.new ≡ datagram v.history v.role v.sent payload.now)
+        × Pictures (datagrams_kept_in kept.new) (record v { sent = v.sent + 1 }) }
+    ensures rest { drop (length payload.now + 24) out.new ≡ drop (length payload.now + 24) out.old }
+    ensures counted { result ≡ 0 → datagrams_kept_in kept.new ≡ record (datagrams_kept_in kept.old) { send_nonce = kept.old.send_nonce + 1 } }
+    ensures known { result ≡ 0 → is_datagrams kept.new ≡ true }
+    ensures unchanged { 0 < result → (kept.new ≡ kept.old) × (out.new ≡ out.old) × (told.new ≡ told.old) }
+    ensures codes { (result ≡ 0) ⊎ (result ≡ 11) ⊎ (result ≡ 17) ⊎ (result ≡ 18) ⊎ (result ≡ 22) ⊎ (result ≡ 23) }
+{
+    let Some(mut datagrams) = datagrams_of(kept) else {
+        return STRUCT;
+    };
+    if out.len() < OVERHEAD || out.len() - OVERHEAD < payload.len() {
+        return ROOM;
+    }
+    match datagrams.seal(payload, out) {
+        Ok(len) => {
+            told.from = 0;
+            told.len = len;
+            *kept = kept_datagrams(datagrams);
+            OK
+        }
+        Err(fault) => seal_code(fault),
+    }
+}
+
+/// Opens a datagram in place, and tells where its payload stands: from the ninth byte on. The 8 of the nonce in front of it and the 16 of
+/// the tag behind it stay as they are. At any answer but OK its bytes and what is kept are unchanged.
+///
+/// ONE_WAY, SHORT (fewer than 24 bytes), TOO_LONG (more than 65543), RESERVED (the nonce that no message has: Noise, 5.1), OLD, REPEATED
+/// and TAG are looked for in this order.
+#[unsafe(no_mangle)]
+pub extern "C" fn noise_datagrams_open(
+    kept: &mut NoiseDatagrams,
+    datagram: &mut [u8],
+    told: &mut NoiseTold,
+) -> u32
+    ensures unusable { result ≡ 23 ↔ is_datagrams kept.old ≡ false }
+    ensures place { result ≡ 0 → (told.new ≡ record told.old { from = 8; len = told.new.len }) × (told.new.len + 24 ≡ length datagram.new) }
+    ensures opens { result ≡ 0 → (v : DatagramView) → Pictures (datagrams_kept_in kept.old) v
+        → Opens v datagram.old (Ok (slice_range datagram.new told.new.from (told.new.from + told.new.len))) (accepting v (nonce_named datagram.old))
+        × Pictures (datagrams_kept_in kept.new) (accepting v (nonce_named datagram.old)) }
+    ensures declined { 0 < result → result ≢ 23 → (fault : DatagramFault) × (result ≡ datagram_code fault)
+        × ((v : DatagramView) → Pictures (datagrams_kept_in kept.old) v → Opens v datagram.old (Err fault) v) }
+    ensures beyond { result ≡ 0 → (take 8 datagram.new ≡ take 8 datagram.old)
+        × (drop (8 + told.new.len) datagram.new ≡ drop (8 + told.new.len) datagram.old) }
+    ensures same { result ≡ 0 → datagrams_kept_in kept.new ≡ record (datagrams_kept_in kept.old) { recent = (datagrams_kept_in kept.new).recent } }
+    ensures known { result ≡ 0 → is_datagrams kept.new ≡ true }
+    ensures unchanged { 0 < result → (kept.new ≡ kept.old) × (datagram.new ≡ datagram.old) × (told.new ≡ told.old) }
+    ensures codes { (result ≡ 0) ⊎ (result ≡ 11) ⊎ (result ≡ 15) ⊎ (result ≡ 16) ⊎ (result ≡ 22) ⊎ (result ≡ 23) ⊎ (result ≡ 26)
+        ⊎ (result ≡ 27) ⊎ (result ≡ 28) }
+{
+    let Some(mut datagrams) = datagrams_of(kept) else {
+        return STRUCT;
+    };
+    match datagrams.open_within(datagram) {
+        Ok(len) => {
+            told.from = NONCE_LEN;
+            told.len = len;
+            *kept = kept_datagrams(datagrams);
+            OK
+        }
+        Err(fault) => datagram_code(fault),
+    }
+}
+
+/// Tells the nonce of the next datagram that is sealed.
+#[unsafe(no_mangle)]
+pub extern "C" fn noise_datagrams_nonce(kept: &NoiseDatagrams, send: &mut u64) -> u32
+    ensures unusable { result ≡ 23 ↔ is_datagrams kept.now ≡ false }
+    ensures nonce { result ≡ 0 → send.new ≡ (datagrams_kept_in kept.now).send_nonce }
+    ensures unchanged { 0 < result → send.new ≡ send.old }
+    ensures codes { (result ≡ 0) ⊎ (result ≡ 23) }
+{
+    let Some(datagrams) = datagrams_of(kept) else {
+        return STRUCT;
+    };
+    *send = datagrams.send_nonce();
+    OK
+}

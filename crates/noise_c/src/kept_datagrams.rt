@@ -1,0 +1,90 @@
+//! What C keeps of datagrams, and from it to datagrams and back.
+#![tactic(auto)]
+
+ghost use Rattle.std.specs.Prelude.{◌≡◌, IfSome, is_some, true};
+ghost use Rattle.noise_c.specs.KeptDatagrams.{is_window, window_in, is_datagrams, datagrams_kept_in};
+
+use crate::kept_transport::{party_of, role_named};
+use noise_session::{DatagramParts, Datagrams, Window};
+
+/// Datagrams of one party: of the initiator where `party` is 1, of the responder where it is 2. The window has 64, 256 or 1024
+/// nonces. At any other numbers there are none. `include/noise.h` declares the same as aligned bytes.
+#[repr(C)]
+#[derive(Clone, Copy)]
+pub struct NoiseDatagrams {
+    pub party: u8,
+    pub one_way: u8,
+    pub window: u32,
+    pub send_key: [u8; 32],
+    pub send_nonce: u64,
+    pub receive_key: [u8; 32],
+    pub greatest: u64,
+    pub words: [u64; 17],
+}
+
+// The window of so many nonces.
+pub(crate) fn window_named(width: u32) -> Option<Window>
+    ensures known { is_some result ≡ is_window width }
+    ensures same { IfSome result (λ window. window ≡ window_in width) }
+{
+    match width {
+        64 => Some(Window::W64),
+        256 => Some(Window::W256),
+        1024 => Some(Window::W1024),
+        _ => None,
+    }
+}
+
+fn width_of(window: Window) -> u32
+    ensures known { is_window result ≡ true }
+    ensures same { window_in result ≡ window }
+{
+    match window {
+        Window::W64 => 64,
+        Window::W256 => 256,
+        Window::W1024 => 1024,
+    }
+}
+
+// The datagrams of what C keeps, if a call has left it.
+pub(crate) fn datagrams_of(kept: &NoiseDatagrams) -> Option<Datagrams>
+    ensures known { is_some result ≡ is_datagrams kept.now }
+    ensures same { IfSome result (λ datagrams. datagrams ≡ datagrams_kept_in kept.now) }
+{
+    let role = role_named(kept.party)?;
+    let window = window_named(kept.window)?;
+    let send_key = kept.send_key;
+    let receive_key = kept.receive_key;
+    let words = kept.words;
+    Some(Datagrams::from_parts(DatagramParts {
+        role,
+        one_way: kept.one_way != 0,
+        send_key,
+        send_nonce: kept.send_nonce,
+        receive_key,
+        window,
+        greatest: kept.greatest,
+        words,
+    }))
+}
+
+// How C keeps datagrams.
+pub(crate) fn kept_datagrams(datagrams: Datagrams) -> NoiseDatagrams
+    ensures known { is_datagrams result ≡ true }
+    ensures same { datagrams_kept_in result ≡ datagrams }
+{
+    let parts = datagrams.into_parts();
+    let send_key = parts.send_key;
+    let receive_key = parts.receive_key;
+    let words = parts.words;
+    NoiseDatagrams {
+        party: party_of(parts.role),
+        one_way: u8::from(parts.one_way),
+        window: width_of(parts.window),
+        send_key,
+        send_nonce: parts.send_nonce,
+        receive_key,
+        greatest: parts.greatest,
+        words,
+    }
+}

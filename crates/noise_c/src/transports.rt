@@ -1,0 +1,193 @@
+//! Exports: transports.
+#![tactic(auto)]
+
+ghost use Rattle.std.specs.Prelude.{◌≡◌, ◌≢◌, ◌↔◌, ◌<◌, ◌+◌, ◌⊎◌, ℕ, List, length, take, drop, slice_range, true, false, MatchOption};
+ghost use Rattle.noise_names.specs.Plan.{Plan};
+ghost use Rattle.noise_handshake.specs.View.{View};
+ghost use Rattle.noise_session.specs.HeldTransport.{TransportView, TransportStands, transport_of, next_packet, due_packet, no_packet};
+ghost use Rattle.noise_c.specs.Kept.{key_in, held_in, IsUsable, KeepsView};
+ghost use Rattle.noise_c.specs.TransportCodes.{open_code};
+ghost use Rattle.noise_c.specs.KeptTransport.{is_party, transport_kept_in, finish_code, transport_seal_code, transport_open_refusal};
+
+use crate::codes::{LENGTH, OK, STRUCT};
+use crate::finishing::opened_of;
+use crate::held::kept_key;
+use crate::kept::{NoiseHandshake, NoiseKey, NoiseTold};
+use crate::kept_transport::{NoiseTransport, kept_transport, transport_of};
+use crate::transport_codes::{ROOM, open_code, seal_code};
+use noise_session::Transport;
+
+const TAG_LEN: usize = 16;
+
+// The longest message in bytes (Noise, 3).
+const MAX_LEN: usize = 65535;
+
+/// How many bytes a transport takes in the caller's memory.
+#[unsafe(no_mangle)]
+pub extern "C" fn noise_transport_size() -> usize {
+    std::mem::size_of::<NoiseTransport>()
+}
+
+/// Makes the transport of a handshake whose messages have all passed (Noise, 5.2). The handshake is only read: of one handshake make
+/// one transport, since a second one would seal at the nonces of the first.
+///
+/// The key of a direction is renewed after each `interval` messages (Noise, 11.3); 0 means never.
+#[unsafe(no_mangle)]
+pub extern "C" fn noise_finish(
+    kept: &NoiseHandshake,
+    interval: u64,
+    transport: &mut NoiseTransport,
+) -> u32
+    ensures unusable { result ≡ 23 ↔ (IsUsable kept.now → ⊥) }
+    ensures code { (u : IsUsable kept.now) → result ≡ finish_code (held_in u.pattern kept.now) }
+    ensures stands { result ≡ 0 → (p : Plan) (v : View) → KeepsView kept.now p v
+        → TransportStands (transport_kept_in transport.new) (transport_of v interval) }
+    ensures known { result ≡ 0 → is_party transport.new.party ≡ true }
+    ensures unchanged { 0 < result → transport.new ≡ transport.old }
+    ensures codes { (result ≡ 0) ⊎ (result ≡ 13) ⊎ (result ≡ 19) ⊎ (result ≡ 23) }
+{
+    match opened_of(kept) {
+        Ok(opened) => {
+            *transport = kept_transport(Transport::new(opened, interval));
+            OK
+        }
+        Err(code) => code,
+    }
+}
+
+/// Seals a payload of at most 65519 bytes into the first bytes of `out`, 16 more than it has, and tells how many (Noise, 5.2). `out` must
+/// not overlap the payload.
+///
+/// ROOM where `out` has fewer than 16 bytes more than the payload, looked for first; then ONE_WAY, TOO_LONG and EXHAUSTED. These change
+/// nothing. A copy of the transport that is used beside the original seals twice at one nonce: whoever has both messages learns how their
+/// payloads differ, and can forge others.
+#[unsafe(no_mangle)]
+pub extern "C" fn noise_transport_seal(
+    kept: &mut NoiseTransport,
+    payload: &[u8],
+    out: &mut [u8],
+    told: &mut NoiseTold,
+) -> u32
+    ensures code { result ≡ transport_seal_code kept.old (length payload.now) (length out.old) }
+    ensures place { result ≡ 0 → told.new ≡ record told.old { from = 0; len = length payload.now + 16 } }
+    ensures seals { result ≡ 0 → (v : TransportView) → TransportStands (transport_kept_in kept.old) v
+        → (take (length payload.now + 16) out.new ≡ next_packet v payload.now) × TransportStands (transport_kept_in kept.new) (record v { sent = v.sent + 1 }) }
+    ensures rest { drop (length payload.now + 16) out.new ≡ drop (length payload.now + 16) out.old }
+    ensures counted { result ≡ 0 → transport_kept_in kept.new ≡ record (transport_kept_in kept.old) {
+      send_key = (transport_kept_in kept.new).send_key;
+      send_nonce = kept.old.send_nonce + 1;
+    } }
+    ensures known { result ≡ 0 → is_party kept.new.party ≡ true }
+    ensures unchanged { 0 < result → (kept.new ≡ kept.old) × (out.new ≡ out.old) × (told.new ≡ told.old) }
+    ensures codes { (result ≡ 0) ⊎ (result ≡ 11) ⊎ (result ≡ 17) ⊎ (result ≡ 18) ⊎ (result ≡ 22) ⊎ (result ≡ 23) }
+{
+    let Some(mut transport) = transport_of(kept) else {
+        return STRUCT;
+    };
+    if out.len() < TAG_LEN || out.len() - TAG_LEN < payload.len() {
+        return ROOM;
+    }
+    match transport.seal(payload, out) {
+        Ok(len) => {
+            told.from = 0;
+            told.len = len;
+            *kept = kept_transport(transport);
+            OK
+        }
+        Err(fault) => seal_code(fault),
+    }
+}
+
+/// Opens a message in place, and tells how many first bytes of it are then the payload (Noise, 5.2). The 16 of the tag behind them stay
+/// as they are. At any answer but OK its bytes and the transport are unchanged.
+///
+/// LENGTH where it has more than 65535 bytes; then ONE_WAY, EXHAUSTED, SHORT and TAG are looked for in this order.
+#[unsafe(no_mangle)]
+pub extern "C" fn noise_transport_open(
+    kept: &mut NoiseTransport,
+    message: &mut [u8],
+    told: &mut NoiseTold,
+) -> u32
+    ensures code { MatchOption (transport_open_refusal kept.old (length message.old))
+        ((result ≡ 0) ⊎ (result ≡ open_code (no_packet (length message.old)))) (λ code. result ≡ code) }
+    ensures place { result ≡ 0 → (told.new ≡ record told.old { from = 0; len = told.new.len }) × (told.new.len + 16 ≡ length message.new) }
+    ensures opens { result ≡ 0 → (v : TransportView) → TransportStands (transport_kept_in kept.old) v
+        → (message.old ≡ due_packet v (slice_range message.new told.new.from (told.new.from + told.new.len)))
+        × TransportStands (transport_kept_in kept.new) (record v { received = v.received + 1 }) }
+    ensures forged { (result ≡ 15) ⊎ (result ≡ 16) → (v : TransportView) → TransportStands (transport_kept_in kept.old) v
+        → (payload : List ℕ) → message.old ≢ due_packet v payload }
+    ensures beyond { result ≡ 0 → drop told.new.len message.new ≡ drop told.new.len message.old }
+    ensures counted { result ≡ 0 → transport_kept_in kept.new ≡ record (transport_kept_in kept.old) {
+      receive_key = (transport_kept_in kept.new).receive_key;
+      receive_nonce = kept.old.receive_nonce + 1;
+    } }
+    ensures known { result ≡ 0 → is_party kept.new.party ≡ true }
+    ensures unchanged { 0 < result → (kept.new ≡ kept.old) × (message.new ≡ message.old) × (told.new ≡ told.old) }
+    ensures codes { (result ≡ 0) ⊎ (result ≡ 15) ⊎ (result ≡ 16) ⊎ (result ≡ 17) ⊎ (result ≡ 22) ⊎ (result ≡ 23) ⊎ (result ≡ 24) }
+{
+    let Some(mut transport) = transport_of(kept) else {
+        return STRUCT;
+    };
+    if message.len() > MAX_LEN {
+        return LENGTH;
+    }
+    match transport.open_within(message) {
+        Ok(len) => {
+            told.from = 0;
+            told.len = len;
+            *kept = kept_transport(transport);
+            OK
+        }
+        Err(fault) => open_code(fault),
+    }
+}
+
+/// Tells the nonces of the next message that is sealed and of the next that is opened.
+#[unsafe(no_mangle)]
+pub extern "C" fn noise_transport_nonces(
+    kept: &NoiseTransport,
+    send: &mut u64,
+    receive: &mut u64,
+) -> u32
+    ensures unusable { result ≡ 23 ↔ is_party kept.now.party ≡ false }
+    ensures nonces { result ≡ 0 → (send.new ≡ (transport_kept_in kept.now).send_nonce) × (receive.new ≡ (transport_kept_in kept.now).receive_nonce) }
+    ensures unchanged { 0 < result → (send.new ≡ send.old) × (receive.new ≡ receive.old) }
+    ensures codes { (result ≡ 0) ⊎ (result ≡ 23) }
+{
+    let Some(transport) = transport_of(kept) else {
+        return STRUCT;
+    };
+    *send = transport.send_nonce();
+    *receive = transport.receive_nonce();
+    OK
+}
+
+/// Tells the hash of the whole handshake (Noise, 11.2), 32 bytes.
+#[unsafe(no_mangle)]
+pub extern "C" fn noise_transport_hash(kept: &NoiseTransport, hash: &mut [u8; 32]) -> u32
+    ensures unusable { result ≡ 23 ↔ is_party kept.now.party ≡ false }
+    ensures hash { result ≡ 0 → hash.new ≡ (transport_kept_in kept.now).hash }
+    ensures unchanged { 0 < result → hash.new ≡ hash.old }
+    ensures codes { (result ≡ 0) ⊎ (result ≡ 23) }
+{
+    let Some(transport) = transport_of(kept) else {
+        return STRUCT;
+    };
+    *hash = transport.hash();
+    OK
+}
+
+/// Tells the other party's static public key, 32 bytes: none where the handshake didn't tell it.
+#[unsafe(no_mangle)]
+pub extern "C" fn noise_transport_remote_static(kept: &NoiseTransport, key: &mut NoiseKey) -> u32
+    ensures unusable { result ≡ 23 ↔ is_party kept.now.party ≡ false }
+    ensures key { result ≡ 0 → key_in key.new ≡ (transport_kept_in kept.now).remote_static }
+    ensures unchanged { 0 < result → key.new ≡ key.old }
+    ensures codes { (result ≡ 0) ⊎ (result ≡ 23) }
+{
+    let Some(transport) = transport_of(kept) else {
+        return STRUCT;
+    };
+    *key = kept_key(transport.remote_static());
+    OK
+}
