@@ -1,7 +1,7 @@
 //! The end of a handshake that C keeps.
 #![tactic(auto)]
 
-ghost use Rattle.std.specs.Prelude.{◌≡◌, ◌↔◌, ◌<◌, ◌⊎◌, IfOk, IfErr, MatchResult};
+ghost use Rattle.std.specs.Prelude.{◌≡◌, ◌↔◌, ◌⊎◌, IfOk, IfErr, MatchResult};
 ghost use Rattle.noise_names.specs.Plan.{Plan};
 ghost use Rattle.noise_handshake.specs.View.{View};
 ghost use Rattle.noise_handshake.specs.Opening.{Opens};
@@ -17,7 +17,8 @@ use noise_handshake::Opened;
 // What the handshake leaves once all its messages have passed, else the number of the fault.
 pub(crate) fn opened_of(kept: &NoiseHandshake) -> Result<Opened, u32>
     ensures usable { MatchResult result (λ _. IsUsable kept.now) (λ code. code ≡ 23 ↔ (IsUsable kept.now → ⊥)) }
-    ensures code { (u : IsUsable kept.now) → MatchResult result (λ _. finish_code (held_in u.pattern kept.now) ≡ 0) (λ code. finish_code (held_in u.pattern kept.now) ≡ code) }
+    ensures code { (u : IsUsable kept.now) → MatchResult result (λ _. finish_code (held_in u.pattern kept.now) ≡ 0)
+        (λ code. finish_code (held_in u.pattern kept.now) ≡ code) }
     ensures opens { IfOk result (λ opened. (p : Plan) (v : View) → KeepsView kept.now p v → Opens opened v) }
     ensures codes { IfErr result (λ code. (code ≡ 13) ⊎ (code ≡ 19) ⊎ (code ≡ 23)) }
 {
