@@ -39,7 +39,7 @@
                if (noise_answer(&h, told.of_static, told.remote, answer) != NOISE_OK) fail();
            }
            if (code != NOISE_OK) fail();
-           if (stage.writes_next) send(message, told.len);   // else the payload is message[told.from] and the told.len - 1 bytes behind it
+           if (stage.writes_next) send(message, told.len);   // else the payload is the told.len bytes of message from told.from on
        }
 
    FRAMES. A message doesn't say how long it is. Over a stream send its length in front of it, in two bytes, the higher first (Noise, 13);

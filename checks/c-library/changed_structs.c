@@ -131,7 +131,7 @@ static void use_handshake(const snapshot *s) {
         use_datagrams(&begun, s->message);
     }
     MUST(!memcmp(h, &s->h, sizeof *h));
-    must_be(noise_answer(h, 1, public_key(0, false), public_key(0, true)), CODE(NOISE_STRUCT) | CODE(NOISE_FULL));
+    must_be(noise_answer(h, 1, public_key(0, false), public_key(0, true)), CODE(NOISE_FULL));
 }
 
 static const uint8_t values[] = {0, 1, 2, 9, 200, 255};

@@ -283,7 +283,32 @@ static void check_differences(void) {
     }
 }
 
+// Structs that nothing has begun.
+static void check_unbegun(void) {
+    noise_handshake h = {{0}}, zeros = h;
+    noise_transport t, no_transport = {{0}};
+    noise_datagrams d, no_datagrams = {{0}};
+    noise_told told;
+    noise_stage_told stage;
+    noise_key key;
+    uint8_t hash[32];
+    uint64_t send, receive;
+    size_t len;
+    MUST(noise_read(&h, message, 48, &told) == NOISE_STRUCT && noise_write(&h, payload, 5, message, 99, &told) == NOISE_STRUCT);
+    MUST(noise_message_len(&h, 5, &len) == NOISE_STRUCT && noise_hash(&h, hash) == NOISE_STRUCT);
+    MUST(noise_remote_static(&h, &key) == NOISE_STRUCT && noise_stage(&h, &stage) == NOISE_STRUCT);
+    MUST(noise_finish(&h, 0, &t) == NOISE_STRUCT && noise_finish_datagrams(&h, 64, &d) == NOISE_STRUCT);
+    MUST(is_same(&h, &zeros, sizeof h));
+    t = no_transport, d = no_datagrams;
+    MUST(noise_transport_seal(&t, payload, 5, message, 99, &told) == NOISE_STRUCT && noise_transport_open(&t, message, 48, &told) == NOISE_STRUCT);
+    MUST(noise_transport_nonces(&t, &send, &receive) == NOISE_STRUCT && noise_transport_hash(&t, hash) == NOISE_STRUCT);
+    MUST(noise_transport_remote_static(&t, &key) == NOISE_STRUCT && is_same(&t, &no_transport, sizeof t));
+    MUST(noise_datagrams_seal(&d, payload, 5, message, 99, &told) == NOISE_STRUCT && noise_datagrams_open(&d, message, 48, &told) == NOISE_STRUCT);
+    MUST(noise_datagrams_nonce(&d, &send) == NOISE_STRUCT && is_same(&d, &no_datagrams, sizeof d));
+}
+
 void check_refusals(void) {
+    check_unbegun();
     check_names();
     check_setups();
     check_turns();
