@@ -11,7 +11,7 @@ use Rattle.noise_handshake.specs.View.{View, Accepts}
 use Rattle.noise_handshake.specs.Party.{Stands, behind_message, behind_own, behind_declined, Declines}
 use Rattle.noise_handshake.specs.Writing.{Writes}
 use Rattle.noise_c.specs.declared.kept.NoiseHandshake.{NoiseHandshake}
-use Rattle.noise_c.specs.Kept.{public_in, agreement_in, name_in, held_in, IsPatternOf, KeepsView, WasRead, WasWritten, WasDeclined}
+use Rattle.noise_c.specs.Kept.{public_in, agreement_in, text_in, held_in, IsPatternOf, KeepsView, WasRead, WasWritten, WasDeclined}
 use Rattle.noise_c.specs.Codes.{read_code, token_in}
 
 pub read-pattern : (h : Held Table) (fault : ReadFault) → (behind_read_fault h fault).pattern ≡ h.pattern
@@ -27,8 +27,8 @@ write-pattern h write.NotYourTurn = refl
 write-pattern h write.TooLong = refl
 write-pattern h (write.Agreement token) = refl
 
-module _ (old new : NoiseHandshake) (h h2 : Held Table) (p : Plan) (v : View) (one : (q : Plan) → IsPatternOf (name_in old) q → q ≡ h.pattern) (same : h ≡ held_in h.pattern old)
-    (stays : h2.pattern ≡ h.pattern) (name : name_in new ≡ name_in old) (kept : held_in h2.pattern new ≡ h2) (k : KeepsView old p v) where
+module _ (old new : NoiseHandshake) (h h2 : Held Table) (p : Plan) (v : View) (one : (q : Plan) → IsPatternOf (text_in old) q → q ≡ h.pattern) (same : h ≡ held_in h.pattern old)
+    (stays : h2.pattern ≡ h.pattern) (name : text_in new ≡ text_in old) (kept : held_in h2.pattern new ≡ h2) (k : KeepsView old p v) where
   -- the handshake that was opened stands for the view
   pub opened : Stands public_in agreement_in h v
   opened = subst (λ (z : Held Table). Stands public_in agreement_in z v) (ap (λ (q : Plan). held_in q old) (one p k.pattern) ∙ sym same) k.stands
@@ -56,5 +56,5 @@ module _ (old new : NoiseHandshake) (h h2 : Held Table) (p : Plan) (v : View) (o
   was-written payload message xs w s = record { carried = xs; writes = w; keeps = keeps (behind_own v xs payload) s }
 
 -- a handshake that was opened stands for what is kept
-pub stands-for : (old : NoiseHandshake) (h : Held Table) (p : Plan) (v : View) → ((q : Plan) → IsPatternOf (name_in old) q → q ≡ h.pattern) → h ≡ held_in h.pattern old → KeepsView old p v → Stands public_in agreement_in h v
+pub stands-for : (old : NoiseHandshake) (h : Held Table) (p : Plan) (v : View) → ((q : Plan) → IsPatternOf (text_in old) q → q ≡ h.pattern) → h ≡ held_in h.pattern old → KeepsView old p v → Stands public_in agreement_in h v
 stands-for old h p v one same k = subst (λ (z : Held Table). Stands public_in agreement_in z v) (ap (λ (q : Plan). held_in q old) (one p k.pattern) ∙ sym same) k.stands

@@ -10,7 +10,7 @@ use Rattle.noise_names.specs.Names.{Section, Names}
 use Rattle.noise_names.specs.Plan.{Plan, plain_of}
 use Rattle.noise_names.specs.Fundamental.{fundamental_of}
 use Rattle.noise_names.specs.Limits.{Placed, HavePsksAt, with_psk_tokens, with_psks_from, first_beyond}
-use Rattle.noise_c.specs.Kept.{IsPatternOf}
+use Rattle.noise_c.specs.Kept.{IsNamed}
 
 ok-same : {A : Type 0} {B : Type 0} (a b : A) → ◌≡◌ {A = Result A B} (Ok a) (Ok b) → a ≡ b
 ok-same a b e = cc
@@ -43,7 +43,7 @@ placed-one plain places p q a b =
 
 pub pattern-one : (name : List ℕ) (section : Section) (base places : List ℕ) (plain p q : Plan)
     → ((s : Section) → Names name s → ◌≡◌ {A = Result Section NameFault} (Ok section) (Ok s)) → base ≡ section.base → places ≡ section.places
-    → fundamental_of base ≡ Some plain → Placed plain places p → IsPatternOf name q → q ≡ p
+    → fundamental_of base ≡ Some plain → Placed plain places p → IsNamed name q → q ≡ p
 pattern-one name section base places plain p q every b l known placed h =
     let s : section ≡ h.section = ok-same section h.section (every h.section h.names) in
     let k : fundamental_of base ≡ Some h.plain = ap fundamental_of (b ∙ ap (λ (z : Section). z.base) s) ∙ h.known in
@@ -82,7 +82,7 @@ count-own (m ∷ ms) = ap suc (count-own ms)
 -- the places of a name of a pattern aren't beyond its messages
 pub pattern-fits : (name : List ℕ) (section : Section) (base places : List ℕ) (plain q : Plan) (n : ℕ)
     → ((s : Section) → Names name s → ◌≡◌ {A = Result Section NameFault} (Ok section) (Ok s)) → base ≡ section.base → places ≡ section.places
-    → fundamental_of base ≡ Some plain → first_beyond plain places ≡ Some n → IsPatternOf name q → ⊥
+    → fundamental_of base ≡ Some plain → first_beyond plain places ≡ Some n → IsNamed name q → ⊥
 pattern-fits name section base places plain q n every b l known beyond h =
     let s : section ≡ h.section = ok-same section h.section (every h.section h.names) in
     let k : fundamental_of base ≡ Some h.plain = ap fundamental_of (b ∙ ap (λ (z : Section). z.base) s) ∙ h.known in

@@ -1,9 +1,11 @@
 -- What the memory that C keeps stands for.
-use Rattle.std.specs.Prelude.{◌≡◌, ℕ, ◌≤◌, ◌==◌, not, List, [], ◌∷◌, ◌++◌, take, map, Option, Some, None, if◌then◌else◌}
+use Rattle.std.specs.Prelude.{◌≡◌, ◌⊎◌, ℕ, ◌≤◌, ◌==◌, nat_eq, nat_lt, Bool, true, false, not, List, [], ◌∷◌, ◌++◌, length, take, map, Option, Some, None, if◌then◌else◌}
+use Rattle.std.specs.List.{ends_with}
 use Rattle.noise_names.specs.declared.token.Role.{Role}
 use Rattle.noise_names.specs.declared.token.Role.TheVariants.{Initiator, Responder}
 use Rattle.noise_names.specs.Names.{Section, Names}
 use Rattle.noise_names.specs.Plan.{Plan}
+use Rattle.noise_names.specs.Text.{Spells}
 use Rattle.noise_names.specs.Fundamental.{fundamental_of}
 use Rattle.noise_names.specs.Limits.{Placed}
 use Rattle.noise_names.specs.Validity.{IsValid}
@@ -11,18 +13,22 @@ use Rattle.noise_state.specs.Standing.{state_of}
 use Rattle.noise_handshake.specs.declared.keys.Own.{Own}
 use Rattle.noise_handshake.specs.declared.keys.Own.TheVariants.{Ephemeral, Static}
 use Rattle.noise_handshake.specs.declared.faults.ReadFault.{ReadFault}
+use Rattle.noise_handshake.specs.declared.faults.SetupFault.{SetupFault}
+use Rattle.noise_handshake.specs.declared.faults.WriteFault.{WriteFault}
+use Rattle.noise_handshake.specs.declared.remote.Remote.{Remote}
 use Rattle.noise_handshake.specs.Keys.{key_of}
 use Rattle.noise_handshake.specs.Table.{Table, TableEntry, answer_in}
 use Rattle.noise_handshake.specs.Held.{Held}
 use Rattle.noise_handshake.specs.Parts.{IsWhole}
-use Rattle.noise_handshake.specs.Setup.{begun}
+use Rattle.noise_handshake.specs.Setup.{begun, setup_fault}
 use Rattle.noise_handshake.specs.View.{View, Accepts}
 use Rattle.noise_handshake.specs.Writing.{Writes}
-use Rattle.noise_handshake.specs.Party.{Stands, behind_message, behind_own, Declines, behind_declined}
+use Rattle.noise_handshake.specs.Party.{Stands, behind_message, behind_own, Declines, behind_declined, Withholds}
 use Rattle.noise_c.specs.declared.kept.NoiseKey.{NoiseKey}
 use Rattle.noise_c.specs.declared.kept.NoiseAnswer.{NoiseAnswer}
 use Rattle.noise_c.specs.declared.kept.NoiseHandshake.{NoiseHandshake}
-use Rattle.noise_c.specs.Codes.{read_code, token_in}
+use Rattle.noise_c.specs.declared.kept.NoiseSetup.{NoiseSetup}
+use Rattle.noise_c.specs.Codes.{read_code, token_in, write_code, setup_code}
 
 -- a key, if there is one
 abbrev pub key_in : NoiseKey → Option (List ℕ)
@@ -47,16 +53,48 @@ public_in t own = key_of own t.e t.s
 abbrev pub agreement_in : Table → Own → List ℕ → Option (List ℕ)
 agreement_in t own remote = answer_in t.entries own remote
 
-abbrev pub name_in : NoiseHandshake → List ℕ
-name_in k = take k.name_len k.name
+abbrev pub text_in : NoiseHandshake → List ℕ
+text_in k = take k.text_len k.text
 
 -- the pattern of a protocol name (8): a fundamental one (7.4 and 7.5), with psk tokens at the name's places (9.4)
-pub record IsPatternOf (name : List ℕ) (p : Plan) : Type 0 where
+pub record IsNamed (name : List ℕ) (p : Plan) : Type 0 where
   pub section : Section
   pub names : Names name section
   pub plain : Plan
   pub known : fundamental_of section.base ≡ Some plain
   pub placed : Placed plain section.places p
+
+-- whether these bytes are a pattern text and no protocol name: the last one is a line feed
+abbrev pub is_text : List ℕ → Bool
+is_text bytes = ends_with nat_eq bytes (10 ∷ [])
+
+-- the pattern of a pattern text (7.1), or else of a protocol name
+abbrev pub IsOfKind : Bool → List ℕ → Plan → Type 0
+IsOfKind true bytes p = Spells bytes p
+IsOfKind false bytes p = IsNamed bytes p
+
+abbrev pub IsPatternOf : List ℕ → Plan → Type 0
+IsPatternOf bytes p = IsOfKind (is_text bytes) bytes p
+
+-- neither a pattern text nor a protocol name of a pattern
+pub record IsNoName (bytes : List ℕ) : Type 0 where
+  pub name : is_text bytes ≡ false
+  pub none : (p : Plan) → IsPatternOf bytes p → ⊥
+
+-- a pattern text that spells no pattern
+pub record IsNoText (bytes : List ℕ) : Type 0 where
+  pub text : is_text bytes ≡ true
+  pub none : (p : Plan) → IsPatternOf bytes p → ⊥
+
+-- of a pattern that isn't valid (7.3, 9.3)
+pub record IsNotValid (bytes : List ℕ) : Type 0 where
+  pub pattern : Plan
+  pub named : IsPatternOf bytes pattern
+  pub broken : IsValid pattern → ⊥
+
+-- why these bytes are of no valid pattern: NAME or PATTERN
+abbrev pub IsPatternFault : List ℕ → ℕ → Type 0
+IsPatternFault bytes code = ((code ≡ 1) × IsNoName bytes) ⊎ ((code ≡ 2) × (IsNoText bytes ⊎ IsNotValid bytes))
 
 -- the handshake
 abbrev pub held_in : Plan → NoiseHandshake → Held Table
@@ -71,18 +109,19 @@ held_in p k = record {
   state = state_of (record { chaining_key = k.chaining_key; hash = k.hash; key = key_in k.cipher; nonce = k.nonce });
 }
 
--- A call has left this: no more answers and secrets than there is room for, and what a handshake of the named pattern may hold.
+-- A call has left this: no more text, answers and secrets than there is room for, and what a handshake of the named pattern may hold.
 pub record IsUsable (k : NoiseHandshake) : Type 0 where
+  pub text : k.text_len ≤ 416
   pub answers : k.answer_count ≤ 8
   pub secrets : k.secret_count ≤ 9
   pub pattern : Plan
-  pub named : IsPatternOf (name_in k) pattern
+  pub named : IsPatternOf (text_in k) pattern
   pub valid : IsValid pattern
   pub whole : IsWhole public_in (held_in pattern k)
 
 -- What C keeps stands for the view, by a pattern of its name.
 pub record KeepsView (k : NoiseHandshake) (p : Plan) (v : View) : Type 0 where
-  pub pattern : IsPatternOf (name_in k) p
+  pub pattern : IsPatternOf (text_in k) p
   pub stands : Stands public_in agreement_in (held_in p k) v
 
 -- The payload was accepted, and what is kept stands for the view behind the message.
@@ -99,6 +138,12 @@ pub record WasDeclined (p : Plan) (v : View) (message : List ℕ) (code token : 
   pub declines : Declines v message fault
   pub keeps : KeepsView k p (behind_declined v fault)
 
+-- A payload of this length was withheld for a fault of this number.
+pub record WasWithheld (v : View) (payload code : ℕ) : Type 0 where
+  pub fault : WriteFault
+  pub code_is : code ≡ write_code fault
+  pub withholds : Withholds v payload fault
+
 -- The payload was written as this message, and what is kept stands for the view behind it.
 pub record WasWritten (p : Plan) (v : View) (payload message : List ℕ) (k : NoiseHandshake) : Type 0 where
   pub carried : List (List ℕ)
@@ -107,17 +152,42 @@ pub record WasWritten (p : Plan) (v : View) (payload message : List ℕ) (k : No
 
 -- what is kept has this answer behind the others, and is otherwise as it was
 pub record IsAdded (old new : NoiseHandshake) (entry : TableEntry) : Type 0 where
-  pub name : name_in new ≡ name_in old
+  pub text : text_in new ≡ text_in old
   pub held : (p : Plan) → held_in p new
       ≡ record (held_in p old) { keys = record (table_in old) { entries = (table_in old).entries ++ entry ∷ [] } }
 
--- a key that is handed in as its bytes, or as none
-abbrev pub given_in : List ℕ → Option (List ℕ)
-given_in [] = None
-given_in (b ∷ bs) = Some (b ∷ bs)
+-- the public keys that are handed in, with no answer yet
+abbrev pub table_of : NoiseSetup → Table
+table_of setup = record { e = key_in setup.e; s = key_in setup.s; entries = [] }
 
--- the view at the start, with no answer yet
-abbrev pub begun_in : Plan → ℕ → List ℕ → List ℕ → List ℕ → List ℕ → List ℕ → List (List ℕ) → View
-begun_in p responder prologue e s remote_e remote_s psks =
-    let table : Table = record { e = given_in e; s = given_in s; entries = [] } in
-    begun p (role_in responder) prologue (public_in table) (agreement_in table) (record { e = given_in remote_e; s = given_in remote_s }) psks
+abbrev pub remote_of : NoiseSetup → Remote
+remote_of setup = record { e = key_in setup.remote_e; s = key_in setup.remote_s }
+
+-- the secrets that are handed in
+abbrev pub psks_in : NoiseSetup → List (List ℕ)
+psks_in setup = take setup.psk_count setup.psks
+
+-- the view at the start
+abbrev pub begun_in : Plan → List ℕ → NoiseSetup → View
+begun_in p prologue setup =
+    begun p (role_in setup.responder) prologue (public_in (table_of setup)) (agreement_in (table_of setup)) (remote_of setup)
+    (psks_in setup)
+
+-- what is wrong with what is handed in
+abbrev pub fault_in : Plan → NoiseSetup → Option SetupFault
+fault_in p setup = setup_fault p (role_in setup.responder) (public_in (table_of setup)) (remote_of setup) (length (psks_in setup))
+
+abbrev pub code_of : Option SetupFault → ℕ
+code_of None = 0
+code_of (Some fault) = setup_code fault
+
+-- the number that a start with a valid pattern answers: LENGTH, PSK_COUNT for more than there is room for, the fault of the setup, or OK
+abbrev pub start_code : Plan → List ℕ → NoiseSetup → ℕ
+start_code p prologue setup =
+    if nat_lt 65535 (length prologue) then 24
+    else if nat_lt 9 setup.psk_count then 8
+    else code_of (fault_in p setup)
+
+-- one of the numbers of a start
+abbrev pub IsStartCode : ℕ → Type 0
+IsStartCode n = (n ≡ 0) ⊎ (n ≡ 1) ⊎ (n ≡ 2) ⊎ ((4 ≤ n) × (n ≤ 8)) ⊎ (n ≡ 24)

@@ -8,6 +8,10 @@ use noise_handshake::{Cause, ReadFault, SetupFault, WriteFault};
 
 pub(crate) const OK: u32 = 0;
 
+pub(crate) const NAME: u32 = 1;
+
+pub(crate) const PATTERN: u32 = 2;
+
 pub(crate) const EPHEMERAL_MISSING: u32 = 4;
 
 pub(crate) const STATIC_MISSING: u32 = 5;

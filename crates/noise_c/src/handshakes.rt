@@ -17,7 +17,7 @@ const MAX_LEN: usize = 65535;
 
 /// How many bytes a handshake takes in the caller's memory.
 #[unsafe(no_mangle)]
-pub extern "C" fn noise_size() -> usize {
+pub extern "C" fn noise_handshake_size() -> usize {
     std::mem::size_of::<NoiseHandshake>()
 }
 

@@ -1,12 +1,14 @@
 //! From what C keeps to a handshake, and back.
 #![tactic(auto)]
 
-ghost use Rattle.std.specs.Prelude.{◌≡◌, ◌≤◌, ◌+◌, ◌++◌, ◌↔◌, length, take, map, IfSome, IsSome};
+ghost use Rattle.std.specs.Prelude.{◌≡◌, ◌≤◌, ◌+◌, ◌++◌, ◌↔◌, length, take, map, IfSome, IsSome, IfOk, IfErr, IsOk};
 ghost use Rattle.noise_handshake.specs.Parts.{held_of, IsWhole};
 ghost use Rattle.noise_names.specs.Plan.{Plan};
+ghost use Rattle.noise_names.specs.Text.{Spells};
 ghost use Rattle.noise_names.specs.Validity.{IsValid};
-ghost use Rattle.noise_c.specs.Kept.{key_in, own_in, role_in, entry_in, table_in, public_in, name_in, held_in, IsPatternOf, IsUsable};
+ghost use Rattle.noise_c.specs.Kept.{key_in, own_in, role_in, entry_in, table_in, public_in, text_in, held_in, IsNamed, IsPatternOf, IsPatternFault, is_text, IsUsable};
 
+use crate::codes::{NAME, PATTERN};
 use crate::kept::{NoiseAnswer, NoiseHandshake, NoiseKey};
 use arrayvec::ArrayVec;
 use noise_handshake::{Handshake, Own, Parts, Remote, TableKeys};
@@ -58,12 +60,13 @@ pub(crate) fn role_of(responder: u8) -> Role
 }
 
 // The pattern of a protocol name.
-pub(crate) fn named(name: &[u8]) -> Option<ValidPattern>
-    ensures named { IfSome result (λ p. IsPatternOf name.now p) }
-    ensures valid { IfSome result (λ p. IsValid p) }
-    ensures one { IfSome result (λ p. (q : Plan) → IsPatternOf name.now q → q ≡ p) }
-    ensures found { (q : Plan) → IsPatternOf name.now q → IsValid q → IsSome result }
+fn named(name: &[u8]) -> Option<Pattern>
+    ensures named { IfSome result (λ p. IsNamed name.now p) }
+    ensures one { IfSome result (λ p. (q : Plan) → IsNamed name.now q → q ≡ p) }
+    ensures found { (q : Plan) → IsNamed name.now q → IsSome result }
+    ensures short { IsSome result → length name.now ≤ 82 }
 {
+    ProtocolName::names_are_short();
     let Ok(name) = ProtocolName::parse(name) else {
         return None;
     };
@@ -71,11 +74,62 @@ pub(crate) fn named(name: &[u8]) -> Option<ValidPattern>
         return None;
     };
     match Pattern::with_psks(&plain, name.places()) {
-        Ok(pattern) => match pattern.check() {
-            Ok(valid) => Some(valid),
-            Err(_) => None,
-        },
+        Ok(pattern) => Some(pattern),
         Err(_) => None,
+    }
+}
+
+// The pattern of a pattern text.
+fn spelled(text: &[u8]) -> Option<Pattern>
+    ensures spelled { IfSome result (λ p. Spells text.now p) }
+    ensures one { IfSome result (λ p. (q : Plan) → Spells text.now q → q ≡ p) }
+    ensures found { (q : Plan) → Spells text.now q → IsSome result }
+    ensures short { IsSome result → length text.now ≤ 413 }
+{
+    Pattern::texts_are_short();
+    Pattern::texts_are_unique();
+    match Pattern::parse_text(text) {
+        Ok(pattern) => Some(pattern),
+        Err(_) => None,
+    }
+}
+
+// Whether these bytes are a pattern text: the last one is a line feed.
+fn is_text(bytes: &[u8]) -> bool
+    ensures { result ≡ is_text bytes.now }
+{
+    bytes.ends_with(b"\n")
+}
+
+// The pattern of a pattern text or of a protocol name.
+fn found(bytes: &[u8]) -> Option<Pattern>
+    ensures named { IfSome result (λ p. IsPatternOf bytes.now p) }
+    ensures one { IfSome result (λ p. (q : Plan) → IsPatternOf bytes.now q → q ≡ p) }
+    ensures found { (q : Plan) → IsPatternOf bytes.now q → IsSome result }
+    ensures short { IsSome result → length bytes.now ≤ 413 }
+{
+    if is_text(bytes) {
+        spelled(bytes)
+    } else {
+        named(bytes)
+    }
+}
+
+// The same, if it is valid. Else the number of the fault: NAME or PATTERN.
+pub(crate) fn pattern_of(bytes: &[u8]) -> Result<ValidPattern, u32>
+    ensures named { IfOk result (λ p. IsPatternOf bytes.now p) }
+    ensures valid { IfOk result (λ p. IsValid p) }
+    ensures one { IfOk result (λ p. (q : Plan) → IsPatternOf bytes.now q → q ≡ p) }
+    ensures found { (q : Plan) → IsPatternOf bytes.now q → IsValid q → IsOk result }
+    ensures short { IfOk result (λ _. length bytes.now ≤ 413) }
+    ensures fault { IfErr result (λ code. IsPatternFault bytes.now code) }
+{
+    let Some(pattern) = found(bytes) else {
+        return Err(if is_text(bytes) { PATTERN } else { NAME });
+    };
+    match pattern.check() {
+        Ok(valid) => Ok(valid),
+        Err(_) => Err(PATTERN),
     }
 }
 
@@ -137,17 +191,20 @@ fn parts_of(kept: &NoiseHandshake, pattern: ValidPattern) -> Parts<TableKeys>
 // The handshake of what C keeps, if a call has left it.
 pub(crate) fn handshake_of(kept: &NoiseHandshake) -> Option<Handshake<TableKeys>>
     ensures usable { IsSome result ↔ IsUsable kept.now }
-    ensures named { IfSome result (λ h. IsPatternOf (name_in kept.now) h.pattern) }
-    ensures one { IfSome result (λ h. (q : Plan) → IsPatternOf (name_in kept.now) q → q ≡ h.pattern) }
+    ensures named { IfSome result (λ h. IsPatternOf (text_in kept.now) h.pattern) }
+    ensures one { IfSome result (λ h. (q : Plan) → IsPatternOf (text_in kept.now) q → q ≡ h.pattern) }
     ensures same { IfSome result (λ h. h ≡ held_in h.pattern kept.now) }
 {
+    if kept.text_len > 416 {
+        return None;
+    }
     if kept.answer_count > 8 {
         return None;
     }
     if kept.secret_count > 9 {
         return None;
     }
-    let Some(pattern) = named(&kept.name[..kept.name_len as usize]) else {
+    let Ok(pattern) = pattern_of(&kept.text[..kept.text_len as usize]) else {
         return None;
     };
     Handshake::from_parts(parts_of(kept, pattern))
@@ -155,11 +212,12 @@ pub(crate) fn handshake_of(kept: &NoiseHandshake) -> Option<Handshake<TableKeys>
 
 // Keeps what a message has changed.
 pub(crate) fn keep(kept: &mut NoiseHandshake, handshake: Handshake<TableKeys>)
+    requires text { kept.old.text_len ≤ 416 }
     requires answers { kept.old.answer_count ≤ 8 }
     requires keys { handshake.keys ≡ table_in kept.old }
     requires role { handshake.role ≡ role_in kept.old.responder }
-    requires named { IsPatternOf (name_in kept.old) handshake.pattern }
-    ensures name { name_in kept.new ≡ name_in kept.old }
+    requires named { IsPatternOf (text_in kept.old) handshake.pattern }
+    ensures text { text_in kept.new ≡ text_in kept.old }
     ensures same { held_in handshake.pattern kept.new ≡ handshake }
     ensures usable { IsUsable kept.new }
 {
@@ -170,7 +228,8 @@ fn keep_parts(kept: &mut NoiseHandshake, parts: Parts<TableKeys>)
     requires keys { parts.keys ≡ table_in kept.old }
     requires role { parts.role ≡ role_in kept.old.responder }
     ensures valid { IsValid parts.pattern }
-    ensures name { name_in kept.new ≡ name_in kept.old }
+    ensures text { kept.new.text_len ≡ kept.old.text_len }
+    ensures bytes { kept.new.text ≡ kept.old.text }
     ensures answers { kept.new.answer_count ≡ kept.old.answer_count }
     ensures secrets { kept.new.secret_count ≤ 9 }
     ensures same { held_in parts.pattern kept.new ≡ held_of parts }

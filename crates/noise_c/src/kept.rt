@@ -18,12 +18,12 @@ pub struct NoiseAnswer {
     pub answer: [u8; 32],
 }
 
-/// A handshake of one party: the initiator where `responder` is 0.
+/// A handshake of one party: the initiator where `responder` is 0. The text is that of its pattern, or its protocol name.
 #[repr(C)]
 #[derive(Clone, Copy)]
 pub struct NoiseHandshake {
-    pub name: [u8; 255],
-    pub name_len: u8,
+    pub text: [u8; 416],
+    pub text_len: u16,
     pub responder: u8,
     pub ended: u8,
     pub passed: u8,
@@ -39,6 +39,20 @@ pub struct NoiseHandshake {
     pub hash: [u8; 32],
     pub cipher: NoiseKey,
     pub nonce: u64,
+}
+
+/// What a handshake of one party starts from, beside its pattern and its prologue: the role, the initiator's where `responder`
+/// is 0; the public keys of its own, and those of the other party's pre-message; and a secret for each psk token, in their order.
+#[repr(C)]
+#[derive(Clone, Copy)]
+pub struct NoiseSetup {
+    pub responder: u8,
+    pub e: NoiseKey,
+    pub s: NoiseKey,
+    pub remote_e: NoiseKey,
+    pub remote_s: NoiseKey,
+    pub psk_count: u8,
+    pub psks: [[u8; 32]; 9],
 }
 
 /// What a call tells beside its number: where a payload stands in a message that was read, or how long a message is that was

@@ -38,6 +38,7 @@ impl Model for ProtocolName {
 }
 
 impl ProtocolName {
+    ghost use Rattle.std.specs.Prelude.{ℕ, List};
     ghost use Rattle.noise_names.specs.Names.{Section, Names, IsFirstNameFault, is_base};
 
     /// The protocol name that the bytes are (Noise, 8), with any psk modifiers (9.4). A name has at most 255 bytes:
@@ -50,6 +51,11 @@ impl ProtocolName {
     {
         read_name(bytes)
     }
+
+    /// A protocol name has at most 82 bytes. It does nothing: its contract is the law.
+    pub fn names_are_short()
+        ensures { (bytes : List ℕ) (name : Section) → Names bytes name → length bytes ≤ 82 }
+    {}
 
     // The name of a base and its psk places.
     pub(crate) fn of(base: &[u8], places: PskPlaces) -> ProtocolName

@@ -42,4 +42,9 @@ impl Pattern {
     pub fn texts_are_unique()
         ensures { (text : List ℕ) (p q : Plan) → Spells text p → Spells text q → p ≡ q }
     {}
+
+    /// A pattern text has at most 413 bytes. It does nothing: its contract is the law.
+    pub fn texts_are_short()
+        ensures { (text : List ℕ) (p : Plan) → Spells text p → length text ≤ 413 }
+    {}
 }

@@ -16,10 +16,10 @@ pub returns-in-Ok-clause-accepted : goal.returns-in-Ok-clause-accepted
 returns-in-Ok-clause-accepted c e p v k =
     let stays : c.read_within.new.self.pattern ≡ c.in-Some.handshake.pattern = c.in-Ok.ensures.state.pattern in
     let s = opened c.args.kept.now c.keep.new.kept c.in-Some.handshake c.read_within.new.self p v c.in-Some.ensures.one c.in-Some.ensures.same stays
-    c.keep.ensures.name c.keep.ensures.same k in
+    c.keep.ensures.text c.keep.ensures.same k in
     let r = c.in-Ok.ensures.reads v s in
     was-read c.args.kept.now c.keep.new.kept c.in-Some.handshake c.read_within.new.self p v c.in-Some.ensures.one c.in-Some.ensures.same stays
-    c.keep.ensures.name c.keep.ensures.same k
+    c.keep.ensures.text c.keep.ensures.same k
     c.args.message.now c.read_within.new.message c.in-Ok.start c.in-Ok.end c.in-Ok.ensures.range.0 r.0 r.1 r.2
 
 -- the fault of that number
@@ -57,8 +57,8 @@ returns-else-code-eq-AGREEMENT-clause-declined c e f p v k =
     let stays : c.read_within.new.self.pattern ≡ c.in-Some.handshake.pattern =
     ap (λ (z : Held Table). z.pattern) c.in-Err.ensures.state ∙ read-pattern c.in-Some.handshake c.in-Err.fault in
     let s = opened c.args.kept.now c.keep-in-Err.new.kept c.in-Some.handshake c.read_within.new.self p v c.in-Some.ensures.one c.in-Some.ensures.same stays
-    c.keep-in-Err.ensures.name c.keep-in-Err.ensures.same k in
+    c.keep-in-Err.ensures.text c.keep-in-Err.ensures.same k in
     let r = c.in-Err.ensures.reads v s in
     was-declined c.args.kept.now c.keep-in-Err.new.kept c.in-Some.handshake c.read_within.new.self p v c.in-Some.ensures.one c.in-Some.ensures.same stays
-    c.keep-in-Err.ensures.name c.keep-in-Err.ensures.same k
+    c.keep-in-Err.ensures.text c.keep-in-Err.ensures.same k
     c.args.message.now c.in-Err.fault c.read_code-code.result.0 c.read_code-code.result.1 c.read_code-code.ensures.code c.read_code-code.ensures.token r.0 r.1

@@ -1,22 +1,14 @@
-use Rattle.std.proofs.Common.{◌≡◌, sym, ◌∙◌, subst}
+use Rattle.std.proofs.Common.{◌≡◌, sym, ◌∙◌}
 use Rattle.noise_names.specs.Plan.{Plan}
-use Rattle.noise_names.specs.Validity.{IsValid}
 use Rattle.noise_c.proofs.Named.{pattern-one, pattern-fits}
 use Rattle.noise_c.proofs.held.named.Goals as goal
 
-pub returns-in-Ok-check-clause-one : goal.returns-in-Ok-check-clause-one
-returns-in-Ok-check-clause-one c q h =
+pub returns-in-Ok-with_psks-clause-one : goal.returns-in-Ok-with_psks-clause-one
+returns-in-Ok-with_psks-clause-one c q h =
     pattern-one c.args.name.now c.in-Ok.name c.base.result.now c.places.result.now c.in-Some.plain c.in-Ok-with_psks.pattern q
-    c.in-Ok.ensures.every c.base.ensures.same c.places.ensures (sym c.in-Some.ensures.same) c.in-Ok-with_psks.ensures.placed h ∙ sym c.in-Ok-check.ensures.same
-
-pub returns-in-Err-check-clause-found : goal.returns-in-Err-check-clause-found
-returns-in-Err-check-clause-found c q h valid =
-    let e : q ≡ c.in-Ok-with_psks.pattern =
-    pattern-one c.args.name.now c.in-Ok.name c.base.result.now c.places.result.now c.in-Some.plain c.in-Ok-with_psks.pattern q
-    c.in-Ok.ensures.every c.base.ensures.same c.places.ensures (sym c.in-Some.ensures.same) c.in-Ok-with_psks.ensures.placed h in
-    c.in-Err-check.ensures.valid.1 (subst (λ (z : Plan). IsValid z) e valid)
+    c.in-Ok.ensures.every c.base.ensures.same c.places.ensures (sym c.in-Some.ensures.same) c.in-Ok-with_psks.ensures.placed h
 
 pub returns-in-Err-clause-found : goal.returns-in-Err-clause-found
-returns-in-Err-clause-found c q h valid =
+returns-in-Err-clause-found c q h =
     absurd (pattern-fits c.args.name.now c.in-Ok.name c.base.result.now c.places.result.now c.in-Some.plain q _
     c.in-Ok.ensures.every c.base.ensures.same c.places.ensures (sym c.in-Some.ensures.same) c.in-Err.ensures.fault h)

@@ -1,0 +1,7 @@
+use Rattle.std.proofs.Common.{subst}
+use Rattle.noise_names.specs.Plan.{Plan}
+use Rattle.noise_names.specs.Validity.{IsValid}
+use Rattle.noise_c.proofs.held.pattern_of.Goals as goal
+
+pub returns-in-Err-clause-found : goal.returns-in-Err-clause-found
+returns-in-Err-clause-found c q h valid = c.in-Err.ensures.valid.1 (subst (λ (z : Plan). IsValid z) (c.in-Some.ensures.one q h) valid)
