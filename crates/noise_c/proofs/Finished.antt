@@ -5,7 +5,7 @@ use Rattle.noise_names.specs.Plan.{Plan}
 use Rattle.noise_handshake.specs.Held.{Held}
 use Rattle.noise_handshake.specs.Table.{Table}
 use Rattle.noise_c.specs.declared.kept.NoiseHandshake.{NoiseHandshake}
-use Rattle.noise_c.specs.Kept.{name_in, held_in, IsPatternOf, IsUsable}
+use Rattle.noise_c.specs.Kept.{held_in}
 use Rattle.noise_c.specs.KeptTransport.{finish_code}
 
 pub finish-done : (h : Held Table) → h.ended ≡ false → h.passed ≡ length h.pattern.messages → finish_code h ≡ 0
@@ -20,7 +20,6 @@ finish-ended h e = grind (arith, nat_tests)
 pub contrary : false ≡ true → ⊥
 contrary e = cc
 
--- the handshake that was opened is what is kept, by the pattern of any test
-pub kept-by : (k : NoiseHandshake) (h : Held Table) → ((q : Plan) → IsPatternOf (name_in k) q → q ≡ h.pattern) → h ≡ held_in h.pattern k
-    → (u : IsUsable k) → held_in u.pattern k ≡ h
-kept-by k h one same u = ap (λ (q : Plan). held_in q k) (one u.pattern u.named) ∙ sym same
+-- the handshake that was opened is what is kept, by its pattern
+pub kept-by : (k : NoiseHandshake) (h : Held Table) (p : Plan) → p ≡ h.pattern → h ≡ held_in h.pattern k → held_in p k ≡ h
+kept-by k h p one same = ap (λ (q : Plan). held_in q k) one ∙ sym same

@@ -33,8 +33,11 @@ pub extern "C" fn noise_datagrams_size() -> usize {
 /// Makes the datagrams of a handshake whose messages have all passed (Noise, 11.4): none is sealed or opened yet. The handshake is only
 /// read: of one handshake make one transport or one of these, since a second one would seal at the nonces of the first.
 ///
-/// The window has 64, 256 or 1024 nonces: a datagram is opened that comes fewer nonces behind the greatest one. WINDOW at another number,
-/// looked for first.
+/// The window has 64, 256 or 1024 nonces: a datagram is opened once whose nonce is less than so many below the greatest one that was
+/// opened. The keys are never renewed.
+///
+/// WINDOW at another number, looked for first; ENDED where the handshake has ended, NOT_DONE where messages are still to come: the memory
+/// of the datagrams is unchanged then.
 #[unsafe(no_mangle)]
 pub extern "C" fn noise_finish_datagrams(
     kept: &NoiseHandshake,

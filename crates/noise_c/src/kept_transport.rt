@@ -9,8 +9,8 @@ use crate::kept::NoiseKey;
 use noise_names::Role;
 use noise_session::{Transport, TransportParts};
 
-/// A transport of one party: of the initiator where `party` is 1, of the responder where it is 2; none at any other number.
-/// `include/noise.h` declares the same as aligned bytes.
+/// A transport of one party: of the initiator where `party` is 1, of the responder where it is 2; none at any other number, so that
+/// memory of zeros is answered by STRUCT. `include/noise.h` declares the same as aligned bytes.
 #[repr(C)]
 #[derive(Clone, Copy)]
 pub struct NoiseTransport {

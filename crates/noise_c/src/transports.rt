@@ -31,7 +31,8 @@ pub extern "C" fn noise_transport_size() -> usize {
 /// Makes the transport of a handshake whose messages have all passed (Noise, 5.2). The handshake is only read: of one handshake make
 /// one transport, since a second one would seal at the nonces of the first.
 ///
-/// The key of a direction is renewed after each `interval` messages (Noise, 11.3); 0 means never.
+/// The key of a direction is renewed after each `interval` messages (Noise, 11.3); 0 means never. ENDED where the handshake has ended,
+/// NOT_DONE where messages are still to come: the transport's memory is unchanged then.
 #[unsafe(no_mangle)]
 pub extern "C" fn noise_finish(
     kept: &NoiseHandshake,
@@ -101,7 +102,8 @@ pub extern "C" fn noise_transport_seal(
 /// Opens a message in place, and tells how many first bytes of it are then the payload (Noise, 5.2). The 16 of the tag behind them stay
 /// as they are. At any answer but OK its bytes and the transport are unchanged.
 ///
-/// LENGTH where it has more than 65535 bytes; then ONE_WAY, EXHAUSTED, SHORT and TAG are looked for in this order.
+/// LENGTH where it has more than 65535 bytes; then ONE_WAY, EXHAUSTED, SHORT (fewer than the 16 of a tag) and TAG are looked for in this
+/// order. A message that isn't opened takes no nonce.
 #[unsafe(no_mangle)]
 pub extern "C" fn noise_transport_open(
     kept: &mut NoiseTransport,

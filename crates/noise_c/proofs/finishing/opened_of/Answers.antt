@@ -11,7 +11,7 @@ pub returns-in-Ok-clause-code : goal.returns-in-Ok-clause-code
 returns-in-Ok-clause-code c u =
     let h = c.in-Some.handshake in
     let w = c.in-Ok.ensures.when.0 refl in
-    ap finish_code (kept-by c.args.kept.now h c.in-Some.ensures.one c.in-Some.ensures.same u) ∙ finish-done h w.0 w.1
+    ap finish_code (kept-by c.args.kept.now h u.pattern (c.in-Some.ensures.one u.pattern u.named) c.in-Some.ensures.same) ∙ finish-done h w.0 w.1
 
 pub returns-in-Ok-clause-opens : goal.returns-in-Ok-clause-opens
 returns-in-Ok-clause-opens c p v k =
@@ -21,5 +21,5 @@ pub returns-in-Err-2-clause-code : goal.returns-in-Err-2-clause-code
 returns-in-Err-2-clause-code c u =
     let h = c.in-Some.handshake in
     let going : h.ended ≡ false = ap (λ (z : Held Table). z.ended) c.in-Some.ensures.same ∙ grind (arith, nat_tests, c.if-kept-ne0.false) in
-    ap finish_code (kept-by c.args.kept.now h c.in-Some.ensures.one c.in-Some.ensures.same u)
+    ap finish_code (kept-by c.args.kept.now h u.pattern (c.in-Some.ensures.one u.pattern u.named) c.in-Some.ensures.same)
     ∙ finish-early h going (λ n. contrary (c.in-Err-2.ensures.when.1 (going, n)))
