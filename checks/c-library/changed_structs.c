@@ -3,7 +3,7 @@
 // touched, so that a read or a write beyond it stops the check.
 #include "ends.h"
 
-enum { MOST = 300, SNAPSHOTS = 40, RANDOM_ROUNDS = 3000 };
+enum { MOST = 300, SNAPSHOTS = 40, RANDOM_ROUNDS = 1000 };
 
 // What a party had when a call was to be made, with all answers handed in.
 typedef struct {
@@ -294,7 +294,7 @@ void check_changed_structs(void) {
         unsigned count = run_of(&plans[i], at);
         stages += count;
         for (unsigned n = 0; n < count; n++) {
-            try_bytes(&at[n]);
+            if (i == 0 || n % 2) try_bytes(&at[n]);      // each stage of XX, and the others' before each read
             try_random(&at[n]);
         }
         try_filled(&at[0]);
