@@ -94,7 +94,7 @@ static void read_with(const snapshot *s) {
         MUST(told->from <= s->len && told->len <= s->len - told->from);
     else
         MUST(!memcmp(message, s->message, s->len));
-    if (!is_in(code, CODE(NOISE_OK) | CODE(NOISE_SHORT) | CODE(NOISE_TAG))) MUST(!memcmp(h, &s->h, sizeof *h));
+    if (is_in(code, CODE(NOISE_STRUCT) | CODE(NOISE_WANTED))) MUST(!memcmp(h, &s->h, sizeof *h));
 }
 
 static void write_with(const snapshot *s, size_t room) {
