@@ -1,3 +1,4 @@
 pub mod Keeps
 pub mod Named
 pub mod Finished
+pub mod Starts

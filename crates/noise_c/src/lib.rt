@@ -10,5 +10,6 @@ mod held;
 mod kept;
 mod kept_datagrams;
 mod kept_transport;
+mod starting;
 mod transport_codes;
 mod transports;

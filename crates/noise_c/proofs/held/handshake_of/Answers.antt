@@ -1,11 +1,10 @@
-use Rattle.std.proofs.Common.{◌≡◌, ◌⊎◌, inl, inr, List, ℕ, sym, ap, ◌∙◌, subst, arith}
+use Rattle.std.proofs.Common.{◌≡◌, List, ℕ, sym, ap, ◌∙◌, subst, arith}
 use Rattle.std.specs.Prelude.{Option, Some, None, IfSome}
 use Rattle.noise_names.specs.Plan.{Plan}
-use Rattle.noise_names.specs.Validity.{IsValid}
 use Rattle.noise_handshake.specs.Held.{Held}
 use Rattle.noise_handshake.specs.Parts.{IsWhole}
 use Rattle.noise_handshake.specs.Table.{Table}
-use Rattle.noise_c.specs.Kept.{public_in, text_in, held_in, IsPatternOf, IsPatternFault}
+use Rattle.noise_c.specs.Kept.{public_in, text_in, held_in, IsPatternOf}
 use Rattle.noise_c.proofs.held.handshake_of.Goals as goal
 
 one-of : (o : Option (Held Table)) (name : List ℕ) (p : Plan) (h : Held Table) → h.pattern ≡ p → ((q : Plan) → IsPatternOf name q → q ≡ p)

@@ -1,5 +1,4 @@
-use Rattle.std.proofs.Common.{◌≡◌, sym, ◌∙◌}
-use Rattle.noise_names.specs.Plan.{Plan}
+use Rattle.std.proofs.Common.{sym}
 use Rattle.noise_c.proofs.Named.{pattern-one, pattern-fits}
 use Rattle.noise_c.proofs.held.named.Goals as goal
 

@@ -1,0 +1,116 @@
+-- The start of a handshake.
+use Rattle.std.proofs.Common.{◌≡◌, ◌≤◌, ◌⊎◌, ◌↔◌, inl, inr, ℕ, List, [], true, false, sym, subst, ◌∙◌, ap, refl, arith}
+use Rattle.std.specs.Prelude.{Result, Ok, Err, Option, Some, None, MatchOption, IsOk, nat_lt, length}
+use Rattle.std.proofs.lemmas.Bool.Decides.{nat_tests}
+use Rattle.noise_names.specs.Plan.{Plan}
+use Rattle.noise_names.specs.Validity.{IsValid}
+use Rattle.noise_handshake.specs.Held.{Held}
+use Rattle.noise_handshake.specs.Table.{Table}
+use Rattle.noise_handshake.specs.View.{View}
+use Rattle.noise_handshake.specs.Party.{Stands}
+use Rattle.noise_c.specs.declared.kept.NoiseHandshake.{NoiseHandshake}
+use Rattle.noise_c.specs.Kept.{public_in, agreement_in, text_in, held_in, KeepsView, IsPatternOf, IsPatternFault, IsNoName, IsNoText, IsNotValid, is_text, IsStartCode, fault_in, code_of, start_code}
+use Rattle.noise_handshake.specs.declared.remote.Remote.{Remote}
+use Rattle.noise_handshake.specs.Setup.{setup_fault}
+use Rattle.noise_names.specs.declared.token.Role.{Role}
+use Rattle.noise_c.specs.Codes.{setup_code}
+use Rattle.noise_c.specs.declared.kept.NoiseSetup.{NoiseSetup}
+use Rattle.noise_handshake.specs.declared.faults.SetupFault.{SetupFault}
+
+kinds : (bytes : List ℕ) → is_text bytes ≡ true → is_text bytes ≡ false → ⊥
+kinds bytes a b = cc
+
+pub fault-name : (bytes : List ℕ) (code : ℕ) → IsPatternFault bytes code → (code ≡ 1) ↔ IsNoName bytes
+fault-name bytes code (inl a) = (λ e. a.1, λ h. a.0)
+fault-name bytes code (inr (b, inl a)) = (λ e. absurd (omega (arith, b, e)), λ h. absurd (kinds bytes a.text h.name))
+fault-name bytes code (inr (b, inr a)) = (λ e. absurd (omega (arith, b, e)), λ h. absurd (h.none a.pattern a.named))
+
+pub fault-pattern : (bytes : List ℕ) (code : ℕ) → IsPatternFault bytes code → (code ≡ 2) ↔ (IsNoText bytes ⊎ IsNotValid bytes)
+fault-pattern bytes code (inr a) = (λ e. a.1, λ h. a.0)
+fault-pattern bytes code (inl (b, n)) = (λ e. absurd (omega (arith, b, e)), λ h. absurd (not-both h)) where
+  not-both : IsNoText bytes ⊎ IsNotValid bytes → ⊥
+  not-both (inl t) = kinds bytes t.text n.name
+  not-both (inr t) = n.none t.pattern t.named
+
+pub fault-code : (bytes : List ℕ) (code : ℕ) → IsPatternFault bytes code → (code ≡ 1) ⊎ (code ≡ 2)
+fault-code bytes code (inl a) = inl a.0
+fault-code bytes code (inr a) = inr a.0
+
+pub fault-start : (code : ℕ) → (code ≡ 1) ⊎ (code ≡ 2) → IsStartCode code
+fault-start code (inl a) = inr (inl a)
+fault-start code (inr a) = inr (inr (inl a))
+
+pub fault-not-zero : (code : ℕ) → (code ≡ 1) ⊎ (code ≡ 2) → code ≡ 0 → ⊥
+fault-not-zero code (inl a) e = omega (arith, a, e)
+fault-not-zero code (inr a) e = omega (arith, a, e)
+
+pub start-known : (n : ℕ) → (n ≡ 0) ⊎ ((4 ≤ n) × (n ≤ 8)) ⊎ (n ≡ 24) → IsStartCode n
+start-known n (inl a) = inl a
+start-known n (inr (inl a)) = inr (inr (inr (inl a)))
+start-known n (inr (inr a)) = inr (inr (inr (inr a)))
+
+pub start-not : (n k : ℕ) → (n ≡ 0) ⊎ ((4 ≤ n) × (n ≤ 8)) ⊎ (n ≡ 24) → 1 ≤ k → k ≤ 2 → n ≡ k → ⊥
+start-not n k (inl a) l h e = omega (arith, a, l, e)
+start-not n k (inr (inl a)) l h e = omega (arith, a.0, h, e)
+start-not n k (inr (inr a)) l h e = omega (arith, a, h, e)
+
+pub valid-name : (bytes : List ℕ) (p : Plan) (n : ℕ) → IsPatternOf bytes p → (n ≡ 1 → ⊥) → (n ≡ 1) ↔ IsNoName bytes
+valid-name bytes p n h none = (λ e. absurd (none e), λ i. absurd (i.none p h))
+
+pub valid-pattern : (bytes : List ℕ) (p : Plan) (n : ℕ) → IsPatternOf bytes p → IsValid p → ((q : Plan) → IsPatternOf bytes q → q ≡ p) → (n ≡ 2 → ⊥)
+    → (n ≡ 2) ↔ (IsNoText bytes ⊎ IsNotValid bytes)
+valid-pattern bytes p n h v one none = (λ e. absurd (none e), λ i. absurd (not-both i)) where
+  not-both : IsNoText bytes ⊎ IsNotValid bytes → ⊥
+  not-both (inl t) = t.none p h
+  not-both (inr t) = t.broken (subst (λ (z : Plan). IsValid z) (sym (one t.pattern t.named)) v)
+
+pub keeps-start : (new : NoiseHandshake) (h : Held Table) (p : Plan) (text : List ℕ) (v : View)
+    → text_in new ≡ text → IsPatternOf text p → h.pattern ≡ p → held_in h.pattern new ≡ h → Stands public_in agreement_in h v → KeepsView new p v
+keeps-start new h p text v t named q same s = record {
+  pattern = subst (λ (z : List ℕ). IsPatternOf z p) (sym t) named;
+  stands = subst (λ (z : Held Table). Stands public_in agreement_in z v) (sym (ap (λ (z : Plan). held_in z new) (sym q) ∙ same)) s;
+}
+
+ok-err : (h : Held Table) (f : SetupFault) → ◌≡◌ {A = Result (Held Table) SetupFault} (Ok h) (Err f) → ⊥
+ok-err h f e = cc
+
+err-same : (f g : SetupFault) → ◌≡◌ {A = Result (Held Table) SetupFault} (Err f) (Err g) → f ≡ g
+err-same f g e = cc
+
+code-ok : (o : Option SetupFault) (r : Result (Held Table) SetupFault) (h : Held Table) → r ≡ Ok h → MatchOption o (IsOk r) (λ f. r ≡ Err f) → 0 ≡ code_of o
+code-ok None r h e m = refl
+code-ok (Some f) r h e m = absurd (ok-err h f (sym e ∙ m))
+
+not-both-values : false ≡ true → ⊥
+not-both-values e = cc
+
+code-err : (o : Option SetupFault) (r : Result (Held Table) SetupFault) (f : SetupFault) → r ≡ Err f → MatchOption o (IsOk r) (λ g. r ≡ Err g) → setup_code f ≡ code_of o
+code-err None r f e m = absurd (not-both-values (subst (λ (z : Result (Held Table) SetupFault). IsOk z) e m))
+code-err (Some g) r f e m = ap setup_code (err-same f g (sym e ∙ m))
+
+within : (n k : ℕ) → n ≤ k → nat_lt k n ≡ false
+within n k a = grind (arith, nat_tests)
+
+code-is : (p : Plan) (prologue : List ℕ) (setup : NoiseSetup) → length prologue ≤ 65535 → setup.psk_count ≤ 9 → code_of (fault_in p setup) ≡ start_code p prologue setup
+code-is p prologue setup a b = rw (within (length prologue) 65535 a, within setup.psk_count 9 b) refl
+
+pub start-ok : (p : Plan) (prologue : List ℕ) (setup : NoiseSetup) (r : Result (Held Table) SetupFault) (h : Held Table) → r ≡ Ok h
+    → length prologue ≤ 65535 → setup.psk_count ≤ 9 → MatchOption (fault_in p setup) (IsOk r) (λ f. r ≡ Err f) → 0 ≡ start_code p prologue setup
+start-ok p prologue setup r h e a b m = code-ok (fault_in p setup) r h e m ∙ code-is p prologue setup a b
+
+pub start-err : (p : Plan) (prologue : List ℕ) (setup : NoiseSetup) (r : Result (Held Table) SetupFault) (f : SetupFault) → r ≡ Err f
+    → length prologue ≤ 65535 → setup.psk_count ≤ 9 → MatchOption (fault_in p setup) (IsOk r) (λ g. r ≡ Err g) → setup_code f ≡ start_code p prologue setup
+start-err p prologue setup r f e a b m = code-err (fault_in p setup) r f e m ∙ code-is p prologue setup a b
+
+pub table-of : (e f s t : Option (List ℕ)) → e ≡ f → s ≡ t → ◌≡◌ {A = Table} (record { e = e; s = s; entries = [] }) (record { e = f; s = t; entries = [] })
+table-of e f s t a b = ap (λ (z : Option (List ℕ)). record { e = z; s = s; entries = [] }) a ∙ ap (λ (z : Option (List ℕ)). record { e = f; s = z; entries = [] }) b
+
+pub remote-of : (e f s t : Option (List ℕ)) → e ≡ f → s ≡ t → ◌≡◌ {A = Remote} (record { e = e; s = s }) (record { e = f; s = t })
+remote-of e f s t a b = ap (λ (z : Option (List ℕ)). record { e = z; s = s }) a ∙ ap (λ (z : Option (List ℕ)). record { e = f; s = z }) b
+
+pub fault-moved : (p : Plan) (role role2 : Role) (t t2 : Table) (m m2 : Remote) (n : ℕ) (r : Result (Held Table) SetupFault) → role ≡ role2 → t ≡ t2 → m ≡ m2
+    → MatchOption (setup_fault p role (public_in t) m n) (IsOk r) (λ f. r ≡ Err f) → MatchOption (setup_fault p role2 (public_in t2) m2 n) (IsOk r) (λ f. r ≡ Err f)
+fault-moved p role role2 t t2 m m2 n r a b c h =
+    subst (λ (z : Remote). MatchOption (setup_fault p role2 (public_in t2) z n) (IsOk r) (λ f. r ≡ Err f)) c
+    (subst (λ (z : Table). MatchOption (setup_fault p role2 (public_in z) m n) (IsOk r) (λ f. r ≡ Err f)) b
+    (subst (λ (z : Role). MatchOption (setup_fault p z (public_in t) m n) (IsOk r) (λ f. r ≡ Err f)) a h))

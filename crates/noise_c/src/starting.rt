@@ -1,0 +1,118 @@
+//! Exports: the start of a handshake.
+#![tactic(auto)]
+
+ghost use Rattle.std.specs.Prelude.{◌≡◌, ◌≤◌, ◌<◌, ◌↔◌, ◌⊎◌, length, take, MatchOption, IsOk, IfOk, Err};
+ghost use Rattle.noise_names.specs.Plan.{Plan};
+ghost use Rattle.noise_names.specs.Validity.{IsValid};
+ghost use Rattle.noise_handshake.specs.Party.{Stands};
+ghost use Rattle.noise_c.specs.Kept.{role_in, public_in, agreement_in, table_in, table_of, text_in, begun_in, fault_in, start_code};
+ghost use Rattle.noise_c.specs.Kept.{IsPatternOf, IsNoName, IsNoText, IsNotValid, IsUsable, IsStartCode, KeepsView};
+
+use crate::codes::{LENGTH, OK, PSK_COUNT, setup_code};
+use crate::held::{keep, key_of, pattern_of, role_of};
+use crate::kept::{NoiseHandshake, NoiseSetup};
+use noise_handshake::{Handshake, Remote, SetupFault, TableKeys};
+use noise_names::ValidPattern;
+
+const MAX_LEN: usize = 65535;
+
+// The handshake that starts from this.
+fn begin(
+    pattern: ValidPattern,
+    prologue: &[u8],
+    setup: &NoiseSetup,
+) -> Result<Handshake<TableKeys>, SetupFault>
+    requires len { length prologue.now ≤ 65535 }
+    requires count { setup.now.psk_count ≤ 9 }
+    ensures fault { MatchOption (fault_in pattern setup.now) (IsOk result) (λ fault. result ≡ Err fault) }
+    ensures stands { IfOk result (λ h. Stands public_in agreement_in h (begun_in pattern prologue.now setup.now)) }
+    ensures pattern { IfOk result (λ h. h.pattern ≡ pattern) }
+    ensures role { IfOk result (λ h. h.role ≡ role_in setup.now.responder) }
+    ensures keys { IfOk result (λ h. h.keys ≡ table_of setup.now) }
+{
+    let remote = Remote {
+        e: key_of(&setup.remote_e),
+        s: key_of(&setup.remote_s),
+    };
+    let keys = TableKeys::new(key_of(&setup.e), key_of(&setup.s));
+    let role = role_of(setup.responder);
+    let psks = &setup.psks[..setup.psk_count as usize];
+    Handshake::new(pattern, role, prologue, keys, remote, psks)
+}
+
+// Keeps what a handshake doesn't change: the text, the role and the keys of its own, with no answer yet.
+fn keep_start(kept: &mut NoiseHandshake, text: &[u8], setup: &NoiseSetup)
+    requires { length text.now ≤ 413 }
+    ensures text { text_in kept.new ≡ text.now }
+    ensures len { kept.new.text_len ≤ 416 }
+    ensures answers { kept.new.answer_count ≤ 8 }
+    ensures role { kept.new.responder ≡ setup.now.responder }
+    ensures keys { table_in kept.new ≡ table_of setup.now }
+{
+    kept.text[..text.len()].copy_from_slice(text);
+    kept.text_len = text.len() as u16;
+    kept.responder = setup.responder;
+    kept.e = setup.e;
+    kept.s = setup.s;
+    kept.answer_count = 0;
+}
+
+// Starts with a valid pattern.
+fn start_with(
+    kept: &mut NoiseHandshake,
+    pattern: ValidPattern,
+    text: &[u8],
+    prologue: &[u8],
+    setup: &NoiseSetup,
+) -> u32
+    requires short { length text.now ≤ 413 }
+    requires named { IsPatternOf text.now pattern }
+    ensures code { result ≡ start_code pattern prologue.now setup.now }
+    ensures begun { result ≡ 0 → KeepsView kept.new pattern (begun_in pattern prologue.now setup.now) }
+    ensures usable { result ≡ 0 → IsUsable kept.new }
+    ensures text { result ≡ 0 → text_in kept.new ≡ text.now }
+    ensures unchanged { 0 < result → kept.new ≡ kept.old }
+    ensures codes { (result ≡ 0) ⊎ ((4 ≤ result) × (result ≤ 8)) ⊎ (result ≡ 24) }
+{
+    if prologue.len() > MAX_LEN {
+        return LENGTH;
+    }
+    if setup.psk_count > 9 {
+        return PSK_COUNT;
+    }
+    match begin(pattern, prologue, setup) {
+        Ok(handshake) => {
+            keep_start(kept, text, setup);
+            keep(kept, handshake);
+            OK
+        }
+        Err(fault) => setup_code(fault),
+    }
+}
+
+/// Starts the handshake of one party. The pattern is a protocol name, or a pattern text, whose last byte is a line feed. What
+/// the struct holds before may be anything; at any answer but OK it is left as it was.
+///
+/// NAME is no protocol name of a pattern, PATTERN a text that spells none, or a pattern that isn't valid. LENGTH is a prologue
+/// of more than 65535 bytes. PSK_COUNT is another number of secrets than the pattern has psk tokens.
+#[unsafe(no_mangle)]
+pub extern "C" fn noise_start(
+    kept: &mut NoiseHandshake,
+    pattern: &[u8],
+    prologue: &[u8],
+    setup: &NoiseSetup,
+) -> u32
+    ensures name { result ≡ 1 ↔ IsNoName pattern.now }
+    ensures pattern { result ≡ 2 ↔ (IsNoText pattern.now ⊎ IsNotValid pattern.now) }
+    ensures valid { (p : Plan) → IsPatternOf pattern.now p → IsValid p → result ≡ start_code p prologue.now setup.now }
+    ensures begun { result ≡ 0 → (p : Plan) → IsPatternOf pattern.now p → KeepsView kept.new p (begun_in p prologue.now setup.now) }
+    ensures usable { result ≡ 0 → IsUsable kept.new }
+    ensures text { result ≡ 0 → text_in kept.new ≡ pattern.now }
+    ensures unchanged { 0 < result → kept.new ≡ kept.old }
+    ensures codes { IsStartCode result }
+{
+    match pattern_of(pattern) {
+        Ok(valid) => start_with(kept, valid, pattern, prologue, setup),
+        Err(code) => code,
+    }
+}
