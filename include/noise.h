@@ -114,7 +114,7 @@ enum noise_code {
     NOISE_SHORT = 15,              /* the message has too few bytes. In a handshake that has ended it; tell nobody why */
     NOISE_TAG = 16,                /* a tag is wrong: something differs between the parties, or the message was changed. In a handshake that has ended it */
     NOISE_EXHAUSTED = 17,          /* the nonce is 2^64 - 1: no more messages under this key; start anew */
-    NOISE_ROOM = 18,               /* the place for the message is too short: noise_message_len tells how long it has to be */
+    NOISE_ROOM = 18,               /* the place for the message is too short: told.len of noise_write, and noise_message_len, tell how long it is */
     NOISE_NOT_DONE = 19,           /* noise_finish: messages of the handshake are still due */
     NOISE_WANTED = 20,             /* an answer of X25519 is lacking: `told` says which. Hand it in by noise_answer, and make the same call again */
     NOISE_FULL = 21,               /* noise_answer: it has 8 answers already. No pattern needs more: see noise_answer */
@@ -177,7 +177,7 @@ typedef struct {
 typedef struct {
     size_t from;                   /* OK of noise_read and the _open calls: where in the message the payload begins */
     size_t len;                    /* OK: how many bytes the payload has there. OK of noise_write and the _seal calls: how many bytes of `out`
-                                      the message has */
+                                      the message has, or at ROOM of noise_write would have */
     uint8_t token;                 /* SHORT, TAG of noise_read: the token at which it was refused, from 0 on; the payload is behind the last */
     uint8_t of_static;             /* WANTED: of which own key pair: 0 the ephemeral one, 1 the static one */
     uint8_t remote[32];            /* WANTED: and of which public key of the other */
@@ -188,7 +188,7 @@ typedef struct {
     uint8_t messages;              /* how many messages the pattern has, 1 to 8 */
     uint8_t passed;                /* how many have passed */
     uint8_t ended;                 /* 1 if a refused message has ended it, else 0 */
-    uint8_t writes_next;           /* 1 if a message is due that this party writes, else 0 */
+    uint8_t writes_next;           /* 1 if the next message, if there is one, is this party's to write, else 0 */
 } noise_stage_told;
 
 /* What is wrong with a pattern text. */
@@ -229,8 +229,8 @@ uint32_t noise_answer(noise_handshake *h, uint8_t of_static, const uint8_t remot
 /* Writes the next message, with this payload, to the front of out. Until a key is agreed on, the payload is sent as it is: noise_message_len says
    how much longer the message is, and the standard's 7.7 how well each payload is protected.
    OK: told->len bytes of out are the message; the bytes behind it are unchanged · WANTED: told->of_static, told->remote · STRUCT · ENDED · DONE ·
-   NOT_YOUR_TURN · TOO_LONG: the message would have more than 65535 bytes · ROOM: out is shorter than the message. At any code but OK neither
-   *h nor out is changed. */
+   NOT_YOUR_TURN · TOO_LONG: the message would have more than 65535 bytes · ROOM: out is shorter than the message, which has told->len bytes. At
+   any code but OK neither *h nor out is changed. */
 uint32_t noise_write(noise_handshake *h, const uint8_t *payload, size_t payload_len, uint8_t *out, size_t out_len, noise_told *told);
 
 /* Reads the message that is due, in place.

@@ -68,10 +68,10 @@ static void check_setups(void) {
     must_begin("Noise_XX_25519_ChaChaPoly_SHA256", 0, &s, NOISE_REMOTE_UNEXPECTED);
 }
 
-static void check_stage(const end *x, unsigned messages, unsigned passed, bool ended, bool writes_next) {
+static void check_stage(const end *x, unsigned messages, unsigned passed, bool ended) {
     noise_stage_told told;
     MUST(noise_stage(&x->h, &told) == NOISE_OK);
-    MUST(told.messages == messages && told.passed == passed && told.ended == ended && told.writes_next == writes_next);
+    MUST(told.messages == messages && told.passed == passed && told.ended == ended && told.writes_next == (passed % 2 == x->role));
 }
 
 // None of these changes anything.
@@ -93,8 +93,8 @@ static void check_turns(void) {
     noise_transport t;
     noise_datagrams d;
     noise_told told;
-    check_stage(&ends[0], 3, 0, false, true);
-    check_stage(&ends[1], 3, 0, false, false);
+    check_stage(&ends[0], 3, 0, false);
+    check_stage(&ends[1], 3, 0, false);
     for (unsigned m = 0; m < 3; m++) {
         end *writer = &ends[m % 2], *reader = &ends[1 - m % 2];
         must_refuse(writer, NOISE_NOT_YOUR_TURN, 0);
@@ -102,8 +102,8 @@ static void check_turns(void) {
         MUST(noise_finish(&writer->h, 0, &t) == NOISE_NOT_DONE && noise_finish_datagrams(&reader->h, 64, &d) == NOISE_NOT_DONE);
         MUST(write_on(writer, payload, 5, message, sizeof message, &told) == NOISE_OK);
         MUST(read_on(reader, message, told.len, &told) == NOISE_OK);
-        check_stage(writer, 3, m + 1, false, false);
-        check_stage(reader, 3, m + 1, false, m < 2);
+        check_stage(writer, 3, m + 1, false);
+        check_stage(reader, 3, m + 1, false);
     }
     for (unsigned role = 0; role < 2; role++) {
         must_refuse(&ends[role], NOISE_DONE, NOISE_DONE);
@@ -120,7 +120,7 @@ static void must_have_ended(end *x, unsigned messages, unsigned passed) {
     noise_transport t;
     noise_datagrams d;
     uint8_t hash[32];
-    check_stage(x, messages, passed, true, false);
+    check_stage(x, messages, passed, true);
     must_refuse(x, NOISE_ENDED, NOISE_ENDED);
     MUST(noise_finish(&x->h, 0, &t) == NOISE_ENDED && noise_finish_datagrams(&x->h, 64, &d) == NOISE_ENDED);
     MUST(noise_hash(&x->h, hash) == NOISE_OK);
@@ -176,6 +176,12 @@ static void check_changed_messages(const plan *p) {
     }
 }
 
+// Hands in what the next write of this end wants, and writes nothing.
+static void hand_in_all(end *x) {
+    noise_told told;
+    for (end copy = *x; noise_write(&copy.h, payload, 0, message, sizeof message, &told) == NOISE_WANTED; copy = *x) hand_in(x, &told);
+}
+
 static void check_lengths(void) {
     plan p = plan_of("NN", 0);
     end ends[2] = {begin(&p, 0), begin(&p, 1)}, copy;
@@ -195,11 +201,12 @@ static void check_lengths(void) {
         MUST(is_same(&old, &writer->h, sizeof old));
         copy = *writer;
         MUST(write_on(&copy, payload, 10, message, sizeof message, &told) == NOISE_OK);
-        while (noise_write(&writer->h, payload, 0, message, 0, &told) == NOISE_WANTED) hand_in(writer, &told);
+        hand_in_all(writer);
         old = writer->h;
         memset(message, 9, 100);
         memcpy(before, message, 100);
-        for (size_t room = 0; room < 58; room++) MUST(noise_write(&writer->h, payload, 10, message, room, &told) == NOISE_ROOM);
+        for (size_t room = 0; room < 58; room++)
+            MUST(noise_write(&writer->h, payload, 10, message, room, &told) == NOISE_ROOM && told.len == 58);
         MUST(is_same(&old, &writer->h, sizeof old) && is_same(message, before, 100));
         MUST(noise_write(&writer->h, payload, 10, message, 58, &told) == NOISE_OK && told.len == 58);
         MUST(is_same(message + 58, before + 58, 42));
