@@ -74,7 +74,7 @@
    - The other party's static key: noise_remote_static tells it; nothing compares it with the one that was expected.
 
    WHICH BYTES STAY. Secrets (psks), answers and keys stand in the kept structs, also behind an end: overwrite a noise_handshake behind
-   noise_finish, and each struct when it is done with. What a call leaves on the stack isn't overwritten. A call takes at most some 20 KB of it.
+   noise_finish, and each struct when it is done with. What a call leaves on the stack isn't overwritten. A call takes at most some 26 KB of it.
 
    A CHANGE OF THE LIBRARY. A caller that may meet another build of it than that of this header compares noise_handshake_size() with
    sizeof(noise_handshake), and so on, before anything else. */

@@ -229,7 +229,7 @@ static const char *const texts[] = {
     "XX:\n  -> e\n  <- e, ee, s, es\n  -> s, se\n", "A:\n", "A:\n  -> e", "A:\n  -> e\n  <- e\n  -> ee\n  <- es\n  -> s\n  <- s\n  -> se\n  <- ss\n  -> e\n",
     "A:\n  -> e, ee\n", "A:\n  -> e, e\n", "A:\n  -> e\n  <- e, ee, ee\n", "A:\n  <- s\n  ...\n  -> e, es\n  <- e, se\n",
     "MYKN:\n  -> s\n  ...\n  -> e\n  <- e, se\n", "Apsk0:\n  -> psk\n  <- e\n", "Apsk0+psk1:\n  -> psk, e, psk\n  <- e, ee\n",
-    "Apsk1+psk0:\n  -> psk, e, psk\n",
+    "Apsk1+psk0:\n  -> psk, e, psk\n", "A:\n  ...\n  -> e\n", "A:\n  -> ee\n  ...\n  -> e\n", "A:\n  <- s\n  -> s\n  ...\n  -> e\n",
     "A:\r\n  -> e\r\n", "A:\n  -> e,ee\n", "A:\n  -> e \n", "A:\n\n", "ABCDEFGHI:\n  -> e\n", "A:\n  -> \n", "",
 };
 
