@@ -11,11 +11,11 @@ ghost use Rattle.noise_c.specs.TransportCodes.{datagram_code};
 ghost use Rattle.noise_c.specs.KeptTransport.{finish_code};
 ghost use Rattle.noise_c.specs.KeptDatagrams.{is_window, window_in, is_datagrams, datagrams_kept_in, datagrams_seal_code};
 
-use crate::codes::{OK, STRUCT};
+use crate::codes::{OK, ROOM, STRUCT};
 use crate::finishing::opened_of;
 use crate::kept::{NoiseHandshake, NoiseTold};
 use crate::kept_datagrams::{NoiseDatagrams, datagrams_of, kept_datagrams, window_named};
-use crate::transport_codes::{ROOM, WINDOW, datagram_code, seal_code};
+use crate::transport_codes::{WINDOW, datagram_code, seal_code};
 use noise_session::Datagrams;
 
 // The bytes of a nonce, which stand in front.

@@ -9,8 +9,6 @@ use noise_session::{DatagramFault, OpenFault, SendFault};
 
 pub(crate) const EXHAUSTED: u32 = 17;
 
-pub(crate) const ROOM: u32 = 18;
-
 pub(crate) const NOT_DONE: u32 = 19;
 
 pub(crate) const ONE_WAY: u32 = 22;

@@ -9,12 +9,12 @@ ghost use Rattle.noise_c.specs.Kept.{key_in, held_in, IsUsable, KeepsView};
 ghost use Rattle.noise_c.specs.TransportCodes.{open_code};
 ghost use Rattle.noise_c.specs.KeptTransport.{is_party, transport_kept_in, finish_code, transport_seal_code, transport_open_refusal};
 
-use crate::codes::{LENGTH, OK, STRUCT};
+use crate::codes::{LENGTH, OK, ROOM, STRUCT};
 use crate::finishing::opened_of;
 use crate::held::kept_key;
 use crate::kept::{NoiseHandshake, NoiseKey, NoiseTold};
 use crate::kept_transport::{NoiseTransport, kept_transport, transport_of};
-use crate::transport_codes::{ROOM, open_code, seal_code};
+use crate::transport_codes::{open_code, seal_code};
 use noise_session::Transport;
 
 const TAG_LEN: usize = 16;

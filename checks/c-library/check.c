@@ -1,0 +1,21 @@
+// The library as C calls it. check FOLDER writes vector files, and what `noise talk` has to print for them, into FOLDER.
+#include "ends.h"
+
+static void check_declared_sizes(void) {
+    MUST(noise_handshake_size() == sizeof(noise_handshake));
+    MUST(noise_transport_size() == sizeof(noise_transport));
+    MUST(noise_datagrams_size() == sizeof(noise_datagrams));
+}
+
+int main(int count, char **words) {
+    MUST(count == 2);
+    check_declared_sizes();
+    check_vectors(words[1]);
+    check_texts(words[1]);
+    check_refusals();
+    check_transport();
+    check_datagrams();
+    check_changed_structs();
+    puts("c-library: all codes, bytes and places were right");
+    return 0;
+}

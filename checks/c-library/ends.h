@@ -1,0 +1,75 @@
+// Two ends of one handshake in one process, with a toy in the place of X25519: the answer of two public keys is their xor, as in vector
+// files with `xor` keys.
+#ifndef ENDS_H
+#define ENDS_H
+
+#include "noise.h"
+#include <stdbool.h>
+#include <stdio.h>
+#include <string.h>
+
+// Ends the check where this isn't so.
+#define MUST(what) ((what) ? (void)0 : fail(__FILE__, __LINE__, #what))
+_Noreturn void fail(const char *file, int line, const char *what);
+
+// A set of codes, and whether a code is in it.
+#define CODE(code) (UINT64_C(1) << (code))
+bool is_in(uint32_t code, uint64_t codes);
+
+enum { LONGEST = NOISE_MAX_DATAGRAM + 1 };
+
+// What two ends start from.
+typedef struct {
+    char name[80];                        // the protocol name
+    char text[420];                       // the pattern's text, of a handshake that is begun by it; else empty
+    bool is_own;                          // the base isn't that of a fundamental pattern
+    bool one_way;
+    unsigned messages;
+    bool has_e[2], has_s[2];              // by 0 the initiator, 1 the responder
+    bool is_known[2];                     // its s is in its pre-message
+    unsigned psks;
+    uint64_t interval;
+    size_t prologue_len;
+} plan;
+
+typedef struct {
+    unsigned role;                        // 0 the initiator, 1 the responder
+    noise_handshake h;
+    unsigned answers;                     // how many were handed in
+} end;
+
+enum { PATTERNS = 15 };
+extern const char *const patterns[PATTERNS];
+
+// The plan of a fundamental pattern; psk_place: none where it is less than 0.
+plan plan_of(const char *base, int psk_place);
+// A plan of a pattern's text; `like` is a fundamental pattern with the same keys, messages and directions.
+plan plan_of_text(const char *text, const char *like, unsigned psks, bool is_own);
+
+const uint8_t *public_key(unsigned role, bool of_static);
+const uint8_t *secret(unsigned number);
+const uint8_t *prologue(void);
+noise_setup setup_of(const plan *p, unsigned role);
+uint32_t start_with(noise_handshake *h, const plan *p, const noise_setup *setup);
+end begin(const plan *p, unsigned role);
+void hand_in(end *x, const noise_told *told);
+// Writes and reads, with each answer that is wanted.
+uint32_t write_on(end *x, const uint8_t *payload, size_t payload_len, uint8_t *out, size_t out_len, noise_told *told);
+uint32_t read_on(end *x, uint8_t *message, size_t message_len, noise_told *told);
+// A payload whose bytes depend on the number; and a length by number, the same in each run.
+void fill(uint8_t *payload, size_t len, unsigned number);
+size_t length_of(unsigned number);
+// Passes all messages between the two ends.
+void pass_all(const plan *p, end ends[2]);
+
+// A place for `size` bytes, right behind which no byte may be touched.
+uint8_t *place_at_edge(size_t size);
+
+void check_vectors(const char *folder);
+void check_texts(const char *folder);
+void check_refusals(void);
+void check_transport(void);
+void check_datagrams(void);
+void check_changed_structs(void);
+
+#endif
