@@ -10,7 +10,9 @@ use Rattle.noise_duel.specs.Events.{Event as Act, Say as Said}
 use Rattle.noise_duel.specs.declared.event.Event.{Event}
 use Rattle.noise_tool.specs.Ends.{IsStartFault}
 use Rattle.noise_tool.specs.Faults.{status_of}
-use Rattle.noise_tool.specs.Performing.{HasConverted, HasRun, IsRunFault, IsTooLongConverted, IsUnlike, IsUnmet}
+use Rattle.noise_tool.specs.Performing.{HasConverted, HasRun, IsFault, IsOfLines, IsRunFault, IsTooLongConverted, IsUnlike, IsUnmet, LeavesOther}
+use Rattle.noise_tool.specs.declared.orders.Chosen.{Chosen}
+use Rattle.noise_tool.specs.declared.orders.Chosen.TheVariants as order
 use Rattle.noise_tool.specs.Printed.{lines_text}
 use Rattle.noise_tool.specs.Running.{IsMet, IsRunOf, converted_text, expected_in}
 use Rattle.noise_tool.specs.declared.faults.Fault.{Fault}
@@ -172,3 +174,113 @@ pub no-converted : (known : Option (List ℕ)) (file : VectorFile) (outcome : Ou
     → (status_of why ≡ 3) ⊎ IfSome known (λ bytes. IsRunFault VersionOne bytes why ⊎ IsTooLongConverted bytes why)
 no-converted known file outcome why r one (inl memory) = inl (ap status_of memory)
 no-converted known file outcome why r one (inr (is, long)) = inr (too-long known file outcome why r one is long)
+
+-- ---- what is told behind a run
+
+unmet-behind : (bytes : List ℕ) (before middle after : Option (List ℕ)) (why : Fault) → (IsOfLines why → after ≡ middle)
+    → IsUnmet bytes before middle why → IsUnmet bytes before after why
+unmet-behind bytes before middle after (fault.Unmet n) same h = rw (same tt) h
+unmet-behind bytes before middle after (fault.Rule f) same h = absurd h
+unmet-behind bytes before middle after (fault.Place f) same h = absurd h
+unmet-behind bytes before middle after (fault.Setup role f) same h = absurd h
+unmet-behind bytes before middle after (fault.Name f) same h = absurd h
+unmet-behind bytes before middle after fault.UnknownPattern same h = absurd h
+unmet-behind bytes before middle after (fault.Text f) same h = absurd h
+unmet-behind bytes before middle after (fault.Line n kind) same h = absurd h
+unmet-behind bytes before middle after fault.TooLong same h = absurd h
+unmet-behind bytes before middle after fault.Unreadable same h = absurd h
+unmet-behind bytes before middle after fault.Unwritable same h = absurd h
+unmet-behind bytes before middle after fault.Memory same h = absurd h
+
+either-behind : (P : Type 0) (bytes : List ℕ) (before middle after : Option (List ℕ)) (why : Fault) → (IsOfLines why → after ≡ middle)
+    → P ⊎ IsUnmet bytes before middle why → P ⊎ IsUnmet bytes before after why
+either-behind P bytes before middle after why same (inl p) = inl p
+either-behind P bytes before middle after why same (inr h) = inr (unmet-behind bytes before middle after why same h)
+
+-- a fault stays what it is where the output is as it was
+fault-behind : (chosen : Chosen) (known before middle after : Option (List ℕ)) (why : Fault) → (IsOfLines why → after ≡ middle)
+    → IsFault chosen known before middle why → IsFault chosen known before after why
+fault-behind order.List known before middle after why same h = h
+fault-behind (order.Show name) known before middle after why same h = h
+fault-behind (order.Check path) known before middle after why same h = h
+fault-behind (order.Talk path) None before middle after why same h = h
+fault-behind (order.Talk path) (Some bytes) before middle after why same h = either-behind _ bytes before middle after why same h
+fault-behind (order.Replay path) None before middle after why same h = h
+fault-behind (order.Replay path) (Some bytes) before middle after why same h = either-behind _ bytes before middle after why same h
+fault-behind (order.Convert path) known before middle after why same h = h
+
+-- behind lines the output is left as it is
+lines-left : {O E : Type 0} (why : Fault) (out after : O) (err err_after : E) → IsOfLines why → LeavesOther why out after err err_after → after ≡ out
+lines-left (fault.Unmet n) out after err err_after lines h = h
+lines-left (fault.Rule f) out after err err_after lines h = absurd lines
+lines-left (fault.Place f) out after err err_after lines h = absurd lines
+lines-left (fault.Setup role f) out after err err_after lines h = absurd lines
+lines-left (fault.Name f) out after err err_after lines h = absurd lines
+lines-left fault.UnknownPattern out after err err_after lines h = absurd lines
+lines-left (fault.Text f) out after err err_after lines h = absurd lines
+lines-left (fault.Line n kind) out after err err_after lines h = absurd lines
+lines-left fault.TooLong out after err err_after lines h = absurd lines
+lines-left fault.Unreadable out after err err_after lines h = absurd lines
+lines-left fault.Unwritable out after err err_after lines h = absurd lines
+lines-left fault.Memory out after err err_after lines h = absurd lines
+
+-- a fault that is told: what holds of the run and of the telling holds of both
+pub told-fault : {O E : Type 0} (contents : O → Option (List ℕ)) (chosen : Chosen) (known : Option (List ℕ)) (old middle new : O) (err err_new : E)
+    (why : Fault) (result : ℕ)
+    → (status_of why ≡ 3) ⊎ IsFault chosen known (contents old) (contents middle) why
+    → (status_of why ≡ 3) ⊎ IsOfLines why ⊎ (middle ≡ old)
+    → (result ≡ status_of why) ⊎ (result ≡ 3)
+    → (result ≡ 3) ⊎ LeavesOther why middle new err err_new
+    → (result ≡ 3) ⊎ ((f : Fault) × (status_of f ≡ result) × IsFault chosen known (contents old) (contents new) f
+    × (IsOfLines f ⊎ LeavesOther f old new err err_new))
+told-fault contents chosen known old middle new err err_new why result h unwritten (inr three) other = inl three
+told-fault contents chosen known old middle new err err_new why result (inl outside) unwritten (inl is) other = inl (is ∙ outside)
+told-fault contents chosen known old middle new err err_new why result (inr h) unwritten (inl is) (inl three) = inl three
+told-fault contents chosen known old middle new err err_new why result (inr h) (inl outside) (inl is) (inr leaves) = inl (is ∙ outside)
+told-fault contents chosen known old middle new err err_new why result (inr h) (inr (inl lines)) (inl is) (inr leaves) =
+    inr (why, sym is, fault-behind chosen known (contents old) (contents middle) (contents new) why
+    (λ l. ap contents (lines-left why middle new err err_new l leaves)) h, inl lines)
+told-fault {O = O} contents chosen known old middle new err err_new why result (inr h) (inr (inr same)) (inl is) (inr leaves) =
+    inr (why, sym is, fault-behind chosen known (contents old) (contents middle) (contents new) why
+    (λ l. ap contents (lines-left why middle new err err_new l leaves)) h,
+    inr (subst (λ (o : O). LeavesOther why o new err err_new) same leaves))
+
+-- at status 2 the output is as it was
+left-at-two : {O E : Type 0} (why : Fault) (out after : O) (err err_after : E) → status_of why ≡ 2 → LeavesOther why out after err err_after → after ≡ out
+left-at-two (fault.Unmet n) out after err err_after two h = h
+left-at-two (fault.Rule f) out after err err_after two h = absurd (cc two)
+left-at-two (fault.Place f) out after err err_after two h = h
+left-at-two (fault.Setup role f) out after err err_after two h = h
+left-at-two (fault.Name f) out after err err_after two h = h
+left-at-two fault.UnknownPattern out after err err_after two h = h
+left-at-two (fault.Text f) out after err err_after two h = h
+left-at-two (fault.Line n kind) out after err err_after two h = h
+left-at-two fault.TooLong out after err err_after two h = h
+left-at-two fault.Unreadable out after err err_after two h = h
+left-at-two fault.Unwritable out after err err_after two h = h
+left-at-two fault.Memory out after err err_after two h = h
+
+no-lines-at-two : (why : Fault) → status_of why ≡ 2 → IsOfLines why → ⊥
+no-lines-at-two (fault.Unmet n) two lines = cc two
+no-lines-at-two (fault.Rule f) two lines = lines
+no-lines-at-two (fault.Place f) two lines = lines
+no-lines-at-two (fault.Setup role f) two lines = lines
+no-lines-at-two (fault.Name f) two lines = lines
+no-lines-at-two fault.UnknownPattern two lines = lines
+no-lines-at-two (fault.Text f) two lines = lines
+no-lines-at-two (fault.Line n kind) two lines = lines
+no-lines-at-two fault.TooLong two lines = lines
+no-lines-at-two fault.Unreadable two lines = lines
+no-lines-at-two fault.Unwritable two lines = lines
+no-lines-at-two fault.Memory two lines = lines
+
+pub told-at-two : {O E : Type 0} (old middle new : O) (err err_new : E) (why : Fault) (result : ℕ)
+    → (status_of why ≡ 3) ⊎ IsOfLines why ⊎ (middle ≡ old)
+    → (result ≡ status_of why) ⊎ (result ≡ 3)
+    → (result ≡ 3) ⊎ LeavesOther why middle new err err_new → result ≡ 2 → new ≡ old
+told-at-two old middle new err err_new why result unwritten (inr three) other two = let bad = sym three ∙ two in absurd (cc bad)
+told-at-two old middle new err err_new why result unwritten (inl is) (inl three) two = let bad = sym three ∙ two in absurd (cc bad)
+told-at-two old middle new err err_new why result (inl outside) (inl is) (inr leaves) two = let bad = sym outside ∙ sym is ∙ two in absurd (cc bad)
+told-at-two old middle new err err_new why result (inr (inl lines)) (inl is) (inr leaves) two = absurd (no-lines-at-two why (sym is ∙ two) lines)
+told-at-two old middle new err err_new why result (inr (inr same)) (inl is) (inr leaves) two =
+    left-at-two why middle new err err_new (sym is ∙ two) leaves ∙ same
