@@ -238,12 +238,21 @@ told-fault contents chosen known old middle new err err_new why result (inl outs
 told-fault contents chosen known old middle new err err_new why result (inr h) unwritten (inl is) (inl three) = inl three
 told-fault contents chosen known old middle new err err_new why result (inr h) (inl outside) (inl is) (inr leaves) = inl (is ∙ outside)
 told-fault contents chosen known old middle new err err_new why result (inr h) (inr (inl lines)) (inl is) (inr leaves) =
-    inr (why, sym is, fault-behind chosen known (contents old) (contents middle) (contents new) why
-    (λ l. ap contents (lines-left why middle new err err_new l leaves)) h, inl lines)
+    inr (
+      why,
+      sym is,
+      fault-behind chosen known (contents old) (contents middle) (contents new) why
+          (λ l. ap contents (lines-left why middle new err err_new l leaves)) h,
+      inl lines,
+    )
 told-fault {O = O} contents chosen known old middle new err err_new why result (inr h) (inr (inr same)) (inl is) (inr leaves) =
-    inr (why, sym is, fault-behind chosen known (contents old) (contents middle) (contents new) why
-    (λ l. ap contents (lines-left why middle new err err_new l leaves)) h,
-    inr (subst (λ (o : O). LeavesOther why o new err err_new) same leaves))
+    inr (
+      why,
+      sym is,
+      fault-behind chosen known (contents old) (contents middle) (contents new) why
+          (λ l. ap contents (lines-left why middle new err err_new l leaves)) h,
+      inr (subst (λ (o : O). LeavesOther why o new err err_new) same leaves),
+    )
 
 -- at status 2 the output is as it was
 left-at-two : {O E : Type 0} (why : Fault) (out after : O) (err err_after : E) → status_of why ≡ 2 → LeavesOther why out after err err_after → after ≡ out
