@@ -1,5 +1,5 @@
 use Rattle.std.proofs.Common.{◌≡◌, ◌∙◌, ap, ap₂, codes, None, true, false}
-use Rattle.std.proofs.lemmas.Result.{IfOk-weaker}
+use Rattle.std.proofs.lemmas.Result.{IfOk-weaker, err_from_is_err_and}
 use Rattle.clap.specs.Simple.{App, app_of, app_of_fields, new_app, shape_of, with_subcommand}
 use Rattle.clap.specs.declared.builder.command.Command.TheViews.{out-Command}
 use Rattle.clap.specs.declared.builder.command.Command.TheOpen.{Command-F}
@@ -13,6 +13,21 @@ requiring a = record a { top = record a.top { subcommand_required = true } }
 
 abbrev with_version : App → App
 with_version a = record a { top = record a.top { has_version = true } }
+
+pub returns-in_err-convert : goal.returns-in_err-convert
+returns-in_err-convert c =
+    let p = err_from_is_err_and c.from_residual-in_err-convert.result c.from_residual-in_err-convert.ensures.1 in
+    rw p.1 tt
+
+pub returns-in_err-bin_name : goal.returns-in_err-bin_name
+returns-in_err-bin_name c =
+    let p = err_from_is_err_and c.from_residual-in_err-bin_name.result c.from_residual-in_err-bin_name.ensures.1 in
+    rw p.1 tt
+
+pub returns-in_err-subcommand : goal.returns-in_err-subcommand
+returns-in_err-subcommand c =
+    let p = err_from_is_err_and c.from_residual-in_err-subcommand.result c.from_residual-in_err-subcommand.ensures.1 in
+    rw p.1 tt
 
 pub returns : goal.returns
 returns c =

@@ -1,7 +1,6 @@
-use Rattle.std.proofs.Common.{rules, arith, ◌≡◌, ◌∙◌, ◌++◌, ◌<◌, ap, refl, sym, subst, inl, inr, List, [], ℕ, length, vec_len, codes}
+use Rattle.std.proofs.Common.{rules, ◌≡◌, ◌++◌, ◌<◌, refl, subst, inr, List, [], ℕ, length, codes}
 use Rattle.noise_vectors.specs.Expectations.{bytes_of}
 use Rattle.noise_vectors.specs.VectorText.{expect_line, line, lines_of}
-use Rattle.noise_tool.specs.Running.{converted_text}
 use Rattle.noise_tool.proofs.ConvertingLemmas.{converted-is}
 use Rattle.noise_tool.proofs.converting.convert.Goals as goal
 

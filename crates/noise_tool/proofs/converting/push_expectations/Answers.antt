@@ -1,4 +1,4 @@
-use Rattle.std.proofs.Common.{rules, ◌≡◌, ◌≤◌, refl, length}
+use Rattle.std.proofs.Common.{rules, ◌≤◌, refl, length}
 use Rattle.noise_tool.proofs.ConvertingLemmas.{expectations-done}
 use Rattle.noise_tool.proofs.converting.push_expectations.Goals as goal
 

@@ -1,4 +1,4 @@
-use Rattle.std.proofs.Common.{rules, ◌≡◌, ◌∙◌, ◌<◌, ◌≤◌, ◌++◌, ◌∷◌, [], ap, sym, append-nil, length}
+use Rattle.std.proofs.Common.{rules, ◌≡◌, ◌∙◌, ◌<◌, ◌≤◌, ◌++◌, ap, length}
 use Rattle.noise_vectors.specs.Expectations.{bytes_of}
 use Rattle.noise_tool.proofs.PrintedLemmas.{datagram_entries-lines, datagram_line_of, line-pushed, lines-done}
 use Rattle.noise_tool.proofs.datagram_report.push_datagram_lines.Goals as goal

@@ -1,4 +1,4 @@
-use Rattle.std.proofs.Common.{rules, ◌≡◌, ◌∙◌, subst, sym}
+use Rattle.std.proofs.Common.{rules, ◌∙◌, subst, sym}
 use Rattle.noise_session.specs.Datagrams.{HeldDatagrams, Pictures}
 use Rattle.noise_tool.proofs.PrintedLemmas.{two-pushed}
 use Rattle.noise_tool.proofs.datagram_report.push_datagram_states.Goals as goal

@@ -1,4 +1,4 @@
-use Rattle.std.proofs.Common.{rules, ◌≡◌, ◌≤◌, refl, length}
+use Rattle.std.proofs.Common.{rules, ◌≤◌, refl, length}
 use Rattle.noise_tool.proofs.PrintedLemmas.{lines-written}
 use Rattle.noise_tool.proofs.output.write_lines.Goals as goal
 

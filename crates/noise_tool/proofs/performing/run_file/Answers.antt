@@ -1,6 +1,5 @@
 use Rattle.std.proofs.Common.{◌∙◌, sym, inr}
 use Rattle.std.proofs.lemmas.Result.{err_from_is_err_and}
-use Rattle.noise_tool.specs.Performing.{IsUnmet}
 use Rattle.noise_tool.proofs.PerformingLemmas.{Ran, has-run, no-run, no-start}
 use Rattle.noise_tool.proofs.performing.run_file.Goals as goal
 

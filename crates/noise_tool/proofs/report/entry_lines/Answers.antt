@@ -1,5 +1,4 @@
-use Rattle.std.proofs.Common.{rules, ◌≡◌, ◌∙◌, ◌<◌, ◌≤◌, ◌++◌, ◌∷◌, [], ap, length}
-use Rattle.noise_vectors.specs.Expectations.{bytes_of}
+use Rattle.std.proofs.Common.{rules, ◌≡◌, ◌∙◌, ◌<◌, ◌≤◌, [], length}
 use Rattle.noise_tool.proofs.PrintedLemmas.{entries-lines, entry_line_of, line-pushed, lines-done}
 use Rattle.noise_tool.proofs.report.entry_lines.Goals as goal
 

@@ -1,7 +1,6 @@
-use Rattle.std.proofs.Common.{rules, ◌≡◌, ◌∙◌, ◌++◌, ◌∷◌, [], ap, ap₂, subst, sym, refl, true, Vec, Global, ℕ, List, Option, Some, None, codes}
+use Rattle.std.proofs.Common.{rules, ◌≡◌, ◌∙◌, ◌++◌, ◌∷◌, [], ap, ap₂, true, ℕ, List, Some, None, codes}
 use Rattle.std.specs.Prelude.{decimal}
 use Rattle.noise_session.specs.EndDatagrams.{is_datagram_ready}
-use Rattle.noise_duel.specs.HeldDuel.{HeldDuel}
 use Rattle.noise_vectors.specs.Expectations.{bytes_of}
 use Rattle.noise_vectors.specs.VectorText.{window_words}
 use Rattle.noise_tool.proofs.PrintedLemmas.{bytes-push}
