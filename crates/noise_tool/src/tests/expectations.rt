@@ -276,7 +276,7 @@ fn tells_what_is_too_long(rt: HostRuntime) -> Result<(), Fail> {
     tells(&rt, alloc, &("replay", file.as_str(), 0, told.as_str(), ""))?;
     let mut long = format!(in alloc; "vector 1\n{FIRST}")?;
     for _ in 0..90000 {
-        long.push_str("raw responder -\n")?;
+        long.push_str("deliver responder 5 -\n")?;
     }
     tells(
         &rt,
