@@ -11,7 +11,7 @@ use Rattle.noise_handshake.specs.declared.remote.Remote.{Remote}
 use Rattle.noise_handshake.specs.declared.faults.Cause.{Cause}
 use Rattle.noise_handshake.specs.Line.{token_piece, behind_token, front, behind_front}
 use Rattle.noise_handshake.specs.View.{View, Reader, reader, Fits, Fit, known_behind, secrets_behind, Leads, Reaches, Reads, Stops, Accepts, cause_of}
-use Rattle.noise_handshake.specs.View.{cause_at, tokens_now}
+use Rattle.noise_handshake.specs.View.{cause_at, learned, tokens_now}
 use Rattle.noise_handshake.specs.inner.Listening.{Fails, StopsKnowing}
 use Rattle.noise_handshake.specs.declared.faults.Cause.TheVariants.{Short, Tag}
 
@@ -149,7 +149,7 @@ cause_at-end keyed [] rest = refl
 cause_at-end keyed (t ∷ ts) rest = cause_at-end keyed ts rest
 
 -- a stop at the payload
-pub stops-last : (v : Reader) (known : Remote) (secrets : List (List ℕ)) (r : History) (ts : List Token) (m : List ℕ) (xs : List (List ℕ))
+stops-last : (v : Reader) (known : Remote) (secrets : List (List ℕ)) (r : History) (ts : List Token) (m : List ℕ) (xs : List (List ℕ))
     (rest : List ℕ) (cause : Cause)
     → Leads v known secrets r ts xs m rest → ((payload : List ℕ) → rest ≡ piece (behind_front v.psks r ts xs) payload → ⊥)
     → cause ≡ (if nat_lt (length rest) 16 then Short else Tag) → Stops v known secrets r ts m (length ts) cause
@@ -166,6 +166,15 @@ stops-last v known secrets r ts m xs rest cause l bad why =
           bad payload (h.1 ∙ ap (λ (zs : List (List ℕ)). piece (behind_front v.psks r ts zs) payload) (sym h.0));
       why = why ∙ sym (cause_at-end (is_some (cipher_key (behind_front v.psks r (take (length ts) ts) xs))) ts rest);
     }
+
+-- with what is known there
+pub knows-last : (v : Reader) (known here : Remote) (secrets : List (List ℕ)) (r : History) (ts : List Token) (m : List ℕ) (xs : List (List ℕ))
+    (rest : List ℕ) (cause : Cause)
+    → Leads v known secrets r ts xs m rest → ((payload : List ℕ) → rest ≡ piece (behind_front v.psks r ts xs) payload → ⊥)
+    → cause ≡ (if nat_lt (length rest) 16 then Short else Tag) → here ≡ learned known ts xs → StopsKnowing v known secrets r ts m (length ts) cause here
+unfolding stops-last
+knows-last v known here secrets r ts m xs rest cause l bad why e =
+    (stops-last v known secrets r ts m xs rest cause l bad why, e ∙ ap (λ (us : List Token). learned known us xs) (sym (take_all (length ts) ts (omega arith))))
 
 pub reads-whole : (v : Reader) (known : Remote) (secrets : List (List ℕ)) (r : History) (ts : List Token) (m : List ℕ) (xs : List (List ℕ))
     (rest payload : List ℕ)

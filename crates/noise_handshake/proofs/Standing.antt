@@ -18,7 +18,7 @@ use Rattle.noise_handshake.specs.Line.{behind_line}
 use Rattle.noise_handshake.specs.View.{View, Reader, reader, Listens, Reads, Stops, Accepts, Refuses, learned, tokens_at, tokens_now}
 use Rattle.noise_handshake.specs.inner.Listening.{Listening}
 use Rattle.noise_handshake.specs.Held.{Held, read_fault, is_turn}
-use Rattle.noise_handshake.specs.Party.{Stands, behind_message, over}
+use Rattle.noise_handshake.specs.Party.{Stands, Declines, behind_declined, behind_message, over}
 
 -- whose turn it is
 same-role : (a b : Role) → same_role a b ≡ true → a ≡ b
@@ -100,6 +100,34 @@ module _ {K : Type 0} (public_of : K → Own → Option (List ℕ)) (agreement :
       no-fault h.ended (h.passed == length h.pattern.messages) (is_turn h.role h.passed) (s.ended ∙ l.going) all
       (ap (λ (k : ℕ). same_role (turn_from Initiator k) h.role) s.passed ∙ ap (λ (r : Role). same_role (turn_from Initiator v.passed) r) s.role
       ∙ not-self (turn_from Initiator v.passed) v.role l.turn)
+
+  -- where there is a fault the message is declined for it
+  pub faulted : (fault : ReadFault) (m : List ℕ) → h.passed ≤ length h.pattern.messages → read_fault h ≡ Some fault
+      → Declines v m fault × Stands public_of agreement h (behind_declined v fault)
+  faulted fault m w e =
+      declined fault m w
+      (subst (Told h.ended (h.passed == length h.pattern.messages) (is_turn h.role h.passed)) e
+      (told h.ended (h.passed == length h.pattern.messages) (is_turn h.role h.passed)))
+    where
+      declined : (fault : ReadFault) (m : List ℕ) → h.passed ≤ length h.pattern.messages
+          → Told h.ended (h.passed == length h.pattern.messages) (is_turn h.role h.passed) (Some fault)
+          → Declines v m fault × Stands public_of agreement h (behind_declined v fault)
+      declined read.Ended m w t = (going-to t, s) where
+        going-to : h.ended ≡ true → v.ended ≡ true
+        going-to e = sym s.ended ∙ e
+      declined read.Done m w t = ((going t.0, all t.1), s) where
+        all : (h.passed == length h.pattern.messages) ≡ true → v.passed ≡ length v.pattern.messages
+        all e = let same : h.passed ≡ length h.pattern.messages = grind (arith, nat_tests) in
+            sym s.passed ∙ same ∙ ap (λ (p : Plan). length p.messages) s.pattern
+      declined read.NotYourTurn m w t =
+          (record { going = going t.0; more = few w t.1; turn = same-role (turn_from Initiator v.passed) v.role (turn true t.2) }, s)
+      declined (read.Refused token cause) m w t = absurd t
+
+  -- and isn't refused
+  pub faulted-not : (fault : ReadFault) (m : List ℕ) (k : ℕ) (cause : Cause) → read_fault h ≡ Some fault → Refuses v m k cause → ⊥
+  faulted-not fault m k cause e r = none-some (sym (reads-due r.listens) ∙ e) where
+    none-some : ◌≡◌ {A = Option ReadFault} None (Some fault) → ⊥
+    none-some d = cc
 
   pub tokens-are : tokens_at h.pattern.messages h.passed ≡ tokens_now v
   tokens-are = ap (λ (p : Plan). tokens_at p.messages h.passed) s.pattern ∙ ap (λ (k : ℕ). tokens_at v.pattern.messages k) s.passed

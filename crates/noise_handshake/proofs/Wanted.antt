@@ -111,7 +111,7 @@ below : (k n : ℕ) → (n ≤ k → ⊥) → k < n
 below k n f = grind arith
 
 -- for want of an answer it stops at a token
-stops-within : (v : Reader) (known : Remote) (secrets : List (List ℕ)) (r : History) (ts : List Token) (m : List ℕ) (k : ℕ)
+pub stops-within : (v : Reader) (known : Remote) (secrets : List (List ℕ)) (r : History) (ts : List Token) (m : List ℕ) (k : ℕ)
     → Stops v known secrets r ts m k Agreement → k < length ts
 stops-within v known secrets r ts m k s =
     let keyed : Bool = is_some (cipher_key (behind_front v.psks r (take k ts) s.carried)) in

@@ -9,6 +9,8 @@ use Rattle.noise_state.specs.declared.symmetric.SymmetricState.{SymmetricState}
 use Rattle.noise_handshake.specs.declared.remote.Remote.{Remote}
 use Rattle.noise_handshake.specs.declared.faults.ReadFault.{ReadFault}
 use Rattle.noise_handshake.specs.declared.faults.ReadFault.TheVariants as read
+use Rattle.noise_handshake.specs.declared.faults.Unread.{Unread}
+use Rattle.noise_handshake.specs.declared.faults.Unread.TheVariants as unread
 use Rattle.noise_handshake.specs.declared.faults.WriteFault.{WriteFault}
 use Rattle.noise_handshake.specs.declared.faults.WriteFault.TheVariants as write
 
@@ -73,6 +75,11 @@ abbrev pub behind_read_fault : {K : Type 0} → Held K → ReadFault → Held K
 behind_read_fault h (read.Refused token cause) = ended_as h
 behind_read_fault h _ = h
 
+-- what a message leaves that isn't read, where a lacking answer is asked for
+abbrev pub behind_unread : {K : Type 0} → Held K → Unread → Held K
+behind_unread h (unread.Wanted own key) = h
+behind_unread h (unread.Declined fault) = behind_read_fault h fault
+
 -- what a fault of writing leaves
 abbrev pub behind_write_fault : {K : Type 0} → Held K → WriteFault → Held K
 behind_write_fault h (write.Agreement token) = ended_as h
@@ -82,6 +89,11 @@ behind_write_fault h _ = h
 abbrev pub IsRefusal : ReadFault → Type 0
 IsRefusal (read.Refused token cause) = Unit {0}
 IsRefusal _ = ⊥
+
+-- the same, or the answer that it wants
+abbrev pub IsOfDue : Unread → Type 0
+IsOfDue (unread.Wanted own key) = Unit {0}
+IsOfDue (unread.Declined fault) = IsRefusal fault
 
 abbrev pub IsAgreement : WriteFault → Type 0
 IsAgreement (write.Agreement token) = Unit {0}

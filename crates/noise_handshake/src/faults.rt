@@ -1,6 +1,8 @@
 //! Why a handshake isn't made, and why a message isn't written or read.
 #![tactic(auto)]
 
+use crate::Own;
+
 /// Why a handshake isn't made. Of several the first is told.
 #[derive(Clone, Copy, Debug, PartialEq, Eq)]
 pub enum SetupFault {
@@ -42,6 +44,15 @@ pub enum ReadFault {
     Ended,
     /// Reading stopped at this token, counted from 0; the payload is behind the last. The handshake has ended.
     Refused { token: u8, cause: Cause },
+}
+
+/// Why a message isn't read, where a DH answer that is lacking is no refusal.
+#[derive(Clone, Copy, Debug, PartialEq, Eq)]
+pub enum Unread {
+    /// Reading lacks the answer of this key pair of the party to this public key of the other. Nothing has changed.
+    Wanted { own: Own, key: [u8; 32] },
+    /// The message isn't read for this fault, which is never the want of an answer.
+    Declined(ReadFault),
 }
 
 /// Why reading stopped at a token.

@@ -6,11 +6,12 @@ ghost use Rattle.std.specs.Prelude.{IfErr, OnErr, MatchResult, MatchOption, IsSo
 ghost use Rattle.std.specs.Option.{ForSome};
 
 use crate::layout::{MessageLayout, lay_out};
-use crate::reading::{read_lacking, read_message};
+use crate::reading::{lacked, read_lacking, read_message};
 use crate::setup::{public_keys, setup_fault, start};
 use crate::tokens::Means;
 use crate::writing::{write_lacking, write_message};
-use crate::{Keys, Opened, Own, Parts, ReadFault, Remote, SetupFault, WriteFault};
+use crate::stop::Stop;
+use crate::{Keys, Opened, Own, Parts, ReadFault, Remote, SetupFault, Unread, WriteFault};
 use arrayvec::ArrayVec;
 use noise_names::{Role, ValidPattern};
 use noise_state::SymmetricState;
@@ -84,7 +85,9 @@ impl<K: Keys> Handshake<K> {
     ghost use Rattle.noise_handshake.specs.inner.Layout.{IsLaid};
     ghost use Rattle.noise_handshake.specs.View.{View, Accepts, Refuses, tokens_at};
     ghost use Rattle.noise_handshake.specs.Held.{is_turn, read_fault, behind_read_fault, write_fault, behind_write_fault, message_len_of, IsRefusal};
-    ghost use Rattle.noise_handshake.specs.Held.{IsAgreement, Advances};
+    ghost use Rattle.noise_handshake.specs.Held.{IsAgreement, Advances, IsOfDue, behind_unread};
+    ghost use Rattle.noise_handshake.specs.Asking.{LeavesUnread, behind_asked};
+    ghost use Rattle.noise_handshake.specs.declared.faults.Unread.{Unread};
     ghost use Rattle.noise_handshake.specs.Opening.{Opens};
     ghost use Rattle.noise_handshake.specs.Parts.{held_of, IsWhole};
     ghost use Rattle.noise_handshake.specs.Setup.{begun, setup_fault};
@@ -256,7 +259,8 @@ impl<K: Keys> Handshake<K> {
 
     // Why no message is read now.
     fn read_fault(&self) -> Option<ReadFault>
-        ensures { result ≡ read_fault self.now }
+        ensures value { result ≡ read_fault self.now }
+        ensures within { self.now.passed ≤ length self.now.pattern.messages }
     {
         if self.ended {
             Some(ReadFault::Ended)
@@ -266,6 +270,47 @@ impl<K: Keys> Handshake<K> {
             Some(ReadFault::NotYourTurn)
         } else {
             None
+        }
+    }
+
+    // Reads a message that is due. Where reading stops nothing has changed.
+    fn attempt(&mut self, message: &mut [u8]) -> Result<(usize, usize), Stop>
+        requires fits { length message.old ≤ 65535 }
+        requires due { read_fault self.old ≡ None }
+        ensures range { IfOk result (λ place. (place.0 ≤ place.1) × (place.1 ≤ length message.new)) }
+        ensures beyond { IfOk result (λ place.
+            (take place.0 message.new ≡ take place.0 message.old) × (drop place.1 message.new ≡ drop place.1 message.old)) }
+        ensures unchanged { OnErr result (message.new ≡ message.old) }
+        ensures state { MatchResult result (λ _. Advances self.old self.new) (λ _. self.new ≡ self.old) }
+        ensures reads { (v : View) → Stands K.public_of K.agreement self.old v → MatchResult result
+            (λ place. let payload = slice_range message.new place.0 place.1 in (xs : List (List ℕ)) × Accepts v message.old xs payload
+            × Stands K.public_of K.agreement self.new (behind_message v xs payload))
+            (λ stop. Refuses v message.old stop.token stop.cause × MatchOption stop.want
+            ((token : ℕ) → Refuses v message.old token Cause.Agreement → ⊥) (λ want. WantsToRead v message.old want.0 want.1)) }
+    {
+        let laid = self.next_layout();
+        let means = Means {
+            keys: &self.keys,
+            role: self.role,
+            psks: self.psks,
+        };
+        let secrets = &self.secrets[self.used..];
+        let placed = &laid.tokens[..];
+        let mut state = self.state.for_trial();
+        let mut remote = self.remote;
+        match read_message(&mut state, &mut remote, &means, secrets, placed, message) {
+            Ok(place) => {
+                self.used += laid.secrets;
+                self.state = state;
+                self.remote = remote;
+                self.passed += 1;
+                Ok(place)
+            }
+            Err((token, cause)) => Err(Stop {
+                token: token as u8,
+                cause,
+                want: lacked(self.role, &remote, placed, token, cause),
+            }),
         }
     }
 
@@ -290,36 +335,11 @@ impl<K: Keys> Handshake<K> {
         if let Some(fault) = self.read_fault() {
             return Err(fault);
         }
-        let laid = self.next_layout();
-        let means = Means {
-            keys: &self.keys,
-            role: self.role,
-            psks: self.psks,
-        };
-        let secrets = &self.secrets[self.used..];
-        let mut state = self.state.for_trial();
-        let mut remote = self.remote;
-        match read_message(
-            &mut state,
-            &mut remote,
-            &means,
-            secrets,
-            &laid.tokens,
-            message,
-        ) {
-            Ok(place) => {
-                self.used += laid.secrets;
-                self.state = state;
-                self.remote = remote;
-                self.passed += 1;
-                Ok(place)
-            }
-            Err((token, cause)) => {
+        match self.attempt(message) {
+            Ok(place) => Ok(place),
+            Err(stop) => {
                 self.ended = true;
-                Err(ReadFault::Refused {
-                    token: token as u8,
-                    cause,
-                })
+                Err(stop.fault())
             }
         }
     }
@@ -340,6 +360,43 @@ impl<K: Keys> Handshake<K> {
     {
         let (from, to) = self.read_within(message)?;
         Ok(&mut message[from..to])
+    }
+
+    /// Reads a message in place as `read_within` does; but where it would be refused for want of a DH answer, this tells which
+    /// answer is wanted, and changes nothing.
+    ///
+    /// The message has at most 65535 bytes. At an `Err` its bytes are unchanged. `Declined` with `Refused` ends the handshake, and
+    /// everything else leaves it as it was. So a caller whose private keys lie elsewhere has the answer made, puts it to its keys,
+    /// and reads the message again.
+    pub fn read_or_ask(&mut self, message: &mut [u8]) -> Result<(usize, usize), Unread>
+        requires { length message.old ≤ 65535 }
+        ensures range { IfOk result (λ place. (place.0 ≤ place.1) × (place.1 ≤ length message.new)) }
+        ensures beyond { IfOk result (λ place.
+            (take place.0 message.new ≡ take place.0 message.old) × (drop place.1 message.new ≡ drop place.1 message.old)) }
+        ensures unchanged { OnErr result (message.new ≡ message.old) }
+        ensures fault { MatchOption (read_fault self.old) (IfErr result IsOfDue) (λ fault. result ≡ Err (Unread.Declined fault)) }
+        ensures state { MatchResult result (λ _. Advances self.old self.new) (λ unread. self.new ≡ behind_unread self.old unread) }
+        ensures reads { (v : View) → Stands K.public_of K.agreement self.old v → MatchResult result
+            (λ place. let payload = slice_range message.new place.0 place.1 in (xs : List (List ℕ)) × Accepts v message.old xs payload
+            × Stands K.public_of K.agreement self.new (behind_message v xs payload))
+            (λ unread. LeavesUnread v message.old unread × Stands K.public_of K.agreement self.new (behind_asked v unread)) }
+    {
+        if let Some(fault) = self.read_fault() {
+            return Err(Unread::Declined(fault));
+        }
+        match self.attempt(message) {
+            Ok(place) => Ok(place),
+            Err(stop) => match stop.want {
+                Some(want) => {
+                    let (own, key) = want;
+                    Err(Unread::Wanted { own, key })
+                }
+                None => {
+                    self.ended = true;
+                    Err(Unread::Declined(stop.fault()))
+                }
+            },
+        }
     }
 
     /// For want of which DH answer reading this message would be refused: of which key pair of this party, and to which public

@@ -20,7 +20,7 @@ ghost use Rattle.noise_handshake.specs.Wanting.{StopsFor};
 use crate::layout::PlacedToken;
 use crate::tokens::{Means, answer_at, asked_at, mix_ephemeral, secrets_behind};
 use crate::{Cause, Keys, Own, Remote};
-use noise_names::Token;
+use noise_names::{Role, Token};
 use noise_state::{CipherFault, SymmetricState};
 
 // Takes a public key in the clear.
@@ -214,8 +214,35 @@ fn token_at(placed: &[PlacedToken], k: usize) -> Token
     placed[k].token
 }
 
-// The DH without an answer at which reading a message's tokens stops, if it stops at one: of which key pair it is, and to which
-// remote key.
+// The DH without an answer at which reading stopped, if it stopped at token k for want of one: of which key pair it is, and to
+// which remote key.
+pub(crate) fn lacked(
+    role: Role,
+    known: &Remote,
+    placed: &[PlacedToken],
+    k: usize,
+    cause: Cause,
+) -> Option<(Own, [u8; 32])>
+    ensures { (v : Reader) (before : Remote) (secrets : List (List ℕ)) (r : History) (message : List ℕ) → v.role ≡ role
+        → let tokens : List Token = tokens_of placed.now in IsTrue (are_known role (is_some before.e) (is_some before.s) tokens)
+        → StopsKnowing v before secrets r tokens message k cause known.now → MatchOption result
+        ((j : ℕ) → Stops v before secrets r tokens message j Agreement → ⊥)
+        (λ want. StopsFor v before secrets r tokens message want.0 want.1) }
+{
+    match cause {
+        Cause::Agreement => {
+            if k < placed.len() {
+                asked_at(role, known, token_at(placed, k))
+            } else {
+                None
+            }
+        }
+        Cause::Short => None,
+        Cause::Tag => None,
+    }
+}
+
+// The DH without an answer at which reading a message's tokens stops, if it stops at one.
 pub(crate) fn read_lacking<K: Keys>(
     state: &SymmetricState,
     known: &Remote,
@@ -238,11 +265,7 @@ pub(crate) fn read_lacking<K: Keys>(
     let mut learned = *known;
     match read_tokens(&mut trial, &mut learned, means, secrets, placed, message) {
         Ok(_) => None,
-        Err((k, cause)) => match cause {
-            Cause::Agreement => asked_at(means.role, &learned, token_at(placed, k)),
-            Cause::Short => None,
-            Cause::Tag => None,
-        },
+        Err((k, cause)) => lacked(means.role, &learned, placed, k, cause),
     }
 }
 
@@ -273,7 +296,7 @@ pub(crate) fn read_message<K: Keys>(
         let tokens : List Token = tokens_of placed.now in MatchResult result
         (λ place. let payload = slice_range message.new place.0 place.1 in (xs : List (List ℕ)) × Reads v known.old secrets.now r tokens message.old xs payload
         × StateStands state.new (behind_line means.now.psks r tokens xs payload) × (known.new ≡ learned known.old tokens xs))
-        (λ stop. Stops v known.old secrets.now r tokens message.old stop.0 stop.1) }
+        (λ stop. StopsKnowing v known.old secrets.now r tokens message.old stop.0 stop.1 known.new) }
     ensures unchanged { OnErr result (message.new ≡ message.old) }
 {
     let from = match read_tokens(state, known, means, secrets, placed, message) {

@@ -7,12 +7,14 @@ use Rattle.noise_state.specs.Standing.{StateStands, keyed}
 use Rattle.noise_state.specs.Standing.{nonce_now-is}
 use Rattle.noise_state.specs.History.{History, Part, and_then, piece, nonce}
 use Rattle.noise_handshake.specs.Line.{behind_front}
-use Rattle.noise_handshake.specs.View.{Reader, Leads, Stops}
+use Rattle.noise_names.specs.declared.token.Token.{Token}
+use Rattle.noise_handshake.specs.View.{Reader, Leads}
+use Rattle.noise_handshake.specs.inner.Listening.{StopsKnowing}
 use Rattle.noise_handshake.specs.inner.Layout.{tokens_of}
 use Rattle.noise_handshake.specs.declared.faults.Cause.TheVariants.{Short, Tag}
 use Rattle.noise_handshake.proofs.Tags.{sealed_len-tag}
 use Rattle.noise_handshake.proofs.Layouts.{length-tokens_of}
-use Rattle.noise_handshake.proofs.Apart.{reads-whole, stops-last}
+use Rattle.noise_handshake.proofs.Apart.{reads-whole, knows-last}
 use Rattle.noise_handshake.proofs.Steps.{written-at, rest-at}
 use Rattle.noise_handshake.proofs.reading.read_message.Goals as goal
 
@@ -70,12 +72,12 @@ returns-in-Err-Short-clause-read g c r s =
     let nonces : nonce behind < 2 ^ 64 - 1 = omega (arith, nonce_now-is c.read_tokens.new.state behind start.2, c.read_tokens.ensures.nonce) in
     let fits : length (take (length m - n) (drop n m)) ≤ 65535 = omega (arith, length-drop n m, length-take (length m - n) (drop n m)) in
     let goes : take (length m - n) (drop n m) ≡ drop n m = take_all (length m - n) (drop n m) (omega (arith, length-drop n m)) in
-    let last : Stops v c.args.known.now c.args.secrets.now r (tokens_of c.args.placed.now) m (length (tokens_of c.args.placed.now)) c.end_cause.result =
-    stops-last v c.args.known.now c.args.secrets.now r (tokens_of c.args.placed.now) m start.0 (drop n m) c.end_cause.result i1
+    let ts : List Token = tokens_of c.args.placed.now in
+    subst (λ (k : ℕ). StopsKnowing v c.args.known.now c.args.secrets.now r ts m k c.end_cause.result c.read_tokens.new.known)
+    (length-tokens_of c.args.placed.now)
+    (knows-last v c.args.known.now c.read_tokens.new.known c.args.secrets.now r ts m start.0 (drop n m) c.end_cause.result i1
     (λ payload e. let told = (c.in-Err-Short.ensures.accepts behind start.2).1 (nonces, fits, (payload, goes ∙ e)) in cc)
-    (c.end_cause.ensures ∙ ap (λ (k : ℕ). if nat_lt k 16 then Short else Tag) (sym (length-drop n m))) in
-    subst (λ (k : ℕ). Stops v c.args.known.now c.args.secrets.now r (tokens_of c.args.placed.now) m k c.end_cause.result)
-    (length-tokens_of c.args.placed.now) last
+    (c.end_cause.ensures ∙ ap (λ (k : ℕ). if nat_lt k 16 then Short else Tag) (sym (length-drop n m))) start.3)
 
 pub returns-in-Err-clause-read : goal.returns-in-Err-clause-read
-returns-in-Err-clause-read g c r s = (c.in-Err.ensures.read r 0 s (omega arith) c.requires.placed).0
+returns-in-Err-clause-read g c r s = c.in-Err.ensures.read r 0 s (omega arith) c.requires.placed

@@ -36,7 +36,7 @@ read_lacking-requires-clause-placed g c =
       ended = a.ended;
       state = a.state;
     } in
-    let none : read_fault h ≡ None = ap (λ (z : Held g.row.K.Denot). read_fault z) c.self.view_is ∙ sym c.read_fault.ensures ∙ c.in_default.is in
+    let none : read_fault h ≡ None = ap (λ (z : Held g.row.K.Denot). read_fault z) c.self.view_is ∙ sym c.read_fault.ensures.value ∙ c.in_default.is in
     let less : a.passed < length a.pattern.messages = due h i.2.within none in
     let found : MessageLayout = c.next_layout-laid.result.now in
     let laid : IsLaid (has_psk a.pattern) (has_key a.pattern (passed_places a.pattern a.passed)) (tokens_at a.pattern.messages a.passed) found =
@@ -63,7 +63,7 @@ read_lacking-requires-clause-secrets g c =
       ended = a.ended;
       state = a.state;
     } in
-    let none : read_fault h ≡ None = ap (λ (z : Held g.row.K.Denot). read_fault z) c.self.view_is ∙ sym c.read_fault.ensures ∙ c.in_default.is in
+    let none : read_fault h ≡ None = ap (λ (z : Held g.row.K.Denot). read_fault z) c.self.view_is ∙ sym c.read_fault.ensures.value ∙ c.in_default.is in
     let less : a.passed < length a.pattern.messages = due h i.2.within none in
     let found : MessageLayout = c.next_layout-laid.result.now in
     let laid : IsLaid (has_psk a.pattern) (has_key a.pattern (passed_places a.pattern a.passed)) (tokens_at a.pattern.messages a.passed) found =
@@ -91,7 +91,7 @@ read_lacking-requires-clause-nonces g c =
       ended = a.ended;
       state = a.state;
     } in
-    let none : read_fault h ≡ None = ap (λ (z : Held g.row.K.Denot). read_fault z) c.self.view_is ∙ sym c.read_fault.ensures ∙ c.in_default.is in
+    let none : read_fault h ≡ None = ap (λ (z : Held g.row.K.Denot). read_fault z) c.self.view_is ∙ sym c.read_fault.ensures.value ∙ c.in_default.is in
     let less : a.passed < length a.pattern.messages = due h i.2.within none in
     let found : MessageLayout = c.next_layout-laid.result.now in
     let laid : IsLaid (has_psk a.pattern) (has_key a.pattern (passed_places a.pattern a.passed)) (tokens_at a.pattern.messages a.passed) found =
@@ -119,7 +119,7 @@ read_lacking-requires-clause-known g c =
       ended = a.ended;
       state = a.state;
     } in
-    let none : read_fault h ≡ None = ap (λ (z : Held g.row.K.Denot). read_fault z) c.self.view_is ∙ sym c.read_fault.ensures ∙ c.in_default.is in
+    let none : read_fault h ≡ None = ap (λ (z : Held g.row.K.Denot). read_fault z) c.self.view_is ∙ sym c.read_fault.ensures.value ∙ c.in_default.is in
     let less : a.passed < length a.pattern.messages = due h i.2.within none in
     let found : MessageLayout = c.next_layout-laid.result.now in
     let laid : IsLaid (has_psk a.pattern) (has_key a.pattern (passed_places a.pattern a.passed)) (tokens_at a.pattern.messages a.passed) found =
@@ -147,7 +147,7 @@ returns g c v s =
       ended = a.ended;
       state = a.state;
     } in
-    let none : read_fault h ≡ None = ap (λ (z : Held g.row.K.Denot). read_fault z) c.self.view_is ∙ sym c.read_fault.ensures ∙ c.in_default.is in
+    let none : read_fault h ≡ None = ap (λ (z : Held g.row.K.Denot). read_fault z) c.self.view_is ∙ sym c.read_fault.ensures.value ∙ c.in_default.is in
     let less : a.passed < length a.pattern.messages = due h i.2.within none in
     let found : MessageLayout = c.next_layout-laid.result.now in
     let laid : IsLaid (has_psk a.pattern) (has_key a.pattern (passed_places a.pattern a.passed)) (tokens_at a.pattern.messages a.passed) found =

@@ -1,0 +1,41 @@
+use Rattle.std.proofs.Common.{ℕ, List, drop, refl, sym, subst, ◌∙◌}
+use Rattle.std.specs.Prelude.{Option, MatchOption, true}
+use Rattle.noise_handshake.specs.declared.faults.Cause.TheVariants.{Agreement}
+use Rattle.noise_handshake.specs.declared.faults.ReadFault.{ReadFault}
+use Rattle.noise_handshake.specs.declared.keys.Own.{Own}
+use Rattle.noise_handshake.specs.Held.{Held, ended_as}
+use Rattle.noise_handshake.specs.Party.{Stands, Declines, behind_declined}
+use Rattle.noise_handshake.specs.View.{Refuses}
+use Rattle.noise_handshake.specs.Wanting.{WantsToRead}
+use Rattle.noise_handshake.proofs.Standing.{faulted, faulted-not, ends}
+use Rattle.noise_handshake.proofs.handshake.Handshake.read_or_ask.Goals as goal
+
+pub returns-in-Some-clause-reads : goal.returns-in-Some-clause-reads
+returns-in-Some-clause-reads g c v s =
+    let P = g.K.Keys.public_of in
+    let A = g.K.Keys.agreement in
+    let e = sym c.read_fault.ensures.value ∙ c.in-Some.is in
+    let d = faulted P A c.args.self.now v s c.in-Some.fault c.args.message.now c.read_fault.ensures.within e in
+    ((d.0, λ token r. faulted-not P A c.args.self.now v s c.in-Some.fault c.args.message.now token Agreement e r), d.1)
+
+pub returns-in-None-clause-reads : goal.returns-in-None-clause-reads
+returns-in-None-clause-reads g c v s =
+    let P = g.K.Keys.public_of in
+    let A = g.K.Keys.agreement in
+    let a = c.self.inside in
+    let h : Held g.row.K.Denot = record {
+      pattern = a.pattern;
+      role = a.role;
+      keys = a.keys;
+      remote = a.remote;
+      secrets = drop a.used a.secrets.items;
+      passed = a.passed;
+      ended = a.ended;
+      state = a.state;
+    } in
+    let s0 : Stands P A h v = subst (λ (z : Held g.row.K.Denot). Stands P A z v) (sym (c.self.view_is ∙ c.in-Err.ensures.state)) s in
+    let q = c.in-Err.ensures.reads v s in
+    let none = subst (λ (o : Option (Own × List ℕ)). MatchOption o ((token : ℕ) → Refuses v c.args.message.now token Agreement → ⊥)
+    (λ want. WantsToRead v c.args.message.now want.0 want.1)) c.in-None.is q.1 in
+    subst (λ (f : ReadFault). (Declines v c.args.message.now f × ((token : ℕ) → Refuses v c.args.message.now token Agreement → ⊥))
+    × Stands P A (ended_as h) (behind_declined v f)) (sym c.fault.ensures) ((q.0, none), ends P A h v s0 true refl)

@@ -1,0 +1,28 @@
+//! Where reading a message stops.
+#![tactic(auto)]
+
+ghost use Rattle.std.specs.Prelude.{◌≡◌};
+ghost use Rattle.noise_handshake.specs.declared.faults.ReadFault.TheVariants.{Refused};
+
+use crate::{Cause, Own, ReadFault};
+
+// The token at which reading stopped, counted from 0, and why; and which DH answer it wanted, if it stopped for want of one: of
+// which key pair, and to which remote key.
+#[derive(Clone, Copy, Debug, PartialEq, Eq)]
+pub(crate) struct Stop {
+    pub(crate) token: u8,
+    pub(crate) cause: Cause,
+    pub(crate) want: Option<(Own, [u8; 32])>,
+}
+
+impl Stop {
+    // The refusal.
+    pub(crate) fn fault(&self) -> ReadFault
+        ensures { result ≡ Refused self.now.token self.now.cause }
+    {
+        ReadFault::Refused {
+            token: self.token,
+            cause: self.cause,
+        }
+    }
+}
