@@ -1,6 +1,7 @@
 -- What is kept stands for what the handshake stood for.
 use Rattle.std.proofs.Common.{◌≡◌, ℕ, ◌+◌, ◌-◌, ◌≤◌, List, refl, ap, sym, subst, ◌∙◌, arith, slice_range}
 use Rattle.noise_names.specs.Plan.{Plan}
+use Rattle.noise_handshake.specs.declared.faults.Cause.{Cause}
 use Rattle.noise_handshake.specs.declared.faults.ReadFault.{ReadFault}
 use Rattle.noise_handshake.specs.declared.faults.ReadFault.TheVariants as read
 use Rattle.noise_handshake.specs.declared.faults.WriteFault.{WriteFault}
@@ -58,3 +59,17 @@ module _ (old new : NoiseHandshake) (h h2 : Held Table) (p : Plan) (v : View) (o
 -- a handshake that was opened stands for what is kept
 pub stands-for : (old : NoiseHandshake) (h : Held Table) (p : Plan) (v : View) → ((q : Plan) → IsPatternOf (text_in old) q → q ≡ h.pattern) → h ≡ held_in h.pattern old → KeepsView old p v → Stands public_in agreement_in h v
 stands-for old h p v one same k = subst (λ (z : Held Table). Stands public_in agreement_in z v) (ap (λ (q : Plan). held_in q old) (one p k.pattern) ∙ sym same) k.stands
+
+-- a message that wasn't refused leaves what was kept
+pub was-left : (old : NoiseHandshake) (h : Held Table) (p : Plan) (v : View) (message : List ℕ) (fault : ReadFault) (code token : ℕ)
+    → ((q : Plan) → IsPatternOf (text_in old) q → q ≡ h.pattern) → h ≡ held_in h.pattern old
+    → KeepsView old p v → ((k : ℕ) (cause : Cause) → fault ≡ read.Refused k cause → ⊥) → code ≡ read_code fault → token ≡ token_in fault
+    → Declines v message fault → WasDeclined p v message code token old
+was-left old h p v message fault code token one same k other e t d =
+    record { fault = fault; code_is = e; token_is = t; declines = d; keeps = unchanged fault other }
+  where
+    unchanged : (fault : ReadFault) → ((k : ℕ) (cause : Cause) → fault ≡ read.Refused k cause → ⊥) → KeepsView old p (behind_declined v fault)
+    unchanged read.Ended f = k
+    unchanged read.Done f = k
+    unchanged read.NotYourTurn f = k
+    unchanged (read.Refused j cause) f = absurd (f j cause refl)

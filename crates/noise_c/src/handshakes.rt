@@ -1,17 +1,16 @@
 //! Exports: handshakes.
 #![tactic(auto)]
 
-ghost use Rattle.std.specs.Prelude.{◌≡◌, ◌≤◌, ◌<◌, ◌+◌, ◌⊎◌, ℕ, length, slice_range};
+ghost use Rattle.std.specs.Prelude.{◌≡◌, ◌≤◌, ◌<◌, ◌+◌, ◌⊎◌, ◌↔◌, length, slice_range};
 ghost use Rattle.noise_names.specs.Plan.{Plan};
-ghost use Rattle.noise_handshake.specs.View.{View, Refuses};
-ghost use Rattle.noise_handshake.specs.declared.faults.Cause.{Cause};
+ghost use Rattle.noise_handshake.specs.View.{View};
 ghost use Rattle.noise_handshake.specs.Wanting.{WantsToRead};
 ghost use Rattle.noise_c.specs.Kept.{own_in, IsAdded, IsUsable, KeepsView, WasRead, WasDeclined};
 
-use crate::codes::{AGREEMENT, FULL, LENGTH, OK, STRUCT, WANTED, read_code};
+use crate::codes::{FULL, LENGTH, OK, STRUCT, WANTED, read_code};
 use crate::held::{handshake_of, keep};
 use crate::kept::{NoiseAnswer, NoiseHandshake, NoiseTold};
-use noise_handshake::Own;
+use noise_handshake::{Own, ReadFault, Unread};
 
 const MAX_LEN: usize = 65535;
 
@@ -58,52 +57,34 @@ fn number_of(own: Own) -> u8
 }
 
 // Tells which answer is wanted.
-pub(crate) fn tell(want: (Own, [u8; 32]), told: &mut NoiseTold)
-    ensures own { own_in told.new.of_static ≡ want.0 }
-    ensures key { told.new.remote ≡ want.1 }
+pub(crate) fn tell(own: Own, key: [u8; 32], told: &mut NoiseTold)
+    ensures own { own_in told.new.of_static ≡ own }
+    ensures key { told.new.remote ≡ key }
 {
-    let (own, key) = want;
     told.of_static = number_of(own);
     told.remote = key;
 }
 
-// Tells which answer reading this message lacks.
-fn tell_wanted_to_read(kept: &NoiseHandshake, message: &[u8], told: &mut NoiseTold) -> u32
-    ensures wanted { result ≡ 20 → (p : Plan) (v : View) → KeepsView kept.now p v
-        → WantsToRead v message.now (own_in told.new.of_static) told.new.remote }
-    ensures none { result ≡ 14 → (p : Plan) (v : View) → KeepsView kept.now p v → (token : ℕ) → Refuses v message.now token Cause.Agreement → ⊥ }
-    ensures unusable { result ≡ 23 → IsUsable kept.now → ⊥ }
-    ensures codes { (result ≡ 14) ⊎ (result ≡ 20) ⊎ (result ≡ 23) }
-{
-    let Some(handshake) = handshake_of(kept) else {
-        return STRUCT;
-    };
-    match handshake.wants_to_read(message) {
-        Some(want) => {
-            tell(want, told);
-            WANTED
-        }
-        None => AGREEMENT,
-    }
-}
-
 /// Reads a message in place, and tells where its payload stands. At any answer but OK its bytes are unchanged.
 ///
-/// WANTED tells the DH answer that is lacking, and changes nothing: hand it in, and call again.
+/// WANTED tells the DH answer that is lacking, and changes nothing: hand it in, and call again. AGREEMENT can only come of memory
+/// that no call has left.
 #[unsafe(no_mangle)]
 pub extern "C" fn noise_read(
     kept: &mut NoiseHandshake,
     message: &mut [u8],
     told: &mut NoiseTold,
 ) -> u32
-    ensures unusable { result ≡ 23 → (IsUsable kept.old → ⊥) × (kept.new ≡ kept.old) }
-    ensures length { result ≡ 24 → (65535 < length message.old) × (kept.new ≡ kept.old) }
+    ensures unusable { result ≡ 23 ↔ (IsUsable kept.old → ⊥) }
+    ensures length { result ≡ 24 → 65535 < length message.old }
     ensures accepted { result ≡ 0 → (p : Plan) (v : View) → KeepsView kept.old p v
         → WasRead p v message.old (slice_range message.new told.new.from (told.new.from + told.new.len)) kept.new }
-    ensures wanted { result ≡ 20 → (kept.new ≡ kept.old) × ((p : Plan) (v : View) → KeepsView kept.old p v
-        → WantsToRead v message.old (own_in told.new.of_static) told.new.remote) }
+    ensures wanted { result ≡ 20 → (p : Plan) (v : View) → KeepsView kept.old p v
+        → WantsToRead v message.old (own_in told.new.of_static) told.new.remote }
     ensures declined { 10 ≤ result → result ≤ 16 → (p : Plan) (v : View) → KeepsView kept.old p v
         → WasDeclined p v message.old result told.new.token kept.new }
+    ensures answered { result ≡ 14 → (p : Plan) (v : View) → KeepsView kept.old p v → ⊥ }
+    ensures left { (result ≤ 13) ⊎ (20 ≤ result) → 0 < result → kept.new ≡ kept.old }
     ensures unchanged { 0 < result → message.new ≡ message.old }
     ensures stays { result ≡ 0 → IsUsable kept.new }
     ensures codes { (result ≡ 0) ⊎ (result ≡ 10) ⊎ ((12 ≤ result) × (result ≤ 16)) ⊎ (result ≡ 20) ⊎ (result ≡ 23) ⊎ (result ≡ 24) }
@@ -114,20 +95,23 @@ pub extern "C" fn noise_read(
     if message.len() > MAX_LEN {
         return LENGTH;
     }
-    match handshake.read_within(message) {
+    match handshake.read_or_ask(message) {
         Ok((start, end)) => {
             told.from = start;
             told.len = end - start;
             keep(kept, handshake);
             OK
         }
-        Err(fault) => {
+        Err(Unread::Wanted { own, key }) => {
+            tell(own, key, told);
+            WANTED
+        }
+        Err(Unread::Declined(fault)) => {
             let (code, token) = read_code(fault);
-            if code == AGREEMENT {
-                return tell_wanted_to_read(kept, message, told);
-            }
             told.token = token;
-            keep(kept, handshake);
+            if let ReadFault::Refused { .. } = fault {
+                keep(kept, handshake);
+            }
             code
         }
     }

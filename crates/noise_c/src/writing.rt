@@ -51,7 +51,8 @@ pub extern "C" fn noise_write(
             return ROOM;
         }
         if let Some(want) = handshake.wants_to_write() {
-            tell(want, told);
+            let (own, key) = want;
+            tell(own, key, told);
             return WANTED;
         }
     }
