@@ -1,18 +1,22 @@
 -- What is kept stands for what the handshake stood for.
 use Rattle.std.proofs.Common.{◌≡◌, ℕ, ◌+◌, ◌-◌, ◌≤◌, List, refl, ap, sym, subst, ◌∙◌, arith, slice_range}
 use Rattle.noise_names.specs.Plan.{Plan}
+use Rattle.noise_names.specs.Validity.{IsValid}
+use Rattle.noise_handshake.specs.Parts.{IsWhole}
 use Rattle.noise_handshake.specs.declared.faults.Cause.{Cause}
 use Rattle.noise_handshake.specs.declared.faults.ReadFault.{ReadFault}
 use Rattle.noise_handshake.specs.declared.faults.ReadFault.TheVariants as read
+use Rattle.noise_handshake.specs.declared.faults.Unread.{Unread}
+use Rattle.noise_handshake.specs.declared.faults.Unread.TheVariants as unread
 use Rattle.noise_handshake.specs.declared.faults.WriteFault.{WriteFault}
 use Rattle.noise_handshake.specs.declared.faults.WriteFault.TheVariants as write
-use Rattle.noise_handshake.specs.Held.{Held, behind_read_fault, behind_write_fault}
+use Rattle.noise_handshake.specs.Held.{Held, behind_read_fault, behind_unread, behind_write_fault}
 use Rattle.noise_handshake.specs.Table.{Table}
 use Rattle.noise_handshake.specs.View.{View, Accepts}
 use Rattle.noise_handshake.specs.Party.{Stands, behind_message, behind_own, behind_declined, Declines}
 use Rattle.noise_handshake.specs.Writing.{Writes}
 use Rattle.noise_c.specs.declared.kept.NoiseHandshake.{NoiseHandshake}
-use Rattle.noise_c.specs.Kept.{public_in, agreement_in, text_in, held_in, IsPatternOf, KeepsView, WasRead, WasWritten, WasDeclined}
+use Rattle.noise_c.specs.Kept.{public_in, agreement_in, text_in, held_in, IsPatternOf, IsUsable, KeepsView, WasRead, WasWritten, WasDeclined}
 use Rattle.noise_c.specs.Codes.{read_code, token_in}
 
 pub read-pattern : (h : Held Table) (fault : ReadFault) → (behind_read_fault h fault).pattern ≡ h.pattern
@@ -73,3 +77,43 @@ was-left old h p v message fault code token one same k other e t d =
     unchanged read.Done f = k
     unchanged read.NotYourTurn f = k
     unchanged (read.Refused j cause) f = absurd (f j cause refl)
+
+-- what a message that isn't read leaves
+pub unread-pattern : (h : Held Table) (u : Unread) → (behind_unread h u).pattern ≡ h.pattern
+unread-pattern h (unread.Wanted own key) = refl
+unread-pattern h (unread.Declined fault) = read-pattern h fault
+
+pub unread-keys : (h : Held Table) (u : Unread) → (behind_unread h u).keys ≡ h.keys
+unread-keys h (unread.Wanted own key) = refl
+unread-keys h (unread.Declined read.Ended) = refl
+unread-keys h (unread.Declined read.Done) = refl
+unread-keys h (unread.Declined read.NotYourTurn) = refl
+unread-keys h (unread.Declined (read.Refused token cause)) = refl
+
+pub unread-role : (h : Held Table) (u : Unread) → (behind_unread h u).role ≡ h.role
+unread-role h (unread.Wanted own key) = refl
+unread-role h (unread.Declined read.Ended) = refl
+unread-role h (unread.Declined read.Done) = refl
+unread-role h (unread.Declined read.NotYourTurn) = refl
+unread-role h (unread.Declined (read.Refused token cause)) = refl
+
+-- what keeps a handshake is usable
+pub usable-kept : (new : NoiseHandshake) (h : Held Table) → new.text_len ≤ 416 → new.answer_count ≤ 8 → new.secret_count ≤ 9
+    → IsPatternOf (text_in new) h.pattern → IsValid h.pattern → held_in h.pattern new ≡ h → IsWhole public_in h → IsUsable new
+usable-kept new h t a n named valid same whole = record {
+  text = t;
+  answers = a;
+  secrets = n;
+  pattern = h.pattern;
+  named = named;
+  valid = valid;
+  whole = subst (λ (z : Held Table). IsWhole public_in z) (sym same) whole;
+}
+
+-- the same of what a usable one becomes
+pub usable-behind : (old new : NoiseHandshake) (h h2 : Held Table) → IsUsable old → new.text_len ≡ old.text_len → new.answer_count ≡ old.answer_count
+    → new.secret_count ≤ 9 → text_in new ≡ text_in old → IsPatternOf (text_in old) h.pattern → h2.pattern ≡ h.pattern → IsValid h2.pattern
+    → held_in h2.pattern new ≡ h2 → IsWhole public_in h2 → IsUsable new
+usable-behind old new h h2 u t a n name named stays valid same whole =
+    usable-kept new h2 (omega (arith, t, u.text)) (omega (arith, a, u.answers)) n
+    (subst (λ (z : List ℕ). IsPatternOf z h2.pattern) (sym name) (subst (λ (q : Plan). IsPatternOf (text_in old) q) (sym stays) named)) valid same whole

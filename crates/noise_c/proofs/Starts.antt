@@ -1,5 +1,5 @@
 -- The start of a handshake.
-use Rattle.std.proofs.Common.{◌≡◌, ◌≤◌, ◌⊎◌, ◌↔◌, inl, inr, ℕ, List, [], true, false, sym, subst, ◌∙◌, ap, refl, arith}
+use Rattle.std.proofs.Common.{◌≡◌, ◌≤◌, ◌⊎◌, ◌↔◌, inl, inr, ℕ, List, true, false, sym, subst, ◌∙◌, ap, refl, arith}
 use Rattle.std.specs.Prelude.{Result, Ok, Err, Option, Some, None, MatchOption, IsOk, nat_lt, length}
 use Rattle.std.proofs.lemmas.Bool.Decides.{nat_tests}
 use Rattle.noise_names.specs.Plan.{Plan}
@@ -101,9 +101,6 @@ start-ok p prologue setup r h e a b m = code-ok (fault_in p setup) r h e m ∙ c
 pub start-err : (p : Plan) (prologue : List ℕ) (setup : NoiseSetup) (r : Result (Held Table) SetupFault) (f : SetupFault) → r ≡ Err f
     → length prologue ≤ 65535 → setup.psk_count ≤ 9 → MatchOption (fault_in p setup) (IsOk r) (λ g. r ≡ Err g) → setup_code f ≡ start_code p prologue setup
 start-err p prologue setup r f e a b m = code-err (fault_in p setup) r f e m ∙ code-is p prologue setup a b
-
-pub table-of : (e f s t : Option (List ℕ)) → e ≡ f → s ≡ t → ◌≡◌ {A = Table} (record { e = e; s = s; entries = [] }) (record { e = f; s = t; entries = [] })
-table-of e f s t a b = ap (λ (z : Option (List ℕ)). record { e = z; s = s; entries = [] }) a ∙ ap (λ (z : Option (List ℕ)). record { e = f; s = z; entries = [] }) b
 
 pub remote-of : (e f s t : Option (List ℕ)) → e ≡ f → s ≡ t → ◌≡◌ {A = Remote} (record { e = e; s = s }) (record { e = f; s = t })
 remote-of e f s t a b = ap (λ (z : Option (List ℕ)). record { e = z; s = s }) a ∙ ap (λ (z : Option (List ℕ)). record { e = f; s = z }) b

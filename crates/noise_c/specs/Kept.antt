@@ -24,6 +24,7 @@ use Rattle.noise_handshake.specs.Setup.{begun, setup_fault}
 use Rattle.noise_handshake.specs.View.{View, Accepts}
 use Rattle.noise_handshake.specs.Writing.{Writes}
 use Rattle.noise_handshake.specs.Party.{Stands, behind_message, behind_own, Declines, behind_declined, Withholds}
+use Rattle.noise_c.specs.declared.held.Changes.{Changes}
 use Rattle.noise_c.specs.declared.kept.NoiseKey.{NoiseKey}
 use Rattle.noise_c.specs.declared.kept.NoiseAnswer.{NoiseAnswer}
 use Rattle.noise_c.specs.declared.kept.NoiseHandshake.{NoiseHandshake}
@@ -109,6 +110,14 @@ held_in p k = record {
   ended = not (k.ended == 0);
   state = state_of (record { chaining_key = k.chaining_key; hash = k.hash; key = key_in k.cipher; nonce = k.nonce });
 }
+
+-- what messages change of a handshake
+pub record AreChanges (h : Held Table) (c : Changes) : Type 0 where
+  pub remote : c.remote ≡ h.remote
+  pub secrets : c.secrets.items ≡ h.secrets
+  pub passed : c.passed ≡ h.passed
+  pub ended : c.ended ≡ h.ended
+  pub state : state_of c.state ≡ h.state
 
 -- A call has left this: no more text, answers and secrets than there is room for, and what a handshake of the named pattern may hold.
 pub record IsUsable (k : NoiseHandshake) : Type 0 where

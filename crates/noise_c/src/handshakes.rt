@@ -8,7 +8,7 @@ ghost use Rattle.noise_handshake.specs.Wanting.{WantsToRead};
 ghost use Rattle.noise_c.specs.Kept.{own_in, IsAdded, IsUsable, KeepsView, WasRead, WasDeclined};
 
 use crate::codes::{FULL, LENGTH, OK, STRUCT, WANTED, read_code};
-use crate::held::{handshake_of, keep};
+use crate::held::{changes_of, handshake_of, keep};
 use crate::kept::{NoiseAnswer, NoiseHandshake, NoiseTold};
 use noise_handshake::{Own, ReadFault, Unread};
 
@@ -99,7 +99,8 @@ pub extern "C" fn noise_read(
         Ok((start, end)) => {
             told.from = start;
             told.len = end - start;
-            keep(kept, handshake);
+            let changes = changes_of(handshake);
+            keep(kept, &changes);
             OK
         }
         Err(Unread::Wanted { own, key }) => {
@@ -110,7 +111,8 @@ pub extern "C" fn noise_read(
             let (code, token) = read_code(fault);
             told.token = token;
             if let ReadFault::Refused { .. } = fault {
-                keep(kept, handshake);
+                let changes = changes_of(handshake);
+                keep(kept, &changes);
             }
             code
         }

@@ -2,29 +2,21 @@
 #![tactic(auto)]
 
 ghost use Rattle.std.specs.Prelude.{◌≡◌, ◌≤◌, ◌+◌, ◌++◌, ◌↔◌, length, take, map, IfSome, IsSome, IfOk, IfErr, IsOk};
+ghost use Rattle.noise_handshake.specs.Held.{Held};
 ghost use Rattle.noise_handshake.specs.Parts.{held_of, IsWhole};
+ghost use Rattle.noise_handshake.specs.Table.{Table};
 ghost use Rattle.noise_names.specs.Plan.{Plan};
 ghost use Rattle.noise_names.specs.Text.{Spells};
 ghost use Rattle.noise_names.specs.Validity.{IsValid};
-ghost use Rattle.noise_c.specs.Kept.{key_in, own_in, role_in, entry_in, table_in, public_in, text_in, held_in, IsNamed, IsPatternOf, IsPatternFault, is_text, IsUsable};
+ghost use Rattle.noise_c.specs.Kept.{key_in, role_in, table_in, public_in, text_in, held_in, IsNamed, IsPatternOf, IsPatternFault, is_text, IsUsable, AreChanges};
 
 use crate::codes::{NAME, PATTERN};
-use crate::kept::{NoiseAnswer, NoiseHandshake, NoiseKey};
+use crate::kept::{NoiseHandshake, NoiseKey};
+use crate::kept_keys::{KeptKeys, key_of};
 use arrayvec::ArrayVec;
-use noise_handshake::{Handshake, Own, Parts, Remote, TableKeys};
+use noise_handshake::{Handshake, Parts, Remote};
 use noise_names::{Pattern, ProtocolName, Role, ValidPattern, fundamental};
 use noise_state::StateParts;
-
-// The key, if there is one.
-pub(crate) fn key_of(key: &NoiseKey) -> Option<[u8; 32]>
-    ensures { result ≡ key_in key.now }
-{
-    if key.present == 0 {
-        None
-    } else {
-        Some(key.bytes)
-    }
-}
 
 // How C keeps a key.
 pub(crate) fn kept_key(key: Option<[u8; 32]>) -> NoiseKey
@@ -36,16 +28,6 @@ pub(crate) fn kept_key(key: Option<[u8; 32]>) -> NoiseKey
             present: 0,
             bytes: [0; 32],
         },
-    }
-}
-
-pub(crate) fn own_of(of_static: u8) -> Own
-    ensures { result ≡ own_in of_static }
-{
-    if of_static == 0 {
-        Own::Ephemeral
-    } else {
-        Own::Static
     }
 }
 
@@ -133,31 +115,20 @@ pub(crate) fn pattern_of(bytes: &[u8]) -> Result<ValidPattern, u32>
     }
 }
 
-// The table of answers.
-fn table_of(kept: &NoiseHandshake) -> TableKeys
+// The keys of this party.
+fn keys_of<'a>(kept: &'a NoiseHandshake) -> KeptKeys<'a>
     requires { kept.now.answer_count ≤ 8 }
     ensures { result ≡ table_in kept.now }
 {
-    let mut table = TableKeys::new(key_of(&kept.e), key_of(&kept.s));
-    add_answers(&mut table, &kept.answers[..kept.answer_count as usize]);
-    table
-}
-
-fn add_answers(table: &mut TableKeys, answers: &[NoiseAnswer])
-    requires { length table.old.entries + length answers.now ≤ 8 }
-    ensures { table.new ≡ record table.old { entries = table.old.entries ++ map entry_in answers.now } }
-{
-    let Some((first, more)) = answers.split_first() else {
-        return;
-    };
-    match table.add(own_of(first.of_static), first.remote, first.answer) {
-        Ok(()) => add_answers(table, more),
-        Err(_) => unreachable!(),
+    KeptKeys {
+        e: &kept.e,
+        s: &kept.s,
+        answers: &kept.answers[..kept.answer_count as usize],
     }
 }
 
 // The handshake's parts, of this pattern.
-fn parts_of(kept: &NoiseHandshake, pattern: ValidPattern) -> Parts<TableKeys>
+fn parts_of<'a>(kept: &'a NoiseHandshake, pattern: ValidPattern) -> Parts<KeptKeys<'a>>
     requires answers { kept.now.answer_count ≤ 8 }
     requires secrets { kept.now.secret_count ≤ 9 }
     ensures { held_of result ≡ held_in pattern kept.now }
@@ -171,7 +142,7 @@ fn parts_of(kept: &NoiseHandshake, pattern: ValidPattern) -> Parts<TableKeys>
     Parts {
         pattern,
         role: role_of(kept.responder),
-        keys: table_of(kept),
+        keys: keys_of(kept),
         remote: Remote {
             e: key_of(&kept.remote_e),
             s: key_of(&kept.remote_s),
@@ -189,7 +160,7 @@ fn parts_of(kept: &NoiseHandshake, pattern: ValidPattern) -> Parts<TableKeys>
 }
 
 // The handshake of what C keeps, if a call has left it.
-pub(crate) fn handshake_of(kept: &NoiseHandshake) -> Option<Handshake<TableKeys>>
+pub(crate) fn handshake_of<'a>(kept: &'a NoiseHandshake) -> Option<Handshake<KeptKeys<'a>>>
     ensures usable { IsSome result ↔ IsUsable kept.now }
     ensures named { IfSome result (λ h. IsPatternOf (text_in kept.now) h.pattern) }
     ensures one { IfSome result (λ h. (q : Plan) → IsPatternOf (text_in kept.now) q → q ≡ h.pattern) }
@@ -210,45 +181,56 @@ pub(crate) fn handshake_of(kept: &NoiseHandshake) -> Option<Handshake<TableKeys>
     Handshake::from_parts(parts_of(kept, pattern))
 }
 
-// Keeps what a message has changed.
-pub(crate) fn keep(kept: &mut NoiseHandshake, handshake: Handshake<TableKeys>)
-    requires text { kept.old.text_len ≤ 416 }
-    requires answers { kept.old.answer_count ≤ 8 }
-    requires keys { handshake.keys ≡ table_in kept.old }
-    requires role { handshake.role ≡ role_in kept.old.responder }
-    requires named { IsPatternOf (text_in kept.old) handshake.pattern }
-    ensures text { text_in kept.new ≡ text_in kept.old }
-    ensures same { held_in handshake.pattern kept.new ≡ handshake }
-    ensures usable { IsUsable kept.new }
-{
-    keep_parts(kept, handshake.into_parts());
+// What messages change of a handshake.
+#[derive(Drop)]
+pub(crate) struct Changes {
+    pub(crate) remote: Remote,
+    pub(crate) secrets: ArrayVec<[u8; 32], 9>,
+    pub(crate) passed: u8,
+    pub(crate) ended: bool,
+    pub(crate) state: StateParts,
 }
 
-fn keep_parts(kept: &mut NoiseHandshake, parts: Parts<TableKeys>)
-    requires keys { parts.keys ≡ table_in kept.old }
-    requires role { parts.role ≡ role_in kept.old.responder }
-    ensures valid { IsValid parts.pattern }
-    ensures text { kept.new.text_len ≡ kept.old.text_len }
-    ensures bytes { kept.new.text ≡ kept.old.text }
+// What a handshake has of them.
+pub(crate) fn changes_of<'a>(handshake: Handshake<KeptKeys<'a>>) -> Changes
+    ensures same { AreChanges handshake.entry result }
+    ensures whole { IsWhole public_in handshake.entry }
+    ensures valid { IsValid handshake.entry.pattern }
+{
+    let parts = handshake.into_parts();
+    let _ = parts.pattern.pattern();
+    Changes {
+        remote: parts.remote,
+        secrets: parts.secrets,
+        passed: parts.passed,
+        ended: parts.ended,
+        state: parts.state,
+    }
+}
+
+// Keeps what messages have changed.
+pub(crate) fn keep(kept: &mut NoiseHandshake, changes: &Changes)
+    ensures text { text_in kept.new ≡ text_in kept.old }
+    ensures same { (h : Held Table) → AreChanges h changes.now → h.keys ≡ table_in kept.old → h.role ≡ role_in kept.old.responder
+        → held_in h.pattern kept.new ≡ h }
+    ensures text_len { kept.new.text_len ≡ kept.old.text_len }
     ensures answers { kept.new.answer_count ≡ kept.old.answer_count }
     ensures secrets { kept.new.secret_count ≤ 9 }
-    ensures same { held_in parts.pattern kept.new ≡ held_of parts }
 {
-    let _ = parts.pattern.pattern();
-    let remote_e = kept_key(parts.remote.e);
-    let remote_s = kept_key(parts.remote.s);
-    let cipher = kept_key(parts.state.key);
-    let chaining_key = parts.state.chaining_key;
-    let hash = parts.state.hash;
+    let remote_e = kept_key(changes.remote.e);
+    let remote_s = kept_key(changes.remote.s);
+    let cipher = kept_key(changes.state.key);
+    let chaining_key = changes.state.chaining_key;
+    let hash = changes.state.hash;
     kept.remote_e = remote_e;
     kept.remote_s = remote_s;
-    keep_secrets(kept, &parts.secrets);
-    kept.passed = parts.passed;
-    kept.ended = u8::from(parts.ended);
+    keep_secrets(kept, &changes.secrets);
+    kept.passed = changes.passed;
+    kept.ended = u8::from(changes.ended);
     kept.chaining_key = chaining_key;
     kept.hash = hash;
     kept.cipher = cipher;
-    kept.nonce = parts.state.nonce;
+    kept.nonce = changes.state.nonce;
 }
 
 fn keep_secrets(kept: &mut NoiseHandshake, secrets: &[[u8; 32]])

@@ -4,8 +4,9 @@
 ghost use Rattle.std.specs.Prelude.{◌≡◌, IfSome, is_some, true};
 ghost use Rattle.noise_c.specs.KeptTransport.{is_party, party_in, transport_kept_in};
 
-use crate::held::{kept_key, key_of};
+use crate::held::kept_key;
 use crate::kept::NoiseKey;
+use crate::kept_keys::key_of;
 use noise_names::Role;
 use noise_session::{Transport, TransportParts};
 

@@ -11,6 +11,7 @@ mod handshakes;
 mod held;
 mod kept;
 mod kept_datagrams;
+mod kept_keys;
 mod kept_transport;
 mod starting;
 mod transport_codes;

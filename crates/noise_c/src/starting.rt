@@ -9,19 +9,20 @@ ghost use Rattle.noise_c.specs.Kept.{role_in, public_in, agreement_in, table_in,
 ghost use Rattle.noise_c.specs.Kept.{IsPatternOf, IsNoName, IsNoText, IsNotValid, IsUsable, IsStartCode, KeepsView};
 
 use crate::codes::{LENGTH, OK, PSK_COUNT, setup_code};
-use crate::held::{keep, key_of, pattern_of, role_of};
+use crate::held::{changes_of, keep, pattern_of, role_of};
 use crate::kept::{NoiseHandshake, NoiseSetup};
-use noise_handshake::{Handshake, Remote, SetupFault, TableKeys};
+use crate::kept_keys::{KeptKeys, key_of};
+use noise_handshake::{Handshake, Remote, SetupFault};
 use noise_names::ValidPattern;
 
 const MAX_LEN: usize = 65535;
 
 // The handshake that starts from this.
-fn begin(
+fn begin<'a>(
     pattern: ValidPattern,
     prologue: &[u8],
-    setup: &NoiseSetup,
-) -> Result<Handshake<TableKeys>, SetupFault>
+    setup: &'a NoiseSetup,
+) -> Result<Handshake<KeptKeys<'a>>, SetupFault>
     requires len { length prologue.now ≤ 65535 }
     requires count { setup.now.psk_count ≤ 9 }
     ensures fault { MatchOption (fault_in pattern setup.now) (IsOk result) (λ fault. result ≡ Err fault) }
@@ -34,7 +35,11 @@ fn begin(
         e: key_of(&setup.remote_e),
         s: key_of(&setup.remote_s),
     };
-    let keys = TableKeys::new(key_of(&setup.e), key_of(&setup.s));
+    let keys = KeptKeys {
+        e: &setup.e,
+        s: &setup.s,
+        answers: &[],
+    };
     let role = role_of(setup.responder);
     let psks = &setup.psks[..setup.psk_count as usize];
     Handshake::new(pattern, role, prologue, keys, remote, psks)
@@ -83,7 +88,8 @@ fn start_with(
     match begin(pattern, prologue, setup) {
         Ok(handshake) => {
             keep_start(kept, text, setup);
-            keep(kept, handshake);
+            let changes = changes_of(handshake);
+            keep(kept, &changes);
             OK
         }
         Err(fault) => setup_code(fault),

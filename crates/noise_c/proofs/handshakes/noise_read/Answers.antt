@@ -1,24 +1,61 @@
-use Rattle.std.proofs.Common.{◌≡◌, ℕ, List, sym, subst, ◌∙◌, arith}
+use Rattle.std.proofs.Common.{◌≡◌, ℕ, List, refl, ap, sym, subst, ◌∙◌, arith}
 use Rattle.noise_handshake.specs.declared.faults.Cause.TheVariants.{Short, Tag, Agreement}
 use Rattle.noise_handshake.specs.declared.faults.ReadFault.{ReadFault}
 use Rattle.noise_handshake.specs.declared.faults.ReadFault.TheVariants as read
-use Rattle.noise_handshake.specs.Asking.{LeavesUnread}
+use Rattle.noise_handshake.specs.Asking.{LeavesUnread, behind_asked}
+use Rattle.noise_handshake.specs.Held.{Held}
+use Rattle.noise_handshake.specs.Table.{Table}
 use Rattle.noise_handshake.specs.declared.faults.Unread.{Unread}
-use Rattle.noise_handshake.specs.Party.{Declines}
+use Rattle.noise_handshake.specs.Party.{Stands, Declines}
 use Rattle.noise_handshake.specs.View.{View, Refuses}
 use Rattle.noise_c.specs.Codes.{read_code}
-use Rattle.noise_c.proofs.Keeps.{opened, was-read, stands-for}
+use Rattle.noise_c.specs.Kept.{public_in, agreement_in, held_in}
+use Rattle.noise_c.proofs.Keeps.{unread-pattern, unread-keys, unread-role, usable-behind, was-declined, opened, was-read, stands-for}
 use Rattle.noise_c.proofs.handshakes.noise_read.Goals as goal
 
 pub returns-in-Ok-clause-accepted : goal.returns-in-Ok-clause-accepted
 returns-in-Ok-clause-accepted c e p v k =
-    let stays : c.read_or_ask.new.self.pattern ≡ c.in-Some.handshake.pattern = c.in-Ok.ensures.state.pattern in
-    let s = opened c.args.kept.now c.keep.new.kept c.in-Some.handshake c.read_or_ask.new.self p v c.in-Some.ensures.one c.in-Some.ensures.same stays
-    c.keep.ensures.text c.keep.ensures.same k in
+    let old = c.args.kept.now in
+    let h = c.in-Some.handshake in
+    let h2 = c.read_or_ask.new.self in
+    let stays : h2.pattern ≡ h.pattern = c.in-Ok.ensures.state.pattern in
+    let same : held_in h2.pattern c.keep.new.kept ≡ h2 =
+    c.keep.ensures.same h2 c.changes_of-changes.ensures.same
+    (c.in-Ok.ensures.state.keys ∙ ap (λ (z : Held Table). z.keys) c.in-Some.ensures.same)
+    (c.in-Ok.ensures.state.role ∙ ap (λ (z : Held Table). z.role) c.in-Some.ensures.same) in
+    let s = opened old c.keep.new.kept h h2 p v c.in-Some.ensures.one c.in-Some.ensures.same stays c.keep.ensures.text same k in
     let r = c.in-Ok.ensures.reads v s in
-    was-read c.args.kept.now c.keep.new.kept c.in-Some.handshake c.read_or_ask.new.self p v c.in-Some.ensures.one c.in-Some.ensures.same stays
-    c.keep.ensures.text c.keep.ensures.same k
+    was-read old c.keep.new.kept h h2 p v c.in-Some.ensures.one c.in-Some.ensures.same stays c.keep.ensures.text same k
     c.args.message.now c.read_or_ask.new.message c.in-Ok.start c.in-Ok.end c.in-Ok.ensures.range.0 r.0 r.1 r.2
+
+pub returns-in-Ok-clause-stays : goal.returns-in-Ok-clause-stays
+returns-in-Ok-clause-stays c e =
+    let h2 = c.read_or_ask.new.self in
+    let same : held_in h2.pattern c.keep.new.kept ≡ h2 =
+    c.keep.ensures.same h2 c.changes_of-changes.ensures.same
+    (c.in-Ok.ensures.state.keys ∙ ap (λ (z : Held Table). z.keys) c.in-Some.ensures.same)
+    (c.in-Ok.ensures.state.role ∙ ap (λ (z : Held Table). z.role) c.in-Some.ensures.same) in
+    usable-behind c.args.kept.now c.keep.new.kept c.in-Some.handshake h2 (c.in-Some.ensures.usable.0 refl) c.keep.ensures.text_len c.keep.ensures.answers
+    c.keep.ensures.secrets c.keep.ensures.text c.in-Some.ensures.named c.in-Ok.ensures.state.pattern c.changes_of-changes.ensures.valid same
+    c.changes_of-changes.ensures.whole
+
+pub returns-in-Refused-clause-declined : goal.returns-in-Refused-clause-declined
+returns-in-Refused-clause-declined c low high p v k =
+    let old = c.args.kept.now in
+    let h = c.in-Some.handshake in
+    let h2 = c.read_or_ask.new.self in
+    let u = c.in-Err-Declined.field-0 in
+    let fault = c.in-Err-Declined.fault in
+    let stays : h2.pattern ≡ h.pattern = ap (λ (z : Held Table). z.pattern) c.in-Err-Declined.ensures.state ∙ unread-pattern h u in
+    let same : held_in h2.pattern c.keep-in-Refused.new.kept ≡ h2 =
+    c.keep-in-Refused.ensures.same h2 c.changes_of-changes-in-Refused.ensures.same
+    (ap (λ (z : Held Table). z.keys) c.in-Err-Declined.ensures.state ∙ unread-keys h u ∙ ap (λ (z : Held Table). z.keys) c.in-Some.ensures.same)
+    (ap (λ (z : Held Table). z.role) c.in-Err-Declined.ensures.state ∙ unread-role h u ∙ ap (λ (z : Held Table). z.role) c.in-Some.ensures.same) in
+    let s = opened old c.keep-in-Refused.new.kept h h2 p v c.in-Some.ensures.one c.in-Some.ensures.same stays c.keep-in-Refused.ensures.text same k in
+    let r = subst (λ (z : Unread). LeavesUnread v c.args.message.now z × Stands public_in agreement_in h2 (behind_asked v z))
+    c.in-Err-Declined.field-0-is (c.in-Err-Declined.ensures.reads v s) in
+    was-declined old c.keep-in-Refused.new.kept h h2 p v c.in-Some.ensures.one c.in-Some.ensures.same stays c.keep-in-Refused.ensures.text same k
+    c.args.message.now fault c.read_code-code.result.0 c.read_code-code.result.1 c.read_code-code.ensures.code c.read_code-code.ensures.token r.0.0 r.1
 
 -- the fault of that number
 agreement-of : (v : View) (m : List ℕ) (fault : ReadFault) → read_code fault ≡ 14 → Declines v m fault → (token : ℕ) × Refuses v m token Agreement
