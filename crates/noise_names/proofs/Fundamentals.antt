@@ -9,8 +9,10 @@ use Rattle.noise_names.specs.declared.token.Token.{Token}
 use Rattle.noise_names.specs.Tokens.{own_tokens}
 use Rattle.noise_names.specs.Plan.{Plan, plain_of}
 use Rattle.noise_names.specs.Names.{is_base, are_places}
-use Rattle.noise_names.specs.Limits.{IsPattern, HavePsks, HavePsksAt, is_pre_message, has_few_tokens}
+use Rattle.noise_names.specs.Limits.{IsPattern, HavePsks, HavePsksAt, Placed, is_pre_message, has_few_tokens}
 use Rattle.noise_names.specs.Fundamental.{fundamentals, fundamental_of}
+use Rattle.noise_names.specs.Validity.{IsValid, first_fault, first_fault_from}
+use Rattle.noise_names.proofs.Checking.{none_valid}
 
 both : (x y : Bool) → x && y ≡ true → (x ≡ true) × (y ≡ true)
 both true y h = (refl, h)
@@ -58,6 +60,10 @@ pub fundamentals_known : map (λ p. fundamental_of p.base) fundamentals ≡ map 
 unfolding fundamentals fundamental_of
 fundamentals_known = refl
 
+pub fundamentals_faultless : map first_fault fundamentals ≡ map (λ p. None) fundamentals
+unfolding fundamentals first_fault_from
+fundamentals_faultless = refl
+
 -- messages without psk tokens
 pub plain_messages : (n : ℕ) (messages : List (List Token)) → map own_tokens messages ≡ messages → HavePsksAt [] n messages
 plain_messages n [] h = tt
@@ -94,6 +100,24 @@ known_is_pattern base p found =
       psks = subst (λ (ns : List ℕ). HavePsks ns p.messages) no_places
           (record { tokens = plain_messages 1 p.messages (ap (λ (q : Plan). q.messages) plain); in_range = refl });
       known = subst (λ (o : Option Plan). MatchOption o ⊤ (λ f. plain_of p ≡ f)) (sym known) plain;
+    }
+
+-- one that is found by its base is valid
+pub known_is_valid : (base : List ℕ) (p : Plan) → fundamental_of base ≡ Some p → IsValid p
+unfolding fundamental_of
+known_is_valid base p found =
+    none_valid p (found_map (λ q. bytes_eq q.base base) first_fault (λ q. None) fundamentals p found fundamentals_faultless)
+
+-- one that is found by its base is itself with no psk tokens added
+pub known_is_placed : (base : List ℕ) (p : Plan) → fundamental_of base ≡ Some p → Placed p [] p
+unfolding fundamental_of
+known_is_placed base p found =
+    let plain : plain_of p ≡ p = found_map (λ q. bytes_eq q.base base) plain_of (λ q. q) fundamentals p found fundamentals_plain in
+    let no_places : p.places ≡ [] = sym (ap (λ (q : Plan). q.places) plain) in
+    record {
+      without = plain;
+      places_are = no_places;
+      psks = subst (λ (ns : List ℕ). HavePsks ns p.messages) no_places (known_is_pattern base p found).psks;
     }
 
 le_from_test : (m n : ℕ) → leb m n ≡ true → m ≤ n

@@ -1,9 +1,9 @@
 #![tactic(auto)]
 
-ghost use Rattle.std.specs.Prelude.{◌≡◌, ◌↔◌, ◌≤◌, ◌==◌, length, IsOk, IfOk, IfErr, MatchResult, Some, None};
+ghost use Rattle.std.specs.Prelude.{◌≡◌, ◌↔◌, ◌≤◌, ◌==◌, length, IsOk, IfOk, IfErr, MatchResult, IfSome, [], Some, None};
 
 use crate::seen::Seen;
-use crate::{Pattern, Role, RuleFault};
+use crate::{Pattern, Role, RuleFault, fundamental};
 use std::marker::Model;
 
 /// A pattern that keeps the five rules of validity (Noise, 7.3 and 9.3), which [`RuleFault`] lists.
@@ -29,6 +29,19 @@ impl ValidPattern {
     ghost use Rattle.noise_names.specs.Plan.{is_one_way, first_places};
     ghost use Rattle.noise_names.specs.Overhead.{has_key, overhead_of};
     ghost use Rattle.noise_names.specs.Validity.{IsValid, TokensKeepRules};
+    ghost use Rattle.noise_names.specs.Limits.{Placed};
+    ghost use Rattle.noise_names.specs.Fundamental.{fundamental_of};
+
+    /// The fundamental pattern of this base, such as `XX` (Noise, 7.4 and 7.5), which is valid. None if the base is none of
+    /// the fifteen. It has no psk tokens.
+    pub fn fundamental(base: &[u8]) -> Option<ValidPattern>
+        ensures same { result ≡ fundamental_of base.now }
+        ensures valid { IfSome result (λ pattern. IsValid pattern) }
+        ensures placed { IfSome result (λ pattern. Placed pattern [] pattern) }
+    {
+        let pattern = fundamental(base)?;
+        Some(ValidPattern { pattern })
+    }
 
     /// The pattern.
     pub fn pattern(&self) -> &Pattern
