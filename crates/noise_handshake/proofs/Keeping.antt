@@ -34,6 +34,14 @@ module _ {K : Type 0} (public_of : K → Own → Option (List ℕ)) (h : Held K)
   pub enough : count_by is_psk tokens ≤ length h.secrets
   enough = omega (arith, counted)
 
+  -- there is a key behind it exactly where the pattern says so
+  pub key-behind : (state : SymmetricState) (passed : ℕ) → passed ≡ h.passed + 1
+      → keyed state ≡ keyed_behind_tokens (has_psk h.pattern) (keyed h.state) tokens → keyed state ≡ has_key h.pattern (passed_places h.pattern passed)
+  key-behind state passed p k =
+      k ∙ ap (λ (b : Bool). keyed_behind_tokens (has_psk h.pattern) b tokens) s.keyed
+      ∙ ap (λ (ts : List Token). keyed_behind_tokens (has_psk h.pattern) (has_key h.pattern (passed_places h.pattern h.passed)) ts) e
+      ∙ sym (has_key-passed h.pattern h.passed due) ∙ ap (λ (i : ℕ). has_key h.pattern (passed_places h.pattern i)) (sym p)
+
   pub sound-behind : (remote : Remote) (state : SymmetricState) (secrets : List (List ℕ)) (passed : ℕ) → passed ≡ h.passed + 1
       → secrets ≡ drop (count_by is_psk tokens) h.secrets
       → keyed state ≡ keyed_behind_tokens (has_psk h.pattern) (keyed h.state) tokens → nonce_now state ≤ nonce_now h.state + length tokens + 1
@@ -46,9 +54,7 @@ module _ {K : Type 0} (public_of : K → Own → Option (List ℕ)) (h : Held K)
         ∙ ap (λ (i : ℕ). secrets_of (drop i h.pattern.messages)) (next ∙ sym p);
     has_e = s.has_e;
     has_s = s.has_s;
-    keyed = k ∙ ap (λ (b : Bool). keyed_behind_tokens (has_psk h.pattern) b tokens) s.keyed
-        ∙ ap (λ (ts : List Token). keyed_behind_tokens (has_psk h.pattern) (has_key h.pattern (passed_places h.pattern h.passed)) ts) e
-        ∙ sym (has_key-passed h.pattern h.passed due) ∙ ap (λ (i : ℕ). has_key h.pattern (passed_places h.pattern i)) (sym p);
+    keyed = key-behind state passed p k;
     nonce = omega (arith, s.nonce, p, n, short);
   } where
     left : (a b c : ℕ) → a ≡ b + c → a - b ≡ c

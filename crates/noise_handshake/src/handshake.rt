@@ -5,12 +5,12 @@ ghost use Rattle.std.specs.Prelude.{◌≡◌, ◌≤◌, ◌<◌, ◌+◌, ◌-
 ghost use Rattle.std.specs.Prelude.{IfErr, OnErr, MatchResult, MatchOption, IsSome, IfSome, not, ◌&&◌, ◌==◌};
 ghost use Rattle.std.specs.Option.{ForSome};
 
-use crate::layout::{MessageLayout, lay_out};
+use crate::layout::{MessageLayout, lay_next};
 use crate::reading::{lacked, read_lacking, read_message};
 use crate::setup::{public_keys, setup_fault, start};
+use crate::stop::Stop;
 use crate::tokens::Means;
 use crate::writing::{write_lacking, write_message};
-use crate::stop::Stop;
 use crate::{Keys, Opened, Own, Parts, ReadFault, Remote, SetupFault, Unread, WriteFault};
 use arrayvec::ArrayVec;
 use noise_names::{Role, ValidPattern};
@@ -23,7 +23,7 @@ const MAX_LEN: usize = 65535;
 /// One party of a handshake (Noise, 5.3), in either role of any valid pattern. It asks for no memory.
 ///
 /// Messages are written and read in turn, the initiator's first. A message goes on in a trial of the symmetric state, so
-/// that a fault leaves what the messages before it made. The pattern is laid out once, when the handshake is made.
+/// that a fault leaves what the messages before it made. Each message is laid out once, when the one before it has passed.
 #[derive(Drop)]
 pub struct Handshake<K: Keys> {
     pattern: ValidPattern,
@@ -35,7 +35,7 @@ pub struct Handshake<K: Keys> {
     passed: u8,
     ended: bool,
     psks: bool,
-    layout: ArrayVec<MessageLayout, 8>,
+    next: MessageLayout,
     state: SymmetricState,
 }
 
@@ -45,7 +45,7 @@ impl<K: Keys> Model for Handshake<K> {
     ghost use Rattle.noise_handshake.specs.Held.{Held};
     ghost use Rattle.noise_handshake.specs.inner.Known.{KnowsRemote};
     ghost use Rattle.noise_handshake.specs.inner.Sound.{IsSound};
-    ghost use Rattle.noise_handshake.specs.inner.Layout.{LaysOut};
+    ghost use Rattle.noise_handshake.specs.inner.Layout.{LaysNext};
     ghost use Rattle.noise_names.specs.Validity.{IsValid};
 
     ghost Value = { Held K };
@@ -71,7 +71,7 @@ impl<K: Keys> Model for Handshake<K> {
       ended = a.ended;
       state = a.state;
     } in
-        (a.psks ≡ has_psk a.pattern) × (a.used ≤ length a.secrets.items) × IsSound K.public_of h × KnowsRemote h × LaysOut a.pattern a.layout.items
+        (a.psks ≡ has_psk a.pattern) × (a.used ≤ length a.secrets.items) × IsSound K.public_of h × KnowsRemote h × LaysNext a.pattern a.passed a.next
         × IsValid a.pattern };
 }
 
@@ -120,7 +120,7 @@ impl<K: Keys> Handshake<K> {
         }
         let with_psks = !plan.is_plain();
         let state = start(plan, role, prologue, &public_keys(&keys), &remote);
-        let layout = lay_out(plan, with_psks, state.has_key());
+        let next = lay_next(plan, with_psks, state.has_key(), 0);
         let mut secrets = ArrayVec::new();
         secrets.try_extend_from_slice(psks).unwrap();
         Ok(Handshake {
@@ -133,7 +133,7 @@ impl<K: Keys> Handshake<K> {
             passed: 0,
             ended: false,
             psks: with_psks,
-            layout,
+            next,
             state,
         })
     }
@@ -172,7 +172,7 @@ impl<K: Keys> Handshake<K> {
         }
         let plan = parts.pattern.pattern();
         let psks = !plan.is_plain();
-        let layout = lay_out(plan, psks, parts.pattern.has_key(0));
+        let next = lay_next(plan, psks, parts.state.key.is_some(), parts.passed);
         Some(Handshake {
             pattern: parts.pattern,
             role: parts.role,
@@ -183,7 +183,7 @@ impl<K: Keys> Handshake<K> {
             passed: parts.passed,
             ended: parts.ended,
             psks,
-            layout,
+            next,
             state: SymmetricState::from_parts(parts.state),
         })
     }
@@ -245,7 +245,7 @@ impl<K: Keys> Handshake<K> {
             IsLaid (has_psk p) (has_key p (passed_places p n)) (tokens_at p.messages n) result.now }
         ensures valid { IsValid self.now.pattern }
     {
-        &self.layout[self.passed as usize]
+        &self.next
     }
 
     // How much longer the next message is than its payload.
@@ -264,7 +264,7 @@ impl<K: Keys> Handshake<K> {
     {
         if self.ended {
             Some(ReadFault::Ended)
-        } else if self.passed as usize == self.layout.len() {
+        } else if self.passed as usize == self.pattern.pattern().messages().len() {
             Some(ReadFault::Done)
         } else if self.writes_next() {
             Some(ReadFault::NotYourTurn)
@@ -301,9 +301,11 @@ impl<K: Keys> Handshake<K> {
         match read_message(&mut state, &mut remote, &means, secrets, placed, message) {
             Ok(place) => {
                 self.used += laid.secrets;
+                self.passed += 1;
+                let plan = self.pattern.pattern();
+                self.next = lay_next(plan, self.psks, state.has_key(), self.passed);
                 self.state = state;
                 self.remote = remote;
-                self.passed += 1;
                 Ok(place)
             }
             Err((token, cause)) => Err(Stop {
@@ -443,7 +445,7 @@ impl<K: Keys> Handshake<K> {
     {
         if self.ended {
             Some(WriteFault::Ended)
-        } else if self.passed as usize == self.layout.len() {
+        } else if self.passed as usize == self.pattern.pattern().messages().len() {
             Some(WriteFault::Done)
         } else if !self.writes_next() {
             Some(WriteFault::NotYourTurn)
@@ -502,8 +504,10 @@ impl<K: Keys> Handshake<K> {
         ) {
             Ok(len) => {
                 self.used += laid.secrets;
-                self.state = state;
                 self.passed += 1;
+                let plan = self.pattern.pattern();
+                self.next = lay_next(plan, self.psks, state.has_key(), self.passed);
+                self.state = state;
                 Ok(len)
             }
             Err(token) => {
@@ -517,7 +521,9 @@ impl<K: Keys> Handshake<K> {
     fn speaks(&self) -> bool
         ensures { result ≡ (not self.now.ended && not (self.now.passed == length self.now.pattern.messages) && is_turn self.now.role self.now.passed) }
     {
-        !self.ended && self.passed as usize != self.layout.len() && self.writes_next()
+        !self.ended
+            && self.passed as usize != self.pattern.pattern().messages().len()
+            && self.writes_next()
     }
 
     /// For want of which DH answer no message would be written now: of which key pair of this party, and to which public key of
@@ -546,7 +552,7 @@ impl<K: Keys> Handshake<K> {
         ensures opened { (v : View) → Stands K.public_of K.agreement self v → IfOk result (λ o. Opens o v) }
         ensures back { IfErr result (λ h. h ≡ self) }
     {
-        if self.ended || (self.passed as usize) < self.layout.len() {
+        if self.ended || (self.passed as usize) < self.pattern.pattern().messages().len() {
             return Err(self);
         }
         let hash = self.state.hash();

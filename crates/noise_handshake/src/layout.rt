@@ -1,17 +1,16 @@
-//! The layout of a pattern's messages (Noise, 5.3): where each token and each payload stand, made once for a handshake.
+//! The layout of a message (Noise, 5.3): where each token and the payload stand, made once for each message.
 #![tactic(auto)]
 
-ghost use Rattle.std.specs.Prelude.{◌≡◌, ◌≤◌, ◌+◌, ◌*◌, ◌++◌, List, length};
+ghost use Rattle.std.specs.Prelude.{◌≡◌, ◌≤◌, ◌+◌, ◌*◌, ◌++◌, length};
 ghost use Rattle.noise_names.specs.Plan.{has_psk};
 ghost use Rattle.noise_names.specs.Overhead.{has_key};
 ghost use Rattle.noise_handshake.specs.Passed.{passed_places};
 ghost use Rattle.noise_handshake.specs.Length.{keyed_behind, keyed_behind_tokens, token_width, tokens_width};
-ghost use Rattle.noise_handshake.specs.inner.Layout.{placed_from, IsLaid, AreLaid, LaysOut};
-ghost use Rattle.noise_handshake.specs.declared.layout.MessageLayout.{MessageLayout};
+ghost use Rattle.noise_handshake.specs.inner.Layout.{placed_from, IsLaid, LaysNext};
 
 use crate::setup::psk_count;
 use arrayvec::ArrayVec;
-use noise_names::{Message, Pattern, Token};
+use noise_names::{Pattern, Token};
 
 // A token of a message: its place and its width in the message, in bytes.
 #[derive(Clone, Copy, Default)]
@@ -81,49 +80,30 @@ fn place_tokens(
     place_tokens(later, psks, behind, place + width, placed)
 }
 
-// The layout of a message, and whether there is a key behind it.
-fn lay_message(tokens: &[Token], psks: bool, keyed: bool) -> (MessageLayout, bool)
+// The layout of a message.
+fn lay_message(tokens: &[Token], psks: bool, keyed: bool) -> MessageLayout
     requires { length tokens.now ≤ 10 }
-    ensures laid { IsLaid psks keyed tokens.now result.0 }
-    ensures key { result.1 ≡ keyed_behind_tokens psks keyed tokens.now }
+    ensures { IsLaid psks keyed tokens.now result }
 {
     let mut placed = ArrayVec::new();
     let (payload, behind) = place_tokens(tokens, psks, keyed, 0, &mut placed);
     let tag = if behind { 16 } else { 0 };
-    let laid = MessageLayout {
+    MessageLayout {
         tokens: placed,
         overhead: payload + tag,
         secrets: psk_count(tokens),
-    };
-    (laid, behind)
+    }
 }
 
-// Lays messages out one after another.
-fn lay_messages(
-    messages: &[Message],
-    psks: bool,
-    keyed: bool,
-    laid: &mut ArrayVec<MessageLayout, 8>,
-)
-    requires { length laid.old.items + length messages.now ≤ 8 }
-    ensures { (later : List MessageLayout) × (laid.new.items ≡ laid.old.items ++ later) × AreLaid psks keyed messages.now later }
-{
-    let Some((message, later)) = messages.split_first() else {
-        return;
-    };
-    let (first, behind) = lay_message(message.tokens(), psks, keyed);
-    laid.push(first);
-    lay_messages(later, psks, behind, laid)
-}
-
-// The layout of all messages, where there is a key before the first or not.
-pub(crate) fn lay_out(pattern: &Pattern, psks: bool, keyed: bool) -> ArrayVec<MessageLayout, 8>
-    requires few { length pattern.now.messages ≤ 8 }
+// The layout of the message after so many, where there is a key before it or not. Behind the last message there is none,
+// and the result is empty.
+pub(crate) fn lay_next(pattern: &Pattern, psks: bool, keyed: bool, passed: u8) -> MessageLayout
     requires psks { psks ≡ has_psk pattern.now }
-    requires key { keyed ≡ has_key pattern.now (passed_places pattern.now 0) }
-    ensures { LaysOut pattern.now result.items }
+    requires key { keyed ≡ has_key pattern.now (passed_places pattern.now passed) }
+    ensures { LaysNext pattern.now passed result }
 {
-    let mut laid = ArrayVec::new();
-    lay_messages(pattern.messages(), psks, keyed, &mut laid);
-    laid
+    match pattern.messages().get(passed as usize) {
+        Some(message) => lay_message(message.tokens(), psks, keyed),
+        None => MessageLayout::default(),
+    }
 }

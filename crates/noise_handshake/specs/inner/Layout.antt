@@ -1,13 +1,12 @@
--- The layout of a pattern's messages: the places and widths of Noise 5.3, token by token.
+-- The layout of a message: the places and widths of Noise 5.3, token by token.
 use Rattle.std.specs.Prelude.{◌≡◌, ℕ, ◌+◌, ◌<◌, Bool, List, [], ◌∷◌, length, count_by}
-use Rattle.std.proofs.Common.{get_or}
 use Rattle.noise_names.specs.declared.token.Token.{Token}
 use Rattle.noise_names.specs.Tokens.{is_psk}
 use Rattle.noise_names.specs.Plan.{Plan, has_psk}
 use Rattle.noise_names.specs.Overhead.{has_key}
 use Rattle.noise_handshake.specs.declared.layout.PlacedToken.{PlacedToken}
 use Rattle.noise_handshake.specs.declared.layout.MessageLayout.{MessageLayout}
-use Rattle.noise_handshake.specs.Length.{keyed_behind, keyed_behind_tokens, token_width, added_width}
+use Rattle.noise_handshake.specs.Length.{keyed_behind, token_width, added_width}
 use Rattle.noise_handshake.specs.Passed.{passed_places}
 use Rattle.noise_handshake.specs.View.{tokens_at}
 
@@ -34,15 +33,6 @@ pub record IsLaid (psks keyed : Bool) (ts : List Token) (laid : MessageLayout) :
   pub overhead : laid.overhead ≡ added_width psks keyed ts
   pub secrets : laid.secrets ≡ count_by is_psk ts
 
--- the same of messages one after another
-abbrev pub AreLaid : Bool → Bool → List (List Token) → List MessageLayout → Type 0
-AreLaid psks keyed [] [] = Unit {0}
-AreLaid psks keyed [] (laid ∷ more) = ⊥
-AreLaid psks keyed (ts ∷ messages) [] = ⊥
-AreLaid psks keyed (ts ∷ messages) (laid ∷ more) = IsLaid psks keyed ts laid × AreLaid psks (keyed_behind_tokens psks keyed ts) messages more
-
--- The layout of a pattern: each message's, by the key that there is when it comes.
-pub record LaysOut (p : Plan) (layout : List MessageLayout) : Type 0 where
-  pub count : length layout ≡ length p.messages
-  pub each : (n : ℕ) (laid : MessageLayout) → n < length p.messages → laid ≡ get_or layout n laid
-      → IsLaid (has_psk p) (has_key p (passed_places p n)) (tokens_at p.messages n) laid
+-- The layout of the message of a pattern after so many, if there is one.
+abbrev pub LaysNext : Plan → ℕ → MessageLayout → Type 0
+LaysNext p passed laid = passed < length p.messages → IsLaid (has_psk p) (has_key p (passed_places p passed)) (tokens_at p.messages passed) laid

@@ -12,14 +12,14 @@ use Rattle.noise_handshake.proofs.Standing.{due, tokens-are, listening, listens,
 use Rattle.noise_state.specs.Standing.{StateStands, keyed, nonce_now}
 use Rattle.noise_state.specs.declared.symmetric.SymmetricState.{SymmetricState}
 use Rattle.noise_names.specs.declared.token.Token.{Token}
-use Rattle.noise_names.specs.Plan.{has_psk}
+use Rattle.noise_names.specs.Plan.{Plan, has_psk}
 use Rattle.noise_names.specs.Tokens.{is_psk}
 use Rattle.noise_handshake.specs.declared.layout.PlacedToken.{PlacedToken}
 use Rattle.noise_handshake.specs.declared.layout.MessageLayout.{MessageLayout}
 use Rattle.noise_handshake.specs.Passed.{passed_places}
 use Rattle.noise_handshake.specs.Party.{Stands}
-use Rattle.noise_handshake.specs.inner.Layout.{tokens_of, IsLaid}
-use Rattle.noise_handshake.proofs.Keeping.{enough, sound-behind}
+use Rattle.noise_handshake.specs.inner.Layout.{tokens_of, IsLaid, LaysNext}
+use Rattle.noise_handshake.proofs.Keeping.{enough, key-behind, sound-behind}
 use Rattle.noise_handshake.proofs.Wanted.{wants}
 use Rattle.noise_handshake.proofs.Views.{items-from}
 use Rattle.noise_handshake.proofs.handshake.Handshake.attempt.Goals as goal
@@ -193,6 +193,37 @@ overflow_cast-result g c =
     let few : length ts ≤ 10 = omega (arith, length-tokens_of placed, c.deref-2.ensures.1) in
     omega (arith, few, c.in-Err.ensures.stop)
 
+pub lay_next-self-inside-requires-clause-key : goal.lay_next-self-inside-requires-clause-key
+lay_next-self-inside-requires-clause-key g c =
+    let P = g.K.Keys.public_of in
+    let a = c.self.inside in
+    let i = c.self.invariant in
+    let h : Held g.row.K.Denot = record {
+      pattern = a.pattern;
+      role = a.role;
+      keys = a.keys;
+      remote = a.remote;
+      secrets = drop a.used a.secrets.items;
+      passed = a.passed;
+      ended = a.ended;
+      state = a.state;
+    } in
+    let none : read_fault h ≡ None = ap (λ (z : Held g.row.K.Denot). read_fault z) c.self.view_is ∙ c.requires.due in
+    let less : a.passed < length a.pattern.messages = due h i.2.within none in
+    let found : MessageLayout = c.next_layout-laid.result.now in
+    let laid : IsLaid (has_psk a.pattern) (has_key a.pattern (passed_places a.pattern a.passed)) (tokens_at a.pattern.messages a.passed) found =
+    subst (λ (z : Held g.row.K.Denot). IsLaid (has_psk z.pattern) (has_key z.pattern (passed_places z.pattern z.passed))
+    (tokens_at z.pattern.messages z.passed) found)
+    (sym c.self.view_is) c.next_layout-laid.ensures.laid in
+    let placed : List PlacedToken = c.deref-2.result.now in
+    let ts : List Token = tokens_of placed in
+    let e : ts ≡ tokens_at a.pattern.messages a.passed = tokens-laid a.pattern a.passed found laid placed c.deref-2.ensures.0 in
+    let key : keyed c.read_message.new.state ≡ keyed_behind_tokens (has_psk a.pattern) (keyed a.state) ts =
+    c.in-Ok.ensures.key ∙ ap (λ (z : SymmetricState). keyed_behind_tokens a.psks (keyed z) ts) c.for_trial-state.ensures
+    ∙ ap (λ (b : Bool). keyed_behind_tokens b (keyed a.state) ts) i.0 in
+    c.has_key.ensures.key ∙ key-behind P h i.2 ts e less c.read_message.new.state (a.passed + 1) refl key
+    ∙ ap (λ (z : Plan). has_key z (passed_places z (a.passed + 1))) (sym c.pattern-plan.ensures.same)
+
 pub invariant_of-self : goal.invariant_of-self
 invariant_of-self g c =
     let P = g.K.Keys.public_of in
@@ -231,7 +262,7 @@ invariant_of-self g c =
           (ap (λ (k : ℕ). drop (a.used + k) a.secrets.items) n ∙ sym (drop-drop (count_by is_psk ts) a.used a.secrets.items)) key counted few,
       knows-read h i.3 less c.read_message.new.known c.read_message.new.state (drop (a.used + found.secrets) a.secrets.items) ts e c.in-Ok.ensures.e
           c.in-Ok.ensures.s,
-      i.4,
+      subst (λ (z : Plan). LaysNext z (a.passed + 1) c.lay_next-self-inside.result) c.pattern-plan.ensures.same c.lay_next-self-inside.ensures,
       i.5,
     )
 

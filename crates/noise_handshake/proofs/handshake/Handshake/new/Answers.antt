@@ -6,7 +6,7 @@ use Rattle.noise_handshake.specs.declared.remote.Remote.{Remote}
 use Rattle.noise_handshake.specs.Setup.{keys_of, setup_fault, secrets_of}
 use Rattle.noise_handshake.specs.inner.PreMessage.{HasPre}
 use Rattle.noise_handshake.specs.inner.Sound.{IsSound}
-use Rattle.noise_handshake.specs.inner.Layout.{LaysOut}
+use Rattle.noise_handshake.specs.inner.Layout.{LaysNext}
 use Rattle.noise_names.specs.declared.token.Token.TheVariants.{E, S}
 use Rattle.noise_names.specs.Tokens.{other}
 use Rattle.noise_handshake.specs.inner.Known.{KnowsRemote}
@@ -88,6 +88,6 @@ invariant_of-result g c =
             e = λ l. pre.e (sym (stands-start plan (other c.args.role) E) ∙ l);
             s = λ l. pre.s (sym (stands-start plan (other c.args.role) S) ∙ l);
           })),
-      subst (λ (z : Plan). LaysOut z c.lay_out-layout.result.items) q c.lay_out-layout.ensures,
+      subst (λ (z : Plan). LaysNext z 0 c.lay_next-next.result) q c.lay_next-next.ensures,
       c.pattern-plan.ensures.valid,
     )
