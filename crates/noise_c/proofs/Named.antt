@@ -1,6 +1,6 @@
 -- A name is of one pattern.
 use Rattle.std.proofs.Common.{◌≡◌, ℕ, suc, ◌+◌, List, [], ◌∷◌, length, cond, refl, ap, sym, subst, ◌∙◌, arith}
-use Rattle.std.specs.Prelude.{Result, Ok, Bool, true, false, ◌&&◌, nat_le, nat_lt, find, Option, Some, None, map}
+use Rattle.std.specs.Prelude.{Result, Ok, Bool, true, false, ◌&&◌, ◌==◌, nat_le, nat_lt, find, Option, Some, None, map}
 use Rattle.std.specs.List.{list_all}
 use Rattle.std.proofs.lemmas.Bool.Decides.{nat_tests}
 use Rattle.noise_names.specs.declared.token.Token.{Token}
@@ -53,6 +53,12 @@ pattern-one name section base places plain p q every b l known placed h =
     placed-one plain places p q placed other
 
 -- ---- psk places
+
+pub no-places : (ns : List ℕ) → (length ns == 0) ≡ true → ns ≡ []
+no-places [] e = refl
+no-places (n ∷ ns) e = absurd (omega (arith, count (length ns) e)) where
+  count : (k : ℕ) → (suc k == 0) ≡ true → suc k ≡ 0
+  count k h = grind (arith, nat_tests)
 
 left-true : (a b : Bool) → (a && b) ≡ true → a ≡ true
 left-true true b h = refl

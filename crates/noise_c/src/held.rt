@@ -8,7 +8,7 @@ ghost use Rattle.noise_handshake.specs.Table.{Table};
 ghost use Rattle.noise_names.specs.Plan.{Plan};
 ghost use Rattle.noise_names.specs.Text.{Spells};
 ghost use Rattle.noise_names.specs.Validity.{IsValid};
-ghost use Rattle.noise_c.specs.Kept.{key_in, role_in, table_in, public_in, text_in, held_in, IsNamed, IsPatternOf, IsPatternFault, is_text, IsUsable, AreChanges};
+ghost use Rattle.noise_c.specs.Kept.{key_in, role_in, table_in, public_in, text_in, held_in, IsNamed, IsPatternOf, IsPatternFault, is_text, IsUsable, AreChanges, plan_in};
 
 use crate::codes::{NAME, PATTERN};
 use crate::kept::{NoiseHandshake, NoiseKey};
@@ -41,10 +41,17 @@ pub(crate) fn role_of(responder: u8) -> Role
     }
 }
 
+// A pattern: one of the fundamental ones, which are valid, or one that hasn't been checked.
+#[derive(Drop)]
+pub(crate) enum FoundPattern {
+    Valid(ValidPattern),
+    Unchecked(Pattern),
+}
+
 // The pattern of a protocol name.
-fn named(name: &[u8]) -> Option<Pattern>
-    ensures named { IfSome result (λ p. IsNamed name.now p) }
-    ensures one { IfSome result (λ p. (q : Plan) → IsNamed name.now q → q ≡ p) }
+fn named(name: &[u8]) -> Option<FoundPattern>
+    ensures named { IfSome result (λ f. IsNamed name.now (plan_in f)) }
+    ensures one { IfSome result (λ f. (q : Plan) → IsNamed name.now q → q ≡ plan_in f) }
     ensures found { (q : Plan) → IsNamed name.now q → IsSome result }
     ensures short { IsSome result → length name.now ≤ 82 }
 {
@@ -52,26 +59,32 @@ fn named(name: &[u8]) -> Option<Pattern>
     let Ok(name) = ProtocolName::parse(name) else {
         return None;
     };
+    if name.places().numbers().is_empty() {
+        return match ValidPattern::fundamental(name.base()) {
+            Some(valid) => Some(FoundPattern::Valid(valid)),
+            None => None,
+        };
+    }
     let Some(plain) = fundamental(name.base()) else {
         return None;
     };
     match Pattern::with_psks(&plain, name.places()) {
-        Ok(pattern) => Some(pattern),
+        Ok(pattern) => Some(FoundPattern::Unchecked(pattern)),
         Err(_) => None,
     }
 }
 
 // The pattern of a pattern text.
-fn spelled(text: &[u8]) -> Option<Pattern>
-    ensures spelled { IfSome result (λ p. Spells text.now p) }
-    ensures one { IfSome result (λ p. (q : Plan) → Spells text.now q → q ≡ p) }
+fn spelled(text: &[u8]) -> Option<FoundPattern>
+    ensures spelled { IfSome result (λ f. Spells text.now (plan_in f)) }
+    ensures one { IfSome result (λ f. (q : Plan) → Spells text.now q → q ≡ plan_in f) }
     ensures found { (q : Plan) → Spells text.now q → IsSome result }
     ensures short { IsSome result → length text.now ≤ 413 }
 {
     Pattern::texts_are_short();
     Pattern::texts_are_unique();
     match Pattern::parse_text(text) {
-        Ok(pattern) => Some(pattern),
+        Ok(pattern) => Some(FoundPattern::Unchecked(pattern)),
         Err(_) => None,
     }
 }
@@ -84,9 +97,9 @@ fn is_text(bytes: &[u8]) -> bool
 }
 
 // The pattern of a pattern text or of a protocol name.
-fn found(bytes: &[u8]) -> Option<Pattern>
-    ensures named { IfSome result (λ p. IsPatternOf bytes.now p) }
-    ensures one { IfSome result (λ p. (q : Plan) → IsPatternOf bytes.now q → q ≡ p) }
+fn found(bytes: &[u8]) -> Option<FoundPattern>
+    ensures named { IfSome result (λ f. IsPatternOf bytes.now (plan_in f)) }
+    ensures one { IfSome result (λ f. (q : Plan) → IsPatternOf bytes.now q → q ≡ plan_in f) }
     ensures found { (q : Plan) → IsPatternOf bytes.now q → IsSome result }
     ensures short { IsSome result → length bytes.now ≤ 413 }
 {
@@ -106,12 +119,16 @@ pub(crate) fn pattern_of(bytes: &[u8]) -> Result<ValidPattern, u32>
     ensures short { IfOk result (λ _. length bytes.now ≤ 413) }
     ensures fault { IfErr result (λ code. IsPatternFault bytes.now code) }
 {
-    let Some(pattern) = found(bytes) else {
-        return Err(if is_text(bytes) { PATTERN } else { NAME });
-    };
-    match pattern.check() {
-        Ok(valid) => Ok(valid),
-        Err(_) => Err(PATTERN),
+    match found(bytes) {
+        Some(FoundPattern::Valid(valid)) => {
+            let _ = valid.pattern();
+            Ok(valid)
+        }
+        Some(FoundPattern::Unchecked(pattern)) => match pattern.check() {
+            Ok(valid) => Ok(valid),
+            Err(_) => Err(PATTERN),
+        },
+        None => Err(if is_text(bytes) { PATTERN } else { NAME }),
     }
 }
 
