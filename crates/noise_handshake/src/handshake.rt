@@ -300,7 +300,7 @@ impl<K: Keys> Handshake<K> {
         let mut remote = self.remote;
         match read_message(&mut state, &mut remote, &means, secrets, placed, message) {
             Ok(place) => {
-                self.used += laid.secrets;
+                self.used += laid.secrets as usize;
                 self.passed += 1;
                 let plan = self.pattern.pattern();
                 self.next = lay_next(plan, self.psks, state.has_key(), self.passed);
@@ -503,7 +503,7 @@ impl<K: Keys> Handshake<K> {
             out,
         ) {
             Ok(len) => {
-                self.used += laid.secrets;
+                self.used += laid.secrets as usize;
                 self.passed += 1;
                 let plan = self.pattern.pattern();
                 self.next = lay_next(plan, self.psks, state.has_key(), self.passed);

@@ -12,12 +12,12 @@ use crate::setup::psk_count;
 use arrayvec::ArrayVec;
 use noise_names::{Pattern, Token};
 
-// A token of a message: its place and its width in the message, in bytes.
+// A token of a message: its width and its place in the message, in bytes.
 #[derive(Clone, Copy, Default)]
 pub(crate) struct PlacedToken {
     pub(crate) token: Token,
+    pub(crate) width: u8,
     pub(crate) place: u16,
-    pub(crate) width: u16,
 }
 
 // A message: its tokens, how much longer than its payload it is, in bytes, and how many secrets it takes.
@@ -25,11 +25,11 @@ pub(crate) struct PlacedToken {
 pub(crate) struct MessageLayout {
     pub(crate) tokens: ArrayVec<PlacedToken, 10>,
     pub(crate) overhead: u16,
-    pub(crate) secrets: usize,
+    pub(crate) secrets: u8,
 }
 
 // How many bytes a token travels as.
-fn token_width(keyed: bool, token: Token) -> u16
+fn token_width(keyed: bool, token: Token) -> u8
     ensures value { result ≡ token_width keyed token }
     ensures most { result ≤ 48 }
 {
@@ -73,11 +73,11 @@ fn place_tokens(
     let width = token_width(keyed, *token);
     placed.push(PlacedToken {
         token: *token,
-        place,
         width,
+        place,
     });
     let behind = keyed_behind(psks, keyed, *token);
-    place_tokens(later, psks, behind, place + width, placed)
+    place_tokens(later, psks, behind, place + u16::from(width), placed)
 }
 
 // The layout of a message.
@@ -91,7 +91,7 @@ fn lay_message(tokens: &[Token], psks: bool, keyed: bool) -> MessageLayout
     MessageLayout {
         tokens: placed,
         overhead: payload + tag,
-        secrets: psk_count(tokens),
+        secrets: psk_count(tokens) as u8,
     }
 }
 
