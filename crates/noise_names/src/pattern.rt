@@ -29,6 +29,13 @@ impl Message {
     ghost use Rattle.std.specs.List.{list_any};
     ghost use Rattle.noise_names.specs.Tokens.{is_psk};
 
+    // The message that holds these tokens.
+    pub(crate) fn new(tokens: ArrayVec<Token, 10>) -> Message
+        ensures { result ≡ tokens.items }
+    {
+        Message { tokens }
+    }
+
     // The message of these tokens.
     pub(crate) fn of(tokens: &[Token]) -> Message
         requires { length tokens.now ≤ 10 }

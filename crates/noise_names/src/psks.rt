@@ -65,5 +65,5 @@ fn message_with_psks(tokens: &[Token], number: u8, places: &[u8]) -> Message
     if places.contains(&number) {
         kept.push(Token::Psk);
     }
-    Message::of(&kept)
+    Message::new(kept)
 }

@@ -106,10 +106,10 @@ impl Pattern {
         ensures valid { IsOk result ↔ IsValid self }
         ensures fault { IfErr result (λ fault. IsFirstFault self fault) }
     {
-        match self.walk() {
-            Ok(()) => Ok(ValidPattern { pattern: self }),
-            Err(fault) => Err(fault),
+        if let Err(fault) = self.walk() {
+            return Err(fault);
         }
+        Ok(ValidPattern { pattern: self })
     }
 
     // Walks over the places as far as the first fault.
