@@ -10,7 +10,7 @@ use Rattle.noise_handshake.specs.declared.faults.Unread.{Unread}
 use Rattle.noise_handshake.specs.declared.faults.Unread.TheVariants as unread
 use Rattle.noise_handshake.specs.declared.faults.WriteFault.{WriteFault}
 use Rattle.noise_handshake.specs.declared.faults.WriteFault.TheVariants as write
-use Rattle.noise_handshake.specs.Held.{Held, behind_read_fault, behind_unread, behind_write_fault}
+use Rattle.noise_handshake.specs.Held.{Held, behind_read_fault, behind_unread, behind_write_fault, ended_as}
 use Rattle.noise_handshake.specs.Table.{Table}
 use Rattle.noise_handshake.specs.View.{View, Accepts}
 use Rattle.noise_handshake.specs.Party.{Stands, behind_message, behind_own, behind_declined, Declines}
@@ -117,3 +117,14 @@ pub usable-behind : (old new : NoiseHandshake) (h h2 : Held Table) → IsUsable 
 usable-behind old new h h2 u t a n name named stays valid same whole =
     usable-kept new h2 (omega (arith, t, u.text)) (omega (arith, a, u.answers)) n
     (subst (λ (z : List ℕ). IsPatternOf z h2.pattern) (sym name) (subst (λ (q : Plan). IsPatternOf (text_in old) q) (sym stays) named)) valid same whole
+
+-- a handshake that has ended
+pub ended-kept : (old new : NoiseHandshake) (h h2 : Held Table) → new ≡ record old { ended = 1 } → h ≡ held_in h.pattern old → h2 ≡ ended_as h
+    → held_in h2.pattern new ≡ h2
+ended-kept old new h h2 n same e =
+    ap (λ (q : Plan). held_in q new) (ap (λ (z : Held Table). z.pattern) e) ∙ ap (held_in h.pattern) n ∙ sym (e ∙ ap (λ (z : Held Table). ended_as z) same)
+
+-- a refusal ends it
+pub refused-leaves : (h h2 : Held Table) (u : Unread) (fault : ReadFault) (token : ℕ) (cause : Cause) → h2 ≡ behind_unread h u → u ≡ unread.Declined fault
+    → fault ≡ read.Refused token cause → h2 ≡ ended_as h
+refused-leaves h h2 u fault token cause e f g = e ∙ ap (behind_unread h) (f ∙ ap unread.Declined g)

@@ -25,8 +25,6 @@ use Rattle.noise_handshake.specs.View.{View, Accepts}
 use Rattle.noise_handshake.specs.Writing.{Writes}
 use Rattle.noise_handshake.specs.Party.{Stands, behind_message, behind_own, Declines, behind_declined, Withholds}
 use Rattle.noise_c.specs.declared.held.Changes.{Changes}
-use Rattle.noise_c.specs.declared.held.FoundPattern.{FoundPattern}
-use Rattle.noise_c.specs.declared.held.FoundPattern.TheVariants.{Valid, Unchecked}
 use Rattle.noise_c.specs.declared.kept.NoiseKey.{NoiseKey}
 use Rattle.noise_c.specs.declared.kept.NoiseAnswer.{NoiseAnswer}
 use Rattle.noise_c.specs.declared.kept.NoiseHandshake.{NoiseHandshake}
@@ -79,10 +77,6 @@ IsOfKind false bytes p = IsNamed bytes p
 
 abbrev pub IsPatternOf : List ℕ → Plan → Type 0
 IsPatternOf bytes p = IsOfKind (is_text bytes) bytes p
-
-abbrev pub plan_in : FoundPattern → Plan
-plan_in (Valid p) = p
-plan_in (Unchecked p) = p
 
 -- neither a pattern text nor a protocol name of a pattern
 pub record IsNoName (bytes : List ℕ) : Type 0 where

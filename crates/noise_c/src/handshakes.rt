@@ -111,8 +111,7 @@ pub extern "C" fn noise_read(
             let (code, token) = read_code(fault);
             told.token = token;
             if let ReadFault::Refused { .. } = fault {
-                let changes = changes_of(handshake);
-                keep(kept, &changes);
+                kept.ended = 1;
             }
             code
         }

@@ -1,14 +1,14 @@
 //! From what C keeps to a handshake, and back.
 #![tactic(auto)]
 
-ghost use Rattle.std.specs.Prelude.{◌≡◌, ◌≤◌, ◌+◌, ◌++◌, ◌↔◌, length, take, map, IfSome, IsSome, IfOk, IfErr, IsOk};
+ghost use Rattle.std.specs.Prelude.{◌≡◌, ◌≤◌, ◌+◌, ◌++◌, ◌↔◌, ◌⊎◌, length, take, map, IfSome, IsSome, IfOk, IfErr, IsOk};
 ghost use Rattle.noise_handshake.specs.Held.{Held};
 ghost use Rattle.noise_handshake.specs.Parts.{held_of, IsWhole};
 ghost use Rattle.noise_handshake.specs.Table.{Table};
 ghost use Rattle.noise_names.specs.Plan.{Plan};
 ghost use Rattle.noise_names.specs.Text.{Spells};
 ghost use Rattle.noise_names.specs.Validity.{IsValid};
-ghost use Rattle.noise_c.specs.Kept.{key_in, role_in, table_in, public_in, text_in, held_in, IsNamed, IsPatternOf, IsPatternFault, is_text, IsUsable, AreChanges, plan_in};
+ghost use Rattle.noise_c.specs.Kept.{key_in, role_in, table_in, public_in, text_in, held_in, IsNamed, IsPatternOf, IsPatternFault, is_text, IsUsable, AreChanges};
 
 use crate::codes::{NAME, PATTERN};
 use crate::kept::{NoiseHandshake, NoiseKey};
@@ -41,51 +41,56 @@ pub(crate) fn role_of(responder: u8) -> Role
     }
 }
 
-// A pattern: one of the fundamental ones, which are valid, or one that hasn't been checked.
-#[derive(Drop)]
-pub(crate) enum FoundPattern {
-    Valid(ValidPattern),
-    Unchecked(Pattern),
-}
-
-// The pattern of a protocol name.
-fn named(name: &[u8]) -> Option<FoundPattern>
-    ensures named { IfSome result (λ f. IsNamed name.now (plan_in f)) }
-    ensures one { IfSome result (λ f. (q : Plan) → IsNamed name.now q → q ≡ plan_in f) }
-    ensures found { (q : Plan) → IsNamed name.now q → IsSome result }
-    ensures short { IsSome result → length name.now ≤ 82 }
+// The pattern of a protocol name, if it is valid. Else the number of the fault: NAME or PATTERN.
+fn named(name: &[u8]) -> Result<ValidPattern, u32>
+    ensures named { IfOk result (λ p. IsNamed name.now p) }
+    ensures valid { IfOk result (λ p. IsValid p) }
+    ensures one { IfOk result (λ p. (q : Plan) → IsNamed name.now q → q ≡ p) }
+    ensures short { IfOk result (λ _. length name.now ≤ 82) }
+    ensures found { (q : Plan) → IsNamed name.now q → IsValid q → IsOk result }
+    ensures fault { IfErr result (λ code. ((code ≡ 1) × ((q : Plan) → IsNamed name.now q → ⊥))
+        ⊎ ((code ≡ 2) × ((q : Plan) × IsNamed name.now q × (IsValid q → ⊥)))) }
 {
     ProtocolName::names_are_short();
     let Ok(name) = ProtocolName::parse(name) else {
-        return None;
+        return Err(NAME);
     };
     if name.places().numbers().is_empty() {
         return match ValidPattern::fundamental(name.base()) {
-            Some(valid) => Some(FoundPattern::Valid(valid)),
-            None => None,
+            Some(valid) => Ok(valid),
+            None => Err(NAME),
         };
     }
     let Some(plain) = fundamental(name.base()) else {
-        return None;
+        return Err(NAME);
     };
     match Pattern::with_psks(&plain, name.places()) {
-        Ok(pattern) => Some(FoundPattern::Unchecked(pattern)),
-        Err(_) => None,
+        Ok(pattern) => match pattern.check() {
+            Ok(valid) => Ok(valid),
+            Err(_) => Err(PATTERN),
+        },
+        Err(_) => Err(NAME),
     }
 }
 
-// The pattern of a pattern text.
-fn spelled(text: &[u8]) -> Option<FoundPattern>
-    ensures spelled { IfSome result (λ f. Spells text.now (plan_in f)) }
-    ensures one { IfSome result (λ f. (q : Plan) → Spells text.now q → q ≡ plan_in f) }
-    ensures found { (q : Plan) → Spells text.now q → IsSome result }
-    ensures short { IsSome result → length text.now ≤ 413 }
+// The pattern of a pattern text, if it is valid. Else the number of the fault: PATTERN.
+fn spelled(text: &[u8]) -> Result<ValidPattern, u32>
+    ensures spelled { IfOk result (λ p. Spells text.now p) }
+    ensures valid { IfOk result (λ p. IsValid p) }
+    ensures one { IfOk result (λ p. (q : Plan) → Spells text.now q → q ≡ p) }
+    ensures short { IfOk result (λ _. length text.now ≤ 413) }
+    ensures found { (q : Plan) → Spells text.now q → IsValid q → IsOk result }
+    ensures fault { IfErr result (λ code. (code ≡ 2) × (((q : Plan) → Spells text.now q → ⊥)
+        ⊎ ((q : Plan) × Spells text.now q × (IsValid q → ⊥)))) }
 {
     Pattern::texts_are_short();
     Pattern::texts_are_unique();
     match Pattern::parse_text(text) {
-        Ok(pattern) => Some(FoundPattern::Unchecked(pattern)),
-        Err(_) => None,
+        Ok(pattern) => match pattern.check() {
+            Ok(valid) => Ok(valid),
+            Err(_) => Err(PATTERN),
+        },
+        Err(_) => Err(PATTERN),
     }
 }
 
@@ -96,21 +101,7 @@ fn is_text(bytes: &[u8]) -> bool
     bytes.ends_with(b"\n")
 }
 
-// The pattern of a pattern text or of a protocol name.
-fn found(bytes: &[u8]) -> Option<FoundPattern>
-    ensures named { IfSome result (λ f. IsPatternOf bytes.now (plan_in f)) }
-    ensures one { IfSome result (λ f. (q : Plan) → IsPatternOf bytes.now q → q ≡ plan_in f) }
-    ensures found { (q : Plan) → IsPatternOf bytes.now q → IsSome result }
-    ensures short { IsSome result → length bytes.now ≤ 413 }
-{
-    if is_text(bytes) {
-        spelled(bytes)
-    } else {
-        named(bytes)
-    }
-}
-
-// The same, if it is valid. Else the number of the fault: NAME or PATTERN.
+// The pattern of a pattern text or of a protocol name, if it is valid. Else the number of the fault: NAME or PATTERN.
 pub(crate) fn pattern_of(bytes: &[u8]) -> Result<ValidPattern, u32>
     ensures named { IfOk result (λ p. IsPatternOf bytes.now p) }
     ensures valid { IfOk result (λ p. IsValid p) }
@@ -119,16 +110,10 @@ pub(crate) fn pattern_of(bytes: &[u8]) -> Result<ValidPattern, u32>
     ensures short { IfOk result (λ _. length bytes.now ≤ 413) }
     ensures fault { IfErr result (λ code. IsPatternFault bytes.now code) }
 {
-    match found(bytes) {
-        Some(FoundPattern::Valid(valid)) => {
-            let _ = valid.pattern();
-            Ok(valid)
-        }
-        Some(FoundPattern::Unchecked(pattern)) => match pattern.check() {
-            Ok(valid) => Ok(valid),
-            Err(_) => Err(PATTERN),
-        },
-        None => Err(if is_text(bytes) { PATTERN } else { NAME }),
+    if is_text(bytes) {
+        spelled(bytes)
+    } else {
+        named(bytes)
     }
 }
 

@@ -3,14 +3,14 @@ use Rattle.noise_handshake.specs.declared.faults.Cause.TheVariants.{Short, Tag, 
 use Rattle.noise_handshake.specs.declared.faults.ReadFault.{ReadFault}
 use Rattle.noise_handshake.specs.declared.faults.ReadFault.TheVariants as read
 use Rattle.noise_handshake.specs.Asking.{LeavesUnread, behind_asked}
-use Rattle.noise_handshake.specs.Held.{Held}
+use Rattle.noise_handshake.specs.Held.{Held, ended_as}
 use Rattle.noise_handshake.specs.Table.{Table}
 use Rattle.noise_handshake.specs.declared.faults.Unread.{Unread}
 use Rattle.noise_handshake.specs.Party.{Stands, Declines}
 use Rattle.noise_handshake.specs.View.{View, Refuses}
-use Rattle.noise_c.specs.Codes.{read_code}
+use Rattle.noise_c.specs.Codes.{read_code, token_in}
 use Rattle.noise_c.specs.Kept.{public_in, agreement_in, held_in}
-use Rattle.noise_c.proofs.Keeps.{unread-pattern, unread-keys, unread-role, usable-behind, was-declined, opened, was-read, stands-for}
+use Rattle.noise_c.proofs.Keeps.{ended-kept, refused-leaves, usable-behind, was-declined, opened, was-read, stands-for}
 use Rattle.noise_c.proofs.handshakes.noise_read.Goals as goal
 
 pub returns-in-Ok-clause-accepted : goal.returns-in-Ok-clause-accepted
@@ -42,20 +42,19 @@ returns-in-Ok-clause-stays c e =
 pub returns-in-Refused-clause-declined : goal.returns-in-Refused-clause-declined
 returns-in-Refused-clause-declined c low high p v k =
     let old = c.args.kept.now in
+    let new = record old { ended = 1 } in
     let h = c.in-Some.handshake in
     let h2 = c.read_or_ask.new.self in
-    let u = c.in-Err-Declined.field-0 in
-    let fault = c.in-Err-Declined.fault in
-    let stays : h2.pattern ≡ h.pattern = ap (λ (z : Held Table). z.pattern) c.in-Err-Declined.ensures.state ∙ unread-pattern h u in
-    let same : held_in h2.pattern c.keep-in-Refused.new.kept ≡ h2 =
-    c.keep-in-Refused.ensures.same h2 c.changes_of-changes-in-Refused.ensures.same
-    (ap (λ (z : Held Table). z.keys) c.in-Err-Declined.ensures.state ∙ unread-keys h u ∙ ap (λ (z : Held Table). z.keys) c.in-Some.ensures.same)
-    (ap (λ (z : Held Table). z.role) c.in-Err-Declined.ensures.state ∙ unread-role h u ∙ ap (λ (z : Held Table). z.role) c.in-Some.ensures.same) in
-    let s = opened old c.keep-in-Refused.new.kept h h2 p v c.in-Some.ensures.one c.in-Some.ensures.same stays c.keep-in-Refused.ensures.text same k in
+    let over : h2 ≡ ended_as h = refused-leaves h h2 _ c.in-Err-Declined.fault _ _ c.in-Err-Declined.ensures.state c.in-Err-Declined.field-0-is (sym c.in-Err-Declined.fault-is ∙ c.in-Refused.is) in
+    let same : held_in h2.pattern new ≡ h2 = ended-kept old new h h2 refl c.in-Some.ensures.same over in
+    let stays : h2.pattern ≡ h.pattern = ap (λ (z : Held Table). z.pattern) over in
+    let s = opened old new h h2 p v c.in-Some.ensures.one c.in-Some.ensures.same stays refl same k in
     let r = subst (λ (z : Unread). LeavesUnread v c.args.message.now z × Stands public_in agreement_in h2 (behind_asked v z))
     c.in-Err-Declined.field-0-is (c.in-Err-Declined.ensures.reads v s) in
-    was-declined old c.keep-in-Refused.new.kept h h2 p v c.in-Some.ensures.one c.in-Some.ensures.same stays c.keep-in-Refused.ensures.text same k
-    c.args.message.now fault c.read_code-code.result.0 c.read_code-code.result.1 c.read_code-code.ensures.code c.read_code-code.ensures.token r.0.0 r.1
+    was-declined old new h h2 p v c.in-Some.ensures.one c.in-Some.ensures.same stays refl same k
+    c.args.message.now c.in-Err-Declined.fault c.read_code-code.result.0 c.read_code-code.result.1
+    (c.read_code-code.ensures.code ∙ ap read_code c.in-Err-Declined.fault-is)
+    (c.read_code-code.ensures.token ∙ ap token_in c.in-Err-Declined.fault-is) r.0.0 r.1
 
 -- the fault of that number
 agreement-of : (v : View) (m : List ℕ) (fault : ReadFault) → read_code fault ≡ 14 → Declines v m fault → (token : ℕ) × Refuses v m token Agreement
@@ -70,5 +69,5 @@ pub returns-in-Refused-clause-answered : goal.returns-in-Refused-clause-answered
 returns-in-Refused-clause-answered c e p v k =
     let r = c.in-Err-Declined.ensures.reads v (stands-for c.args.kept.now c.in-Some.handshake p v c.in-Some.ensures.one c.in-Some.ensures.same k) in
     let d = subst (λ (u : Unread). LeavesUnread v c.args.message.now u) c.in-Err-Declined.field-0-is r.0 in
-    let why = agreement-of v c.args.message.now c.in-Err-Declined.fault (sym c.read_code-code.ensures.code ∙ e) d.0 in
+    let why = agreement-of v c.args.message.now c.in-Err-Declined.fault (sym (ap read_code c.in-Err-Declined.fault-is) ∙ sym c.read_code-code.ensures.code ∙ e) d.0 in
     d.1 why.0 why.1
