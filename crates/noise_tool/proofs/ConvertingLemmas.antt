@@ -1,7 +1,7 @@
 -- The text of a version 1 file, as one of version 2.
-use Rattle.std.proofs.Common.{◌≡◌, ◌∙◌, ap, ap₂, sym, refl, subst, ℕ, ◌+◌, ◌<◌, ◌≤◌, Vec, List, [], ◌∷◌, ◌++◌, Option, Some, None, codes, length, get_or, map, take, append_assoc, decimal}
+use Rattle.std.proofs.Common.{◌≡◌, ◌∙◌, ap, sym, refl, ℕ, ◌+◌, ◌<◌, ◌≤◌, Vec, List, [], ◌∷◌, ◌++◌, Option, Some, None, codes, length, get_or, take, append_assoc, decimal}
 use Rattle.std.specs.Global.{Global}
-use Rattle.std.specs.Prelude.{Bool, flat_map, slice_get}
+use Rattle.std.specs.Prelude.{flat_map, slice_get}
 use Rattle.std.proofs.lemmas.List.{take_all}
 use Rattle.std.proofs.lemmas.Option.{slice_get_read}
 use Rattle.noise_names.specs.declared.token.Role.{Role}
@@ -17,7 +17,7 @@ use Rattle.noise_vectors.specs.declared.file_keys.FileKeys.{FileKeys}
 use Rattle.noise_vectors.specs.declared.file_keys.FileKeys.TheVariants.{Xor, Table}
 use Rattle.noise_vectors.specs.declared.vector.VectorFile.{VectorFile}
 use Rattle.noise_vectors.specs.declared.vector.Version.{Version}
-use Rattle.noise_vectors.specs.declared.vector.Version.TheVariants.{One, Two}
+use Rattle.noise_vectors.specs.declared.vector.Version.TheVariants.{One}
 use Rattle.noise_tool.specs.Running.{converted_text}
 use Rattle.noise_tool.proofs.OutputLemmas.{elements-more}
 

@@ -7,4 +7,5 @@ pub mod OneRunLemmas
 pub mod OutputLemmas
 pub mod PerformingLemmas
 pub mod PrintedLemmas
+pub mod PrintedWordLemmas
 pub mod RunningLemmas

@@ -1,5 +1,5 @@
 -- What `talk`, `replay` and `convert` have done, and why they haven't.
-use Rattle.std.proofs.Common.{◌≡◌, ◌≢◌, ◌∙◌, refl, sym, ap, subst, ◌⊎◌, inl, inr, ◌<◌, ◌≤◌, ℕ, List, [], ◌∷◌, Vec, Option, Some, None, Result, Ok, Err, OnOk, length, map}
+use Rattle.std.proofs.Common.{◌≡◌, ◌∙◌, refl, sym, ap, subst, ◌⊎◌, inl, inr, ◌<◌, ◌≤◌, ℕ, List, [], ◌∷◌, Vec, Option, Some, None, Result, Ok, Err, OnOk, length, map}
 use Rattle.std.specs.Global.{Global}
 use Rattle.std.specs.Prelude.{IfErr, IfSome}
 use Rattle.std.specs.Io.KnownBytes.{Appends}
@@ -8,6 +8,7 @@ use Rattle.noise_duel.specs.Acts.{events_of, lines_of}
 use Rattle.noise_duel.specs.Conversation.{say_events}
 use Rattle.noise_duel.specs.Events.{Event as Act, Say as Said}
 use Rattle.noise_duel.specs.declared.event.Event.{Event}
+use Rattle.noise_tool.specs.Conversion.{MeetsItself}
 use Rattle.noise_tool.specs.Ends.{IsStartFault}
 use Rattle.noise_tool.specs.Faults.{status_of}
 use Rattle.noise_tool.specs.Performing.{HasConverted, HasRun, IsFault, IsOfLines, IsRunFault, IsTooLongConverted, IsUnlike, IsUnmet, LeavesOther}
@@ -130,26 +131,28 @@ no-run allowed known file outcome before after (Err why) r h = unlike-of allowed
 -- ---- of a converted file
 
 converted-known : (known : Option (List ℕ)) (file : VectorFile) (outcome : Outcome) (before after : Option (List ℕ)) (converted : List ℕ)
-    → Ran known file outcome → file.version ≡ One → converted ≡ converted_text file (bytes_of outcome.lines.items) → length converted ≤ 4194304 → Appends before after converted
+    → Ran known file outcome → file.version ≡ One → MeetsItself file (bytes_of outcome.lines.items)
+    → converted ≡ converted_text file (bytes_of outcome.lines.items) → length converted ≤ 4194304 → Appends before after converted
     → IfSome known (λ bytes. HasConverted bytes before after)
-converted-known None file outcome before after converted r one is short printed = tt
-converted-known (Some bytes) file outcome before after converted r one is short printed = record {
+converted-known None file outcome before after converted r one meets is short printed = tt
+converted-known (Some bytes) file outcome before after converted r one meets is short printed = record {
   file = file;
   right = r.right;
   first = one;
   text_is = sym r.bytes ∙ r.spelled;
   lines = bytes_of outcome.lines.items;
   run = r.run;
+  meets = meets;
   short = subst (λ (t : List ℕ). length t ≤ 4194304) is short;
   printed = subst (λ (t : List ℕ). Appends before after t) is printed;
 }
 
 pub has-converted : (known : Option (List ℕ)) (file : VectorFile) (outcome : Outcome) (before after : Option (List ℕ)) (converted : List ℕ)
-    (result : Result Unit Fault) → Ran known file outcome → file.version ≡ One → converted ≡ converted_text file (bytes_of outcome.lines.items)
-    → length converted ≤ 4194304 → OnOk result (Appends before after converted) → OnOk result (IfSome known (λ bytes. HasConverted bytes before after))
-has-converted known file outcome before after converted (Ok u) r one is short printed =
-    converted-known known file outcome before after converted r one is short printed
-has-converted known file outcome before after converted (Err why) r one is short printed = tt
+    (result : Result Unit Fault) → Ran known file outcome → file.version ≡ One → MeetsItself file (bytes_of outcome.lines.items)
+    → converted ≡ converted_text file (bytes_of outcome.lines.items) → length converted ≤ 4194304 → OnOk result (Appends before after converted) → OnOk result (IfSome known (λ bytes. HasConverted bytes before after))
+has-converted known file outcome before after converted (Ok u) r one meets is short printed =
+    converted-known known file outcome before after converted r one meets is short printed
+has-converted known file outcome before after converted (Err why) r one meets is short printed = tt
 
 pub too-long : (known : Option (List ℕ)) (file : VectorFile) (outcome : Outcome) (why : Fault) → Ran known file outcome → file.version ≡ One
     → why ≡ fault.TooLong → 4194304 < length (converted_text file (bytes_of outcome.lines.items))

@@ -1,12 +1,12 @@
 -- What a conversion does when it is replayed.
 use Rattle.std.specs.Prelude.{◌≡◌, ◌↔◌, ℕ, List, Vec}
 use Rattle.std.specs.Global.{Global}
-use Rattle.std.specs.List.{All}
 use Rattle.noise_vectors.specs.Expectations.{bytes_of}
-use Rattle.noise_vectors.specs.VectorFile.{IsExpected, IsVectorFile}
+use Rattle.noise_vectors.specs.VectorFile.{IsVectorFile}
 use Rattle.noise_vectors.specs.VectorText.{text_of}
 use Rattle.noise_vectors.specs.declared.vector.VectorFile.{VectorFile}
 use Rattle.noise_vectors.specs.declared.vector.Version.TheVariants.{One}
+use Rattle.noise_tool.specs.PrintedWords.{AreExpected}
 use Rattle.noise_tool.specs.Running.{IsRunOf, converted_text, expected_in}
 
 -- The conversion of a file of version 1 with these lines is the text of a right file. Every right file of that text expects these lines, and they are the
@@ -18,7 +18,7 @@ pub record MeetsItself (file : VectorFile) (lines : List (List ℕ)) : Type 0 wh
   pub runs : (converted : VectorFile) → IsVectorFile converted → converted_text file lines ≡ text_of converted
       → (others : List (List ℕ)) → IsRunOf converted others ↔ (others ≡ lines)
 
--- so does every conversion of a right file with the lines of its run, where each of these is at least one byte that is printed
+-- so does every conversion of a right file with the lines of its run, where each of these may be expected
 abbrev pub ConversionsMeetThemselves : Type 0
 ConversionsMeetThemselves = (file : VectorFile) (lines : Vec (Vec ℕ Global) Global) → IsVectorFile file → file.version ≡ One
-    → All (λ words. IsExpected words.items) lines.items → IsRunOf file (bytes_of lines.items) → MeetsItself file (bytes_of lines.items)
+    → AreExpected lines.items → IsRunOf file (bytes_of lines.items) → MeetsItself file (bytes_of lines.items)

@@ -8,4 +8,5 @@ pub mod Output
 pub mod Performing
 pub mod Printed
 pub mod PrintedDatagrams
+pub mod PrintedWords
 pub mod Running

@@ -4,6 +4,7 @@ use Rattle.std.specs.Io.KnownBytes.{Appends}
 use Rattle.noise_names.specs.Plan.{Plan}
 use Rattle.noise_names.specs.Text.{Spells}
 use Rattle.noise_names.specs.Validity.{IsValid}
+use Rattle.noise_tool.specs.Conversion.{MeetsItself}
 use Rattle.noise_tool.specs.Ends.{IsStartFault}
 use Rattle.noise_tool.specs.Faults.{of_vector}
 use Rattle.noise_tool.specs.Output.{IsCheckFault, IsShowFault, NamesPattern, check_text, list_text, show_text}
@@ -34,7 +35,7 @@ pub record HasPrinted (file : VectorFile) (before after : Option (List ℕ)) : T
 abbrev pub HasRun : List ℕ → Option (List ℕ) → Option (List ℕ) → Type 0
 HasRun text before after = (file : VectorFile) × IsVectorFile file × (text ≡ text_of file) × HasPrinted file before after
 
--- A right vector file of version 1 has this text, and the output grew by it, as one of version 2 that expects the lines of its run.
+-- A right vector file of version 1 has this text, and the output grew by it, as one of version 2 that expects the lines of its run, and meets them.
 pub record HasConverted (text : List ℕ) (before after : Option (List ℕ)) : Type 0 where
   pub file : VectorFile
   pub right : IsVectorFile file
@@ -42,6 +43,7 @@ pub record HasConverted (text : List ℕ) (before after : Option (List ℕ)) : T
   pub text_is : text ≡ text_of file
   pub lines : List (List ℕ)
   pub run : IsRunOf file lines
+  pub meets : MeetsItself file lines
   pub short : length (converted_text file lines) ≤ 4194304
   pub printed : Appends before after (converted_text file lines)
 

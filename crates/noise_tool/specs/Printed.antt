@@ -1,5 +1,5 @@
 -- What is printed of a run: a line for each note, and then one for each of the two ends. Each line is without its LF here.
-use Rattle.std.specs.Prelude.{ℕ, List, [], ◌∷◌, ◌++◌, codes, decimal, flat_map, slice_get, unwrap_or}
+use Rattle.std.specs.Prelude.{ℕ, List, [], ◌∷◌, codes, decimal, flat_map, slice_get, unwrap_or}
 use Rattle.std.specs.List.{join_with_byte}
 use Rattle.noise_names.specs.declared.token.Role.{Role}
 use Rattle.noise_names.specs.declared.token.Role.TheVariants.{Initiator, Responder}

@@ -56,8 +56,7 @@ pub data AreLast : Option FileDatagrams → Sides → List (List ℕ) → Type 0
       → AreLast (Some over) d (window_words over.window ∷ (map datagram_line notes ++ datagram_state_lines last))
 
 -- These are the lines of the file's run: by its valid pattern, two ends start from what the file gives them, nothing is wrong with either setup, and
--- the file's events make of them these notes and last sides. Of one pattern and one list of events there is one such run (`noise_duel::run_once`,
--- `datagram_run_once`), so the lines are a function of what the file says.
+-- the file's events make of them these notes and last sides. A file has one such list of lines (`file_run_once`).
 pub record IsRunOf (file : VectorFile) (lines : List (List ℕ)) : Type 0 where
   pub plan : Plan
   pub pattern : IsPatternOf file.block file.protocol plan

@@ -9,10 +9,8 @@ ghost use Rattle.noise_tool.specs.Running.{converted_text};
 ghost use Rattle.noise_tool.specs.declared.faults.Fault.TheVariants.{Memory, TooLong};
 
 use crate::faults::Fault;
+use crate::input::LIMIT;
 use std::alloc::{AllocError, Global};
-
-// How many bytes a vector file may have.
-const LIMIT: usize = 4194304;
 
 /// The text of a version 1 file with the header of version 2 and, behind it, what is expected: these lines. It has at most 4194304 bytes, or it is too
 /// long.

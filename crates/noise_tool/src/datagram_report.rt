@@ -1,12 +1,13 @@
 //! The lines of a run of datagrams.
 
-ghost use Rattle.std.specs.Prelude.{◌≡◌, ◌++◌, map, IfOk, OnOk};
+ghost use Rattle.std.specs.Prelude.{◌≡◌, ◌++◌, map, IfOk, IsTrue, OnOk};
 ghost use Rattle.noise_session.specs.Datagrams.{DatagramView, Pictures};
 ghost use Rattle.noise_duel.specs.DatagramReports.{DuelPictures, datagram_note_of, datagram_notes_of};
 ghost use Rattle.noise_duel.specs.DatagramSides.{DatagramSides};
 ghost use Rattle.noise_vectors.specs.Expectations.{bytes_of};
 ghost use Rattle.noise_tool.specs.Printed.{line_of};
 ghost use Rattle.noise_tool.specs.PrintedDatagrams as print;
+ghost use Rattle.noise_tool.specs.PrintedWords.{AreExpected, is_printed};
 
 use crate::line::Line;
 use crate::report::{begun_line, fault_line};
@@ -21,8 +22,9 @@ pub fn push_datagram_lines(
     report: &DatagramReport,
     lines: &mut Vec<Vec<u8>>,
 ) -> Result<(), AllocError>
-    ensures { OnOk result (bytes_of lines.new.items
+    ensures lines { OnOk result (bytes_of lines.new.items
         ≡ bytes_of lines.old.items ++ map print.datagram_line (datagram_notes_of report.now.entries.items)) }
+    ensures printed { AreExpected lines.old.items → OnOk result (AreExpected lines.new.items) }
 {
     for (role, entry) in &report.entries {
         let line = datagram_line(alloc, *role, entry)?;
@@ -51,7 +53,8 @@ fn datagram_line(alloc: Global, role: Role, entry: &DatagramEntry) -> Result<Lin
 }
 
 fn rejection_word(fault: DatagramFault) -> &'static str
-    ensures { result.now ≡ print.rejection_word fault }
+    ensures text { result.now ≡ print.rejection_word fault }
+    ensures printed { IsTrue (is_printed result.now) }
 {
     match fault {
         DatagramFault::OneWay => "one-way",
@@ -70,8 +73,9 @@ pub fn push_datagram_states(
     duel: &DatagramDuel,
     lines: &mut Vec<Vec<u8>>,
 ) -> Result<(), AllocError>
-    ensures { (d : DatagramSides) → DuelPictures duel.now d
+    ensures lines { (d : DatagramSides) → DuelPictures duel.now d
         → OnOk result (bytes_of lines.new.items ≡ bytes_of lines.old.items ++ print.datagram_state_lines d) }
+    ensures printed { AreExpected lines.old.items → OnOk result (AreExpected lines.new.items) }
 {
     let first = datagram_state(alloc, Role::Initiator, duel.initiator())?;
     lines.push(first.into_bytes())?;

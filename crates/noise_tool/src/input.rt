@@ -10,8 +10,8 @@ use crate::faults::Fault;
 use std::alloc::Global;
 use std::io::{ErrorKind, Read};
 
-/// How many bytes of a file are read.
-const LIMIT: usize = 4194304;
+/// How many bytes a file may have.
+pub const LIMIT: usize = 4194304;
 
 // How many bytes one read asks for, at most.
 const PIECE: usize = 65536;

@@ -15,6 +15,7 @@ use crate::checking::check;
 use crate::converting::convert;
 use crate::faults::Fault;
 use crate::input::read_file;
+use crate::laws::conversions_meet_themselves;
 use crate::listing::list;
 use crate::orders::Chosen;
 use crate::output::{flush, write, write_lines};
@@ -123,6 +124,7 @@ fn convert_file<R: Read, O: Write>(alloc: Global, file: &mut R, out: &mut O) -> 
     let vector = read_vector(alloc, &text, AllowedEvents::VersionOne)?;
     let outcome = replay(alloc, vector)?;
     let converted = convert(alloc, &text, &outcome.lines)?;
+    conversions_meet_themselves();
     print(&converted, out)
 }
 

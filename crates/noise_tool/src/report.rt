@@ -1,6 +1,6 @@
 //! The lines of a run.
 
-ghost use Rattle.std.specs.Prelude.{◌≡◌, ◌∷◌, ◌++◌, [], codes, decimal, map, IfOk, OnOk};
+ghost use Rattle.std.specs.Prelude.{◌≡◌, ◌∷◌, ◌++◌, [], codes, decimal, map, IfOk, IsTrue, OnOk};
 ghost use Rattle.std.specs.List.{join_with_byte};
 ghost use Rattle.noise_state.specs.History.{hash};
 ghost use Rattle.noise_session.specs.Ends.{EndView, EndStands, progress_of};
@@ -11,6 +11,7 @@ ghost use Rattle.noise_duel.specs.Sides.{Side, Sides, side};
 ghost use Rattle.noise_vectors.specs.Expectations.{bytes_of};
 ghost use Rattle.noise_vectors.specs.FileKeys.{agreement_of, public_of};
 ghost use Rattle.noise_tool.specs.Printed as print;
+ghost use Rattle.noise_tool.specs.PrintedWords.{AreExpected, is_printed};
 ghost use Rattle.noise_vectors.specs.VectorText as text;
 
 use crate::line::Line;
@@ -23,8 +24,9 @@ use std::alloc::{AllocError, Global};
 
 /// A line for each entry, in order.
 pub fn entry_lines(alloc: Global, report: &Report) -> Result<Vec<Vec<u8>>, AllocError>
-    ensures { (d : Sides) → HasFrames report.now d
+    ensures lines { (d : Sides) → HasFrames report.now d
         → IfOk result (λ lines. bytes_of lines.items ≡ map (print.note_line d) (notes_of report.now.entries.items)) }
+    ensures printed { IfOk result (λ lines. AreExpected lines.items) }
 {
     let mut lines = Vec::new(alloc);
     for (role, entry) in &report.entries {
@@ -40,8 +42,9 @@ pub fn push_state_lines(
     duel: &Duel<FileKeys, FileKeys>,
     lines: &mut Vec<Vec<u8>>,
 ) -> Result<(), AllocError>
-    ensures { (d : Sides) → DuelStands public_of agreement_of public_of agreement_of duel.now d
+    ensures lines { (d : Sides) → DuelStands public_of agreement_of public_of agreement_of duel.now d
         → OnOk result (bytes_of lines.new.items ≡ bytes_of lines.old.items ++ print.state_lines d) }
+    ensures printed { AreExpected lines.old.items → OnOk result (AreExpected lines.new.items) }
 {
     let first = state_line(alloc, Role::Initiator, duel.initiator())?;
     lines.push(first.into_bytes())?;
@@ -100,6 +103,7 @@ pub fn fault_line(
     role: Role,
     fault: SendFault,
 ) -> Result<Line, AllocError>
+    requires { IsTrue (is_printed word.now) }
     ensures { IfOk result (λ line. line.text.items ≡ join_with_byte 32 (word.now ∷ text.role_word role ∷ print.fault_words fault)) }
 {
     let line = begun_line(alloc, word, role)?;
@@ -136,6 +140,7 @@ fn state_line(alloc: Global, role: Role, end: &End<FileKeys>) -> Result<Line, Al
 
 /// The front of a line: what it tells, and of which role.
 pub fn begun_line(alloc: Global, word: &str, role: Role) -> Result<Line, AllocError>
+    requires { IsTrue (is_printed word.now) }
     ensures { IfOk result (λ line. line.text.items ≡ join_with_byte 32 (word.now ∷ text.role_word role ∷ [])) }
 {
     Line::new(alloc, word)?.word(role_word(role))
@@ -143,7 +148,8 @@ pub fn begun_line(alloc: Global, word: &str, role: Role) -> Result<Line, AllocEr
 
 /// The word for a role.
 pub fn role_word(role: Role) -> &'static str
-    ensures { result.now ≡ text.role_word role }
+    ensures text { result.now ≡ text.role_word role }
+    ensures printed { IsTrue (is_printed result.now) }
 {
     match role {
         Role::Initiator => "initiator",
@@ -152,7 +158,8 @@ pub fn role_word(role: Role) -> &'static str
 }
 
 fn cause_word(cause: Cause) -> &'static str
-    ensures { result.now ≡ print.cause_word cause }
+    ensures text { result.now ≡ print.cause_word cause }
+    ensures printed { IsTrue (is_printed result.now) }
 {
     match cause {
         Cause::Short => "short",
@@ -162,7 +169,8 @@ fn cause_word(cause: Cause) -> &'static str
 }
 
 fn idle_word(why: Idle) -> &'static str
-    ensures { result.now ≡ print.idle_word (step_of why) }
+    ensures text { result.now ≡ print.idle_word (step_of why) }
+    ensures printed { IsTrue (is_printed result.now) }
 {
     match why {
         Idle::YourTurn => "your-turn",

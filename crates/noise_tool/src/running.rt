@@ -9,6 +9,7 @@ ghost use Rattle.noise_vectors.specs.FileKeys.{agreement_of, public_of};
 ghost use Rattle.noise_vectors.specs.VectorFile.{IsAllowedFile};
 ghost use Rattle.noise_vectors.specs.declared.vector.AllowedEvents.TheVariants.{SayOnly};
 ghost use Rattle.noise_tool.specs.Ends.{IsStartFault};
+ghost use Rattle.noise_tool.specs.PrintedWords.{AreExpected};
 ghost use Rattle.noise_tool.specs.Running.{AreLast, IsRunOf, datagrams_in, expected_in};
 
 use crate::datagram_report::{push_datagram_lines, push_datagram_states};
@@ -36,6 +37,7 @@ pub struct Outcome {
 pub fn talk(alloc: Global, file: VectorFile) -> Result<Outcome, Fault>
     requires { IsAllowedFile SayOnly file }
     ensures lines { IfOk result (λ outcome. IsRunOf file (bytes_of outcome.lines.items)) }
+    ensures printed { IfOk result (λ outcome. AreExpected outcome.lines.items) }
     ensures expected { IfOk result (λ outcome. bytes_of outcome.expected.items ≡ expected_in file.version) }
     ensures fault { IfErr result (λ fault. IsStartFault file fault) }
 {
@@ -51,6 +53,7 @@ pub fn talk(alloc: Global, file: VectorFile) -> Result<Outcome, Fault>
 /// The same of all kinds of events, and of datagrams.
 pub fn replay(alloc: Global, file: VectorFile) -> Result<Outcome, Fault>
     ensures lines { IfOk result (λ outcome. IsRunOf file (bytes_of outcome.lines.items)) }
+    ensures printed { IfOk result (λ outcome. AreExpected outcome.lines.items) }
     ensures expected { IfOk result (λ outcome. bytes_of outcome.expected.items ≡ expected_in file.version) }
     ensures fault { IfErr result (λ fault. IsStartFault file fault) }
 {
@@ -66,6 +69,7 @@ pub fn replay(alloc: Global, file: VectorFile) -> Result<Outcome, Fault>
 pub fn run_vector(alloc: Global, file: VectorFile, allowed: AllowedEvents) -> Result<Outcome, Fault>
     requires { IsAllowedFile allowed file }
     ensures lines { IfOk result (λ outcome. IsRunOf file (bytes_of outcome.lines.items)) }
+    ensures printed { IfOk result (λ outcome. AreExpected outcome.lines.items) }
     ensures expected { IfOk result (λ outcome. bytes_of outcome.expected.items ≡ expected_in file.version) }
     ensures fault { IfErr result (λ fault. IsStartFault file fault) }
 {
@@ -93,8 +97,9 @@ fn go_over(
     datagrams: Option<FileDatagrams>,
     lines: &mut Vec<Vec<u8>>,
 ) -> Result<(), AllocError>
-    ensures { (d : Sides) → DuelStands public_of agreement_of public_of agreement_of duel d
+    ensures behind { (d : Sides) → DuelStands public_of agreement_of public_of agreement_of duel d
         → OnOk result ((behind : List (List ℕ)) × AreLast datagrams d behind × (bytes_of lines.new.items ≡ bytes_of lines.old.items ++ behind)) }
+    ensures printed { AreExpected lines.old.items → OnOk result (AreExpected lines.new.items) }
 {
     end_is_told::<FileKeys>();
     let Some(over) = datagrams else {

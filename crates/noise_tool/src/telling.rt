@@ -1,15 +1,16 @@
 //! The texts of faults.
 
-ghost use Rattle.std.specs.Prelude.{◌≡◌, ◌⊎◌, IfErr, OnOk};
+ghost use Rattle.std.specs.Prelude.{◌≡◌, ◌⊎◌, IfErr, IsTrue, OnOk};
 ghost use Rattle.noise_tool.specs.Faults.{status_of};
 ghost use Rattle.noise_tool.specs.Performing.{LeavesOther};
+ghost use Rattle.noise_tool.specs.PrintedWords.{is_printed};
 
 use crate::faults::Fault;
 use crate::line::Line;
 use crate::output::flush;
 use crate::report::role_word;
 use noise_handshake::SetupFault;
-use noise_names::TextFaultKind;
+use noise_names::{NameFault, TextFaultKind};
 use noise_vectors::LineKind;
 use std::alloc::{AllocError, Global};
 use std::io::Write;
@@ -69,9 +70,7 @@ fn fault_line(alloc: Global, fault: Fault) -> Result<Line, AllocError> {
         Fault::Setup(role, fault) => Line::new(alloc, "setup")?
             .word(role_word(role))?
             .word(setup_word(fault)),
-        Fault::Name(fault) => {
-            Line::new(alloc, "name")?.word(format!(in alloc; "{fault}")?.as_str())
-        }
+        Fault::Name(fault) => Line::new(alloc, "name")?.word(name_word(fault)),
         Fault::UnknownPattern => Line::new(alloc, "unknown pattern"),
         Fault::Text(fault) => line_fault(alloc, fault.line, text_word(fault.kind)),
         Fault::Line(number, kind) => line_fault(alloc, number, line_word(kind)),
@@ -83,11 +82,15 @@ fn fault_line(alloc: Global, fault: Fault) -> Result<Line, AllocError> {
     }
 }
 
-fn line_fault(alloc: Global, number: usize, word: &str) -> Result<Line, AllocError> {
+fn line_fault(alloc: Global, number: usize, word: &str) -> Result<Line, AllocError>
+    requires { IsTrue (is_printed word.now) }
+{
     Line::new(alloc, "line")?.number(number as u64)?.word(word)
 }
 
-fn line_word(kind: LineKind) -> &'static str {
+fn line_word(kind: LineKind) -> &'static str
+    ensures { IsTrue (is_printed result.now) }
+{
     match kind {
         LineKind::Header => "header",
         LineKind::Protocol => "protocol",
@@ -103,7 +106,9 @@ fn line_word(kind: LineKind) -> &'static str {
     }
 }
 
-fn text_word(kind: TextFaultKind) -> &'static str {
+fn text_word(kind: TextFaultKind) -> &'static str
+    ensures { IsTrue (is_printed result.now) }
+{
     match kind {
         TextFaultKind::Heading => "heading",
         TextFaultKind::Arrow => "arrow",
@@ -117,7 +122,23 @@ fn text_word(kind: TextFaultKind) -> &'static str {
     }
 }
 
-fn setup_word(fault: SetupFault) -> &'static str {
+// The word that its `Display` writes, of which no clause tells.
+fn name_word(fault: NameFault) -> &'static str
+    ensures { IsTrue (is_printed result.now) }
+{
+    match fault {
+        NameFault::Length => "length",
+        NameFault::Prefix => "prefix",
+        NameFault::Base => "base",
+        NameFault::Modifier => "modifier",
+        NameFault::ModifierOrder => "modifier-order",
+        NameFault::Algorithm => "algorithm",
+    }
+}
+
+fn setup_word(fault: SetupFault) -> &'static str
+    ensures { IsTrue (is_printed result.now) }
+{
     match fault {
         SetupFault::EphemeralMissing => "ephemeral-missing",
         SetupFault::StaticMissing => "static-missing",

@@ -3,7 +3,7 @@
 use super::{Run, tells};
 use std::test::Fail;
 
-const RUNS: [Run<'static>; 25] = [
+const RUNS: [Run<'static>; 30] = [
     (
         "list",
         "",
@@ -19,6 +19,41 @@ const RUNS: [Run<'static>; 25] = [
         "",
     ),
     ("show", "XX", 2, "", "name prefix\n"),
+    (
+        "show",
+        "AAAAAAAAAAAAAAAAAAAAAAAAAAAAAAAAAAAAAAAAAAAAAAAAAAAAAAAAAAAAAAAAAAAAAAAAAAAAAAAAAAAAAAAAAAAAAAAAAAAAAAAAAAAAAAAAAAAAAAAAAAAAAAAAAAAAAAAAAAAAAAAAAAAAAAAAAAAAAAAAAAAAAAAAAAAAAAAAAAAAAAAAAAAAAAAAAAAAAAAAAAAAAAAAAAAAAAAAAAAAAAAAAAAAAAAAAAAAAAAAAAAAAAAAAAAAAAAA",
+        2,
+        "",
+        "name length\n",
+    ),
+    (
+        "show",
+        "Noise_xx_25519_ChaChaPoly_SHA256",
+        2,
+        "",
+        "name base\n",
+    ),
+    (
+        "show",
+        "Noise_XXfallback_25519_ChaChaPoly_SHA256",
+        2,
+        "",
+        "name modifier\n",
+    ),
+    (
+        "show",
+        "Noise_XXpsk3+psk0_25519_ChaChaPoly_SHA256",
+        2,
+        "",
+        "name modifier-order\n",
+    ),
+    (
+        "show",
+        "Noise_XX_25519_AESGCM_SHA256",
+        2,
+        "",
+        "name algorithm\n",
+    ),
     (
         "show",
         "Noise_ZZ_25519_ChaChaPoly_SHA256",

@@ -49,6 +49,8 @@ returns-clause-done g c =
     } in
     let lines : c.deref-3.result.now ≡ c.in_ok-outcome.outcome.lines.items = search rules in
     let text : c.deref-4.result.now ≡ c.in_ok-converted.converted.items = search rules in
-    has-converted (g.R.Read.remaining c.args.file.now) c.in_ok-vector.vector c.in_ok-outcome.outcome _ _ c.deref-4.result.now c.print.result ran one
+    let meets = c.conversions_meet_themselves.ensures c.in_ok-vector.vector c.in_ok-outcome.outcome.lines c.in_ok-vector.ensures.right one
+    c.in_ok-outcome.ensures.printed c.in_ok-outcome.ensures.lines in
+    has-converted (g.R.Read.remaining c.args.file.now) c.in_ok-vector.vector c.in_ok-outcome.outcome _ _ c.deref-4.result.now c.print.result ran one meets
     (text ∙ rw (← lines) (c.in_ok-converted.ensures.converted c.in_ok-vector.vector one (c.deref-2.ensures.value ∙ spelled)))
     (rw text c.in_ok-converted.ensures.short) c.print.ensures.printed

@@ -2,9 +2,13 @@ use Rattle.std.proofs.Common.{◌≡◌, map, take}
 use Rattle.noise_duel.specs.HeldDuel.{HasFrames}
 use Rattle.noise_duel.specs.Sides.{Sides}
 use Rattle.noise_vectors.specs.Expectations.{bytes_of}
+use Rattle.noise_tool.specs.PrintedWords.{AreExpected}
 use Rattle.noise_tool.proofs.PrintedLemmas.{entry_line_of}
 use Rattle.noise_tool.proofs.report.entry_lines.Given as goal
 
 -- the lines of the entries so far
 abbrev pub invariant-loop-role : goal.invariant-loop-role
-invariant-loop-role l = (d : Sides) → HasFrames l.report d → bytes_of l.lines.items ≡ map (entry_line_of d) (take l.role-index l.report.entries.items)
+invariant-loop-role l = record {
+  lines : (d : Sides) → HasFrames l.report d → bytes_of l.lines.items ≡ map (entry_line_of d) (take l.role-index l.report.entries.items);
+  printed : AreExpected l.lines.items;
+}

@@ -29,6 +29,6 @@ returns-clause-lines c =
       behind = state_lines ran.last;
       are_last = subst (λ (o : Option FileDatagrams). AreLast o ran.last (state_lines ran.last)) (sym none) (without ran.last);
       lines_are =
-          c.in_ok-push_state_lines.ensures ran.last ran.stands
-          ∙ ap (λ (t : List (List ℕ)). t ++ state_lines ran.last) (c.in_ok-lines.ensures ran.last ran.frames);
+          c.in_ok-push_state_lines.ensures.lines ran.last ran.stands
+          ∙ ap (λ (t : List (List ℕ)). t ++ state_lines ran.last) (c.in_ok-lines.ensures.lines ran.last ran.frames);
     }
