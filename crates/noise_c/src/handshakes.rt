@@ -99,8 +99,7 @@ pub extern "C" fn noise_read(
         Ok((start, end)) => {
             told.from = start;
             told.len = end - start;
-            let changes = changes_of(handshake);
-            keep(kept, &changes);
+            keep(&changes_of(handshake), kept);
             OK
         }
         Err(Unread::Wanted { own, key }) => {

@@ -211,7 +211,7 @@ pub(crate) fn changes_of<'a>(handshake: Handshake<KeptKeys<'a>>) -> Changes
 }
 
 // Keeps what messages have changed.
-pub(crate) fn keep(kept: &mut NoiseHandshake, changes: &Changes)
+pub(crate) fn keep(changes: &Changes, kept: &mut NoiseHandshake)
     ensures text { text_in kept.new ≡ text_in kept.old }
     ensures same { (h : Held Table) → AreChanges h changes.now → h.keys ≡ table_in kept.old → h.role ≡ role_in kept.old.responder
         → held_in h.pattern kept.new ≡ h }

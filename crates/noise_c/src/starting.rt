@@ -88,8 +88,7 @@ fn start_with(
     match begin(pattern, prologue, setup) {
         Ok(handshake) => {
             keep_start(kept, text, setup);
-            let changes = changes_of(handshake);
-            keep(kept, &changes);
+            keep(&changes_of(handshake), kept);
             OK
         }
         Err(fault) => setup_code(fault),

@@ -60,8 +60,7 @@ pub extern "C" fn noise_write(
         Ok(len) => {
             told.from = 0;
             told.len = len;
-            let changes = changes_of(handshake);
-            keep(kept, &changes);
+            keep(&changes_of(handshake), kept);
             OK
         }
         Err(fault) => write_code(fault),

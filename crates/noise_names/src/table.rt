@@ -17,7 +17,7 @@ pub fn fundamental(base: &[u8]) -> Option<Pattern>
 
 // The place of the base in the list.
 #[tactic(auto, unfolding(crate::specs::Fundamental::fundamentals, crate::specs::Fundamental::fundamental_of))]
-fn place_of(base: &[u8]) -> Option<u8>
+pub(crate) fn place_of(base: &[u8]) -> Option<u8>
     ensures { MatchOption result (fundamental_of base.now ≡ None) (λ place. slice_get fundamentals place ≡ fundamental_of base.now) }
 {
     match base {
@@ -50,7 +50,7 @@ pub fn fundamental_at(place: u8) -> Option<Pattern>
 
 // The table.
 #[tactic(auto, unfolding(crate::specs::Fundamental::fundamentals, crate::specs::Fundamental::fundamental_of))]
-fn row(place: u8) -> Pattern
+pub(crate) fn row(place: u8) -> Pattern
     requires { place < 15 }
     ensures { slice_get fundamentals place ≡ Some result }
 {

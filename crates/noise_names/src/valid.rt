@@ -3,7 +3,8 @@
 ghost use Rattle.std.specs.Prelude.{◌≡◌, ◌↔◌, ◌≤◌, ◌==◌, length, IsOk, IfOk, IfErr, MatchResult, IfSome, [], Some, None};
 
 use crate::seen::Seen;
-use crate::{Pattern, Role, RuleFault, fundamental};
+use crate::table::{place_of, row};
+use crate::{Pattern, Role, RuleFault};
 use std::marker::Model;
 
 /// A pattern that keeps the five rules of validity (Noise, 7.3 and 9.3), which [`RuleFault`] lists.
@@ -39,8 +40,14 @@ impl ValidPattern {
         ensures valid { IfSome result (λ pattern. IsValid pattern) }
         ensures placed { IfSome result (λ pattern. Placed pattern [] pattern) }
     {
-        let pattern = fundamental(base)?;
-        Some(ValidPattern { pattern })
+        let place = place_of(base)?;
+        if place < 15 {
+            Some(ValidPattern {
+                pattern: row(place),
+            })
+        } else {
+            None
+        }
     }
 
     /// The pattern.

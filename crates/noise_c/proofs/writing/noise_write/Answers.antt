@@ -23,7 +23,7 @@ returns-in-Ok-clause-written c e p v k =
     let h2 = c.write.new.self in
     let stays : h2.pattern ≡ h.pattern = c.in-Ok.ensures.state.pattern in
     let same : held_in h2.pattern c.keep.new.kept ≡ h2 =
-    c.keep.ensures.same h2 c.changes_of-changes.ensures.same
+    c.keep.ensures.same h2 c.changes_of.ensures.same
     (c.in-Ok.ensures.state.keys ∙ ap (λ (z : Held Table). z.keys) c.in-Some.ensures.same)
     (c.in-Ok.ensures.state.role ∙ ap (λ (z : Held Table). z.role) c.in-Some.ensures.same) in
     let s = opened old c.keep.new.kept h h2 p v c.in-Some.ensures.one c.in-Some.ensures.same stays c.keep.ensures.text same k in
@@ -35,12 +35,12 @@ pub returns-in-Ok-clause-stays : goal.returns-in-Ok-clause-stays
 returns-in-Ok-clause-stays c e =
     let h2 = c.write.new.self in
     let same : held_in h2.pattern c.keep.new.kept ≡ h2 =
-    c.keep.ensures.same h2 c.changes_of-changes.ensures.same
+    c.keep.ensures.same h2 c.changes_of.ensures.same
     (c.in-Ok.ensures.state.keys ∙ ap (λ (z : Held Table). z.keys) c.in-Some.ensures.same)
     (c.in-Ok.ensures.state.role ∙ ap (λ (z : Held Table). z.role) c.in-Some.ensures.same) in
     usable-behind c.args.kept.now c.keep.new.kept c.in-Some.handshake h2 (c.in-Some.ensures.usable.0 refl) c.keep.ensures.text_len c.keep.ensures.answers
-    c.keep.ensures.secrets c.keep.ensures.text c.in-Some.ensures.named c.in-Ok.ensures.state.pattern c.changes_of-changes.ensures.valid same
-    c.changes_of-changes.ensures.whole
+    c.keep.ensures.secrets c.keep.ensures.text c.in-Some.ensures.named c.in-Ok.ensures.state.pattern c.changes_of.ensures.valid same
+    c.changes_of.ensures.whole
 
 err-same : (a b : WriteFault) → ◌≡◌ {A = Result ℕ WriteFault} (Err a) (Err b) → a ≡ b
 err-same a b e = cc

@@ -1,15 +1,15 @@
 use Rattle.std.proofs.Common.{sym, ◌∙◌}
-use Rattle.noise_names.proofs.Fundamentals.{known_is_valid, known_is_placed}
+use Rattle.noise_names.proofs.Fundamentals.{known_is_valid, known_is_placed, no_more_fundamentals}
 use Rattle.noise_names.proofs.valid.ValidPattern.fundamental.Goals as goal
 
 pub invariant_of-result : goal.invariant_of-result
-invariant_of-result c =
-    known_is_valid c.args.base.now c.in_ok-pattern.pattern (sym c.fundamental.ensures.same ∙ c.in_ok-pattern.was)
+invariant_of-result c = known_is_valid c.args.base.now c.row.result (sym c.in_ok-place.ensures ∙ c.row.ensures)
 
-pub returns-clause-valid : goal.returns-clause-valid
-returns-clause-valid c =
-    known_is_valid c.args.base.now c.in_ok-pattern.pattern (sym c.fundamental.ensures.same ∙ c.in_ok-pattern.was)
+pub returns-then-place-lt15-clause-valid : goal.returns-then-place-lt15-clause-valid
+returns-then-place-lt15-clause-valid c = known_is_valid c.args.base.now c.row.result (sym c.in_ok-place.ensures ∙ c.row.ensures)
 
-pub returns-clause-placed : goal.returns-clause-placed
-returns-clause-placed c =
-    known_is_placed c.args.base.now c.in_ok-pattern.pattern (sym c.fundamental.ensures.same ∙ c.in_ok-pattern.was)
+pub returns-then-place-lt15-clause-placed : goal.returns-then-place-lt15-clause-placed
+returns-then-place-lt15-clause-placed c = known_is_placed c.args.base.now c.row.result (sym c.in_ok-place.ensures ∙ c.row.ensures)
+
+pub returns-else-place-lt15-clause-same : goal.returns-else-place-lt15-clause-same
+returns-else-place-lt15-clause-same c = sym (no_more_fundamentals c.in_ok-place.place c.if-place-lt15.false) ∙ c.in_ok-place.ensures
