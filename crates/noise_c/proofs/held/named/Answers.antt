@@ -29,6 +29,9 @@ returns-in-Err-clause-found c q h valid =
     c.in-Ok.ensures.every c.base-2.ensures.same c.places-2.ensures (sym c.in-Some-fundamental.ensures.same) c.in-Err.ensures.fault h)
 
 pub returns-in-Err-clause-fault : goal.returns-in-Err-clause-fault
-returns-in-Err-clause-fault c = inl (refl, λ q h.
-    pattern-fits c.args.name.now c.in-Ok.name c.base-2.result.now c.places-2.result.now c.in-Some-fundamental.plain q _
-    c.in-Ok.ensures.every c.base-2.ensures.same c.places-2.ensures (sym c.in-Some-fundamental.ensures.same) c.in-Err.ensures.fault h)
+returns-in-Err-clause-fault c = inl (
+  refl,
+  λ q h.
+      pattern-fits c.args.name.now c.in-Ok.name c.base-2.result.now c.places-2.result.now c.in-Some-fundamental.plain q _
+      c.in-Ok.ensures.every c.base-2.ensures.same c.places-2.ensures (sym c.in-Some-fundamental.ensures.same) c.in-Err.ensures.fault h,
+)
