@@ -1,4 +1,4 @@
-/* The Noise Protocol Framework, revision 34, with 25519, ChaChaPoly and SHA256, for C, C++ and whatever calls C.
+/* The Noise Protocol Framework, revision 34, with 25519, ChaChaPoly and SHA256, for C (C11), C++ (C++11) and whatever calls C.
 
    WHAT IT DOES. It runs a handshake pattern message by message, and then seals and opens transport messages or datagrams. It does no
    curve arithmetic, draws no random bytes, opens no socket, and takes no memory: the caller hands in public keys and, where one is asked
@@ -92,7 +92,7 @@ extern "C" {
 #endif
 
 /* What a call answers. Which codes a call may answer stands at the call. All but NOISE_OK leave everything as it was, but for `told`, and
-   but for NOISE_SHORT and NOISE_TAG of noise_read, which end the handshake. */
+   but for NOISE_SHORT and NOISE_TAG of noise_read, which end the handshake, and NOISE_AGREEMENT, which no struct of this library's answers. */
 enum noise_code {
     NOISE_OK = 0,
 
@@ -110,7 +110,7 @@ enum noise_code {
     NOISE_TOO_LONG = 11,           /* the message, or the datagram, would have more bytes than it may have, or has: send less; drop the datagram */
     NOISE_DONE = 12,               /* all messages of the handshake have passed: noise_finish */
     NOISE_ENDED = 13,              /* the handshake was ended by a refused message: start anew */
-    NOISE_AGREEMENT = 14,          /* never answered: NOISE_WANTED is, in its place */
+    NOISE_AGREEMENT = 14,          /* only of a struct that was changed, and `out` of noise_write may then be too: else NOISE_WANTED is answered */
     NOISE_SHORT = 15,              /* the message has too few bytes. In a handshake that has ended it; tell nobody why */
     NOISE_TAG = 16,                /* a tag is wrong: something differs between the parties, or the message was changed. In a handshake that has ended it */
     NOISE_EXHAUSTED = 17,          /* the nonce is 2^64 - 1: no more messages under this key; start anew */
@@ -230,7 +230,7 @@ uint32_t noise_answer(noise_handshake *h, uint8_t of_static, const uint8_t remot
    how much longer the message is, and the standard's 7.7 how well each payload is protected.
    OK: told->len bytes of out are the message; the bytes behind it are unchanged · WANTED: told->of_static, told->remote · STRUCT · ENDED · DONE ·
    NOT_YOUR_TURN · TOO_LONG: the message would have more than 65535 bytes · ROOM: out is shorter than the message, which has told->len bytes. At
-   any code but OK neither *h nor out is changed. */
+   any code but OK neither *h nor out is changed (but for NOISE_AGREEMENT: see there). */
 uint32_t noise_write(noise_handshake *h, const uint8_t *payload, size_t payload_len, uint8_t *out, size_t out_len, noise_told *told);
 
 /* Reads the message that is due, in place.
