@@ -1,5 +1,5 @@
 -- What is kept stands for what the handshake stood for.
-use Rattle.std.proofs.Common.{◌≡◌, ℕ, ◌+◌, ◌-◌, ◌≤◌, List, refl, ap, sym, subst, ◌∙◌, arith, slice_range}
+use Rattle.std.proofs.Common.{◌≡◌, ℕ, ◌+◌, ◌-◌, ◌≤◌, List, ap, sym, subst, ◌∙◌, arith, slice_range}
 use Rattle.noise_names.specs.Plan.{Plan}
 use Rattle.noise_names.specs.Validity.{IsValid}
 use Rattle.noise_handshake.specs.Parts.{IsWhole}
@@ -8,9 +8,7 @@ use Rattle.noise_handshake.specs.declared.faults.ReadFault.{ReadFault}
 use Rattle.noise_handshake.specs.declared.faults.ReadFault.TheVariants as read
 use Rattle.noise_handshake.specs.declared.faults.Unread.{Unread}
 use Rattle.noise_handshake.specs.declared.faults.Unread.TheVariants as unread
-use Rattle.noise_handshake.specs.declared.faults.WriteFault.{WriteFault}
-use Rattle.noise_handshake.specs.declared.faults.WriteFault.TheVariants as write
-use Rattle.noise_handshake.specs.Held.{Held, behind_read_fault, behind_unread, behind_write_fault, ended_as}
+use Rattle.noise_handshake.specs.Held.{Held, behind_unread, ended_as}
 use Rattle.noise_handshake.specs.Table.{Table}
 use Rattle.noise_handshake.specs.View.{View, Accepts}
 use Rattle.noise_handshake.specs.Party.{Stands, behind_message, behind_own, behind_declined, Declines}
@@ -18,19 +16,6 @@ use Rattle.noise_handshake.specs.Writing.{Writes}
 use Rattle.noise_c.specs.declared.kept.NoiseHandshake.{NoiseHandshake}
 use Rattle.noise_c.specs.Kept.{public_in, agreement_in, text_in, held_in, IsPatternOf, IsUsable, KeepsView, WasRead, WasWritten, WasDeclined}
 use Rattle.noise_c.specs.Codes.{read_code, token_in}
-
-pub read-pattern : (h : Held Table) (fault : ReadFault) → (behind_read_fault h fault).pattern ≡ h.pattern
-read-pattern h read.Ended = refl
-read-pattern h read.Done = refl
-read-pattern h read.NotYourTurn = refl
-read-pattern h (read.Refused token cause) = refl
-
-pub write-pattern : (h : Held Table) (fault : WriteFault) → (behind_write_fault h fault).pattern ≡ h.pattern
-write-pattern h write.Ended = refl
-write-pattern h write.Done = refl
-write-pattern h write.NotYourTurn = refl
-write-pattern h write.TooLong = refl
-write-pattern h (write.Agreement token) = refl
 
 module _ (old new : NoiseHandshake) (h h2 : Held Table) (p : Plan) (v : View) (one : (q : Plan) → IsPatternOf (text_in old) q → q ≡ h.pattern) (same : h ≡ held_in h.pattern old)
     (stays : h2.pattern ≡ h.pattern) (name : text_in new ≡ text_in old) (kept : held_in h2.pattern new ≡ h2) (k : KeepsView old p v) where
@@ -63,39 +48,6 @@ module _ (old new : NoiseHandshake) (h h2 : Held Table) (p : Plan) (v : View) (o
 -- a handshake that was opened stands for what is kept
 pub stands-for : (old : NoiseHandshake) (h : Held Table) (p : Plan) (v : View) → ((q : Plan) → IsPatternOf (text_in old) q → q ≡ h.pattern) → h ≡ held_in h.pattern old → KeepsView old p v → Stands public_in agreement_in h v
 stands-for old h p v one same k = subst (λ (z : Held Table). Stands public_in agreement_in z v) (ap (λ (q : Plan). held_in q old) (one p k.pattern) ∙ sym same) k.stands
-
--- a message that wasn't refused leaves what was kept
-pub was-left : (old : NoiseHandshake) (h : Held Table) (p : Plan) (v : View) (message : List ℕ) (fault : ReadFault) (code token : ℕ)
-    → ((q : Plan) → IsPatternOf (text_in old) q → q ≡ h.pattern) → h ≡ held_in h.pattern old
-    → KeepsView old p v → ((k : ℕ) (cause : Cause) → fault ≡ read.Refused k cause → ⊥) → code ≡ read_code fault → token ≡ token_in fault
-    → Declines v message fault → WasDeclined p v message code token old
-was-left old h p v message fault code token one same k other e t d =
-    record { fault = fault; code_is = e; token_is = t; declines = d; keeps = unchanged fault other }
-  where
-    unchanged : (fault : ReadFault) → ((k : ℕ) (cause : Cause) → fault ≡ read.Refused k cause → ⊥) → KeepsView old p (behind_declined v fault)
-    unchanged read.Ended f = k
-    unchanged read.Done f = k
-    unchanged read.NotYourTurn f = k
-    unchanged (read.Refused j cause) f = absurd (f j cause refl)
-
--- what a message that isn't read leaves
-pub unread-pattern : (h : Held Table) (u : Unread) → (behind_unread h u).pattern ≡ h.pattern
-unread-pattern h (unread.Wanted own key) = refl
-unread-pattern h (unread.Declined fault) = read-pattern h fault
-
-pub unread-keys : (h : Held Table) (u : Unread) → (behind_unread h u).keys ≡ h.keys
-unread-keys h (unread.Wanted own key) = refl
-unread-keys h (unread.Declined read.Ended) = refl
-unread-keys h (unread.Declined read.Done) = refl
-unread-keys h (unread.Declined read.NotYourTurn) = refl
-unread-keys h (unread.Declined (read.Refused token cause)) = refl
-
-pub unread-role : (h : Held Table) (u : Unread) → (behind_unread h u).role ≡ h.role
-unread-role h (unread.Wanted own key) = refl
-unread-role h (unread.Declined read.Ended) = refl
-unread-role h (unread.Declined read.Done) = refl
-unread-role h (unread.Declined read.NotYourTurn) = refl
-unread-role h (unread.Declined (read.Refused token cause)) = refl
 
 -- what keeps a handshake is usable
 pub usable-kept : (new : NoiseHandshake) (h : Held Table) → new.text_len ≤ 416 → new.answer_count ≤ 8 → new.secret_count ≤ 9
