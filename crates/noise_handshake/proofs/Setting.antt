@@ -109,7 +109,7 @@ module _ (p : Plan) (role : Role) (own : Own → Option (List ℕ)) (remote : Re
     s = λ h. own-s (stands-places_of p role S ∙ ap (λ (b : Bool). b || is_among role S (message_places Initiator 1 p.messages)) h);
   }
 
-  pub other-pre : HasPre p (other role) remote
+  other-pre : HasPre p (other role) remote
   other-pre = record { e = λ h. remote-exactly.0 ∙ h; s = λ h. remote-exactly.1 ∙ h }
 
 -- the keys of both pre-messages

@@ -69,6 +69,14 @@ due h w e =
     let unequal : (h.passed == length h.pattern.messages) ≡ false = t.1 in
     grind (arith, nat_tests)
 
+-- and it is the other party's turn
+pub reads-turn : {K : Type 0} (h : Held K) → read_fault h ≡ None → turn_from Initiator h.passed ≡ other h.role
+reads-turn h e =
+    let t : Told h.ended (h.passed == length h.pattern.messages) (is_turn h.role h.passed) None =
+    subst (Told h.ended (h.passed == length h.pattern.messages) (is_turn h.role h.passed)) e
+    (told h.ended (h.passed == length h.pattern.messages) (is_turn h.role h.passed)) in
+    other-role (turn_from Initiator h.passed) h.role t.2
+
 module _ {K : Type 0} (public_of : K → Own → Option (List ℕ)) (agreement : K → Own → List ℕ → Option (List ℕ)) (h : Held K) (v : View)
     (s : Stands public_of agreement h v) where
   going : h.ended ≡ false → v.ended ≡ false

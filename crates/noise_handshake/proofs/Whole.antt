@@ -1,6 +1,6 @@
 -- What holds of every handshake, and what a caller's parts are tested for.
 use Rattle.std.proofs.Common.{◌≡◌, ℕ, ◌*◌, ◌≤◌, List, Bool, true, false, length, drop, refl, arith}
-use Rattle.std.specs.Prelude.{not, ◌&&◌, ◌||◌, Option, is_some, is_none}
+use Rattle.std.specs.Prelude.{not, ◌&&◌, Option, is_some, is_none}
 use Rattle.noise_names.specs.declared.token.Token.TheVariants.{E, S}
 use Rattle.noise_names.specs.Tokens.{other}
 use Rattle.noise_names.specs.Validity.{is_among}
@@ -30,26 +30,6 @@ both false false e f = refl
 both false true e f = cc
 both true b e f = cc
 
-one : (a b c d : Bool) → ((not a || b) && (not c || d)) ≡ true → a ≡ true → b ≡ true
-one true true c d e f = refl
-one true false c d e f = cc
-one false b c d e f = cc
-
-two : (a b c d : Bool) → ((not a || b) && (not c || d)) ≡ true → c ≡ true → d ≡ true
-two a b true true e f = refl
-two true true true false e f = cc
-two true false true false e f = cc
-two false b true false e f = cc
-two a b false d e f = cc
-
-none : (a b : Bool) → (a ≡ true → b ≡ true) → (not a || b) ≡ true
-none true b f = f refl
-none false b f = refl
-
-and-true : (a b : Bool) → a ≡ true → b ≡ true → (a && b) ≡ true
-and-true true b e h = h
-and-true false b e h = cc
-
 absent : (a : Bool) (key : Option (List ℕ)) → (a && is_none key) ≡ false → a ≡ true → is_some key ≡ true
 absent true key e f = grind arith
 absent false key e f = cc
@@ -65,23 +45,21 @@ module _ {K : Type 0} (public_of : K → Own → Option (List ℕ)) (h : Held K)
   abbrev pub owns : Bool
   owns = not (lacks_own h.pattern h.role E (public_of h.keys Ephemeral)) && not (lacks_own h.pattern h.role S (public_of h.keys Static))
 
-  abbrev pub knows : Bool
-  knows = (not (is_among (other h.role) E (passed_places h.pattern h.passed)) || is_some h.remote.e)
-      && (not (is_among (other h.role) S (passed_places h.pattern h.passed)) || is_some h.remote.s)
+  abbrev pub Known : Type 0
+  Known = (is_some h.remote.e ≡ is_among (other h.role) E (passed_places h.pattern h.passed))
+      × (is_some h.remote.s ≡ is_among (other h.role) S (passed_places h.pattern h.passed))
 
   abbrev pub Keyed : Type 0
   Keyed = (keyed h.state ≡ has_key h.pattern (passed_places h.pattern h.passed)) × (nonce_now h.state ≤ 11 * h.passed)
 
-  pub is-whole : Counted → owns ≡ true → knows ≡ true → Keyed → IsWhole public_of h
+  pub is-whole : Counted → owns ≡ true → Known → Keyed → IsWhole public_of h
   is-whole a b c d = record {
     within = a.0;
     secrets = a.1;
     own_e = left (lacks_own h.pattern h.role E (public_of h.keys Ephemeral)) (lacks_own h.pattern h.role S (public_of h.keys Static)) b;
     own_s = right (lacks_own h.pattern h.role E (public_of h.keys Ephemeral)) (lacks_own h.pattern h.role S (public_of h.keys Static)) b;
-    remote_e = one (is_among (other h.role) E (passed_places h.pattern h.passed)) (is_some h.remote.e)
-        (is_among (other h.role) S (passed_places h.pattern h.passed)) (is_some h.remote.s) c;
-    remote_s = two (is_among (other h.role) E (passed_places h.pattern h.passed)) (is_some h.remote.e)
-        (is_among (other h.role) S (passed_places h.pattern h.passed)) (is_some h.remote.s) c;
+    remote_e = c.0;
+    remote_s = c.1;
     key = d.0;
     nonce = d.1;
   }
@@ -93,12 +71,8 @@ module _ {K : Type 0} (public_of : K → Own → Option (List ℕ)) (h : Held K)
   whole-owns w =
       both (lacks_own h.pattern h.role E (public_of h.keys Ephemeral)) (lacks_own h.pattern h.role S (public_of h.keys Static)) w.own_e w.own_s
 
-  pub whole-knows : IsWhole public_of h → knows ≡ true
-  whole-knows w =
-      and-true (not (is_among (other h.role) E (passed_places h.pattern h.passed)) || is_some h.remote.e)
-      (not (is_among (other h.role) S (passed_places h.pattern h.passed)) || is_some h.remote.s)
-      (none (is_among (other h.role) E (passed_places h.pattern h.passed)) (is_some h.remote.e) w.remote_e)
-      (none (is_among (other h.role) S (passed_places h.pattern h.passed)) (is_some h.remote.s) w.remote_s)
+  pub whole-knows : IsWhole public_of h → Known
+  whole-knows w = (w.remote_e, w.remote_s)
 
   pub whole-keyed : IsWhole public_of h → Keyed
   whole-keyed w = (w.key, w.nonce)

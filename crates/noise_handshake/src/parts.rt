@@ -1,7 +1,7 @@
 //! What a handshake holds, for a caller that keeps it itself.
 #![tactic(auto)]
 
-ghost use Rattle.std.specs.Prelude.{◌≡◌, ◌≤◌, ◌*◌, ◌↔◌, not, ◌&&◌, ◌||◌, length, drop, is_some, IsTrue};
+ghost use Rattle.std.specs.Prelude.{◌≡◌, ◌≤◌, ◌*◌, ◌↔◌, not, ◌&&◌, length, drop, is_some, IsTrue};
 ghost use Rattle.noise_names.specs.declared.token.Token.TheVariants.{E, S};
 ghost use Rattle.noise_names.specs.Tokens.{other};
 ghost use Rattle.noise_names.specs.Validity.{is_among};
@@ -57,17 +57,17 @@ impl<K: Keys> Parts<K> {
             && !lacks_own(pattern, self.role, &self.keys, Own::Static)
     }
 
-    // Whether each key of the other party is there whose token has passed.
+    // Whether exactly those keys of the other party are there whose tokens stand in its pre-message or in a message that has passed.
     fn has_remote(&self) -> bool
         requires { self.now.passed ≤ length self.now.pattern.messages }
-        ensures { result ≡ ((not (is_among (other self.now.role) E (passed_places self.now.pattern self.now.passed)) || is_some self.now.remote.e)
-            && (not (is_among (other self.now.role) S (passed_places self.now.pattern self.now.passed)) || is_some self.now.remote.s)) }
+        ensures { IsTrue result ↔ ((is_some self.now.remote.e ≡ is_among (other self.now.role) E (passed_places self.now.pattern self.now.passed))
+            × (is_some self.now.remote.s ≡ is_among (other self.now.role) S (passed_places self.now.pattern self.now.passed))) }
     {
         let pattern = self.pattern.pattern();
         let passed = self.passed as usize;
         let other = self.role.other();
-        (!was_sent(pattern, passed, other, Own::Ephemeral) || self.remote.e.is_some())
-            && (!was_sent(pattern, passed, other, Own::Static) || self.remote.s.is_some())
+        self.remote.e.is_some() == was_sent(pattern, passed, other, Own::Ephemeral)
+            && self.remote.s.is_some() == was_sent(pattern, passed, other, Own::Static)
     }
 
     // Whether there is a cipher key exactly where the pattern says so, and its nonce isn't beyond what the messages took.

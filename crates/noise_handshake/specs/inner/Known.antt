@@ -47,7 +47,7 @@ abbrev pub are_known : Role → Bool → Bool → List Token → Bool
 are_known role e s [] = true
 are_known role e s (t ∷ ts) = is_known role e s t && are_known role (e_behind e t) (s_behind s t) ts
 
--- A key of the other party is known if its token stands in its pre-message or in a message that has passed.
+-- A key of the other party is known exactly if its token stands in its pre-message or in a message that has passed.
 pub record KnowsRemote {K : Type 0} (h : Held K) : Type 0 where
-  pub e : is_among (other h.role) E (passed_places h.pattern h.passed) ≡ true → is_some h.remote.e ≡ true
-  pub s : is_among (other h.role) S (passed_places h.pattern h.passed) ≡ true → is_some h.remote.s ≡ true
+  pub e : is_some h.remote.e ≡ is_among (other h.role) E (passed_places h.pattern h.passed)
+  pub s : is_some h.remote.s ≡ is_among (other h.role) S (passed_places h.pattern h.passed)

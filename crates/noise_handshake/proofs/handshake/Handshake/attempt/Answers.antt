@@ -8,7 +8,7 @@ use Rattle.noise_handshake.specs.View.{tokens_at, tokens_now, learned}
 use Rattle.noise_handshake.specs.inner.Known.{are_known}
 use Rattle.noise_handshake.proofs.Knowing.{reading-known, knows-read}
 use Rattle.noise_handshake.proofs.Layouts.{length-tokens_of, tokens-laid, places-laid}
-use Rattle.noise_handshake.proofs.Standing.{due, tokens-are, listening, listens, behind, accepted, refused}
+use Rattle.noise_handshake.proofs.Standing.{due, reads-turn, tokens-are, listening, listens, behind, accepted, refused}
 use Rattle.noise_state.specs.Standing.{StateStands, keyed, nonce_now}
 use Rattle.noise_state.specs.declared.symmetric.SymmetricState.{SymmetricState}
 use Rattle.noise_names.specs.declared.token.Token.{Token}
@@ -134,7 +134,7 @@ read_message-requires-clause-known g c =
     let ts : List Token = tokens_of placed in
     let e : ts ≡ tokens_at a.pattern.messages a.passed = tokens-laid a.pattern a.passed found laid placed c.deref-2.ensures.0 in
     subst (λ (zs : List Token). are_known a.role (is_some a.remote.e) (is_some a.remote.s) zs ≡ true) (sym e)
-    (reading-known a.pattern a.passed less i.5 a.role (is_some a.remote.e) (is_some a.remote.s) i.3.e i.3.s)
+    (reading-known a.pattern a.passed less i.5 a.role (is_some a.remote.e) (is_some a.remote.s) (λ l. i.3.e ∙ l) (λ l. i.3.s ∙ l))
 
 pub overflow_add-self : goal.overflow_add-self
 overflow_add-self g c =
@@ -260,8 +260,8 @@ invariant_of-self g c =
       omega (arith, enough P h i.2 ts e less, length-drop a.used a.secrets.items, n, i.1),
       sound-behind P h i.2 ts e less c.read_message.new.known c.read_message.new.state (drop (a.used + found.secrets) a.secrets.items) (a.passed + 1) refl
           (ap (λ (k : ℕ). drop (a.used + k) a.secrets.items) n ∙ sym (drop-drop (count_by is_psk ts) a.used a.secrets.items)) key counted few,
-      knows-read h i.3 less c.read_message.new.known c.read_message.new.state (drop (a.used + found.secrets) a.secrets.items) ts e c.in-Ok.ensures.e
-          c.in-Ok.ensures.s,
+      knows-read h i.3 less c.read_message.new.known c.read_message.new.state (drop (a.used + found.secrets) a.secrets.items) ts
+          (reads-turn h none) e c.in-Ok.ensures.e c.in-Ok.ensures.s,
       subst (λ (z : Plan). LaysNext z (a.passed + 1) c.lay_next-self-inside.result) c.pattern-plan.ensures.same c.lay_next-self-inside.ensures,
       i.5,
     )
@@ -342,7 +342,7 @@ returns-in-Err-clause-reads g c v s =
     let l = listening P A h v s0 a.psks _ ts (listens P A h v s0 i.2.within none) i.0 d here in
     let q = c.in-Err.ensures.read v.history trial in
     let knows = subst (λ (zs : List Token). are_known a.role (is_some a.remote.e) (is_some a.remote.s) zs ≡ true) (sym e)
-    (reading-known a.pattern a.passed less i.5 a.role (is_some a.remote.e) (is_some a.remote.s) i.3.e i.3.s) in (
+    (reading-known a.pattern a.passed less i.5 a.role (is_some a.remote.e) (is_some a.remote.s) (λ l. i.3.e ∙ l) (λ l. i.3.s ∙ l)) in (
       refused v a.role a.psks (A a.keys) _ a.remote ts l c.args.message.now _ _ q.0,
       wants v c.args.message.now c.lacked.result a.role a.psks (A a.keys) _ a.remote ts l
           (c.lacked.ensures (record { role = a.role; psks = a.psks; agree = A a.keys }) a.remote _ v.history c.args.message.now refl knows q),

@@ -11,7 +11,7 @@ use Rattle.noise_names.specs.declared.token.Token.TheVariants.{E, S}
 use Rattle.noise_names.specs.Tokens.{other}
 use Rattle.noise_handshake.specs.inner.Known.{KnowsRemote}
 use Rattle.noise_handshake.proofs.Knowing.{stands-start}
-use Rattle.noise_handshake.proofs.Setting.{flips, has-pre, other-pre, counted, own-e, own-s}
+use Rattle.noise_handshake.proofs.Setting.{flips, has-pre, remote-exactly, counted, own-e, own-s}
 use Rattle.noise_handshake.proofs.handshake.Handshake.new.Goals as goal
 
 pub start-state-requires-clause-initiator : goal.start-state-requires-clause-initiator
@@ -74,7 +74,7 @@ invariant_of-result g c =
         ended = false;
         state = c.start-state.result;
       })) q h,
-      (let pre : HasPre plan (other c.args.role) c.args.remote = other-pre plan c.args.role own c.args.remote n none in
+      (let known = remote-exactly plan c.args.role own c.args.remote n none in
           subst (λ (z : Plan). KnowsRemote (record {
             pattern = z;
             role = c.args.role;
@@ -85,8 +85,8 @@ invariant_of-result g c =
             ended = false;
             state = c.start-state.result;
           })) q (record {
-            e = λ l. pre.e (sym (stands-start plan (other c.args.role) E) ∙ l);
-            s = λ l. pre.s (sym (stands-start plan (other c.args.role) S) ∙ l);
+            e = known.0 ∙ sym (stands-start plan (other c.args.role) E);
+            s = known.1 ∙ sym (stands-start plan (other c.args.role) S);
           })),
       subst (λ (z : Plan). LaysNext z 0 c.lay_next-next.result) q c.lay_next-next.ensures,
       c.pattern-plan.ensures.valid,
