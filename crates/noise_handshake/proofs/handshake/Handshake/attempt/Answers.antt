@@ -134,7 +134,7 @@ read_message-requires-clause-known g c =
     let ts : List Token = tokens_of placed in
     let e : ts ≡ tokens_at a.pattern.messages a.passed = tokens-laid a.pattern a.passed found laid placed c.deref-2.ensures.0 in
     subst (λ (zs : List Token). are_known a.role (is_some a.remote.e) (is_some a.remote.s) zs ≡ true) (sym e)
-    (reading-known a.pattern a.passed less i.5 a.role (is_some a.remote.e) (is_some a.remote.s) (λ l. i.3.e ∙ l) (λ l. i.3.s ∙ l))
+    (reading-known a.pattern a.passed less i.5 a.role (is_some a.remote.e) (is_some a.remote.s) i.3.e i.3.s)
 
 pub overflow_add-self : goal.overflow_add-self
 overflow_add-self g c =
@@ -342,7 +342,7 @@ returns-in-Err-clause-reads g c v s =
     let l = listening P A h v s0 a.psks _ ts (listens P A h v s0 i.2.within none) i.0 d here in
     let q = c.in-Err.ensures.read v.history trial in
     let knows = subst (λ (zs : List Token). are_known a.role (is_some a.remote.e) (is_some a.remote.s) zs ≡ true) (sym e)
-    (reading-known a.pattern a.passed less i.5 a.role (is_some a.remote.e) (is_some a.remote.s) (λ l. i.3.e ∙ l) (λ l. i.3.s ∙ l)) in (
+    (reading-known a.pattern a.passed less i.5 a.role (is_some a.remote.e) (is_some a.remote.s) i.3.e i.3.s) in (
       refused v a.role a.psks (A a.keys) _ a.remote ts l c.args.message.now _ _ q.0,
       wants v c.args.message.now c.lacked.result a.role a.psks (A a.keys) _ a.remote ts l
           (c.lacked.ensures (record { role = a.role; psks = a.psks; agree = A a.keys }) a.remote _ v.history c.args.message.now refl knows q),

@@ -130,7 +130,7 @@ read_lacking-requires-clause-known g c =
     let ts : List Token = tokens_of placed in
     let e : ts ≡ tokens_at a.pattern.messages a.passed = tokens-laid a.pattern a.passed found laid placed c.deref-2.ensures.0 in
     subst (λ (zs : List Token). are_known a.role (is_some a.remote.e) (is_some a.remote.s) zs ≡ true) (sym e)
-    (reading-known a.pattern a.passed less i.5 a.role (is_some a.remote.e) (is_some a.remote.s) (λ l. i.3.e ∙ l) (λ l. i.3.s ∙ l))
+    (reading-known a.pattern a.passed less i.5 a.role (is_some a.remote.e) (is_some a.remote.s) i.3.e i.3.s)
 
 pub returns : goal.returns
 returns g c v s =

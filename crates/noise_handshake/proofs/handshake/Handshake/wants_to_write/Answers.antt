@@ -112,7 +112,7 @@ write_lacking-requires-clause-known g c =
     let ts : List Token = tokens_of placed in
     let e : ts ≡ tokens_at a.pattern.messages a.passed = tokens-laid a.pattern a.passed found laid placed c.deref-2.ensures.0 in
     subst (λ (zs : List Token). list_all (is_known a.role (is_some a.remote.e) (is_some a.remote.s)) zs ≡ true) (sym e)
-    (writing-known a.pattern a.passed less i.5 a.role (is_some a.remote.e) (is_some a.remote.s) (due-turn h due) (λ l. i.3.e ∙ l) (λ l. i.3.s ∙ l))
+    (writing-known a.pattern a.passed less i.5 a.role (is_some a.remote.e) (is_some a.remote.s) (due-turn h due) i.3.e i.3.s)
 
 pub returns : goal.returns
 returns g c v s =

@@ -142,7 +142,7 @@ write_message-requires-clause-known g c =
     let ts : List Token = tokens_of placed in
     let e : ts ≡ tokens_at a.pattern.messages a.passed = tokens-laid a.pattern a.passed found laid placed c.deref-2.ensures.0 in
     subst (λ (zs : List Token). list_all (is_known a.role (is_some a.remote.e) (is_some a.remote.s)) zs ≡ true) (sym e)
-    (writing-known a.pattern a.passed less i.5 a.role (is_some a.remote.e) (is_some a.remote.s) (writes-turn P h i.2 len none) (λ l. i.3.e ∙ l) (λ l. i.3.s ∙ l))
+    (writing-known a.pattern a.passed less i.5 a.role (is_some a.remote.e) (is_some a.remote.s) (writes-turn P h i.2 len none) i.3.e i.3.s)
 
 pub write_message-requires-clause-room : goal.write_message-requires-clause-room
 write_message-requires-clause-room g c =
