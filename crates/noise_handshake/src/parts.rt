@@ -25,7 +25,7 @@ pub struct Parts<K> {
     pub pattern: ValidPattern,
     pub role: Role,
     pub keys: K,
-    /// The public keys of the other party, as far as they are known.
+    /// The public keys of the other party that are known: those of its pre-message and of the messages that passed, and no others.
     pub remote: Remote,
     /// The secrets of the psk tokens that are still to come.
     pub secrets: ArrayVec<[u8; 32], 9>,
