@@ -1,5 +1,5 @@
 -- What a pattern asks of a setup: how many secrets, and whether there is a key behind a pre-message.
-use Rattle.std.proofs.Common.{◌≡◌, ℕ, ◌+◌, ◌<◌, ◌≤◌, List, [], ◌∷◌, ◌++◌, length, cond, eqb, refl, ap, ◌∙◌, arith}
+use Rattle.std.proofs.Common.{◌≡◌, ℕ, zero, suc, ◌+◌, ◌<◌, ◌≤◌, List, [], ◌∷◌, ◌++◌, length, drop, cond, eqb, refl, ap, ◌∙◌, arith}
 use Rattle.std.specs.Prelude.{Bool, true, false, ◌||◌, ◌&&◌, IsTrue, nat_le, count_by}
 use Rattle.std.specs.List.{list_any}
 use Rattle.std.proofs.lemmas.Bool.Decides.{nat_tests}
@@ -69,6 +69,15 @@ few-secrets p h =
       all-few p.places p.messages h.psks.tokens,
       leb-true (length p.messages) 8 (second (nat_le 1 (length p.messages)) (nat_le (length p.messages) 8) h.count),
     )
+
+later-take-less : (n : ℕ) (ms : List (List Token)) → secrets_of (drop n ms) ≤ secrets_of ms
+later-take-less zero ms = omega arith
+later-take-less (suc n) [] = omega arith
+later-take-less (suc n) (ts ∷ ms) = omega (arith, later-take-less n ms)
+
+-- and no more where some messages have passed
+pub few-left : (p : Plan) (n : ℕ) → IsPattern p → secrets_of (drop n p.messages) ≤ 9
+few-left p n h = omega (arith, later-take-less n p.messages, few-secrets p h)
 
 -- ---- the key behind a pre-message
 

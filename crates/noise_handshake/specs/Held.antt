@@ -1,5 +1,5 @@
 -- What a handshake holds, and why it doesn't read or write now.
-use Rattle.std.specs.Prelude.{◌≡◌, ℕ, ◌+◌, ◌==◌, nat_lt, List, length, Bool, true, false, not, Option, Some, None, if◌then◌else◌}
+use Rattle.std.specs.Prelude.{◌≡◌, ℕ, ◌+◌, ◌++◌, ◌==◌, nat_lt, List, length, Bool, true, false, not, Option, Some, None, if◌then◌else◌}
 use Rattle.noise_names.specs.declared.token.Role.{Role}
 use Rattle.noise_names.specs.declared.token.Role.TheVariants.{Initiator}
 use Rattle.noise_names.specs.Tokens.{same_role, turn_from}
@@ -69,6 +69,8 @@ pub record Advances {K : Type 0} (old new : Held K) : Type 0 where
   pub keys : new.keys ≡ old.keys
   pub passed : new.passed ≡ old.passed + 1
   pub ended : new.ended ≡ false
+  pub taken : List (List ℕ)
+  pub secrets : old.secrets ≡ taken ++ new.secrets
 
 -- what a fault of reading leaves
 abbrev pub behind_read_fault : {K : Type 0} → Held K → ReadFault → Held K

@@ -8,22 +8,30 @@ use Rattle.noise_state.specs.Standing.{keyed, nonce_now, state_of}
 use Rattle.noise_handshake.specs.declared.keys.Own.{Own}
 use Rattle.noise_handshake.specs.declared.keys.Own.TheVariants.{Ephemeral, Static}
 use Rattle.noise_handshake.specs.declared.parts.Parts.{Parts}
+use Rattle.noise_handshake.specs.declared.parts.Progress.{Progress}
 use Rattle.noise_handshake.specs.Held.{Held}
 use Rattle.noise_handshake.specs.Setup.{lacks_own, secrets_of}
 use Rattle.noise_handshake.specs.Passed.{passed_places}
 
--- what these parts hold
-abbrev pub held_of : {K : Type 0} → Parts K → Held K
-held_of p = record {
+-- what these parts and secrets hold
+abbrev pub held_of : {K : Type 0} → Parts K → List (List ℕ) → Held K
+held_of p secrets = record {
   pattern = p.pattern;
   role = p.role;
   keys = p.keys;
-  remote = p.remote;
-  secrets = p.secrets.items;
-  passed = p.passed;
-  ended = p.ended;
-  state = state_of p.state;
+  remote = p.progress.remote;
+  secrets = secrets;
+  passed = p.progress.passed;
+  ended = p.progress.ended;
+  state = state_of p.progress.state;
 }
+
+-- so far a handshake has come
+pub record HasProgress {K : Type 0} (h : Held K) (g : Progress) : Type 0 where
+  pub remote : g.remote ≡ h.remote
+  pub passed : g.passed ≡ h.passed
+  pub ended : g.ended ≡ h.ended
+  pub state : state_of g.state ≡ h.state
 
 -- What holds of every handshake: no more messages have passed than there are, a secret is left for each psk token that is still to come (9.2),
 -- the party has each key of its own that the pattern has a token for, exactly those keys of the other party's are known whose tokens stand in

@@ -11,7 +11,7 @@ use crate::setup::{public_keys, setup_fault, start};
 use crate::stop::Stop;
 use crate::tokens::Means;
 use crate::writing::{write_lacking, write_message};
-use crate::{Keys, Opened, Own, Parts, ReadFault, Remote, SetupFault, Unread, WriteFault};
+use crate::{Keys, Opened, Own, Parts, Progress, ReadFault, Remote, SetupFault, Unread, WriteFault};
 use arrayvec::ArrayVec;
 use noise_names::{Role, ValidPattern};
 use noise_state::SymmetricState;
@@ -89,7 +89,7 @@ impl<K: Keys> Handshake<K> {
     ghost use Rattle.noise_handshake.specs.Asking.{LeavesUnread, behind_asked};
     ghost use Rattle.noise_handshake.specs.declared.faults.Unread.{Unread};
     ghost use Rattle.noise_handshake.specs.Opening.{Opens};
-    ghost use Rattle.noise_handshake.specs.Parts.{held_of, IsWhole};
+    ghost use Rattle.noise_handshake.specs.Parts.{held_of, HasProgress, IsWhole};
     ghost use Rattle.noise_handshake.specs.Setup.{begun, setup_fault};
     ghost use Rattle.noise_handshake.specs.Writing.{Writes, Lacks};
     ghost use Rattle.noise_handshake.specs.Wanting.{WantsToRead, WantsToWrite};
@@ -138,53 +138,69 @@ impl<K: Keys> Handshake<K> {
         })
     }
 
-    /// What it holds, for a caller that keeps it itself until the next message.
+    /// The secrets of the psk tokens that are still to come, in their order.
+    pub fn secrets(&self) -> &[[u8; 32]]
+        ensures { result.now ≡ self.now.secrets }
+    {
+        &self.secrets[self.used..]
+    }
+
+    /// What messages have changed so far, the secrets aside.
+    pub fn progress(&self) -> Progress
+        ensures same { HasProgress self.now result }
+        ensures whole { IsWhole K.public_of self.now }
+    {
+        Progress {
+            remote: self.remote,
+            passed: self.passed,
+            ended: self.ended,
+            state: self.state.for_trial().into_parts(),
+        }
+    }
+
+    /// What it holds, for a caller that keeps it itself until the next message. Its secrets are gone: `secrets` tells them before.
     pub fn into_parts(self) -> Parts<K>
-        ensures same { held_of result ≡ self }
+        ensures same { held_of result self.secrets ≡ self }
         ensures whole { IsWhole K.public_of self }
     {
-        let mut secrets = ArrayVec::new();
-        secrets
-            .try_extend_from_slice(&self.secrets[self.used..])
-            .unwrap();
+        let progress = self.progress();
         Parts {
             pattern: self.pattern,
             role: self.role,
             keys: self.keys,
-            remote: self.remote,
-            secrets,
-            passed: self.passed,
-            ended: self.ended,
-            state: self.state.into_parts(),
+            progress,
         }
     }
 
-    /// The handshake that holds these parts, or None for parts that no handshake holds. It stands for what the handshake stood
-    /// for that was taken apart; at None the parts are gone.
+    /// The handshake that holds these parts, and these secrets for the psk tokens that are still to come, in their order; or None for
+    /// what no handshake holds. It stands for what the handshake stood for that was taken apart; at None the parts are gone.
     ///
     /// A handshake that was taken apart is put together once: two of them would encrypt at the same nonce.
-    pub fn from_parts(parts: Parts<K>) -> Option<Handshake<K>>
-        ensures whole { IsSome result ↔ IsWhole K.public_of (held_of parts) }
-        ensures same { IfSome result (λ h. h ≡ held_of parts) }
+    pub fn from_parts(parts: Parts<K>, secrets: &[[u8; 32]]) -> Option<Handshake<K>>
+        ensures whole { IsSome result ↔ IsWhole K.public_of (held_of parts secrets.now) }
+        ensures same { IfSome result (λ h. h ≡ held_of parts secrets.now) }
     {
-        if !parts.are_whole() {
+        if !parts.are_whole(secrets) {
             return None;
         }
+        let progress = parts.progress;
         let plan = parts.pattern.pattern();
         let psks = !plan.is_plain();
-        let next = lay_next(plan, psks, parts.state.key.is_some(), parts.passed);
+        let next = lay_next(plan, psks, progress.state.key.is_some(), progress.passed);
+        let mut kept = ArrayVec::new();
+        kept.try_extend_from_slice(secrets).unwrap();
         Some(Handshake {
             pattern: parts.pattern,
             role: parts.role,
             keys: parts.keys,
-            remote: parts.remote,
-            secrets: parts.secrets,
+            remote: progress.remote,
+            secrets: kept,
             used: 0,
-            passed: parts.passed,
-            ended: parts.ended,
+            passed: progress.passed,
+            ended: progress.ended,
             psks,
             next,
-            state: SymmetricState::from_parts(parts.state),
+            state: SymmetricState::from_parts(progress.state),
         })
     }
 

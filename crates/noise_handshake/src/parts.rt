@@ -12,23 +12,17 @@ ghost use Rattle.noise_handshake.specs.Parts.{held_of, IsWhole};
 
 use crate::setup::{lacks_own, psk_total, was_sent};
 use crate::{Keys, Own, Remote};
-use arrayvec::ArrayVec;
 use noise_names::{Role, ValidPattern};
 use noise_state::StateParts;
 
 // A message takes no more nonces: one for each of its tokens, at most 10, and one for its payload.
 const NONCES: u64 = 11;
 
-/// What a handshake holds between two messages, for a caller that keeps it itself, as one in another language.
+/// What messages change of a handshake, its secrets aside.
 #[derive(Drop)]
-pub struct Parts<K> {
-    pub pattern: ValidPattern,
-    pub role: Role,
-    pub keys: K,
+pub struct Progress {
     /// The public keys of the other party that are known: those of its pre-message and of the messages that passed, and no others.
     pub remote: Remote,
-    /// The secrets of the psk tokens that are still to come.
-    pub secrets: ArrayVec<[u8; 32], 9>,
     /// How many messages have passed.
     pub passed: u8,
     /// Whether a message was refused, or had no answer.
@@ -36,15 +30,25 @@ pub struct Parts<K> {
     pub state: StateParts,
 }
 
+/// What a handshake holds between two messages, its secrets aside, for a caller that keeps it itself, as one in another language.
+#[derive(Drop)]
+pub struct Parts<K> {
+    pub pattern: ValidPattern,
+    pub role: Role,
+    pub keys: K,
+    pub progress: Progress,
+}
+
 impl<K: Keys> Parts<K> {
     // Whether no more messages have passed than there are, and a secret is left for each psk token to come.
-    fn has_secrets(&self) -> bool
-        ensures { IsTrue result ↔ ((self.now.passed ≤ length self.now.pattern.messages)
-            × (length self.now.secrets.items ≡ secrets_of (drop self.now.passed self.now.pattern.messages))) }
+    fn has_secrets(&self, secrets: &[[u8; 32]]) -> bool
+        ensures due { IsTrue result ↔ ((self.now.progress.passed ≤ length self.now.pattern.messages)
+            × (length secrets.now ≡ secrets_of (drop self.now.progress.passed self.now.pattern.messages))) }
+        ensures few { IsTrue result → length secrets.now ≤ 9 }
     {
         let messages = self.pattern.pattern().messages();
-        let passed = self.passed as usize;
-        passed <= messages.len() && self.secrets.len() == psk_total(&messages[passed..])
+        let passed = self.progress.passed as usize;
+        passed <= messages.len() && secrets.len() == psk_total(&messages[passed..])
     }
 
     // Whether the party has each key of its own that the pattern has a token for.
@@ -59,32 +63,33 @@ impl<K: Keys> Parts<K> {
 
     // Whether exactly those keys of the other party are there whose tokens stand in its pre-message or in a message that has passed.
     fn has_remote(&self) -> bool
-        requires { self.now.passed ≤ length self.now.pattern.messages }
-        ensures { IsTrue result ↔ ((is_some self.now.remote.e ≡ is_among (other self.now.role) E (passed_places self.now.pattern self.now.passed))
-            × (is_some self.now.remote.s ≡ is_among (other self.now.role) S (passed_places self.now.pattern self.now.passed))) }
+        requires { self.now.progress.passed ≤ length self.now.pattern.messages }
+        ensures { IsTrue result ↔ ((is_some self.now.progress.remote.e ≡ is_among (other self.now.role) E (passed_places self.now.pattern self.now.progress.passed))
+            × (is_some self.now.progress.remote.s ≡ is_among (other self.now.role) S (passed_places self.now.pattern self.now.progress.passed))) }
     {
         let pattern = self.pattern.pattern();
-        let passed = self.passed as usize;
+        let passed = self.progress.passed as usize;
         let other = self.role.other();
-        self.remote.e.is_some() == was_sent(pattern, passed, other, Own::Ephemeral)
-            && self.remote.s.is_some() == was_sent(pattern, passed, other, Own::Static)
+        self.progress.remote.e.is_some() == was_sent(pattern, passed, other, Own::Ephemeral)
+            && self.progress.remote.s.is_some() == was_sent(pattern, passed, other, Own::Static)
     }
 
     // Whether there is a cipher key exactly where the pattern says so, and its nonce isn't beyond what the messages took.
     fn has_state(&self) -> bool
-        requires { self.now.passed ≤ length self.now.pattern.messages }
-        ensures { IsTrue result ↔ ((is_some self.now.state.key ≡ has_key self.now.pattern (passed_places self.now.pattern self.now.passed))
-            × (self.now.state.nonce ≤ 11 * self.now.passed)) }
+        requires { self.now.progress.passed ≤ length self.now.pattern.messages }
+        ensures { IsTrue result ↔ ((is_some self.now.progress.state.key ≡ has_key self.now.pattern (passed_places self.now.pattern self.now.progress.passed))
+            × (self.now.progress.state.nonce ≤ 11 * self.now.progress.passed)) }
     {
-        self.state.key.is_some() == self.pattern.has_key(self.passed)
-            && self.state.nonce <= NONCES * u64::from(self.passed)
+        self.progress.state.key.is_some() == self.pattern.has_key(self.progress.passed)
+            && self.progress.state.nonce <= NONCES * u64::from(self.progress.passed)
     }
 
-    // Whether a handshake may hold them.
-    pub(crate) fn are_whole(&self) -> bool
-        ensures { IsTrue result ↔ IsWhole K.public_of (held_of self.now) }
+    // Whether a handshake may hold them and these secrets.
+    pub(crate) fn are_whole(&self, secrets: &[[u8; 32]]) -> bool
+        ensures whole { IsTrue result ↔ IsWhole K.public_of (held_of self.now secrets.now) }
+        ensures few { IsTrue result → length secrets.now ≤ 9 }
     {
-        if !self.has_secrets() {
+        if !self.has_secrets(secrets) {
             return false;
         }
         if !self.has_own() {

@@ -6,6 +6,8 @@ use Rattle.noise_handshake.specs.Length.{keyed_behind_tokens}
 use Rattle.noise_handshake.specs.Held.{Held, read_fault}
 use Rattle.noise_handshake.specs.View.{tokens_at, tokens_now, learned}
 use Rattle.noise_handshake.specs.inner.Known.{are_known}
+use Rattle.noise_handshake.proofs.Advancing.{advanced, unended-read}
+use Rattle.noise_handshake.specs.Held.{Advances}
 use Rattle.noise_handshake.proofs.Knowing.{reading-known, knows-read}
 use Rattle.noise_handshake.proofs.Layouts.{length-tokens_of, tokens-laid, places-laid}
 use Rattle.noise_handshake.proofs.Standing.{due, reads-turn, tokens-are, listening, listens, behind, accepted, refused}
@@ -347,3 +349,30 @@ returns-in-Err-clause-reads g c v s =
       wants v c.args.message.now c.lacked.result a.role a.psks (A a.keys) _ a.remote ts l
           (c.lacked.ensures (record { role = a.role; psks = a.psks; agree = A a.keys }) a.remote _ v.history c.args.message.now refl knows q),
     )
+
+pub returns-in-Ok-clause-state : goal.returns-in-Ok-clause-state
+returns-in-Ok-clause-state g c =
+    let a = c.self.inside in
+    let h : Held g.row.K.Denot = record {
+      pattern = a.pattern;
+      role = a.role;
+      keys = a.keys;
+      remote = a.remote;
+      secrets = drop a.used a.secrets.items;
+      passed = a.passed;
+      ended = a.ended;
+      state = a.state;
+    } in
+    let none : read_fault h ≡ None = ap (λ (z : Held g.row.K.Denot). read_fault z) c.self.view_is ∙ c.requires.due in
+    let after : Held g.row.K.Denot = record {
+      pattern = a.pattern;
+      role = a.role;
+      keys = a.keys;
+      remote = c.read_message.new.known;
+      secrets = drop (a.used + c.next_layout-laid.result.now.secrets) a.secrets.items;
+      passed = a.passed + 1;
+      ended = a.ended;
+      state = c.read_message.new.state;
+    } in
+    subst (λ (z : Held g.row.K.Denot). Advances z after) c.self.view_is
+    (advanced h after a.secrets.items a.used c.next_layout-laid.result.now.secrets refl refl refl refl (unended-read h none) refl refl)

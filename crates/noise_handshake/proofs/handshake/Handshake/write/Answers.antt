@@ -6,6 +6,8 @@ use Rattle.noise_handshake.specs.Length.{keyed_behind_tokens, added_width}
 use Rattle.noise_handshake.specs.Held.{Held, write_fault, length_now, message_len_of}
 use Rattle.noise_handshake.specs.View.{tokens_at, tokens_now}
 use Rattle.noise_handshake.specs.inner.Known.{is_known}
+use Rattle.noise_handshake.proofs.Advancing.{advanced, unended-write}
+use Rattle.noise_handshake.specs.Held.{Advances}
 use Rattle.noise_handshake.proofs.Knowing.{writing-known, knows-wrote}
 use Rattle.noise_handshake.proofs.Layouts.{length-tokens_of, tokens-laid}
 use Rattle.noise_handshake.proofs.Standing.{tokens-are, ends}
@@ -474,3 +476,32 @@ returns-in-Err-clause-writes g c v s =
     let l = speaking P h i.2 len none A v s0 a.psks _ ts i.0 d here in
     let q = c.in-Err.ensures.written v.history trial in
     ((short-view P h i.2 len none A v s0, lacking v a.role a.psks (P a.keys) (A a.keys) _ a.remote ts l _ q), ends P A h v s0 true refl)
+
+pub returns-in-Ok-clause-state : goal.returns-in-Ok-clause-state
+returns-in-Ok-clause-state g c =
+    let a = c.self.inside in
+    let len : ℕ = length c.args.payload.now in
+    let h : Held g.row.K.Denot = record {
+      pattern = a.pattern;
+      role = a.role;
+      keys = a.keys;
+      remote = a.remote;
+      secrets = drop a.used a.secrets.items;
+      passed = a.passed;
+      ended = a.ended;
+      state = a.state;
+    } in
+    let none : write_fault h len ≡ None = ap (λ (z : Held g.row.K.Denot). write_fault z len) c.self.view_is ∙ sym c.write_fault.ensures.value
+    ∙ c.in_default.is in
+    let after : Held g.row.K.Denot = record {
+      pattern = a.pattern;
+      role = a.role;
+      keys = a.keys;
+      remote = a.remote;
+      secrets = drop (a.used + c.next_layout-laid.result.now.secrets) a.secrets.items;
+      passed = a.passed + 1;
+      ended = a.ended;
+      state = c.write_message.new.state;
+    } in
+    subst (λ (z : Held g.row.K.Denot). Advances z after) c.self.view_is
+    (advanced h after a.secrets.items a.used c.next_layout-laid.result.now.secrets refl refl refl refl (unended-write h len none) refl refl)
