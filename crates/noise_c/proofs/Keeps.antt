@@ -1,5 +1,6 @@
 -- What is kept stands for what the handshake stood for.
-use Rattle.std.proofs.Common.{◌≡◌, ℕ, ◌+◌, ◌-◌, ◌≤◌, List, ap, sym, subst, ◌∙◌, arith, slice_range}
+use Rattle.std.proofs.Common.{◌≡◌, ℕ, ◌+◌, ◌-◌, ◌++◌, ◌≤◌, List, length, drop, length-append, drop-drop, ap, sym, subst, ◌∙◌, arith, slice_range}
+use Rattle.std.proofs.Math.Seq.{drop-append_seam}
 use Rattle.noise_names.specs.Plan.{Plan}
 use Rattle.noise_names.specs.Validity.{IsValid}
 use Rattle.noise_handshake.specs.Parts.{IsWhole}
@@ -80,3 +81,18 @@ ended-kept old new h h2 n same e =
 pub refused-leaves : (h h2 : Held Table) (u : Unread) (fault : ReadFault) (token : ℕ) (cause : Cause) → h2 ≡ behind_unread h u → u ≡ unread.Declined fault
     → fault ≡ read.Refused token cause → h2 ≡ ended_as h
 refused-leaves h h2 u fault token cause e f g = e ∙ ap (behind_unread h) (f ∙ ap unread.Declined g)
+
+-- the secrets that are left behind a message stand at the same end
+pub secrets-behind : (old : NoiseHandshake) (h h2 : Held Table) (taken : List (List ℕ)) → old.secret_count ≤ 9 → length h.secrets ≡ old.secret_count
+    → h ≡ held_in h.pattern old → h.secrets ≡ taken ++ h2.secrets → h2.secrets ≡ drop (9 - length h2.secrets) old.secrets
+secrets-behind old h h2 taken few count same behind =
+    let c : ℕ = old.secret_count in
+    let n : length h.secrets ≡ length taken + length h2.secrets = ap length behind ∙ length-append taken h2.secrets in
+    let i : 9 - c + length taken ≡ 9 - length h2.secrets = omega (arith, few, count, n) in
+    sym (drop-append_seam taken h2.secrets) ∙ ap (drop (length taken)) (sym behind ∙ ap (λ (z : Held Table). z.secrets) same)
+    ∙ drop-drop (length taken) (9 - c) old.secrets ∙ ap (λ (k : ℕ). drop k old.secrets) i
+
+pub secrets-left : (old : NoiseHandshake) (h h2 : Held Table) (taken left : List (List ℕ)) → old.secret_count ≤ 9 → length h.secrets ≡ old.secret_count
+    → h ≡ held_in h.pattern old → h.secrets ≡ taken ++ h2.secrets → left ≡ h2.secrets → h2.secrets ≡ drop (9 - length left) old.secrets
+secrets-left old h h2 taken left few count same behind e =
+    secrets-behind old h h2 taken few count same behind ∙ ap (λ (z : List (List ℕ)). drop (9 - length z) old.secrets) (sym e)

@@ -1,5 +1,5 @@
 -- What the memory that C keeps stands for.
-use Rattle.std.specs.Prelude.{◌≡◌, ◌⊎◌, ℕ, ◌≤◌, ◌==◌, nat_eq, nat_lt, Bool, true, false, not, List, [], ◌∷◌, ◌++◌, length, take, map, Option, Some, None, if◌then◌else◌}
+use Rattle.std.specs.Prelude.{◌≡◌, ◌⊎◌, ℕ, ◌≤◌, ◌==◌, nat_eq, nat_lt, Bool, true, false, not, List, [], ◌∷◌, ◌++◌, length, take, map, Option, Some, None, if◌then◌else◌, drop, ◌-◌}
 use Rattle.std.specs.List.{ends_with}
 use Rattle.noise_names.specs.declared.token.Role.{Role}
 use Rattle.noise_names.specs.declared.token.Role.TheVariants.{Initiator, Responder}
@@ -24,7 +24,6 @@ use Rattle.noise_handshake.specs.Setup.{begun, setup_fault}
 use Rattle.noise_handshake.specs.View.{View, Accepts}
 use Rattle.noise_handshake.specs.Writing.{Writes}
 use Rattle.noise_handshake.specs.Party.{Stands, behind_message, behind_own, Declines, behind_declined, Withholds}
-use Rattle.noise_c.specs.declared.held.Changes.{Changes}
 use Rattle.noise_c.specs.declared.kept.NoiseKey.{NoiseKey}
 use Rattle.noise_c.specs.declared.kept.NoiseAnswer.{NoiseAnswer}
 use Rattle.noise_c.specs.declared.kept.NoiseHandshake.{NoiseHandshake}
@@ -105,19 +104,11 @@ held_in p k = record {
   role = role_in k.responder;
   keys = table_in k;
   remote = record { e = key_in k.remote_e; s = key_in k.remote_s };
-  secrets = take k.secret_count k.secrets;
+  secrets = drop (9 - k.secret_count) k.secrets;
   passed = k.passed;
   ended = not (k.ended == 0);
   state = state_of (record { chaining_key = k.chaining_key; hash = k.hash; key = key_in k.cipher; nonce = k.nonce });
 }
-
--- what messages change of a handshake
-pub record AreChanges (h : Held Table) (c : Changes) : Type 0 where
-  pub remote : c.remote ≡ h.remote
-  pub secrets : c.secrets.items ≡ h.secrets
-  pub passed : c.passed ≡ h.passed
-  pub ended : c.ended ≡ h.ended
-  pub state : state_of c.state ≡ h.state
 
 -- A call has left this: no more text, answers and secrets than there is room for, and what a handshake of the named pattern may hold.
 pub record IsUsable (k : NoiseHandshake) : Type 0 where

@@ -8,7 +8,7 @@ ghost use Rattle.noise_handshake.specs.Wanting.{WantsToRead};
 ghost use Rattle.noise_c.specs.Kept.{own_in, IsAdded, IsUsable, KeepsView, WasRead, WasDeclined};
 
 use crate::codes::{FULL, LENGTH, OK, STRUCT, WANTED, read_code};
-use crate::held::{changes_of, handshake_of, keep};
+use crate::held::{handshake_of, keep};
 use crate::kept::{NoiseAnswer, NoiseHandshake, NoiseTold};
 use noise_handshake::{Own, ReadFault, Unread};
 
@@ -76,7 +76,7 @@ pub extern "C" fn noise_read(
     told: &mut NoiseTold,
 ) -> u32
     ensures unusable { result ≡ 23 ↔ (IsUsable kept.old → ⊥) }
-    ensures length { result ≡ 24 → 65535 < length message.old }
+    ensures length { result ≡ 24 ↔ ((65535 < length message.old) × IsUsable kept.old) }
     ensures accepted { result ≡ 0 → (p : Plan) (v : View) → KeepsView kept.old p v
         → WasRead p v message.old (slice_range message.new told.new.from (told.new.from + told.new.len)) kept.new }
     ensures wanted { result ≡ 20 → (p : Plan) (v : View) → KeepsView kept.old p v
@@ -99,7 +99,8 @@ pub extern "C" fn noise_read(
         Ok((start, end)) => {
             told.from = start;
             told.len = end - start;
-            keep(&changes_of(handshake), kept);
+            let left = handshake.secrets().len() as u8;
+            keep(&handshake.progress(), left, kept);
             OK
         }
         Err(Unread::Wanted { own, key }) => {

@@ -1,20 +1,19 @@
 //! From what C keeps to a handshake, and back.
 #![tactic(auto)]
 
-ghost use Rattle.std.specs.Prelude.{◌≡◌, ◌≤◌, ◌+◌, ◌++◌, ◌↔◌, ◌⊎◌, length, take, map, IfSome, IsSome, IfOk, IfErr, IsOk};
+ghost use Rattle.std.specs.Prelude.{◌≡◌, ◌≤◌, ◌-◌, ◌↔◌, ◌⊎◌, length, drop, map, IfSome, IsSome, IfOk, IfErr, IsOk};
 ghost use Rattle.noise_handshake.specs.Held.{Held};
-ghost use Rattle.noise_handshake.specs.Parts.{held_of, IsWhole};
+ghost use Rattle.noise_handshake.specs.Parts.{held_of, HasProgress};
 ghost use Rattle.noise_handshake.specs.Table.{Table};
 ghost use Rattle.noise_names.specs.Plan.{Plan};
 ghost use Rattle.noise_names.specs.Text.{Spells};
 ghost use Rattle.noise_names.specs.Validity.{IsValid};
-ghost use Rattle.noise_c.specs.Kept.{key_in, role_in, table_in, public_in, text_in, held_in, IsNamed, IsPatternOf, IsPatternFault, is_text, IsUsable, AreChanges};
+ghost use Rattle.noise_c.specs.Kept.{key_in, role_in, table_in, text_in, held_in, IsNamed, IsPatternOf, IsPatternFault, is_text, IsUsable};
 
 use crate::codes::{NAME, PATTERN};
 use crate::kept::{NoiseHandshake, NoiseKey};
 use crate::kept_keys::{KeptKeys, key_of};
-use arrayvec::ArrayVec;
-use noise_handshake::{Handshake, Parts, Remote};
+use noise_handshake::{Handshake, Parts, Progress, Remote};
 use noise_names::{Pattern, ProtocolName, Role, ValidPattern, fundamental};
 use noise_state::StateParts;
 
@@ -129,34 +128,39 @@ fn keys_of<'a>(kept: &'a NoiseHandshake) -> KeptKeys<'a>
     }
 }
 
+// The secrets that are left.
+fn secrets_of(kept: &NoiseHandshake) -> &[[u8; 32]]
+    requires { kept.now.secret_count ≤ 9 }
+    ensures same { result.now ≡ drop (9 - kept.now.secret_count) kept.now.secrets }
+    ensures count { length result.now ≡ kept.now.secret_count }
+{
+    &kept.secrets[9 - kept.secret_count as usize..]
+}
+
 // The handshake's parts, of this pattern.
 fn parts_of<'a>(kept: &'a NoiseHandshake, pattern: ValidPattern) -> Parts<KeptKeys<'a>>
-    requires answers { kept.now.answer_count ≤ 8 }
-    requires secrets { kept.now.secret_count ≤ 9 }
-    ensures { held_of result ≡ held_in pattern kept.now }
+    requires { kept.now.answer_count ≤ 8 }
+    ensures { held_of result (drop (9 - kept.now.secret_count) kept.now.secrets) ≡ held_in pattern kept.now }
 {
-    let mut secrets = ArrayVec::new();
-    secrets
-        .try_extend_from_slice(&kept.secrets[..kept.secret_count as usize])
-        .unwrap();
     let chaining_key = kept.chaining_key;
     let hash = kept.hash;
     Parts {
         pattern,
         role: role_of(kept.responder),
         keys: keys_of(kept),
-        remote: Remote {
-            e: key_of(&kept.remote_e),
-            s: key_of(&kept.remote_s),
-        },
-        secrets,
-        passed: kept.passed,
-        ended: kept.ended != 0,
-        state: StateParts {
-            chaining_key,
-            hash,
-            key: key_of(&kept.cipher),
-            nonce: kept.nonce,
+        progress: Progress {
+            remote: Remote {
+                e: key_of(&kept.remote_e),
+                s: key_of(&kept.remote_s),
+            },
+            passed: kept.passed,
+            ended: kept.ended != 0,
+            state: StateParts {
+                chaining_key,
+                hash,
+                key: key_of(&kept.cipher),
+                nonce: kept.nonce,
+            },
         },
     }
 }
@@ -167,6 +171,7 @@ pub(crate) fn handshake_of<'a>(kept: &'a NoiseHandshake) -> Option<Handshake<Kep
     ensures named { IfSome result (λ h. IsPatternOf (text_in kept.now) h.pattern) }
     ensures one { IfSome result (λ h. (q : Plan) → IsPatternOf (text_in kept.now) q → q ≡ h.pattern) }
     ensures same { IfSome result (λ h. h ≡ held_in h.pattern kept.now) }
+    ensures count { IfSome result (λ h. length h.secrets ≡ kept.now.secret_count) }
 {
     if kept.text_len > 416 {
         return None;
@@ -180,68 +185,30 @@ pub(crate) fn handshake_of<'a>(kept: &'a NoiseHandshake) -> Option<Handshake<Kep
     let Ok(pattern) = pattern_of(&kept.text[..kept.text_len as usize]) else {
         return None;
     };
-    Handshake::from_parts(parts_of(kept, pattern))
+    Handshake::from_parts(parts_of(kept, pattern), secrets_of(kept))
 }
 
-// What messages change of a handshake.
-#[derive(Drop)]
-pub(crate) struct Changes {
-    pub(crate) remote: Remote,
-    pub(crate) secrets: ArrayVec<[u8; 32], 9>,
-    pub(crate) passed: u8,
-    pub(crate) ended: bool,
-    pub(crate) state: StateParts,
-}
-
-// What a handshake has of them.
-pub(crate) fn changes_of<'a>(handshake: Handshake<KeptKeys<'a>>) -> Changes
-    ensures same { AreChanges handshake.entry result }
-    ensures whole { IsWhole public_in handshake.entry }
-    ensures valid { IsValid handshake.entry.pattern }
-{
-    let parts = handshake.into_parts();
-    let _ = parts.pattern.pattern();
-    Changes {
-        remote: parts.remote,
-        secrets: parts.secrets,
-        passed: parts.passed,
-        ended: parts.ended,
-        state: parts.state,
-    }
-}
-
-// Keeps what messages have changed.
-pub(crate) fn keep(changes: &Changes, kept: &mut NoiseHandshake)
+// Keeps what messages have changed, and how many secrets are left.
+pub(crate) fn keep(progress: &Progress, left: u8, kept: &mut NoiseHandshake)
     ensures text { text_in kept.new ≡ text_in kept.old }
-    ensures same { (h : Held Table) → AreChanges h changes.now → h.keys ≡ table_in kept.old → h.role ≡ role_in kept.old.responder
-        → held_in h.pattern kept.new ≡ h }
+    ensures same { (h : Held Table) → HasProgress h progress.now → h.keys ≡ table_in kept.old → h.role ≡ role_in kept.old.responder
+        → h.secrets ≡ drop (9 - left) kept.old.secrets → held_in h.pattern kept.new ≡ h }
     ensures text_len { kept.new.text_len ≡ kept.old.text_len }
     ensures answers { kept.new.answer_count ≡ kept.old.answer_count }
-    ensures secrets { kept.new.secret_count ≤ 9 }
+    ensures secrets { kept.new.secret_count ≡ left }
 {
-    let remote_e = kept_key(changes.remote.e);
-    let remote_s = kept_key(changes.remote.s);
-    let cipher = kept_key(changes.state.key);
-    let chaining_key = changes.state.chaining_key;
-    let hash = changes.state.hash;
+    let remote_e = kept_key(progress.remote.e);
+    let remote_s = kept_key(progress.remote.s);
+    let cipher = kept_key(progress.state.key);
+    let chaining_key = progress.state.chaining_key;
+    let hash = progress.state.hash;
     kept.remote_e = remote_e;
     kept.remote_s = remote_s;
-    keep_secrets(kept, &changes.secrets);
-    kept.passed = changes.passed;
-    kept.ended = u8::from(changes.ended);
+    kept.secret_count = left;
+    kept.passed = progress.passed;
+    kept.ended = u8::from(progress.ended);
     kept.chaining_key = chaining_key;
     kept.hash = hash;
     kept.cipher = cipher;
-    kept.nonce = changes.state.nonce;
-}
-
-fn keep_secrets(kept: &mut NoiseHandshake, secrets: &[[u8; 32]])
-    requires { length secrets.now ≤ 9 }
-    ensures count { kept.new.secret_count ≡ length secrets.now }
-    ensures secrets { take kept.new.secret_count kept.new.secrets ≡ secrets.now }
-    ensures rest { kept.new ≡ record kept.old { secret_count = kept.new.secret_count; secrets = kept.new.secrets } }
-{
-    let count = secrets.len();
-    kept.secrets[..count].copy_from_slice(secrets);
-    kept.secret_count = count as u8;
+    kept.nonce = progress.state.nonce;
 }

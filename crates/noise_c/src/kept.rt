@@ -18,7 +18,8 @@ pub struct NoiseAnswer {
     pub answer: [u8; 32],
 }
 
-/// A handshake of one party: the initiator where `responder` is 0. The text is that of its pattern, or its protocol name.
+/// A handshake of one party: the initiator where `responder` is 0. The text is that of its pattern, or its protocol name. The
+/// secrets that are left are the last `secret_count` of `secrets`.
 #[repr(C)]
 #[derive(Clone, Copy)]
 pub struct NoiseHandshake {

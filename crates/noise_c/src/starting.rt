@@ -1,15 +1,15 @@
 //! Exports: the start of a handshake.
 #![tactic(auto)]
 
-ghost use Rattle.std.specs.Prelude.{◌≡◌, ◌≤◌, ◌<◌, ◌↔◌, ◌⊎◌, length, take, MatchOption, IsOk, IfOk, Err};
+ghost use Rattle.std.specs.Prelude.{◌≡◌, ◌≤◌, ◌<◌, ◌-◌, ◌↔◌, ◌⊎◌, length, drop, MatchOption, IsOk, IfOk, Err};
 ghost use Rattle.noise_names.specs.Plan.{Plan};
 ghost use Rattle.noise_names.specs.Validity.{IsValid};
 ghost use Rattle.noise_handshake.specs.Party.{Stands};
-ghost use Rattle.noise_c.specs.Kept.{role_in, public_in, agreement_in, table_in, table_of, text_in, begun_in, fault_in, start_code};
+ghost use Rattle.noise_c.specs.Kept.{role_in, public_in, agreement_in, table_in, table_of, text_in, psks_in, begun_in, fault_in, start_code};
 ghost use Rattle.noise_c.specs.Kept.{IsPatternOf, IsNoName, IsNoText, IsNotValid, IsUsable, IsStartCode, KeepsView};
 
 use crate::codes::{LENGTH, OK, PSK_COUNT, setup_code};
-use crate::held::{changes_of, keep, pattern_of, role_of};
+use crate::held::{keep, pattern_of, role_of};
 use crate::kept::{NoiseHandshake, NoiseSetup};
 use crate::kept_keys::{KeptKeys, key_of};
 use noise_handshake::{Handshake, Remote, SetupFault};
@@ -30,6 +30,7 @@ fn begin<'a>(
     ensures pattern { IfOk result (λ h. h.pattern ≡ pattern) }
     ensures role { IfOk result (λ h. h.role ≡ role_in setup.now.responder) }
     ensures keys { IfOk result (λ h. h.keys ≡ table_of setup.now) }
+    ensures secrets { IfOk result (λ h. h.secrets ≡ psks_in setup.now) }
 {
     let remote = Remote {
         e: key_of(&setup.remote_e),
@@ -45,15 +46,19 @@ fn begin<'a>(
     Handshake::new(pattern, role, prologue, keys, remote, psks)
 }
 
-// Keeps what a handshake doesn't change: the text, the role and the keys of its own, with no answer yet.
+// Keeps what a handshake doesn't change: the text, the role, the keys of its own, with no answer yet, and the secrets.
 fn keep_start(kept: &mut NoiseHandshake, text: &[u8], setup: &NoiseSetup)
-    requires { length text.now ≤ 413 }
+    requires short { length text.now ≤ 413 }
+    requires count { setup.now.psk_count ≤ 9 }
     ensures text { text_in kept.new ≡ text.now }
     ensures len { kept.new.text_len ≤ 416 }
     ensures answers { kept.new.answer_count ≤ 8 }
     ensures role { kept.new.responder ≡ setup.now.responder }
     ensures keys { table_in kept.new ≡ table_of setup.now }
+    ensures secrets { drop (9 - setup.now.psk_count) kept.new.secrets ≡ psks_in setup.now }
 {
+    let count = setup.psk_count as usize;
+    kept.secrets[9 - count..].copy_from_slice(&setup.psks[..count]);
     kept.text[..text.len()].copy_from_slice(text);
     kept.text_len = text.len() as u16;
     kept.responder = setup.responder;
@@ -88,7 +93,7 @@ fn start_with(
     match begin(pattern, prologue, setup) {
         Ok(handshake) => {
             keep_start(kept, text, setup);
-            keep(&changes_of(handshake), kept);
+            keep(&handshake.progress(), setup.psk_count, kept);
             OK
         }
         Err(fault) => setup_code(fault),

@@ -10,7 +10,7 @@ ghost use Rattle.noise_c.specs.Kept.{own_in, text_in, held_in, IsPatternOf, IsUs
 
 use crate::codes::{OK, ROOM, STRUCT, WANTED, write_code};
 use crate::handshakes::tell;
-use crate::held::{changes_of, handshake_of, keep};
+use crate::held::{handshake_of, keep};
 use crate::kept::{NoiseHandshake, NoiseTold};
 
 /// Writes a message to the front of `out`, and tells its length, in bytes. At any answer but OK the struct and `out` are unchanged.
@@ -60,7 +60,8 @@ pub extern "C" fn noise_write(
         Ok(len) => {
             told.from = 0;
             told.len = len;
-            keep(&changes_of(handshake), kept);
+            let left = handshake.secrets().len() as u8;
+            keep(&handshake.progress(), left, kept);
             OK
         }
         Err(fault) => write_code(fault),

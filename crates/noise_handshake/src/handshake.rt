@@ -11,7 +11,9 @@ use crate::setup::{public_keys, setup_fault, start};
 use crate::stop::Stop;
 use crate::tokens::Means;
 use crate::writing::{write_lacking, write_message};
-use crate::{Keys, Opened, Own, Parts, Progress, ReadFault, Remote, SetupFault, Unread, WriteFault};
+use crate::{
+    Keys, Opened, Own, Parts, Progress, ReadFault, Remote, SetupFault, Unread, WriteFault,
+};
 use arrayvec::ArrayVec;
 use noise_names::{Role, ValidPattern};
 use noise_state::SymmetricState;
@@ -140,7 +142,8 @@ impl<K: Keys> Handshake<K> {
 
     /// The secrets of the psk tokens that are still to come, in their order.
     pub fn secrets(&self) -> &[[u8; 32]]
-        ensures { result.now ≡ self.now.secrets }
+        ensures same { result.now ≡ self.now.secrets }
+        ensures few { length result.now ≤ 9 }
     {
         &self.secrets[self.used..]
     }
@@ -149,6 +152,7 @@ impl<K: Keys> Handshake<K> {
     pub fn progress(&self) -> Progress
         ensures same { HasProgress self.now result }
         ensures whole { IsWhole K.public_of self.now }
+        ensures valid { IsValid self.now.pattern }
     {
         Progress {
             remote: self.remote,

@@ -10,7 +10,7 @@ use Rattle.noise_handshake.specs.Party.{Stands, Declines}
 use Rattle.noise_handshake.specs.View.{View, Refuses}
 use Rattle.noise_c.specs.Codes.{read_code, token_in}
 use Rattle.noise_c.specs.Kept.{public_in, agreement_in, held_in}
-use Rattle.noise_c.proofs.Keeps.{ended-kept, refused-leaves, usable-behind, was-declined, opened, was-read, stands-for}
+use Rattle.noise_c.proofs.Keeps.{secrets-left, ended-kept, refused-leaves, usable-behind, was-declined, opened, was-read, stands-for}
 use Rattle.noise_c.proofs.handshakes.noise_read.Goals as goal
 
 pub returns-in-Ok-clause-accepted : goal.returns-in-Ok-clause-accepted
@@ -20,9 +20,11 @@ returns-in-Ok-clause-accepted c e p v k =
     let h2 = c.read_or_ask.new.self in
     let stays : h2.pattern ≡ h.pattern = c.in-Ok.ensures.state.pattern in
     let same : held_in h2.pattern c.keep.new.kept ≡ h2 =
-    c.keep.ensures.same h2 c.changes_of.ensures.same
+    c.keep.ensures.same h2 c.progress.ensures.same
     (c.in-Ok.ensures.state.keys ∙ ap (λ (z : Held Table). z.keys) c.in-Some.ensures.same)
-    (c.in-Ok.ensures.state.role ∙ ap (λ (z : Held Table). z.role) c.in-Some.ensures.same) in
+    (c.in-Ok.ensures.state.role ∙ ap (λ (z : Held Table). z.role) c.in-Some.ensures.same)
+    (secrets-left c.args.kept.now c.in-Some.handshake h2 c.in-Ok.ensures.state.taken _ (c.in-Some.ensures.usable.0 refl).secrets
+    c.in-Some.ensures.count c.in-Some.ensures.same c.in-Ok.ensures.state.secrets c.secrets.ensures.same) in
     let s = opened old c.keep.new.kept h h2 p v c.in-Some.ensures.one c.in-Some.ensures.same stays c.keep.ensures.text same k in
     let r = c.in-Ok.ensures.reads v s in
     was-read old c.keep.new.kept h h2 p v c.in-Some.ensures.one c.in-Some.ensures.same stays c.keep.ensures.text same k
@@ -32,12 +34,14 @@ pub returns-in-Ok-clause-stays : goal.returns-in-Ok-clause-stays
 returns-in-Ok-clause-stays c e =
     let h2 = c.read_or_ask.new.self in
     let same : held_in h2.pattern c.keep.new.kept ≡ h2 =
-    c.keep.ensures.same h2 c.changes_of.ensures.same
+    c.keep.ensures.same h2 c.progress.ensures.same
     (c.in-Ok.ensures.state.keys ∙ ap (λ (z : Held Table). z.keys) c.in-Some.ensures.same)
-    (c.in-Ok.ensures.state.role ∙ ap (λ (z : Held Table). z.role) c.in-Some.ensures.same) in
+    (c.in-Ok.ensures.state.role ∙ ap (λ (z : Held Table). z.role) c.in-Some.ensures.same)
+    (secrets-left c.args.kept.now c.in-Some.handshake h2 c.in-Ok.ensures.state.taken _ (c.in-Some.ensures.usable.0 refl).secrets
+    c.in-Some.ensures.count c.in-Some.ensures.same c.in-Ok.ensures.state.secrets c.secrets.ensures.same) in
     usable-behind c.args.kept.now c.keep.new.kept c.in-Some.handshake h2 (c.in-Some.ensures.usable.0 refl) c.keep.ensures.text_len c.keep.ensures.answers
-    c.keep.ensures.secrets c.keep.ensures.text c.in-Some.ensures.named c.in-Ok.ensures.state.pattern c.changes_of.ensures.valid same
-    c.changes_of.ensures.whole
+    (omega (arith, c.keep.ensures.secrets, c.secrets.ensures.few)) c.keep.ensures.text c.in-Some.ensures.named c.in-Ok.ensures.state.pattern
+    c.progress.ensures.valid same c.progress.ensures.whole
 
 pub returns-in-Refused-clause-declined : goal.returns-in-Refused-clause-declined
 returns-in-Refused-clause-declined c low high p v k =

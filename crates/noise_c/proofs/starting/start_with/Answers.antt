@@ -17,8 +17,8 @@ pub returns-in-Ok-clause-begun : goal.returns-in-Ok-clause-begun
 returns-in-Ok-clause-begun c e =
     let h = c.in-Ok.handshake in
     let same : held_in h.pattern c.keep.new.kept ≡ h =
-    c.keep.ensures.same h c.changes_of.ensures.same (c.in-Ok.ensures.keys ∙ sym c.keep_start.ensures.keys)
-    (c.in-Ok.ensures.role ∙ ap role_in (sym c.keep_start.ensures.role)) in
+    c.keep.ensures.same h c.progress.ensures.same (c.in-Ok.ensures.keys ∙ sym c.keep_start.ensures.keys)
+    (c.in-Ok.ensures.role ∙ ap role_in (sym c.keep_start.ensures.role)) (c.in-Ok.ensures.secrets ∙ sym c.keep_start.ensures.secrets) in
     keeps-start c.keep.new.kept h c.args.pattern c.args.text.now (begun_in c.args.pattern c.args.prologue.now c.args.setup.now)
     (c.keep.ensures.text ∙ c.keep_start.ensures.text) c.requires.named c.in-Ok.ensures.pattern same c.in-Ok.ensures.stands
 
@@ -26,10 +26,10 @@ pub returns-in-Ok-clause-usable : goal.returns-in-Ok-clause-usable
 returns-in-Ok-clause-usable c e =
     let h = c.in-Ok.handshake in
     let same : held_in h.pattern c.keep.new.kept ≡ h =
-    c.keep.ensures.same h c.changes_of.ensures.same (c.in-Ok.ensures.keys ∙ sym c.keep_start.ensures.keys)
-    (c.in-Ok.ensures.role ∙ ap role_in (sym c.keep_start.ensures.role)) in
+    c.keep.ensures.same h c.progress.ensures.same (c.in-Ok.ensures.keys ∙ sym c.keep_start.ensures.keys)
+    (c.in-Ok.ensures.role ∙ ap role_in (sym c.keep_start.ensures.role)) (c.in-Ok.ensures.secrets ∙ sym c.keep_start.ensures.secrets) in
     usable-kept c.keep.new.kept h (omega (arith, c.keep.ensures.text_len, c.keep_start.ensures.len))
-    (omega (arith, c.keep.ensures.answers, c.keep_start.ensures.answers)) c.keep.ensures.secrets
+    (omega (arith, c.keep.ensures.answers, c.keep_start.ensures.answers)) (omega (arith, c.keep.ensures.secrets, c.if-setup-gt9.false))
     (subst (λ (z : List ℕ). IsPatternOf z h.pattern) (sym (c.keep.ensures.text ∙ c.keep_start.ensures.text))
     (subst (λ (q : Plan). IsPatternOf c.args.text.now q) (sym c.in-Ok.ensures.pattern) c.requires.named))
-    c.changes_of.ensures.valid same c.changes_of.ensures.whole
+    c.progress.ensures.valid same c.progress.ensures.whole

@@ -12,7 +12,7 @@ use Rattle.noise_handshake.specs.Writing.{Lacks}
 use Rattle.noise_c.specs.Codes.{write_code}
 use Rattle.noise_names.specs.Plan.{Plan}
 use Rattle.noise_c.specs.Kept.{held_in}
-use Rattle.noise_c.proofs.Keeps.{opened, usable-behind, was-written, stands-for}
+use Rattle.noise_c.proofs.Keeps.{secrets-left, opened, usable-behind, was-written, stands-for}
 use Rattle.noise_c.proofs.writing.noise_write.Goals.{in-Some-message_len+else-needed-out+in_default-wants_to_write, in_default-message_len}
 use Rattle.noise_c.proofs.writing.noise_write.Goals as goal
 
@@ -23,9 +23,11 @@ returns-in-Ok-clause-written c e p v k =
     let h2 = c.write.new.self in
     let stays : h2.pattern ≡ h.pattern = c.in-Ok.ensures.state.pattern in
     let same : held_in h2.pattern c.keep.new.kept ≡ h2 =
-    c.keep.ensures.same h2 c.changes_of.ensures.same
+    c.keep.ensures.same h2 c.progress.ensures.same
     (c.in-Ok.ensures.state.keys ∙ ap (λ (z : Held Table). z.keys) c.in-Some.ensures.same)
-    (c.in-Ok.ensures.state.role ∙ ap (λ (z : Held Table). z.role) c.in-Some.ensures.same) in
+    (c.in-Ok.ensures.state.role ∙ ap (λ (z : Held Table). z.role) c.in-Some.ensures.same)
+    (secrets-left c.args.kept.now c.in-Some.handshake h2 c.in-Ok.ensures.state.taken _ (c.in-Some.ensures.usable.0 refl).secrets
+    c.in-Some.ensures.count c.in-Some.ensures.same c.in-Ok.ensures.state.secrets c.secrets.ensures.same) in
     let s = opened old c.keep.new.kept h h2 p v c.in-Some.ensures.one c.in-Some.ensures.same stays c.keep.ensures.text same k in
     let r = c.in-Ok.ensures.writes v s in
     was-written old c.keep.new.kept h h2 p v c.in-Some.ensures.one c.in-Some.ensures.same stays c.keep.ensures.text same k
@@ -35,12 +37,14 @@ pub returns-in-Ok-clause-stays : goal.returns-in-Ok-clause-stays
 returns-in-Ok-clause-stays c e =
     let h2 = c.write.new.self in
     let same : held_in h2.pattern c.keep.new.kept ≡ h2 =
-    c.keep.ensures.same h2 c.changes_of.ensures.same
+    c.keep.ensures.same h2 c.progress.ensures.same
     (c.in-Ok.ensures.state.keys ∙ ap (λ (z : Held Table). z.keys) c.in-Some.ensures.same)
-    (c.in-Ok.ensures.state.role ∙ ap (λ (z : Held Table). z.role) c.in-Some.ensures.same) in
+    (c.in-Ok.ensures.state.role ∙ ap (λ (z : Held Table). z.role) c.in-Some.ensures.same)
+    (secrets-left c.args.kept.now c.in-Some.handshake h2 c.in-Ok.ensures.state.taken _ (c.in-Some.ensures.usable.0 refl).secrets
+    c.in-Some.ensures.count c.in-Some.ensures.same c.in-Ok.ensures.state.secrets c.secrets.ensures.same) in
     usable-behind c.args.kept.now c.keep.new.kept c.in-Some.handshake h2 (c.in-Some.ensures.usable.0 refl) c.keep.ensures.text_len c.keep.ensures.answers
-    c.keep.ensures.secrets c.keep.ensures.text c.in-Some.ensures.named c.in-Ok.ensures.state.pattern c.changes_of.ensures.valid same
-    c.changes_of.ensures.whole
+    (omega (arith, c.keep.ensures.secrets, c.secrets.ensures.few)) c.keep.ensures.text c.in-Some.ensures.named c.in-Ok.ensures.state.pattern
+    c.progress.ensures.valid same c.progress.ensures.whole
 
 err-same : (a b : WriteFault) → ◌≡◌ {A = Result ℕ WriteFault} (Err a) (Err b) → a ≡ b
 err-same a b e = cc
