@@ -62,7 +62,7 @@ message_len_of h payload = length_unless (write_fault h payload) (length_now h p
 abbrev pub ended_as : {K : Type 0} → Held K → Held K
 ended_as h = record h { ended = true }
 
--- one message more has passed
+-- one message more has passed, and its psk tokens have taken their secrets from the front
 pub record Advances {K : Type 0} (old new : Held K) : Type 0 where
   pub pattern : new.pattern ≡ old.pattern
   pub role : new.role ≡ old.role
