@@ -148,7 +148,8 @@ impl<K: Keys> Handshake<K> {
         &self.secrets[self.used..]
     }
 
-    /// What messages have changed so far, the secrets aside.
+    /// What messages have changed so far, the secrets aside, for a caller that keeps it itself until the next message. This handshake
+    /// isn't used beside one that is put together of it: two of them would encrypt at the same nonce.
     pub fn progress(&self) -> Progress
         ensures same { HasProgress self.now result }
         ensures whole { IsWhole K.public_of self.now }
