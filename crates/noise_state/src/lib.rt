@@ -11,7 +11,7 @@
 //! buffer[0] = b'h';
 //! buffer[1] = b'i';
 //! let length = state.encrypt_and_hash(&mut buffer, 2);
-//! assert_eq!(rt; length, Ok(18));
+//! assert!(rt; length == Ok(18));
 //! ```
 #![tactic(auto)]
 
