@@ -65,8 +65,8 @@ pub fn tells(rt: &impl Abort, alloc: Global, run: &Run<'_>) -> Result<(), AllocE
     let (command, given, status, out, err) = *run;
     let mut file = given.as_bytes();
     let ran = perform_on(alloc, command, given, &mut file, (usize::MAX, usize::MAX))?;
-    assert!(rt; ran.err.as_slice() == err.as_bytes(), "{given}");
-    assert!(rt; ran.out.as_slice() == out.as_bytes(), "{given}");
-    assert!(rt; ran.status == status, "{given}");
+    assert_eq!(rt; ran.err.as_slice(), err.as_bytes(), "{given}");
+    assert_eq!(rt; ran.out.as_slice(), out.as_bytes(), "{given}");
+    assert_eq!(rt; ran.status, status, "{given}");
     Ok(())
 }

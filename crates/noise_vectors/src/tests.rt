@@ -338,22 +338,23 @@ fn tells_a_wrong_event(rt: HostRuntime) -> Result<(), Fail> {
     for line in &NO_EVENTS {
         let file = file_with(alloc, &FULL, line, 32)?;
         let fault = fault_of(alloc, file.as_str(), AllowedEvents::Any);
-        assert!(rt;
-            fault == Some(VectorFault::Line(32, LineKind::Event)),
+        assert_eq!(rt;
+            fault,
+            Some(VectorFault::Line(32, LineKind::Event)),
             "{line}"
         );
     }
     for (index, line) in EVENTS.iter().enumerate() {
         let file = file_with(alloc, &FULL, line, 33)?;
         let fault = fault_of(alloc, file.as_str(), AllowedEvents::Any);
-        assert!(rt; fault == None, "{line}");
+        assert_eq!(rt; fault, None, "{line}");
         let refused = if index == 0 {
             None
         } else {
             Some(VectorFault::Line(33, LineKind::Event))
         };
         let fault = fault_of(alloc, file.as_str(), AllowedEvents::SayOnly);
-        assert!(rt; fault == refused, "{line}");
+        assert_eq!(rt; fault, refused, "{line}");
     }
     Ok(())
 }
@@ -413,7 +414,7 @@ fn tells_that_bytes_are_too_many(rt: HostRuntime) -> Result<(), Fail> {
         push_digits(&mut file, *payload)?;
         file.push_str(" -\n")?;
         let fault = fault_of(alloc, file.as_str(), AllowedEvents::SayOnly);
-        assert!(rt; fault == *told, "{prologue} {payload}");
+        assert_eq!(rt; fault, *told, "{prologue} {payload}");
     }
     Ok(())
 }

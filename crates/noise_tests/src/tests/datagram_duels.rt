@@ -24,7 +24,7 @@ fn seal(rt: &impl Abort, alloc: Global, role: Role, byte: u8) -> DatagramEvent {
 // Just this is told of an event.
 fn is_told(rt: &impl Abort, alloc: Global, entry: Option<&(Role, DatagramEntry)>, told: &str) {
     let text = format!(in alloc; "{:?}", entry.expect(rt, "an entry")).expect(rt, "memory");
-    assert!(rt; text.as_str() == told);
+    assert_eq!(rt; text.as_str(), told);
 }
 
 #[test]

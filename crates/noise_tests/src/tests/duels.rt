@@ -23,7 +23,7 @@ pub fn between(rt: &impl Abort, first: End<XorKeys>, second: End<XorKeys>) -> En
 fn happens(rt: &impl Abort, alloc: Global, duel: Ends, event: Event, told: &str) -> Ends {
     let (duel, report) = duel.run(alloc, from_ref(&event)).expect(rt, "memory");
     let text = format!(in alloc; "{:?}", report.entries).expect(rt, "memory");
-    assert!(rt; text.as_str() == told);
+    assert_eq!(rt; text.as_str(), told);
     duel
 }
 

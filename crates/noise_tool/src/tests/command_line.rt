@@ -42,7 +42,7 @@ fn tells_what_is_wrong_with_other_words(rt: HostRuntime) -> Result<(), Fail> {
         let fault = chosen(rt.alloc(), words_of(rt.alloc(), words)?)
             .err()
             .ok_or("taken")?;
-        assert!(rt; kind_of(fault) == Some(*kind));
+        assert_eq!(rt; kind_of(fault), Some(*kind));
     }
     Ok(())
 }

@@ -72,7 +72,7 @@ fn cannot_read(
 ) -> Result<(), AllocError> {
     let mut file = Giving { left: text };
     let ran = perform_on(alloc, command, "", &mut file, (1, 1))?;
-    assert!(rt; ran.status == 3);
+    assert_eq!(rt; ran.status, 3);
     assert!(rt; ran.out.is_empty());
     assert!(rt; ran.err.as_slice() == b"cannot read\n".as_slice());
     Ok(())
@@ -118,7 +118,7 @@ fn cannot_write(
 ) -> Result<(), AllocError> {
     for left in 0..whole.len() {
         let ran = run_on(alloc, command, given, left)?;
-        assert!(rt; ran.status == 3);
+        assert_eq!(rt; ran.status, 3);
         assert!(rt; ran.err.as_slice() == b"cannot write\n".as_slice());
         assert!(rt; ran.out.as_slice() == &whole[..left]);
     }

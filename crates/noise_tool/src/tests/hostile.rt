@@ -208,7 +208,7 @@ fn all(rt: &impl Abort, alloc: Global, from: usize, count: usize) -> Result<(), 
     for number in from..from.saturating_add(15) {
         ran = ran.saturating_add(cases(alloc, number)?);
     }
-    assert!(rt; ran == count);
+    assert_eq!(rt; ran, count);
     Ok(())
 }
 

@@ -29,8 +29,8 @@ fn tells_what_the_file_reader_fails_at(rt: HostRuntime) -> Result<(), Fail> {
             fails: *fails,
         };
         let ran = perform_on(rt.alloc(), command, NAME, &mut file, (1, 1))?;
-        assert!(rt; ran.status == *status, "{command} {left}");
-        assert!(rt; ran.err.as_slice() == told.as_bytes(), "{command} {left}");
+        assert_eq!(rt; ran.status, *status, "{command} {left}");
+        assert_eq!(rt; ran.err.as_slice(), told.as_bytes(), "{command} {left}");
     }
     Ok(())
 }
@@ -53,8 +53,8 @@ fn tells_that_a_write_is_refused(rt: HostRuntime) -> Result<(), Fail> {
         for left in 0..*writes {
             let mut file = given.as_bytes();
             let ran = perform_on(rt.alloc(), command, given, &mut file, (left, 1))?;
-            assert!(rt; ran.status == 3, "{command} {left}");
-            assert!(rt; ran.err.as_slice() == b"cannot write\n".as_slice());
+            assert_eq!(rt; ran.status, 3, "{command} {left}");
+            assert_eq!(rt; ran.err.as_slice(), b"cannot write\n".as_slice());
             assert!(rt;
                 whole.out.starts_with(ran.out.as_slice()) && ran.out.len() < whole.out.len()
             );
@@ -71,8 +71,8 @@ fn tells_that_a_buffer_cannot_be_written(rt: HostRuntime) -> Result<(), Fail> {
     let mut out = BufWriter::new(alloc, Writer::new(alloc, 0))?;
     let mut err = Writer::new(alloc, 1);
     let status = perform(alloc, &order, &mut io::empty(), &mut out, &mut err);
-    assert!(rt; status == 3);
-    assert!(rt; err.taken.as_slice() == b"cannot write\n".as_slice());
+    assert_eq!(rt; status, 3);
+    assert_eq!(rt; err.taken.as_slice(), b"cannot write\n".as_slice());
     Ok(())
 }
 
@@ -80,6 +80,6 @@ fn tells_that_a_buffer_cannot_be_written(rt: HostRuntime) -> Result<(), Fail> {
 fn keeps_the_status_where_the_error_output_fails(rt: HostRuntime) -> Result<(), Fail> {
     let mut file = b"vector 2\n".as_slice();
     let ran = perform_on(rt.alloc(), "talk", "", &mut file, (0, 0))?;
-    assert!(rt; ran.status == 2);
+    assert_eq!(rt; ran.status, 2);
     Ok(())
 }

@@ -456,7 +456,7 @@ fn prints_each_entry(rt: HostRuntime) -> Result<(), Fail> {
     let alloc = rt.alloc();
     let report = report(&rt, alloc);
     let entries = entries(alloc)?;
-    assert!(rt; entries.len() == LINES.len());
+    assert_eq!(rt; entries.len(), LINES.len());
     for (entry, text) in entries.iter().zip(&LINES) {
         is_line(&rt, alloc, &report, entry, text);
     }
