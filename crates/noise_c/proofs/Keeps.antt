@@ -83,7 +83,7 @@ pub refused-leaves : (h h2 : Held Table) (u : Unread) (fault : ReadFault) (token
 refused-leaves h h2 u fault token cause e f g = e ∙ ap (behind_unread h) (f ∙ ap unread.Declined g)
 
 -- the secrets that are left behind a message stand at the same end
-pub secrets-behind : (old : NoiseHandshake) (h h2 : Held Table) (taken : List (List ℕ)) → old.secret_count ≤ 9 → length h.secrets ≡ old.secret_count
+secrets-behind : (old : NoiseHandshake) (h h2 : Held Table) (taken : List (List ℕ)) → old.secret_count ≤ 9 → length h.secrets ≡ old.secret_count
     → h ≡ held_in h.pattern old → h.secrets ≡ taken ++ h2.secrets → h2.secrets ≡ drop (9 - length h2.secrets) old.secrets
 secrets-behind old h h2 taken few count same behind =
     let c : ℕ = old.secret_count in
@@ -92,6 +92,7 @@ secrets-behind old h h2 taken few count same behind =
     sym (drop-append_seam taken h2.secrets) ∙ ap (drop (length taken)) (sym behind ∙ ap (λ (z : Held Table). z.secrets) same)
     ∙ drop-drop (length taken) (9 - c) old.secrets ∙ ap (λ (k : ℕ). drop k old.secrets) i
 
+-- the same by the slice that lends them
 pub secrets-left : (old : NoiseHandshake) (h h2 : Held Table) (taken left : List (List ℕ)) → old.secret_count ≤ 9 → length h.secrets ≡ old.secret_count
     → h ≡ held_in h.pattern old → h.secrets ≡ taken ++ h2.secrets → left ≡ h2.secrets → h2.secrets ≡ drop (9 - length left) old.secrets
 secrets-left old h h2 taken left few count same behind e =
