@@ -8,8 +8,6 @@ mod authenticator;
 mod decryption;
 mod encryption;
 mod keystream;
-#[cfg(test)]
-mod tests;
 
 pub use decryption::{TagFault, open_in_place};
 pub use encryption::{nonce, rekey, seal_in_place};

@@ -17,8 +17,6 @@ ghost use Rattle.noise_kdf.specs.Keyed.{IsKeyed};
 use keyed::Hmac;
 
 mod keyed;
-#[cfg(test)]
-mod tests;
 
 /// HMAC-SHA256 (RFC 2104) of the parts joined, under a key of at most 64 bytes, which is SHA-256's
 /// block. A text in several parts, empty ones too, has the code of the text in one.

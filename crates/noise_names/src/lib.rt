@@ -10,8 +10,6 @@ mod psks;
 mod section;
 mod seen;
 mod table;
-#[cfg(test)]
-mod tests;
 mod text;
 mod token;
 mod valid;

@@ -18,8 +18,6 @@
 mod cipher;
 mod laws;
 mod symmetric;
-#[cfg(test)]
-mod tests;
 
 pub use cipher::{CipherFault, CipherState};
 pub use laws::{length_of_hash, length_of_piece, piece_same};

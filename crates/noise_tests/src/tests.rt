@@ -8,3 +8,4 @@ mod streams;
 mod support;
 mod transport;
 mod using;
+mod vectors;

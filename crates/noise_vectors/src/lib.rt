@@ -16,8 +16,6 @@ mod lines;
 mod parties;
 mod reading;
 mod says;
-#[cfg(test)]
-mod tests;
 mod vector;
 mod words;
 

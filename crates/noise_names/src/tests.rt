@@ -1,7 +1,0 @@
-#![tactic(auto)]
-
-mod names;
-mod patterns;
-mod text_faults;
-mod texts;
-mod validity;
