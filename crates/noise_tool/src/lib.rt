@@ -27,5 +27,5 @@ pub use faults::Fault;
 pub use laws::{conversions_meet_themselves, file_run_once};
 pub use orders::{Chosen, LineFault};
 pub use performing::perform;
-pub use report::entry_line;
+pub use report::entry_lines;
 pub use telling::tell;

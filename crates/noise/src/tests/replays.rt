@@ -6,9 +6,8 @@ use noise_duel::{Entry, Idle, Report};
 use noise_handshake::Cause;
 use noise_names::Role;
 use noise_session::SendFault;
-use noise_tool::entry_line;
+use noise_tool::entry_lines;
 use std::alloc::{AllocError, Global};
-use std::process::Abort;
 use std::test::Fail;
 
 // The lines of a file of NN behind its first, before its events.
@@ -402,9 +401,15 @@ const LINES: [&str; 17] = [
     "held responder 65536",
 ];
 
-fn entries(alloc: Global) -> Result<Vec<Entry>, AllocError> {
+fn tell(entries: &mut Vec<(Role, Entry)>, entry: Entry) -> Result<(), AllocError> {
+    entries.push((Role::Responder, entry))?;
+    Ok(())
+}
+
+// What is told of the responder.
+fn entries(alloc: Global) -> Result<Vec<(Role, Entry)>, AllocError> {
     let mut entries = Vec::new(alloc);
-    entries.push(Entry::Wrote(0))?;
+    tell(&mut entries, Entry::Wrote(0))?;
     for fault in [
         SendFault::NotYourTurn,
         SendFault::TooLong,
@@ -413,52 +418,41 @@ fn entries(alloc: Global) -> Result<Vec<Entry>, AllocError> {
         SendFault::OneWay,
         SendFault::Exhausted,
     ] {
-        entries.push(Entry::WriteFault(fault))?;
+        tell(&mut entries, Entry::WriteFault(fault))?;
     }
-    entries.push(Entry::Payload(vec![in alloc; 10u8; 2]?))?;
-    entries.push(Entry::Payload(Vec::new(alloc)))?;
-    entries.push(Entry::Dropped(Cause::Tag))?;
-    entries.push(Entry::Refused {
-        token: 2,
-        cause: Cause::Agreement,
-    })?;
-    entries.push(Entry::Exhausted)?;
-    entries.push(Entry::Left(Idle::YourTurn, 1))?;
-    entries.push(Entry::Left(Idle::Silent, 70000))?;
-    entries.push(Entry::Left(Idle::Ended, 3))?;
-    entries.push(Entry::Missing(7))?;
-    entries.push(Entry::Held(65536))?;
+    tell(&mut entries, Entry::Payload(vec![in alloc; 10u8; 2]?))?;
+    tell(&mut entries, Entry::Payload(Vec::new(alloc)))?;
+    tell(&mut entries, Entry::Dropped(Cause::Tag))?;
+    tell(
+        &mut entries,
+        Entry::Refused {
+            token: 2,
+            cause: Cause::Agreement,
+        },
+    )?;
+    tell(&mut entries, Entry::Exhausted)?;
+    tell(&mut entries, Entry::Left(Idle::YourTurn, 1))?;
+    tell(&mut entries, Entry::Left(Idle::Silent, 70000))?;
+    tell(&mut entries, Entry::Left(Idle::Ended, 3))?;
+    tell(&mut entries, Entry::Missing(7))?;
+    tell(&mut entries, Entry::Held(65536))?;
     Ok(entries)
-}
-
-// A report in which the responder wrote one frame.
-fn report(rt: &impl Abort, alloc: Global) -> Report {
-    let frame = b"\x00\x02\xff\xff".to_vec(alloc).expect(rt, "memory");
-    let mut responder = Vec::new(alloc);
-    responder.push(frame).expect(rt, "memory");
-    Report {
-        initiator: Vec::new(alloc),
-        responder,
-        entries: Vec::new(alloc),
-    }
-}
-
-// The line of an entry that is told of the responder.
-fn is_line(rt: &impl Abort, alloc: Global, report: &Report, entry: &Entry, text: &str) {
-    let line = entry_line(alloc, report, Role::Responder, entry).expect(rt, "memory");
-    let mut out = Vec::new(alloc);
-    assert!(rt; line.write(&mut out).is_ok());
-    assert!(rt; out.strip_suffix(b"\n") == Some(text.as_bytes()), "{text}");
 }
 
 #[test]
 fn prints_each_entry(rt: HostRuntime) -> Result<(), Fail> {
     let alloc = rt.alloc();
-    let report = report(&rt, alloc);
-    let entries = entries(alloc)?;
-    assert_eq!(rt; entries.len(), LINES.len());
-    for (entry, text) in entries.iter().zip(&LINES) {
-        is_line(&rt, alloc, &report, entry, text);
+    let mut responder = Vec::new(alloc);
+    responder.push(b"\x00\x02\xff\xff".to_vec(alloc)?)?;
+    let report = Report {
+        initiator: Vec::new(alloc),
+        responder,
+        entries: entries(alloc)?,
+    };
+    let lines = entry_lines(alloc, &report)?;
+    assert!(rt; lines.len() == LINES.len());
+    for (line, text) in lines.iter().zip(&LINES) {
+        assert!(rt; line.as_slice() == text.as_bytes(), "{text}");
     }
     Ok(())
 }
