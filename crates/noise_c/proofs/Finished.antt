@@ -3,7 +3,7 @@ use Rattle.std.proofs.Common.{◌≡◌, length, true, false, ap, sym, ◌∙◌
 use Rattle.std.proofs.lemmas.Bool.Decides.{nat_tests}
 use Rattle.noise_names.specs.Plan.{Plan}
 use Rattle.noise_handshake.specs.Held.{Held}
-use Rattle.noise_handshake.specs.Table.{Table}
+use Rattle.noise_keys.specs.Table.{Table}
 use Rattle.noise_c.specs.declared.kept.NoiseHandshake.{NoiseHandshake}
 use Rattle.noise_c.specs.Kept.{held_in}
 use Rattle.noise_c.specs.KeptTransport.{finish_code}

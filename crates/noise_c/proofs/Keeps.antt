@@ -10,7 +10,7 @@ use Rattle.noise_handshake.specs.declared.faults.ReadFault.TheVariants as read
 use Rattle.noise_handshake.specs.declared.faults.Unread.{Unread}
 use Rattle.noise_handshake.specs.declared.faults.Unread.TheVariants as unread
 use Rattle.noise_handshake.specs.Held.{Held, behind_unread, ended_as}
-use Rattle.noise_handshake.specs.Table.{Table}
+use Rattle.noise_keys.specs.Table.{Table}
 use Rattle.noise_handshake.specs.View.{View, Accepts}
 use Rattle.noise_handshake.specs.Party.{Stands, behind_message, behind_own, behind_declined, Declines}
 use Rattle.noise_handshake.specs.Writing.{Writes}

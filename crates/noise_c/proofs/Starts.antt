@@ -5,7 +5,7 @@ use Rattle.std.proofs.lemmas.Bool.Decides.{nat_tests}
 use Rattle.noise_names.specs.Plan.{Plan}
 use Rattle.noise_names.specs.Validity.{IsValid}
 use Rattle.noise_handshake.specs.Held.{Held}
-use Rattle.noise_handshake.specs.Table.{Table}
+use Rattle.noise_keys.specs.Table.{Table}
 use Rattle.noise_handshake.specs.View.{View}
 use Rattle.noise_handshake.specs.Party.{Stands}
 use Rattle.noise_c.specs.declared.kept.NoiseHandshake.{NoiseHandshake}

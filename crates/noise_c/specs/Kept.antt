@@ -10,14 +10,14 @@ use Rattle.noise_names.specs.Fundamental.{fundamental_of}
 use Rattle.noise_names.specs.Limits.{Placed}
 use Rattle.noise_names.specs.Validity.{IsValid}
 use Rattle.noise_state.specs.Standing.{state_of}
-use Rattle.noise_handshake.specs.declared.keys.Own.{Own}
-use Rattle.noise_handshake.specs.declared.keys.Own.TheVariants.{Ephemeral, Static}
+use Rattle.noise_keys.specs.declared.keys.Own.{Own}
+use Rattle.noise_keys.specs.declared.keys.Own.TheVariants.{Ephemeral, Static}
 use Rattle.noise_handshake.specs.declared.faults.ReadFault.{ReadFault}
 use Rattle.noise_handshake.specs.declared.faults.SetupFault.{SetupFault}
 use Rattle.noise_handshake.specs.declared.faults.WriteFault.{WriteFault}
 use Rattle.noise_handshake.specs.declared.remote.Remote.{Remote}
-use Rattle.noise_handshake.specs.Keys.{key_of}
-use Rattle.noise_handshake.specs.Table.{Table, TableEntry, answer_in}
+use Rattle.noise_keys.specs.Keys.{key_of}
+use Rattle.noise_keys.specs.Table.{Table, TableEntry, answer_in}
 use Rattle.noise_handshake.specs.Held.{Held, is_turn}
 use Rattle.noise_handshake.specs.Parts.{IsWhole}
 use Rattle.noise_handshake.specs.Setup.{begun, setup_fault}

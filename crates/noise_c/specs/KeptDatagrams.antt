@@ -1,7 +1,7 @@
 -- What the memory that C keeps of datagrams stands for.
 use Rattle.std.specs.Prelude.{ℕ, ◌==◌, ◌+◌, nat_lt, not, ◌||◌, ◌&&◌, Bool, Some, if◌then◌else◌}
-use Rattle.noise_session.specs.declared.window.Window.{Window}
-use Rattle.noise_session.specs.declared.window.Window.TheVariants.{W64, W256, W1024}
+use Rattle.noise_events.specs.declared.window.Window.{Window}
+use Rattle.noise_events.specs.declared.window.Window.TheVariants.{W64, W256, W1024}
 use Rattle.noise_session.specs.Datagrams.{HeldDatagrams, unsealed}
 use Rattle.noise_c.specs.declared.kept_datagrams.NoiseDatagrams.{NoiseDatagrams}
 use Rattle.noise_c.specs.KeptTransport.{is_party, party_in}

@@ -3,7 +3,7 @@ use Rattle.std.specs.Prelude.{ℕ, ◌==◌, ◌+◌, nat_lt, not, ◌||◌, len
 use Rattle.noise_names.specs.declared.token.Role.{Role}
 use Rattle.noise_names.specs.declared.token.Role.TheVariants.{Initiator, Responder}
 use Rattle.noise_handshake.specs.Held.{Held}
-use Rattle.noise_handshake.specs.Table.{Table}
+use Rattle.noise_keys.specs.Table.{Table}
 use Rattle.noise_session.specs.HeldTransport.{HeldTransport, seal_fault, open_fault}
 use Rattle.noise_c.specs.declared.kept_transport.NoiseTransport.{NoiseTransport}
 use Rattle.noise_c.specs.Kept.{key_in}

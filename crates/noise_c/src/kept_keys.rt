@@ -2,7 +2,7 @@
 #![tactic(auto)]
 
 ghost use Rattle.std.specs.Prelude.{◌≡◌, map};
-ghost use Rattle.noise_handshake.specs.Table.{answer_in, is_for};
+ghost use Rattle.noise_keys.specs.Table.{answer_in, is_for};
 ghost use Rattle.noise_c.specs.Kept.{entry_in, key_in, own_in};
 
 use crate::kept::{NoiseAnswer, NoiseKey};
@@ -19,7 +19,7 @@ pub(crate) struct KeptKeys<'a> {
 
 impl<'a> Model for KeptKeys<'a> {
     ghost use Rattle.std.specs.Prelude.{map};
-    ghost use Rattle.noise_handshake.specs.Table.{Table};
+    ghost use Rattle.noise_keys.specs.Table.{Table};
     ghost use Rattle.noise_c.specs.Kept.{entry_in, key_in};
 
     ghost Value = { Table };
@@ -28,8 +28,8 @@ impl<'a> Model for KeptKeys<'a> {
 }
 
 impl<'a> Keys for KeptKeys<'a> {
-    ghost use Rattle.noise_handshake.specs.Keys.{key_of};
-    ghost use Rattle.noise_handshake.specs.Table.{answer_in};
+    ghost use Rattle.noise_keys.specs.Keys.{key_of};
+    ghost use Rattle.noise_keys.specs.Table.{answer_in};
 
     ghost public_of = { λ keys own. key_of own keys.e keys.s };
 

@@ -9,8 +9,8 @@ use Rattle.noise_names.specs.Tokens.{is_psk, same_role, turn_from, other}
 use Rattle.noise_names.specs.Plan.{Plan, has_psk}
 use Rattle.noise_state.specs.History.{History, piece}
 use Rattle.noise_state.specs.Pieces.{piece-same}
-use Rattle.noise_handshake.specs.declared.keys.Own.{Own}
-use Rattle.noise_handshake.specs.declared.keys.Own.TheVariants.{Ephemeral, Static}
+use Rattle.noise_keys.specs.declared.keys.Own.{Own}
+use Rattle.noise_keys.specs.declared.keys.Own.TheVariants.{Ephemeral, Static}
 use Rattle.noise_handshake.specs.declared.remote.Remote.{Remote}
 use Rattle.noise_handshake.specs.Line.{token_piece, behind_token, behind_front, line, behind_line}
 use Rattle.noise_handshake.specs.View.{View, Reader, Fit, Fits, reader, known_behind, learned, secrets_behind, tokens_at, tokens_now, answered, own_at}

@@ -18,7 +18,8 @@ use Rattle.noise_session.specs.Datagrams.{AreOnce, DatagramView, IsSealed, Opens
 use Rattle.noise_session.specs.Datagrams.Opens.{opened}
 use Rattle.noise_duel.specs.DatagramAgreement.{AreAtNonces, AreCounted, ArriveOnce, ComesOfDatagrams}
 use Rattle.noise_duel.specs.DatagramAgreement.{DatagramRunsAgree, RunsMakeOneBeginning}
-use Rattle.noise_duel.specs.DatagramEvents.{DatagramEvent, DatagramNote}
+use Rattle.noise_events.specs.DatagramEvents.{DatagramEvent}
+use Rattle.noise_duel.specs.DatagramNotes.{DatagramNote}
 use Rattle.noise_duel.specs.DatagramRuns.{DatagramHappens, DatagramRun, PartyOpens, PartySeals}
 use Rattle.noise_duel.specs.DatagramRuns.DatagramHappens.{is_sealed, is_delivered, is_missing, is_put_in}
 use Rattle.noise_duel.specs.DatagramRuns.DatagramRun.{begins, ends}

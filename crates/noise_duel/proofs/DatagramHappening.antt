@@ -11,7 +11,8 @@ use Rattle.noise_session.specs.Datagrams.{DatagramView, HeldDatagrams, Opens, Pi
 use Rattle.noise_duel.specs.declared.datagram_duel.SealedDatagrams.{SealedDatagrams}
 use Rattle.noise_duel.specs.declared.datagram_report.DatagramEntry.{DatagramEntry}
 use Rattle.noise_duel.specs.declared.datagram_report.DatagramReport.{DatagramReport}
-use Rattle.noise_duel.specs.DatagramEvents.{DatagramEvent, DatagramNote, Open, Payload, Raw, Rejected, Seal, Sealed}
+use Rattle.noise_events.specs.DatagramEvents.{DatagramEvent, Open, Raw, Seal}
+use Rattle.noise_duel.specs.DatagramNotes.{DatagramNote, Payload, Rejected, Sealed}
 use Rattle.noise_duel.specs.DatagramReports.{DatagramReports, DuelPictures, HeldDatagramDuel, datagram_note_of, datagram_notes_of}
 use Rattle.noise_duel.specs.DatagramRuns.{DatagramHappens, DatagramRun, PartyOpens, PartySeals}
 use Rattle.noise_duel.specs.DatagramRuns.DatagramHappens.{is_sealed, is_delivered, is_missing, is_put_in}

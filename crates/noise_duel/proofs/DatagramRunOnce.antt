@@ -6,7 +6,8 @@ use Rattle.noise_names.specs.Tokens.{other}
 use Rattle.noise_session.specs.declared.datagram_fault.DatagramFault.{DatagramFault}
 use Rattle.noise_session.specs.Datagrams.{DatagramView, Opens, nonce_named}
 use Rattle.noise_session.specs.Datagrams.Opens.{opened, refused, forged}
-use Rattle.noise_duel.specs.DatagramEvents.{DatagramEvent, DatagramNote, Payload, Rejected, SealFault}
+use Rattle.noise_events.specs.DatagramEvents.{DatagramEvent}
+use Rattle.noise_duel.specs.DatagramNotes.{DatagramNote, Payload, Rejected, SealFault}
 use Rattle.noise_duel.specs.DatagramRuns.{DatagramHappens, DatagramRun, DatagramRunOnce, PartyOpens, PartySeals}
 use Rattle.noise_duel.specs.DatagramRuns.DatagramHappens.{is_sealed, is_delivered, is_missing, is_put_in}
 use Rattle.noise_duel.specs.DatagramRuns.DatagramRun.{begins, ends}

@@ -10,7 +10,7 @@ use Rattle.noise_names.specs.Plan.{Plan, places_of, has_psk, is_one_way}
 use Rattle.noise_names.specs.Overhead.{has_key, overhead_of}
 use Rattle.noise_names.specs.Validity.{is_among, IsValid}
 use Rattle.noise_state.specs.History.{History, cipher_key}
-use Rattle.noise_handshake.specs.declared.keys.Own.{Own}
+use Rattle.noise_keys.specs.declared.keys.Own.{Own}
 use Rattle.noise_handshake.specs.declared.remote.Remote.{Remote}
 use Rattle.noise_handshake.specs.Length.{Carry}
 use Rattle.noise_handshake.specs.Line.{line, behind_line}
@@ -26,7 +26,8 @@ use Rattle.noise_session.specs.Transport.{packet, last_nonce}
 use Rattle.noise_session.specs.Steps.Told.{Payload}
 use Rattle.noise_duel.specs.Messages.{HandshakeMessage}
 use Rattle.noise_duel.specs.Sides.{TransportMessage, Side, Sides, side, wrote_handshake, accepted_handshake, wrote_transport, accepted_transport}
-use Rattle.noise_duel.specs.Events.{Say, Note, Wrote, Judged}
+use Rattle.noise_events.specs.Events.{Say}
+use Rattle.noise_duel.specs.Notes.{Note, Wrote, Judged}
 use Rattle.noise_duel.specs.Runs.{Happens}
 use Rattle.noise_duel.specs.Conversation.{KeyMaterial, carried_by, packets_of, frames_by}
 use Rattle.noise_duel.proofs.Parts.{HasMaterial, equipped, given-carried, true-answer}

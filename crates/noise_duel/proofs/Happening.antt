@@ -6,14 +6,15 @@ use Rattle.std.proofs.lemmas.List.{map-append}
 use Rattle.noise_names.specs.declared.token.Role.{Role}
 use Rattle.noise_names.specs.declared.token.Role.TheVariants.{Initiator, Responder}
 use Rattle.noise_names.specs.Tokens.{other}
-use Rattle.noise_handshake.specs.declared.keys.Own.{Own}
+use Rattle.noise_keys.specs.declared.keys.Own.{Own}
 use Rattle.noise_session.specs.declared.faults.SendFault.{SendFault}
 use Rattle.noise_session.specs.Frames.{frame}
 use Rattle.noise_session.specs.Ends.{HeldEnd}
 use Rattle.noise_duel.specs.declared.entry.Entry.{Entry}
 use Rattle.noise_duel.specs.declared.report.Report.{Report}
 use Rattle.noise_duel.specs.Entries.{note_of, notes_of, written_note}
-use Rattle.noise_duel.specs.Events.{Event, Write, Say, Deliver, Raw, Note, Wrote, Missing, held_note, noted_by}
+use Rattle.noise_events.specs.Events.{Event, Write, Say, Deliver, Raw}
+use Rattle.noise_duel.specs.Notes.{Note, Wrote, Missing, held_note, noted_by}
 use Rattle.noise_duel.specs.HeldDuel.{HeldDuel, DuelStands, HasFrames}
 use Rattle.noise_duel.specs.OneEnd.{HasReceived}
 use Rattle.noise_duel.specs.OneEvent.{HasTaken, RoleWrote, HasHappened, HasComeTo}

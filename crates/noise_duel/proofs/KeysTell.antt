@@ -9,9 +9,9 @@ use Rattle.noise_names.specs.Tokens.{other}
 use Rattle.noise_names.specs.Plan.{Plan, pre_of}
 use Rattle.noise_names.specs.Names.{name_bytes}
 use Rattle.noise_state.specs.History.{History}
-use Rattle.noise_handshake.specs.declared.keys.Own.TheVariants.{Ephemeral, Static}
+use Rattle.noise_keys.specs.declared.keys.Own.TheVariants.{Ephemeral, Static}
 use Rattle.noise_handshake.specs.declared.remote.Remote.{Remote}
-use Rattle.noise_handshake.specs.declared.keys.Own.{Own}
+use Rattle.noise_keys.specs.declared.keys.Own.{Own}
 use Rattle.noise_handshake.specs.Setup.{public_keys, has_before, has_token, token_of}
 use Rattle.noise_duel.specs.Below.{LawsBelow}
 use Rattle.noise_duel.specs.Messages.{Start, begun_as, pre_keys}

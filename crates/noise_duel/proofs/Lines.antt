@@ -19,7 +19,8 @@ use Rattle.noise_session.specs.Sending.{Sends}
 use Rattle.noise_session.specs.Sending.Sends.{refuses, lacks_answer}
 use Rattle.noise_duel.proofs.Framing.{frame-whole, frame-same}
 use Rattle.noise_duel.specs.Sides.{Side, Sides, side, with_side, with_view, wrote_handshake, accepted_handshake, wrote_transport, accepted_transport}
-use Rattle.noise_duel.specs.Events.{Say, Note, Wrote, WriteFault, Judged, left_note, held_note, noted_by}
+use Rattle.noise_events.specs.Events.{Say}
+use Rattle.noise_duel.specs.Notes.{Note, Wrote, WriteFault, Judged, left_note, held_note, noted_by}
 use Rattle.noise_duel.specs.Runs.{SideWrites, SideReads, SideReceives, Happens, GivesNoPayload}
 use Rattle.noise_duel.specs.Runs.SideWrites.{writes_nothing, writes_handshake, writes_transport}
 use Rattle.noise_duel.specs.Runs.SideReads.{accepts_handshake, accepts_transport, refuses_message}

@@ -19,7 +19,7 @@ use Rattle.noise_session.specs.Sending.Sends.{sends_handshake, sends_transport}
 use Rattle.noise_duel.specs.declared.entry.Idle.{Idle}
 use Rattle.noise_duel.specs.declared.entry.Idle.TheVariants as idle
 use Rattle.noise_duel.specs.Entries.{step_of, bytes_of}
-use Rattle.noise_duel.specs.Events.{Note, Wrote, Judged}
+use Rattle.noise_duel.specs.Notes.{Note, Wrote, Judged}
 use Rattle.noise_duel.specs.Sides.{Side, with_view, wrote_handshake, wrote_transport, accepted_handshake, accepted_transport}
 use Rattle.noise_duel.specs.Runs.{SideWrites, SideReads, SideReceives}
 use Rattle.noise_duel.specs.Runs.SideWrites.{writes_handshake, writes_transport}

@@ -11,7 +11,8 @@ use Rattle.noise_duel.specs.Collision.{Collision}
 use Rattle.noise_duel.specs.Messages.{HandshakeMessage, Exchanged, Start, begun_as}
 use Rattle.noise_duel.specs.Messages.Exchanged.{none, wrote, took}
 use Rattle.noise_duel.specs.Sides.{Sides, TransportMessage}
-use Rattle.noise_duel.specs.Events.{Event, Note}
+use Rattle.noise_events.specs.Events.{Event}
+use Rattle.noise_duel.specs.Notes.{Note}
 use Rattle.noise_duel.specs.Runs.{Run}
 use Rattle.noise_duel.specs.Conversation.{facing}
 use Rattle.noise_duel.specs.Invariant.{ComesOfMessages, ArePackets}

@@ -8,8 +8,8 @@ use Rattle.noise_names.specs.declared.token.Token.TheVariants.{E, S, Ee, Es, Se,
 use Rattle.noise_names.specs.Tokens.{other, same_token}
 use Rattle.noise_names.specs.Plan.{Plan, places_of}
 use Rattle.noise_names.specs.Validity.{is_among, occurs, IsValid}
-use Rattle.noise_handshake.specs.declared.keys.Own.{Own}
-use Rattle.noise_handshake.specs.declared.keys.Own.TheVariants.{Ephemeral, Static}
+use Rattle.noise_keys.specs.declared.keys.Own.{Own}
+use Rattle.noise_keys.specs.declared.keys.Own.TheVariants.{Ephemeral, Static}
 use Rattle.noise_handshake.specs.View.{answered, own_at, remote_at, first_secret, other_secrets}
 use Rattle.noise_handshake.specs.Writing.{Writer, Given}
 use Rattle.noise_handshake.specs.Setup.{public_keys, has_token, token_of}

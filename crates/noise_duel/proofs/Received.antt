@@ -1,7 +1,7 @@
 -- Bytes that come to an end piece by piece, and what is told of them.
 use Rattle.std.proofs.Common.{◌≡◌, ℕ, zero, suc, Bool, false, ◌==◌, IfSome, ◌+◌, ◌<◌, ◌≤◌, List, [], ◌∷◌, ◌++◌, length, drop, Option, Some, None, refl, ap, sym, subst, ◌∙◌, arith, append_assoc, append-nil, length-append}
 use Rattle.noise_names.specs.declared.token.Role.{Role}
-use Rattle.noise_handshake.specs.declared.keys.Own.{Own}
+use Rattle.noise_keys.specs.declared.keys.Own.{Own}
 use Rattle.noise_session.specs.Frames.{IsPartial}
 use Rattle.noise_session.specs.Steps.{Told}
 use Rattle.noise_session.specs.Steps.Told.{Ended, YourTurn, Silent, More, Payload, Dropped, Refused, Exhausted}
@@ -10,7 +10,7 @@ use Rattle.noise_session.specs.Taking.{Takes}
 use Rattle.noise_duel.specs.declared.entry.Entry.{Entry}
 use Rattle.noise_duel.specs.declared.entry.Idle.{Idle}
 use Rattle.noise_duel.specs.Entries.{note_of, notes_of, step_of}
-use Rattle.noise_duel.specs.Events.{Note, Left, left_note, held_note, noted_by}
+use Rattle.noise_duel.specs.Notes.{Note, Left, left_note, held_note, noted_by}
 use Rattle.noise_duel.specs.Sides.{Side}
 use Rattle.noise_duel.specs.Runs.{SideReceives}
 use Rattle.noise_duel.specs.Runs.SideReceives.{is_idle}

@@ -10,8 +10,8 @@ use Rattle.noise_names.specs.Tokens.{other, same_role}
 use Rattle.noise_names.specs.Plan.{Plan, Place, first_places, message_places, places_of, place, payload, token_places, transport_places}
 use Rattle.noise_names.specs.Validity.{is_among, is_at}
 use Rattle.noise_state.specs.History.{History, hash}
-use Rattle.noise_handshake.specs.declared.keys.Own.{Own}
-use Rattle.noise_handshake.specs.declared.keys.Own.TheVariants.{Static}
+use Rattle.noise_keys.specs.declared.keys.Own.{Own}
+use Rattle.noise_keys.specs.declared.keys.Own.TheVariants.{Static}
 use Rattle.noise_handshake.specs.Counterparts.{Counterparts, counterpart}
 use Rattle.noise_handshake.specs.Party.{behind_message, behind_own}
 use Rattle.noise_handshake.specs.Passed.{passed_places}
@@ -25,7 +25,8 @@ use Rattle.noise_duel.specs.declared.report.Report.{Report}
 use Rattle.noise_duel.specs.Conversation.{KeyMaterial, HaveParts, InTurn, LinesComeThrough}
 use Rattle.noise_duel.specs.Conversation.{facing, payloads_in, say_events}
 use Rattle.noise_duel.specs.Entries.{notes_of}
-use Rattle.noise_duel.specs.Events.{Event, Note}
+use Rattle.noise_events.specs.Events.{Event}
+use Rattle.noise_duel.specs.Notes.{Note}
 use Rattle.noise_duel.specs.HeldDuel.{HeldDuel}
 use Rattle.noise_duel.specs.Invariant.{EndsStand}
 use Rattle.noise_duel.specs.Messages.{HandshakeMessage, Exchanged, Start, begun_as}

@@ -14,7 +14,8 @@ use Rattle.noise_session.specs.Taking.{Judges}
 use Rattle.noise_session.specs.Taking.Judges.{accepted, refused, opened, dropped, exhausted}
 use Rattle.noise_duel.specs.Below.{LawsBelow}
 use Rattle.noise_duel.specs.Sides.{Side, Sides, side, with_side, with_view, wrote_handshake, accepted_handshake, wrote_transport, accepted_transport}
-use Rattle.noise_duel.specs.Events.{Event, Note, Wrote, WriteFault, Judged, left_note, held_note, noted_by}
+use Rattle.noise_events.specs.Events.{Event}
+use Rattle.noise_duel.specs.Notes.{Note, Wrote, WriteFault, Judged, left_note, held_note, noted_by}
 use Rattle.noise_duel.specs.Runs.{SideWrites, SideReads, SideReceives, Happens, Run, GivesNoPayload, RunOnce}
 use Rattle.noise_duel.specs.Runs.SideWrites.{writes_nothing, writes_handshake, writes_transport}
 use Rattle.noise_duel.specs.Runs.SideReads.{accepts_handshake, accepts_transport, refuses_message}

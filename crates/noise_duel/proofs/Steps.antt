@@ -26,7 +26,7 @@ use Rattle.noise_session.specs.Progress.Progress.{Handshaking, Open}
 use Rattle.noise_duel.specs.Below.{LawsBelow}
 use Rattle.noise_session.specs.Ends.{EndView, progress_of}
 use Rattle.noise_duel.specs.Sides.{Side, wrote_handshake, accepted_handshake, wrote_transport, accepted_transport}
-use Rattle.noise_duel.specs.Events.{Note, Wrote, WriteFault, Judged}
+use Rattle.noise_duel.specs.Notes.{Note, Wrote, WriteFault, Judged}
 use Rattle.noise_duel.specs.Runs.{SideWrites, SideReceives}
 use Rattle.noise_duel.specs.Runs.SideWrites.{writes_handshake, writes_transport}
 use Rattle.noise_duel.specs.Runs.SideReads.{accepts_handshake, accepts_transport}

@@ -14,8 +14,8 @@ use Rattle.noise_names.specs.Validity.{is_among, IsValid}
 use Rattle.noise_names.specs.Limits.{IsPattern}
 use Rattle.noise_names.specs.Names.{name_bytes}
 use Rattle.noise_state.specs.History.{History, Mix, and_then}
-use Rattle.noise_handshake.specs.declared.keys.Own.{Own}
-use Rattle.noise_handshake.specs.declared.keys.Own.TheVariants.{Ephemeral, Static}
+use Rattle.noise_keys.specs.declared.keys.Own.{Own}
+use Rattle.noise_keys.specs.declared.keys.Own.TheVariants.{Ephemeral, Static}
 use Rattle.noise_handshake.specs.declared.remote.Remote.{Remote}
 use Rattle.noise_handshake.specs.Line.{with_ephemeral}
 use Rattle.noise_handshake.specs.View.{View, tokens_now, with_premessage}
@@ -26,7 +26,8 @@ use Rattle.noise_session.specs.Transport.{last_nonce}
 use Rattle.noise_session.specs.Steps.Told.{Payload}
 use Rattle.noise_duel.specs.Messages.{HandshakeMessage, Start, begun_as, messages_of}
 use Rattle.noise_duel.specs.Sides.{TransportMessage, Side, Sides, side, with_side, wrote_handshake, accepted_handshake, wrote_transport, accepted_transport}
-use Rattle.noise_duel.specs.Events.{Say, Note, Wrote, Judged}
+use Rattle.noise_events.specs.Events.{Say}
+use Rattle.noise_duel.specs.Notes.{Note, Wrote, Judged}
 use Rattle.noise_duel.specs.Runs.{Happens, Run}
 use Rattle.noise_duel.specs.Runs.Run.{ends, begins}
 use Rattle.noise_duel.specs.Conversation.{KeyMaterial, conversation, behind_conversation, public_keys_in, start_in, IsPart, InTurn, notes_of_lines}

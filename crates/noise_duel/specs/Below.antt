@@ -10,7 +10,7 @@ use Rattle.noise_names.specs.Plan.{Plan, Place, places_of, has_psk}
 use Rattle.noise_names.specs.Overhead.{has_key, overhead_of}
 use Rattle.noise_names.specs.Limits.{IsPattern}
 use Rattle.noise_state.specs.History.{History, cipher_key}
-use Rattle.noise_handshake.specs.declared.keys.Own.{Own}
+use Rattle.noise_keys.specs.declared.keys.Own.{Own}
 use Rattle.noise_handshake.specs.declared.remote.Remote.{Remote}
 use Rattle.noise_handshake.specs.declared.faults.Cause.{Cause}
 use Rattle.noise_handshake.specs.Line.{behind_line}

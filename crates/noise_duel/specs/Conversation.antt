@@ -13,8 +13,8 @@ use Rattle.noise_names.specs.Overhead.{overhead_of}
 use Rattle.noise_names.specs.Validity.{is_among, occurs, IsValid}
 use Rattle.noise_names.specs.Limits.{IsPattern}
 use Rattle.noise_state.specs.History.{History}
-use Rattle.noise_handshake.specs.declared.keys.Own.{Own}
-use Rattle.noise_handshake.specs.declared.keys.Own.TheVariants.{Ephemeral, Static}
+use Rattle.noise_keys.specs.declared.keys.Own.{Own}
+use Rattle.noise_keys.specs.declared.keys.Own.TheVariants.{Ephemeral, Static}
 use Rattle.noise_handshake.specs.declared.remote.Remote.{Remote}
 use Rattle.noise_handshake.specs.Line.{line, behind_line}
 use Rattle.noise_handshake.specs.View.{start, tokens_at, first_secret, other_secrets, own_at, remote_at, answered}
@@ -27,7 +27,8 @@ use Rattle.noise_session.specs.Frames.{frame}
 use Rattle.noise_session.specs.Transport.{packet, last_nonce}
 use Rattle.noise_duel.specs.Messages.{HandshakeMessage, Start, begun_as, messages_of}
 use Rattle.noise_duel.specs.Sides.{Sides, side, new_side}
-use Rattle.noise_duel.specs.Events.{Event, Say, Note, Wrote, Judged}
+use Rattle.noise_events.specs.Events.{Event, Say}
+use Rattle.noise_duel.specs.Notes.{Note, Wrote, Judged}
 use Rattle.noise_duel.specs.Runs.{Run}
 
 -- the public keys of both parties, one answer for each DH token, and the secrets of the psk tokens, in their order

@@ -6,13 +6,15 @@ use Rattle.noise_names.specs.Tokens.{other}
 use Rattle.noise_names.specs.Plan.{Plan}
 use Rattle.noise_state.specs.History.{History}
 use Rattle.noise_session.specs.Transport.{packet}
-use Rattle.noise_session.specs.declared.window.Window.{Window}
+use Rattle.noise_events.specs.declared.window.Window.{Window}
 use Rattle.noise_session.specs.Datagrams.{AreOnce, DatagramView, datagrams_of}
 use Rattle.noise_duel.specs.Conversation.{facing}
-use Rattle.noise_duel.specs.DatagramEvents.{DatagramEvent, DatagramNote}
+use Rattle.noise_events.specs.DatagramEvents.{DatagramEvent}
+use Rattle.noise_duel.specs.DatagramNotes.{DatagramNote}
 use Rattle.noise_duel.specs.DatagramRuns.{DatagramRun}
 use Rattle.noise_duel.specs.DatagramSides.{DatagramSide, DatagramSides, NonceMessage, meeting, nonces_of, of_nonce}
-use Rattle.noise_duel.specs.Events.{Event, Note}
+use Rattle.noise_events.specs.Events.{Event}
+use Rattle.noise_duel.specs.Notes.{Note}
 use Rattle.noise_duel.specs.Forgery.{ForgedAt}
 use Rattle.noise_duel.specs.Messages.{Start}
 use Rattle.noise_duel.specs.Networks.{HaveOneHistory}

@@ -3,24 +3,14 @@ use Rattle.std.specs.Prelude.{◌&&◌, List, Bool, map}
 use Rattle.noise_names.specs.declared.token.Role.{Role}
 use Rattle.noise_session.specs.Datagrams.{HeldDatagrams, Pictures}
 use Rattle.noise_session.specs.EndDatagrams.{is_datagram_ready}
-use Rattle.noise_duel.specs.declared.datagram_event.DatagramEvent.{DatagramEvent as Given}
-use Rattle.noise_duel.specs.declared.datagram_event.DatagramEvent.TheVariants as given
 use Rattle.noise_duel.specs.declared.datagram_report.DatagramEntry.{DatagramEntry}
 use Rattle.noise_duel.specs.declared.datagram_report.DatagramEntry.TheVariants as entry
 use Rattle.noise_duel.specs.declared.datagram_report.DatagramReport.{DatagramReport}
-use Rattle.noise_duel.specs.DatagramEvents.{DatagramEvent, Seal, Open, Raw, DatagramNote, Sealed, SealFault, Payload, Rejected, Missing}
+use Rattle.noise_events.specs.DatagramEvents.{DatagramEvent}
+use Rattle.noise_duel.specs.DatagramNotes.{DatagramNote, Sealed, SealFault, Payload, Rejected, Missing}
 use Rattle.noise_duel.specs.DatagramRuns.{DatagramRun}
 use Rattle.noise_duel.specs.DatagramSides.{DatagramSides}
 use Rattle.noise_duel.specs.HeldDuel.{HeldDuel}
-
--- the events of code
-abbrev pub datagram_event_of : Given → DatagramEvent
-datagram_event_of (given.Seal role payload) = Seal role payload.items
-datagram_event_of (given.Open role number) = Open role number
-datagram_event_of (given.Raw role bytes) = Raw role bytes.items
-
-abbrev pub datagram_events_of : List Given → List DatagramEvent
-datagram_events_of events = map datagram_event_of events
 
 -- the entries of code
 abbrev pub datagram_note_of : DatagramEntry → DatagramNote

@@ -5,7 +5,8 @@ use Rattle.noise_names.specs.Tokens.{other}
 use Rattle.noise_session.specs.declared.faults.SendFault.{SendFault}
 use Rattle.noise_session.specs.declared.datagram_fault.DatagramFault.{DatagramFault}
 use Rattle.noise_session.specs.Datagrams.{Opens, accepting, datagram, nonce_named, unsealed}
-use Rattle.noise_duel.specs.DatagramEvents.{DatagramEvent, Seal, Open, Raw, DatagramNote, Sealed, SealFault, Payload, Rejected, Missing}
+use Rattle.noise_events.specs.DatagramEvents.{DatagramEvent, Seal, Open, Raw}
+use Rattle.noise_duel.specs.DatagramNotes.{DatagramNote, Sealed, SealFault, Payload, Rejected, Missing}
 use Rattle.noise_duel.specs.DatagramSides.{DatagramSide, DatagramSides, datagrams_in, opening, party, sealing, with_party}
 
 -- A party seals a payload at the count of its seals, or doesn't (Noise 5.1, 7.4 and 11.4).

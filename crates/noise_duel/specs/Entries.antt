@@ -9,7 +9,7 @@ use Rattle.noise_duel.specs.declared.entry.Entry.{Entry}
 use Rattle.noise_duel.specs.declared.entry.Entry.TheVariants as entry
 use Rattle.noise_duel.specs.declared.entry.Idle.{Idle}
 use Rattle.noise_duel.specs.declared.entry.Idle.TheVariants as idle
-use Rattle.noise_duel.specs.Events.{Note, Wrote, WriteFault, Judged, Left, Missing, Held}
+use Rattle.noise_duel.specs.Notes.{Note, Wrote, WriteFault, Judged, Left, Missing, Held}
 
 abbrev pub step_of : Idle → Told
 step_of idle.YourTurn = YourTurn

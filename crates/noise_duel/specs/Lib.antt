@@ -1,12 +1,11 @@
 pub mod Below
 pub mod Collision
 pub mod Messages
-pub mod Events
+pub mod Notes
 pub mod Acts
 pub mod Sides
 pub mod Runs
 pub mod Conversation
-pub mod Cuts
 pub mod Agreement
 pub mod Invariant
 pub mod Forgery
@@ -19,7 +18,7 @@ pub mod OneEnd
 pub mod HeldDuel
 pub mod OneEvent
 pub mod Reports
-pub mod DatagramEvents
+pub mod DatagramNotes
 pub mod DatagramSides
 pub mod DatagramRuns
 pub mod DatagramReports

@@ -7,7 +7,8 @@ use Rattle.noise_session.specs.Ends.{session_hash}
 use Rattle.noise_duel.specs.Collision.{Collision}
 use Rattle.noise_duel.specs.Messages.{Start, answers_from, keys_before, messages_of}
 use Rattle.noise_duel.specs.Sides.{Sides}
-use Rattle.noise_duel.specs.Events.{Event, Note}
+use Rattle.noise_events.specs.Events.{Event}
+use Rattle.noise_duel.specs.Notes.{Note}
 use Rattle.noise_duel.specs.Runs.{Run}
 use Rattle.noise_duel.specs.Conversation.{facing}
 use Rattle.noise_duel.specs.Agreement.{VisiblyEqual, KeysAgree, IsSetUp}

@@ -6,7 +6,8 @@ use Rattle.noise_session.specs.Datagrams.{HeldDatagrams, Pictures}
 use Rattle.noise_duel.specs.declared.datagram_duel.SealedDatagrams.{SealedDatagrams}
 use Rattle.noise_duel.specs.declared.datagram_report.DatagramEntry.{DatagramEntry}
 use Rattle.noise_duel.specs.declared.datagram_report.DatagramReport.{DatagramReport}
-use Rattle.noise_duel.specs.DatagramEvents.{DatagramEvent, DatagramNote, Missing}
+use Rattle.noise_events.specs.DatagramEvents.{DatagramEvent}
+use Rattle.noise_duel.specs.DatagramNotes.{DatagramNote, Missing}
 use Rattle.noise_duel.specs.DatagramReports.{HeldDatagramDuel, DuelPictures, datagram_note_of, datagram_notes_of}
 use Rattle.noise_duel.specs.DatagramRuns.{PartySeals, PartyOpens, DatagramHappens, DatagramRun}
 use Rattle.noise_duel.specs.DatagramSides.{DatagramSide, DatagramSides, datagrams_in}

@@ -2,12 +2,12 @@
 use Rattle.std.specs.Prelude.{◌≡◌, ℕ, List, ◌++◌, Option, Vec, Result, length}
 use Rattle.std.specs.Global.{Global}
 use Rattle.noise_names.specs.declared.token.Role.{Role}
-use Rattle.noise_handshake.specs.declared.keys.Own.{Own}
+use Rattle.noise_keys.specs.declared.keys.Own.{Own}
 use Rattle.noise_session.specs.declared.faults.SendFault.{SendFault}
 use Rattle.noise_session.specs.Ends.{HeldEnd, EndStands}
 use Rattle.noise_duel.specs.declared.entry.Entry.{Entry}
 use Rattle.noise_duel.specs.Entries.{bytes_of, notes_of, written_note}
-use Rattle.noise_duel.specs.Events.{Note, held_note, noted_by}
+use Rattle.noise_duel.specs.Notes.{Note, held_note, noted_by}
 use Rattle.noise_duel.specs.Sides.{Side}
 use Rattle.noise_duel.specs.Runs.{SideWrites, SideReceives}
 

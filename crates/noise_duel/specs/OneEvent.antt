@@ -2,13 +2,14 @@
 use Rattle.std.specs.Prelude.{◌≡◌, ℕ, List, [], ◌∷◌, ◌++◌, Option, Some, None, Result}
 use Rattle.std.specs.Result.{result_ok}
 use Rattle.noise_names.specs.declared.token.Role.{Role}
-use Rattle.noise_handshake.specs.declared.keys.Own.{Own}
+use Rattle.noise_keys.specs.declared.keys.Own.{Own}
 use Rattle.noise_session.specs.declared.faults.SendFault.{SendFault}
 use Rattle.noise_session.specs.Ends.{HeldEnd, EndStands}
 use Rattle.noise_duel.specs.declared.entry.Entry.{Entry}
 use Rattle.noise_duel.specs.declared.report.Report.{Report}
 use Rattle.noise_duel.specs.Entries.{notes_of, written_note}
-use Rattle.noise_duel.specs.Events.{Event, Note, Missing}
+use Rattle.noise_events.specs.Events.{Event}
+use Rattle.noise_duel.specs.Notes.{Note, Missing}
 use Rattle.noise_duel.specs.HeldDuel.{HeldDuel, DuelStands, HasFrames}
 use Rattle.noise_duel.specs.OneEnd.{HasReceived}
 use Rattle.noise_duel.specs.Runs.{SideWrites, Happens, Run}

@@ -1,7 +1,7 @@
 -- What bytes have come to so far, in code that hands them over to an end.
 use Rattle.std.specs.Prelude.{◌≡◌, ℕ, ◌<◌, List, [], ◌∷◌, ◌++◌, Option, Some, None, length}
 use Rattle.noise_names.specs.declared.token.Role.{Role}
-use Rattle.noise_handshake.specs.declared.keys.Own.{Own}
+use Rattle.noise_keys.specs.declared.keys.Own.{Own}
 use Rattle.noise_session.specs.Steps.{Told}
 use Rattle.noise_session.specs.Steps.Told.{Ended, YourTurn, Silent, Payload, Dropped, Refused, Exhausted}
 use Rattle.noise_session.specs.Progress.{idle_step}
@@ -10,7 +10,7 @@ use Rattle.noise_duel.specs.declared.entry.Entry.{Entry}
 use Rattle.noise_duel.specs.declared.entry.Idle.{Idle}
 use Rattle.noise_duel.specs.declared.entry.Idle.TheVariants as idle
 use Rattle.noise_duel.specs.Entries.{notes_of, step_of}
-use Rattle.noise_duel.specs.Events.{Note, Judged, Left, noted_by}
+use Rattle.noise_duel.specs.Notes.{Note, Judged, Left, noted_by}
 use Rattle.noise_duel.specs.Sides.{Side}
 use Rattle.noise_duel.specs.Runs.{SideReceives}
 

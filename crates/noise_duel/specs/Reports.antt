@@ -5,8 +5,8 @@ use Rattle.noise_names.specs.declared.token.Role.TheVariants.{Initiator, Respond
 use Rattle.noise_names.specs.declared.token.Token.TheVariants.{S}
 use Rattle.noise_names.specs.Plan.{Plan}
 use Rattle.noise_names.specs.Validity.{is_among}
-use Rattle.noise_handshake.specs.declared.keys.Own.{Own}
-use Rattle.noise_handshake.specs.declared.keys.Own.TheVariants.{Static}
+use Rattle.noise_keys.specs.declared.keys.Own.{Own}
+use Rattle.noise_keys.specs.declared.keys.Own.TheVariants.{Static}
 use Rattle.noise_handshake.specs.Passed.{passed_places}
 use Rattle.noise_session.specs.declared.phase.Phase.{Phase}
 use Rattle.noise_session.specs.declared.phase.Phase.TheVariants as phase
@@ -15,7 +15,7 @@ use Rattle.noise_duel.specs.declared.report.Report.{Report}
 use Rattle.noise_duel.specs.Agreement.{VisiblyEqual}
 use Rattle.noise_duel.specs.Conversation.{KeyMaterial, ComeThrough, frames_by, notes_of_lines, payloads_in, transcript}
 use Rattle.noise_duel.specs.Entries.{bytes_of, notes_of}
-use Rattle.noise_duel.specs.Events.{Event}
+use Rattle.noise_events.specs.Events.{Event}
 use Rattle.noise_duel.specs.HeldDuel.{HeldDuel, DuelStands, HasFrames}
 use Rattle.noise_duel.specs.Invariant.{ComesOfMessages}
 use Rattle.noise_duel.specs.Messages.{Start, begun_as, keys_before, messages_of}

@@ -14,7 +14,8 @@ use Rattle.noise_session.specs.Ends.{EndView, progress_of}
 use Rattle.noise_session.specs.Taking.{Judges}
 use Rattle.noise_session.specs.Sending.{Sends}
 use Rattle.noise_duel.specs.Sides.{Side, Sides, side, with_side, wrote_handshake, accepted_handshake, wrote_transport, accepted_transport, with_view}
-use Rattle.noise_duel.specs.Events.{Event, Write, Say, Deliver, Raw, Note, Wrote, WriteFault, Judged, Missing, left_note, held_note, noted_by}
+use Rattle.noise_events.specs.Events.{Event, Write, Say, Deliver, Raw}
+use Rattle.noise_duel.specs.Notes.{Note, Wrote, WriteFault, Judged, Missing, left_note, held_note, noted_by}
 
 -- An end writes a payload as a frame, or doesn't (Noise 5.3, 11.3 and 13).
 pub data SideWrites : Side → List ℕ → Note → Side → Type 0 where

@@ -4,15 +4,16 @@
 ghost use Rattle.std.specs.Prelude.{◌≡◌, IfOk};
 ghost use Rattle.noise_session.specs.Datagrams.{DatagramView};
 ghost use Rattle.noise_duel.specs.DatagramAgreement.{DatagramsAgree, HaveOneBeginning};
-ghost use Rattle.noise_duel.specs.DatagramEvents.{Open, Raw, Seal};
-ghost use Rattle.noise_duel.specs.DatagramReports.{DatagramReports, DuelPictures, datagram_event_of, datagram_events_of};
+ghost use Rattle.noise_events.specs.DatagramEvents.{Open, Raw, Seal};
+ghost use Rattle.noise_events.specs.DatagramEvents.{datagram_event_of, datagram_events_of};
+ghost use Rattle.noise_duel.specs.DatagramReports.{DatagramReports, DuelPictures};
 ghost use Rattle.noise_duel.specs.DatagramSides.{DatagramSides, meeting};
 ghost use Rattle.noise_duel.specs.OneDatagram.{AreKept, DatagramHappened};
 
-use crate::datagram_event::DatagramEvent;
 use crate::datagram_laws::datagrams_agree;
 use crate::datagram_party::{open, open_numbered, seal};
 use crate::datagram_report::{DatagramEntry, DatagramReport};
+use noise_events::DatagramEvent;
 use noise_names::Role;
 use noise_session::Datagrams;
 use std::alloc::{AllocError, Global};

@@ -1,27 +1,22 @@
 //! Two ends of a session, under any schedule of events: over a stream of frames, or over datagrams.
 #![tactic(auto)]
 
-mod cuts;
 mod datagram_duel;
-mod datagram_event;
 mod datagram_laws;
 mod datagram_party;
 mod datagram_report;
 mod duel;
 mod entry;
-mod event;
 mod laws;
 mod receiving;
 mod report;
 mod writing;
 
-pub use cuts::Cuts;
 pub use datagram_duel::DatagramDuel;
-pub use datagram_event::DatagramEvent;
 pub use datagram_laws::{datagram_run_once, datagrams_agree};
 pub use datagram_report::{DatagramEntry, DatagramReport};
 pub use duel::Duel;
 pub use entry::{Entry, Idle};
-pub use event::Event;
 pub use laws::{alike_are_parts, ends_agree, ends_stand, hash_tells, lines_come_through, run_once};
+pub use noise_events::{Cuts, DatagramEvent, Event};
 pub use report::Report;

@@ -6,13 +6,13 @@ ghost use Rattle.noise_session.specs.Ends.{EndStands};
 ghost use Rattle.noise_session.specs.Frames.{IsPartial};
 ghost use Rattle.noise_session.specs.Steps.{told};
 ghost use Rattle.noise_duel.specs.Entries.{notes_of};
-ghost use Rattle.noise_duel.specs.Events.{noted_by, held_note};
+ghost use Rattle.noise_duel.specs.Notes.{noted_by, held_note};
 ghost use Rattle.noise_duel.specs.OneEnd.{HasReceived};
 ghost use Rattle.noise_duel.specs.Receiving.{step_note, left_of, note_of_left, HasStopped};
 ghost use Rattle.noise_duel.specs.Sides.{Side};
 
-use crate::cuts::Cuts;
 use crate::entry::{Entry, Idle};
+use noise_events::Cuts;
 use noise_handshake::Keys;
 use noise_names::Role;
 use noise_session::{End, Step};

@@ -7,7 +7,7 @@ use Rattle.noise_names.specs.Plan.{has_psk}
 use Rattle.noise_names.specs.Overhead.{has_key}
 use Rattle.noise_state.specs.Standing.{keyed, nonce_now}
 use Rattle.noise_state.specs.declared.symmetric.SymmetricState.{SymmetricState}
-use Rattle.noise_handshake.specs.declared.keys.Own.{Own}
+use Rattle.noise_keys.specs.declared.keys.Own.{Own}
 use Rattle.noise_handshake.specs.declared.remote.Remote.{Remote}
 use Rattle.noise_handshake.specs.Length.{keyed_behind_tokens}
 use Rattle.noise_handshake.specs.View.{tokens_at}

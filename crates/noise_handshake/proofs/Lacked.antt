@@ -7,7 +7,7 @@ use Rattle.noise_names.specs.declared.token.Role.{Role}
 use Rattle.noise_names.specs.declared.token.Role.TheVariants.{Initiator, Responder}
 use Rattle.noise_names.specs.Tokens.{same_role, turn_from}
 use Rattle.noise_names.specs.Plan.{Plan, has_psk}
-use Rattle.noise_handshake.specs.declared.keys.Own.{Own}
+use Rattle.noise_keys.specs.declared.keys.Own.{Own}
 use Rattle.noise_handshake.specs.declared.remote.Remote.{Remote}
 use Rattle.noise_handshake.specs.Held.{Held, is_turn}
 use Rattle.noise_handshake.specs.Party.{Stands}
@@ -19,10 +19,6 @@ use Rattle.noise_handshake.specs.inner.Speaking.{Speaking}
 use Rattle.noise_handshake.proofs.Giving.{lacks-later}
 use Rattle.noise_handshake.proofs.Knowing.{is_some-remote}
 use Rattle.noise_handshake.proofs.Wrote.{for-view}
-
--- no tokens lack nothing
-pub lacks-none : (w : Writer) (known : Remote) (secrets : List (List ℕ)) (ts : List Token) (k : ℕ) → ts ≡ [] → LacksAt w known secrets ts k → ⊥
-lacks-none w known secrets ts k e l = omega (arith, l.within, ap length e)
 
 lacks-tail : (w : Writer) (known : Remote) (secrets : List (List ℕ)) (t : Token) (ts : List Token) (x : List ℕ) (k : ℕ) (xs : List (List ℕ))
     → k < length ts → Gives w known secrets t x → Given w known secrets (take (suc k) (t ∷ ts)) xs

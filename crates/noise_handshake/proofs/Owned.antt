@@ -10,8 +10,8 @@ use Rattle.noise_names.specs.declared.token.Token.TheVariants.{E, S, Ee, Es, Se,
 use Rattle.noise_names.specs.Tokens.{other, same_role, same_token, turn_from}
 use Rattle.noise_names.specs.Plan.{Plan, Place, place, payload, token_places, message_places, transport_places, places_of}
 use Rattle.noise_names.specs.Validity.{is_at, is_among}
-use Rattle.noise_handshake.specs.declared.keys.Own.{Own}
-use Rattle.noise_handshake.specs.declared.keys.Own.TheVariants.{Ephemeral, Static}
+use Rattle.noise_keys.specs.declared.keys.Own.{Own}
+use Rattle.noise_keys.specs.declared.keys.Own.TheVariants.{Ephemeral, Static}
 use Rattle.noise_handshake.specs.Setup.{has_token}
 use Rattle.noise_handshake.specs.View.{tokens_at}
 use Rattle.noise_handshake.specs.inner.Speaking.{has_own}

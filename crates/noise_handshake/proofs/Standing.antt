@@ -9,7 +9,7 @@ use Rattle.noise_names.specs.Tokens.{is_psk, other, same_role, turn_from}
 use Rattle.noise_names.specs.Plan.{Plan, has_psk}
 use Rattle.noise_state.specs.Standing.{StateStands}
 use Rattle.noise_state.specs.declared.symmetric.SymmetricState.{SymmetricState}
-use Rattle.noise_handshake.specs.declared.keys.Own.{Own}
+use Rattle.noise_keys.specs.declared.keys.Own.{Own}
 use Rattle.noise_handshake.specs.declared.remote.Remote.{Remote}
 use Rattle.noise_handshake.specs.declared.faults.Cause.{Cause}
 use Rattle.noise_handshake.specs.declared.faults.ReadFault.{ReadFault}

@@ -19,14 +19,6 @@ key_width false = refl
 pub width-is : (s : SymmetricState) (r : History) (n : ℕ) → StateStands s r → n ≡ token_width (keyed s) S → n ≡ width_of_key r
 width-is s r n h e = e ∙ ap (λ (k : Bool). 32 + tag_width k) (keyed-is s r h) ∙ key_width (is_some (cipher_key r))
 
-pub width-low : (k : Bool) → 32 ≤ token_width k S
-width-low true = omega arith
-width-low false = omega arith
-
-pub width-high : (k : Bool) → token_width k S ≤ 48
-width-high true = omega arith
-width-high false = omega arith
-
 wide : (k : Bool) (n : ℕ) → n ≡ 32 → (if k then n + 16 else n) ≡ (if k then 48 else 32)
 wide true n e = omega arith
 wide false n e = e

@@ -1,5 +1,5 @@
 -- Where a key's token stands, along the code's walk over a pattern.
-use Rattle.std.proofs.Common.{◌≡◌, ℕ, ◌+◌, List, [], ◌∷◌, ◌++◌, length, take, refl, ap, sym, ◌∙◌}
+use Rattle.std.proofs.Common.{◌≡◌, ℕ, ◌+◌, List, [], ◌∷◌, ◌++◌, length, refl, ap, sym, ◌∙◌}
 use Rattle.std.specs.Prelude.{Bool, true, false, ◌||◌, ◌&&◌, if◌then◌else◌}
 use Rattle.std.specs.List.{list_any}
 use Rattle.std.proofs.lemmas.List.Folds.{list_any-append}
@@ -9,7 +9,6 @@ use Rattle.noise_names.specs.declared.token.Token.{Token}
 use Rattle.noise_names.specs.Tokens.{other, same_role, same_token}
 use Rattle.noise_names.specs.Plan.{Plan, Place, place, payload, transport, pre_of, is_one_way, token_places, message_places, transport_places, places_of}
 use Rattle.noise_names.specs.Validity.{is_at, is_among}
-use Rattle.noise_handshake.specs.Passed.{passed_places}
 use Rattle.noise_handshake.specs.Setup.{has_before, has_token}
 
 shared : (s a b : Bool) → (a && s) || (s && b) ≡ s && (a || b)
@@ -81,20 +80,6 @@ stands-places_of p role t =
     ∙ ap (λ (x : Bool). list_any test ((a ++ b) ++ m) || x) (no-transport p role t)
     ∙ or-false (list_any test ((a ++ b) ++ m))
     ∙ list_any-append test (a ++ b) m
-    ∙ ap (λ (x : Bool). x || list_any test m)
-    (list_any-append test a b ∙ ap (λ (x : Bool). x || list_any test b) (stands-token_places Initiator role t 0 0 p.initiator)
-    ∙ ap (λ (x : Bool). (same_role Initiator role && has_token t p.initiator) || x) (stands-token_places Responder role t 0 0 p.responder)
-    ∙ pre-tokens p role t)
-
--- in a pre-message or a message that has passed
-pub stands-passed : (p : Plan) (n : ℕ) (role : Role) (t : Token)
-    → is_among role t (passed_places p n) ≡ has_token t (pre_of role p) || is_among role t (message_places Initiator 1 (take n p.messages))
-stands-passed p n role t =
-    let test : Place → Bool = λ q. is_at t q.step && same_role q.party role in
-    let a : List Place = token_places Initiator 0 0 p.initiator in
-    let b : List Place = token_places Responder 0 0 p.responder in
-    let m : List Place = message_places Initiator 1 (take n p.messages) in
-    list_any-append test (a ++ b) m
     ∙ ap (λ (x : Bool). x || list_any test m)
     (list_any-append test a b ∙ ap (λ (x : Bool). x || list_any test b) (stands-token_places Initiator role t 0 0 p.initiator)
     ∙ ap (λ (x : Bool). (same_role Initiator role && has_token t p.initiator) || x) (stands-token_places Responder role t 0 0 p.responder)

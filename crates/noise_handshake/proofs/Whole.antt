@@ -7,8 +7,8 @@ use Rattle.noise_names.specs.Validity.{is_among}
 use Rattle.noise_names.specs.Overhead.{has_key}
 use Rattle.noise_names.specs.Plan.{places_of}
 use Rattle.noise_state.specs.Standing.{keyed, nonce_now}
-use Rattle.noise_handshake.specs.declared.keys.Own.{Own}
-use Rattle.noise_handshake.specs.declared.keys.Own.TheVariants.{Ephemeral, Static}
+use Rattle.noise_keys.specs.declared.keys.Own.{Own}
+use Rattle.noise_keys.specs.declared.keys.Own.TheVariants.{Ephemeral, Static}
 use Rattle.noise_handshake.specs.Held.{Held}
 use Rattle.noise_handshake.specs.Parts.{IsWhole}
 use Rattle.noise_handshake.specs.Passed.{passed_places}

@@ -5,8 +5,8 @@ use Rattle.noise_names.specs.Tokens.{other}
 use Rattle.noise_names.specs.Validity.{is_among}
 use Rattle.noise_names.specs.Overhead.{has_key}
 use Rattle.noise_state.specs.Standing.{keyed, nonce_now, state_of}
-use Rattle.noise_handshake.specs.declared.keys.Own.{Own}
-use Rattle.noise_handshake.specs.declared.keys.Own.TheVariants.{Ephemeral, Static}
+use Rattle.noise_keys.specs.declared.keys.Own.{Own}
+use Rattle.noise_keys.specs.declared.keys.Own.TheVariants.{Ephemeral, Static}
 use Rattle.noise_handshake.specs.declared.parts.Parts.{Parts}
 use Rattle.noise_handshake.specs.declared.parts.Progress.{Progress}
 use Rattle.noise_handshake.specs.Held.{Held}

@@ -5,7 +5,7 @@ use Rattle.noise_names.specs.Plan.{has_psk}
 use Rattle.noise_names.specs.Overhead.{has_key, overhead_of}
 use Rattle.noise_state.specs.History.{cipher_key}
 use Rattle.noise_state.specs.Standing.{StateStands}
-use Rattle.noise_handshake.specs.declared.keys.Own.{Own}
+use Rattle.noise_keys.specs.declared.keys.Own.{Own}
 use Rattle.noise_handshake.specs.declared.faults.ReadFault.{ReadFault}
 use Rattle.noise_handshake.specs.declared.faults.ReadFault.TheVariants as read
 use Rattle.noise_handshake.specs.declared.faults.WriteFault.{WriteFault}

@@ -1,7 +1,7 @@
 -- Which DH answer a party lacks for the next message (the table of Noise 5.3): that of one of its key pairs to a public key of the other party.
 use Rattle.std.specs.Prelude.{◌≡◌, ℕ, List, ◌∷◌, ◌++◌, length, Some}
 use Rattle.noise_names.specs.declared.token.Token.{Token}
-use Rattle.noise_handshake.specs.declared.keys.Own.{Own}
+use Rattle.noise_keys.specs.declared.keys.Own.{Own}
 use Rattle.noise_handshake.specs.declared.faults.Cause.TheVariants.{Agreement}
 use Rattle.noise_handshake.specs.declared.remote.Remote.{Remote}
 use Rattle.noise_state.specs.History.{History}

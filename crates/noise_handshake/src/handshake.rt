@@ -309,19 +309,18 @@ impl<K: Keys> Handshake<K> {
             (λ stop. Refuses v message.old stop.token stop.cause × MatchOption stop.want
             ((token : ℕ) → Refuses v message.old token Cause.Agreement → ⊥) (λ want. WantsToRead v message.old want.0 want.1)) }
     {
-        let laid = self.next_layout();
         let means = Means {
             keys: &self.keys,
             role: self.role,
             psks: self.psks,
         };
         let secrets = &self.secrets[self.used..];
-        let placed = &laid.tokens[..];
+        let placed = &self.next.tokens[..];
         let mut state = self.state.for_trial();
         let mut remote = self.remote;
         match read_message(&mut state, &mut remote, &means, secrets, placed, message) {
             Ok(place) => {
-                self.used += laid.secrets as usize;
+                self.used += self.next.secrets as usize;
                 self.passed += 1;
                 let plan = self.pattern.pattern();
                 self.next = lay_next(plan, self.psks, state.has_key(), self.passed);
@@ -439,14 +438,13 @@ impl<K: Keys> Handshake<K> {
             role: self.role,
             psks: self.psks,
         };
-        let laid = self.next_layout();
         let secrets = &self.secrets[self.used..];
         read_lacking(
             &self.state,
             &self.remote,
             &means,
             secrets,
-            &laid.tokens,
+            &self.next.tokens,
             message,
         )
     }
@@ -506,7 +504,6 @@ impl<K: Keys> Handshake<K> {
         if let Some(fault) = self.write_fault(payload.len()) {
             return Err(fault);
         }
-        let laid = self.next_layout();
         let means = Means {
             keys: &self.keys,
             role: self.role,
@@ -519,12 +516,12 @@ impl<K: Keys> Handshake<K> {
             &self.remote,
             &means,
             secrets,
-            &laid.tokens,
+            &self.next.tokens,
             payload,
             out,
         ) {
             Ok(len) => {
-                self.used += laid.secrets as usize;
+                self.used += self.next.secrets as usize;
                 self.passed += 1;
                 let plan = self.pattern.pattern();
                 self.next = lay_next(plan, self.psks, state.has_key(), self.passed);
@@ -562,9 +559,8 @@ impl<K: Keys> Handshake<K> {
             role: self.role,
             psks: self.psks,
         };
-        let laid = self.next_layout();
         let secrets = &self.secrets[self.used..];
-        write_lacking(&self.remote, &means, secrets, &laid.tokens)
+        write_lacking(&self.remote, &means, secrets, &self.next.tokens)
     }
 
     /// What the handshake leaves once all messages have passed and it hasn't ended; else it comes back as it was.

@@ -8,7 +8,7 @@ use crate::{Cause, Own, ReadFault};
 
 // The token at which reading stopped, counted from 0, and why; and which DH answer it wanted, if it stopped for want of one: of
 // which key pair, and to which remote key.
-#[derive(Clone, Copy, Debug, PartialEq, Eq)]
+#[derive(Clone, Copy)]
 pub(crate) struct Stop {
     pub(crate) token: u8,
     pub(crate) cause: Cause,

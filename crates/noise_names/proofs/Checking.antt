@@ -120,21 +120,6 @@ fault_invalid plan fault f v = apart (v f.earlier f.at f.later f.places) f.lowes
   apart : {rules others : List ℕ} {rule : ℕ} → rules ≡ [] → rules ≡ rule ∷ others → ⊥
   apart a b = cc
 
--- what is kept of no places
-pub seen_of-none : seen_of [] ≡ record {
-  initiator_e = false;
-  initiator_s = false;
-  responder_e = false;
-  responder_s = false;
-  ee = false;
-  es = false;
-  se = false;
-  ss = false;
-  psk = false;
-}
-unfolding seen_of
-seen_of-none = refl
-
 or_moves : (x y r : Bool) → x || (y || r) ≡ y || (x || r)
 or_moves true true r = refl
 or_moves true false r = refl
@@ -225,10 +210,6 @@ walks_on old mid new ps qs (Err fault) a b earlier later e =
 -- a fault among the first places
 pub walks_fault_before : (old new : Seen) (ps qs : List Place) (fault : RuleFault) → Walks old new ps (Err fault) → Walks old new (ps ++ qs) (Err fault)
 walks_fault_before old new ps qs fault a earlier later e = rw append_assoc (a earlier (qs ++ later) e)
-
--- no places
-pub walks_none : (seen : Seen) → Walks seen seen [] (Ok tt)
-walks_none seen earlier later e = (e ∙ ap seen_of (sym (append-nil earlier)), ap (λ (ps : List Place). first_fault_from ps later) (sym (append-nil earlier)))
 
 -- the places of the tokens from the one at i on
 pub token_places-at : (party : Role) (message k : ℕ) (tokens : List Token) (i : ℕ) (d : Token) → i < length tokens

@@ -1,10 +1,9 @@
 -- The fundamental patterns are within the limits, and each is found by its base.
 use Rattle.std.proofs.Common.{◌≡◌, ℕ, ◌≤◌, ◌+◌, Bool, true, false, ◌&&◌, cond, List, [], ◌∷◌, ◌++◌, Option, Some, None, refl, map, ap, sym, subst, ◌∙◌, length}
-use Rattle.std.proofs.Common.{get_or, arith, leb, append-nil, zero, suc, drop, add-one}
+use Rattle.std.proofs.Common.{get_or, arith, leb, append-nil, zero, suc}
 use Rattle.std.specs.Prelude.{find, nat_le, nat_eq, MatchOption, ⊤, slice_get, bytes_eq}
 use Rattle.std.specs.List.{list_all}
 use Rattle.std.proofs.lemmas.Bool.Decides.{nat_tests}
-use Rattle.std.proofs.lemmas.List.{drop_all}
 use Rattle.noise_names.specs.declared.token.Token.{Token}
 use Rattle.noise_names.specs.Tokens.{own_tokens}
 use Rattle.noise_names.specs.Plan.{Plan, plain_of}
@@ -142,17 +141,6 @@ pub known_is_few : (base : List ℕ) (p : Plan) → fundamental_of base ≡ Some
 known_is_few base p found =
     le_from_test (length p.messages) 8 (both (nat_le 1 (length p.messages)) (nat_le (length p.messages) 8) (known_is_pattern base p found).count).1
 
--- a search from the element at i on
-find_at : {X : Type 0} (test : X → Bool) (xs : List X) (i : ℕ) (x : X) → slice_get xs i ≡ Some x
-    → find test (drop i xs) ≡ cond (test x) (Some x) (find test (drop (suc i) xs))
-find_at test [] i x h = absurd (cc)
-find_at test (y ∷ ys) zero x h = let same : y ≡ x = cc in rw same refl
-find_at test (y ∷ ys) (suc i) x h = find_at test ys i x h
-
-pub find-drop : {X : Type 0} (test : X → Bool) (xs : List X) (i : ℕ) (x : X) → slice_get xs i ≡ Some x
-    → find test (drop i xs) ≡ cond (test x) (Some x) (find test (drop (i + 1) xs))
-find-drop test xs i x h = rw (add-one i) (find_at test xs i x h)
-
 past : {X : Type 0} (xs : List X) (i : ℕ) → length xs ≤ i → slice_get xs i ≡ None
 past [] i h = refl
 past (y ∷ ys) zero h = absurd (omega arith)
@@ -162,7 +150,3 @@ past (y ∷ ys) (suc i) h = past ys i (omega arith)
 pub no_more_fundamentals : (i : ℕ) → 15 ≤ i → slice_get fundamentals i ≡ None
 unfolding fundamentals
 no_more_fundamentals i h = past fundamentals i h
-
-pub find-past : (test : Plan → Bool) (i : ℕ) → 15 ≤ i → find test (drop i fundamentals) ≡ None
-unfolding fundamentals
-find-past test i h = ap (find test) (drop_all i fundamentals h)

@@ -117,19 +117,6 @@ pub left-start : (kept : List Token) (list : List ℕ) (t : Token) (ts : List To
     → IsLeft kept list (own_tokens (t ∷ ts)) more
 left-start kept list t ts more none e = record { first = t; others = ts; tokens = sym (ap (λ (k : List Token). k ++ own_tokens (t ∷ ts)) none); spelled = e }
 
--- what stands in front of a list of words
-pub line-starts : (role : Role) (lines behind arrow list : List ℕ) → lines ≡ codes "  " ++ behind → behind ≡ arrow ++ list → arrow ≡ arrow_of role
-    → lines ≡ codes "  " ++ (arrow_of role ++ list)
-line-starts role lines behind arrow list a b c = a ∙ ap (λ (k : List ℕ). codes "  " ++ k) (b ∙ ap (λ (k : List ℕ). k ++ list) c)
-
-pub line-list : (role : Role) (tokens : List Token) (lines front list more : List ℕ) → lines ≡ codes "  " ++ (arrow_of role ++ front)
-    → front ≡ codes " " ++ list → lines ≡ token_line role tokens ++ more → list ≡ words tokens ++ 10 ∷ more
-line-list role tokens lines front list more a b e = at role (sym e ∙ a ∙ ap (λ (k : List ℕ). codes "  " ++ (arrow_of role ++ k)) b)
-    ∙ append_assoc (words tokens) (10 ∷ []) more where
-      at : (role : Role) → token_line role tokens ++ more ≡ codes "  " ++ (arrow_of role ++ (codes " " ++ list)) → list ≡ (words tokens ++ 10 ∷ []) ++ more
-      at Initiator f = cc
-      at Responder f = cc
-
 pub line-behind : (behind rest more : List ℕ) → behind ≡ 10 ∷ more → behind ≡ codes "\n" ++ rest → rest ≡ more
 line-behind behind rest more e f = let both : 10 ∷ more ≡ 10 ∷ rest = sym e ∙ f in cc
 

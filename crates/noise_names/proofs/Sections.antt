@@ -1,6 +1,6 @@
 -- A pattern section and a protocol name are read exactly if they are spelled so.
 use Rattle.std.proofs.Common.{◌≡◌, ℕ, suc, ◌+◌, ◌<◌, ◌≤◌, Bool, true, false, ◌&&◌, not, cond, ltb, List, [], ◌∷◌, ◌++◌, Result, Ok, Err, refl}
-use Rattle.std.proofs.Common.{ap, sym, ◌∙◌, subst, append-nil, map, length, take, drop, take_while, arith}
+use Rattle.std.proofs.Common.{ap, sym, ◌∙◌, append-nil, map, length, take, drop, take_while, arith}
 use Rattle.std.specs.List.{list_all, join_with_byte, prefix_len}
 use Rattle.std.proofs.lemmas.Bool.Decides.{nat_tests}
 use Rattle.std.proofs.lemmas.List.{take-append-drop, take_min, length-take, drop_at}
@@ -110,9 +110,6 @@ section_err section base modifiers fault e f h read =
     rw base_is (modifiers_err (not (list_all is_modifier (pieces_of (behind_base section)))) (not (rises (map digit_of (pieces_of (behind_base section)))))
     (numbers_in (behind_base section)) fault (Ok (section_in section)) read_behind)
 
-pub section_no_base : (section base : List ℕ) → base ≡ base_front section → is_base base ≡ false → section_read section ≡ Err Base
-section_no_base section base e h = let base_is : is_base (base_front section) ≡ false = ap is_base (sym e) ∙ h in rw base_is refl
-
 -- what a section without a fault is
 abbrev pub KeepsSection : List ℕ → Type 0
 KeepsSection section =
@@ -151,13 +148,6 @@ unless_section_ok section result x e =
     let h = unless_ok (not (is_base (base_front section))) (not (list_all is_modifier (pieces_of (behind_base section))))
     (not (rises (map digit_of (pieces_of (behind_base section))))) result x e in
     ((not_false _ h.0, not_false _ h.1, not_false _ h.2), h.3)
-
--- what is read of a section spells it
-pub section_read-spelled : (section : List ℕ) (s : Section) → section_read section ≡ Ok s → IsSection s × (section ≡ section_bytes s.base s.places)
-section_read-spelled section s e =
-    let h = unless_section_ok section (Ok (section_in section)) s e in
-    let same : section_in section ≡ s = cc in
-    subst (λ (t : Section). IsSection t × (section ≡ section_bytes t.base t.places)) same (kept_section section h.0)
 
 -- the parts of what a section spells
 front_of : (s : Section) → IsSection s → base_front (section_bytes s.base s.places) ≡ s.base

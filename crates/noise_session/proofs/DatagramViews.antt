@@ -14,7 +14,8 @@ use Rattle.noise_session.specs.declared.datagram_fault.DatagramFault.{DatagramFa
 use Rattle.noise_session.specs.declared.datagram_fault.DatagramFault.TheVariants as fault
 use Rattle.noise_session.specs.declared.window.Ring.{Ring}
 use Rattle.noise_session.specs.Transport.{split_key, packet, last_nonce}
-use Rattle.noise_session.specs.Windows.{width_of, is_among, is_old, window_fault, Recalls}
+use Rattle.noise_events.specs.Windows.{width_of}
+use Rattle.noise_session.specs.Windows.{is_among, is_old, window_fault, Recalls}
 use Rattle.noise_session.specs.Datagrams.{HeldDatagrams, DatagramView, Pictures, nonce_named, accepting, datagram_fault}
 
 -- ---- bytes

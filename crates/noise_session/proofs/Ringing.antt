@@ -6,10 +6,11 @@ use Rattle.std.specs.Prelude.{bit_or}
 use Rattle.std.proofs.Math.Nat.{mul-le-mul_left, mul-suc, div-add-mod}
 use Rattle.std.proofs.lemmas.Bool.{cases_lt, cases_eq, cases_Bool, or_cases, or_left, or_right, eqb-true, leb-true, le-leb, lt-leb, ne_eqb, false≢true}
 use Rattle.std.proofs.lemmas.Nat.Bits.{bit_at-zero, bit_at_set_same, bit_at_set_other}
-use Rattle.noise_session.specs.declared.window.Window.{Window}
-use Rattle.noise_session.specs.declared.window.Window.TheVariants.{W64, W256, W1024}
+use Rattle.noise_events.specs.declared.window.Window.{Window}
+use Rattle.noise_events.specs.declared.window.Window.TheVariants.{W64, W256, W1024}
 use Rattle.noise_session.specs.declared.window.Ring.{Ring}
-use Rattle.noise_session.specs.Windows.{width_of, words_of, is_among, is_old, bit_of, Recalls}
+use Rattle.noise_events.specs.Windows.{width_of}
+use Rattle.noise_session.specs.Windows.{words_of, is_among, is_old, bit_of, Recalls}
 
 -- ---- places of blocks
 further : (r a b : ℕ) → a < b → r * a + r ≤ r * b

@@ -12,10 +12,11 @@ use Rattle.noise_session.specs.declared.faults.SendFault.{SendFault}
 use Rattle.noise_session.specs.declared.faults.SendFault.TheVariants as send
 use Rattle.noise_session.specs.declared.datagram_fault.DatagramFault.{DatagramFault}
 use Rattle.noise_session.specs.declared.datagram_fault.DatagramFault.TheVariants as fault
-use Rattle.noise_session.specs.declared.window.Window.{Window}
+use Rattle.noise_events.specs.declared.window.Window.{Window}
 use Rattle.noise_session.specs.declared.window.Ring.{Ring}
 use Rattle.noise_session.specs.Transport.{split_key, packet, last_nonce}
-use Rattle.noise_session.specs.Windows.{width_of, is_among, window_fault, Recalls}
+use Rattle.noise_events.specs.Windows.{width_of}
+use Rattle.noise_session.specs.Windows.{is_among, window_fault, Recalls}
 
 -- Datagram n of a writer: the nonce in 8 bytes, the highest first, and the transport message of that nonce. Its key is never renewed.
 abbrev pub datagram : History → Role → ℕ → List ℕ → List ℕ

@@ -1,11 +1,11 @@
 -- How an end goes over to datagrams (Noise 11.4).
 use Rattle.std.specs.Prelude.{[], length, Bool, false, ◌&&◌, ◌==◌}
-use Rattle.noise_session.specs.declared.window.Window.{Window}
+use Rattle.noise_events.specs.declared.window.Window.{Window}
 use Rattle.noise_session.specs.HeldTransport.{TransportView}
 use Rattle.noise_session.specs.Progress.{Progress}
 use Rattle.noise_session.specs.Progress.Progress.{Open}
 use Rattle.noise_session.specs.Ends.{HeldEnd, progress}
-use Rattle.noise_session.specs.Windows.{width_of}
+use Rattle.noise_events.specs.Windows.{width_of}
 use Rattle.noise_session.specs.Datagrams.{DatagramView}
 
 -- whether the session is open, with no transport message sent or received

@@ -3,7 +3,7 @@ use Rattle.std.specs.Prelude.{◌≡◌, ◌≢◌, ℕ, List, [], Option, Some,
 use Rattle.noise_names.specs.declared.token.Role.{Role}
 use Rattle.noise_names.specs.Plan.{is_one_way}
 use Rattle.noise_state.specs.History.{hash}
-use Rattle.noise_handshake.specs.declared.keys.Own.{Own}
+use Rattle.noise_keys.specs.declared.keys.Own.{Own}
 use Rattle.noise_handshake.specs.Held.{Held}
 use Rattle.noise_handshake.specs.View.{View}
 use Rattle.noise_handshake.specs.Party.{Stands, over}

@@ -2,17 +2,11 @@
 use Rattle.std.specs.Prelude.{◌≡◌, ◌≤◌, ◌<◌, ◌+◌, ◌/◌, ◌%◌, ◌==◌, ◌||◌, ℕ, List, [], ◌∷◌, Bool, true, false, nat_le, slice_index}
 use Rattle.std.specs.Prelude.{Option, Some, None, if◌then◌else◌}
 use Rattle.std.specs.Int.{bit_at}
-use Rattle.noise_session.specs.declared.window.Window.{Window}
-use Rattle.noise_session.specs.declared.window.Window.TheVariants.{W64, W256, W1024}
+use Rattle.noise_events.specs.declared.window.Window.{Window}
+use Rattle.noise_events.specs.Windows.{width_of}
 use Rattle.noise_session.specs.declared.window.Ring.{Ring}
 use Rattle.noise_session.specs.declared.datagram_fault.DatagramFault.{DatagramFault}
 use Rattle.noise_session.specs.declared.datagram_fault.DatagramFault.TheVariants as fault
-
--- how many nonces a window has
-abbrev pub width_of : Window → ℕ
-width_of W64 = 64
-width_of W256 = 256
-width_of W1024 = 1024
 
 -- how many words a ring uses: one more than the width has
 abbrev pub words_of : Window → ℕ

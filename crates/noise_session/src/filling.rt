@@ -11,7 +11,7 @@ use crate::Counted;
 use std::io::Read;
 
 // How the filling of a buffer came to its end.
-#[derive(Clone, Copy, Debug, PartialEq, Eq)]
+#[derive(Clone, Copy)]
 pub(crate) enum Filling {
     Filled,
     End, // of the input

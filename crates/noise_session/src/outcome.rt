@@ -4,7 +4,7 @@
 use noise_handshake::Cause;
 
 // A step whose payload stands at these places of the message.
-#[derive(Clone, Copy, Debug, PartialEq, Eq)]
+#[derive(Clone, Copy)]
 pub(crate) enum Outcome {
     Ended,
     YourTurn,

@@ -2,60 +2,16 @@
 #![tactic(auto)]
 
 ghost use Rattle.std.specs.Prelude.{◌≡◌, ◌≤◌, ◌<◌, ◌+◌, ◌/◌, ◌%◌, ◌*◌, ℕ, List, [], ◌∷◌, length, slice_index, false};
+ghost use Rattle.noise_events.specs.Windows.{width_of};
+ghost use Rattle.noise_session.specs.Windows.{words_of, is_among, is_old, window_fault, Recalls};
 
 use crate::DatagramFault;
+use noise_events::Window;
 
 const WORD_BITS: u64 = 64;
 
 // The words of the widest window: a word more than the width takes.
 const MOST_WORDS: usize = 17;
-
-/// How far a datagram may come behind another one and still be opened: the nonces less than the width below the greatest
-/// accepted one, each of which is accepted once.
-#[derive(Clone, Copy, Debug, PartialEq, Eq)]
-pub enum Window {
-    /// 64 nonces.
-    W64,
-    /// 256 nonces.
-    W256,
-    /// 1024 nonces.
-    W1024,
-}
-
-impl Window {
-    ghost use Rattle.noise_session.specs.Windows.{width_of, words_of};
-
-    /// How many nonces it has.
-    pub fn width(self) -> u64
-        ensures { result ≡ width_of self }
-    {
-        match self {
-            Window::W64 => 64,
-            Window::W256 => 256,
-            Window::W1024 => 1024,
-        }
-    }
-
-    // Where the word of a block stands.
-    fn place(self, block: u64) -> usize
-        ensures value { result ≡ block % words_of self }
-        ensures within { result < 17 }
-    {
-        (block % (self.width() / WORD_BITS + 1)) as usize
-    }
-
-    // Clears the words of the blocks behind `top` up to `block`: each word once at most.
-    fn clear(self, words: &mut [u64; MOST_WORDS], top: u64, block: u64)
-        requires { top ≤ block }
-        ensures fresh { (b : ℕ) → top < b → b ≤ block → block < b + words_of self → slice_index words.new (b % words_of self) ≡ 0 }
-        ensures kept { (b : ℕ) → b ≤ top → block < b + words_of self → slice_index words.new (b % words_of self) ≡ slice_index words.old (b % words_of self) }
-    {
-        let count = (block - top).min(self.width() / WORD_BITS + 1);
-        for back in 0..count {
-            words[self.place(block - back)] = 0;
-        }
-    }
-}
 
 // The accepted nonces of a window: the greatest, 0 where there is none, and a bit for each of the others.
 //
@@ -69,8 +25,6 @@ pub(crate) struct Ring {
 }
 
 impl Ring {
-    ghost use Rattle.noise_session.specs.Windows.{width_of, words_of, is_among, is_old, window_fault, Recalls};
-
     // That of no nonces.
     pub(crate) fn new(window: Window) -> Ring
         ensures window { result.window ≡ window }
@@ -130,7 +84,7 @@ impl Ring {
         ensures { (accepted : List ℕ) → Recalls self.now accepted → is_old (width_of self.now.window) accepted nonce ≡ false
             → result ≡ is_among accepted nonce }
     {
-        let word = self.words[self.window.place(nonce / WORD_BITS)];
+        let word = self.words[place(self.window, nonce / WORD_BITS)];
         nonce <= self.greatest && word >> (nonce % WORD_BITS) & 1 == 1
     }
 
@@ -142,10 +96,34 @@ impl Ring {
     {
         let block = nonce / WORD_BITS;
         if nonce > self.greatest {
-            self.window
-                .clear(&mut self.words, self.greatest / WORD_BITS, block);
+            clear(
+                self.window,
+                &mut self.words,
+                self.greatest / WORD_BITS,
+                block,
+            );
             self.greatest = nonce;
         }
-        self.words[self.window.place(block)] |= 1 << (nonce % WORD_BITS);
+        self.words[place(self.window, block)] |= 1 << (nonce % WORD_BITS);
+    }
+}
+
+// Where the word of a block stands.
+fn place(window: Window, block: u64) -> usize
+    ensures value { result ≡ block % words_of window }
+    ensures within { result < 17 }
+{
+    (block % (window.width() / WORD_BITS + 1)) as usize
+}
+
+// Clears the words of the blocks behind `top` up to `block`: each word once at most.
+fn clear(window: Window, words: &mut [u64; MOST_WORDS], top: u64, block: u64)
+    requires { top ≤ block }
+    ensures fresh { (b : ℕ) → top < b → b ≤ block → block < b + words_of window → slice_index words.new (b % words_of window) ≡ 0 }
+    ensures kept { (b : ℕ) → b ≤ top → block < b + words_of window → slice_index words.new (b % words_of window) ≡ slice_index words.old (b % words_of window) }
+{
+    let count = (block - top).min(window.width() / WORD_BITS + 1);
+    for back in 0..count {
+        words[place(window, block - back)] = 0;
     }
 }

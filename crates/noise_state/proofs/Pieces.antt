@@ -2,7 +2,6 @@
 use Rattle.std.proofs.Common.{◌≡◌, ℕ, List, length, arith, ◌≤◌, ap}
 use Rattle.std.specs.Prelude.{Option, Some, None, is_some, IsTrue}
 use Rattle.noise_aead.specs.Sealing.{sealed, nonce_of}
-use Rattle.noise_state.specs.Cipher.{HasNonce}
 use Rattle.noise_state.specs.History.{piece_under}
 use Rattle.noise_state.specs.Pieces.{length-piece_under}
 
@@ -11,11 +10,6 @@ under-none k n ad x e = ap (λ (o : Option (List ℕ)). piece_under o n ad x) e
 
 pub under-some : (k : Option (List ℕ)) (key : List ℕ) (n : ℕ) (ad x : List ℕ) → k ≡ Some key → piece_under k n ad x ≡ sealed key (nonce_of n) ad x
 under-some k key n ad x e = ap (λ (o : Option (List ℕ)). piece_under o n ad x) e
-
--- without a key no nonce is used up
-pub keyless : (k : Option (List ℕ)) (n : ℕ) → k ≡ None → HasNonce (is_some k) n
-keyless None n e t = cc
-keyless (Some key) n e t = cc
 
 -- with a key a piece has a tag
 pub tagged : (k : Option (List ℕ)) (n : ℕ) (ad x bytes : List ℕ) → bytes ≡ piece_under k n ad x → IsTrue (is_some k) → 16 ≤ length bytes

@@ -1,4 +1,3 @@
-pub mod CommandLineLemmas
 pub mod ConversionLemmas
 pub mod ConvertingLemmas
 pub mod EndLemmas

@@ -8,14 +8,16 @@ use Rattle.noise_names.specs.Limits.{HavePsksAt, Placed, with_psk_tokens}
 use Rattle.noise_names.specs.Names.{Section}
 use Rattle.noise_names.specs.Plan.{Plan, plain_of}
 use Rattle.noise_names.specs.Tokens.{own_tokens}
-use Rattle.noise_session.specs.declared.window.Window.{Window}
-use Rattle.noise_duel.specs.Acts.{events_of}
+use Rattle.noise_events.specs.declared.window.Window.{Window}
+use Rattle.noise_events.specs.Events.{events_of}
 use Rattle.noise_duel.specs.Conversation.{facing}
-use Rattle.noise_duel.specs.DatagramEvents.{DatagramEvent, DatagramNote}
-use Rattle.noise_duel.specs.DatagramReports.{datagram_events_of}
+use Rattle.noise_events.specs.DatagramEvents.{DatagramEvent}
+use Rattle.noise_duel.specs.DatagramNotes.{DatagramNote}
+use Rattle.noise_events.specs.DatagramEvents.{datagram_events_of}
 use Rattle.noise_duel.specs.DatagramRuns.{DatagramRun, DatagramRunOnce}
 use Rattle.noise_duel.specs.DatagramSides.{DatagramSides}
-use Rattle.noise_duel.specs.Events.{Event, Note}
+use Rattle.noise_events.specs.Events.{Event}
+use Rattle.noise_duel.specs.Notes.{Note}
 use Rattle.noise_duel.specs.Messages.{Start}
 use Rattle.noise_duel.specs.Runs.{Run, RunOnce}
 use Rattle.noise_duel.specs.Sides.{Sides}

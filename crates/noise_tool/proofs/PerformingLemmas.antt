@@ -4,21 +4,23 @@ use Rattle.std.specs.Global.{Global}
 use Rattle.std.specs.Prelude.{IfErr, IfSome}
 use Rattle.std.specs.Io.KnownBytes.{Appends}
 use Rattle.noise_names.specs.declared.token.Role.{Role}
-use Rattle.noise_duel.specs.Acts.{events_of, lines_of}
+use Rattle.noise_events.specs.Events.{events_of}
+use Rattle.noise_duel.specs.Acts.{lines_of}
 use Rattle.noise_duel.specs.Conversation.{say_events}
-use Rattle.noise_duel.specs.Events.{Event as Act, Say as Said}
-use Rattle.noise_duel.specs.declared.event.Event.{Event}
+use Rattle.noise_events.specs.Events.{Event as Act, Say as Said}
+use Rattle.noise_events.specs.declared.event.Event.{Event}
 use Rattle.noise_tool.specs.Conversion.{MeetsItself}
 use Rattle.noise_tool.specs.Ends.{IsStartFault}
 use Rattle.noise_tool.specs.Faults.{status_of}
 use Rattle.noise_tool.specs.Performing.{HasConverted, HasRun, IsFault, IsOfLines, IsRunFault, IsTooLongConverted, IsUnlike, IsUnmet, LeavesOther}
-use Rattle.noise_tool.specs.declared.orders.Chosen.{Chosen}
-use Rattle.noise_tool.specs.declared.orders.Chosen.TheVariants as order
+use Rattle.noise_words.specs.declared.orders.Chosen.{Chosen}
+use Rattle.noise_words.specs.declared.orders.Chosen.TheVariants as order
 use Rattle.noise_tool.specs.Printed.{lines_text}
 use Rattle.noise_tool.specs.Running.{IsMet, IsRunOf, converted_text, expected_in}
 use Rattle.noise_tool.specs.declared.faults.Fault.{Fault}
 use Rattle.noise_tool.specs.declared.faults.Fault.TheVariants as fault
 use Rattle.noise_tool.specs.declared.running.Outcome.{Outcome}
+use Rattle.noise_tool.specs.Told.{TellsRule}
 use Rattle.noise_vectors.specs.Expectations.{bytes_of}
 use Rattle.noise_vectors.specs.VectorFile.{IsVectorFile, say_of}
 use Rattle.noise_vectors.specs.VectorText.{text_of}
@@ -227,6 +229,21 @@ lines-left fault.Unreadable out after err err_after lines h = absurd lines
 lines-left fault.Unwritable out after err err_after lines h = absurd lines
 lines-left fault.Memory out after err err_after lines h = absurd lines
 
+-- behind lines no rule is told
+lines-tell : (why : Fault) (before after : Option (List ℕ)) → IsOfLines why → TellsRule why before after
+lines-tell (fault.Unmet n) before after lines = tt
+lines-tell (fault.Rule f) before after lines = absurd lines
+lines-tell (fault.Place f) before after lines = tt
+lines-tell (fault.Setup role f) before after lines = tt
+lines-tell (fault.Name f) before after lines = tt
+lines-tell fault.UnknownPattern before after lines = tt
+lines-tell (fault.Text f) before after lines = tt
+lines-tell (fault.Line n kind) before after lines = tt
+lines-tell fault.TooLong before after lines = tt
+lines-tell fault.Unreadable before after lines = tt
+lines-tell fault.Unwritable before after lines = tt
+lines-tell fault.Memory before after lines = tt
+
 -- a fault that is told: what holds of the run and of the telling holds of both
 pub told-fault : {O E : Type 0} (contents : O → Option (List ℕ)) (chosen : Chosen) (known : Option (List ℕ)) (old middle new : O) (err err_new : E)
     (why : Fault) (result : ℕ)
@@ -234,27 +251,31 @@ pub told-fault : {O E : Type 0} (contents : O → Option (List ℕ)) (chosen : C
     → (status_of why ≡ 3) ⊎ IsOfLines why ⊎ (middle ≡ old)
     → (result ≡ status_of why) ⊎ (result ≡ 3)
     → (result ≡ 3) ⊎ LeavesOther why middle new err err_new
+    → (result ≡ 3) ⊎ TellsRule why (contents middle) (contents new)
     → (result ≡ 3) ⊎ ((f : Fault) × (status_of f ≡ result) × IsFault chosen known (contents old) (contents new) f
-    × (IsOfLines f ⊎ LeavesOther f old new err err_new))
-told-fault contents chosen known old middle new err err_new why result h unwritten (inr three) other = inl three
-told-fault contents chosen known old middle new err err_new why result (inl outside) unwritten (inl is) other = inl (is ∙ outside)
-told-fault contents chosen known old middle new err err_new why result (inr h) unwritten (inl is) (inl three) = inl three
-told-fault contents chosen known old middle new err err_new why result (inr h) (inl outside) (inl is) (inr leaves) = inl (is ∙ outside)
-told-fault contents chosen known old middle new err err_new why result (inr h) (inr (inl lines)) (inl is) (inr leaves) =
+    × (IsOfLines f ⊎ LeavesOther f old new err err_new) × TellsRule f (contents old) (contents new))
+told-fault contents chosen known old middle new err err_new why result h unwritten (inr three) other tells = inl three
+told-fault contents chosen known old middle new err err_new why result (inl outside) unwritten (inl is) other tells = inl (is ∙ outside)
+told-fault contents chosen known old middle new err err_new why result (inr h) unwritten (inl is) (inl three) tells = inl three
+told-fault contents chosen known old middle new err err_new why result (inr h) unwritten (inl is) (inr leaves) (inl three) = inl three
+told-fault contents chosen known old middle new err err_new why result (inr h) (inl outside) (inl is) (inr leaves) (inr tells) = inl (is ∙ outside)
+told-fault contents chosen known old middle new err err_new why result (inr h) (inr (inl lines)) (inl is) (inr leaves) (inr tells) =
     inr (
       why,
       sym is,
       fault-behind chosen known (contents old) (contents middle) (contents new) why
           (λ l. ap contents (lines-left why middle new err err_new l leaves)) h,
       inl lines,
+      lines-tell why (contents old) (contents new) lines,
     )
-told-fault {O = O} contents chosen known old middle new err err_new why result (inr h) (inr (inr same)) (inl is) (inr leaves) =
+told-fault {O = O} contents chosen known old middle new err err_new why result (inr h) (inr (inr same)) (inl is) (inr leaves) (inr tells) =
     inr (
       why,
       sym is,
       fault-behind chosen known (contents old) (contents middle) (contents new) why
           (λ l. ap contents (lines-left why middle new err err_new l leaves)) h,
       inr (subst (λ (o : O). LeavesOther why o new err err_new) same leaves),
+      subst (λ (o : O). TellsRule why (contents o) (contents new)) same tells,
     )
 
 -- at status 2 the output is as it was

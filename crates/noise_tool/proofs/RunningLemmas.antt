@@ -4,8 +4,8 @@ use Rattle.noise_names.specs.declared.token.Role.{Role}
 use Rattle.noise_session.specs.EndDatagrams.{is_datagram_ready, is_untouched}
 use Rattle.noise_session.specs.Ends.{EndView, HeldEnd, IsToldBy}
 use Rattle.noise_session.specs.Progress.{Progress}
-use Rattle.noise_duel.specs.DatagramEvents.{DatagramNote}
-use Rattle.noise_duel.specs.DatagramReports.{datagram_events_of}
+use Rattle.noise_duel.specs.DatagramNotes.{DatagramNote}
+use Rattle.noise_events.specs.DatagramEvents.{datagram_events_of}
 use Rattle.noise_duel.specs.DatagramRuns.{DatagramRun}
 use Rattle.noise_duel.specs.DatagramSides.{DatagramSides}
 use Rattle.noise_duel.specs.HeldDuel.{HeldDuel}

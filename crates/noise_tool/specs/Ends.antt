@@ -7,8 +7,8 @@ use Rattle.noise_names.specs.Tokens.{other}
 use Rattle.noise_names.specs.Names.{Section}
 use Rattle.noise_names.specs.Plan.{Plan}
 use Rattle.noise_names.specs.Validity.{IsValid, IsFirstFault}
-use Rattle.noise_handshake.specs.declared.keys.Own.{Own}
-use Rattle.noise_handshake.specs.declared.keys.Own.TheVariants.{Ephemeral, Static}
+use Rattle.noise_keys.specs.declared.keys.Own.{Own}
+use Rattle.noise_keys.specs.declared.keys.Own.TheVariants.{Ephemeral, Static}
 use Rattle.noise_handshake.specs.declared.remote.Remote.{Remote}
 use Rattle.noise_handshake.specs.declared.faults.SetupFault.{SetupFault}
 use Rattle.noise_handshake.specs.Setup.{has_before, setup_fault}

@@ -1,4 +1,3 @@
-pub mod CommandLine
 pub mod Conversion
 pub mod Ends
 pub mod Faults
@@ -10,3 +9,4 @@ pub mod Printed
 pub mod PrintedDatagrams
 pub mod PrintedWords
 pub mod Running
+pub mod Told

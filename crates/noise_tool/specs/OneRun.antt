@@ -1,6 +1,6 @@
 -- A vector file has one run: files that say the same print the same lines.
 use Rattle.std.specs.Prelude.{◌≡◌, ℕ, List}
-use Rattle.noise_duel.specs.Acts.{events_of}
+use Rattle.noise_events.specs.Events.{events_of}
 use Rattle.noise_vectors.specs.SameFile.{held_datagrams}
 use Rattle.noise_vectors.specs.declared.vector.VectorFile.{VectorFile}
 use Rattle.noise_tool.specs.Running.{IsRunOf, datagrams_in}

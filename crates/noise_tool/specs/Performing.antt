@@ -16,8 +16,8 @@ use Rattle.noise_vectors.specs.VectorText.{text_of}
 use Rattle.noise_tool.specs.declared.faults.Fault.{Fault}
 use Rattle.noise_tool.specs.declared.faults.Fault.TheVariants.{Rule, TooLong, Unmet}
 use Rattle.noise_tool.specs.declared.running.Outcome.{Outcome}
-use Rattle.noise_tool.specs.declared.orders.Chosen.{Chosen}
-use Rattle.noise_tool.specs.declared.orders.Chosen.TheVariants.{List as Listing, Show, Check, Talk, Replay, Convert}
+use Rattle.noise_words.specs.declared.orders.Chosen.{Chosen}
+use Rattle.noise_words.specs.declared.orders.Chosen.TheVariants.{List as Listing, Show, Check, Talk, Replay, Convert}
 use Rattle.noise_vectors.specs.declared.faults.VectorFault.{VectorFault}
 use Rattle.noise_vectors.specs.declared.vector.AllowedEvents.{AllowedEvents}
 use Rattle.noise_vectors.specs.declared.vector.AllowedEvents.TheVariants.{SayOnly, Any, VersionOne}

@@ -14,7 +14,7 @@ use Rattle.noise_session.specs.Progress.{Progress}
 use Rattle.noise_session.specs.Progress.Progress.{Handshaking, Open, Closed}
 use Rattle.noise_session.specs.Steps.{Told}
 use Rattle.noise_session.specs.Steps.Told.{Ended, YourTurn, Silent, Payload, Dropped, Refused, Exhausted}
-use Rattle.noise_duel.specs.Events.{Note, Wrote, WriteFault, Judged, Left, Missing, Held}
+use Rattle.noise_duel.specs.Notes.{Note, Wrote, WriteFault, Judged, Left, Missing, Held}
 use Rattle.noise_duel.specs.Sides.{Side, Sides, side}
 use Rattle.noise_vectors.specs.HexWord.{hex_of}
 use Rattle.noise_vectors.specs.VectorText.{role_word}

@@ -3,16 +3,16 @@ use Rattle.std.specs.Prelude.{◌≡◌, ◌⊎◌, ◌&&◌, ◌==◌, ℕ, Lis
 use Rattle.noise_names.specs.declared.token.Role.{Role}
 use Rattle.noise_names.specs.Plan.{Plan}
 use Rattle.noise_names.specs.Validity.{IsValid}
-use Rattle.noise_session.specs.declared.window.Window.{Window}
+use Rattle.noise_events.specs.declared.window.Window.{Window}
 use Rattle.noise_session.specs.Datagrams.{datagrams_of}
 use Rattle.noise_session.specs.EndDatagrams.{is_untouched}
 use Rattle.noise_session.specs.Ends.{EndView, progress_of}
-use Rattle.noise_duel.specs.Acts.{events_of}
-use Rattle.noise_duel.specs.DatagramEvents.{DatagramNote}
-use Rattle.noise_duel.specs.DatagramReports.{datagram_events_of}
+use Rattle.noise_events.specs.Events.{events_of}
+use Rattle.noise_duel.specs.DatagramNotes.{DatagramNote}
+use Rattle.noise_events.specs.DatagramEvents.{datagram_events_of}
 use Rattle.noise_duel.specs.DatagramRuns.{DatagramRun}
 use Rattle.noise_duel.specs.DatagramSides.{DatagramSides, meeting}
-use Rattle.noise_duel.specs.Events.{Note}
+use Rattle.noise_duel.specs.Notes.{Note}
 use Rattle.noise_duel.specs.Runs.{Run}
 use Rattle.noise_duel.specs.Sides.{Sides}
 use Rattle.noise_vectors.specs.Expectations.{bytes_of}

@@ -8,6 +8,7 @@ ghost use Rattle.noise_vectors.specs.declared.vector.AllowedEvents.TheVariants.{
 ghost use Rattle.noise_tool.specs.Performing.{HasConverted, HasRun, IsDone, IsFault, IsOfLines, IsRunFault, IsTooLongConverted, IsUnlike, IsUnmet};
 ghost use Rattle.noise_tool.specs.Performing.{LeavesFile, LeavesOther};
 ghost use Rattle.noise_tool.specs.Printed.{lines_text};
+ghost use Rattle.noise_tool.specs.Told.{TellsRule};
 ghost use Rattle.noise_tool.specs.Running.{IsMet};
 ghost use Rattle.noise_tool.specs.declared.faults.Fault.{Fault};
 
@@ -17,12 +18,12 @@ use crate::faults::Fault;
 use crate::input::read_file;
 use crate::laws::conversions_meet_themselves;
 use crate::listing::list;
-use crate::orders::Chosen;
 use crate::output::{flush, write, write_lines};
 use crate::running::{Outcome, replay, run_vector};
 use crate::showing::show;
 use crate::telling::tell;
 use noise_vectors::{AllowedEvents, first_unmet, read_vector};
+use noise_words::Chosen;
 use std::alloc::Global;
 use std::io::{Read, Write};
 
@@ -42,7 +43,8 @@ pub fn perform<R: Read, O: Write, E: Write>(
     ensures done { result ≡ 0 → IsDone chosen.now (R.remaining file.old) (O.contents out.old) (O.contents out.new) }
     ensures fault { 1 ≤ result → (result ≡ 3) ⊎ ((fault : Fault) × (status_of fault ≡ result)
         × IsFault chosen.now (R.remaining file.old) (O.contents out.old) (O.contents out.new) fault
-        × (IsOfLines fault ⊎ LeavesOther fault out.old out.new err.old err.new)) }
+        × (IsOfLines fault ⊎ LeavesOther fault out.old out.new err.old err.new)
+        × TellsRule fault (O.contents out.old) (O.contents out.new)) }
     ensures unwritten { result ≡ 2 → out.new ≡ out.old }
     ensures quiet { result ≡ 0 → err.new ≡ err.old }
     ensures unread { LeavesFile chosen.now file.old file.new }

@@ -5,7 +5,7 @@ ghost use Rattle.std.specs.List.{join_with_byte};
 ghost use Rattle.noise_state.specs.History.{hash};
 ghost use Rattle.noise_session.specs.Ends.{EndView, EndStands, progress_of};
 ghost use Rattle.noise_duel.specs.Entries.{note_of, notes_of, step_of};
-ghost use Rattle.noise_duel.specs.Events.{WriteFault};
+ghost use Rattle.noise_duel.specs.Notes.{WriteFault};
 ghost use Rattle.noise_duel.specs.HeldDuel.{DuelStands, HasFrames};
 ghost use Rattle.noise_duel.specs.Sides.{Side, Sides, side};
 ghost use Rattle.noise_vectors.specs.Expectations.{bytes_of};

@@ -1,9 +1,11 @@
 //! The texts of faults.
 
-ghost use Rattle.std.specs.Prelude.{◌≡◌, ◌⊎◌, IfErr, IsTrue, OnOk};
+ghost use Rattle.std.specs.Prelude.{◌≡◌, ◌⊎◌, ◌∷◌, [], decimal, codes, IfErr, IfOk, IsTrue, OnOk};
+ghost use Rattle.std.specs.List.{join_with_byte};
 ghost use Rattle.noise_tool.specs.Faults.{status_of};
 ghost use Rattle.noise_tool.specs.Performing.{LeavesOther};
 ghost use Rattle.noise_tool.specs.PrintedWords.{is_printed};
+ghost use Rattle.noise_tool.specs.Told as told;
 
 use crate::faults::Fault;
 use crate::line::Line;
@@ -20,6 +22,7 @@ use std::io::Write;
 pub fn tell<O: Write, E: Write>(alloc: Global, fault: Fault, out: &mut O, err: &mut E) -> u8
     ensures status { (result ≡ status_of fault) ⊎ (result ≡ 3) }
     ensures other { (result ≡ 3) ⊎ LeavesOther fault out.old out.new err.old err.new }
+    ensures rule { (result ≡ 3) ⊎ told.TellsRule fault (O.contents out.old) (O.contents out.new) }
 {
     match write_fault(alloc, fault, out, err) {
         Ok(()) => fault.status(),
@@ -37,6 +40,7 @@ fn write_fault<O: Write, E: Write>(
     err: &mut E,
 ) -> Result<(), Fault>
     ensures other { OnOk result (LeavesOther fault out.old out.new err.old err.new) }
+    ensures rule { OnOk result (told.TellsRule fault (O.contents out.old) (O.contents out.new)) }
     ensures fault { IfErr result (λ other. status_of other ≡ 3) }
 {
     let line = fault_line(alloc, fault)?;
@@ -58,10 +62,11 @@ fn last_text(fault: Fault) -> &'static [u8] {
     }
 }
 
-fn fault_line(alloc: Global, fault: Fault) -> Result<Line, AllocError> {
+fn fault_line(alloc: Global, fault: Fault) -> Result<Line, AllocError>
+    ensures { IfOk result (λ line. line.text.items ≡ told.fault_line fault) }
+{
     match fault {
-        Fault::Rule(broken) => Line::new(alloc, "rule")?
-            .number(u64::from(broken.rule))?
+        Fault::Rule(broken) => counted_line(alloc, "rule", u64::from(broken.rule))?
             .word("message")?
             .number(u64::from(broken.message))?
             .word("token")?
@@ -82,14 +87,24 @@ fn fault_line(alloc: Global, fault: Fault) -> Result<Line, AllocError> {
     }
 }
 
+// A word and a number.
+fn counted_line(alloc: Global, word: &str, number: u64) -> Result<Line, AllocError>
+    requires { IsTrue (is_printed word.now) }
+    ensures { IfOk result (λ line. line.text.items ≡ join_with_byte 32 (word.now ∷ decimal number ∷ [])) }
+{
+    Line::new(alloc, word)?.number(number)
+}
+
 fn line_fault(alloc: Global, number: usize, word: &str) -> Result<Line, AllocError>
     requires { IsTrue (is_printed word.now) }
+    ensures { IfOk result (λ line. line.text.items ≡ join_with_byte 32 (codes "line" ∷ decimal number ∷ word.now ∷ [])) }
 {
     Line::new(alloc, "line")?.number(number as u64)?.word(word)
 }
 
 fn line_word(kind: LineKind) -> &'static str
-    ensures { IsTrue (is_printed result.now) }
+    ensures text { result.now ≡ told.line_word kind }
+    ensures printed { IsTrue (is_printed result.now) }
 {
     match kind {
         LineKind::Header => "header",
@@ -107,7 +122,8 @@ fn line_word(kind: LineKind) -> &'static str
 }
 
 fn text_word(kind: TextFaultKind) -> &'static str
-    ensures { IsTrue (is_printed result.now) }
+    ensures text { result.now ≡ told.text_word kind }
+    ensures printed { IsTrue (is_printed result.now) }
 {
     match kind {
         TextFaultKind::Heading => "heading",
@@ -124,7 +140,8 @@ fn text_word(kind: TextFaultKind) -> &'static str
 
 // The word that its `Display` writes, of which no clause tells.
 fn name_word(fault: NameFault) -> &'static str
-    ensures { IsTrue (is_printed result.now) }
+    ensures text { result.now ≡ told.name_word fault }
+    ensures printed { IsTrue (is_printed result.now) }
 {
     match fault {
         NameFault::Length => "length",
@@ -137,7 +154,8 @@ fn name_word(fault: NameFault) -> &'static str
 }
 
 fn setup_word(fault: SetupFault) -> &'static str
-    ensures { IsTrue (is_printed result.now) }
+    ensures text { result.now ≡ told.setup_word fault }
+    ensures printed { IsTrue (is_printed result.now) }
 {
     match fault {
         SetupFault::EphemeralMissing => "ephemeral-missing",

@@ -8,13 +8,13 @@ use Rattle.std.proofs.lemmas.Bool.{and_parts}
 use Rattle.std.proofs.lemmas.Bool.Decides.{nat_tests}
 use Rattle.std.proofs.lemmas.List.Elements.{All-head, All-tail}
 use Rattle.noise_names.specs.declared.token.Role.{Role}
-use Rattle.noise_session.specs.declared.window.Window.{Window}
-use Rattle.noise_session.specs.declared.window.Window.TheVariants.{W64, W256, W1024}
-use Rattle.noise_session.specs.Windows.{width_of}
-use Rattle.noise_duel.specs.declared.datagram_event.DatagramEvent.{DatagramEvent}
-use Rattle.noise_duel.specs.declared.datagram_event.DatagramEvent.TheVariants.{Open, Raw, Seal}
-use Rattle.noise_duel.specs.declared.event.Event.{Event}
-use Rattle.noise_duel.specs.declared.event.Event.TheVariants as event
+use Rattle.noise_events.specs.declared.window.Window.{Window}
+use Rattle.noise_events.specs.declared.window.Window.TheVariants.{W64, W256, W1024}
+use Rattle.noise_events.specs.Windows.{width_of}
+use Rattle.noise_events.specs.declared.datagram_event.DatagramEvent.{DatagramEvent}
+use Rattle.noise_events.specs.declared.datagram_event.DatagramEvent.TheVariants.{Open, Raw, Seal}
+use Rattle.noise_events.specs.declared.event.Event.{Event}
+use Rattle.noise_events.specs.declared.event.Event.TheVariants as event
 use Rattle.noise_vectors.specs.HexWord.{hex_of}
 use Rattle.noise_vectors.specs.VectorFile.{IsAllowedVersion, IsDatagramEvent, IsExpected}
 use Rattle.noise_vectors.specs.VectorText.{BehindDatagrams, BehindEvents, datagram_event_words, datagram_kind_word, event_words, expect_words}

@@ -7,7 +7,7 @@ use Rattle.std.proofs.lemmas.Bool.{and_parts, le-leb, lt-ltb, ltb-true}
 use Rattle.std.proofs.lemmas.Fmt.{decimal_injective, decimal_nonempty}
 use Rattle.std.proofs.lemmas.List.{append_assoc, length-append}
 use Rattle.std.proofs.lemmas.List.Elements.{All-head, All-tail}
-use Rattle.noise_duel.specs.Cuts.{are_cuts}
+use Rattle.noise_events.specs.Cuts.{are_cuts}
 use Rattle.noise_vectors.specs.Cuts.{AreCuts, AreLengths}
 use Rattle.noise_vectors.specs.VectorText.{lengths_word}
 use Rattle.noise_vectors.specs.Words.{lacks}

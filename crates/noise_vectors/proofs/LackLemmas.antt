@@ -8,8 +8,8 @@ use Rattle.std.proofs.lemmas.List.Elements.{All-head, All-tail}
 use Rattle.hex.specs.Hex.{encode_lower}
 use Rattle.noise_names.specs.declared.token.Role.{Role}
 use Rattle.noise_names.specs.declared.token.Role.TheVariants.{Initiator, Responder}
-use Rattle.noise_handshake.specs.declared.keys.Own.{Own}
-use Rattle.noise_handshake.specs.declared.keys.Own.TheVariants.{Ephemeral, Static}
+use Rattle.noise_keys.specs.declared.keys.Own.{Own}
+use Rattle.noise_keys.specs.declared.keys.Own.TheVariants.{Ephemeral, Static}
 use Rattle.noise_vectors.specs.HexWord.{hex_of, is_lower_digit}
 use Rattle.noise_vectors.specs.VectorText.{key_word, lengths_word, own_word, role_word}
 use Rattle.noise_vectors.specs.Words.{IsKey, lacks}

@@ -5,8 +5,8 @@ use Rattle.std.specs.List.{All, starts_with}
 use Rattle.std.proofs.lemmas.List.{append_cancel_left}
 use Rattle.hex.specs.Hex.{encode_lower}
 use Rattle.noise_names.specs.declared.token.Role.{Role}
-use Rattle.noise_handshake.specs.Table.{TableEntry}
-use Rattle.noise_handshake.specs.Table as Tables
+use Rattle.noise_keys.specs.Table.{TableEntry}
+use Rattle.noise_keys.specs.Table as Tables
 use Rattle.noise_vectors.specs.VectorFile.{AreKeys, IsEntry}
 use Rattle.noise_vectors.specs.VectorText.{answer_words, key_word, key_words, line, lines_of, own_word, party_text, role_word}
 use Rattle.noise_vectors.specs.Words.{IsKey, lacks}

@@ -10,13 +10,13 @@ use Rattle.std.proofs.lemmas.List.{append_cancel_left}
 use Rattle.std.proofs.lemmas.List.Elements.{All-head, All-tail}
 use Rattle.hex.specs.Hex.{encode_lower}
 use Rattle.noise_names.specs.declared.token.Role.{Role}
-use Rattle.noise_duel.specs.Acts.{event_of}
-use Rattle.noise_duel.specs.DatagramReports.{datagram_event_of}
-use Rattle.noise_duel.specs.declared.datagram_event.DatagramEvent.{DatagramEvent}
-use Rattle.noise_duel.specs.declared.datagram_event.DatagramEvent.TheVariants as datagram
-use Rattle.noise_duel.specs.declared.event.Event.{Event}
-use Rattle.noise_duel.specs.declared.event.Event.TheVariants.{Write, Say, Deliver, Raw}
-use Rattle.noise_handshake.specs.Table.{TableEntry}
+use Rattle.noise_events.specs.Events.{event_of}
+use Rattle.noise_events.specs.DatagramEvents.{datagram_event_of}
+use Rattle.noise_events.specs.declared.datagram_event.DatagramEvent.{DatagramEvent}
+use Rattle.noise_events.specs.declared.datagram_event.DatagramEvent.TheVariants as datagram
+use Rattle.noise_events.specs.declared.event.Event.{Event}
+use Rattle.noise_events.specs.declared.event.Event.TheVariants.{Write, Say, Deliver, Raw}
+use Rattle.noise_keys.specs.Table.{TableEntry}
 use Rattle.noise_vectors.specs.HexWord.{hex_of}
 use Rattle.noise_vectors.specs.SameFile.{cuts_of}
 use Rattle.noise_vectors.specs.VectorFile.{IsDatagramEvent, IsEntry, IsEvent, IsExpected}

@@ -13,9 +13,9 @@ use Rattle.noise_names.specs.Names.{Section, name_bytes}
 use Rattle.noise_names.specs.Plan.{Plan}
 use Rattle.noise_names.specs.Text.{Spells}
 use Rattle.noise_names.specs.Text.{text_of as pattern_text}
-use Rattle.noise_duel.specs.declared.event.Event.{Event}
-use Rattle.noise_duel.specs.declared.event.Event.TheVariants.{Write, Say, Deliver, Raw}
-use Rattle.noise_session.specs.Windows.{width_of}
+use Rattle.noise_events.specs.declared.event.Event.{Event}
+use Rattle.noise_events.specs.declared.event.Event.TheVariants.{Write, Say, Deliver, Raw}
+use Rattle.noise_events.specs.Windows.{width_of}
 use Rattle.noise_vectors.specs.Block.{IsInner}
 use Rattle.noise_vectors.specs.Block as Blocks
 use Rattle.noise_vectors.specs.HexWord.{hex_of}

@@ -12,11 +12,11 @@ use Rattle.hex.proofs.HexLemmas.{decode_of-encode_lower, length-encode_with}
 use Rattle.noise_names.specs.declared.token.Role.{Role}
 use Rattle.noise_names.specs.declared.token.Role.TheVariants.{Initiator, Responder}
 use Rattle.noise_names.specs.Names.{IsSection, Section, is_base, is_base_byte, is_upper, modifier, name_bytes, prefix, section_bytes, suffix}
-use Rattle.noise_handshake.specs.declared.keys.Own.{Own}
-use Rattle.noise_handshake.specs.declared.keys.Own.TheVariants.{Ephemeral, Static}
-use Rattle.noise_session.specs.declared.window.Window.{Window}
-use Rattle.noise_session.specs.declared.window.Window.TheVariants.{W64, W256, W1024}
-use Rattle.noise_session.specs.Windows.{width_of}
+use Rattle.noise_keys.specs.declared.keys.Own.{Own}
+use Rattle.noise_keys.specs.declared.keys.Own.TheVariants.{Ephemeral, Static}
+use Rattle.noise_events.specs.declared.window.Window.{Window}
+use Rattle.noise_events.specs.declared.window.Window.TheVariants.{W64, W256, W1024}
+use Rattle.noise_events.specs.Windows.{width_of}
 use Rattle.noise_vectors.specs.Cuts.{AreLengths}
 use Rattle.noise_vectors.specs.HexWord.{hex_of}
 use Rattle.noise_vectors.specs.VectorText.{key_word, lengths_word, own_word, role_word}

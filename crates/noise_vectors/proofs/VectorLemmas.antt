@@ -6,8 +6,8 @@ use Rattle.std.specs.List.{starts_with}
 use Rattle.noise_names.specs.declared.token.Role.TheVariants.{Initiator, Responder}
 use Rattle.noise_names.specs.Names.{Section, name_bytes}
 use Rattle.noise_names.specs.Plan.{Plan}
-use Rattle.noise_duel.specs.declared.event.Event.{Event}
-use Rattle.noise_duel.specs.declared.event.Event.TheVariants.{Write, Say, Deliver, Raw}
+use Rattle.noise_events.specs.declared.event.Event.{Event}
+use Rattle.noise_events.specs.declared.event.Event.TheVariants.{Write, Say, Deliver, Raw}
 use Rattle.noise_vectors.specs.HexWord.{hex_of}
 use Rattle.noise_vectors.specs.VectorFile.{IsOwn}
 use Rattle.noise_vectors.specs.VectorText.{block_text, datagrams_text, event_words, expect_words, line, lines_of, party_text, psk_words, version_text}

@@ -1,8 +1,8 @@
 -- What the keys of a file answer: each kind as its own type does.
 use Rattle.std.specs.Prelude.{ℕ, List, Option}
-use Rattle.noise_handshake.specs.declared.keys.Own.{Own}
-use Rattle.noise_handshake.specs.Keys.{key_of, xor_answer}
-use Rattle.noise_handshake.specs.Table.{answer_in}
+use Rattle.noise_keys.specs.declared.keys.Own.{Own}
+use Rattle.noise_keys.specs.Keys.{key_of, xor_answer}
+use Rattle.noise_keys.specs.Table.{answer_in}
 use Rattle.noise_vectors.specs.declared.file_keys.FileKeys.{FileKeys}
 use Rattle.noise_vectors.specs.declared.file_keys.FileKeys.TheVariants.{Xor, Table}
 

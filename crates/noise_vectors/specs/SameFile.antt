@@ -1,12 +1,12 @@
 -- Vector files that say the same. A file of the program holds vectors too, with their place in memory and their room, of which a text says nothing.
 -- So what is the same is what the vectors hold: all that a text is made of, and all that both ends start from and go through.
 use Rattle.std.specs.Prelude.{◌≡◌, ℕ, List, [], map, Option, Some, None}
-use Rattle.noise_session.specs.declared.window.Window.{Window}
-use Rattle.noise_duel.specs.Acts.{events_of}
-use Rattle.noise_duel.specs.DatagramEvents.{DatagramEvent}
-use Rattle.noise_duel.specs.DatagramReports.{datagram_events_of}
-use Rattle.noise_duel.specs.declared.event.Event.{Event}
-use Rattle.noise_duel.specs.declared.event.Event.TheVariants.{Write, Say, Deliver, Raw}
+use Rattle.noise_events.specs.declared.window.Window.{Window}
+use Rattle.noise_events.specs.Events.{events_of}
+use Rattle.noise_events.specs.DatagramEvents.{DatagramEvent}
+use Rattle.noise_events.specs.DatagramEvents.{datagram_events_of}
+use Rattle.noise_events.specs.declared.event.Event.{Event}
+use Rattle.noise_events.specs.declared.event.Event.TheVariants.{Write, Say, Deliver, Raw}
 use Rattle.noise_vectors.specs.Expectations.{bytes_of}
 use Rattle.noise_vectors.specs.VectorFile.{IsVectorFile}
 use Rattle.noise_vectors.specs.VectorText.{text_of}

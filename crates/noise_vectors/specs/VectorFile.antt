@@ -6,12 +6,12 @@ use Rattle.noise_names.specs.Fundamental.{fundamental_of}
 use Rattle.noise_names.specs.Limits.{IsPattern}
 use Rattle.noise_names.specs.Names.{IsSection, Section}
 use Rattle.noise_names.specs.Plan.{Plan}
-use Rattle.noise_handshake.specs.Table.{TableEntry}
+use Rattle.noise_keys.specs.Table.{TableEntry}
 use Rattle.noise_names.specs.declared.token.Role.{Role}
-use Rattle.noise_duel.specs.declared.event.Event.{Event}
-use Rattle.noise_duel.specs.declared.event.Event.TheVariants.{Write, Say, Deliver, Raw}
-use Rattle.noise_duel.specs.declared.datagram_event.DatagramEvent.{DatagramEvent}
-use Rattle.noise_duel.specs.declared.datagram_event.DatagramEvent.TheVariants as datagram
+use Rattle.noise_events.specs.declared.event.Event.{Event}
+use Rattle.noise_events.specs.declared.event.Event.TheVariants.{Write, Say, Deliver, Raw}
+use Rattle.noise_events.specs.declared.datagram_event.DatagramEvent.{DatagramEvent}
+use Rattle.noise_events.specs.declared.datagram_event.DatagramEvent.TheVariants as datagram
 use Rattle.noise_vectors.specs.Cuts.{AreCuts}
 use Rattle.noise_vectors.specs.OwnPattern.{HasName}
 use Rattle.noise_vectors.specs.VectorText.{text_of}

@@ -9,15 +9,15 @@ use Rattle.noise_names.specs.declared.token.Role.TheVariants.{Initiator, Respond
 use Rattle.noise_names.specs.Names.{name_bytes}
 use Rattle.noise_names.specs.Plan.{Plan}
 use Rattle.noise_names.specs.Text as PatternText
-use Rattle.noise_handshake.specs.declared.keys.Own.{Own}
-use Rattle.noise_handshake.specs.declared.keys.Own.TheVariants.{Ephemeral, Static}
-use Rattle.noise_handshake.specs.Table.{TableEntry}
-use Rattle.noise_duel.specs.declared.event.Event.{Event}
-use Rattle.noise_duel.specs.declared.event.Event.TheVariants.{Write, Say, Deliver, Raw}
-use Rattle.noise_duel.specs.declared.datagram_event.DatagramEvent.{DatagramEvent}
-use Rattle.noise_duel.specs.declared.datagram_event.DatagramEvent.TheVariants as datagram
-use Rattle.noise_session.specs.declared.window.Window.{Window}
-use Rattle.noise_session.specs.Windows.{width_of}
+use Rattle.noise_keys.specs.declared.keys.Own.{Own}
+use Rattle.noise_keys.specs.declared.keys.Own.TheVariants.{Ephemeral, Static}
+use Rattle.noise_keys.specs.Table.{TableEntry}
+use Rattle.noise_events.specs.declared.event.Event.{Event}
+use Rattle.noise_events.specs.declared.event.Event.TheVariants.{Write, Say, Deliver, Raw}
+use Rattle.noise_events.specs.declared.datagram_event.DatagramEvent.{DatagramEvent}
+use Rattle.noise_events.specs.declared.datagram_event.DatagramEvent.TheVariants as datagram
+use Rattle.noise_events.specs.declared.window.Window.{Window}
+use Rattle.noise_events.specs.Windows.{width_of}
 use Rattle.noise_vectors.specs.HexWord.{hex_of}
 use Rattle.noise_vectors.specs.declared.file_keys.FileKeys.{FileKeys}
 use Rattle.noise_vectors.specs.declared.file_keys.FileKeys.TheVariants.{Xor, Table}

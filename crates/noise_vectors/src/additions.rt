@@ -2,7 +2,7 @@
 
 ghost use Rattle.std.specs.Prelude.{◌≡◌, ℕ, List, Option, Some, None, Bool, false, IfErr, IfOk, IfSome, MatchOption, MatchResult};
 ghost use Rattle.std.specs.List.{All};
-ghost use Rattle.noise_session.specs.declared.window.Window.{Window};
+ghost use Rattle.noise_events.specs.declared.window.Window.{Window};
 ghost use Rattle.noise_vectors.specs.VectorFile.{IsAllowedVersion, IsDatagramEvent, IsVersion};
 ghost use Rattle.noise_vectors.specs.VectorText.{BehindDatagrams, datagrams_text, is_second, version_text, window_words};
 ghost use Rattle.noise_vectors.specs.declared.faults.VectorFault.TheVariants.{Memory};
@@ -16,7 +16,7 @@ use crate::faults::{LineKind, VectorFault};
 use crate::lines::Lines;
 use crate::vector::{Additions, AllowedEvents, FileDatagrams, Version};
 use crate::words::read_number;
-use noise_session::Window;
+use noise_events::Window;
 use std::alloc::Global;
 
 /// The version, of which the header says whether it is the second, with all that stands behind the events.

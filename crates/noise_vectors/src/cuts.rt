@@ -7,7 +7,7 @@ ghost use Rattle.noise_vectors.specs.Cuts.{AreCuts, AreLengths};
 
 use crate::words::{read_length, split_once};
 use arrayvec::ArrayVec;
-use noise_duel::Cuts;
+use noise_events::Cuts;
 
 /// `-` for one piece, or 1 to 8 numbers below 65536, joined by commas, the last not 0.
 pub(crate) fn read_cuts(word: &[u8]) -> Option<Cuts>

@@ -3,7 +3,7 @@
 ghost use Rattle.std.specs.Prelude.{◌≡◌, ◌∷◌, ◌++◌, ◌↔◌, ℕ, List, IfOk, IfSome, IsSome, IsTrue, MatchOption, MatchResult};
 ghost use Rattle.std.specs.List.{All};
 ghost use Rattle.noise_names.specs.declared.token.Role.{Role};
-ghost use Rattle.noise_duel.specs.declared.datagram_event.DatagramEvent.{DatagramEvent};
+ghost use Rattle.noise_events.specs.declared.datagram_event.DatagramEvent.{DatagramEvent};
 ghost use Rattle.noise_vectors.specs.VectorFile.{IsDatagramEvent};
 ghost use Rattle.noise_vectors.specs.VectorText.{BehindDatagrams, datagram_event_words, datagram_kind_word, lines_of, role_word};
 ghost use Rattle.noise_vectors.specs.declared.faults.VectorFault.TheVariants.{Memory};
@@ -14,7 +14,7 @@ use crate::lines::Lines;
 use crate::words::{
     DatagramKind, read_bytes, read_datagram_kind, read_frame_number, read_role, split_once,
 };
-use noise_duel::DatagramEvent;
+use noise_events::DatagramEvent;
 use noise_names::Role;
 use std::alloc::{AllocError, Global};
 

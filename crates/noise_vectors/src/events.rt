@@ -3,7 +3,7 @@
 ghost use Rattle.std.specs.Prelude.{◌≡◌, ◌<◌, ◌^◌, ◌∷◌, ◌++◌, ◌↔◌, ℕ, List, IfOk, IfSome, IsSome, IsTrue, MatchOption, MatchResult, decimal};
 ghost use Rattle.std.specs.List.{All};
 ghost use Rattle.noise_names.specs.declared.token.Role.{Role};
-ghost use Rattle.noise_duel.specs.declared.event.Event.{Event};
+ghost use Rattle.noise_events.specs.declared.event.Event.{Event};
 ghost use Rattle.noise_vectors.specs.Cuts.{AreCuts};
 ghost use Rattle.noise_vectors.specs.HexWord.{hex_of};
 ghost use Rattle.noise_vectors.specs.VectorFile.{IsAllowed, IsEvent, IsShort};
@@ -16,7 +16,7 @@ use crate::faults::{LineKind, VectorFault};
 use crate::lines::Lines;
 use crate::vector::AllowedEvents;
 use crate::words::{EventKind, read_bytes, read_frame_number, read_kind, read_role, split_once};
-use noise_duel::{Cuts, Event};
+use noise_events::{Cuts, Event};
 use noise_names::Role;
 use std::alloc::{AllocError, Global};
 

@@ -1,9 +1,9 @@
 //! The keys that a vector file gives to a party.
 
-use noise_handshake::{Keys, Own, TableKeys, XorKeys};
+use noise_keys::{Keys, Own, TableKeys, XorKeys};
 
 /// The keys of a party: those whose DH is the xor of bytes, or those whose answers stand in the file.
-#[derive(Debug, Drop)]
+#[derive(Drop)]
 pub enum FileKeys {
     Xor(XorKeys),
     Table(TableKeys),

@@ -8,7 +8,7 @@ use crate::faults::{LineKind, VectorFault};
 use crate::words::split_once;
 
 /// A text that is read line by line.
-#[derive(Debug, Drop)]
+#[derive(Drop)]
 pub(crate) struct Lines<'a> {
     /// What is still to be read.
     pub rest: &'a [u8],

@@ -3,7 +3,7 @@
 ghost use Rattle.std.specs.Prelude.{◌≡◌, ◌≤◌, ◌∷◌, ◌++◌, ℕ, List, Option, IfErr, IfOk, IfSome, IsFalse, IsOk, IsSome, MatchOption, codes, length};
 ghost use Rattle.std.specs.Bool.{nat_eq};
 ghost use Rattle.std.specs.List.{All, starts_with};
-ghost use Rattle.noise_handshake.specs.Table.{TableEntry};
+ghost use Rattle.noise_keys.specs.Table.{TableEntry};
 ghost use Rattle.noise_vectors.specs.VectorFile.{AreKeys, IsEntry};
 ghost use Rattle.noise_vectors.specs.Words.{IsKey};
 ghost use Rattle.noise_vectors.specs.VectorText.{answer_words, key_words, lines_of, party_text, role_word};
@@ -12,7 +12,7 @@ use crate::faults::{LineKind, VectorFault};
 use crate::file_keys::FileKeys;
 use crate::lines::Lines;
 use crate::words::{read_key, read_optional_key, read_own, read_role, split_once};
-use noise_handshake::{Own, TableKeys, XorKeys};
+use noise_keys::{Own, TableKeys, XorKeys};
 use noise_names::Role;
 
 /// The line of a party's keys, and behind a table's line its answers.

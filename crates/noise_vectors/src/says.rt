@@ -5,7 +5,7 @@ ghost use Rattle.std.specs.List.{All};
 ghost use Rattle.noise_vectors.specs.VectorFile.{IsAllowed, say_of};
 ghost use Rattle.noise_vectors.specs.declared.vector.AllowedEvents.TheVariants.{SayOnly};
 
-use noise_duel::{Cuts, Event};
+use noise_events::{Cuts, Event};
 use noise_names::Role;
 use std::alloc::{AllocError, Global};
 

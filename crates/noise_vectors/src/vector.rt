@@ -4,12 +4,11 @@ ghost use Rattle.std.specs.Prelude.{◌≤◌, vec_len};
 
 use crate::file_keys::FileKeys;
 use arrayvec::ArrayVec;
-use noise_duel::{DatagramEvent, Event};
+use noise_events::{DatagramEvent, Event, Window};
 use noise_names::{Pattern, ProtocolName};
-use noise_session::Window;
 
 /// What a vector file says.
-#[derive(Debug, Drop)]
+#[derive(Drop)]
 pub struct VectorFile {
     pub protocol: ProtocolName,
     /// The pattern that the file spells itself: there exactly where the protocol's base isn't that of a fundamental pattern.
@@ -28,14 +27,14 @@ pub struct VectorFile {
 }
 
 /// The version of a vector file, and what only that version has, which stands behind the events.
-#[derive(Debug, Drop)]
+#[derive(Drop)]
 pub enum Version {
     One,
     Two(Additions),
 }
 
 /// What version 2 adds.
-#[derive(Debug, Drop)]
+#[derive(Drop)]
 pub struct Additions {
     /// Where both ends go over to datagrams behind the events.
     pub datagrams: Option<FileDatagrams>,
@@ -44,14 +43,14 @@ pub struct Additions {
 }
 
 /// How both ends go over to datagrams, and what happens then.
-#[derive(Debug, Drop)]
+#[derive(Drop)]
 pub struct FileDatagrams {
     pub window: Window,
     pub events: Vec<DatagramEvent>,
 }
 
 /// What a file may have.
-#[derive(Clone, Copy, Debug, PartialEq, Eq)]
+#[derive(Clone, Copy, PartialEq, Eq)]
 pub enum AllowedEvents {
     /// The event `say` alone, and no datagrams; either version.
     SayOnly,

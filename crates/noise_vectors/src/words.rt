@@ -4,7 +4,7 @@ ghost use Rattle.std.specs.Prelude.{◌≡◌, ◌↔◌, ◌<◌, ◌≤◌, �
 ghost use Rattle.std.specs.Prelude.{IfOk, IfSome, IsSome, IsTrue, MatchOption};
 ghost use Rattle.noise_vectors.specs.HexWord.{hex_of};
 ghost use Rattle.hex.specs.Hex.{encode_lower};
-ghost use Rattle.noise_handshake.specs.declared.keys.Own.{Own};
+ghost use Rattle.noise_keys.specs.declared.keys.Own.{Own};
 ghost use Rattle.noise_names.specs.declared.token.Role.{Role};
 ghost use Rattle.noise_vectors.specs.VectorFile.{AreBytes};
 ghost use Rattle.noise_vectors.specs.VectorText.{datagram_kind_word, key_word, kind_word, own_word, role_word};
@@ -13,13 +13,13 @@ ghost use Rattle.noise_vectors.specs.declared.words.EventKind.{EventKind};
 ghost use Rattle.noise_vectors.specs.Words.{IsKey, lacks};
 
 use crate::hex_words::{is_digits, read_hex};
-use noise_handshake::Own;
+use noise_keys::Own;
 use noise_names::Role;
 use std::alloc::{AllocError, Global};
 use std::str;
 
 /// The kinds of events.
-#[derive(Clone, Copy, Debug, PartialEq, Eq)]
+#[derive(Clone, Copy)]
 pub(crate) enum EventKind {
     Say,
     Write,
@@ -28,7 +28,7 @@ pub(crate) enum EventKind {
 }
 
 /// The kinds of events behind `datagrams`.
-#[derive(Clone, Copy, Debug, PartialEq, Eq)]
+#[derive(Clone, Copy)]
 pub(crate) enum DatagramKind {
     Seal,
     Open,

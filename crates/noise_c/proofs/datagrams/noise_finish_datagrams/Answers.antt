@@ -1,5 +1,5 @@
 use Rattle.std.proofs.Common.{sym, subst}
-use Rattle.noise_session.specs.declared.window.Window.{Window}
+use Rattle.noise_events.specs.declared.window.Window.{Window}
 use Rattle.noise_session.specs.Datagrams.{HeldDatagrams, Pictures, datagrams_of}
 use Rattle.noise_c.specs.KeptDatagrams.{window_in}
 use Rattle.noise_c.proofs.datagrams.noise_finish_datagrams.Goals as goal

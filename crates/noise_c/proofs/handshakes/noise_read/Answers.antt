@@ -4,7 +4,7 @@ use Rattle.noise_handshake.specs.declared.faults.ReadFault.{ReadFault}
 use Rattle.noise_handshake.specs.declared.faults.ReadFault.TheVariants as read
 use Rattle.noise_handshake.specs.Asking.{LeavesUnread, behind_asked}
 use Rattle.noise_handshake.specs.Held.{Held, ended_as}
-use Rattle.noise_handshake.specs.Table.{Table}
+use Rattle.noise_keys.specs.Table.{Table}
 use Rattle.noise_handshake.specs.declared.faults.Unread.{Unread}
 use Rattle.noise_handshake.specs.Party.{Stands, Declines}
 use Rattle.noise_handshake.specs.View.{View, Refuses}

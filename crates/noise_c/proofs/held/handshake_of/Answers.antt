@@ -4,7 +4,7 @@ use Rattle.noise_names.specs.Plan.{Plan}
 use Rattle.noise_handshake.specs.Held.{Held}
 use Rattle.noise_handshake.specs.Parts.{IsWhole, held_of}
 use Rattle.noise_c.specs.declared.kept.NoiseHandshake.{NoiseHandshake}
-use Rattle.noise_handshake.specs.Table.{Table}
+use Rattle.noise_keys.specs.Table.{Table}
 use Rattle.noise_c.specs.Kept.{public_in, text_in, held_in, IsPatternOf}
 use Rattle.noise_c.proofs.held.handshake_of.Goals as goal
 

@@ -2,10 +2,10 @@ use Rattle.std.proofs.Common.{◌≡◌, ℕ, List, Bool, true, false, refl, ap,
 use Rattle.std.specs.Prelude.{Option, Some, None, Result, Err, MatchOption, if◌then◌else◌, ◌==◌, nat_lt, not}
 use Rattle.noise_handshake.specs.declared.faults.WriteFault.{WriteFault}
 use Rattle.noise_handshake.specs.declared.faults.WriteFault.TheVariants as write
-use Rattle.noise_handshake.specs.declared.keys.Own.{Own}
+use Rattle.noise_keys.specs.declared.keys.Own.{Own}
 use Rattle.noise_handshake.specs.Held.{Held, IsAgreement, is_turn, length_now, length_unless, message_len_of, write_fault}
 use Rattle.noise_handshake.specs.Party.{Withholds}
-use Rattle.noise_handshake.specs.Table.{Table}
+use Rattle.noise_keys.specs.Table.{Table}
 use Rattle.noise_handshake.specs.View.{View}
 use Rattle.noise_handshake.specs.Wanting.{WantsToWrite}
 use Rattle.noise_handshake.specs.Writing.{Lacks}

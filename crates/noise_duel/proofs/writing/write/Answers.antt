@@ -1,6 +1,6 @@
 use Rattle.std.proofs.Common.{◌≡◌, ◌≤◌, ℕ, take, length, sym, subst, ap, ◌∙◌, arith}
 use Rattle.noise_session.specs.Ends.{EndView, EndStands}
-use Rattle.noise_duel.specs.Events.{Wrote}
+use Rattle.noise_duel.specs.Notes.{Wrote}
 use Rattle.noise_duel.specs.Sides.{with_view}
 use Rattle.noise_duel.specs.Runs.{SideWrites}
 use Rattle.noise_duel.specs.Runs.SideWrites.{writes_nothing}

@@ -20,7 +20,6 @@ bytes_from-rest-requires g t c =
     let are = c.requires.placed.2 in
     let psks : Bool = c.args.means.now.psks in
     let key : Bool = keyed c.args.state.now in
-    let m : List ℕ = c.args.message.now in
     let first : PlacedToken = c.in-Some.first.now in
     let u = first-placed psks key place c.args.placed.now first c.in-Some.later.now c.in-Some.ensures.cases.0 are in
     omega (arith, u.0, within)
@@ -28,11 +27,9 @@ bytes_from-rest-requires g t c =
 pub read_token-requires-clause-width : goal.read_token-requires-clause-width
 read_token-requires-clause-width g t c =
     let place : ℕ = c.requires.placed.0 in
-    let within : place ≤ length c.args.message.now = c.requires.placed.1 in
     let are = c.requires.placed.2 in
     let psks : Bool = c.args.means.now.psks in
     let key : Bool = keyed c.args.state.now in
-    let m : List ℕ = c.args.message.now in
     let first : PlacedToken = c.in-Some.first.now in
     let u = first-placed psks key place c.args.placed.now first c.in-Some.later.now c.in-Some.ensures.cases.0 are in
     u.1

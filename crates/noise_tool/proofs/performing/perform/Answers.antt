@@ -4,7 +4,7 @@ use Rattle.noise_tool.proofs.performing.perform.Goals as goal
 pub returns-in-Err-clause-fault : goal.returns-in-Err-clause-fault
 returns-in-Err-clause-fault g c = λ some.
     told-fault (g.O.Write.contents) c.args.chosen.now _ _ c.run.new.out _ _ _ c.in-Err.fault c.tell.result
-    c.in-Err.ensures.fault c.in-Err.ensures.unwritten c.tell.ensures.status c.tell.ensures.other
+    c.in-Err.ensures.fault c.in-Err.ensures.unwritten c.tell.ensures.status c.tell.ensures.other c.tell.ensures.rule
 
 pub returns-in-Err-clause-unwritten : goal.returns-in-Err-clause-unwritten
 returns-in-Err-clause-unwritten g c = λ two.

@@ -1,7 +1,7 @@
 use Rattle.std.proofs.Common.{rules, ◌∙◌, ◌++◌, ap, subst, sym, ℕ, List, Option}
 use Rattle.noise_duel.specs.Entries.{notes_of}
 use Rattle.noise_duel.specs.Runs.{Run}
-use Rattle.noise_duel.specs.Events.{Event as Act}
+use Rattle.noise_events.specs.Events.{Event as Act}
 use Rattle.noise_vectors.specs.declared.vector.FileDatagrams.{FileDatagrams}
 use Rattle.noise_tool.specs.Ends.{facing_in}
 use Rattle.noise_tool.specs.Printed.{state_lines}

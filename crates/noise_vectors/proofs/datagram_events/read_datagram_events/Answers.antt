@@ -2,7 +2,7 @@ use Rattle.std.proofs.Common.{rules, arith, ◌≡◌, ◌+◌, ◌∙◌, ap, s
 use Rattle.std.specs.Prelude.{IsSome, IsTrue}
 use Rattle.std.specs.List.{All}
 use Rattle.std.proofs.lemmas.List.Elements.{All-nil, All-push}
-use Rattle.noise_duel.specs.declared.datagram_event.DatagramEvent.{DatagramEvent}
+use Rattle.noise_events.specs.declared.datagram_event.DatagramEvent.{DatagramEvent}
 use Rattle.noise_vectors.specs.VectorFile.{IsDatagramEvent}
 use Rattle.noise_vectors.specs.VectorText.{BehindDatagrams, datagram_event_words, line, lines_of}
 use Rattle.noise_vectors.proofs.AdditionLemmas.{datagram_event-stands, datagram_event_words-line}

@@ -1,6 +1,6 @@
 use Rattle.std.proofs.Common.{◌≡◌, ℕ, List, length, vec_len}
 use Rattle.std.specs.List.{All}
-use Rattle.noise_duel.specs.declared.datagram_event.DatagramEvent.{DatagramEvent}
+use Rattle.noise_events.specs.declared.datagram_event.DatagramEvent.{DatagramEvent}
 use Rattle.noise_vectors.specs.VectorFile.{IsDatagramEvent}
 use Rattle.noise_vectors.specs.VectorText.{BehindDatagrams, datagram_event_words, lines_of}
 use Rattle.noise_vectors.proofs.LineLemmas.{LinesLeft}

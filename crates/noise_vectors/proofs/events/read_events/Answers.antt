@@ -2,7 +2,7 @@ use Rattle.std.proofs.Common.{rules, arith, ◌≡◌, ◌+◌, ◌∙◌, ap, s
 use Rattle.std.specs.Prelude.{IsSome, IsTrue}
 use Rattle.std.specs.List.{All}
 use Rattle.std.proofs.lemmas.List.Elements.{All-nil, All-push}
-use Rattle.noise_duel.specs.declared.event.Event.{Event}
+use Rattle.noise_events.specs.declared.event.Event.{Event}
 use Rattle.noise_vectors.specs.VectorFile.{IsAllowed, IsEvent}
 use Rattle.noise_vectors.specs.VectorText.{BehindEvents, event_words, line, lines_of}
 use Rattle.noise_vectors.proofs.AdditionLemmas.{event-stands}

@@ -1,6 +1,6 @@
 use Rattle.std.proofs.Common.{◌≡◌, ℕ, List, length, vec_len}
 use Rattle.std.specs.List.{All}
-use Rattle.noise_duel.specs.declared.event.Event.{Event}
+use Rattle.noise_events.specs.declared.event.Event.{Event}
 use Rattle.noise_vectors.specs.VectorFile.{IsAllowed, IsEvent}
 use Rattle.noise_vectors.specs.VectorText.{BehindEvents, event_words, lines_of}
 use Rattle.noise_vectors.proofs.EventLemmas.{IsRight}

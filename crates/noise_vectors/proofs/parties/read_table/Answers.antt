@@ -3,8 +3,8 @@ use Rattle.std.specs.Prelude.{IsTrue}
 use Rattle.std.specs.List.{All}
 use Rattle.std.proofs.lemmas.List.{length-append}
 use Rattle.std.proofs.lemmas.List.Elements.{All-push}
-use Rattle.noise_handshake.specs.Table.{Table}
-use Rattle.noise_handshake.specs.Table.{TableEntry}
+use Rattle.noise_keys.specs.Table.{Table}
+use Rattle.noise_keys.specs.Table.{TableEntry}
 use Rattle.noise_vectors.specs.VectorFile.{IsEntry}
 use Rattle.noise_vectors.specs.VectorText.{answer_words, line, lines_of}
 use Rattle.noise_vectors.proofs.LineLemmas.{lines_of-more, FirstLine-room, FirstLine-step, LinesLeft-begun, LinesLeft-end}

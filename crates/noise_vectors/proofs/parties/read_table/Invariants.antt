@@ -1,6 +1,6 @@
 use Rattle.std.proofs.Common.{◌≡◌, ◌≤◌, ℕ, List, false, length}
 use Rattle.std.specs.List.{All}
-use Rattle.noise_handshake.specs.Table.{TableEntry}
+use Rattle.noise_keys.specs.Table.{TableEntry}
 use Rattle.noise_vectors.specs.VectorFile.{IsEntry}
 use Rattle.noise_vectors.specs.VectorText.{answer_words, lines_of}
 use Rattle.noise_vectors.proofs.LineLemmas.{LinesLeft}

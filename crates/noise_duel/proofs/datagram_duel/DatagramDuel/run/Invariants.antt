@@ -1,6 +1,7 @@
 use Rattle.std.proofs.Common.{drop}
 use Rattle.noise_session.specs.Datagrams.{DatagramView}
-use Rattle.noise_duel.specs.DatagramReports.{DuelPictures, datagram_events_of}
+use Rattle.noise_events.specs.DatagramEvents.{datagram_events_of}
+use Rattle.noise_duel.specs.DatagramReports.{DuelPictures}
 use Rattle.noise_duel.specs.DatagramSides.{meeting}
 use Rattle.noise_duel.specs.OneDatagram.{DatagramsHaveComeTo}
 use Rattle.noise_duel.proofs.datagram_duel.DatagramDuel.run.Given as goal

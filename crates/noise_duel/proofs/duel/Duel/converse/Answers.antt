@@ -4,7 +4,7 @@ use Rattle.noise_names.specs.declared.token.Role.TheVariants.{Initiator, Respond
 use Rattle.noise_session.specs.Ends.{end_of}
 use Rattle.noise_duel.specs.Acts.{lines_of}
 use Rattle.noise_duel.specs.Conversation.{say_events}
-use Rattle.noise_duel.specs.Events.{Say}
+use Rattle.noise_events.specs.Events.{Say}
 use Rattle.noise_duel.specs.HeldDuel.{facing_as}
 use Rattle.noise_duel.specs.Messages.{begun_as}
 use Rattle.noise_duel.proofs.Happening.{all-come, one-more}

@@ -2,7 +2,7 @@ use Rattle.std.proofs.Common.{◌+◌, ◌≤◌, ◌∷◌, ◌∙◌, arith, l
 use Rattle.std.proofs.lemmas.List.{drop_all, drop_more}
 use Rattle.noise_session.specs.Ends.{end_of}
 use Rattle.noise_names.specs.declared.token.Role.TheVariants.{Initiator, Responder}
-use Rattle.noise_duel.specs.Acts.{event_of, events_of}
+use Rattle.noise_events.specs.Events.{event_of, events_of}
 use Rattle.noise_duel.specs.Entries.{notes_of}
 use Rattle.noise_duel.specs.HeldDuel.{facing_as}
 use Rattle.noise_duel.specs.Messages.{begun_as}

@@ -1,6 +1,6 @@
 use Rattle.std.proofs.Common.{drop}
 use Rattle.noise_session.specs.Ends.{EndView}
-use Rattle.noise_duel.specs.Acts.{events_of}
+use Rattle.noise_events.specs.Events.{events_of}
 use Rattle.noise_duel.specs.HeldDuel.{DuelStands, facing_as}
 use Rattle.noise_duel.specs.OneEvent.{HasComeTo}
 use Rattle.noise_duel.proofs.duel.Duel.run.Given as goal

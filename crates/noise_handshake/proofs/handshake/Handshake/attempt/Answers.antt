@@ -28,7 +28,6 @@ use Rattle.noise_handshake.proofs.handshake.Handshake.attempt.Goals as goal
 
 pub read_message-requires-clause-placed : goal.read_message-requires-clause-placed
 read_message-requires-clause-placed g c =
-    let P = g.K.Keys.public_of in
     let a = c.self.inside in
     let i = c.self.invariant in
     let h : Held g.row.K.Denot = record {
@@ -43,14 +42,9 @@ read_message-requires-clause-placed g c =
     } in
     let none : read_fault h ≡ None = ap (λ (z : Held g.row.K.Denot). read_fault z) c.self.view_is ∙ c.requires.due in
     let less : a.passed < length a.pattern.messages = due h i.2.within none in
-    let found : MessageLayout = c.next_layout-laid.result.now in
-    let laid : IsLaid (has_psk a.pattern) (has_key a.pattern (passed_places a.pattern a.passed)) (tokens_at a.pattern.messages a.passed) found =
-    subst (λ (z : Held g.row.K.Denot). IsLaid (has_psk z.pattern) (has_key z.pattern (passed_places z.pattern z.passed))
-    (tokens_at z.pattern.messages z.passed) found)
-    (sym c.self.view_is) c.next_layout-laid.ensures.laid in
+    let found : MessageLayout = a.next in
+    let laid : IsLaid (has_psk a.pattern) (has_key a.pattern (passed_places a.pattern a.passed)) (tokens_at a.pattern.messages a.passed) found = i.4 less in
     let placed : List PlacedToken = c.deref-2.result.now in
-    let ts : List Token = tokens_of placed in
-    let e : ts ≡ tokens_at a.pattern.messages a.passed = tokens-laid a.pattern a.passed found laid placed c.deref-2.ensures.0 in
     places-laid a.pattern a.passed found laid placed c.deref-2.ensures.0 a.psks (keyed c.for_trial-state.result) i.0
     (ap (λ (z : SymmetricState). keyed z) c.for_trial-state.ensures ∙ i.2.keyed)
 
@@ -71,11 +65,8 @@ read_message-requires-clause-secrets g c =
     } in
     let none : read_fault h ≡ None = ap (λ (z : Held g.row.K.Denot). read_fault z) c.self.view_is ∙ c.requires.due in
     let less : a.passed < length a.pattern.messages = due h i.2.within none in
-    let found : MessageLayout = c.next_layout-laid.result.now in
-    let laid : IsLaid (has_psk a.pattern) (has_key a.pattern (passed_places a.pattern a.passed)) (tokens_at a.pattern.messages a.passed) found =
-    subst (λ (z : Held g.row.K.Denot). IsLaid (has_psk z.pattern) (has_key z.pattern (passed_places z.pattern z.passed))
-    (tokens_at z.pattern.messages z.passed) found)
-    (sym c.self.view_is) c.next_layout-laid.ensures.laid in
+    let found : MessageLayout = a.next in
+    let laid : IsLaid (has_psk a.pattern) (has_key a.pattern (passed_places a.pattern a.passed)) (tokens_at a.pattern.messages a.passed) found = i.4 less in
     let placed : List PlacedToken = c.deref-2.result.now in
     let ts : List Token = tokens_of placed in
     let e : ts ≡ tokens_at a.pattern.messages a.passed = tokens-laid a.pattern a.passed found laid placed c.deref-2.ensures.0 in
@@ -84,7 +75,6 @@ read_message-requires-clause-secrets g c =
 
 pub read_message-requires-clause-nonces : goal.read_message-requires-clause-nonces
 read_message-requires-clause-nonces g c =
-    let P = g.K.Keys.public_of in
     let a = c.self.inside in
     let i = c.self.invariant in
     let h : Held g.row.K.Denot = record {
@@ -99,20 +89,13 @@ read_message-requires-clause-nonces g c =
     } in
     let none : read_fault h ≡ None = ap (λ (z : Held g.row.K.Denot). read_fault z) c.self.view_is ∙ c.requires.due in
     let less : a.passed < length a.pattern.messages = due h i.2.within none in
-    let found : MessageLayout = c.next_layout-laid.result.now in
-    let laid : IsLaid (has_psk a.pattern) (has_key a.pattern (passed_places a.pattern a.passed)) (tokens_at a.pattern.messages a.passed) found =
-    subst (λ (z : Held g.row.K.Denot). IsLaid (has_psk z.pattern) (has_key z.pattern (passed_places z.pattern z.passed))
-    (tokens_at z.pattern.messages z.passed) found)
-    (sym c.self.view_is) c.next_layout-laid.ensures.laid in
     let placed : List PlacedToken = c.deref-2.result.now in
     let ts : List Token = tokens_of placed in
-    let e : ts ≡ tokens_at a.pattern.messages a.passed = tokens-laid a.pattern a.passed found laid placed c.deref-2.ensures.0 in
     let few : length ts ≤ 10 = omega (arith, length-tokens_of placed, c.deref-2.ensures.1) in
     omega (arith, i.2.nonce, i.2.few, less, few, ap (λ (z : SymmetricState). nonce_now z) c.for_trial-state.ensures)
 
 pub read_message-requires-clause-known : goal.read_message-requires-clause-known
 read_message-requires-clause-known g c =
-    let P = g.K.Keys.public_of in
     let a = c.self.inside in
     let i = c.self.invariant in
     let h : Held g.row.K.Denot = record {
@@ -127,11 +110,8 @@ read_message-requires-clause-known g c =
     } in
     let none : read_fault h ≡ None = ap (λ (z : Held g.row.K.Denot). read_fault z) c.self.view_is ∙ c.requires.due in
     let less : a.passed < length a.pattern.messages = due h i.2.within none in
-    let found : MessageLayout = c.next_layout-laid.result.now in
-    let laid : IsLaid (has_psk a.pattern) (has_key a.pattern (passed_places a.pattern a.passed)) (tokens_at a.pattern.messages a.passed) found =
-    subst (λ (z : Held g.row.K.Denot). IsLaid (has_psk z.pattern) (has_key z.pattern (passed_places z.pattern z.passed))
-    (tokens_at z.pattern.messages z.passed) found)
-    (sym c.self.view_is) c.next_layout-laid.ensures.laid in
+    let found : MessageLayout = a.next in
+    let laid : IsLaid (has_psk a.pattern) (has_key a.pattern (passed_places a.pattern a.passed)) (tokens_at a.pattern.messages a.passed) found = i.4 less in
     let placed : List PlacedToken = c.deref-2.result.now in
     let ts : List Token = tokens_of placed in
     let e : ts ≡ tokens_at a.pattern.messages a.passed = tokens-laid a.pattern a.passed found laid placed c.deref-2.ensures.0 in
@@ -155,11 +135,8 @@ overflow_add-self g c =
     } in
     let none : read_fault h ≡ None = ap (λ (z : Held g.row.K.Denot). read_fault z) c.self.view_is ∙ c.requires.due in
     let less : a.passed < length a.pattern.messages = due h i.2.within none in
-    let found : MessageLayout = c.next_layout-laid.result.now in
-    let laid : IsLaid (has_psk a.pattern) (has_key a.pattern (passed_places a.pattern a.passed)) (tokens_at a.pattern.messages a.passed) found =
-    subst (λ (z : Held g.row.K.Denot). IsLaid (has_psk z.pattern) (has_key z.pattern (passed_places z.pattern z.passed))
-    (tokens_at z.pattern.messages z.passed) found)
-    (sym c.self.view_is) c.next_layout-laid.ensures.laid in
+    let found : MessageLayout = a.next in
+    let laid : IsLaid (has_psk a.pattern) (has_key a.pattern (passed_places a.pattern a.passed)) (tokens_at a.pattern.messages a.passed) found = i.4 less in
     let placed : List PlacedToken = c.deref-2.result.now in
     let ts : List Token = tokens_of placed in
     let e : ts ≡ tokens_at a.pattern.messages a.passed = tokens-laid a.pattern a.passed found laid placed c.deref-2.ensures.0 in
@@ -169,29 +146,8 @@ overflow_add-self g c =
 
 pub overflow_cast-result : goal.overflow_cast-result
 overflow_cast-result g c =
-    let P = g.K.Keys.public_of in
-    let a = c.self.inside in
-    let i = c.self.invariant in
-    let h : Held g.row.K.Denot = record {
-      pattern = a.pattern;
-      role = a.role;
-      keys = a.keys;
-      remote = a.remote;
-      secrets = drop a.used a.secrets.items;
-      passed = a.passed;
-      ended = a.ended;
-      state = a.state;
-    } in
-    let none : read_fault h ≡ None = ap (λ (z : Held g.row.K.Denot). read_fault z) c.self.view_is ∙ c.requires.due in
-    let less : a.passed < length a.pattern.messages = due h i.2.within none in
-    let found : MessageLayout = c.next_layout-laid.result.now in
-    let laid : IsLaid (has_psk a.pattern) (has_key a.pattern (passed_places a.pattern a.passed)) (tokens_at a.pattern.messages a.passed) found =
-    subst (λ (z : Held g.row.K.Denot). IsLaid (has_psk z.pattern) (has_key z.pattern (passed_places z.pattern z.passed))
-    (tokens_at z.pattern.messages z.passed) found)
-    (sym c.self.view_is) c.next_layout-laid.ensures.laid in
     let placed : List PlacedToken = c.deref-2.result.now in
     let ts : List Token = tokens_of placed in
-    let e : ts ≡ tokens_at a.pattern.messages a.passed = tokens-laid a.pattern a.passed found laid placed c.deref-2.ensures.0 in
     let few : length ts ≤ 10 = omega (arith, length-tokens_of placed, c.deref-2.ensures.1) in
     omega (arith, few, c.in-Err.ensures.stop)
 
@@ -212,11 +168,8 @@ lay_next-self-inside-requires-clause-key g c =
     } in
     let none : read_fault h ≡ None = ap (λ (z : Held g.row.K.Denot). read_fault z) c.self.view_is ∙ c.requires.due in
     let less : a.passed < length a.pattern.messages = due h i.2.within none in
-    let found : MessageLayout = c.next_layout-laid.result.now in
-    let laid : IsLaid (has_psk a.pattern) (has_key a.pattern (passed_places a.pattern a.passed)) (tokens_at a.pattern.messages a.passed) found =
-    subst (λ (z : Held g.row.K.Denot). IsLaid (has_psk z.pattern) (has_key z.pattern (passed_places z.pattern z.passed))
-    (tokens_at z.pattern.messages z.passed) found)
-    (sym c.self.view_is) c.next_layout-laid.ensures.laid in
+    let found : MessageLayout = a.next in
+    let laid : IsLaid (has_psk a.pattern) (has_key a.pattern (passed_places a.pattern a.passed)) (tokens_at a.pattern.messages a.passed) found = i.4 less in
     let placed : List PlacedToken = c.deref-2.result.now in
     let ts : List Token = tokens_of placed in
     let e : ts ≡ tokens_at a.pattern.messages a.passed = tokens-laid a.pattern a.passed found laid placed c.deref-2.ensures.0 in
@@ -243,11 +196,8 @@ invariant_of-self g c =
     } in
     let none : read_fault h ≡ None = ap (λ (z : Held g.row.K.Denot). read_fault z) c.self.view_is ∙ c.requires.due in
     let less : a.passed < length a.pattern.messages = due h i.2.within none in
-    let found : MessageLayout = c.next_layout-laid.result.now in
-    let laid : IsLaid (has_psk a.pattern) (has_key a.pattern (passed_places a.pattern a.passed)) (tokens_at a.pattern.messages a.passed) found =
-    subst (λ (z : Held g.row.K.Denot). IsLaid (has_psk z.pattern) (has_key z.pattern (passed_places z.pattern z.passed))
-    (tokens_at z.pattern.messages z.passed) found)
-    (sym c.self.view_is) c.next_layout-laid.ensures.laid in
+    let found : MessageLayout = a.next in
+    let laid : IsLaid (has_psk a.pattern) (has_key a.pattern (passed_places a.pattern a.passed)) (tokens_at a.pattern.messages a.passed) found = i.4 less in
     let placed : List PlacedToken = c.deref-2.result.now in
     let ts : List Token = tokens_of placed in
     let e : ts ≡ tokens_at a.pattern.messages a.passed = tokens-laid a.pattern a.passed found laid placed c.deref-2.ensures.0 in
@@ -285,11 +235,8 @@ returns-in-Ok-clause-reads g c v s =
     } in
     let none : read_fault h ≡ None = ap (λ (z : Held g.row.K.Denot). read_fault z) c.self.view_is ∙ c.requires.due in
     let less : a.passed < length a.pattern.messages = due h i.2.within none in
-    let found : MessageLayout = c.next_layout-laid.result.now in
-    let laid : IsLaid (has_psk a.pattern) (has_key a.pattern (passed_places a.pattern a.passed)) (tokens_at a.pattern.messages a.passed) found =
-    subst (λ (z : Held g.row.K.Denot). IsLaid (has_psk z.pattern) (has_key z.pattern (passed_places z.pattern z.passed))
-    (tokens_at z.pattern.messages z.passed) found)
-    (sym c.self.view_is) c.next_layout-laid.ensures.laid in
+    let found : MessageLayout = a.next in
+    let laid : IsLaid (has_psk a.pattern) (has_key a.pattern (passed_places a.pattern a.passed)) (tokens_at a.pattern.messages a.passed) found = i.4 less in
     let placed : List PlacedToken = c.deref-2.result.now in
     let ts : List Token = tokens_of placed in
     let e : ts ≡ tokens_at a.pattern.messages a.passed = tokens-laid a.pattern a.passed found laid placed c.deref-2.ensures.0 in
@@ -327,11 +274,8 @@ returns-in-Err-clause-reads g c v s =
     } in
     let none : read_fault h ≡ None = ap (λ (z : Held g.row.K.Denot). read_fault z) c.self.view_is ∙ c.requires.due in
     let less : a.passed < length a.pattern.messages = due h i.2.within none in
-    let found : MessageLayout = c.next_layout-laid.result.now in
-    let laid : IsLaid (has_psk a.pattern) (has_key a.pattern (passed_places a.pattern a.passed)) (tokens_at a.pattern.messages a.passed) found =
-    subst (λ (z : Held g.row.K.Denot). IsLaid (has_psk z.pattern) (has_key z.pattern (passed_places z.pattern z.passed))
-    (tokens_at z.pattern.messages z.passed) found)
-    (sym c.self.view_is) c.next_layout-laid.ensures.laid in
+    let found : MessageLayout = a.next in
+    let laid : IsLaid (has_psk a.pattern) (has_key a.pattern (passed_places a.pattern a.passed)) (tokens_at a.pattern.messages a.passed) found = i.4 less in
     let placed : List PlacedToken = c.deref-2.result.now in
     let ts : List Token = tokens_of placed in
     let e : ts ≡ tokens_at a.pattern.messages a.passed = tokens-laid a.pattern a.passed found laid placed c.deref-2.ensures.0 in
@@ -369,10 +313,10 @@ returns-in-Ok-clause-state g c =
       role = a.role;
       keys = a.keys;
       remote = c.read_message.new.known;
-      secrets = drop (a.used + c.next_layout-laid.result.now.secrets) a.secrets.items;
+      secrets = drop (a.used + a.next.secrets) a.secrets.items;
       passed = a.passed + 1;
       ended = a.ended;
       state = c.read_message.new.state;
     } in
     subst (λ (z : Held g.row.K.Denot). Advances z after) c.self.view_is
-    (advanced h after a.secrets.items a.used c.next_layout-laid.result.now.secrets refl refl refl refl (unended-read h none) refl refl)
+    (advanced h after a.secrets.items a.used a.next.secrets refl refl refl refl (unended-read h none) refl refl)

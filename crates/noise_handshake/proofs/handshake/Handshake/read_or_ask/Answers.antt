@@ -2,7 +2,7 @@ use Rattle.std.proofs.Common.{ℕ, List, drop, refl, sym, subst, ◌∙◌}
 use Rattle.std.specs.Prelude.{Option, MatchOption, true}
 use Rattle.noise_handshake.specs.declared.faults.Cause.TheVariants.{Agreement}
 use Rattle.noise_handshake.specs.declared.faults.ReadFault.{ReadFault}
-use Rattle.noise_handshake.specs.declared.keys.Own.{Own}
+use Rattle.noise_keys.specs.declared.keys.Own.{Own}
 use Rattle.noise_handshake.specs.Held.{Held, ended_as}
 use Rattle.noise_handshake.specs.Party.{Stands, Declines, behind_declined}
 use Rattle.noise_handshake.specs.View.{Refuses}

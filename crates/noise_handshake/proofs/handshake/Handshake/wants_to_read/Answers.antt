@@ -23,7 +23,6 @@ use Rattle.noise_handshake.proofs.handshake.Handshake.wants_to_read.Goals as goa
 
 pub read_lacking-requires-clause-placed : goal.read_lacking-requires-clause-placed
 read_lacking-requires-clause-placed g c =
-    let P = g.K.Keys.public_of in
     let a = c.self.inside in
     let i = c.self.invariant in
     let h : Held g.row.K.Denot = record {
@@ -38,14 +37,9 @@ read_lacking-requires-clause-placed g c =
     } in
     let none : read_fault h ≡ None = ap (λ (z : Held g.row.K.Denot). read_fault z) c.self.view_is ∙ sym c.read_fault.ensures.value ∙ c.in_default.is in
     let less : a.passed < length a.pattern.messages = due h i.2.within none in
-    let found : MessageLayout = c.next_layout-laid.result.now in
-    let laid : IsLaid (has_psk a.pattern) (has_key a.pattern (passed_places a.pattern a.passed)) (tokens_at a.pattern.messages a.passed) found =
-    subst (λ (z : Held g.row.K.Denot). IsLaid (has_psk z.pattern) (has_key z.pattern (passed_places z.pattern z.passed))
-    (tokens_at z.pattern.messages z.passed) found)
-    (sym c.self.view_is) c.next_layout-laid.ensures.laid in
+    let found : MessageLayout = a.next in
+    let laid : IsLaid (has_psk a.pattern) (has_key a.pattern (passed_places a.pattern a.passed)) (tokens_at a.pattern.messages a.passed) found = i.4 less in
     let placed : List PlacedToken = c.deref-2.result.now in
-    let ts : List Token = tokens_of placed in
-    let e : ts ≡ tokens_at a.pattern.messages a.passed = tokens-laid a.pattern a.passed found laid placed c.deref-2.ensures.0 in
     places-laid a.pattern a.passed found laid placed c.deref-2.ensures.0 a.psks (keyed a.state) i.0 i.2.keyed
 
 pub read_lacking-requires-clause-secrets : goal.read_lacking-requires-clause-secrets
@@ -65,11 +59,8 @@ read_lacking-requires-clause-secrets g c =
     } in
     let none : read_fault h ≡ None = ap (λ (z : Held g.row.K.Denot). read_fault z) c.self.view_is ∙ sym c.read_fault.ensures.value ∙ c.in_default.is in
     let less : a.passed < length a.pattern.messages = due h i.2.within none in
-    let found : MessageLayout = c.next_layout-laid.result.now in
-    let laid : IsLaid (has_psk a.pattern) (has_key a.pattern (passed_places a.pattern a.passed)) (tokens_at a.pattern.messages a.passed) found =
-    subst (λ (z : Held g.row.K.Denot). IsLaid (has_psk z.pattern) (has_key z.pattern (passed_places z.pattern z.passed))
-    (tokens_at z.pattern.messages z.passed) found)
-    (sym c.self.view_is) c.next_layout-laid.ensures.laid in
+    let found : MessageLayout = a.next in
+    let laid : IsLaid (has_psk a.pattern) (has_key a.pattern (passed_places a.pattern a.passed)) (tokens_at a.pattern.messages a.passed) found = i.4 less in
     let placed : List PlacedToken = c.deref-2.result.now in
     let ts : List Token = tokens_of placed in
     let e : ts ≡ tokens_at a.pattern.messages a.passed = tokens-laid a.pattern a.passed found laid placed c.deref-2.ensures.0 in
@@ -78,7 +69,6 @@ read_lacking-requires-clause-secrets g c =
 
 pub read_lacking-requires-clause-nonces : goal.read_lacking-requires-clause-nonces
 read_lacking-requires-clause-nonces g c =
-    let P = g.K.Keys.public_of in
     let a = c.self.inside in
     let i = c.self.invariant in
     let h : Held g.row.K.Denot = record {
@@ -93,20 +83,13 @@ read_lacking-requires-clause-nonces g c =
     } in
     let none : read_fault h ≡ None = ap (λ (z : Held g.row.K.Denot). read_fault z) c.self.view_is ∙ sym c.read_fault.ensures.value ∙ c.in_default.is in
     let less : a.passed < length a.pattern.messages = due h i.2.within none in
-    let found : MessageLayout = c.next_layout-laid.result.now in
-    let laid : IsLaid (has_psk a.pattern) (has_key a.pattern (passed_places a.pattern a.passed)) (tokens_at a.pattern.messages a.passed) found =
-    subst (λ (z : Held g.row.K.Denot). IsLaid (has_psk z.pattern) (has_key z.pattern (passed_places z.pattern z.passed))
-    (tokens_at z.pattern.messages z.passed) found)
-    (sym c.self.view_is) c.next_layout-laid.ensures.laid in
     let placed : List PlacedToken = c.deref-2.result.now in
     let ts : List Token = tokens_of placed in
-    let e : ts ≡ tokens_at a.pattern.messages a.passed = tokens-laid a.pattern a.passed found laid placed c.deref-2.ensures.0 in
     let few : length ts ≤ 10 = omega (arith, length-tokens_of placed, c.deref-2.ensures.1) in
     omega (arith, i.2.nonce, i.2.few, less, few)
 
 pub read_lacking-requires-clause-known : goal.read_lacking-requires-clause-known
 read_lacking-requires-clause-known g c =
-    let P = g.K.Keys.public_of in
     let a = c.self.inside in
     let i = c.self.invariant in
     let h : Held g.row.K.Denot = record {
@@ -121,11 +104,8 @@ read_lacking-requires-clause-known g c =
     } in
     let none : read_fault h ≡ None = ap (λ (z : Held g.row.K.Denot). read_fault z) c.self.view_is ∙ sym c.read_fault.ensures.value ∙ c.in_default.is in
     let less : a.passed < length a.pattern.messages = due h i.2.within none in
-    let found : MessageLayout = c.next_layout-laid.result.now in
-    let laid : IsLaid (has_psk a.pattern) (has_key a.pattern (passed_places a.pattern a.passed)) (tokens_at a.pattern.messages a.passed) found =
-    subst (λ (z : Held g.row.K.Denot). IsLaid (has_psk z.pattern) (has_key z.pattern (passed_places z.pattern z.passed))
-    (tokens_at z.pattern.messages z.passed) found)
-    (sym c.self.view_is) c.next_layout-laid.ensures.laid in
+    let found : MessageLayout = a.next in
+    let laid : IsLaid (has_psk a.pattern) (has_key a.pattern (passed_places a.pattern a.passed)) (tokens_at a.pattern.messages a.passed) found = i.4 less in
     let placed : List PlacedToken = c.deref-2.result.now in
     let ts : List Token = tokens_of placed in
     let e : ts ≡ tokens_at a.pattern.messages a.passed = tokens-laid a.pattern a.passed found laid placed c.deref-2.ensures.0 in
@@ -149,11 +129,8 @@ returns g c v s =
     } in
     let none : read_fault h ≡ None = ap (λ (z : Held g.row.K.Denot). read_fault z) c.self.view_is ∙ sym c.read_fault.ensures.value ∙ c.in_default.is in
     let less : a.passed < length a.pattern.messages = due h i.2.within none in
-    let found : MessageLayout = c.next_layout-laid.result.now in
-    let laid : IsLaid (has_psk a.pattern) (has_key a.pattern (passed_places a.pattern a.passed)) (tokens_at a.pattern.messages a.passed) found =
-    subst (λ (z : Held g.row.K.Denot). IsLaid (has_psk z.pattern) (has_key z.pattern (passed_places z.pattern z.passed))
-    (tokens_at z.pattern.messages z.passed) found)
-    (sym c.self.view_is) c.next_layout-laid.ensures.laid in
+    let found : MessageLayout = a.next in
+    let laid : IsLaid (has_psk a.pattern) (has_key a.pattern (passed_places a.pattern a.passed)) (tokens_at a.pattern.messages a.passed) found = i.4 less in
     let placed : List PlacedToken = c.deref-2.result.now in
     let ts : List Token = tokens_of placed in
     let e : ts ≡ tokens_at a.pattern.messages a.passed = tokens-laid a.pattern a.passed found laid placed c.deref-2.ensures.0 in

@@ -43,11 +43,8 @@ write_lacking-requires-clause-secrets g c =
     ap (λ (z : Held g.row.K.Denot). not z.ended && not (z.passed == length z.pattern.messages) && is_turn z.role z.passed) c.self.view_is
     ∙ sym c.speaks.ensures ∙ c.if-not-speaks.false in
     let less : a.passed < length a.pattern.messages = due-within h i.2.within due in
-    let found : MessageLayout = c.next_layout-laid.result.now in
-    let laid : IsLaid (has_psk a.pattern) (has_key a.pattern (passed_places a.pattern a.passed)) (tokens_at a.pattern.messages a.passed) found =
-    subst (λ (z : Held g.row.K.Denot). IsLaid (has_psk z.pattern) (has_key z.pattern (passed_places z.pattern z.passed))
-    (tokens_at z.pattern.messages z.passed) found)
-    (sym c.self.view_is) c.next_layout-laid.ensures.laid in
+    let found : MessageLayout = a.next in
+    let laid : IsLaid (has_psk a.pattern) (has_key a.pattern (passed_places a.pattern a.passed)) (tokens_at a.pattern.messages a.passed) found = i.4 less in
     let placed : List PlacedToken = c.deref-2.result.now in
     let ts : List Token = tokens_of placed in
     let e : ts ≡ tokens_at a.pattern.messages a.passed = tokens-laid a.pattern a.passed found laid placed c.deref-2.ensures.0 in
@@ -73,11 +70,8 @@ write_lacking-requires-clause-own g c =
     ap (λ (z : Held g.row.K.Denot). not z.ended && not (z.passed == length z.pattern.messages) && is_turn z.role z.passed) c.self.view_is
     ∙ sym c.speaks.ensures ∙ c.if-not-speaks.false in
     let less : a.passed < length a.pattern.messages = due-within h i.2.within due in
-    let found : MessageLayout = c.next_layout-laid.result.now in
-    let laid : IsLaid (has_psk a.pattern) (has_key a.pattern (passed_places a.pattern a.passed)) (tokens_at a.pattern.messages a.passed) found =
-    subst (λ (z : Held g.row.K.Denot). IsLaid (has_psk z.pattern) (has_key z.pattern (passed_places z.pattern z.passed))
-    (tokens_at z.pattern.messages z.passed) found)
-    (sym c.self.view_is) c.next_layout-laid.ensures.laid in
+    let found : MessageLayout = a.next in
+    let laid : IsLaid (has_psk a.pattern) (has_key a.pattern (passed_places a.pattern a.passed)) (tokens_at a.pattern.messages a.passed) found = i.4 less in
     let placed : List PlacedToken = c.deref-2.result.now in
     let ts : List Token = tokens_of placed in
     let e : ts ≡ tokens_at a.pattern.messages a.passed = tokens-laid a.pattern a.passed found laid placed c.deref-2.ensures.0 in
@@ -86,7 +80,6 @@ write_lacking-requires-clause-own g c =
 
 pub write_lacking-requires-clause-known : goal.write_lacking-requires-clause-known
 write_lacking-requires-clause-known g c =
-    let P = g.K.Keys.public_of in
     let a = c.self.inside in
     let i = c.self.invariant in
     let h : Held g.row.K.Denot = record {
@@ -103,11 +96,8 @@ write_lacking-requires-clause-known g c =
     ap (λ (z : Held g.row.K.Denot). not z.ended && not (z.passed == length z.pattern.messages) && is_turn z.role z.passed) c.self.view_is
     ∙ sym c.speaks.ensures ∙ c.if-not-speaks.false in
     let less : a.passed < length a.pattern.messages = due-within h i.2.within due in
-    let found : MessageLayout = c.next_layout-laid.result.now in
-    let laid : IsLaid (has_psk a.pattern) (has_key a.pattern (passed_places a.pattern a.passed)) (tokens_at a.pattern.messages a.passed) found =
-    subst (λ (z : Held g.row.K.Denot). IsLaid (has_psk z.pattern) (has_key z.pattern (passed_places z.pattern z.passed))
-    (tokens_at z.pattern.messages z.passed) found)
-    (sym c.self.view_is) c.next_layout-laid.ensures.laid in
+    let found : MessageLayout = a.next in
+    let laid : IsLaid (has_psk a.pattern) (has_key a.pattern (passed_places a.pattern a.passed)) (tokens_at a.pattern.messages a.passed) found = i.4 less in
     let placed : List PlacedToken = c.deref-2.result.now in
     let ts : List Token = tokens_of placed in
     let e : ts ≡ tokens_at a.pattern.messages a.passed = tokens-laid a.pattern a.passed found laid placed c.deref-2.ensures.0 in
@@ -133,11 +123,8 @@ returns g c v s =
     ap (λ (z : Held g.row.K.Denot). not z.ended && not (z.passed == length z.pattern.messages) && is_turn z.role z.passed) c.self.view_is
     ∙ sym c.speaks.ensures ∙ c.if-not-speaks.false in
     let less : a.passed < length a.pattern.messages = due-within h i.2.within due in
-    let found : MessageLayout = c.next_layout-laid.result.now in
-    let laid : IsLaid (has_psk a.pattern) (has_key a.pattern (passed_places a.pattern a.passed)) (tokens_at a.pattern.messages a.passed) found =
-    subst (λ (z : Held g.row.K.Denot). IsLaid (has_psk z.pattern) (has_key z.pattern (passed_places z.pattern z.passed))
-    (tokens_at z.pattern.messages z.passed) found)
-    (sym c.self.view_is) c.next_layout-laid.ensures.laid in
+    let found : MessageLayout = a.next in
+    let laid : IsLaid (has_psk a.pattern) (has_key a.pattern (passed_places a.pattern a.passed)) (tokens_at a.pattern.messages a.passed) found = i.4 less in
     let placed : List PlacedToken = c.deref-2.result.now in
     let ts : List Token = tokens_of placed in
     let e : ts ≡ tokens_at a.pattern.messages a.passed = tokens-laid a.pattern a.passed found laid placed c.deref-2.ensures.0 in

@@ -46,11 +46,8 @@ write_message-requires-clause-secrets g c =
     let none : write_fault h len ≡ None = ap (λ (z : Held g.row.K.Denot). write_fault z len) c.self.view_is ∙ sym c.write_fault.ensures.value
     ∙ c.in_default.is in
     let less : a.passed < length a.pattern.messages = writes-due P h i.2 len none in
-    let found : MessageLayout = c.next_layout-laid.result.now in
-    let laid : IsLaid (has_psk a.pattern) (has_key a.pattern (passed_places a.pattern a.passed)) (tokens_at a.pattern.messages a.passed) found =
-    subst (λ (z : Held g.row.K.Denot). IsLaid (has_psk z.pattern) (has_key z.pattern (passed_places z.pattern z.passed))
-    (tokens_at z.pattern.messages z.passed) found)
-    (sym c.self.view_is) c.next_layout-laid.ensures.laid in
+    let found : MessageLayout = a.next in
+    let laid : IsLaid (has_psk a.pattern) (has_key a.pattern (passed_places a.pattern a.passed)) (tokens_at a.pattern.messages a.passed) found = i.4 less in
     let placed : List PlacedToken = c.deref-2.result.now in
     let ts : List Token = tokens_of placed in
     let e : ts ≡ tokens_at a.pattern.messages a.passed = tokens-laid a.pattern a.passed found laid placed c.deref-2.ensures.0 in
@@ -76,14 +73,8 @@ write_message-requires-clause-nonces g c =
     let none : write_fault h len ≡ None = ap (λ (z : Held g.row.K.Denot). write_fault z len) c.self.view_is ∙ sym c.write_fault.ensures.value
     ∙ c.in_default.is in
     let less : a.passed < length a.pattern.messages = writes-due P h i.2 len none in
-    let found : MessageLayout = c.next_layout-laid.result.now in
-    let laid : IsLaid (has_psk a.pattern) (has_key a.pattern (passed_places a.pattern a.passed)) (tokens_at a.pattern.messages a.passed) found =
-    subst (λ (z : Held g.row.K.Denot). IsLaid (has_psk z.pattern) (has_key z.pattern (passed_places z.pattern z.passed))
-    (tokens_at z.pattern.messages z.passed) found)
-    (sym c.self.view_is) c.next_layout-laid.ensures.laid in
     let placed : List PlacedToken = c.deref-2.result.now in
     let ts : List Token = tokens_of placed in
-    let e : ts ≡ tokens_at a.pattern.messages a.passed = tokens-laid a.pattern a.passed found laid placed c.deref-2.ensures.0 in
     let few : length ts ≤ 10 = omega (arith, length-tokens_of placed, c.deref-2.ensures.1) in
     omega (arith, i.2.nonce, i.2.few, less, few, ap (λ (z : SymmetricState). nonce_now z) c.for_trial-state.ensures)
 
@@ -106,11 +97,8 @@ write_message-requires-clause-own g c =
     let none : write_fault h len ≡ None = ap (λ (z : Held g.row.K.Denot). write_fault z len) c.self.view_is ∙ sym c.write_fault.ensures.value
     ∙ c.in_default.is in
     let less : a.passed < length a.pattern.messages = writes-due P h i.2 len none in
-    let found : MessageLayout = c.next_layout-laid.result.now in
-    let laid : IsLaid (has_psk a.pattern) (has_key a.pattern (passed_places a.pattern a.passed)) (tokens_at a.pattern.messages a.passed) found =
-    subst (λ (z : Held g.row.K.Denot). IsLaid (has_psk z.pattern) (has_key z.pattern (passed_places z.pattern z.passed))
-    (tokens_at z.pattern.messages z.passed) found)
-    (sym c.self.view_is) c.next_layout-laid.ensures.laid in
+    let found : MessageLayout = a.next in
+    let laid : IsLaid (has_psk a.pattern) (has_key a.pattern (passed_places a.pattern a.passed)) (tokens_at a.pattern.messages a.passed) found = i.4 less in
     let placed : List PlacedToken = c.deref-2.result.now in
     let ts : List Token = tokens_of placed in
     let e : ts ≡ tokens_at a.pattern.messages a.passed = tokens-laid a.pattern a.passed found laid placed c.deref-2.ensures.0 in
@@ -135,11 +123,8 @@ write_message-requires-clause-known g c =
     let none : write_fault h len ≡ None = ap (λ (z : Held g.row.K.Denot). write_fault z len) c.self.view_is ∙ sym c.write_fault.ensures.value
     ∙ c.in_default.is in
     let less : a.passed < length a.pattern.messages = writes-due P h i.2 len none in
-    let found : MessageLayout = c.next_layout-laid.result.now in
-    let laid : IsLaid (has_psk a.pattern) (has_key a.pattern (passed_places a.pattern a.passed)) (tokens_at a.pattern.messages a.passed) found =
-    subst (λ (z : Held g.row.K.Denot). IsLaid (has_psk z.pattern) (has_key z.pattern (passed_places z.pattern z.passed))
-    (tokens_at z.pattern.messages z.passed) found)
-    (sym c.self.view_is) c.next_layout-laid.ensures.laid in
+    let found : MessageLayout = a.next in
+    let laid : IsLaid (has_psk a.pattern) (has_key a.pattern (passed_places a.pattern a.passed)) (tokens_at a.pattern.messages a.passed) found = i.4 less in
     let placed : List PlacedToken = c.deref-2.result.now in
     let ts : List Token = tokens_of placed in
     let e : ts ≡ tokens_at a.pattern.messages a.passed = tokens-laid a.pattern a.passed found laid placed c.deref-2.ensures.0 in
@@ -165,11 +150,8 @@ write_message-requires-clause-room g c =
     let none : write_fault h len ≡ None = ap (λ (z : Held g.row.K.Denot). write_fault z len) c.self.view_is ∙ sym c.write_fault.ensures.value
     ∙ c.in_default.is in
     let less : a.passed < length a.pattern.messages = writes-due P h i.2 len none in
-    let found : MessageLayout = c.next_layout-laid.result.now in
-    let laid : IsLaid (has_psk a.pattern) (has_key a.pattern (passed_places a.pattern a.passed)) (tokens_at a.pattern.messages a.passed) found =
-    subst (λ (z : Held g.row.K.Denot). IsLaid (has_psk z.pattern) (has_key z.pattern (passed_places z.pattern z.passed))
-    (tokens_at z.pattern.messages z.passed) found)
-    (sym c.self.view_is) c.next_layout-laid.ensures.laid in
+    let found : MessageLayout = a.next in
+    let laid : IsLaid (has_psk a.pattern) (has_key a.pattern (passed_places a.pattern a.passed)) (tokens_at a.pattern.messages a.passed) found = i.4 less in
     let placed : List PlacedToken = c.deref-2.result.now in
     let ts : List Token = tokens_of placed in
     let e : ts ≡ tokens_at a.pattern.messages a.passed = tokens-laid a.pattern a.passed found laid placed c.deref-2.ensures.0 in
@@ -201,11 +183,8 @@ write_message-requires-clause-most g c =
     let none : write_fault h len ≡ None = ap (λ (z : Held g.row.K.Denot). write_fault z len) c.self.view_is ∙ sym c.write_fault.ensures.value
     ∙ c.in_default.is in
     let less : a.passed < length a.pattern.messages = writes-due P h i.2 len none in
-    let found : MessageLayout = c.next_layout-laid.result.now in
-    let laid : IsLaid (has_psk a.pattern) (has_key a.pattern (passed_places a.pattern a.passed)) (tokens_at a.pattern.messages a.passed) found =
-    subst (λ (z : Held g.row.K.Denot). IsLaid (has_psk z.pattern) (has_key z.pattern (passed_places z.pattern z.passed))
-    (tokens_at z.pattern.messages z.passed) found)
-    (sym c.self.view_is) c.next_layout-laid.ensures.laid in
+    let found : MessageLayout = a.next in
+    let laid : IsLaid (has_psk a.pattern) (has_key a.pattern (passed_places a.pattern a.passed)) (tokens_at a.pattern.messages a.passed) found = i.4 less in
     let placed : List PlacedToken = c.deref-2.result.now in
     let ts : List Token = tokens_of placed in
     let e : ts ≡ tokens_at a.pattern.messages a.passed = tokens-laid a.pattern a.passed found laid placed c.deref-2.ensures.0 in
@@ -234,11 +213,8 @@ overflow_add-self g c =
     let none : write_fault h len ≡ None = ap (λ (z : Held g.row.K.Denot). write_fault z len) c.self.view_is ∙ sym c.write_fault.ensures.value
     ∙ c.in_default.is in
     let less : a.passed < length a.pattern.messages = writes-due P h i.2 len none in
-    let found : MessageLayout = c.next_layout-laid.result.now in
-    let laid : IsLaid (has_psk a.pattern) (has_key a.pattern (passed_places a.pattern a.passed)) (tokens_at a.pattern.messages a.passed) found =
-    subst (λ (z : Held g.row.K.Denot). IsLaid (has_psk z.pattern) (has_key z.pattern (passed_places z.pattern z.passed))
-    (tokens_at z.pattern.messages z.passed) found)
-    (sym c.self.view_is) c.next_layout-laid.ensures.laid in
+    let found : MessageLayout = a.next in
+    let laid : IsLaid (has_psk a.pattern) (has_key a.pattern (passed_places a.pattern a.passed)) (tokens_at a.pattern.messages a.passed) found = i.4 less in
     let placed : List PlacedToken = c.deref-2.result.now in
     let ts : List Token = tokens_of placed in
     let e : ts ≡ tokens_at a.pattern.messages a.passed = tokens-laid a.pattern a.passed found laid placed c.deref-2.ensures.0 in
@@ -248,31 +224,8 @@ overflow_add-self g c =
 
 pub overflow_cast-result : goal.overflow_cast-result
 overflow_cast-result g c =
-    let P = g.K.Keys.public_of in
-    let a = c.self.inside in
-    let i = c.self.invariant in
-    let len : ℕ = length c.args.payload.now in
-    let h : Held g.row.K.Denot = record {
-      pattern = a.pattern;
-      role = a.role;
-      keys = a.keys;
-      remote = a.remote;
-      secrets = drop a.used a.secrets.items;
-      passed = a.passed;
-      ended = a.ended;
-      state = a.state;
-    } in
-    let none : write_fault h len ≡ None = ap (λ (z : Held g.row.K.Denot). write_fault z len) c.self.view_is ∙ sym c.write_fault.ensures.value
-    ∙ c.in_default.is in
-    let less : a.passed < length a.pattern.messages = writes-due P h i.2 len none in
-    let found : MessageLayout = c.next_layout-laid.result.now in
-    let laid : IsLaid (has_psk a.pattern) (has_key a.pattern (passed_places a.pattern a.passed)) (tokens_at a.pattern.messages a.passed) found =
-    subst (λ (z : Held g.row.K.Denot). IsLaid (has_psk z.pattern) (has_key z.pattern (passed_places z.pattern z.passed))
-    (tokens_at z.pattern.messages z.passed) found)
-    (sym c.self.view_is) c.next_layout-laid.ensures.laid in
     let placed : List PlacedToken = c.deref-2.result.now in
     let ts : List Token = tokens_of placed in
-    let e : ts ≡ tokens_at a.pattern.messages a.passed = tokens-laid a.pattern a.passed found laid placed c.deref-2.ensures.0 in
     let few : length ts ≤ 10 = omega (arith, length-tokens_of placed, c.deref-2.ensures.1) in
     omega (arith, few, c.in-Err.ensures.width)
 
@@ -295,11 +248,8 @@ lay_next-self-inside-requires-clause-key g c =
     let none : write_fault h len ≡ None = ap (λ (z : Held g.row.K.Denot). write_fault z len) c.self.view_is ∙ sym c.write_fault.ensures.value
     ∙ c.in_default.is in
     let less : a.passed < length a.pattern.messages = writes-due P h i.2 len none in
-    let found : MessageLayout = c.next_layout-laid.result.now in
-    let laid : IsLaid (has_psk a.pattern) (has_key a.pattern (passed_places a.pattern a.passed)) (tokens_at a.pattern.messages a.passed) found =
-    subst (λ (z : Held g.row.K.Denot). IsLaid (has_psk z.pattern) (has_key z.pattern (passed_places z.pattern z.passed))
-    (tokens_at z.pattern.messages z.passed) found)
-    (sym c.self.view_is) c.next_layout-laid.ensures.laid in
+    let found : MessageLayout = a.next in
+    let laid : IsLaid (has_psk a.pattern) (has_key a.pattern (passed_places a.pattern a.passed)) (tokens_at a.pattern.messages a.passed) found = i.4 less in
     let placed : List PlacedToken = c.deref-2.result.now in
     let ts : List Token = tokens_of placed in
     let e : ts ≡ tokens_at a.pattern.messages a.passed = tokens-laid a.pattern a.passed found laid placed c.deref-2.ensures.0 in
@@ -328,11 +278,8 @@ invariant_of-self g c =
     let none : write_fault h len ≡ None = ap (λ (z : Held g.row.K.Denot). write_fault z len) c.self.view_is ∙ sym c.write_fault.ensures.value
     ∙ c.in_default.is in
     let less : a.passed < length a.pattern.messages = writes-due P h i.2 len none in
-    let found : MessageLayout = c.next_layout-laid.result.now in
-    let laid : IsLaid (has_psk a.pattern) (has_key a.pattern (passed_places a.pattern a.passed)) (tokens_at a.pattern.messages a.passed) found =
-    subst (λ (z : Held g.row.K.Denot). IsLaid (has_psk z.pattern) (has_key z.pattern (passed_places z.pattern z.passed))
-    (tokens_at z.pattern.messages z.passed) found)
-    (sym c.self.view_is) c.next_layout-laid.ensures.laid in
+    let found : MessageLayout = a.next in
+    let laid : IsLaid (has_psk a.pattern) (has_key a.pattern (passed_places a.pattern a.passed)) (tokens_at a.pattern.messages a.passed) found = i.4 less in
     let placed : List PlacedToken = c.deref-2.result.now in
     let ts : List Token = tokens_of placed in
     let e : ts ≡ tokens_at a.pattern.messages a.passed = tokens-laid a.pattern a.passed found laid placed c.deref-2.ensures.0 in
@@ -372,11 +319,8 @@ returns-in-Ok-clause-len g c =
     let none : write_fault h len ≡ None = ap (λ (z : Held g.row.K.Denot). write_fault z len) c.self.view_is ∙ sym c.write_fault.ensures.value
     ∙ c.in_default.is in
     let less : a.passed < length a.pattern.messages = writes-due P h i.2 len none in
-    let found : MessageLayout = c.next_layout-laid.result.now in
-    let laid : IsLaid (has_psk a.pattern) (has_key a.pattern (passed_places a.pattern a.passed)) (tokens_at a.pattern.messages a.passed) found =
-    subst (λ (z : Held g.row.K.Denot). IsLaid (has_psk z.pattern) (has_key z.pattern (passed_places z.pattern z.passed))
-    (tokens_at z.pattern.messages z.passed) found)
-    (sym c.self.view_is) c.next_layout-laid.ensures.laid in
+    let found : MessageLayout = a.next in
+    let laid : IsLaid (has_psk a.pattern) (has_key a.pattern (passed_places a.pattern a.passed)) (tokens_at a.pattern.messages a.passed) found = i.4 less in
     let placed : List PlacedToken = c.deref-2.result.now in
     let ts : List Token = tokens_of placed in
     let e : ts ≡ tokens_at a.pattern.messages a.passed = tokens-laid a.pattern a.passed found laid placed c.deref-2.ensures.0 in
@@ -409,11 +353,8 @@ returns-in-Ok-clause-writes g c v s =
     let none : write_fault h len ≡ None = ap (λ (z : Held g.row.K.Denot). write_fault z len) c.self.view_is ∙ sym c.write_fault.ensures.value
     ∙ c.in_default.is in
     let less : a.passed < length a.pattern.messages = writes-due P h i.2 len none in
-    let found : MessageLayout = c.next_layout-laid.result.now in
-    let laid : IsLaid (has_psk a.pattern) (has_key a.pattern (passed_places a.pattern a.passed)) (tokens_at a.pattern.messages a.passed) found =
-    subst (λ (z : Held g.row.K.Denot). IsLaid (has_psk z.pattern) (has_key z.pattern (passed_places z.pattern z.passed))
-    (tokens_at z.pattern.messages z.passed) found)
-    (sym c.self.view_is) c.next_layout-laid.ensures.laid in
+    let found : MessageLayout = a.next in
+    let laid : IsLaid (has_psk a.pattern) (has_key a.pattern (passed_places a.pattern a.passed)) (tokens_at a.pattern.messages a.passed) found = i.4 less in
     let placed : List PlacedToken = c.deref-2.result.now in
     let ts : List Token = tokens_of placed in
     let e : ts ≡ tokens_at a.pattern.messages a.passed = tokens-laid a.pattern a.passed found laid placed c.deref-2.ensures.0 in
@@ -459,11 +400,8 @@ returns-in-Err-clause-writes g c v s =
     let none : write_fault h len ≡ None = ap (λ (z : Held g.row.K.Denot). write_fault z len) c.self.view_is ∙ sym c.write_fault.ensures.value
     ∙ c.in_default.is in
     let less : a.passed < length a.pattern.messages = writes-due P h i.2 len none in
-    let found : MessageLayout = c.next_layout-laid.result.now in
-    let laid : IsLaid (has_psk a.pattern) (has_key a.pattern (passed_places a.pattern a.passed)) (tokens_at a.pattern.messages a.passed) found =
-    subst (λ (z : Held g.row.K.Denot). IsLaid (has_psk z.pattern) (has_key z.pattern (passed_places z.pattern z.passed))
-    (tokens_at z.pattern.messages z.passed) found)
-    (sym c.self.view_is) c.next_layout-laid.ensures.laid in
+    let found : MessageLayout = a.next in
+    let laid : IsLaid (has_psk a.pattern) (has_key a.pattern (passed_places a.pattern a.passed)) (tokens_at a.pattern.messages a.passed) found = i.4 less in
     let placed : List PlacedToken = c.deref-2.result.now in
     let ts : List Token = tokens_of placed in
     let e : ts ≡ tokens_at a.pattern.messages a.passed = tokens-laid a.pattern a.passed found laid placed c.deref-2.ensures.0 in
@@ -498,10 +436,10 @@ returns-in-Ok-clause-state g c =
       role = a.role;
       keys = a.keys;
       remote = a.remote;
-      secrets = drop (a.used + c.next_layout-laid.result.now.secrets) a.secrets.items;
+      secrets = drop (a.used + a.next.secrets) a.secrets.items;
       passed = a.passed + 1;
       ended = a.ended;
       state = c.write_message.new.state;
     } in
     subst (λ (z : Held g.row.K.Denot). Advances z after) c.self.view_is
-    (advanced h after a.secrets.items a.used c.next_layout-laid.result.now.secrets refl refl refl refl (unended-write h len none) refl refl)
+    (advanced h after a.secrets.items a.used a.next.secrets refl refl refl refl (unended-write h len none) refl refl)

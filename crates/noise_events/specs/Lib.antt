@@ -1,0 +1,4 @@
+pub mod Cuts
+pub mod DatagramEvents
+pub mod Events
+pub mod Windows

@@ -1,0 +1,33 @@
+-- Which of a party's two keys is meant, and keys whose DH is the xor of bytes.
+use Rattle.std.specs.Prelude.{◌≡◌, ℕ, List, [], ◌∷◌, Option, Some, None, bit_xor, map, refl}
+use Rattle.std.specs.List.{zip}
+use Rattle.std.proofs.Common.{sym, ap, ◌∙◌}
+use Rattle.std.proofs.lemmas.Nat.{xor_comm}
+use Rattle.noise_keys.specs.declared.keys.Own.{Own}
+use Rattle.noise_keys.specs.declared.keys.Own.TheVariants.{Ephemeral, Static}
+
+-- the one of an ephemeral and a static key that is meant
+abbrev pub key_of : Own → Option (List ℕ) → Option (List ℕ) → Option (List ℕ)
+key_of Ephemeral e s = e
+key_of Static e s = s
+
+-- the xor of two texts, byte by byte
+abbrev pub xored : List ℕ → List ℕ → List ℕ
+xored xs ys = map (λ pair. bit_xor pair.0 pair.1) (zip xs ys)
+
+-- the answer of a key, where there is one
+abbrev pub xor_answer : Option (List ℕ) → List ℕ → Option (List ℕ)
+xor_answer None remote = None
+xor_answer (Some key) remote = Some (xored key remote)
+
+xored-comm : (xs ys : List ℕ) → xored xs ys ≡ xored ys xs
+xored-comm [] [] = refl
+xored-comm [] (y ∷ ys) = refl
+xored-comm (x ∷ xs) [] = refl
+xored-comm (x ∷ xs) (y ∷ ys) =
+    ap (λ (b : ℕ). b ∷ xored xs ys) (xor_comm x y) ∙ ap (λ (bs : List ℕ). bit_xor y x ∷ bs) (xored-comm xs ys)
+
+-- two keys answer one another alike
+pub xor_answer-commutes : (k l : Option (List ℕ)) (p q : List ℕ) → k ≡ Some p → l ≡ Some q → xor_answer k q ≡ xor_answer l p
+xor_answer-commutes k l p q ek el =
+    ap (λ (o : Option (List ℕ)). xor_answer o q) ek ∙ ap Some (xored-comm p q) ∙ sym (ap (λ (o : Option (List ℕ)). xor_answer o p) el)

@@ -1,0 +1,39 @@
+//! The keys of a party, by what they answer (Noise, 4.1).
+#![tactic(auto)]
+
+ghost use Rattle.std.specs.Prelude.{◌≡◌, ℕ, List, Option, Some};
+ghost use Rattle.noise_keys.specs.declared.keys.Own.{Own};
+
+/// Which of a party's own key pairs (Noise, 3).
+#[derive(Clone, Copy, Debug, Default, PartialEq, Eq)]
+pub enum Own {
+    #[default]
+    Ephemeral,
+    Static,
+}
+
+/// The key pairs of a party. Private keys stay behind it: a handshake asks for public keys and for DH answers alone.
+///
+/// Both answers are functions of the value: the same call on the same value answers the same.
+pub trait Keys: Drop {
+    /// The public key of each key pair, where there is one.
+    ghost public_of: { Self → Own → Option (List ℕ) };
+
+    /// The answer of each key pair to the bytes of a remote public key, where there is one.
+    ghost agreement: { Self → Own → List ℕ → Option (List ℕ) };
+
+    /// The public key of a key pair, 32 bytes, or None where the party has no such key pair.
+    fn public(&self, own: Own) -> Option<[u8; 32]>
+        ensures { result ≡ public_of self.now own };
+
+    /// The result of DH between a key pair and a remote public key, 32 bytes, or None where there is no answer
+    /// (Noise, 4.1 and 12.1).
+    fn agree(&self, own: Own, remote: &[u8; 32]) -> Option<[u8; 32]>
+        ensures { result ≡ agreement self.now own remote.now };
+}
+
+/// Keys whose two sides agree: DH of one's own key and the other's public key is the same from both ends (Noise, 4.1).
+pub trait Agreeing: Keys {
+    ghost commutes: { (a b : Self) (x y : Own) (p q : List ℕ) → Self.public_of a x ≡ Some p → Self.public_of b y ≡ Some q
+        → Self.agreement a x q ≡ Self.agreement b y p };
+}

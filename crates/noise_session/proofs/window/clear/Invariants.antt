@@ -1,0 +1,11 @@
+use Rattle.std.proofs.Common.{◌≡◌, ℕ, ◌+◌, ◌<◌, ◌≤◌, ◌%◌, length, slice_index}
+use Rattle.noise_session.specs.Windows.{words_of}
+use Rattle.noise_session.proofs.window.clear.Given as goal
+
+abbrev pub invariant-loop-back : goal.invariant-loop-back
+invariant-loop-back l = record {
+  room : length l.words ≡ 17;
+  fresh : (b : ℕ) → b ≤ l.block → l.block < b + words_of l.window → l.block < b + l.back → slice_index l.words (b % words_of l.window) ≡ 0;
+  kept : (b : ℕ) → b + l.back ≤ l.block → l.block < b + words_of l.window
+      → slice_index l.words (b % words_of l.window) ≡ slice_index l.initial.words (b % words_of l.window);
+}

@@ -1,0 +1,62 @@
+-- From a parse's matches to the order that they state.
+use Rattle.std.proofs.Common.{◌≡◌, ap, ap₂, sym, refl, codes, List, [], ◌∷◌, Option, Some, None, option_map}
+use Rattle.std.specs.Prelude.{Box, Bool, true, false}
+use Rattle.std.specs.Str.{bytes_eq}
+use Rattle.std.proofs.lemmas.Slice.Eq.{bytes_eq-Decides}
+use Rattle.std.specs.Box.{box_value}
+use Rattle.clap.specs.Walk.{Row, Text}
+use Rattle.clap.specs.Kinds.{IsAmong, Kinds}
+use Rattle.clap.specs.declared.error.kind.ErrorKind.{ErrorKind}
+use Rattle.clap.specs.Matches.{subcommand_name_of}
+use Rattle.clap.specs.Simple.{subcommand_rows, subcommand_rows_of, subcommand_of}
+use Rattle.clap.specs.Faults.{fault_of}
+use Rattle.clap.specs.declared.parser.matches.ArgMatches.{ArgMatches}
+use Rattle.clap.specs.declared.parser.matches.SubCommand.{SubCommand}
+use Rattle.clap.specs.declared.parser.matches.ArgMatches.TheViews.{out-ArgMatches, out-SubCommand}
+use Rattle.noise_words.specs.CommandLine.{asked, asked_without, noise, stated_by, stated_in}
+
+-- the name that a parse found is that of its rows
+name_of-rows : {Z : Type 0} (o : Option (Box SubCommand Z))
+    → option_map (λ b. (out-SubCommand (box_value b)).name.now) o ≡ option_map (λ p. p.0) (subcommand_rows o)
+name_of-rows None = refl
+name_of-rows (Some b) = refl
+
+pub subcommand_name_of-rows : (m : ArgMatches) → subcommand_name_of m ≡ option_map (λ p. p.0) (subcommand_rows_of m)
+subcommand_name_of-rows m = name_of-rows (out-ArgMatches m).subcommand
+
+-- the order of the rows of a subcommand with this name
+pub stated_in-found : (o : Option (Text × List Row)) (name : Text) (rows : List Row) → Some name ≡ option_map (λ p. p.0) o
+    → Some rows ≡ option_map (λ p. p.1) o → stated_in o ≡ stated_by name rows
+stated_in-found None name rows e f = cc e
+stated_in-found (Some (n, r)) name rows e f =
+    let same_name : n ≡ name = cc in
+    let same_rows : r ≡ rows = cc in
+    ap₂ stated_by same_name same_rows
+
+-- where no fault is found, the order is the one that the matches state
+pub asked-stated : (words : List Text) → fault_of noise words ≡ [] → asked words ≡ stated_in (subcommand_of noise words)
+asked-stated words e = ap (λ (kinds : Kinds). asked_without kinds (stated_in (subcommand_of noise words))) e
+
+-- a kind is among those of no empty list
+pub asked_without-among : (k : ErrorKind) (kinds : Kinds) (o : Option (Text × Option Text)) → IsAmong k kinds → asked_without kinds o ≡ None
+asked_without-among k [] o h = absurd h
+asked_without-among k (x ∷ xs) o h = refl
+
+-- a text is not equal to another one
+differs : (x name : Text) → (name ≡ x → ⊥) → bytes_eq x name ≡ false
+differs x name other = at (bytes_eq x name) refl where
+  at : (b : Bool) → bytes_eq x name ≡ b → bytes_eq x name ≡ false
+  at true same = absurd (other (sym ((bytes_eq-Decides x name).0 same)))
+  at false e = e
+
+-- no other name states an order
+pub stated_by-unknown : (name : Text) (rows : List Row) → (name ≡ codes "list" → ⊥) → (name ≡ codes "show" → ⊥) → (name ≡ codes "check" → ⊥)
+    → (name ≡ codes "talk" → ⊥) → (name ≡ codes "replay" → ⊥) → (name ≡ codes "convert" → ⊥) → stated_by name rows ≡ None
+stated_by-unknown name rows list show check talk replay convert =
+    let no_list = differs (codes "list") name list in
+    let no_show = differs (codes "show") name show in
+    let no_check = differs (codes "check") name check in
+    let no_talk = differs (codes "talk") name talk in
+    let no_replay = differs (codes "replay") name replay in
+    let no_convert = differs (codes "convert") name convert in
+    rw (no_list, no_show, no_check, no_talk, no_replay, no_convert) refl

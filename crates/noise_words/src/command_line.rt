@@ -1,0 +1,125 @@
+//! What the words of the command line ask for.
+
+ghost use Rattle.std.specs.Prelude.{◌≡◌, ◌≢◌, ◌⊎◌, ◌∷◌, [], IfOk, IfErr, Some, None, codes, false, map, option_map, string_bytes};
+ghost use Rattle.clap.specs.Simple.{with_subcommand};
+ghost use Rattle.clap.specs.Words.{app_of, first_of, found_of, kind_of, rows_of, shape_of, subcommand_rows_of};
+ghost use Rattle.clap.specs.declared.builder.command.Command.TheViews.{out-Command};
+ghost use Rattle.noise_words.specs.CommandLine.{asked, noise, order_of, stated_in, subcommand};
+
+use crate::help::{self, Help};
+use crate::orders::{Chosen, LineFault};
+use clap::error::ErrorKind;
+use clap::{Arg, ArgMatches, Command};
+use std::alloc::{AllocError, Global};
+
+/// The command that these words name. The first word is the program's own name.
+pub fn chosen(alloc: Global, words: Vec<String>) -> Result<Chosen, LineFault>
+    ensures ok { IfOk result (λ c. asked (map string_bytes words.items) ≡ Some (order_of c)) }
+    ensures line { IfErr result (λ fault. (fault ≡ LineFault.Memory) ⊎ (asked (map string_bytes words.items) ≡ None)) }
+{
+    let mut noise = command(alloc)?;
+    match noise.try_get_matches_from_mut(words.as_slice()) {
+        Ok(matches) => match order(alloc, &matches)? {
+            Some(order) => Ok(order),
+            None => {
+                let error = noise.error(ErrorKind::MissingRequiredArgument, "a value is missing")?;
+                Err(LineFault::Line(error))
+            }
+        },
+        Err(error) => Err(line_fault(error)),
+    }
+}
+
+// The command line that is taken.
+fn command<'a>(alloc: Global) -> Result<Command<'a>, AllocError>
+    ensures { IfOk result (λ c. app_of c ≡ noise) }
+{
+    let noise = with_list(alloc)?;
+    let noise = adding(alloc, noise, "show", "NAME", &help::SHOW)?;
+    let noise = adding(alloc, noise, "check", "FILE", &help::CHECK)?;
+    let noise = adding(alloc, noise, "talk", "FILE", &help::TALK)?;
+    let noise = adding(alloc, noise, "replay", "FILE", &help::REPLAY)?;
+    adding(alloc, noise, "convert", "FILE", &help::CONVERT)
+}
+
+// The command itself, with its subcommand that has no value.
+fn with_list<'a>(alloc: Global) -> Result<Command<'a>, AllocError>
+    ensures { IfOk result (λ c. app_of c ≡ record noise { subs = subcommand (codes "list", None) ∷ [] }) }
+{
+    let list = Command::new(alloc, "list").about("Print the names of the fundamental patterns");
+    Command::new(alloc, "noise")
+        .bin_name("noise")?
+        .version("0.1.0")
+        .about("Noise handshake patterns, and transport sessions between two ends, by a file")
+        .subcommand_required(true)
+        .subcommand(list)
+}
+
+// With one subcommand more, which has to have a value.
+fn adding<'a>(
+    alloc: Global,
+    whole: Command<'a>,
+    name: &'a str,
+    value: &'a str,
+    help: &Help<'a>,
+) -> Result<Command<'a>, AllocError>
+    ensures { IfOk result (λ c. app_of c ≡ with_subcommand (app_of whole.entry) (subcommand (name.now, Some value.now))) }
+{
+    whole.subcommand(with_value(alloc, name, value, help)?)
+}
+
+// The command of this name, which has to have a value.
+fn with_value<'a>(
+    alloc: Global,
+    name: &'a str,
+    value: &'a str,
+    help: &Help<'a>,
+) -> Result<Command<'a>, AllocError>
+    ensures shape { IfOk result (λ c. shape_of c ≡ subcommand (name.now, Some value.now)) }
+    ensures local { IfOk result (λ c. (out-Command c).has_globals ≡ false) }
+{
+    let value = Arg::new(alloc, value).required(true).help(help.value);
+    Command::new(alloc, name)
+        .about(help.about)
+        .after_help(help.example)
+        .arg(value)
+}
+
+// The command that a parse found.
+fn order(alloc: Global, matches: &ArgMatches<'_>) -> Result<Option<Chosen>, AllocError>
+    ensures { IfOk result (λ found. option_map order_of found ≡ stated_in (subcommand_rows_of matches.now)) }
+{
+    let Some((name, found)) = matches.subcommand() else {
+        return Ok(None);
+    };
+    match name {
+        "list" => Ok(Some(Chosen::List)),
+        "show" => Ok(value(alloc, found, "NAME")?.map(Chosen::Show)),
+        "check" => Ok(value(alloc, found, "FILE")?.map(Chosen::Check)),
+        "talk" => Ok(value(alloc, found, "FILE")?.map(Chosen::Talk)),
+        "replay" => Ok(value(alloc, found, "FILE")?.map(Chosen::Replay)),
+        "convert" => Ok(value(alloc, found, "FILE")?.map(Chosen::Convert)),
+        _ => Ok(None),
+    }
+}
+
+// The value that a parse found for an argument.
+fn value(alloc: Global, matches: &ArgMatches<'_>, id: &str) -> Result<Option<String>, AllocError>
+    ensures { IfOk result (λ found. option_map string_bytes found ≡ first_of id.now (rows_of (found_of matches.now))) }
+{
+    match matches.get_str(id) {
+        Some(text) => Ok(Some(String::from_str(alloc, text)?)),
+        None => Ok(None),
+    }
+}
+
+// Want of memory is told as such, whoever met it.
+fn line_fault(error: clap::Error) -> LineFault
+    ensures { (kind_of error ≡ ErrorKind.OutOfMemory → result ≡ LineFault.Memory) × (kind_of error ≢ ErrorKind.OutOfMemory → result ≡ LineFault.Line error) }
+{
+    if error.kind() == ErrorKind::OutOfMemory {
+        LineFault::Memory
+    } else {
+        LineFault::Line(error)
+    }
+}

@@ -1,0 +1,9 @@
+//! The words of the command line, and the command that they name.
+#![tactic(auto)]
+
+mod command_line;
+mod help;
+mod orders;
+
+pub use command_line::chosen;
+pub use orders::{Chosen, LineFault};

@@ -1,0 +1,40 @@
+//! The commands, and why words are none.
+
+ghost use Rattle.std.specs.Prelude.{◌≡◌};
+ghost use Rattle.noise_words.specs.declared.orders.LineFault.TheVariants.{Memory};
+
+use std::alloc::AllocError;
+
+/// A command with its value.
+#[derive(Debug, Drop, PartialEq, Eq)]
+pub enum Chosen {
+    /// Print the base names of the fundamental patterns.
+    List,
+    /// Print the pattern of this protocol name, and what each of its messages adds to a payload.
+    Show(String),
+    /// Judge the pattern text in the file of this name.
+    Check(String),
+    /// Run two ends on the vector file of this name, in which they only say things to one another.
+    Talk(String),
+    /// Run two ends on the vector file of this name, whatever its events are.
+    Replay(String),
+    /// Print the version 1 vector file of this name as one of version 2 that expects what its run prints.
+    Convert(String),
+}
+
+/// Why the words of a command line are no command.
+#[derive(Debug, Drop)]
+pub enum LineFault {
+    /// Memory ran out.
+    Memory,
+    /// What `clap` says of the words. Help that they ask for comes this way too.
+    Line(clap::Error),
+}
+
+impl From<AllocError> for LineFault {
+    ghost from_gives = { λ _ fault. fault ≡ Memory };
+
+    fn from(_error: AllocError) -> LineFault {
+        LineFault::Memory
+    }
+}
