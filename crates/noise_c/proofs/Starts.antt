@@ -15,7 +15,7 @@ use Rattle.noise_handshake.specs.Setup.{setup_fault}
 use Rattle.noise_names.specs.declared.token.Role.{Role}
 use Rattle.noise_c.specs.Codes.{setup_code}
 use Rattle.noise_c.specs.declared.kept.NoiseSetup.{NoiseSetup}
-use Rattle.noise_handshake.specs.declared.faults.SetupFault.{SetupFault}
+use Rattle.noise_keys.specs.declared.faults.SetupFault.{SetupFault}
 
 kinds : (bytes : List ℕ) → is_text bytes ≡ true → is_text bytes ≡ false → ⊥
 kinds bytes a b = cc

@@ -12,8 +12,8 @@ use Rattle.noise_names.specs.Validity.{is_among}
 use Rattle.noise_keys.specs.declared.keys.Own.{Own}
 use Rattle.noise_keys.specs.declared.keys.Own.TheVariants.{Ephemeral, Static}
 use Rattle.noise_handshake.specs.declared.remote.Remote.{Remote}
-use Rattle.noise_handshake.specs.declared.faults.SetupFault.{SetupFault}
-use Rattle.noise_handshake.specs.declared.faults.SetupFault.TheVariants.{EphemeralMissing, StaticMissing, RemoteMissing, RemoteUnexpected, PskCount}
+use Rattle.noise_keys.specs.declared.faults.SetupFault.{SetupFault}
+use Rattle.noise_keys.specs.declared.faults.SetupFault.TheVariants.{EphemeralMissing, StaticMissing, RemoteMissing, RemoteUnexpected, PskCount}
 use Rattle.noise_handshake.specs.Setup.{keys_of, public_keys, secrets_of, setup_fault, lacks_own, lacks_remote, has_unexpected, has_before, token_of}
 use Rattle.noise_handshake.specs.inner.PreMessage.{HasPre}
 use Rattle.noise_handshake.proofs.Uses.{stands-places_of}

@@ -13,8 +13,8 @@ use Rattle.noise_state.specs.History.{History}
 use Rattle.noise_keys.specs.declared.keys.Own.{Own}
 use Rattle.noise_keys.specs.declared.keys.Own.TheVariants.{Ephemeral, Static}
 use Rattle.noise_handshake.specs.declared.remote.Remote.{Remote}
-use Rattle.noise_handshake.specs.declared.faults.SetupFault.{SetupFault}
-use Rattle.noise_handshake.specs.declared.faults.SetupFault.TheVariants.{EphemeralMissing, StaticMissing, RemoteMissing, RemoteUnexpected, PskCount}
+use Rattle.noise_keys.specs.declared.faults.SetupFault.{SetupFault}
+use Rattle.noise_keys.specs.declared.faults.SetupFault.TheVariants.{EphemeralMissing, StaticMissing, RemoteMissing, RemoteUnexpected, PskCount}
 use Rattle.noise_handshake.specs.View.{View, start}
 
 -- how many secrets these messages take: one for each psk token

@@ -1,22 +1,7 @@
-//! Why a handshake isn't made, and why a message isn't written or read.
+//! Why a message isn't written or read.
 #![tactic(auto)]
 
 use crate::Own;
-
-/// Why a handshake isn't made. Of several the first is told.
-#[derive(Clone, Copy, Debug, PartialEq, Eq)]
-pub enum SetupFault {
-    /// This party has an `e` in the pattern, and no ephemeral key.
-    EphemeralMissing,
-    /// This party has an `s` in the pattern, and no static key.
-    StaticMissing,
-    /// A key of the other party's pre-message isn't given.
-    RemoteMissing,
-    /// A key of the other party is given that isn't in its pre-message.
-    RemoteUnexpected,
-    /// The number of secrets isn't that of the pattern's `psk` tokens.
-    PskCount,
-}
 
 /// Why a message isn't written. Looked for in the order Ended, Done, NotYourTurn, TooLong, Agreement.
 #[derive(Clone, Copy, Debug, PartialEq, Eq)]

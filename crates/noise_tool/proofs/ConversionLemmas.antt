@@ -11,7 +11,8 @@ use Rattle.noise_vectors.specs.declared.vector.Version.TheVariants.{One, Two}
 use Rattle.noise_vectors.specs.SameFile.{SaySame, VectorTextsAreUnique, datagrams_of, expected_of, held_datagrams}
 use Rattle.noise_tool.specs.Conversion.{ConversionsMeetThemselves}
 use Rattle.noise_tool.specs.OneRun.{OneRun, RunAlike}
-use Rattle.noise_tool.specs.Running.{IsRunOf, converted_text, datagrams_in, expected_in}
+use Rattle.noise_tool.specs.Running.{IsRunOf, datagrams_in, expected_in}
+use Rattle.noise_lines.specs.Converted.{converted_text}
 use Rattle.noise_tool.proofs.OneRunLemmas.{run-moves}
 
 -- the file of version 2 that expects these lines

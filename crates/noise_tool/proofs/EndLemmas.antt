@@ -7,13 +7,13 @@ use Rattle.noise_names.specs.declared.token.Role.TheVariants.{Initiator, Respond
 use Rattle.noise_names.specs.Plan.{Plan, is_one_way}
 use Rattle.noise_names.specs.Validity.{IsValid}
 use Rattle.noise_handshake.specs.declared.remote.Remote.{Remote}
-use Rattle.noise_handshake.specs.declared.faults.SetupFault.{SetupFault}
+use Rattle.noise_keys.specs.declared.faults.SetupFault.{SetupFault}
 use Rattle.noise_handshake.specs.Setup.{begun, setup_fault}
 use Rattle.noise_session.specs.Ends.{EndView, HeldEnd, IsToldBy, progress}
 use Rattle.noise_session.specs.Progress.{role_of}
 use Rattle.noise_session.specs.Progress.Progress.{Handshaking, Open, Closed}
-use Rattle.noise_tool.specs.declared.faults.Fault.{Fault}
-use Rattle.noise_tool.specs.declared.faults.Fault.TheVariants.{Setup}
+use Rattle.noise_lines.specs.declared.faults.Fault.{Fault}
+use Rattle.noise_lines.specs.declared.faults.Fault.TheVariants.{Setup}
 use Rattle.noise_vectors.specs.declared.file_keys.FileKeys.{FileKeys}
 use Rattle.noise_vectors.specs.declared.vector.VectorFile.{VectorFile}
 use Rattle.noise_vectors.specs.FileKeys.{public_of, agreement_of}

@@ -1,10 +1,6 @@
 pub mod ConversionLemmas
-pub mod ConvertingLemmas
 pub mod EndLemmas
-pub mod InputLemmas
 pub mod OneRunLemmas
-pub mod OutputLemmas
 pub mod PerformingLemmas
 pub mod PrintedLemmas
-pub mod PrintedWordLemmas
 pub mod RunningLemmas

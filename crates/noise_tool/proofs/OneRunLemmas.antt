@@ -27,7 +27,7 @@ use Rattle.noise_vectors.specs.declared.vector.FileDatagrams.{FileDatagrams}
 use Rattle.noise_vectors.specs.declared.vector.VectorFile.{VectorFile}
 use Rattle.noise_tool.specs.Ends.{IsPatternOf, facing_in, known_before, setup_of}
 use Rattle.noise_handshake.specs.Setup.{setup_fault}
-use Rattle.noise_tool.specs.Named.{IsNamed}
+use Rattle.noise_lines.specs.Named.{IsNamed}
 use Rattle.noise_tool.specs.OneRun.{OneRun, RunAlike}
 use Rattle.noise_vectors.specs.SameFile.{held_datagrams}
 use Rattle.noise_tool.specs.Printed.{note_line}

@@ -11,16 +11,17 @@ use Rattle.noise_events.specs.Events.{Event as Act, Say as Said}
 use Rattle.noise_events.specs.declared.event.Event.{Event}
 use Rattle.noise_tool.specs.Conversion.{MeetsItself}
 use Rattle.noise_tool.specs.Ends.{IsStartFault}
-use Rattle.noise_tool.specs.Faults.{status_of}
-use Rattle.noise_tool.specs.Performing.{HasConverted, HasRun, IsFault, IsOfLines, IsRunFault, IsTooLongConverted, IsUnlike, IsUnmet, LeavesOther}
+use Rattle.noise_lines.specs.Faults.{status_of}
+use Rattle.noise_tool.specs.Performing.{HasConverted, HasRun, IsFault, IsOfLines, IsRunFault, IsTooLongConverted, IsUnlike, IsUnmet}
 use Rattle.noise_words.specs.declared.orders.Chosen.{Chosen}
 use Rattle.noise_words.specs.declared.orders.Chosen.TheVariants as order
-use Rattle.noise_tool.specs.Printed.{lines_text}
-use Rattle.noise_tool.specs.Running.{IsMet, IsRunOf, converted_text, expected_in}
-use Rattle.noise_tool.specs.declared.faults.Fault.{Fault}
-use Rattle.noise_tool.specs.declared.faults.Fault.TheVariants as fault
+use Rattle.noise_lines.specs.Lines.{lines_text}
+use Rattle.noise_tool.specs.Running.{IsMet, IsRunOf, expected_in}
+use Rattle.noise_lines.specs.Converted.{converted_text}
+use Rattle.noise_lines.specs.declared.faults.Fault.{Fault}
+use Rattle.noise_lines.specs.declared.faults.Fault.TheVariants as fault
 use Rattle.noise_tool.specs.declared.running.Outcome.{Outcome}
-use Rattle.noise_tool.specs.Told.{TellsRule}
+use Rattle.noise_lines.specs.Told.{LeavesOther, TellsRule}
 use Rattle.noise_vectors.specs.Expectations.{bytes_of}
 use Rattle.noise_vectors.specs.VectorFile.{IsVectorFile, say_of}
 use Rattle.noise_vectors.specs.VectorText.{text_of}

@@ -1,24 +1,29 @@
 -- The lines of a run, as they are made and written.
-use Rattle.std.proofs.Common.{◌≡◌, ◌∙◌, ap, ap₂, sym, refl, subst, ℕ, ◌+◌, ◌<◌, ◌≤◌, Vec, List, [], ◌∷◌, ◌++◌, Option, Some, length, get_or, map, take, add-one, append_assoc}
+use Rattle.std.proofs.Common.{◌≡◌, ◌∙◌, ap, ap₂, sym, refl, subst, ℕ, ◌+◌, ◌<◌, ◌≤◌, Vec, List, [], ◌∷◌, ◌++◌, Option, Some, Bool, true, false, ◌==◌, length, codes, get_or, map, take, add-one, append_assoc}
 use Rattle.std.specs.Global.{Global}
-use Rattle.std.specs.Prelude.{flat_map, slice_get}
-use Rattle.std.specs.Io.KnownBytes.{Appends}
-use Rattle.std.proofs.KnownBytes.{Appends-trans}
+use Rattle.std.specs.Prelude.{slice_get, unwrap_or}
+use Rattle.std.specs.List.{join_with_byte}
 use Rattle.std.proofs.Math.Seq.{take-suc}
 use Rattle.std.proofs.lemmas.List.{take_all}
-use Rattle.std.proofs.lemmas.List.Folds.{flat_map-map}
+use Rattle.std.proofs.lemmas.List.Elements.{All-push, All-same}
 use Rattle.std.proofs.lemmas.Option.{slice_get_read, slice_get_within, get_or_from_slice_get}
 use Rattle.noise_names.specs.declared.token.Role.{Role}
-use Rattle.noise_names.specs.Text.{line}
+use Rattle.noise_state.specs.History.{hash}
+use Rattle.noise_session.specs.Ends.{EndView, progress_of, session_hash}
+use Rattle.noise_session.specs.Progress.{stage_of}
+use Rattle.noise_session.specs.declared.stage.Stage.{Stage}
+use Rattle.noise_session.specs.declared.stage.Stage.TheVariants as stage
 use Rattle.noise_duel.specs.declared.datagram_report.DatagramEntry.{DatagramEntry}
 use Rattle.noise_duel.specs.DatagramReports.{datagram_note_of, datagram_notes_of}
 use Rattle.noise_duel.specs.declared.entry.Entry.{Entry}
 use Rattle.noise_duel.specs.Entries.{note_of, notes_of}
 use Rattle.noise_duel.specs.Sides.{Sides}
 use Rattle.noise_vectors.specs.Expectations.{bytes_of}
-use Rattle.noise_tool.specs.Printed.{lines_text, note_line}
+use Rattle.noise_vectors.specs.VectorFile.{IsExpected}
+use Rattle.noise_vectors.specs.VectorText.{role_word}
+use Rattle.noise_lines.specs.PrintedWords.{AreExpected}
+use Rattle.noise_tool.specs.Printed.{note_line, progress_words, stage_words, state_line}
 use Rattle.noise_tool.specs.PrintedDatagrams.{datagram_line}
-use Rattle.noise_tool.proofs.OutputLemmas.{elements-more}
 
 -- ---- lists of lines
 
@@ -62,6 +67,15 @@ lines-done {X = X} f before bytes xs items i same all inv =
     let past : length xs ≤ i = rw (← same) all in
     inv ∙ ap (λ (ys : List X). before ++ map f ys) (take_all i xs past)
 
+abbrev is_line : Vec ℕ Global → Type 0
+is_line words = IsExpected words.items
+
+-- one line more that a file may expect
+pub expected-push : (lines after : List (Vec ℕ Global)) (v : Vec ℕ Global) → after ≡ lines ++ v ∷ [] → IsExpected v.items → AreExpected lines
+    → AreExpected after
+expected-push lines after v pushed here h =
+    All-same is_line after (lines ++ v ∷ []) pushed (All-push is_line lines v h here)
+
 -- two lines more
 pub two-pushed : (lines one two : List (Vec ℕ Global)) (v w : Vec ℕ Global) (first second : List ℕ) → one ≡ lines ++ v ∷ [] → two ≡ one ++ w ∷ []
     → v.items ≡ first → w.items ≡ second → bytes_of two ≡ bytes_of lines ++ first ∷ second ∷ []
@@ -88,25 +102,33 @@ pub datagram_entries-lines : (entries : List (Role × DatagramEntry)) → map da
 datagram_entries-lines [] = refl
 datagram_entries-lines (e ∷ es) = ap (λ (t : List (List ℕ)). datagram_line_of e ∷ t) (datagram_entries-lines es)
 
--- ---- written
+-- ---- where an end stands
 
-abbrev pub written_line : Vec ℕ Global → List ℕ
-written_line l = line l.items
+-- an end's stage, and the hash that it tells, have the words of how far it has come
+pub stage-told : (v : EndView) (other : List ℕ)
+    → stage_words (stage_of (progress_of v)) (unwrap_or (session_hash v) other) ≡ progress_words (progress_of v) (hash v.party.history)
+stage-told v other = at v.party.ended (v.party.passed == length v.party.pattern.messages) refl refl where
+  at : (ended whole : Bool) → v.party.ended ≡ ended → (v.party.passed == length v.party.pattern.messages) ≡ whole
+      → stage_words (stage_of (progress_of v)) (unwrap_or (session_hash v) other) ≡ progress_words (progress_of v) (hash v.party.history)
+  at true whole p q = rw p refl
+  at false true p q = rw (p, q) refl
+  at false false p q = rw (p, q) refl
 
--- one line more is written, and its LF (10)
-pub line-written : (lines items : List (Vec ℕ Global)) (i : ℕ) (x : Vec ℕ Global) (text feed : List ℕ) (a b c e : Option (List ℕ))
-    → items ≡ lines → i < length items → x ≡ get_or items i x → text ≡ x.items → feed ≡ 10 ∷ []
-    → Appends a b (flat_map written_line (take i lines)) → Appends b c text → Appends c e feed → Appends a e (flat_map written_line (take (i + 1) lines))
-line-written lines items i x text feed a b c e same less is text_is feed_is before now last =
-    subst (λ (t : List ℕ). Appends a e t)
-    (ap₂ (λ (t u : List ℕ). flat_map written_line (take i lines) ++ (t ++ u)) text_is feed_is
-    ∙ elements-more written_line lines i x (at-place lines items i x same less is))
-    (Appends-trans a b e (flat_map written_line (take i lines)) (text ++ feed) before (Appends-trans b c e text feed now last))
+-- what follows the role in the line
+pub stage-joined : (role : Role) (s : Stage) (hash : List ℕ)
+    → join_with_byte 32 (codes "state" ∷ role_word role ∷ []) ++ 32 ∷ join_with_byte 32 (stage_words s hash)
+    ≡ join_with_byte 32 (codes "state" ∷ role_word role ∷ stage_words s hash)
+stage-joined role (stage.Handshake passed ours) hash = refl
+stage-joined role (stage.Transport sent received) hash = refl
+stage-joined role stage.Ended hash = refl
 
-pub lines-written : (lines items : List (Vec ℕ Global)) (i : ℕ) (a b : Option (List ℕ)) → items ≡ lines → length items ≤ i
-    → Appends a b (flat_map written_line (take i lines)) → Appends a b (lines_text (bytes_of lines))
-lines-written lines items i a b same all written =
-    let past : length lines ≤ i = rw (← same) all in
-    subst (λ (t : List ℕ). Appends a b t)
-    (ap (λ (ls : List (Vec ℕ Global)). flat_map written_line ls) (take_all i lines past)
-    ∙ sym (flat_map-map line (λ (l : Vec ℕ Global). l.items) lines)) written
+-- the line, from what it is made of
+pub state-told : (role : Role) (v : EndView) (line front : List ℕ) (s : Stage) (h other : List ℕ)
+    → front ≡ join_with_byte 32 (codes "state" ∷ role_word role ∷ []) → s ≡ stage_of (progress_of v) → h ≡ unwrap_or (session_hash v) other
+    → line ≡ front ++ 32 ∷ join_with_byte 32 (stage_words s h) → line ≡ state_line role v
+state-told role v line front s h other begun at_stage at_hash made =
+    made
+    ∙ ap₂ (λ (a b : List ℕ). a ++ 32 ∷ b) begun
+    (ap₂ (λ (x : Stage) (y : List ℕ). join_with_byte 32 (stage_words x y)) at_stage at_hash)
+    ∙ stage-joined role (stage_of (progress_of v)) (unwrap_or (session_hash v) other)
+    ∙ ap (λ (t : List (List ℕ)). join_with_byte 32 (codes "state" ∷ role_word role ∷ t)) (stage-told v other)

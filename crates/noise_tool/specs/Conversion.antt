@@ -6,8 +6,9 @@ use Rattle.noise_vectors.specs.VectorFile.{IsVectorFile}
 use Rattle.noise_vectors.specs.VectorText.{text_of}
 use Rattle.noise_vectors.specs.declared.vector.VectorFile.{VectorFile}
 use Rattle.noise_vectors.specs.declared.vector.Version.TheVariants.{One}
-use Rattle.noise_tool.specs.PrintedWords.{AreExpected}
-use Rattle.noise_tool.specs.Running.{IsRunOf, converted_text, expected_in}
+use Rattle.noise_lines.specs.PrintedWords.{AreExpected}
+use Rattle.noise_tool.specs.Running.{IsRunOf, expected_in}
+use Rattle.noise_lines.specs.Converted.{converted_text}
 
 -- The conversion of a file of version 1 with these lines is the text of a right file. Every right file of that text expects these lines, and they are the
 -- lines of its run.

@@ -10,16 +10,16 @@ use Rattle.noise_names.specs.Validity.{IsValid, IsFirstFault}
 use Rattle.noise_keys.specs.declared.keys.Own.{Own}
 use Rattle.noise_keys.specs.declared.keys.Own.TheVariants.{Ephemeral, Static}
 use Rattle.noise_handshake.specs.declared.remote.Remote.{Remote}
-use Rattle.noise_handshake.specs.declared.faults.SetupFault.{SetupFault}
+use Rattle.noise_keys.specs.declared.faults.SetupFault.{SetupFault}
 use Rattle.noise_handshake.specs.Setup.{has_before, setup_fault}
 use Rattle.noise_duel.specs.Conversation.{facing}
 use Rattle.noise_duel.specs.HeldDuel.{HeldDuel, DuelStands}
 use Rattle.noise_duel.specs.Messages.{Start}
 use Rattle.noise_duel.specs.Sides.{Sides}
 use Rattle.noise_vectors.specs.FileKeys.{public_of, agreement_of}
-use Rattle.noise_tool.specs.Named.{IsNamed, IsUnnamed}
-use Rattle.noise_tool.specs.declared.faults.Fault.{Fault}
-use Rattle.noise_tool.specs.declared.faults.Fault.TheVariants.{Rule, Setup, Memory}
+use Rattle.noise_lines.specs.Named.{IsNamed, IsUnnamed}
+use Rattle.noise_lines.specs.declared.faults.Fault.{Fault}
+use Rattle.noise_lines.specs.declared.faults.Fault.TheVariants.{Rule, Setup, Memory}
 use Rattle.noise_vectors.specs.declared.file_keys.FileKeys.{FileKeys}
 use Rattle.noise_vectors.specs.declared.vector.VectorFile.{VectorFile}
 

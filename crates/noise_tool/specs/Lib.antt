@@ -1,12 +1,7 @@
 pub mod Conversion
 pub mod Ends
-pub mod Faults
-pub mod Named
 pub mod OneRun
-pub mod Output
 pub mod Performing
 pub mod Printed
 pub mod PrintedDatagrams
-pub mod PrintedWords
 pub mod Running
-pub mod Told

@@ -6,15 +6,16 @@ use Rattle.noise_names.specs.Text.{Spells}
 use Rattle.noise_names.specs.Validity.{IsValid}
 use Rattle.noise_tool.specs.Conversion.{MeetsItself}
 use Rattle.noise_tool.specs.Ends.{IsStartFault}
-use Rattle.noise_tool.specs.Faults.{of_vector}
-use Rattle.noise_tool.specs.Output.{IsCheckFault, IsShowFault, NamesPattern, check_text, list_text, show_text}
-use Rattle.noise_tool.specs.Printed.{lines_text}
-use Rattle.noise_tool.specs.Running.{IsMet, IsRunOf, converted_text, expected_in}
+use Rattle.noise_lines.specs.Faults.{of_vector}
+use Rattle.noise_lines.specs.Output.{IsCheckFault, IsShowFault, NamesPattern, check_text, list_text, show_text}
+use Rattle.noise_lines.specs.Lines.{lines_text}
+use Rattle.noise_tool.specs.Running.{IsMet, IsRunOf, expected_in}
+use Rattle.noise_lines.specs.Converted.{converted_text}
 use Rattle.noise_vectors.specs.Expectations.{IsFirstUnmet, bytes_of}
 use Rattle.noise_vectors.specs.VectorFile.{IsReadFault, IsVectorFile}
 use Rattle.noise_vectors.specs.VectorText.{text_of}
-use Rattle.noise_tool.specs.declared.faults.Fault.{Fault}
-use Rattle.noise_tool.specs.declared.faults.Fault.TheVariants.{Rule, TooLong, Unmet}
+use Rattle.noise_lines.specs.declared.faults.Fault.{Fault}
+use Rattle.noise_lines.specs.declared.faults.Fault.TheVariants.{Rule, TooLong, Unmet}
 use Rattle.noise_tool.specs.declared.running.Outcome.{Outcome}
 use Rattle.noise_words.specs.declared.orders.Chosen.{Chosen}
 use Rattle.noise_words.specs.declared.orders.Chosen.TheVariants.{List as Listing, Show, Check, Talk, Replay, Convert}
@@ -118,9 +119,3 @@ LeavesFile _ before after = ⊤
 abbrev pub IsOfLines : Fault → Type 0
 IsOfLines (Unmet number) = ⊤
 IsOfLines fault = ⊥
-
--- A broken rule is told on the output and leaves the error output as it was; any other fault is told on the error output and leaves the output as it
--- was. Both are given before and after.
-abbrev pub LeavesOther : {O E : Type 0} → Fault → O → O → E → E → Type 0
-LeavesOther (Rule fault) out out_after err err_after = err_after ≡ err
-LeavesOther fault out out_after err err_after = out_after ≡ out

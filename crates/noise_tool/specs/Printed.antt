@@ -1,31 +1,24 @@
 -- What is printed of a run: a line for each note, and then one for each of the two ends. Each line is without its LF here.
-use Rattle.std.specs.Prelude.{ℕ, List, [], ◌∷◌, codes, decimal, flat_map, slice_get, unwrap_or}
-use Rattle.std.specs.List.{join_with_byte}
+use Rattle.std.specs.Prelude.{ℕ, List, [], ◌∷◌, codes, decimal, slice_get, unwrap_or}
 use Rattle.noise_names.specs.declared.token.Role.{Role}
 use Rattle.noise_names.specs.declared.token.Role.TheVariants.{Initiator, Responder}
-use Rattle.noise_names.specs.Text.{line}
 use Rattle.noise_state.specs.History.{hash}
 use Rattle.noise_handshake.specs.declared.faults.Cause.{Cause}
 use Rattle.noise_handshake.specs.declared.faults.Cause.TheVariants as cause
 use Rattle.noise_session.specs.declared.faults.SendFault.{SendFault}
 use Rattle.noise_session.specs.declared.faults.SendFault.TheVariants as fault
 use Rattle.noise_session.specs.Ends.{EndView, progress_of}
+use Rattle.noise_session.specs.declared.stage.Stage.{Stage}
+use Rattle.noise_session.specs.declared.stage.Stage.TheVariants as stage
 use Rattle.noise_session.specs.Progress.{Progress}
 use Rattle.noise_session.specs.Progress.Progress.{Handshaking, Open, Closed}
 use Rattle.noise_session.specs.Steps.{Told}
 use Rattle.noise_session.specs.Steps.Told.{Ended, YourTurn, Silent, Payload, Dropped, Refused, Exhausted}
 use Rattle.noise_duel.specs.Notes.{Note, Wrote, WriteFault, Judged, Left, Missing, Held}
 use Rattle.noise_duel.specs.Sides.{Side, Sides, side}
+use Rattle.noise_lines.specs.Lines.{line_of}
 use Rattle.noise_vectors.specs.HexWord.{hex_of}
 use Rattle.noise_vectors.specs.VectorText.{role_word}
-
--- a line of words with a space (32) between each two
-abbrev pub line_of : List (List ℕ) → List ℕ
-line_of words = join_with_byte 32 words
-
--- the text of lines, each with an LF behind it
-abbrev pub lines_text : List (List ℕ) → List ℕ
-lines_text lines = flat_map line lines
 
 abbrev pub cause_word : Cause → List ℕ
 cause_word cause.Short = codes "short"
@@ -79,6 +72,12 @@ abbrev pub progress_words : Progress → List ℕ → List (List ℕ)
 progress_words (Handshaking pattern role passed) hash = codes "handshake" ∷ decimal passed ∷ []
 progress_words (Open role one_way sent received) hash = codes "transport" ∷ decimal sent ∷ decimal received ∷ hex_of hash ∷ []
 progress_words (Closed role) hash = codes "ended" ∷ []
+
+-- the same of a stage, which an end tells; the hash is read where it is open
+abbrev pub stage_words : Stage → List ℕ → List (List ℕ)
+stage_words (stage.Handshake passed ours) hash = codes "handshake" ∷ decimal passed ∷ []
+stage_words (stage.Transport sent received) hash = codes "transport" ∷ decimal sent ∷ decimal received ∷ hex_of hash ∷ []
+stage_words stage.Ended hash = codes "ended" ∷ []
 
 abbrev pub state_line : Role → EndView → List ℕ
 state_line role v = line_of (codes "state" ∷ role_word role ∷ progress_words (progress_of v) (hash v.party.history))

@@ -9,7 +9,8 @@ use Rattle.noise_duel.specs.DatagramNotes.{DatagramNote, Sealed, SealFault, Payl
 use Rattle.noise_duel.specs.DatagramSides.{DatagramSides}
 use Rattle.noise_vectors.specs.HexWord.{hex_of}
 use Rattle.noise_vectors.specs.VectorText.{role_word}
-use Rattle.noise_tool.specs.Printed.{fault_words, line_of}
+use Rattle.noise_lines.specs.Lines.{line_of}
+use Rattle.noise_tool.specs.Printed.{fault_words}
 
 -- why a datagram isn't opened
 abbrev pub rejection_word : DatagramFault → List ℕ

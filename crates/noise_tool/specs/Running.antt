@@ -16,7 +16,7 @@ use Rattle.noise_duel.specs.Notes.{Note}
 use Rattle.noise_duel.specs.Runs.{Run}
 use Rattle.noise_duel.specs.Sides.{Sides}
 use Rattle.noise_vectors.specs.Expectations.{bytes_of}
-use Rattle.noise_vectors.specs.VectorText.{expect_line, line, lines_of, text_body, window_words}
+use Rattle.noise_vectors.specs.VectorText.{window_words}
 use Rattle.noise_vectors.specs.declared.vector.FileDatagrams.{FileDatagrams}
 use Rattle.noise_vectors.specs.declared.vector.VectorFile.{VectorFile}
 use Rattle.noise_vectors.specs.declared.vector.Version.{Version}
@@ -72,7 +72,3 @@ pub record IsRunOf (file : VectorFile) (lines : List (List ℕ)) : Type 0 where
 -- nothing is expected, or these lines
 abbrev pub IsMet : List (List ℕ) → List (List ℕ) → Type 0
 IsMet expected lines = (expected ≡ []) ⊎ (lines ≡ expected)
-
--- the text of a version 1 file, as one of version 2 that expects these lines
-abbrev pub converted_text : VectorFile → List (List ℕ) → List ℕ
-converted_text file lines = line (codes "vector 2") (text_body file (lines_of expect_line lines []))

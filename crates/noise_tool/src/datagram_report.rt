@@ -5,13 +5,13 @@ ghost use Rattle.noise_session.specs.Datagrams.{DatagramView, Pictures};
 ghost use Rattle.noise_duel.specs.DatagramReports.{DuelPictures, datagram_note_of, datagram_notes_of};
 ghost use Rattle.noise_duel.specs.DatagramSides.{DatagramSides};
 ghost use Rattle.noise_vectors.specs.Expectations.{bytes_of};
-ghost use Rattle.noise_tool.specs.Printed.{line_of};
+ghost use Rattle.noise_lines.specs.Lines.{line_of, text_in};
 ghost use Rattle.noise_tool.specs.PrintedDatagrams as print;
-ghost use Rattle.noise_tool.specs.PrintedWords.{AreExpected, is_printed};
+ghost use Rattle.noise_lines.specs.PrintedWords.{AreExpected, is_printed};
 
-use crate::line::Line;
 use crate::report::{begun_line, fault_line};
 use noise_duel::{DatagramDuel, DatagramEntry, DatagramReport};
+use noise_lines::Line;
 use noise_names::Role;
 use noise_session::{DatagramFault, Datagrams};
 use std::alloc::{AllocError, Global};
@@ -35,7 +35,7 @@ pub fn push_datagram_lines(
 
 // The line of an entry that is told of this role.
 fn datagram_line(alloc: Global, role: Role, entry: &DatagramEntry) -> Result<Line, AllocError>
-    ensures { IfOk result (λ line. line.text.items ≡ line_of (print.datagram_words role (datagram_note_of entry.now))) }
+    ensures { IfOk result (λ line. text_in line ≡ line_of (print.datagram_words role (datagram_note_of entry.now))) }
 {
     match entry {
         DatagramEntry::Sealed(number, datagram) => begun_line(alloc, "sealed", role)?
@@ -86,7 +86,7 @@ pub fn push_datagram_states(
 
 // Where a party stands.
 fn datagram_state(alloc: Global, role: Role, datagrams: &Datagrams) -> Result<Line, AllocError>
-    ensures { (v : DatagramView) → Pictures datagrams.now v → IfOk result (λ line. line.text.items ≡ print.datagram_state_line role v) }
+    ensures { (v : DatagramView) → Pictures datagrams.now v → IfOk result (λ line. text_in line ≡ print.datagram_state_line role v) }
 {
     begun_line(alloc, "state", role)?
         .word("datagrams")?

@@ -9,10 +9,9 @@ ghost use Rattle.noise_handshake.specs.Setup.{begun, setup_fault};
 ghost use Rattle.noise_vectors.specs.FileKeys.{agreement_of, public_of};
 ghost use Rattle.noise_tool.specs.Ends.{AreEnds, IsPatternFault, IsPatternOf, IsStartFault, known_before};
 
-use crate::faults::Fault;
-use crate::named::named_pattern;
 use noise_duel::{Duel, Event};
 use noise_handshake::{Handshake, Keys, Own, Remote};
+use noise_lines::{Fault, named_pattern};
 use noise_names::{Pattern, ProtocolName, Role, Token, ValidPattern};
 use noise_session::{End, end_is_told};
 use noise_vectors::{FileKeys, VectorFile, Version};

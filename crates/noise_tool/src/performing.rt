@@ -1,27 +1,20 @@
 //! Doing what the command line asks for.
 
 ghost use Rattle.std.specs.Prelude.{◌≡◌, ◌⊎◌, ◌≤◌, IfErr, IfSome, OnOk};
-ghost use Rattle.noise_tool.specs.Faults.{status_of};
+ghost use Rattle.noise_lines.specs.Faults.{status_of};
 ghost use Rattle.std.specs.Io.KnownBytes.{Appends};
 ghost use Rattle.noise_vectors.specs.Expectations.{bytes_of};
 ghost use Rattle.noise_vectors.specs.declared.vector.AllowedEvents.TheVariants.{VersionOne};
 ghost use Rattle.noise_tool.specs.Performing.{HasConverted, HasRun, IsDone, IsFault, IsOfLines, IsRunFault, IsTooLongConverted, IsUnlike, IsUnmet};
-ghost use Rattle.noise_tool.specs.Performing.{LeavesFile, LeavesOther};
-ghost use Rattle.noise_tool.specs.Printed.{lines_text};
-ghost use Rattle.noise_tool.specs.Told.{TellsRule};
+ghost use Rattle.noise_tool.specs.Performing.{LeavesFile};
+ghost use Rattle.noise_lines.specs.Lines.{lines_text};
+ghost use Rattle.noise_lines.specs.Told.{LeavesOther, TellsRule};
 ghost use Rattle.noise_tool.specs.Running.{IsMet};
-ghost use Rattle.noise_tool.specs.declared.faults.Fault.{Fault};
+ghost use Rattle.noise_lines.specs.declared.faults.Fault.{Fault};
 
-use crate::checking::check;
-use crate::converting::convert;
-use crate::faults::Fault;
-use crate::input::read_file;
 use crate::laws::conversions_meet_themselves;
-use crate::listing::list;
-use crate::output::{flush, write, write_lines};
 use crate::running::{Outcome, replay, run_vector};
-use crate::showing::show;
-use crate::telling::tell;
+use noise_lines::{Fault, check, convert, flush, list, read_file, show, tell, write, write_lines};
 use noise_vectors::{AllowedEvents, first_unmet, read_vector};
 use noise_words::Chosen;
 use std::alloc::Global;

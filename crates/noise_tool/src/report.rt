@@ -10,13 +10,14 @@ ghost use Rattle.noise_duel.specs.HeldDuel.{DuelStands, HasFrames};
 ghost use Rattle.noise_duel.specs.Sides.{Side, Sides, side};
 ghost use Rattle.noise_vectors.specs.Expectations.{bytes_of};
 ghost use Rattle.noise_vectors.specs.FileKeys.{agreement_of, public_of};
+ghost use Rattle.noise_lines.specs.Lines.{text_in};
 ghost use Rattle.noise_tool.specs.Printed as print;
-ghost use Rattle.noise_tool.specs.PrintedWords.{AreExpected, is_printed};
+ghost use Rattle.noise_lines.specs.PrintedWords.{AreExpected, is_printed};
 ghost use Rattle.noise_vectors.specs.VectorText as text;
 
-use crate::line::Line;
 use noise_duel::{Duel, Entry, Idle, Report};
 use noise_handshake::Cause;
+use noise_lines::{Line, role_word};
 use noise_names::Role;
 use noise_session::{End, SendFault, Stage, end_is_told};
 use noise_vectors::FileKeys;
@@ -61,7 +62,7 @@ pub fn entry_line(
     entry: &Entry,
 ) -> Result<Line, AllocError>
     ensures { (d : Sides) → HasFrames report.now d
-        → IfOk result (λ line. line.text.items ≡ join_with_byte 32 (print.note_words (side d role) role (note_of entry.now))) }
+        → IfOk result (λ line. text_in line ≡ join_with_byte 32 (print.note_words (side d role) role (note_of entry.now))) }
 {
     match entry {
         Entry::Wrote(number) => begun_line(alloc, "wrote", role)?
@@ -104,7 +105,7 @@ pub fn fault_line(
     fault: SendFault,
 ) -> Result<Line, AllocError>
     requires { IsTrue (is_printed word.now) }
-    ensures { IfOk result (λ line. line.text.items ≡ join_with_byte 32 (word.now ∷ text.role_word role ∷ print.fault_words fault)) }
+    ensures { IfOk result (λ line. text_in line ≡ join_with_byte 32 (word.now ∷ text.role_word role ∷ print.fault_words fault)) }
 {
     let line = begun_line(alloc, word, role)?;
     match fault {
@@ -120,41 +121,35 @@ pub fn fault_line(
 
 // Where an end stands.
 fn state_line(alloc: Global, role: Role, end: &End<FileKeys>) -> Result<Line, AllocError>
-    ensures { (v : EndView) → EndStands public_of agreement_of end.now v → IfOk result (λ line. line.text.items ≡ join_with_byte 32
+    ensures { (v : EndView) → EndStands public_of agreement_of end.now v → IfOk result (λ line. text_in line ≡ join_with_byte 32
         (codes "state" ∷ text.role_word role ∷ print.progress_words (progress_of v) (hash v.party.history))) }
 {
     end_is_told::<FileKeys>();
     let line = begun_line(alloc, "state", role)?;
-    match (end.stage(), end.hash()) {
-        (Stage::Handshake { done, ours: _ }, _) => line.word("handshake")?.number(u64::from(done)),
-        (Stage::Transport { send, receive }, Some(hash)) => line
+    // An end that is open tells its hash, and no other stage shows one.
+    add_stage(line, end.stage(), end.hash().unwrap_or([0; 32]))
+}
+
+fn add_stage(line: Line, stage: Stage, hash: [u8; 32]) -> Result<Line, AllocError>
+    ensures { IfOk result (λ made. text_in made ≡ text_in line ++ 32 ∷ join_with_byte 32 (print.stage_words stage hash)) }
+{
+    match stage {
+        Stage::Handshake { done, ours: _ } => line.word("handshake")?.number(u64::from(done)),
+        Stage::Transport { send, receive } => line
             .word("transport")?
             .number(send)?
             .number(receive)?
             .hex(&hash),
-        (Stage::Ended, _) => line.word("ended"),
-        // An end that is open tells its hash.
-        (Stage::Transport { .. }, None) => unreachable!(),
+        Stage::Ended => line.word("ended"),
     }
 }
 
 /// The front of a line: what it tells, and of which role.
 pub fn begun_line(alloc: Global, word: &str, role: Role) -> Result<Line, AllocError>
     requires { IsTrue (is_printed word.now) }
-    ensures { IfOk result (λ line. line.text.items ≡ join_with_byte 32 (word.now ∷ text.role_word role ∷ [])) }
+    ensures { IfOk result (λ line. text_in line ≡ join_with_byte 32 (word.now ∷ text.role_word role ∷ [])) }
 {
     Line::new(alloc, word)?.word(role_word(role))
-}
-
-/// The word for a role.
-pub fn role_word(role: Role) -> &'static str
-    ensures text { result.now ≡ text.role_word role }
-    ensures printed { IsTrue (is_printed result.now) }
-{
-    match role {
-        Role::Initiator => "initiator",
-        Role::Responder => "responder",
-    }
 }
 
 fn cause_word(cause: Cause) -> &'static str

@@ -9,15 +9,14 @@ ghost use Rattle.noise_vectors.specs.FileKeys.{agreement_of, public_of};
 ghost use Rattle.noise_vectors.specs.VectorFile.{IsAllowedFile};
 ghost use Rattle.noise_vectors.specs.declared.vector.AllowedEvents.TheVariants.{SayOnly};
 ghost use Rattle.noise_tool.specs.Ends.{IsStartFault};
-ghost use Rattle.noise_tool.specs.PrintedWords.{AreExpected};
+ghost use Rattle.noise_lines.specs.PrintedWords.{AreExpected};
 ghost use Rattle.noise_tool.specs.Running.{AreLast, IsRunOf, datagrams_in, expected_in};
 
 use crate::datagram_report::{push_datagram_lines, push_datagram_states};
 use crate::ends::make_ends;
-use crate::faults::Fault;
-use crate::line::Line;
 use crate::report::{entry_lines, push_state_lines};
 use noise_duel::Duel;
+use noise_lines::{Fault, Line};
 use noise_session::end_is_told;
 use noise_vectors::{AllowedEvents, FileDatagrams, FileKeys, VectorFile, Version, said_lines};
 use std::alloc::{AllocError, Global};

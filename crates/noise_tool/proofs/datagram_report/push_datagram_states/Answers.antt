@@ -1,7 +1,6 @@
 use Rattle.std.proofs.Common.{rules, ◌∙◌, subst, sym}
 use Rattle.noise_session.specs.Datagrams.{HeldDatagrams, Pictures}
-use Rattle.noise_tool.proofs.PrintedLemmas.{two-pushed}
-use Rattle.noise_tool.proofs.PrintedWordLemmas.{expected-push}
+use Rattle.noise_tool.proofs.PrintedLemmas.{two-pushed, expected-push}
 use Rattle.noise_tool.proofs.datagram_report.push_datagram_states.Goals as goal
 
 pub returns-clause-lines : goal.returns-clause-lines

@@ -1,6 +1,5 @@
 use Rattle.std.proofs.Common.{rules, ◌≡◌, ◌∙◌, ◌<◌, ◌≤◌, [], length}
-use Rattle.noise_tool.proofs.PrintedLemmas.{entries-lines, entry_line_of, line-pushed, lines-done}
-use Rattle.noise_tool.proofs.PrintedWordLemmas.{expected-push}
+use Rattle.noise_tool.proofs.PrintedLemmas.{entries-lines, entry_line_of, line-pushed, lines-done, expected-push}
 use Rattle.noise_tool.proofs.report.entry_lines.Goals as goal
 
 pub loop-role-preserved : goal.loop-role-preserved

@@ -1,4 +1,4 @@
-use Rattle.noise_tool.proofs.PrintedWordLemmas.{expected-push}
+use Rattle.noise_tool.proofs.PrintedLemmas.{expected-push}
 use Rattle.noise_tool.proofs.report.push_state_lines.Goals as goal
 
 pub returns-clause-printed : goal.returns-clause-printed

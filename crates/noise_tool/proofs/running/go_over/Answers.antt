@@ -3,8 +3,7 @@ use Rattle.std.specs.Prelude.{decimal}
 use Rattle.noise_session.specs.EndDatagrams.{is_datagram_ready}
 use Rattle.noise_vectors.specs.Expectations.{bytes_of}
 use Rattle.noise_vectors.specs.VectorText.{window_words}
-use Rattle.noise_tool.proofs.PrintedLemmas.{bytes-push}
-use Rattle.noise_tool.proofs.PrintedWordLemmas.{expected-push}
+use Rattle.noise_tool.proofs.PrintedLemmas.{bytes-push, expected-push}
 use Rattle.noise_tool.proofs.RunningLemmas.{behind-ready, behind-unready, behind-without, both-ready, not-ready}
 use Rattle.noise_tool.proofs.running.go_over.Goals as goal
 

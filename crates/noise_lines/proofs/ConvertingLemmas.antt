@@ -1,0 +1,96 @@
+-- The text of a version 1 file, as one of version 2.
+use Rattle.std.proofs.Common.{◌≡◌, ◌∙◌, ap, sym, refl, ℕ, ◌+◌, ◌<◌, ◌≤◌, Vec, List, [], ◌∷◌, ◌++◌, Option, Some, None, codes, length, get_or, take, append_assoc, decimal}
+use Rattle.std.specs.Global.{Global}
+use Rattle.std.specs.Prelude.{flat_map, slice_get}
+use Rattle.std.proofs.lemmas.List.{take_all}
+use Rattle.std.proofs.lemmas.Option.{slice_get_read}
+use Rattle.noise_names.specs.declared.token.Role.{Role}
+use Rattle.noise_names.specs.declared.token.Role.TheVariants.{Initiator, Responder}
+use Rattle.noise_names.specs.Names.{name_bytes}
+use Rattle.noise_names.specs.Plan.{Plan}
+use Rattle.noise_names.specs.Text as PatternText
+use Rattle.noise_vectors.specs.Expectations.{bytes_of}
+use Rattle.noise_vectors.specs.HexWord.{hex_of}
+use Rattle.noise_vectors.specs.VectorText.{answer_words, block_text, event_words, expect_line, header_words, is_second, line, lines_of, party_text}
+use Rattle.noise_vectors.specs.VectorText.{key_words, psk_words, role_word, text_body, text_of, version_text}
+use Rattle.noise_vectors.specs.declared.file_keys.FileKeys.{FileKeys}
+use Rattle.noise_vectors.specs.declared.file_keys.FileKeys.TheVariants.{Xor, Table}
+use Rattle.noise_vectors.specs.declared.vector.VectorFile.{VectorFile}
+use Rattle.noise_vectors.specs.declared.vector.Version.{Version}
+use Rattle.noise_vectors.specs.declared.vector.Version.TheVariants.{One}
+use Rattle.noise_lines.specs.Converted.{converted_text}
+use Rattle.noise_lines.proofs.OutputLemmas.{elements-more}
+
+-- ---- what stands behind the lines of a text
+
+line-behind : (t a b : List ℕ) → line t (a ++ b) ≡ line t a ++ b
+line-behind t a b = sym (append_assoc t (10 ∷ a) b)
+
+lines-behind : {A : Type 0} (words : A → List ℕ) (xs : List A) (a b : List ℕ) → lines_of words xs (a ++ b) ≡ lines_of words xs a ++ b
+lines-behind words [] a b = refl
+lines-behind words (x ∷ xs) a b = ap (line (words x)) (lines-behind words xs a b) ∙ line-behind (words x) (lines_of words xs a) b
+
+party-behind : (role : Role) (keys : FileKeys) (a b : List ℕ) → party_text role keys (a ++ b) ≡ party_text role keys a ++ b
+party-behind role (Xor keys) a b = line-behind (role_word role ++ (codes " xor " ++ key_words keys.e keys.s)) a b
+party-behind role (Table keys) a b =
+    let first : List ℕ = role_word role ++ (codes " table " ++ key_words keys.e keys.s) in
+    ap (λ (t : List ℕ). line first t) (lines-behind answer_words keys.entries a b) ∙ line-behind first (lines_of answer_words keys.entries a) b
+
+block-behind : (block : Option Plan) (a b : List ℕ) → block_text block (a ++ b) ≡ block_text block a ++ b
+block-behind None a b = refl
+block-behind (Some p) a b =
+    ap (λ (t : List ℕ). PatternText.text_of p ++ t) (line-behind (codes "end") a b) ∙ sym (append_assoc (PatternText.text_of p) (line (codes "end") a) b)
+
+pub body-behind : (file : VectorFile) (rest : List ℕ) → text_body file rest ≡ text_body file [] ++ rest
+body-behind file rest =
+    let events = lines-behind event_words file.events.items [] rest in
+    let responder = ap (party_text Responder file.responder) events ∙ party-behind Responder file.responder (lines_of event_words file.events.items []) rest in
+    let initiator = ap (party_text Initiator file.initiator) responder ∙ party-behind Initiator file.initiator _ rest in
+    let psks = ap (lines_of psk_words file.psks.items) initiator ∙ lines-behind psk_words file.psks.items _ rest in
+    let interval = ap (line (codes "interval " ++ decimal file.interval)) psks ∙ line-behind (codes "interval " ++ decimal file.interval) _ rest in
+    let prologue = ap (line (codes "prologue " ++ hex_of file.prologue.items)) interval ∙ line-behind (codes "prologue " ++ hex_of file.prologue.items) _ rest in
+    let block = ap (block_text file.block) prologue ∙ block-behind file.block _ rest in
+    ap (line (codes "protocol " ++ name_bytes file.protocol)) block ∙ line-behind (codes "protocol " ++ name_bytes file.protocol) _ rest
+
+first-text : (file : VectorFile) → file.version ≡ One → text_of file ≡ line (codes "vector 1") (text_body file [])
+first-text file one = ap (λ (v : Version). line (header_words (is_second v)) (text_body file (version_text v))) one
+
+same-behind : (a b : List ℕ) → line (codes "vector 1") a ≡ line (codes "vector 1") b → a ≡ b
+same-behind a b e = cc e
+
+-- the converted text, by what stands behind the header of version 1
+pub converted-is : (file : VectorFile) (lines : List (List ℕ)) (text behind converted : List ℕ) → file.version ≡ One → text ≡ text_of file
+    → text ≡ line (codes "vector 1") behind → converted ≡ line (codes "vector 2") behind ++ lines_of expect_line lines []
+    → converted ≡ converted_text file lines
+converted-is file lines text behind converted one spelled begun is =
+    let same : behind ≡ text_body file [] = same-behind behind (text_body file []) (sym begun ∙ spelled ∙ first-text file one) in
+    is ∙ ap (λ (t : List ℕ). line (codes "vector 2") t ++ lines_of expect_line lines []) same
+    ∙ sym (line-behind (codes "vector 2") (text_body file []) (lines_of expect_line lines []))
+    ∙ ap (line (codes "vector 2")) (sym (body-behind file (lines_of expect_line lines [])))
+
+-- ---- the lines of what is expected
+
+abbrev pub expectation : Vec ℕ Global → List ℕ
+expectation l = line (expect_line l.items) []
+
+pub expectations-text : (lines : List (Vec ℕ Global)) → flat_map expectation lines ≡ lines_of expect_line (bytes_of lines) []
+expectations-text [] = refl
+expectations-text (l ∷ ls) =
+    ap (λ (t : List ℕ). expectation l ++ t) (expectations-text ls) ∙ append_assoc (expect_line l.items) (10 ∷ []) (lines_of expect_line (bytes_of ls) [])
+
+-- one more
+pub expectation-more : (lines items : List (Vec ℕ Global)) (i : ℕ) (x : Vec ℕ Global) (before now after : List ℕ) → items ≡ lines → i < length items
+    → x ≡ get_or items i x → now ≡ before ++ flat_map expectation (take i lines) → after ≡ now ++ expectation x
+    → after ≡ before ++ flat_map expectation (take (i + 1) lines)
+expectation-more lines items i x before now after same less is inv pushed =
+    let found : slice_get items i ≡ Some x = slice_get_read items (length items) i x refl less is in
+    let here : slice_get lines i ≡ Some x = rw (← same) found in
+    pushed ∙ ap (λ (t : List ℕ). t ++ expectation x) inv ∙ append_assoc before (flat_map expectation (take i lines)) (expectation x)
+    ∙ ap (λ (t : List ℕ). before ++ t) (elements-more expectation lines i x here)
+
+pub expectations-done : (lines items : List (Vec ℕ Global)) (i : ℕ) (before now : List ℕ) → items ≡ lines → length items ≤ i
+    → now ≡ before ++ flat_map expectation (take i lines) → now ≡ before ++ lines_of expect_line (bytes_of lines) []
+expectations-done lines items i before now same all inv =
+    let past : length lines ≤ i = rw (← same) all in
+    inv ∙ ap (λ (ls : List (Vec ℕ Global)). before ++ flat_map expectation ls) (take_all i lines past)
+    ∙ ap (λ (t : List ℕ). before ++ t) (expectations-text lines)

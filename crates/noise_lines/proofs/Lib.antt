@@ -1,0 +1,4 @@
+pub mod ConvertingLemmas
+pub mod InputLemmas
+pub mod OutputLemmas
+pub mod PrintedWordLemmas

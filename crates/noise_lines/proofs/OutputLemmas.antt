@@ -1,0 +1,79 @@
+-- Lines of the output, one after the other.
+use Rattle.std.proofs.Common.{◌≡◌, ℕ, zero, suc, ◌+◌, List, [], ◌∷◌, ◌++◌, ◌<◌, ◌≤◌, ◌∙◌, ap, ap₂, sym, refl, subst, Vec, Option, get_or, take, length, add-one, arith}
+use Rattle.std.specs.Prelude.{flat_map, slice_get, Some, None}
+use Rattle.std.specs.Global.{Global}
+use Rattle.std.specs.List.{range_with_len}
+use Rattle.std.specs.Io.KnownBytes.{Appends}
+use Rattle.std.proofs.KnownBytes.{Appends-trans}
+use Rattle.std.proofs.Math.Seq.{take-suc}
+use Rattle.std.proofs.lemmas.List.{flat_map_more, take_all}
+use Rattle.std.proofs.lemmas.List.Folds.{flat_map-map}
+use Rattle.std.proofs.lemmas.Option.{slice_get_read, slice_get_within, get_or_from_slice_get}
+use Rattle.noise_names.specs.Fundamental.{fundamentals}
+use Rattle.noise_names.specs.Text.{line}
+use Rattle.noise_vectors.specs.Expectations.{bytes_of}
+use Rattle.noise_lines.specs.Lines.{lines_text}
+
+pub fundamentals-count : length fundamentals ≡ 15
+unfolding fundamentals
+fundamentals-count = refl
+
+-- one number more
+pub range-more : (a n : ℕ) → range_with_len a (suc n) ≡ range_with_len a n ++ (a + n) ∷ []
+range-more a zero = ap (λ (k : ℕ). k ∷ []) (omega arith)
+range-more a (suc n) =
+    ap (λ (ks : List ℕ). a ∷ ks) (range-more (a + 1) n)
+    ∙ ap (λ (k : ℕ). a ∷ range_with_len (a + 1) n ++ k ∷ []) (omega arith)
+
+-- the lines of one number more
+pub lines-more : (line : ℕ → List ℕ) (before : List ℕ) (n : ℕ)
+    → (before ++ flat_map line (range_with_len 1 n)) ++ line (n + 1) ≡ before ++ flat_map line (range_with_len 1 (n + 1))
+lines-more line before n =
+    ap (λ (k : ℕ). (before ++ flat_map line (range_with_len 1 n)) ++ line k) (omega arith)
+    ∙ flat_map_more line before (range_with_len 1 n) (1 + n)
+    ∙ ap (λ (ks : List ℕ). before ++ flat_map line ks) (sym (range-more 1 n))
+    ∙ ap (λ (k : ℕ). before ++ flat_map line (range_with_len 1 k)) (sym (add-one n))
+
+-- the lines of one element more
+pub elements-more : {X : Type 0} (line : X → List ℕ) (xs : List X) (i : ℕ) (x : X) → slice_get xs i ≡ Some x
+    → flat_map line (take i xs) ++ line x ≡ flat_map line (take (i + 1) xs)
+elements-more {X = X} line xs i x found =
+    flat_map_more line [] (take i xs) x
+    ∙ ap (λ (e : X). flat_map line (take i xs ++ e ∷ [])) (sym (get_or_from_slice_get xs i x x found))
+    ∙ ap (λ (ys : List X). flat_map line ys) (sym (take-suc xs i x (slice_get_within xs i x found)))
+    ∙ ap (λ (k : ℕ). flat_map line (take k xs)) (sym (add-one i))
+
+-- where no element stands, the list has ended
+pub none-past : {X : Type 0} (xs : List X) (i : ℕ) → slice_get xs i ≡ None → length xs ≤ i
+none-past [] i e = omega arith
+none-past (x ∷ xs) zero e = absurd (cc)
+none-past (x ∷ xs) (suc i) e = omega (arith, none-past xs i e)
+
+-- ---- written
+
+-- the element at a place that a loop has come to
+at-place : {X : Type 0} (xs items : List X) (i : ℕ) (x : X) → items ≡ xs → i < length items → x ≡ get_or items i x → slice_get xs i ≡ Some x
+at-place xs items i x same less is =
+    let found : slice_get items i ≡ Some x = slice_get_read items (length items) i x refl less is in
+    rw (← same) found
+
+abbrev pub written_line : Vec ℕ Global → List ℕ
+written_line l = line l.items
+
+-- one line more is written, and its LF (10)
+pub line-written : (lines items : List (Vec ℕ Global)) (i : ℕ) (x : Vec ℕ Global) (text feed : List ℕ) (a b c e : Option (List ℕ))
+    → items ≡ lines → i < length items → x ≡ get_or items i x → text ≡ x.items → feed ≡ 10 ∷ []
+    → Appends a b (flat_map written_line (take i lines)) → Appends b c text → Appends c e feed → Appends a e (flat_map written_line (take (i + 1) lines))
+line-written lines items i x text feed a b c e same less is text_is feed_is before now last =
+    subst (λ (t : List ℕ). Appends a e t)
+    (ap₂ (λ (t u : List ℕ). flat_map written_line (take i lines) ++ (t ++ u)) text_is feed_is
+    ∙ elements-more written_line lines i x (at-place lines items i x same less is))
+    (Appends-trans a b e (flat_map written_line (take i lines)) (text ++ feed) before (Appends-trans b c e text feed now last))
+
+pub lines-written : (lines items : List (Vec ℕ Global)) (i : ℕ) (a b : Option (List ℕ)) → items ≡ lines → length items ≤ i
+    → Appends a b (flat_map written_line (take i lines)) → Appends a b (lines_text (bytes_of lines))
+lines-written lines items i a b same all written =
+    let past : length lines ≤ i = rw (← same) all in
+    subst (λ (t : List ℕ). Appends a b t)
+    (ap (λ (ls : List (Vec ℕ Global)). flat_map written_line ls) (take_all i lines past)
+    ∙ sym (flat_map-map line (λ (l : Vec ℕ Global). l.items) lines)) written

@@ -1,0 +1,7 @@
+pub mod Converted
+pub mod Faults
+pub mod Lines
+pub mod Named
+pub mod Output
+pub mod PrintedWords
+pub mod Told

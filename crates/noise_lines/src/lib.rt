@@ -1,0 +1,26 @@
+//! What the command `noise` reads and writes: a file, lines, the text of each fault; and the commands that run no ends: `list`, `show`, `check` and the
+//! text of `convert`.
+#![tactic(auto)]
+
+mod checking;
+mod converting;
+mod faults;
+mod input;
+mod line;
+mod listing;
+mod named;
+mod output;
+mod overheads;
+mod showing;
+mod telling;
+
+pub use checking::check;
+pub use converting::convert;
+pub use faults::Fault;
+pub use input::read_file;
+pub use line::{Line, role_word};
+pub use listing::list;
+pub use named::named_pattern;
+pub use output::{flush, write, write_lines};
+pub use showing::show;
+pub use telling::tell;

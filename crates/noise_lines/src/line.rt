@@ -1,0 +1,94 @@
+//! Lines of output.
+
+ghost use Rattle.std.specs.Prelude.{◌≡◌, ◌++◌, ◌∷◌, [], IfErr, IfOk, IsTrue, OnOk, decimal};
+ghost use Rattle.std.specs.Io.KnownBytes.{Appends};
+ghost use Rattle.noise_lines.specs.Faults.{status_of};
+ghost use Rattle.noise_lines.specs.PrintedWords.{is_printed};
+ghost use Rattle.noise_vectors.specs.HexWord.{hex_of};
+ghost use Rattle.noise_vectors.specs.VectorFile.{IsExpected};
+ghost use Rattle.noise_vectors.specs.VectorText as text;
+
+use crate::faults::Fault;
+use crate::output::write;
+use noise_names::Role;
+use noise_vectors::hex_word;
+use std::alloc::{AllocError, Global};
+use std::io::Write;
+
+/// A line of output, made word by word. It is at least one byte, and each one is printed.
+#[derive(Debug, Drop)]
+pub struct Line {
+    alloc: Global,
+    text: Vec<u8>,
+    ghost printed: { IsTrue (is_printed text.items) },
+}
+
+impl Line {
+    /// The line of this one word.
+    pub fn new(alloc: Global, word: &str) -> Result<Line, AllocError>
+        requires { IsTrue (is_printed word.now) }
+        ensures { IfOk result (λ line. line.text.items ≡ word.now) }
+    {
+        let mut text = Vec::new(alloc);
+        text.extend_from_slice(word.as_bytes())?;
+        Ok(Line { alloc, text })
+    }
+
+    /// With one word more.
+    pub fn word(self, word: &str) -> Result<Line, AllocError>
+        requires { IsTrue (is_printed word.now) }
+        ensures { IfOk result (λ line. line.text.items ≡ self.text.items ++ 32 ∷ word.now) }
+    {
+        let Line { alloc, mut text } = self;
+        text.push(b' ')?;
+        text.extend_from_slice(word.as_bytes())?;
+        Ok(Line { alloc, text })
+    }
+
+    /// With one word more: a number.
+    pub fn number(self, number: u64) -> Result<Line, AllocError>
+        ensures { IfOk result (λ line. line.text.items ≡ self.text.items ++ 32 ∷ decimal number) }
+    {
+        let digits = format!(in self.alloc; "{number}")?;
+        self.word(digits.as_str())
+    }
+
+    /// With one word more: bytes in hex.
+    pub fn hex(self, bytes: &[u8]) -> Result<Line, AllocError>
+        ensures { IfOk result (λ line. line.text.items ≡ self.text.items ++ 32 ∷ hex_of bytes.now) }
+    {
+        let Line { alloc, mut text } = self;
+        text.push(b' ')?;
+        hex_word(bytes, &mut text)?;
+        Ok(Line { alloc, text })
+    }
+
+    /// The line, without an LF.
+    pub fn into_bytes(self) -> Vec<u8>
+        ensures text { result.items ≡ self.text.items }
+        ensures printed { IsExpected result.items }
+    {
+        self.text
+    }
+
+    /// Writes the line, with an LF behind it.
+    pub fn write<W: Write>(self, out: &mut W) -> Result<(), Fault>
+        ensures written { OnOk result (Appends (W.contents out.old) (W.contents out.new) (self.text.items ++ 10 ∷ [])) }
+        ensures fault { IfErr result (λ fault. status_of fault ≡ 3) }
+    {
+        let Line { mut text, .. } = self;
+        text.push(b'\n').map_err(AllocError::from)?;
+        write(text.as_slice(), out)
+    }
+}
+
+/// The word for a role.
+pub fn role_word(role: Role) -> &'static str
+    ensures text { result.now ≡ text.role_word role }
+    ensures printed { IsTrue (is_printed result.now) }
+{
+    match role {
+        Role::Initiator => "initiator",
+        Role::Responder => "responder",
+    }
+}

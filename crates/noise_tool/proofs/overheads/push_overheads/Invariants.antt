@@ -1,8 +1,0 @@
-use Rattle.std.proofs.Common.{◌≡◌, ◌++◌}
-use Rattle.std.specs.Prelude.{flat_map}
-use Rattle.std.specs.List.{range_with_len}
-use Rattle.noise_tool.specs.Output.{overhead_line}
-use Rattle.noise_tool.proofs.overheads.push_overheads.Given as goal
-
-abbrev pub invariant-loop-index : goal.invariant-loop-index
-invariant-loop-index l = l.text.items ≡ l.initial.text.items ++ flat_map (overhead_line l.pattern) (range_with_len 1 l.index)
