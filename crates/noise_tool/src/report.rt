@@ -1,6 +1,6 @@
 //! The lines of a run.
 
-ghost use Rattle.std.specs.Prelude.{◌≡◌, ◌∷◌, ◌++◌, [], codes, decimal, map, IfOk, IsTrue, OnOk};
+ghost use Rattle.std.specs.Prelude.{◌≡◌, ◌∷◌, ◌++◌, [], codes, map, IfOk, IsTrue, OnOk};
 ghost use Rattle.std.specs.List.{join_with_byte};
 ghost use Rattle.noise_state.specs.History.{hash};
 ghost use Rattle.noise_session.specs.Ends.{EndView, EndStands, progress_of};

@@ -1,6 +1,6 @@
 //! The run of a vector file.
 
-ghost use Rattle.std.specs.Prelude.{◌≡◌, ◌⊎◌, ◌++◌, ℕ, List, Option, IfErr, IfOk, OnOk};
+ghost use Rattle.std.specs.Prelude.{◌≡◌, ◌++◌, ℕ, List, Option, IfErr, IfOk, OnOk};
 ghost use Rattle.std.specs.List.{All};
 ghost use Rattle.noise_duel.specs.HeldDuel.{DuelStands};
 ghost use Rattle.noise_duel.specs.Sides.{Sides};
