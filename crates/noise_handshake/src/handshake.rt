@@ -115,8 +115,10 @@ impl<K: Keys> Handshake<K> {
         ensures stands { IfOk result
             (λ h. Stands K.public_of K.agreement h (begun pattern role prologue.now (K.public_of keys) (K.agreement keys) remote psks.now)) }
         ensures parts { IfOk result (λ h. (h.pattern ≡ pattern) × (h.role ≡ role) × (h.keys ≡ keys) × (h.passed ≡ 0) × (h.ended ≡ false)) }
+        ensures valid { IsPattern pattern × IsValid pattern }
     {
         let plan = pattern.pattern();
+        let _ = plan.messages();
         if let Some(fault) = setup_fault(plan, role, &keys, &remote, psks.len()) {
             return Err(fault);
         }
