@@ -13,7 +13,7 @@ ghost use Rattle.noise_session.specs.Counting.{inner_of, failures_of};
 ghost use Rattle.std.specs.Io.KnownBytes.{Appends, Consumes, IsAtEnd};
 
 use crate::draining::write_out;
-use crate::incoming::{FRAME_MAX, Incoming};
+use crate::incoming::{Incoming, zeros};
 use crate::outcome::Outcome;
 use crate::phase::Phase;
 use crate::receiving::receive_from;
@@ -38,7 +38,7 @@ pub struct End<K: Keys> {
 }
 
 impl<K: Keys> Model for End<K> {
-    ghost use Rattle.std.specs.Prelude.{◌≡◌, [], true, length, IsTrue};
+    ghost use Rattle.std.specs.Prelude.{◌≡◌, [], true, length, vec_capacity, IsTrue};
     ghost use Rattle.noise_session.specs.Frames.{IsPartial};
     ghost use Rattle.noise_session.specs.inner.Incoming.{bytes_of};
     ghost use Rattle.noise_session.specs.Ends.{HeldEnd, is_over};
@@ -53,6 +53,7 @@ impl<K: Keys> Model for End<K> {
       partial : IsPartial (bytes_of e.incoming);
       closed : is_over e.phase ≡ true → bytes_of e.incoming ≡ [];
       room : length e.outgoing.items ≡ 65537;
+      fixed : vec_capacity e.outgoing ≡ 65537;
     } };
 }
 
@@ -73,7 +74,7 @@ impl<K: Keys> End<K> {
     /// An end of a session that begins with this handshake, which hasn't ended; it is open at once where all its messages
     /// have passed. In transport the key is renewed after each `interval` messages of a direction; 0 means never.
     ///
-    /// It reserves two buffers of 65537 bytes, and no later call takes memory. At Err the handshake is gone.
+    /// It reserves two buffers of 65537 bytes, which no later call grows. At Err the handshake is gone.
     pub fn new(alloc: Global, handshake: Handshake<K>, interval: u64) -> Result<End<K>, AllocError>
         requires { handshake.ended ≡ false }
         ensures { (v : View) → Stands K.public_of K.agreement handshake v → IfOk result (λ end. EndStands K.public_of K.agreement end (end_of v interval)) }
@@ -83,7 +84,7 @@ impl<K: Keys> End<K> {
 
     /// An end of a session that is open with this transport.
     ///
-    /// It reserves two buffers of 65537 bytes, and no later call takes memory. At Err the transport is gone.
+    /// It reserves two buffers of 65537 bytes, which no later call grows. At Err the transport is gone.
     pub fn from_transport(alloc: Global, transport: Transport) -> Result<End<K>, AllocError>
         ensures { IfOk result (λ end. end ≡ record { phase = phases.Open transport; held = [] }) }
     {
@@ -96,7 +97,7 @@ impl<K: Keys> End<K> {
         ensures { IfOk result (λ end. end ≡ record { phase = phase; held = [] }) }
     {
         let incoming = Incoming::new(alloc)?;
-        let outgoing = vec![in alloc; 0u8; FRAME_MAX]?;
+        let outgoing = zeros(alloc)?;
         Ok(End {
             phase,
             incoming,

@@ -1,7 +1,7 @@
 //! The frame that is coming.
 #![tactic(auto)]
 
-ghost use Rattle.std.specs.Prelude.{◌≡◌, ◌≢◌, ◌≤◌, ◌<◌, ◌+◌, ◌-◌, ◌++◌, ◌↔◌, ℕ, List, [], length, take, IfOk, IfNone, IfSome};
+ghost use Rattle.std.specs.Prelude.{◌≡◌, ◌≢◌, ◌≤◌, ◌<◌, ◌+◌, ◌-◌, ◌++◌, ◌↔◌, ℕ, List, [], length, take, IfOk, IfNone, IfSome, vec_capacity};
 ghost use Rattle.noise_session.specs.Frames.{IsPartial, IsWhole, frame_length};
 ghost use Rattle.byteorder.specs.Endian.{big_bytes};
 ghost use Rattle.std.specs.Io.KnownBytes.{Consumes, IsAtEnd};
@@ -18,13 +18,25 @@ use std::io::Read;
 /// The most bytes of a frame: a length of 2 bytes, and a message of 65535.
 pub(crate) const FRAME_MAX: usize = 65537;
 
-// What has come of the next frame, in a buffer for a whole one.
+// Zeros for a whole frame, in memory that holds just them.
+pub(crate) fn zeros(alloc: Global) -> Result<Vec<u8>, AllocError>
+    ensures { IfOk result (λ bytes. (length bytes.items ≡ 65537) × (vec_capacity bytes ≡ 65537)) }
+{
+    let mut bytes = Vec::with_capacity(alloc, FRAME_MAX)?;
+    for at in 0..FRAME_MAX {
+        bytes.insert(at, 0u8)?;
+    }
+    Ok(bytes)
+}
+
+// What has come of the next frame, in a buffer for a whole one, which never grows.
 #[derive(Drop)]
 pub(crate) struct Incoming {
     pub(crate) buffer: Vec<u8>,
     held: usize,
     whole: usize, // of the frame, as far as its bytes tell
     ghost room: { length buffer.items ≡ 65537 },
+    ghost fixed: { vec_capacity buffer ≡ 65537 },
     ghost most: { whole ≤ 65537 },
     ghost within: { held ≤ whole },
     ghost known: { whole ≡ frame_length (take held buffer.items) },
@@ -37,7 +49,7 @@ impl Incoming {
     pub(crate) fn new(alloc: Global) -> Result<Incoming, AllocError>
         ensures { IfOk result (λ incoming. bytes_of incoming ≡ []) }
     {
-        let buffer = vec![in alloc; 0u8; FRAME_MAX]?;
+        let buffer = zeros(alloc)?;
         Ok(Incoming {
             buffer,
             held: 0,
@@ -135,6 +147,7 @@ fn read_into<R: Read>(
     requires order { start ≤ end }
     requires room { end ≤ length buffer.old.items }
     ensures room { length buffer.new.items ≡ length buffer.old.items }
+    ensures fixed { vec_capacity buffer.new ≡ vec_capacity buffer.old }
     ensures within { result.0 ≤ end - start }
     ensures filled { (result.1 ≡ Filled) ↔ (result.0 ≡ end - start) }
     ensures bytes { (piece : List ℕ) × Consumes (R.remaining (inner_of from.old)) (R.remaining (inner_of from.new)) piece
@@ -149,6 +162,7 @@ fn read_into<R: Read>(
 fn put(buffer: &mut Vec<u8>, from: usize, bytes: &[u8])
     requires { from + length bytes.now ≤ length buffer.old.items }
     ensures room { length buffer.new.items ≡ length buffer.old.items }
+    ensures fixed { vec_capacity buffer.new ≡ vec_capacity buffer.old }
     ensures front { take (from + length bytes.now) buffer.new.items ≡ take from buffer.old.items ++ bytes.now }
 {
     buffer[from..from + bytes.len()].copy_from_slice(bytes);

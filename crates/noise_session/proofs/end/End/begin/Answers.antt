@@ -7,6 +7,5 @@ pub invariant_of-result : goal.invariant_of-result
 invariant_of-result g c =
     let none : bytes_of c.in_ok-incoming.incoming ≡ [] = c.in_ok-incoming.ensures in
     let empty : IsPartial [] = omega arith in
-    let len = c.in_ok-outgoing.ensures.len in
     let partial : IsPartial (bytes_of c.in_ok-incoming.incoming) = subst (λ (xs : List ℕ). IsPartial xs) (sym none) empty in
-    record { due = c.requires; partial = partial; closed = λ _. none; room = sym c.in_ok-outgoing.outgoing.ok.0 ∙ len }
+    record { due = c.requires; partial = partial; closed = λ _. none; room = c.in_ok-outgoing.ensures.0; fixed = c.in_ok-outgoing.ensures.1 }

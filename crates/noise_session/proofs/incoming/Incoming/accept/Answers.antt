@@ -27,6 +27,7 @@ invariant_of-self c =
     let same : length ys ≡ length xs = c.put.ensures.room in
     record {
       room = same ∙ all;
+      fixed = c.put.ensures.fixed ∙ self.fixed;
       most = grown-most xs ys p h n self.whole u joined came room same self.known fits low self.spelled read c.whole_behind-self.ensures.kept;
       within = grown-within xs ys p h n self.whole u joined came room same self.known fits low self.spelled read c.whole_behind-self.ensures.kept;
       known = grown-known xs ys p h n self.whole u joined came room same self.known fits low self.spelled read c.whole_behind-self.ensures.kept;

@@ -26,6 +26,7 @@ invariant_of-self g c =
     let same : length ys ≡ length xs = c.read_into-count.ensures.room in
     record {
       room = same ∙ all;
+      fixed = c.read_into-count.ensures.fixed ∙ self.fixed;
       most = grown-most xs ys p h n self.whole u r.3 r.2 room same self.known fits low self.spelled read c.whole_behind-self.ensures.kept;
       within = grown-within xs ys p h n self.whole u r.3 r.2 room same self.known fits low self.spelled read c.whole_behind-self.ensures.kept;
       known = grown-known xs ys p h n self.whole u r.3 r.2 room same self.known fits low self.spelled read c.whole_behind-self.ensures.kept;
