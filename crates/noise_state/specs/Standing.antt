@@ -10,6 +10,14 @@ use Rattle.noise_state.specs.History.{History, chaining_key, hash, cipher_key, n
 abbrev pub keyed : SymmetricState → Bool
 keyed s = is_some s.cipher.key
 
+-- the key, if there is one
+abbrev pub key_now : SymmetricState → Option (List ℕ)
+key_now s = s.cipher.key
+
+-- the handshake hash
+abbrev pub hash_now : SymmetricState → List ℕ
+hash_now s = s.hash
+
 -- the nonce of the next encryption or decryption
 abbrev pub nonce_now : SymmetricState → ℕ
 nonce_now s = s.cipher.nonce

@@ -31,8 +31,9 @@ pub enum CipherFault {
 /// A key of 32 bytes, or none, and the nonce of its next use (Noise 5.1). Without a key a text
 /// passes as it is.
 ///
-/// It can't be copied: two states with one key would encrypt at the same nonce, and then the cipher
-/// protects neither text.
+/// It isn't `Clone`: two states with one key would encrypt at the same nonce, and then the cipher
+/// protects neither text. `from_parts` makes a state of any key and nonce, so whoever keeps a key
+/// outside a state sees to it that no two states have it.
 #[derive(Drop)]
 pub struct CipherState {
     key: Option<[u8; 32]>,
@@ -71,8 +72,9 @@ impl CipherState {
         (self.key, self.nonce)
     }
 
-    /// The cipher state of a key, or of none, and a nonce: those of the state that was taken apart,
-    /// which can't be put together twice. A nonce that was used before must not be used again.
+    /// The cipher state of a key, or of none, and a nonce: those of a state that was taken apart. Nothing
+    /// hinders a second call with the same key, so the caller makes one state of it at a time. A nonce
+    /// that was used for encryption must not be used again with its key.
     pub fn from_parts(key: Option<[u8; 32]>, nonce: u64) -> CipherState
         ensures { result ≡ cipher_of key nonce }
     {

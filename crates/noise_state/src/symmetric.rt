@@ -3,8 +3,8 @@
 ghost use Rattle.std.specs.Prelude.{◌≡◌, ◌≤◌, ◌<◌, ◌-◌, ◌+◌, ◌^◌, ◌++◌, ◌↔◌, ℕ, List, [], length, take, drop, is_some, true, false, IsOk, IsSome};
 ghost use Rattle.std.specs.Prelude.{IfOk, IfErr, OnOk, OnErr, Some};
 ghost use Rattle.sha2.specs.Sha256.{sha256};
-ghost use Rattle.noise_state.specs.History.{History, Mix, Part, Key, KeyHash, and_then, piece, cipher_key, nonce, hash, start_value, initiator_key};
-ghost use Rattle.noise_state.specs.History.{responder_key};
+ghost use Rattle.noise_state.specs.History.{History, Mix, Part, Key, KeyHash, and_then, piece, piece_under, cipher_key, nonce, hash, start_value};
+ghost use Rattle.noise_state.specs.History.{initiator_key, responder_key};
 
 use crate::cipher::{CipherFault, CipherState};
 use noise_kdf::{expand2, expand3};
@@ -57,7 +57,7 @@ pub struct SymmetricState {
 }
 
 impl SymmetricState {
-    ghost use Rattle.noise_state.specs.Standing.{StateStands, keyed, nonce_now, state_of};
+    ghost use Rattle.noise_state.specs.Standing.{StateStands, keyed, key_now, nonce_now, hash_now, state_of};
     ghost use Rattle.noise_state.specs.Cipher.{key_in, nonce_in, sealed_len, next_nonce, HasNonce, EncryptRefused, DecryptRefused};
 
     /// The state of a protocol name, with nothing mixed and no key (InitializeSymmetric).
@@ -196,6 +196,9 @@ impl SymmetricState {
     ///
     /// At an `Err` nothing has changed.
     pub fn decrypt_and_hash(&mut self, buf: &mut [u8]) -> Result<usize, CipherFault>
+        ensures success { IsOk result ↔ (HasNonce (keyed self.old) (nonce_now self.old)
+            × (length buf.old ≤ 65535) × ((plain : List ℕ)
+            × (buf.old ≡ piece_under (key_now self.old) (nonce_now self.old) (hash_now self.old) plain))) }
         ensures accepts { (r : History) → StateStands self.old r → IsOk result ↔ (
             (nonce r < 2 ^ 64 - 1) × (length buf.old ≤ 65535)
             × ((plain : List ℕ) × (buf.old ≡ piece r plain))) }

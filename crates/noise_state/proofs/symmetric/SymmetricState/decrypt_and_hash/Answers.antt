@@ -14,3 +14,10 @@ returns-in-Some-clause-accepts c r s = (
     λ k. tagged (cipher_key r) (nonce r) (hash r) t.2.0 c.args.buf.now t.2.1 (sym (keyed-is c.args.self.now r s) ∙ k),
   )),
 )
+
+pub returns-in-Some-clause-success : goal.returns-in-Some-clause-success
+returns-in-Some-clause-success c = (
+  λ h. cc,
+  λ t. sym (c.in-Some.ensures.none.1
+      (t.0, t.1, tagged c.args.self.now.cipher.key c.args.self.now.cipher.nonce c.args.self.now.hash t.2.0 c.args.buf.now t.2.1)),
+)
