@@ -150,8 +150,9 @@ impl<K: Keys> Handshake<K> {
         &self.secrets[self.used..]
     }
 
-    /// What messages have changed so far, the secrets aside, for a caller that keeps it itself until the next message. This handshake
-    /// isn't used beside one that is put together of it: two of them would encrypt at the same nonce.
+    /// A copy of what messages have changed so far, the secrets aside, for a caller that keeps it itself until the next message. It has
+    /// the cipher key with its nonce, and nothing hinders going on both with this handshake and with one that is put together of the copy:
+    /// the two would encrypt at the same nonce. So take it when this handshake is given up.
     pub fn progress(&self) -> Progress
         ensures same { HasProgress self.now result }
         ensures whole { IsWhole K.public_of self.now }
@@ -180,7 +181,9 @@ impl<K: Keys> Handshake<K> {
     }
 
     /// The handshake that holds these parts, and these secrets for the psk tokens that are still to come, in their order; or None for
-    /// what no handshake holds. It stands for what the handshake stood for that was taken apart; at None the parts are gone.
+    /// what no handshake holds. It stands for what the handshake stood for that was taken apart; at None the parts are gone. What can't be
+    /// told from the parts isn't tested, as whether the keys, the hash and the nonce come of messages: of other parts it may be a handshake
+    /// that stands for no view.
     ///
     /// A handshake that was taken apart is put together once: two of them would encrypt at the same nonce.
     pub fn from_parts(parts: Parts<K>, secrets: &[[u8; 32]]) -> Option<Handshake<K>>

@@ -1,5 +1,6 @@
 -- What a transport holds, which views it stands for, and what it refuses (Noise 5.1, 7.4, 11.3).
-use Rattle.std.specs.Prelude.{◌≡◌, ℕ, ◌+◌, ◌==◌, nat_lt, List, Bool, ◌&&◌, Option, Some, None, if◌then◌else◌}
+use Rattle.std.specs.Prelude.{◌≡◌, ℕ, ◌+◌, ◌%◌, ◌==◌, nat_lt, List, Bool, ◌&&◌, not, Option, Some, None, option_map, if◌then◌else◌}
+use Rattle.noise_aead.specs.Sealing.{rekeyed}
 use Rattle.noise_names.specs.declared.token.Role.{Role}
 use Rattle.noise_names.specs.declared.token.Role.TheVariants.{Initiator, Responder}
 use Rattle.noise_names.specs.Tokens.{same_role, other}
@@ -65,6 +66,11 @@ pub record TransportStands (t : HeldTransport) (v : TransportView) : Type 0 wher
   pub send_nonce : t.send_nonce ≡ v.sent
   pub receive_key : t.receive_key ≡ Some (transport_key v.history (other v.role) v.interval v.received)
   pub receive_nonce : t.receive_nonce ≡ v.received
+
+-- The key of the message at this nonce, behind that of the message before: a new one where the nonce is a multiple of the interval
+-- (11.3). An interval of 0 means never.
+abbrev pub renewed_key : ℕ → ℕ → Option (List ℕ) → Option (List ℕ)
+renewed_key interval nonce key = if not (interval == 0) && (nonce % interval == 0) then option_map rekeyed key else key
 
 -- why a payload of this length isn't sealed now: the first of these
 abbrev pub seal_fault : HeldTransport → ℕ → Option SendFault

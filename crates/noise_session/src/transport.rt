@@ -1,15 +1,16 @@
 //! Transport messages of one party (Noise, 5.2 and 11.3).
 #![tactic(auto)]
 
-ghost use Rattle.std.specs.Prelude.{◌≡◌, ◌≢◌, ◌≤◌, ◌+◌, ℕ, List, length, take, drop, Option, Some, None, IsSome, IsOk, IfOk, IfErr, OnOk, OnErr};
+ghost use Rattle.std.specs.Prelude.{◌≡◌, ◌≢◌, ◌≤◌, ◌+◌, ℕ, List, [], length, take, drop, Option, Some, None, IsSome, IsOk, IfOk, IfErr, OnOk, OnErr};
 ghost use Rattle.std.specs.Prelude.{MatchOption, MatchResult};
 ghost use Rattle.noise_state.specs.Cipher.{key_in, nonce_in};
-ghost use Rattle.noise_state.specs.History.{rekeyed_times};
+ghost use Rattle.noise_state.specs.History.{piece_under, rekeyed_times};
 ghost use Rattle.noise_handshake.specs.View.{View};
 ghost use Rattle.noise_handshake.specs.Opening.{Opens};
 ghost use Rattle.noise_session.specs.Transport.{renewals};
 ghost use Rattle.noise_session.specs.Parts.{transport_in};
-ghost use Rattle.noise_session.specs.HeldTransport.{TransportView, TransportStands, transport_of, next_packet, due_packet, seal_fault, open_fault, no_packet};
+ghost use Rattle.noise_session.specs.HeldTransport.{TransportView, TransportStands, transport_of, next_packet, due_packet, renewed_key};
+ghost use Rattle.noise_session.specs.HeldTransport.{seal_fault, open_fault, no_packet};
 
 use crate::parts::key_and_nonce;
 use crate::{OpenFault, SendFault, TransportParts};
@@ -108,7 +109,8 @@ impl Transport {
         }
     }
 
-    /// The transport that holds these parts: it stands for what the transport stood for that was taken apart.
+    /// The transport that holds these parts: it stands for what the transport stood for that was taken apart. Any parts make one: a
+    /// key and a nonce don't show of which handshake they are.
     ///
     /// A transport that was taken apart is put together once: two of them would seal at the same nonce.
     pub fn from_parts(parts: TransportParts) -> Transport
@@ -206,6 +208,8 @@ impl Transport {
         ensures rest { IfOk result (λ n. drop n out.new ≡ drop n out.old) }
         ensures counted { OnOk result (self.new ≡ record self.old { send_key = self.new.send_key; send_nonce = self.old.send_nonce + 1 }) }
         ensures unchanged { OnErr result ((self.new ≡ self.old) × (out.new ≡ out.old)) }
+        ensures sealed { IfOk result (λ n. take n out.new ≡ piece_under self.old.send_key self.old.send_nonce [] payload.now) }
+        ensures renewed { OnOk result (self.new.send_key ≡ renewed_key self.old.interval (self.old.send_nonce + 1) self.old.send_key) }
         ensures seals { (v : TransportView) → TransportStands self.old v → IfOk result (λ n.
             (take n out.new ≡ next_packet v payload.now) × TransportStands self.new (record v { sent = v.sent + 1 })) }
     {
@@ -239,6 +243,10 @@ impl Transport {
         ensures beyond { IfOk result (λ n. drop n message.new ≡ drop n message.old) }
         ensures counted { OnOk result (self.new ≡ record self.old { receive_key = self.new.receive_key; receive_nonce = self.old.receive_nonce + 1 }) }
         ensures unchanged { OnErr result ((self.new ≡ self.old) × (message.new ≡ message.old)) }
+        ensures opened { MatchResult result
+            (λ n. message.old ≡ piece_under self.old.receive_key self.old.receive_nonce [] (take n message.new))
+            (λ _. open_fault self.old ≡ None → (payload : List ℕ) → message.old ≢ piece_under self.old.receive_key self.old.receive_nonce [] payload) }
+        ensures renewed { OnOk result (self.new.receive_key ≡ renewed_key self.old.interval (self.old.receive_nonce + 1) self.old.receive_key) }
         ensures opens { (v : TransportView) → TransportStands self.old v → MatchResult result
             (λ n. (message.old ≡ due_packet v (take n message.new)) × TransportStands self.new (record v { received = v.received + 1 }))
             (λ _. open_fault self.old ≡ None → (payload : List ℕ) → message.old ≢ due_packet v payload) }
@@ -267,6 +275,10 @@ impl Transport {
         ensures part { IfOk result (λ payload. (payload.ref_ptr ≡ message.entry.ref_ptr) × (length payload.now + 16 ≡ length message.old)) }
         ensures counted { OnOk result (self.new ≡ record self.old { receive_key = self.new.receive_key; receive_nonce = self.old.receive_nonce + 1 }) }
         ensures unchanged { OnErr result (self.new ≡ self.old) }
+        ensures opened { MatchResult result
+            (λ payload. message.old ≡ piece_under self.old.receive_key self.old.receive_nonce [] payload.now)
+            (λ _. open_fault self.old ≡ None → (payload : List ℕ) → message.old ≢ piece_under self.old.receive_key self.old.receive_nonce [] payload) }
+        ensures renewed { OnOk result (self.new.receive_key ≡ renewed_key self.old.interval (self.old.receive_nonce + 1) self.old.receive_key) }
         ensures opens { (v : TransportView) → TransportStands self.old v → MatchResult result
             (λ payload. (message.old ≡ due_packet v payload.now) × TransportStands self.new (record v { received = v.received + 1 }))
             (λ _. open_fault self.old ≡ None → (payload : List ℕ) → message.old ≢ due_packet v payload) }
@@ -281,6 +293,7 @@ fn renew(cipher: &mut CipherState, interval: u64)
     requires { IsSome (key_in cipher.old) }
     ensures nonce { nonce_in cipher.new ≡ nonce_in cipher.old }
     ensures keyed { IsSome (key_in cipher.new) }
+    ensures renewed { key_in cipher.new ≡ renewed_key interval (nonce_in cipher.old) (key_in cipher.old) }
     ensures key { (first : List ℕ) (n : ℕ) → nonce_in cipher.old ≡ n + 1 → key_in cipher.old ≡ Some (rekeyed_times (renewals interval n) first)
         → key_in cipher.new ≡ Some (rekeyed_times (renewals interval (n + 1)) first) }
 {

@@ -23,3 +23,19 @@ returns-in-Err-Tag-clause-opens c v s listens payload is =
     (length c.args.message.now) f)
     c.in-Err-Tag.field-0-is c.in-Err-Tag.ensures.refused in
     not_ok c.decrypt.result _ c.in-Err-Tag.is (c.decrypt.ensures.accepts.1 (refused.0, refused.1, (payload, piece)))
+
+pub returns-in-Err-Short-clause-opened : goal.returns-in-Err-Short-clause-opened
+returns-in-Err-Short-clause-opened c listens payload is =
+    let piece = subst (λ (t : HeldTransport). c.args.message.now ≡ piece_under t.receive_key t.receive_nonce [] payload) (sym c.self.view_is) is in
+    let refused = subst (λ (f : CipherFault). DecryptRefused (keyed_in c.self.inside.receiving) (nonce_in c.self.inside.receiving)
+    (length c.args.message.now) f)
+    c.in-Err-Short.field-0-is c.in-Err-Short.ensures.refused in
+    not_ok c.decrypt.result _ c.in-Err-Short.is (c.decrypt.ensures.accepts.1 (refused.0, refused.1, (payload, piece)))
+
+pub returns-in-Err-Tag-clause-opened : goal.returns-in-Err-Tag-clause-opened
+returns-in-Err-Tag-clause-opened c listens payload is =
+    let piece = subst (λ (t : HeldTransport). c.args.message.now ≡ piece_under t.receive_key t.receive_nonce [] payload) (sym c.self.view_is) is in
+    let refused = subst (λ (f : CipherFault). DecryptRefused (keyed_in c.self.inside.receiving) (nonce_in c.self.inside.receiving)
+    (length c.args.message.now) f)
+    c.in-Err-Tag.field-0-is c.in-Err-Tag.ensures.refused in
+    not_ok c.decrypt.result _ c.in-Err-Tag.is (c.decrypt.ensures.accepts.1 (refused.0, refused.1, (payload, piece)))
