@@ -1,6 +1,6 @@
 //! What the words of the command line ask for.
 
-ghost use Rattle.std.specs.Prelude.{◌≡◌, ◌≢◌, ◌⊎◌, ◌∷◌, [], IfOk, IfErr, Some, None, codes, false, map, option_map, string_bytes};
+ghost use Rattle.std.specs.Prelude.{◌≡◌, ◌≢◌, ◌⊎◌, ◌∷◌, [], IfOk, IfErr, Some, None, codes, true, false, map, option_map, string_bytes};
 ghost use Rattle.clap.specs.Simple.{with_subcommand};
 ghost use Rattle.clap.specs.Words.{app_of, first_of, found_of, kind_of, rows_of, shape_of, subcommand_rows_of};
 ghost use Rattle.clap.specs.declared.builder.command.Command.TheViews.{out-Command};
@@ -17,12 +17,25 @@ pub fn chosen(alloc: Global, words: Vec<String>) -> Result<Chosen, LineFault>
     ensures ok { IfOk result (λ c. asked (map string_bytes words.items) ≡ Some (order_of c)) }
     ensures line { IfErr result (λ fault. (fault ≡ LineFault.Memory) ⊎ (asked (map string_bytes words.items) ≡ None)) }
 {
-    let mut noise = command(alloc)?;
-    match noise.try_get_matches_from_mut(words.as_slice()) {
+    let mut whole = command(alloc)?;
+    stated(alloc, &mut whole, words.as_slice())
+}
+
+// The command that these words name, where the command line is the one that is taken.
+fn stated<'a>(
+    alloc: Global,
+    whole: &mut Command<'a>,
+    words: &'a [String],
+) -> Result<Chosen, LineFault>
+    requires { app_of whole.old ≡ noise }
+    ensures ok { IfOk result (λ c. asked (map string_bytes words.entry.now) ≡ Some (order_of c)) }
+    ensures line { IfErr result (λ fault. (fault ≡ LineFault.Memory) ⊎ (asked (map string_bytes words.entry.now) ≡ None)) }
+{
+    match whole.try_get_matches_from_mut(words) {
         Ok(matches) => match order(alloc, &matches)? {
             Some(order) => Ok(order),
             None => {
-                let error = noise.error(ErrorKind::MissingRequiredArgument, "a value is missing")?;
+                let error = whole.error(ErrorKind::MissingRequiredArgument, "a value is missing")?;
                 Err(LineFault::Line(error))
             }
         },
@@ -46,13 +59,20 @@ fn command<'a>(alloc: Global) -> Result<Command<'a>, AllocError>
 fn with_list<'a>(alloc: Global) -> Result<Command<'a>, AllocError>
     ensures { IfOk result (λ c. app_of c ≡ record noise { subs = subcommand (codes "list", None) ∷ [] }) }
 {
-    let list = Command::new(alloc, "list").about("Print the names of the fundamental patterns");
+    top(alloc)?.subcommand(Command::new(alloc, "list").about(
+        "Print the names of the fundamental patterns",
+    ))
+}
+
+// The command itself.
+fn top<'a>(alloc: Global) -> Result<Command<'a>, AllocError>
+    ensures { IfOk result (λ c. app_of c ≡ record noise { top = record noise.top { is_leaf = true }; subs = [] }) }
+{
     Command::new(alloc, "noise")
-        .bin_name("noise")?
         .version("0.1.0")
         .about("Noise handshake patterns, and transport sessions between two ends, by a file")
         .subcommand_required(true)
-        .subcommand(list)
+        .bin_name("noise")
 }
 
 // With one subcommand more, which has to have a value.

@@ -6,7 +6,7 @@ ghost use Rattle.noise_words.specs.declared.orders.LineFault.TheVariants.{Memory
 use std::alloc::AllocError;
 
 /// A command with its value.
-#[derive(Debug, Drop, PartialEq, Eq)]
+#[derive(Drop, PartialEq, Eq)]
 pub enum Chosen {
     /// Print the base names of the fundamental patterns.
     List,
@@ -23,7 +23,7 @@ pub enum Chosen {
 }
 
 /// Why the words of a command line are no command.
-#[derive(Debug, Drop)]
+#[derive(Drop)]
 pub enum LineFault {
     /// Memory ran out.
     Memory,
