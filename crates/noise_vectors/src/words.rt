@@ -116,10 +116,12 @@ pub(crate) fn read_role(word: &[u8]) -> Option<Role>
     ensures value { IfSome result (λ role. word.now ≡ role_word role) }
     ensures every { (role : Role) → word.now ≡ role_word role → result ≡ Some role }
 {
-    match word {
-        b"initiator" => Some(Role::Initiator),
-        b"responder" => Some(Role::Responder),
-        _ => None,
+    if word == b"initiator".as_slice() {
+        Some(Role::Initiator)
+    } else if word == b"responder".as_slice() {
+        Some(Role::Responder)
+    } else {
+        None
     }
 }
 
@@ -128,12 +130,16 @@ pub(crate) fn read_kind(word: &[u8]) -> Option<EventKind>
     ensures value { IfSome result (λ kind. word.now ≡ kind_word kind) }
     ensures every { (kind : EventKind) → word.now ≡ kind_word kind → result ≡ Some kind }
 {
-    match word {
-        b"say" => Some(EventKind::Say),
-        b"write" => Some(EventKind::Write),
-        b"deliver" => Some(EventKind::Deliver),
-        b"raw" => Some(EventKind::Raw),
-        _ => None,
+    if word == b"say".as_slice() {
+        Some(EventKind::Say)
+    } else if word == b"write".as_slice() {
+        Some(EventKind::Write)
+    } else if word == b"deliver".as_slice() {
+        Some(EventKind::Deliver)
+    } else if word == b"raw".as_slice() {
+        Some(EventKind::Raw)
+    } else {
+        None
     }
 }
 
@@ -142,11 +148,14 @@ pub(crate) fn read_datagram_kind(word: &[u8]) -> Option<DatagramKind>
     ensures value { IfSome result (λ kind. word.now ≡ datagram_kind_word kind) }
     ensures every { (kind : DatagramKind) → word.now ≡ datagram_kind_word kind → result ≡ Some kind }
 {
-    match word {
-        b"seal" => Some(DatagramKind::Seal),
-        b"open" => Some(DatagramKind::Open),
-        b"foreign" => Some(DatagramKind::Foreign),
-        _ => None,
+    if word == b"seal".as_slice() {
+        Some(DatagramKind::Seal)
+    } else if word == b"open".as_slice() {
+        Some(DatagramKind::Open)
+    } else if word == b"foreign".as_slice() {
+        Some(DatagramKind::Foreign)
+    } else {
+        None
     }
 }
 
