@@ -89,10 +89,12 @@ fn is_second(line: &[u8]) -> Option<bool>
     ensures text { IfSome result (λ second. line.now ≡ header_words second) }
     ensures every { (second : Bool) → line.now ≡ header_words second → result ≡ Some second }
 {
-    match line.strip_prefix(b"vector ".as_slice())? {
-        [b'1'] => Some(false),
-        [b'2'] => Some(true),
-        _ => None,
+    if line == b"vector 1".as_slice() {
+        Some(false)
+    } else if line == b"vector 2".as_slice() {
+        Some(true)
+    } else {
+        None
     }
 }
 
