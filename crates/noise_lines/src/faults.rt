@@ -10,7 +10,7 @@ use noise_vectors::{LineKind, VectorFault};
 use std::alloc::AllocError;
 
 /// Why a command ends before its work is done.
-#[derive(Clone, Copy, Debug, PartialEq, Eq)]
+#[derive(Clone, Copy)]
 pub enum Fault {
     /// The pattern breaks a rule of validity.
     Rule(RuleFault),

@@ -16,7 +16,7 @@ use std::alloc::{AllocError, Global};
 use std::io::Write;
 
 /// A line of output, made word by word. It is at least one byte, and each one is printed.
-#[derive(Debug, Drop)]
+#[derive(Drop)]
 pub struct Line {
     alloc: Global,
     text: Vec<u8>,
