@@ -1,12 +1,12 @@
 //! What the words of the command line ask for.
 
-ghost use Rattle.std.specs.Prelude.{◌≡◌, ◌≢◌, ◌⊎◌, ◌∷◌, [], IfOk, IfErr, Some, None, codes, true, false, map, option_map, string_bytes};
+ghost use Rattle.std.specs.Prelude.{◌≡◌, ◌≢◌, ◌⊎◌, ◌∷◌, [], IfOk, IfErr, Some, None, codes, fold, true, false, map, option_map, string_bytes};
 ghost use Rattle.clap.specs.Simple.{with_subcommand};
 ghost use Rattle.clap.specs.Words.{app_of, first_of, found_of, kind_of, rows_of, shape_of, subcommand_rows_of};
 ghost use Rattle.clap.specs.declared.builder.command.Command.TheViews.{out-Command};
 ghost use Rattle.noise_words.specs.CommandLine.{asked, noise, order_of, stated_in, subcommand};
 
-use crate::help::{self, Help};
+use crate::help::{Subcommand, WITH_VALUE};
 use crate::orders::{Chosen, LineFault};
 use clap::error::ErrorKind;
 use clap::{Arg, ArgMatches, Command};
@@ -47,12 +47,7 @@ fn stated<'a>(
 fn command<'a>(alloc: Global) -> Result<Command<'a>, AllocError>
     ensures { IfOk result (λ c. app_of c ≡ noise) }
 {
-    let noise = with_list(alloc)?;
-    let noise = adding(alloc, noise, "show", "NAME", &help::SHOW)?;
-    let noise = adding(alloc, noise, "check", "FILE", &help::CHECK)?;
-    let noise = adding(alloc, noise, "talk", "FILE", &help::TALK)?;
-    let noise = adding(alloc, noise, "replay", "FILE", &help::REPLAY)?;
-    adding(alloc, noise, "convert", "FILE", &help::CONVERT)
+    adding(alloc, with_list(alloc)?, &WITH_VALUE)
 }
 
 // The command itself, with its subcommand that has no value.
@@ -75,33 +70,33 @@ fn top<'a>(alloc: Global) -> Result<Command<'a>, AllocError>
         .bin_name("noise")
 }
 
-// With one subcommand more, which has to have a value.
+// With these subcommands too, each of which has to have a value.
 fn adding<'a>(
     alloc: Global,
     whole: Command<'a>,
-    name: &'a str,
-    value: &'a str,
-    help: &Help<'a>,
+    subcommands: &[Subcommand<'a>],
 ) -> Result<Command<'a>, AllocError>
-    ensures { IfOk result (λ c. app_of c ≡ with_subcommand (app_of whole.entry) (subcommand (name.now, Some value.now))) }
+    ensures { IfOk result (λ c. app_of c
+        ≡ fold (λ app sub. with_subcommand app (subcommand (sub.name.now, Some sub.value.now))) (app_of whole.entry) subcommands.now) }
 {
-    whole.subcommand(with_value(alloc, name, value, help)?)
+    let mut whole = whole;
+    for named in subcommands {
+        whole = whole.subcommand(with_value(alloc, named)?)?;
+    }
+    Ok(whole)
 }
 
 // The command of this name, which has to have a value.
-fn with_value<'a>(
-    alloc: Global,
-    name: &'a str,
-    value: &'a str,
-    help: &Help<'a>,
-) -> Result<Command<'a>, AllocError>
-    ensures shape { IfOk result (λ c. shape_of c ≡ subcommand (name.now, Some value.now)) }
+fn with_value<'a>(alloc: Global, named: &Subcommand<'a>) -> Result<Command<'a>, AllocError>
+    ensures shape { IfOk result (λ c. shape_of c ≡ subcommand (named.now.name.now, Some named.now.value.now)) }
     ensures local { IfOk result (λ c. (out-Command c).has_globals ≡ false) }
 {
-    let value = Arg::new(alloc, value).required(true).help(help.value);
-    Command::new(alloc, name)
-        .about(help.about)
-        .after_help(help.example)
+    let value = Arg::new(alloc, named.value)
+        .required(true)
+        .help(named.meaning);
+    Command::new(alloc, named.name)
+        .about(named.about)
+        .after_help(named.example)
         .arg(value)
 }
 
