@@ -18,16 +18,13 @@ use Rattle.noise_duel.proofs.Parts.{remote-own}
 use Rattle.noise_duel.specs.Messages.{Start}
 use Rattle.noise_duel.specs.Agreement.{IsSetUp}
 use Rattle.noise_duel.specs.Conversation.{KeyMaterial, IsPart, public_keys_in}
-use Rattle.noise_duel.specs.SetUpAlike.{AreSetUpAlike, HasLongKeys, HasAnswers, AlikeAreParts}
-
-abbrev zeros : List ℕ
-zeros = 0 ∷ 0 ∷ 0 ∷ 0 ∷ 0 ∷ 0 ∷ 0 ∷ 0 ∷ 0 ∷ 0 ∷ 0 ∷ 0 ∷ 0 ∷ 0 ∷ 0 ∷ 0 ∷ 0 ∷ 0 ∷ 0 ∷ 0 ∷ 0 ∷ 0 ∷ 0 ∷ 0 ∷ 0 ∷ 0 ∷ 0 ∷ 0 ∷ 0 ∷ 0 ∷ 0 ∷ 0 ∷ []
+use Rattle.noise_duel.specs.SetUpAlike.{AreSetUpAlike, HasLongKeys, HasAnswers, AlikeAreParts, material_of, no_key, public_in}
 
 there-is : (o : Option (List ℕ)) (d : List ℕ) → is_some o ≡ true → o ≡ Some (unwrap_or o d)
 there-is None d h = cc
 there-is (Some x) d h = refl
 
-long-or : (o : Option (List ℕ)) → ((k : List ℕ) → o ≡ Some k → length k ≡ 32) → length (unwrap_or o zeros) ≡ 32
+long-or : (o : Option (List ℕ)) → ((k : List ℕ) → o ≡ Some k → length k ≡ 32) → length (unwrap_or o no_key) ≡ 32
 long-or None f = refl
 long-or (Some k) f = f k refl
 
@@ -47,25 +44,21 @@ answers-same agree their_agree x y (Some k) None f g h = cc
 answers-same agree their_agree x y (Some k) (Some l) f g h = f k l refl refl
 
 abbrev true-key : (s : Start) → Own → List ℕ
-true-key s x = unwrap_or (s.own x) zeros
+true-key s x = unwrap_or (s.own x) no_key
 
 module _ (laws : LawsBelow) (p : Plan) (prologue : List ℕ) (a b : Start) (valid : IsValid p) (alike : AreSetUpAlike p prologue a b)
     (answers : HasAnswers p a b) where
   abbrev answer-at : Token → Option (List ℕ)
   answer-at t = answered a.agree (own_at Initiator t) (remote_at Initiator (public_keys b.own) t)
 
-  abbrev public_in : Role → Own → List ℕ
-  public_in Initiator x = true-key a x
-  public_in Responder x = true-key b x
-
   abbrev material : KeyMaterial
-  material = record { public = public_in; answer = λ t. unwrap_or (answer-at t) []; secrets = a.secrets }
+  material = material_of a b
 
   own-a : (x : Own) → is_among Initiator (token_of x) (places_of p) ≡ true → a.own x ≡ Some (true-key a x)
-  own-a x h = there-is (a.own x) zeros (set-own laws p Initiator a alike.initiator x h)
+  own-a x h = there-is (a.own x) no_key (set-own laws p Initiator a alike.initiator x h)
 
   own-b : (x : Own) → is_among Responder (token_of x) (places_of p) ≡ true → b.own x ≡ Some (true-key b x)
-  own-b x h = there-is (b.own x) zeros (set-own laws p Responder b alike.responder x h)
+  own-b x h = there-is (b.own x) no_key (set-own laws p Responder b alike.responder x h)
 
   meets : AnswersMeet p Initiator a.own a.agree b.own b.agree
   meets t d h =
@@ -117,13 +110,12 @@ module _ (laws : LawsBelow) (p : Plan) (prologue : List ℕ) (a b : Start) (vali
     secrets = alike.secrets;
   }
 
-  long-in : HasLongKeys a → HasLongKeys b → (role : Role) (k : Own) → length (public_in role k) ≡ 32
+  long-in : HasLongKeys a → HasLongKeys b → (role : Role) (k : Own) → length (public_in a b role k) ≡ 32
   long-in f g Initiator k = long-or (a.own k) (f k)
   long-in f g Responder k = long-or (b.own k) (g k)
 
 pub alike-are-parts : LawsBelow → AlikeAreParts
 alike-are-parts laws p prologue a b valid alike f g answers = record {
-  material = material laws p prologue a b valid alike answers;
   long = long-in laws p prologue a b valid alike answers f g;
   initiator = part-a laws p prologue a b valid alike answers;
   responder = part-b laws p prologue a b valid alike answers;

@@ -1,5 +1,5 @@
 -- When two parties are set up with the key material of one conversation.
-use Rattle.std.specs.Prelude.{◌≡◌, ℕ, List, length, Some, true, is_some}
+use Rattle.std.specs.Prelude.{◌≡◌, ℕ, List, [], ◌∷◌, length, Some, true, is_some, unwrap_or}
 use Rattle.noise_names.specs.declared.token.Role.{Role}
 use Rattle.noise_names.specs.declared.token.Role.TheVariants.{Initiator, Responder}
 use Rattle.noise_names.specs.declared.token.Token.{Token}
@@ -34,12 +34,27 @@ abbrev pub HasAnswers : Plan → Start → Start → Type 0
 HasAnswers p a b = (t : Token) → is_dh t ≡ true → occurs t (places_of p) ≡ true
     → is_some (answered a.agree (own_at Initiator t) (remote_at Initiator (public_keys b.own) t)) ≡ true
 
--- key material, with public keys of 32 bytes, of which each party has its part
+-- The key material of two parties: both parties' public keys, the initiator's answer at each DH token, and the psks. 32 zeros stand for a key that there
+-- isn't, and no bytes for an answer: no message of a pattern that the parties are set up for has them.
+abbrev pub no_key : List ℕ
+no_key = 0 ∷ 0 ∷ 0 ∷ 0 ∷ 0 ∷ 0 ∷ 0 ∷ 0 ∷ 0 ∷ 0 ∷ 0 ∷ 0 ∷ 0 ∷ 0 ∷ 0 ∷ 0 ∷ 0 ∷ 0 ∷ 0 ∷ 0 ∷ 0 ∷ 0 ∷ 0 ∷ 0 ∷ 0 ∷ 0 ∷ 0 ∷ 0 ∷ 0 ∷ 0 ∷ 0 ∷ 0 ∷ []
+
+abbrev pub public_in : Start → Start → Role → Own → List ℕ
+public_in a b Initiator x = unwrap_or (a.own x) no_key
+public_in a b Responder x = unwrap_or (b.own x) no_key
+
+abbrev pub material_of : Start → Start → KeyMaterial
+material_of a b = record {
+  public = public_in a b;
+  answer = λ t. unwrap_or (answered a.agree (own_at Initiator t) (remote_at Initiator (public_keys b.own) t)) [];
+  secrets = a.secrets;
+}
+
+-- public keys of 32 bytes, and each party has its part of the key material
 pub record AreParts (p : Plan) (prologue : List ℕ) (a b : Start) : Type 0 where
-  pub material : KeyMaterial
-  pub long : (role : Role) (k : Own) → length (material.public role k) ≡ 32
-  pub initiator : IsPart material p Initiator prologue a
-  pub responder : IsPart material p Responder prologue b
+  pub long : (role : Role) (k : Own) → length ((material_of a b).public role k) ≡ 32
+  pub initiator : IsPart (material_of a b) p Initiator prologue a
+  pub responder : IsPart (material_of a b) p Responder prologue b
 
 -- Two parties of a valid pattern that are set up alike have their parts of one key material.
 abbrev pub AlikeAreParts : Type 0
