@@ -7,6 +7,7 @@ ghost use Rattle.noise_state.specs.History.{hash};
 ghost use Rattle.noise_handshake.specs.View.{View};
 ghost use Rattle.noise_handshake.specs.Held.{message_len_of};
 ghost use Rattle.noise_c.specs.Kept.{key_in, text_in, held_in, IsPatternOf, IsUsable, KeepsView, TellsStage};
+ghost use Rattle.noise_c.specs.declared.codes.TheConstants.{NOT_DUE, OK, STRUCT};
 
 use crate::codes::{NOT_DUE, OK, STRUCT};
 use crate::held::{handshake_of, kept_key};
@@ -22,11 +23,11 @@ pub extern "C" fn noise_message_len(
     payload_len: usize,
     len: &mut usize,
 ) -> u32
-    ensures unusable { result ≡ 23 ↔ (IsUsable kept.now → ⊥) }
-    ensures len { result ≡ 0 → (p : Plan) → IsPatternOf (text_in kept.now) p → message_len_of (held_in p kept.now) payload_len ≡ Some len.new }
-    ensures not_due { result ≡ 29 → (p : Plan) → IsPatternOf (text_in kept.now) p → message_len_of (held_in p kept.now) payload_len ≡ None }
-    ensures unchanged { 0 < result → len.new ≡ len.old }
-    ensures codes { (result ≡ 0) ⊎ (result ≡ 23) ⊎ (result ≡ 29) }
+    ensures unusable { result ≡ STRUCT ↔ (IsUsable kept.now → ⊥) }
+    ensures len { result ≡ OK → (p : Plan) → IsPatternOf (text_in kept.now) p → message_len_of (held_in p kept.now) payload_len ≡ Some len.new }
+    ensures not_due { result ≡ NOT_DUE → (p : Plan) → IsPatternOf (text_in kept.now) p → message_len_of (held_in p kept.now) payload_len ≡ None }
+    ensures unchanged { OK < result → len.new ≡ len.old }
+    ensures codes { (result ≡ OK) ⊎ (result ≡ STRUCT) ⊎ (result ≡ NOT_DUE) }
 {
     let Some(handshake) = handshake_of(kept) else {
         return STRUCT;
@@ -44,10 +45,10 @@ pub extern "C" fn noise_message_len(
 /// ended. At STRUCT `out` is unchanged.
 #[unsafe(no_mangle)]
 pub extern "C" fn noise_hash(kept: &NoiseHandshake, out: &mut [u8; 32]) -> u32
-    ensures unusable { result ≡ 23 ↔ (IsUsable kept.now → ⊥) }
-    ensures hash { result ≡ 0 → (p : Plan) (v : View) → KeepsView kept.now p v → out.new ≡ hash v.history }
-    ensures unchanged { 0 < result → out.new ≡ out.old }
-    ensures codes { (result ≡ 0) ⊎ (result ≡ 23) }
+    ensures unusable { result ≡ STRUCT ↔ (IsUsable kept.now → ⊥) }
+    ensures hash { result ≡ OK → (p : Plan) (v : View) → KeepsView kept.now p v → out.new ≡ hash v.history }
+    ensures unchanged { OK < result → out.new ≡ out.old }
+    ensures codes { (result ≡ OK) ⊎ (result ≡ STRUCT) }
 {
     let Some(handshake) = handshake_of(kept) else {
         return STRUCT;
@@ -60,11 +61,11 @@ pub extern "C" fn noise_hash(kept: &NoiseHandshake, out: &mut [u8; 32]) -> u32
 /// after the handshake has ended; else none. At STRUCT `key` is unchanged.
 #[unsafe(no_mangle)]
 pub extern "C" fn noise_remote_static(kept: &NoiseHandshake, key: &mut NoiseKey) -> u32
-    ensures unusable { result ≡ 23 ↔ (IsUsable kept.now → ⊥) }
-    ensures same { result ≡ 0 → key_in key.new ≡ key_in kept.now.remote_s }
-    ensures key { result ≡ 0 → (p : Plan) (v : View) → KeepsView kept.now p v → key_in key.new ≡ v.remote.s }
-    ensures unchanged { 0 < result → key.new ≡ key.old }
-    ensures codes { (result ≡ 0) ⊎ (result ≡ 23) }
+    ensures unusable { result ≡ STRUCT ↔ (IsUsable kept.now → ⊥) }
+    ensures same { result ≡ OK → key_in key.new ≡ key_in kept.now.remote_s }
+    ensures key { result ≡ OK → (p : Plan) (v : View) → KeepsView kept.now p v → key_in key.new ≡ v.remote.s }
+    ensures unchanged { OK < result → key.new ≡ key.old }
+    ensures codes { (result ≡ OK) ⊎ (result ≡ STRUCT) }
 {
     let Some(handshake) = handshake_of(kept) else {
         return STRUCT;
@@ -77,10 +78,10 @@ pub extern "C" fn noise_remote_static(kept: &NoiseHandshake, key: &mut NoiseKey)
 /// whether this party writes the next message, if there is one. At STRUCT `told` is unchanged.
 #[unsafe(no_mangle)]
 pub extern "C" fn noise_stage(kept: &NoiseHandshake, told: &mut NoiseStageTold) -> u32
-    ensures unusable { result ≡ 23 ↔ (IsUsable kept.now → ⊥) }
-    ensures told { result ≡ 0 → (p : Plan) → IsPatternOf (text_in kept.now) p → TellsStage (held_in p kept.now) told.new }
-    ensures unchanged { 0 < result → told.new ≡ told.old }
-    ensures codes { (result ≡ 0) ⊎ (result ≡ 23) }
+    ensures unusable { result ≡ STRUCT ↔ (IsUsable kept.now → ⊥) }
+    ensures told { result ≡ OK → (p : Plan) → IsPatternOf (text_in kept.now) p → TellsStage (held_in p kept.now) told.new }
+    ensures unchanged { OK < result → told.new ≡ told.old }
+    ensures codes { (result ≡ OK) ⊎ (result ≡ STRUCT) }
 {
     let Some(handshake) = handshake_of(kept) else {
         return STRUCT;

@@ -6,6 +6,7 @@ ghost use Rattle.noise_names.specs.Plan.{Plan};
 ghost use Rattle.noise_names.specs.Text.{Spells};
 ghost use Rattle.noise_names.specs.Validity.{IsValid};
 ghost use Rattle.noise_c.specs.Checked.{IsValidText, IsBrokenText, TellsRule};
+ghost use Rattle.noise_c.specs.declared.codes.TheConstants.{ENDING, HEADING, OK, RULE};
 
 use crate::codes::{OK, RULE, text_code};
 use crate::kept::NoisePatternTold;
@@ -13,10 +14,10 @@ use noise_names::Pattern;
 
 // Checks a pattern, and tells how many messages it has, or the first place that breaks a rule.
 fn check(pattern: Pattern, told: &mut NoisePatternTold) -> u32
-    ensures valid { result ≡ 0 ↔ IsValid pattern }
-    ensures messages { result ≡ 0 → told.new ≡ record told.old { messages = length pattern.messages } }
-    ensures rule { result ≡ 39 → TellsRule pattern told.old told.new }
-    ensures codes { (result ≡ 0) ⊎ (result ≡ 39) }
+    ensures valid { result ≡ OK ↔ IsValid pattern }
+    ensures messages { result ≡ OK → told.new ≡ record told.old { messages = length pattern.messages } }
+    ensures rule { result ≡ RULE → TellsRule pattern told.old told.new }
+    ensures codes { (result ≡ OK) ⊎ (result ≡ RULE) }
 {
     match pattern.check() {
         Ok(valid) => {
@@ -39,13 +40,13 @@ fn check(pattern: Pattern, told: &mut NoisePatternTold) -> u32
 /// tell the first line with a fault, counted from 1. What an answer doesn't tell is left as it was.
 #[unsafe(no_mangle)]
 pub extern "C" fn noise_check_pattern(text: &[u8], told: &mut NoisePatternTold) -> u32
-    ensures valid { result ≡ 0 ↔ IsValidText text.now }
-    ensures messages { result ≡ 0 → (p : Plan) → Spells text.now p → told.new ≡ record told.old { messages = length p.messages } }
-    ensures broken { result ≡ 39 ↔ IsBrokenText text.now }
-    ensures rule { result ≡ 39 → (p : Plan) → Spells text.now p → TellsRule p told.old told.new }
-    ensures none { 30 ≤ result → result ≤ 38 → (p : Plan) → Spells text.now p → ⊥ }
-    ensures line { 30 ≤ result → result ≤ 38 → told.new ≡ record told.old { line = told.new.line } }
-    ensures codes { (result ≡ 0) ⊎ ((30 ≤ result) × (result ≤ 39)) }
+    ensures valid { result ≡ OK ↔ IsValidText text.now }
+    ensures messages { result ≡ OK → (p : Plan) → Spells text.now p → told.new ≡ record told.old { messages = length p.messages } }
+    ensures broken { result ≡ RULE ↔ IsBrokenText text.now }
+    ensures rule { result ≡ RULE → (p : Plan) → Spells text.now p → TellsRule p told.old told.new }
+    ensures none { HEADING ≤ result → result ≤ ENDING → (p : Plan) → Spells text.now p → ⊥ }
+    ensures line { HEADING ≤ result → result ≤ ENDING → told.new ≡ record told.old { line = told.new.line } }
+    ensures codes { (result ≡ OK) ⊎ ((HEADING ≤ result) × (result ≤ RULE)) }
 {
     Pattern::texts_are_unique();
     match Pattern::parse_text(text) {

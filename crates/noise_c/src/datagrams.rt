@@ -10,6 +10,8 @@ ghost use Rattle.noise_c.specs.Kept.{held_in, IsUsable, KeepsView};
 ghost use Rattle.noise_c.specs.TransportCodes.{datagram_code};
 ghost use Rattle.noise_c.specs.KeptTransport.{finish_code};
 ghost use Rattle.noise_c.specs.KeptDatagrams.{is_window, window_in, is_datagrams, datagrams_kept_in, datagrams_seal_code};
+ghost use Rattle.noise_c.specs.declared.codes.TheConstants.{ENDED, OK, ROOM, SHORT, STRUCT, TAG, TOO_LONG};
+ghost use Rattle.noise_c.specs.declared.transport_codes.TheConstants.{EXHAUSTED, NOT_DONE, OLD, ONE_WAY, REPEATED, RESERVED, WINDOW};
 
 use crate::codes::{OK, ROOM, STRUCT};
 use crate::finishing::opened_of;
@@ -44,14 +46,14 @@ pub extern "C" fn noise_finish_datagrams(
     window: u32,
     datagrams: &mut NoiseDatagrams,
 ) -> u32
-    ensures window { result ≡ 25 ↔ is_window window ≡ false }
-    ensures unusable { result ≡ 23 ↔ (is_window window ≡ true) × (IsUsable kept.now → ⊥) }
+    ensures window { result ≡ WINDOW ↔ is_window window ≡ false }
+    ensures unusable { result ≡ STRUCT ↔ (is_window window ≡ true) × (IsUsable kept.now → ⊥) }
     ensures code { is_window window ≡ true → (u : IsUsable kept.now) → result ≡ finish_code (held_in u.pattern kept.now) }
-    ensures stands { result ≡ 0 → (p : Plan) (v : View) → KeepsView kept.now p v
+    ensures stands { result ≡ OK → (p : Plan) (v : View) → KeepsView kept.now p v
         → Pictures (datagrams_kept_in datagrams.new) (datagrams_of v (window_in window)) }
-    ensures known { result ≡ 0 → is_datagrams datagrams.new ≡ true }
-    ensures unchanged { 0 < result → datagrams.new ≡ datagrams.old }
-    ensures codes { (result ≡ 0) ⊎ (result ≡ 13) ⊎ (result ≡ 19) ⊎ (result ≡ 23) ⊎ (result ≡ 25) }
+    ensures known { result ≡ OK → is_datagrams datagrams.new ≡ true }
+    ensures unchanged { OK < result → datagrams.new ≡ datagrams.old }
+    ensures codes { (result ≡ OK) ⊎ (result ≡ ENDED) ⊎ (result ≡ NOT_DONE) ⊎ (result ≡ STRUCT) ⊎ (result ≡ WINDOW) }
 {
     let Some(window) = window_named(window) else {
         return WINDOW;
@@ -79,15 +81,15 @@ pub extern "C" fn noise_datagrams_seal(
     told: &mut NoiseTold,
 ) -> u32
     ensures code { result ≡ datagrams_seal_code kept.old (length payload.now) (length out.old) }
-    ensures place { result ≡ 0 → told.new ≡ record told.old { from = 0; len = length payload.now + 24 } }
-    ensures seals { result ≡ 0 → (v : DatagramView) → Pictures (datagrams_kept_in kept.old) v
+    ensures place { result ≡ OK → told.new ≡ record told.old { from = 0; len = length payload.now + 24 } }
+    ensures seals { result ≡ OK → (v : DatagramView) → Pictures (datagrams_kept_in kept.old) v
         → (take (length payload.now + 24) out.new ≡ datagram v.history v.role v.sent payload.now)
         × Pictures (datagrams_kept_in kept.new) (record v { sent = v.sent + 1 }) }
     ensures rest { drop (length payload.now + 24) out.new ≡ drop (length payload.now + 24) out.old }
-    ensures counted { result ≡ 0 → datagrams_kept_in kept.new ≡ record (datagrams_kept_in kept.old) { send_nonce = kept.old.send_nonce + 1 } }
-    ensures known { result ≡ 0 → is_datagrams kept.new ≡ true }
-    ensures unchanged { 0 < result → (kept.new ≡ kept.old) × (out.new ≡ out.old) × (told.new ≡ told.old) }
-    ensures codes { (result ≡ 0) ⊎ (result ≡ 11) ⊎ (result ≡ 17) ⊎ (result ≡ 18) ⊎ (result ≡ 22) ⊎ (result ≡ 23) }
+    ensures counted { result ≡ OK → datagrams_kept_in kept.new ≡ record (datagrams_kept_in kept.old) { send_nonce = kept.old.send_nonce + 1 } }
+    ensures known { result ≡ OK → is_datagrams kept.new ≡ true }
+    ensures unchanged { OK < result → (kept.new ≡ kept.old) × (out.new ≡ out.old) × (told.new ≡ told.old) }
+    ensures codes { (result ≡ OK) ⊎ (result ≡ TOO_LONG) ⊎ (result ≡ EXHAUSTED) ⊎ (result ≡ ROOM) ⊎ (result ≡ ONE_WAY) ⊎ (result ≡ STRUCT) }
 {
     let Some(mut datagrams) = datagrams_of(kept) else {
         return STRUCT;
@@ -117,20 +119,20 @@ pub extern "C" fn noise_datagrams_open(
     datagram: &mut [u8],
     told: &mut NoiseTold,
 ) -> u32
-    ensures unusable { result ≡ 23 ↔ is_datagrams kept.old ≡ false }
-    ensures place { result ≡ 0 → (told.new ≡ record told.old { from = 8; len = told.new.len }) × (told.new.len + 24 ≡ length datagram.new) }
-    ensures opens { result ≡ 0 → (v : DatagramView) → Pictures (datagrams_kept_in kept.old) v
+    ensures unusable { result ≡ STRUCT ↔ is_datagrams kept.old ≡ false }
+    ensures place { result ≡ OK → (told.new ≡ record told.old { from = 8; len = told.new.len }) × (told.new.len + 24 ≡ length datagram.new) }
+    ensures opens { result ≡ OK → (v : DatagramView) → Pictures (datagrams_kept_in kept.old) v
         → Opens v datagram.old (Ok (slice_range datagram.new told.new.from (told.new.from + told.new.len))) (accepting v (nonce_named datagram.old))
         × Pictures (datagrams_kept_in kept.new) (accepting v (nonce_named datagram.old)) }
-    ensures declined { 0 < result → result ≢ 23 → (fault : DatagramFault) × (result ≡ datagram_code fault)
+    ensures declined { OK < result → result ≢ STRUCT → (fault : DatagramFault) × (result ≡ datagram_code fault)
         × ((v : DatagramView) → Pictures (datagrams_kept_in kept.old) v → Opens v datagram.old (Err fault) v) }
-    ensures beyond { result ≡ 0 → (take 8 datagram.new ≡ take 8 datagram.old)
+    ensures beyond { result ≡ OK → (take 8 datagram.new ≡ take 8 datagram.old)
         × (drop (8 + told.new.len) datagram.new ≡ drop (8 + told.new.len) datagram.old) }
-    ensures same { result ≡ 0 → datagrams_kept_in kept.new ≡ record (datagrams_kept_in kept.old) { recent = (datagrams_kept_in kept.new).recent } }
-    ensures known { result ≡ 0 → is_datagrams kept.new ≡ true }
-    ensures unchanged { 0 < result → (kept.new ≡ kept.old) × (datagram.new ≡ datagram.old) × (told.new ≡ told.old) }
-    ensures codes { (result ≡ 0) ⊎ (result ≡ 11) ⊎ (result ≡ 15) ⊎ (result ≡ 16) ⊎ (result ≡ 22) ⊎ (result ≡ 23) ⊎ (result ≡ 26)
-        ⊎ (result ≡ 27) ⊎ (result ≡ 28) }
+    ensures same { result ≡ OK → datagrams_kept_in kept.new ≡ record (datagrams_kept_in kept.old) { recent = (datagrams_kept_in kept.new).recent } }
+    ensures known { result ≡ OK → is_datagrams kept.new ≡ true }
+    ensures unchanged { OK < result → (kept.new ≡ kept.old) × (datagram.new ≡ datagram.old) × (told.new ≡ told.old) }
+    ensures codes { (result ≡ OK) ⊎ (result ≡ TOO_LONG) ⊎ (result ≡ SHORT) ⊎ (result ≡ TAG) ⊎ (result ≡ ONE_WAY) ⊎ (result ≡ STRUCT) ⊎ (result ≡ RESERVED)
+        ⊎ (result ≡ OLD) ⊎ (result ≡ REPEATED) }
 {
     let Some(mut datagrams) = datagrams_of(kept) else {
         return STRUCT;
@@ -149,10 +151,10 @@ pub extern "C" fn noise_datagrams_open(
 /// Tells the nonce of the next datagram that is sealed.
 #[unsafe(no_mangle)]
 pub extern "C" fn noise_datagrams_nonce(kept: &NoiseDatagrams, send: &mut u64) -> u32
-    ensures unusable { result ≡ 23 ↔ is_datagrams kept.now ≡ false }
-    ensures nonce { result ≡ 0 → send.new ≡ (datagrams_kept_in kept.now).send_nonce }
-    ensures unchanged { 0 < result → send.new ≡ send.old }
-    ensures codes { (result ≡ 0) ⊎ (result ≡ 23) }
+    ensures unusable { result ≡ STRUCT ↔ is_datagrams kept.now ≡ false }
+    ensures nonce { result ≡ OK → send.new ≡ (datagrams_kept_in kept.now).send_nonce }
+    ensures unchanged { OK < result → send.new ≡ send.old }
+    ensures codes { (result ≡ OK) ⊎ (result ≡ STRUCT) }
 {
     let Some(datagrams) = datagrams_of(kept) else {
         return STRUCT;

@@ -6,6 +6,7 @@ ghost use Rattle.noise_names.specs.Plan.{Plan};
 ghost use Rattle.noise_handshake.specs.View.{View};
 ghost use Rattle.noise_handshake.specs.Wanting.{WantsToRead};
 ghost use Rattle.noise_c.specs.Kept.{own_in, IsAdded, IsUsable, KeepsView, WasRead, WasDeclined};
+ghost use Rattle.noise_c.specs.declared.codes.TheConstants.{AGREEMENT, DONE, ENDED, FULL, LENGTH, NOT_YOUR_TURN, OK, STRUCT, TAG, WANTED};
 
 use crate::codes::{FULL, LENGTH, OK, STRUCT, WANTED, read_code};
 use crate::held::{handshake_of, keep};
@@ -29,10 +30,11 @@ pub extern "C" fn noise_answer(
     remote: &[u8; 32],
     answer: &[u8; 32],
 ) -> u32
-    ensures full { result ≡ 21 → (8 ≤ kept.old.answer_count) × (kept.new ≡ kept.old) }
-    ensures added { result ≡ 0 → IsAdded kept.old kept.new (record { own = own_in of_static; remote = remote.now; answer = answer.now }) }
-    ensures room { kept.old.answer_count < 8 → result ≡ 0 }
-    ensures codes { (result ≡ 0) ⊎ (result ≡ 21) }
+    ensures full { result ≡ FULL → (8 ≤ kept.old.answer_count) × (kept.new ≡ kept.old) }
+    ensures added { result ≡ OK → IsAdded kept.old kept.new (record { own = own_in of_static; remote = remote.now; answer = answer.now }) }
+    ensures room { kept.old.answer_count < 8 → result ≡ OK }
+    ensures stays { IsUsable kept.old → IsUsable kept.new }
+    ensures codes { (result ≡ OK) ⊎ (result ≡ FULL) }
 {
     let count = kept.answer_count as usize;
     if count >= 8 {
@@ -75,19 +77,20 @@ pub extern "C" fn noise_read(
     message: &mut [u8],
     told: &mut NoiseTold,
 ) -> u32
-    ensures unusable { result ≡ 23 ↔ (IsUsable kept.old → ⊥) }
-    ensures length { result ≡ 24 ↔ ((65535 < length message.old) × IsUsable kept.old) }
-    ensures accepted { result ≡ 0 → (p : Plan) (v : View) → KeepsView kept.old p v
+    ensures unusable { result ≡ STRUCT ↔ (IsUsable kept.old → ⊥) }
+    ensures length { result ≡ LENGTH ↔ ((65535 < length message.old) × IsUsable kept.old) }
+    ensures accepted { result ≡ OK → (p : Plan) (v : View) → KeepsView kept.old p v
         → WasRead p v message.old (slice_range message.new told.new.from (told.new.from + told.new.len)) kept.new }
-    ensures wanted { result ≡ 20 → (p : Plan) (v : View) → KeepsView kept.old p v
+    ensures wanted { result ≡ WANTED → (p : Plan) (v : View) → KeepsView kept.old p v
         → WantsToRead v message.old (own_in told.new.of_static) told.new.remote }
-    ensures declined { 10 ≤ result → result ≤ 16 → (p : Plan) (v : View) → KeepsView kept.old p v
+    ensures declined { NOT_YOUR_TURN ≤ result → result ≤ TAG → (p : Plan) (v : View) → KeepsView kept.old p v
         → WasDeclined p v message.old result told.new.token kept.new }
-    ensures answered { result ≡ 14 → (p : Plan) (v : View) → KeepsView kept.old p v → ⊥ }
-    ensures left { (result ≤ 13) ⊎ (20 ≤ result) → 0 < result → kept.new ≡ kept.old }
-    ensures unchanged { 0 < result → message.new ≡ message.old }
-    ensures stays { result ≡ 0 → IsUsable kept.new }
-    ensures codes { (result ≡ 0) ⊎ (result ≡ 10) ⊎ ((12 ≤ result) × (result ≤ 16)) ⊎ (result ≡ 20) ⊎ (result ≡ 23) ⊎ (result ≡ 24) }
+    ensures answered { result ≡ AGREEMENT → (p : Plan) (v : View) → KeepsView kept.old p v → ⊥ }
+    ensures left { (result ≤ ENDED) ⊎ (WANTED ≤ result) → OK < result → kept.new ≡ kept.old }
+    ensures unchanged { OK < result → message.new ≡ message.old }
+    ensures usable { result ≡ OK → IsUsable kept.new }
+    ensures stays { IsUsable kept.old → IsUsable kept.new }
+    ensures codes { (result ≡ OK) ⊎ (result ≡ NOT_YOUR_TURN) ⊎ ((DONE ≤ result) × (result ≤ TAG)) ⊎ (result ≡ WANTED) ⊎ (result ≡ STRUCT) ⊎ (result ≡ LENGTH) }
 {
     let Some(mut handshake) = handshake_of(kept) else {
         return STRUCT;

@@ -9,6 +9,7 @@ ghost use Rattle.noise_names.specs.Plan.{Plan};
 ghost use Rattle.noise_names.specs.Text.{Spells};
 ghost use Rattle.noise_names.specs.Validity.{IsValid};
 ghost use Rattle.noise_c.specs.Kept.{key_in, role_in, table_in, text_in, held_in, IsNamed, IsPatternOf, IsPatternFault, is_text, IsUsable};
+ghost use Rattle.noise_c.specs.declared.codes.TheConstants.{NAME, PATTERN};
 
 use crate::codes::{NAME, PATTERN};
 use crate::kept::{NoiseHandshake, NoiseKey};
@@ -47,8 +48,8 @@ fn named(name: &[u8]) -> Result<ValidPattern, u32>
     ensures one { IfOk result (λ p. (q : Plan) → IsNamed name.now q → q ≡ p) }
     ensures short { IfOk result (λ _. length name.now ≤ 82) }
     ensures found { (q : Plan) → IsNamed name.now q → IsValid q → IsOk result }
-    ensures fault { IfErr result (λ code. ((code ≡ 1) × ((q : Plan) → IsNamed name.now q → ⊥))
-        ⊎ ((code ≡ 2) × ((q : Plan) × IsNamed name.now q × (IsValid q → ⊥)))) }
+    ensures fault { IfErr result (λ code. ((code ≡ NAME) × ((q : Plan) → IsNamed name.now q → ⊥))
+        ⊎ ((code ≡ PATTERN) × ((q : Plan) × IsNamed name.now q × (IsValid q → ⊥)))) }
 {
     ProtocolName::names_are_short();
     let Ok(name) = ProtocolName::parse(name) else {
@@ -79,7 +80,7 @@ fn spelled(text: &[u8]) -> Result<ValidPattern, u32>
     ensures one { IfOk result (λ p. (q : Plan) → Spells text.now q → q ≡ p) }
     ensures short { IfOk result (λ _. length text.now ≤ 413) }
     ensures found { (q : Plan) → Spells text.now q → IsValid q → IsOk result }
-    ensures fault { IfErr result (λ code. (code ≡ 2) × (((q : Plan) → Spells text.now q → ⊥)
+    ensures fault { IfErr result (λ code. (code ≡ PATTERN) × (((q : Plan) → Spells text.now q → ⊥)
         ⊎ ((q : Plan) × Spells text.now q × (IsValid q → ⊥)))) }
 {
     Pattern::texts_are_short();

@@ -13,6 +13,7 @@ mod kept;
 mod kept_datagrams;
 mod kept_keys;
 mod kept_transport;
+pub mod laws;
 mod starting;
 mod transport_codes;
 mod transports;

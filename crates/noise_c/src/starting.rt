@@ -7,6 +7,7 @@ ghost use Rattle.noise_names.specs.Validity.{IsValid};
 ghost use Rattle.noise_handshake.specs.Party.{Stands};
 ghost use Rattle.noise_c.specs.Kept.{role_in, public_in, agreement_in, table_in, table_of, text_in, psks_in, begun_in, fault_in, start_code};
 ghost use Rattle.noise_c.specs.Kept.{IsPatternOf, IsNoName, IsNoText, IsNotValid, IsUsable, IsStartCode, KeepsView};
+ghost use Rattle.noise_c.specs.declared.codes.TheConstants.{EPHEMERAL_MISSING, LENGTH, NAME, OK, PATTERN, PSK_COUNT};
 
 use crate::codes::{LENGTH, OK, PSK_COUNT, setup_code};
 use crate::held::{keep, pattern_of, role_of};
@@ -78,11 +79,11 @@ fn start_with(
     requires short { length text.now ≤ 413 }
     requires named { IsPatternOf text.now pattern }
     ensures code { result ≡ start_code pattern prologue.now setup.now }
-    ensures begun { result ≡ 0 → KeepsView kept.new pattern (begun_in pattern prologue.now setup.now) }
-    ensures usable { result ≡ 0 → IsUsable kept.new }
-    ensures text { result ≡ 0 → text_in kept.new ≡ text.now }
-    ensures unchanged { 0 < result → kept.new ≡ kept.old }
-    ensures codes { (result ≡ 0) ⊎ ((4 ≤ result) × (result ≤ 8)) ⊎ (result ≡ 24) }
+    ensures begun { result ≡ OK → KeepsView kept.new pattern (begun_in pattern prologue.now setup.now) }
+    ensures usable { result ≡ OK → IsUsable kept.new }
+    ensures text { result ≡ OK → text_in kept.new ≡ text.now }
+    ensures unchanged { OK < result → kept.new ≡ kept.old }
+    ensures codes { (result ≡ OK) ⊎ ((EPHEMERAL_MISSING ≤ result) × (result ≤ PSK_COUNT)) ⊎ (result ≡ LENGTH) }
 {
     if prologue.len() > MAX_LEN {
         return LENGTH;
@@ -112,13 +113,13 @@ pub extern "C" fn noise_start(
     prologue: &[u8],
     setup: &NoiseSetup,
 ) -> u32
-    ensures name { result ≡ 1 ↔ IsNoName pattern.now }
-    ensures pattern { result ≡ 2 ↔ (IsNoText pattern.now ⊎ IsNotValid pattern.now) }
+    ensures name { result ≡ NAME ↔ IsNoName pattern.now }
+    ensures pattern { result ≡ PATTERN ↔ (IsNoText pattern.now ⊎ IsNotValid pattern.now) }
     ensures valid { (p : Plan) → IsPatternOf pattern.now p → IsValid p → result ≡ start_code p prologue.now setup.now }
-    ensures begun { result ≡ 0 → (p : Plan) → IsPatternOf pattern.now p → KeepsView kept.new p (begun_in p prologue.now setup.now) }
-    ensures usable { result ≡ 0 → IsUsable kept.new }
-    ensures text { result ≡ 0 → text_in kept.new ≡ pattern.now }
-    ensures unchanged { 0 < result → kept.new ≡ kept.old }
+    ensures begun { result ≡ OK → (p : Plan) → IsPatternOf pattern.now p → KeepsView kept.new p (begun_in p prologue.now setup.now) }
+    ensures usable { result ≡ OK → IsUsable kept.new }
+    ensures text { result ≡ OK → text_in kept.new ≡ pattern.now }
+    ensures unchanged { OK < result → kept.new ≡ kept.old }
     ensures codes { IsStartCode result }
 {
     match pattern_of(pattern) {

@@ -8,6 +8,8 @@ ghost use Rattle.noise_session.specs.HeldTransport.{TransportView, TransportStan
 ghost use Rattle.noise_c.specs.Kept.{key_in, held_in, IsUsable, KeepsView};
 ghost use Rattle.noise_c.specs.TransportCodes.{open_code};
 ghost use Rattle.noise_c.specs.KeptTransport.{is_party, transport_kept_in, finish_code, transport_seal_code, transport_open_refusal};
+ghost use Rattle.noise_c.specs.declared.codes.TheConstants.{ENDED, LENGTH, OK, ROOM, SHORT, STRUCT, TAG, TOO_LONG};
+ghost use Rattle.noise_c.specs.declared.transport_codes.TheConstants.{EXHAUSTED, NOT_DONE, ONE_WAY};
 
 use crate::codes::{LENGTH, OK, ROOM, STRUCT};
 use crate::finishing::opened_of;
@@ -39,13 +41,13 @@ pub extern "C" fn noise_finish(
     interval: u64,
     transport: &mut NoiseTransport,
 ) -> u32
-    ensures unusable { result ≡ 23 ↔ (IsUsable kept.now → ⊥) }
+    ensures unusable { result ≡ STRUCT ↔ (IsUsable kept.now → ⊥) }
     ensures code { (u : IsUsable kept.now) → result ≡ finish_code (held_in u.pattern kept.now) }
-    ensures stands { result ≡ 0 → (p : Plan) (v : View) → KeepsView kept.now p v
+    ensures stands { result ≡ OK → (p : Plan) (v : View) → KeepsView kept.now p v
         → TransportStands (transport_kept_in transport.new) (transport_of v interval) }
-    ensures known { result ≡ 0 → is_party transport.new.party ≡ true }
-    ensures unchanged { 0 < result → transport.new ≡ transport.old }
-    ensures codes { (result ≡ 0) ⊎ (result ≡ 13) ⊎ (result ≡ 19) ⊎ (result ≡ 23) }
+    ensures known { result ≡ OK → is_party transport.new.party ≡ true }
+    ensures unchanged { OK < result → transport.new ≡ transport.old }
+    ensures codes { (result ≡ OK) ⊎ (result ≡ ENDED) ⊎ (result ≡ NOT_DONE) ⊎ (result ≡ STRUCT) }
 {
     match opened_of(kept) {
         Ok(opened) => {
@@ -70,17 +72,17 @@ pub extern "C" fn noise_transport_seal(
     told: &mut NoiseTold,
 ) -> u32
     ensures code { result ≡ transport_seal_code kept.old (length payload.now) (length out.old) }
-    ensures place { result ≡ 0 → told.new ≡ record told.old { from = 0; len = length payload.now + 16 } }
-    ensures seals { result ≡ 0 → (v : TransportView) → TransportStands (transport_kept_in kept.old) v
+    ensures place { result ≡ OK → told.new ≡ record told.old { from = 0; len = length payload.now + 16 } }
+    ensures seals { result ≡ OK → (v : TransportView) → TransportStands (transport_kept_in kept.old) v
         → (take (length payload.now + 16) out.new ≡ next_packet v payload.now) × TransportStands (transport_kept_in kept.new) (record v { sent = v.sent + 1 }) }
     ensures rest { drop (length payload.now + 16) out.new ≡ drop (length payload.now + 16) out.old }
-    ensures counted { result ≡ 0 → transport_kept_in kept.new ≡ record (transport_kept_in kept.old) {
+    ensures counted { result ≡ OK → transport_kept_in kept.new ≡ record (transport_kept_in kept.old) {
       send_key = (transport_kept_in kept.new).send_key;
       send_nonce = kept.old.send_nonce + 1;
     } }
-    ensures known { result ≡ 0 → is_party kept.new.party ≡ true }
-    ensures unchanged { 0 < result → (kept.new ≡ kept.old) × (out.new ≡ out.old) × (told.new ≡ told.old) }
-    ensures codes { (result ≡ 0) ⊎ (result ≡ 11) ⊎ (result ≡ 17) ⊎ (result ≡ 18) ⊎ (result ≡ 22) ⊎ (result ≡ 23) }
+    ensures known { result ≡ OK → is_party kept.new.party ≡ true }
+    ensures unchanged { OK < result → (kept.new ≡ kept.old) × (out.new ≡ out.old) × (told.new ≡ told.old) }
+    ensures codes { (result ≡ OK) ⊎ (result ≡ TOO_LONG) ⊎ (result ≡ EXHAUSTED) ⊎ (result ≡ ROOM) ⊎ (result ≡ ONE_WAY) ⊎ (result ≡ STRUCT) }
 {
     let Some(mut transport) = transport_of(kept) else {
         return STRUCT;
@@ -111,21 +113,21 @@ pub extern "C" fn noise_transport_open(
     told: &mut NoiseTold,
 ) -> u32
     ensures code { MatchOption (transport_open_refusal kept.old (length message.old))
-        ((result ≡ 0) ⊎ (result ≡ open_code (no_packet (length message.old)))) (λ code. result ≡ code) }
-    ensures place { result ≡ 0 → (told.new ≡ record told.old { from = 0; len = told.new.len }) × (told.new.len + 16 ≡ length message.new) }
-    ensures opens { result ≡ 0 → (v : TransportView) → TransportStands (transport_kept_in kept.old) v
+        ((result ≡ OK) ⊎ (result ≡ open_code (no_packet (length message.old)))) (λ code. result ≡ code) }
+    ensures place { result ≡ OK → (told.new ≡ record told.old { from = 0; len = told.new.len }) × (told.new.len + 16 ≡ length message.new) }
+    ensures opens { result ≡ OK → (v : TransportView) → TransportStands (transport_kept_in kept.old) v
         → (message.old ≡ due_packet v (slice_range message.new told.new.from (told.new.from + told.new.len)))
         × TransportStands (transport_kept_in kept.new) (record v { received = v.received + 1 }) }
-    ensures forged { (result ≡ 15) ⊎ (result ≡ 16) → (v : TransportView) → TransportStands (transport_kept_in kept.old) v
+    ensures forged { (result ≡ SHORT) ⊎ (result ≡ TAG) → (v : TransportView) → TransportStands (transport_kept_in kept.old) v
         → (payload : List ℕ) → message.old ≢ due_packet v payload }
-    ensures beyond { result ≡ 0 → drop told.new.len message.new ≡ drop told.new.len message.old }
-    ensures counted { result ≡ 0 → transport_kept_in kept.new ≡ record (transport_kept_in kept.old) {
+    ensures beyond { result ≡ OK → drop told.new.len message.new ≡ drop told.new.len message.old }
+    ensures counted { result ≡ OK → transport_kept_in kept.new ≡ record (transport_kept_in kept.old) {
       receive_key = (transport_kept_in kept.new).receive_key;
       receive_nonce = kept.old.receive_nonce + 1;
     } }
-    ensures known { result ≡ 0 → is_party kept.new.party ≡ true }
-    ensures unchanged { 0 < result → (kept.new ≡ kept.old) × (message.new ≡ message.old) × (told.new ≡ told.old) }
-    ensures codes { (result ≡ 0) ⊎ (result ≡ 15) ⊎ (result ≡ 16) ⊎ (result ≡ 17) ⊎ (result ≡ 22) ⊎ (result ≡ 23) ⊎ (result ≡ 24) }
+    ensures known { result ≡ OK → is_party kept.new.party ≡ true }
+    ensures unchanged { OK < result → (kept.new ≡ kept.old) × (message.new ≡ message.old) × (told.new ≡ told.old) }
+    ensures codes { (result ≡ OK) ⊎ (result ≡ SHORT) ⊎ (result ≡ TAG) ⊎ (result ≡ EXHAUSTED) ⊎ (result ≡ ONE_WAY) ⊎ (result ≡ STRUCT) ⊎ (result ≡ LENGTH) }
 {
     let Some(mut transport) = transport_of(kept) else {
         return STRUCT;
@@ -151,10 +153,10 @@ pub extern "C" fn noise_transport_nonces(
     send: &mut u64,
     receive: &mut u64,
 ) -> u32
-    ensures unusable { result ≡ 23 ↔ is_party kept.now.party ≡ false }
-    ensures nonces { result ≡ 0 → (send.new ≡ (transport_kept_in kept.now).send_nonce) × (receive.new ≡ (transport_kept_in kept.now).receive_nonce) }
-    ensures unchanged { 0 < result → (send.new ≡ send.old) × (receive.new ≡ receive.old) }
-    ensures codes { (result ≡ 0) ⊎ (result ≡ 23) }
+    ensures unusable { result ≡ STRUCT ↔ is_party kept.now.party ≡ false }
+    ensures nonces { result ≡ OK → (send.new ≡ (transport_kept_in kept.now).send_nonce) × (receive.new ≡ (transport_kept_in kept.now).receive_nonce) }
+    ensures unchanged { OK < result → (send.new ≡ send.old) × (receive.new ≡ receive.old) }
+    ensures codes { (result ≡ OK) ⊎ (result ≡ STRUCT) }
 {
     let Some(transport) = transport_of(kept) else {
         return STRUCT;
@@ -167,10 +169,10 @@ pub extern "C" fn noise_transport_nonces(
 /// Tells the hash of the whole handshake (Noise, 11.2), 32 bytes.
 #[unsafe(no_mangle)]
 pub extern "C" fn noise_transport_hash(kept: &NoiseTransport, hash: &mut [u8; 32]) -> u32
-    ensures unusable { result ≡ 23 ↔ is_party kept.now.party ≡ false }
-    ensures hash { result ≡ 0 → hash.new ≡ (transport_kept_in kept.now).hash }
-    ensures unchanged { 0 < result → hash.new ≡ hash.old }
-    ensures codes { (result ≡ 0) ⊎ (result ≡ 23) }
+    ensures unusable { result ≡ STRUCT ↔ is_party kept.now.party ≡ false }
+    ensures hash { result ≡ OK → hash.new ≡ (transport_kept_in kept.now).hash }
+    ensures unchanged { OK < result → hash.new ≡ hash.old }
+    ensures codes { (result ≡ OK) ⊎ (result ≡ STRUCT) }
 {
     let Some(transport) = transport_of(kept) else {
         return STRUCT;
@@ -182,10 +184,10 @@ pub extern "C" fn noise_transport_hash(kept: &NoiseTransport, hash: &mut [u8; 32
 /// Tells the other party's static public key, 32 bytes: none where the handshake didn't tell it.
 #[unsafe(no_mangle)]
 pub extern "C" fn noise_transport_remote_static(kept: &NoiseTransport, key: &mut NoiseKey) -> u32
-    ensures unusable { result ≡ 23 ↔ is_party kept.now.party ≡ false }
-    ensures key { result ≡ 0 → key_in key.new ≡ (transport_kept_in kept.now).remote_static }
-    ensures unchanged { 0 < result → key.new ≡ key.old }
-    ensures codes { (result ≡ 0) ⊎ (result ≡ 23) }
+    ensures unusable { result ≡ STRUCT ↔ is_party kept.now.party ≡ false }
+    ensures key { result ≡ OK → key_in key.new ≡ (transport_kept_in kept.now).remote_static }
+    ensures unchanged { OK < result → key.new ≡ key.old }
+    ensures codes { (result ≡ OK) ⊎ (result ≡ STRUCT) }
 {
     let Some(transport) = transport_of(kept) else {
         return STRUCT;

@@ -7,6 +7,7 @@ ghost use Rattle.noise_handshake.specs.View.{View};
 ghost use Rattle.noise_handshake.specs.Held.{message_len_of};
 ghost use Rattle.noise_handshake.specs.Wanting.{WantsToWrite};
 ghost use Rattle.noise_c.specs.Kept.{own_in, text_in, held_in, IsPatternOf, IsUsable, KeepsView, WasWritten, WasWithheld};
+ghost use Rattle.noise_c.specs.declared.codes.TheConstants.{AGREEMENT, NOT_YOUR_TURN, OK, ROOM, STRUCT, WANTED};
 
 use crate::codes::{OK, ROOM, STRUCT, WANTED, write_code};
 use crate::handshakes::tell;
@@ -24,23 +25,23 @@ pub extern "C" fn noise_write(
     out: &mut [u8],
     told: &mut NoiseTold,
 ) -> u32
-    ensures unusable { result ≡ 23 ↔ (IsUsable kept.old → ⊥) }
-    ensures written { result ≡ 0 → (p : Plan) (v : View) → KeepsView kept.old p v → WasWritten p v payload.now (take told.new.len out.new) kept.new }
-    ensures stays { result ≡ 0 → IsUsable kept.new }
-    ensures len { result ≡ 0 → (p : Plan) → IsPatternOf (text_in kept.old) p
+    ensures unusable { result ≡ STRUCT ↔ (IsUsable kept.old → ⊥) }
+    ensures written { result ≡ OK → (p : Plan) (v : View) → KeepsView kept.old p v → WasWritten p v payload.now (take told.new.len out.new) kept.new }
+    ensures stays { result ≡ OK → IsUsable kept.new }
+    ensures len { result ≡ OK → (p : Plan) → IsPatternOf (text_in kept.old) p
         → message_len_of (held_in p kept.old) (length payload.now) ≡ Some told.new.len }
-    ensures within { result ≡ 0 → (told.new.from ≡ 0) × (told.new.len ≤ length out.new) }
-    ensures beyond { result ≡ 0 → drop told.new.len out.new ≡ drop told.new.len out.old }
-    ensures room { result ≡ 18 → (length out.old < told.new.len) × ((p : Plan) → IsPatternOf (text_in kept.old) p
+    ensures within { result ≡ OK → (told.new.from ≡ 0) × (told.new.len ≤ length out.new) }
+    ensures beyond { result ≡ OK → drop told.new.len out.new ≡ drop told.new.len out.old }
+    ensures room { result ≡ ROOM → (length out.old < told.new.len) × ((p : Plan) → IsPatternOf (text_in kept.old) p
         → message_len_of (held_in p kept.old) (length payload.now) ≡ Some told.new.len) }
     ensures short { (p : Plan) → IsPatternOf (text_in kept.old) p → (n : ℕ) → message_len_of (held_in p kept.old) (length payload.now) ≡ Some n
-        → length out.old < n → (result ≡ 18) ⊎ (result ≡ 23) }
-    ensures wanted { result ≡ 20 → (p : Plan) (v : View) → KeepsView kept.old p v → WantsToWrite v (own_in told.new.of_static) told.new.remote }
-    ensures withheld { 10 ≤ result → result ≤ 14 → (p : Plan) (v : View) → KeepsView kept.old p v → WasWithheld v (length payload.now) result }
-    ensures answered { result ≡ 14 → (p : Plan) (v : View) → KeepsView kept.old p v → ⊥ }
-    ensures unchanged { 0 < result → kept.new ≡ kept.old }
-    ensures out { 0 < result → (result ≡ 14 → ⊥) → out.new ≡ out.old }
-    ensures codes { (result ≡ 0) ⊎ ((10 ≤ result) × (result ≤ 14)) ⊎ (result ≡ 18) ⊎ (result ≡ 20) ⊎ (result ≡ 23) }
+        → length out.old < n → (result ≡ ROOM) ⊎ (result ≡ STRUCT) }
+    ensures wanted { result ≡ WANTED → (p : Plan) (v : View) → KeepsView kept.old p v → WantsToWrite v (own_in told.new.of_static) told.new.remote }
+    ensures withheld { NOT_YOUR_TURN ≤ result → result ≤ AGREEMENT → (p : Plan) (v : View) → KeepsView kept.old p v → WasWithheld v (length payload.now) result }
+    ensures answered { result ≡ AGREEMENT → (p : Plan) (v : View) → KeepsView kept.old p v → ⊥ }
+    ensures unchanged { OK < result → kept.new ≡ kept.old }
+    ensures out { OK < result → (result ≡ AGREEMENT → ⊥) → out.new ≡ out.old }
+    ensures codes { (result ≡ OK) ⊎ ((NOT_YOUR_TURN ≤ result) × (result ≤ AGREEMENT)) ⊎ (result ≡ ROOM) ⊎ (result ≡ WANTED) ⊎ (result ≡ STRUCT) }
 {
     let Some(mut handshake) = handshake_of(kept) else {
         return STRUCT;

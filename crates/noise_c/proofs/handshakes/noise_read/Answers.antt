@@ -30,8 +30,8 @@ returns-in-Ok-clause-accepted c e p v k =
     was-read old c.keep.new.kept h h2 p v c.in-Some.ensures.one c.in-Some.ensures.same stays c.keep.ensures.text same k
     c.args.message.now c.read_or_ask.new.message c.in-Ok.start c.in-Ok.end c.in-Ok.ensures.range.0 r.0 r.1 r.2
 
-pub returns-in-Ok-clause-stays : goal.returns-in-Ok-clause-stays
-returns-in-Ok-clause-stays c e =
+pub returns-in-Ok-clause-usable : goal.returns-in-Ok-clause-usable
+returns-in-Ok-clause-usable c e =
     let h2 = c.read_or_ask.new.self in
     let same : held_in h2.pattern c.keep.new.kept ≡ h2 =
     c.keep.ensures.same h2 c.progress.ensures.same
@@ -42,6 +42,9 @@ returns-in-Ok-clause-stays c e =
     usable-behind c.args.kept.now c.keep.new.kept c.in-Some.handshake h2 (c.in-Some.ensures.usable.0 refl) c.keep.ensures.text_len c.keep.ensures.answers
     (omega (arith, c.keep.ensures.secrets, c.secrets.ensures.few)) c.keep.ensures.text c.in-Some.ensures.named c.in-Ok.ensures.state.pattern
     c.progress.ensures.valid same c.progress.ensures.whole
+
+pub returns-in-Ok-clause-stays : goal.returns-in-Ok-clause-stays
+returns-in-Ok-clause-stays c u = returns-in-Ok-clause-usable c refl
 
 pub returns-in-Refused-clause-declined : goal.returns-in-Refused-clause-declined
 returns-in-Refused-clause-declined c low high p v k =
