@@ -1,5 +1,5 @@
 -- What holds of every handshake holds behind a message.
-use Rattle.std.proofs.Common.{◌≡◌, ℕ, zero, suc, ◌+◌, ◌-◌, ◌<◌, ◌≤◌, List, [], ◌∷◌, length, drop, refl, ap, sym, ◌∙◌, arith, length-drop}
+use Rattle.std.proofs.Common.{◌≡◌, ℕ, zero, suc, ◌+◌, ◌-◌, ◌<◌, ◌≤◌, List, [], ◌∷◌, length, drop, refl, ap, sym, subst, ◌∙◌, arith, length-drop}
 use Rattle.std.specs.Prelude.{Bool, Option, count_by}
 use Rattle.noise_names.specs.declared.token.Token.{Token}
 use Rattle.noise_names.specs.Tokens.{is_psk}
@@ -11,10 +11,12 @@ use Rattle.noise_keys.specs.declared.keys.Own.{Own}
 use Rattle.noise_handshake.specs.declared.remote.Remote.{Remote}
 use Rattle.noise_handshake.specs.Length.{keyed_behind_tokens}
 use Rattle.noise_handshake.specs.View.{tokens_at}
-use Rattle.noise_handshake.specs.Held.{Held}
+use Rattle.noise_handshake.specs.Held.{Held, most_used}
 use Rattle.noise_handshake.specs.Setup.{secrets_of}
 use Rattle.noise_handshake.specs.inner.Sound.{IsSound}
 use Rattle.noise_handshake.specs.Passed.{passed_places}
+use Rattle.noise_handshake.specs.inner.Counting.{CountsUses}
+use Rattle.noise_handshake.proofs.Counting.{most-behind, most-unkeyed}
 use Rattle.noise_handshake.proofs.Places.{has_key-passed}
 
 -- the secrets of the messages from one on
@@ -34,6 +36,10 @@ module _ {K : Type 0} (public_of : K → Own → Option (List ℕ)) (h : Held K)
   pub enough : count_by is_psk tokens ≤ length h.secrets
   enough = omega (arith, counted)
 
+  -- its nonce counts the uses of its key
+  pub counts : CountsUses h.state
+  counts = record { unkeyed = most-unkeyed (keyed h.state) h.passed (nonce_now h.state) s.nonce }
+
   -- there is a key behind it exactly where the pattern says so
   pub key-behind : (state : SymmetricState) (passed : ℕ) → passed ≡ h.passed + 1
       → keyed state ≡ keyed_behind_tokens (has_psk h.pattern) (keyed h.state) tokens → keyed state ≡ has_key h.pattern (passed_places h.pattern passed)
@@ -45,9 +51,9 @@ module _ {K : Type 0} (public_of : K → Own → Option (List ℕ)) (h : Held K)
   pub sound-behind : (remote : Remote) (state : SymmetricState) (secrets : List (List ℕ)) (passed : ℕ) → passed ≡ h.passed + 1
       → secrets ≡ drop (count_by is_psk tokens) h.secrets
       → keyed state ≡ keyed_behind_tokens (has_psk h.pattern) (keyed h.state) tokens → nonce_now state ≤ nonce_now h.state + length tokens + 1
-      → length tokens ≤ 10
+      → length tokens ≤ 10 → CountsUses state
       → IsSound public_of (record h { remote = remote; state = state; secrets = secrets; passed = passed })
-  sound-behind remote state secrets passed p d k n short = record {
+  sound-behind remote state secrets passed p d k n short u = record {
     within = omega (arith, due, p);
     few = s.few;
     secrets = ap length d ∙ length-drop (count_by is_psk tokens) h.secrets ∙ left _ _ _ counted
@@ -55,7 +61,8 @@ module _ {K : Type 0} (public_of : K → Own → Option (List ℕ)) (h : Held K)
     has_e = s.has_e;
     has_s = s.has_s;
     keyed = key-behind state passed p k;
-    nonce = omega (arith, s.nonce, p, n, short);
+    nonce = subst (λ (i : ℕ). nonce_now state ≤ most_used (keyed state) i) (sym p)
+        (most-behind (keyed h.state) (keyed state) h.passed (nonce_now h.state) (nonce_now state) (length tokens) s.nonce n short u.unkeyed);
   } where
     left : (a b c : ℕ) → a ≡ b + c → a - b ≡ c
     left a b c h = omega arith

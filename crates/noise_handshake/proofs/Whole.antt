@@ -1,5 +1,5 @@
 -- What holds of every handshake, and what a caller's parts are tested for.
-use Rattle.std.proofs.Common.{◌≡◌, ℕ, ◌*◌, ◌≤◌, List, Bool, true, false, length, drop, refl, arith}
+use Rattle.std.proofs.Common.{◌≡◌, ℕ, ◌≤◌, List, Bool, true, false, length, drop, refl, arith}
 use Rattle.std.specs.Prelude.{not, ◌&&◌, Option, is_some, is_none}
 use Rattle.noise_names.specs.declared.token.Token.TheVariants.{E, S}
 use Rattle.noise_names.specs.Tokens.{other}
@@ -9,7 +9,7 @@ use Rattle.noise_names.specs.Plan.{places_of}
 use Rattle.noise_state.specs.Standing.{keyed, nonce_now}
 use Rattle.noise_keys.specs.declared.keys.Own.{Own}
 use Rattle.noise_keys.specs.declared.keys.Own.TheVariants.{Ephemeral, Static}
-use Rattle.noise_handshake.specs.Held.{Held}
+use Rattle.noise_handshake.specs.Held.{Held, most_used}
 use Rattle.noise_handshake.specs.Parts.{IsWhole}
 use Rattle.noise_handshake.specs.Passed.{passed_places}
 use Rattle.noise_handshake.specs.Setup.{lacks_own, secrets_of}
@@ -50,7 +50,7 @@ module _ {K : Type 0} (public_of : K → Own → Option (List ℕ)) (h : Held K)
       × (is_some h.remote.s ≡ is_among (other h.role) S (passed_places h.pattern h.passed))
 
   abbrev pub Keyed : Type 0
-  Keyed = (keyed h.state ≡ has_key h.pattern (passed_places h.pattern h.passed)) × (nonce_now h.state ≤ 11 * h.passed)
+  Keyed = (keyed h.state ≡ has_key h.pattern (passed_places h.pattern h.passed)) × (nonce_now h.state ≤ most_used (keyed h.state) h.passed)
 
   pub is-whole : Counted → owns ≡ true → Known → Keyed → IsWhole public_of h
   is-whole a b c d = record {

@@ -1,4 +1,5 @@
 -- What only private functions and proofs of this crate need: no public clause names any of it.
+pub mod Counting
 pub mod Known
 pub mod Layout
 pub mod Listening

@@ -1,11 +1,12 @@
 //! What a handshake holds, for a caller that keeps it itself.
 #![tactic(auto)]
 
-ghost use Rattle.std.specs.Prelude.{◌≡◌, ◌≤◌, ◌*◌, ◌↔◌, not, ◌&&◌, length, drop, is_some, IsTrue};
+ghost use Rattle.std.specs.Prelude.{◌≡◌, ◌≤◌, ◌↔◌, not, ◌&&◌, length, drop, is_some, IsTrue};
 ghost use Rattle.noise_names.specs.declared.token.Token.TheVariants.{E, S};
 ghost use Rattle.noise_names.specs.Tokens.{other};
 ghost use Rattle.noise_names.specs.Validity.{is_among};
 ghost use Rattle.noise_names.specs.Overhead.{has_key};
+ghost use Rattle.noise_handshake.specs.Held.{most_used};
 ghost use Rattle.noise_handshake.specs.Passed.{passed_places};
 ghost use Rattle.noise_handshake.specs.Setup.{lacks_own, secrets_of};
 ghost use Rattle.noise_handshake.specs.Parts.{held_of, IsWhole};
@@ -74,14 +75,15 @@ impl<K: Keys> Parts<K> {
             && self.progress.remote.s.is_some() == was_sent(pattern, passed, other, Own::Static)
     }
 
-    // Whether there is a cipher key exactly where the pattern says so, and its nonce isn't beyond what the messages took.
+    // Whether there is a cipher key exactly where the pattern says so, and the nonce isn't beyond what the messages can have taken.
     fn has_state(&self) -> bool
         requires { self.now.progress.passed ≤ length self.now.pattern.messages }
         ensures { IsTrue result ↔ ((is_some self.now.progress.state.key ≡ has_key self.now.pattern (passed_places self.now.pattern self.now.progress.passed))
-            × (self.now.progress.state.nonce ≤ 11 * self.now.progress.passed)) }
+            × (self.now.progress.state.nonce ≤ most_used (is_some self.now.progress.state.key) self.now.progress.passed)) }
     {
-        self.progress.state.key.is_some() == self.pattern.has_key(self.progress.passed)
-            && self.progress.state.nonce <= NONCES * u64::from(self.progress.passed)
+        let keyed = self.progress.state.key.is_some();
+        keyed == self.pattern.has_key(self.progress.passed)
+            && self.progress.state.nonce <= most_used(keyed, self.progress.passed)
     }
 
     // Whether a handshake may hold them and these secrets.
@@ -100,4 +102,11 @@ impl<K: Keys> Parts<K> {
         }
         self.has_state()
     }
+}
+
+// How many nonces so many messages take at most.
+fn most_used(keyed: bool, passed: u8) -> u64
+    ensures { result ≡ most_used keyed passed }
+{
+    if keyed { NONCES * u64::from(passed) } else { 0 }
 }

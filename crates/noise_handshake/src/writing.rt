@@ -5,6 +5,7 @@ ghost use Rattle.std.specs.Prelude.{◌≡◌, ◌≤◌, ◌<◌, ◌+◌, ◌-
 ghost use Rattle.std.specs.Prelude.{IfOk, is_some, None};
 ghost use Rattle.std.specs.List.{list_all};
 ghost use Rattle.noise_state.specs.Standing.{StateStands, keyed, nonce_now};
+ghost use Rattle.noise_handshake.specs.inner.Counting.{CountsUses};
 ghost use Rattle.noise_state.specs.History.{History, Part, and_then, piece};
 ghost use Rattle.noise_handshake.specs.Line.{token_piece, behind_token, front, behind_front, line, behind_line, with_ephemeral};
 ghost use Rattle.noise_handshake.specs.inner.Known.{is_known, remote_known};
@@ -50,6 +51,7 @@ fn write_part(state: &mut SymmetricState, text: &[u8], out: &mut [u8]) -> usize
     ensures rest { drop result out.new ≡ drop result out.old }
     ensures keyed { keyed state.new ≡ keyed state.old }
     ensures used { nonce_now state.new ≤ nonce_now state.old + 1 }
+    ensures uses { CountsUses state.old → CountsUses state.new }
     ensures written { (r : History) → StateStands state.old r → (take result out.new ≡ piece r text.now)
         × StateStands state.new (and_then r (Part (piece r text.now))) }
 {
@@ -68,6 +70,7 @@ fn write_e(state: &mut SymmetricState, psks: bool, key: &[u8; 32], out: &mut [u8
     ensures rest { drop result out.new ≡ drop result out.old }
     ensures keyed { keyed state.new ≡ keyed_behind psks (keyed state.old) Token.E }
     ensures used { nonce_now state.new ≤ nonce_now state.old }
+    ensures uses { CountsUses state.old → CountsUses state.new }
     ensures written { (r : History) → StateStands state.old r → (take result out.new ≡ key.now) × StateStands state.new (with_ephemeral psks r key.now) }
 {
     mix_ephemeral(state, psks, key);
@@ -92,6 +95,7 @@ fn write_token<K: Keys>(
     ensures rest { IfSome result (λ n. drop n out.new ≡ drop n out.old) }
     ensures keyed { IfSome result (λ _. keyed state.new ≡ keyed_behind means.now.psks (keyed state.old) token) }
     ensures used { nonce_now state.new ≤ nonce_now state.old + 1 }
+    ensures uses { CountsUses state.old → CountsUses state.new }
     ensures written { (r : History) → StateStands state.old r
         → let w : Writer = record {
           role = means.now.role;
@@ -144,6 +148,7 @@ fn write_tokens<K: Keys>(
     ensures rest { IfOk result (λ n. drop n out.new ≡ drop n out.old) }
     ensures keyed { IfOk result (λ _. keyed state.new ≡ keyed_behind_tokens means.now.psks (keyed state.old) (tokens_of placed.now)) }
     ensures used { nonce_now state.new ≤ nonce_now state.old + length (tokens_of placed.now) }
+    ensures uses { CountsUses state.old → CountsUses state.new }
     ensures written { (r : History) → StateStands state.old r
         → let w : Writer = record {
           role = means.now.role;
@@ -249,6 +254,7 @@ pub(crate) fn write_message<K: Keys>(
     ensures rest { IfOk result (λ n. drop n out.new ≡ drop n out.old) }
     ensures keyed { IfOk result (λ _. keyed state.new ≡ keyed_behind_tokens means.now.psks (keyed state.old) (tokens_of placed.now)) }
     ensures used { nonce_now state.new ≤ nonce_now state.old + length (tokens_of placed.now) + 1 }
+    ensures uses { CountsUses state.old → CountsUses state.new }
     ensures written { (r : History) → StateStands state.old r
         → let w : Writer = record {
           role = means.now.role;

@@ -8,7 +8,7 @@ use Rattle.noise_handshake.proofs.Knowing.{reading-known}
 use Rattle.noise_handshake.proofs.Layouts.{length-tokens_of, tokens-laid, places-laid}
 use Rattle.noise_handshake.proofs.Standing.{due, tokens-are, listening, listens}
 use Rattle.noise_handshake.proofs.Wanted.{wants}
-use Rattle.noise_state.specs.Standing.{keyed}
+use Rattle.noise_state.specs.Standing.{keyed, nonce_now}
 use Rattle.noise_names.specs.declared.token.Token.{Token}
 use Rattle.noise_names.specs.Plan.{has_psk}
 use Rattle.noise_names.specs.Tokens.{is_psk}
@@ -17,6 +17,7 @@ use Rattle.noise_handshake.specs.declared.layout.MessageLayout.{MessageLayout}
 use Rattle.noise_handshake.specs.Passed.{passed_places}
 use Rattle.noise_handshake.specs.Party.{Stands}
 use Rattle.noise_handshake.specs.inner.Layout.{tokens_of, IsLaid}
+use Rattle.noise_handshake.proofs.Counting.{most-any}
 use Rattle.noise_handshake.proofs.Keeping.{enough}
 use Rattle.noise_handshake.proofs.Views.{items-from}
 use Rattle.noise_handshake.proofs.handshake.Handshake.wants_to_read.Goals as goal
@@ -86,7 +87,7 @@ read_lacking-requires-clause-nonces g c =
     let placed : List PlacedToken = c.deref-2.result.now in
     let ts : List Token = tokens_of placed in
     let few : length ts ≤ 10 = omega (arith, length-tokens_of placed, c.deref-2.ensures.1) in
-    omega (arith, i.2.nonce, i.2.few, less, few)
+    omega (arith, most-any (keyed a.state) a.passed (nonce_now a.state) i.2.nonce, i.2.few, less, few)
 
 pub read_lacking-requires-clause-known : goal.read_lacking-requires-clause-known
 read_lacking-requires-clause-known g c =

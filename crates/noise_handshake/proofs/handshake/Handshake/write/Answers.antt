@@ -23,7 +23,9 @@ use Rattle.noise_handshake.specs.declared.layout.MessageLayout.{MessageLayout}
 use Rattle.noise_handshake.specs.Passed.{passed_places}
 use Rattle.noise_handshake.specs.Party.{Stands}
 use Rattle.noise_handshake.specs.inner.Layout.{tokens_of, IsLaid, LaysNext}
-use Rattle.noise_handshake.proofs.Keeping.{enough, key-behind, sound-behind}
+use Rattle.noise_handshake.specs.inner.Counting.{CountsUses}
+use Rattle.noise_handshake.proofs.Counting.{most-any}
+use Rattle.noise_handshake.proofs.Keeping.{enough, counts, key-behind, sound-behind}
 use Rattle.noise_handshake.proofs.Views.{items-from}
 use Rattle.noise_handshake.proofs.handshake.Handshake.write.Goals as goal
 
@@ -76,7 +78,7 @@ write_message-requires-clause-nonces g c =
     let placed : List PlacedToken = c.deref-2.result.now in
     let ts : List Token = tokens_of placed in
     let few : length ts ≤ 10 = omega (arith, length-tokens_of placed, c.deref-2.ensures.1) in
-    omega (arith, i.2.nonce, i.2.few, less, few, ap (λ (z : SymmetricState). nonce_now z) c.for_trial-state.ensures)
+    omega (arith, most-any (keyed a.state) a.passed (nonce_now a.state) i.2.nonce, i.2.few, less, few, ap (λ (z : SymmetricState). nonce_now z) c.for_trial-state.ensures)
 
 pub write_message-requires-clause-own : goal.write_message-requires-clause-own
 write_message-requires-clause-own g c =
@@ -288,13 +290,15 @@ invariant_of-self g c =
     let key : keyed c.write_message.new.state ≡ keyed_behind_tokens (has_psk a.pattern) (keyed a.state) ts =
     c.in-Ok.ensures.keyed ∙ ap (λ (z : SymmetricState). keyed_behind_tokens a.psks (keyed z) ts) c.for_trial-state.ensures
     ∙ ap (λ (b : Bool). keyed_behind_tokens b (keyed a.state) ts) i.0 in
+    let uses : CountsUses c.write_message.new.state = c.write_message.ensures.uses
+    (subst (λ (z : SymmetricState). CountsUses z) (sym c.for_trial-state.ensures) (counts P h i.2 ts e less)) in
     let counted : nonce_now c.write_message.new.state ≤ nonce_now a.state + length ts + 1 =
     subst (λ (z : SymmetricState). nonce_now c.write_message.new.state ≤ nonce_now z + length ts + 1) c.for_trial-state.ensures
     c.write_message.ensures.used in (
       i.0,
       omega (arith, enough P h i.2 ts e less, length-drop a.used a.secrets.items, n, i.1),
       sound-behind P h i.2 ts e less a.remote c.write_message.new.state (drop (a.used + found.secrets) a.secrets.items) (a.passed + 1) refl
-          (ap (λ (k : ℕ). drop (a.used + k) a.secrets.items) n ∙ sym (drop-drop (count_by is_psk ts) a.used a.secrets.items)) key counted few,
+          (ap (λ (k : ℕ). drop (a.used + k) a.secrets.items) n ∙ sym (drop-drop (count_by is_psk ts) a.used a.secrets.items)) key counted few uses,
       knows-wrote h i.3 less c.write_message.new.state (drop (a.used + found.secrets) a.secrets.items) (writes-turn P h i.2 len none),
       subst (λ (z : Plan). LaysNext z (a.passed + 1) c.lay_next-self-inside.result) c.pattern-plan.ensures.same c.lay_next-self-inside.ensures,
       i.5,
