@@ -34,7 +34,7 @@ returns-then-eq-clause-every c =
 
 pub returns-in_err-end-clause-every : goal.returns-in_err-end-clause-every
 returns-in_err-end-clause-every c =
-    let word : c.as_slice.result.now ≡ codes "end" = search rules in
+    let word : c.as_slice.result.now ≡ codes "end" = c.as_slice.ensures in
     let other : ¬ (c.in_ok-next.field-0.now ≡ codes "end") =
     λ e. let yes = (bytes_eq-Decides c.in_ok-next.field-0.now c.as_slice.result.now).1 (e ∙ sym word) in cc (c.eq.ensures, yes) in
     λ before rest h e.
@@ -45,8 +45,8 @@ returns-in_err-end-clause-every c =
 
 pub loop-lines-preserved : goal.loop-lines-preserved
 loop-lines-preserved c =
-    let ended : IsTrue c.next.new.self.is_ended = search rules in
-    let word : c.as_slice.result.now ≡ codes "end" = search rules in
+    let ended : IsTrue c.next.new.self.is_ended = c.in_ok-end.ensures.ended.0 refl in
+    let word : c.as_slice.result.now ≡ codes "end" = c.as_slice.ensures in
     let other : ¬ (c.in_ok-next.field-0.now ≡ codes "end") =
     λ e. let yes = (bytes_eq-Decides c.in_ok-next.field-0.now c.as_slice.result.now).1 (e ∙ sym word) in cc (c.eq.ensures, yes) in (
       Ends-behind c.args.lines.now.rest.now c.loop-lines.lines.rest.now c.in_ok-next.field-0.now c.next.new.self.rest.now

@@ -12,7 +12,7 @@ returns-then-eq-clause-every c =
 
 pub returns-in_err-lengths-clause-every : goal.returns-in_err-lengths-clause-every
 returns-in_err-lengths-clause-every c =
-    let hyphen : c.as_slice.result.now ≡ codes "-" = search rules in
+    let hyphen : c.as_slice.result.now ≡ codes "-" = c.as_slice.ensures in
     let other : ¬ (c.args.word.now ≡ codes "-") =
     λ e. let yes = (bytes_eq-Decides c.args.word.now c.as_slice.result.now).1 (e ∙ sym hyphen) in cc (c.eq.ensures, yes) in
     λ cuts h e. absurd (no-cuts c.args.word.now cuts other c.in_err-lengths.ensures.every h.0 e)
@@ -24,7 +24,7 @@ returns-clause-value c =
 
 pub returns-clause-every : goal.returns-clause-every
 returns-clause-every c =
-    let hyphen : c.as_slice.result.now ≡ codes "-" = search rules in
+    let hyphen : c.as_slice.result.now ≡ codes "-" = c.as_slice.ensures in
     let other : ¬ (c.args.word.now ≡ codes "-") =
     λ e. let yes = (bytes_eq-Decides c.args.word.now c.as_slice.result.now).1 (e ∙ sym hyphen) in cc (c.eq.ensures, yes) in
     λ cuts h e.

@@ -1,4 +1,4 @@
-use Rattle.std.proofs.Common.{rules, arith, ◌≡◌, ◌+◌, ◌∙◌, ap, sym, subst, ℕ, List, [], ◌∷◌, ◌++◌, length, vec_len}
+use Rattle.std.proofs.Common.{rules, refl, arith, ◌≡◌, ◌+◌, ◌∙◌, ap, sym, subst, ℕ, List, [], ◌∷◌, ◌++◌, length, vec_len}
 use Rattle.std.specs.Prelude.{IsSome, IsTrue}
 use Rattle.std.specs.List.{All}
 use Rattle.std.proofs.lemmas.List.Elements.{All-nil, All-push}
@@ -37,10 +37,10 @@ returns-in_err-end-clause-every c = λ events rest right allowed over e.
 
 pub loop-alloc-preserved : goal.loop-alloc-preserved
 loop-alloc-preserved c =
-    let ended : IsTrue c.next.new.self.is_ended = search rules in
-    let found : c.in_ok-line.line.now ≡ event_words c.in-Some.event = search rules in
-    let is_allowed : IsAllowed c.args.allowed c.in-Some.event = search rules in
-    let is_event : IsEvent c.in-Some.event = search rules in
+    let ended : IsTrue c.next.new.self.is_ended = c.in_ok-end.ensures.ended.0 refl in
+    let found : c.in_ok-line.line.now ≡ event_words c.in-Some.event = rw c.in-Some.is at c.in_ok-event.ensures.text in
+    let is_allowed : IsAllowed c.args.allowed c.in-Some.event = rw c.in-Some.is at c.in_ok-event.ensures.allowed in
+    let is_event : IsEvent c.in-Some.event = rw c.in-Some.is at c.in_ok-event.ensures.right in
     let pushed : c.push.new.self.items ≡ c.loop-alloc.events.items ++ c.in-Some.event ∷ [] = search rules in
     let len : vec_len c.push.new.self ≡ vec_len c.loop-alloc.events + 1 = search rules in (
       lines_of-more event_words c.args.lines.now.rest.now c.loop-alloc.lines.rest.now c.in_ok-line.line.now c.next.new.self.rest.now

@@ -1,4 +1,4 @@
-use Rattle.std.proofs.Common.{rules, arith, ◌≡◌, ◌+◌, ◌∙◌, ap, sym, subst, ℕ, Vec, List, [], ◌∷◌, ◌++◌, length, vec_len}
+use Rattle.std.proofs.Common.{rules, refl, arith, ◌≡◌, ◌+◌, ◌∙◌, ap, sym, subst, ℕ, Vec, List, [], ◌∷◌, ◌++◌, length, vec_len}
 use Rattle.std.specs.Global.{Global}
 use Rattle.std.specs.Prelude.{IsTrue}
 use Rattle.std.specs.List.{All}
@@ -40,7 +40,7 @@ returns-in_err-end-clause-every c =
 pub loop-alloc-preserved : goal.loop-alloc-preserved
 loop-alloc-preserved c =
     let some : ¬ (c.loop-alloc.lines.rest.now ≡ []) = λ e. let yes = c.is_empty.ensures.1 e in cc (yes) in
-    let ended : IsTrue c.next.new.self.is_ended = search rules in
+    let ended : IsTrue c.next.new.self.is_ended = c.in_ok-end.ensures.ended.0 refl in
     let found : c.in_ok-line.line.now ≡ expect_words c.in_ok-words.words = search rules in
     let is_right : IsExpected c.in_ok-words.words.items = search rules in
     let pushed : c.push.new.self.items ≡ c.loop-alloc.expected.items ++ c.in_ok-words.words ∷ [] = search rules in

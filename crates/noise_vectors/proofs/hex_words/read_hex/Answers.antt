@@ -1,4 +1,4 @@
-use Rattle.std.proofs.Common.{rules, ◌≡◌, sym, ◌∙◌, refl, codes}
+use Rattle.std.proofs.Common.{◌≡◌, sym, ◌∙◌, refl, codes}
 use Rattle.std.proofs.lemmas.Slice.Eq.{bytes_eq-Decides}
 use Rattle.noise_vectors.specs.HexWord.{IsHexWord}
 use Rattle.noise_vectors.proofs.HexWordLemmas.{word_of-decoded, IsHexWord-digits, not_IsHexWord}
@@ -6,7 +6,7 @@ use Rattle.noise_vectors.proofs.hex_words.read_hex.Goals as goal
 
 pub returns-then-not-is_digits-clause-found : goal.returns-then-not-is_digits-clause-found
 returns-then-not-is_digits-clause-found c =
-    let hyphen : c.as_slice.result.now ≡ codes "-" = search rules in
+    let hyphen : c.as_slice.result.now ≡ codes "-" = c.as_slice.ensures in
     let none : ¬ IsHexWord c.args.word.now = not_IsHexWord c.args.word.now
     (λ e. let yes = (bytes_eq-Decides c.args.word.now c.as_slice.result.now).1 (e ∙ sym hyphen) in cc (c.eq.ensures, yes))
     (λ d. let yes = c.is_digits.ensures.1 d in cc (yes)) in

@@ -1,4 +1,4 @@
-use Rattle.std.proofs.Common.{rules, ◌≡◌, ◌∙◌, ap₂, lit<, List, ℕ, ◌∷◌, ◌++◌, Some, codes}
+use Rattle.std.proofs.Common.{◌≡◌, ◌∙◌, ap₂, lit<, List, ℕ, ◌∷◌, ◌++◌, Some, codes}
 use Rattle.std.proofs.lemmas.Bool.Decides.{Decides-eqb}
 use Rattle.std.proofs.lemmas.Slice.Eq.{strip_prefix_is}
 use Rattle.hex.specs.Hex.{encode_lower}
@@ -8,7 +8,7 @@ use Rattle.noise_vectors.proofs.parties.read_answer.Goals as goal
 
 pub returns-in_err-remote-clause-every : goal.returns-in_err-remote-clause-every
 returns-in_err-remote-clause-every c =
-    let front : c.as_slice.result.now ≡ codes "answer " = search rules in
+    let front : c.as_slice.result.now ≡ codes "answer " = c.as_slice.ensures in
     let split = strip_prefix_is Decides-eqb c.args.line.now c.as_slice.result.now (Some c.in_ok-strip_prefix.field-0) c.in_ok-strip_prefix.ensures.cases in
     λ entry h is.
     let keys = answer-keys c.args.line.now c.as_slice.result.now c.in_ok-strip_prefix.field-0.now c.in_ok-own.own.now c.in_ok-own.keys.now entry
@@ -18,7 +18,7 @@ returns-in_err-remote-clause-every c =
 
 pub returns-in_err-read_key-clause-every : goal.returns-in_err-read_key-clause-every
 returns-in_err-read_key-clause-every c =
-    let front : c.as_slice.result.now ≡ codes "answer " = search rules in
+    let front : c.as_slice.result.now ≡ codes "answer " = c.as_slice.ensures in
     let split = strip_prefix_is Decides-eqb c.args.line.now c.as_slice.result.now (Some c.in_ok-strip_prefix.field-0) c.in_ok-strip_prefix.ensures.cases in
     λ entry h is.
     let keys = answer-keys c.args.line.now c.as_slice.result.now c.in_ok-strip_prefix.field-0.now c.in_ok-own.own.now c.in_ok-own.keys.now entry
@@ -30,7 +30,7 @@ returns-in_err-read_key-clause-every c =
 
 pub returns-in_err-read_key-2-clause-every : goal.returns-in_err-read_key-2-clause-every
 returns-in_err-read_key-2-clause-every c =
-    let front : c.as_slice.result.now ≡ codes "answer " = search rules in
+    let front : c.as_slice.result.now ≡ codes "answer " = c.as_slice.ensures in
     let split = strip_prefix_is Decides-eqb c.args.line.now c.as_slice.result.now (Some c.in_ok-strip_prefix.field-0) c.in_ok-strip_prefix.ensures.cases in
     λ entry h is.
     let keys = answer-keys c.args.line.now c.as_slice.result.now c.in_ok-strip_prefix.field-0.now c.in_ok-own.own.now c.in_ok-own.keys.now entry
@@ -42,7 +42,7 @@ returns-in_err-read_key-2-clause-every c =
 
 pub returns-clause-text : goal.returns-clause-text
 returns-clause-text c =
-    let front : c.as_slice.result.now ≡ codes "answer " = search rules in
+    let front : c.as_slice.result.now ≡ codes "answer " = c.as_slice.ensures in
     let split = strip_prefix_is Decides-eqb c.args.line.now c.as_slice.result.now (Some c.in_ok-strip_prefix.field-0) c.in_ok-strip_prefix.ensures.cases in
     let keys = c.in_ok-remote.ensures.parts ∙ ap₂ (λ (x y : List ℕ). x ++ 32 ∷ y) c.in_ok-read_key.ensures.value c.in_ok-read_key-2.ensures.value in
     split ∙ ap₂ (λ (x y : List ℕ). x ++ y) front

@@ -1,4 +1,4 @@
-use Rattle.std.proofs.Common.{rules, ◌≡◌, ◌∙◌, ap, sym, refl, ℕ, List, ◌++◌, codes}
+use Rattle.std.proofs.Common.{◌≡◌, ◌∙◌, ap, sym, refl, ℕ, List, ◌++◌, codes}
 use Rattle.noise_vectors.specs.VectorText.{key_words}
 use Rattle.noise_vectors.proofs.PartyLemmas.{not-xor, party-read, words_of, xor-behind}
 use Rattle.noise_vectors.proofs.parties.read_party.Goals as goal
@@ -18,7 +18,7 @@ returns-in_err-end-clause-every c = λ keys rest h other is.
 
 pub returns-in-Some-keys_of-clause-every : goal.returns-in-Some-keys_of-clause-every
 returns-in-Some-keys_of-clause-every c =
-    let front : c.as_slice.result.now ≡ codes "xor " = search rules in
+    let front : c.as_slice.result.now ≡ codes "xor " = c.as_slice.ensures in
     λ keys rest h other is.
     let read = party-read c.args.role keys c.args.lines.now.rest.now rest c.in_ok-line.line.now c.next.new.self.rest.now c.next.new.self.is_ended
     h is c.in_ok-line.ensures.every in
@@ -30,8 +30,8 @@ returns-in-Some-keys_of-clause-every c =
 
 pub returns-in_default-keys_of-2-clause-every : goal.returns-in_default-keys_of-2-clause-every
 returns-in_default-keys_of-2-clause-every c =
-    let front : c.as_slice.result.now ≡ codes "xor " = search rules in
-    let front_table : c.as_slice-2.result.now ≡ codes "table " = search rules in
+    let front : c.as_slice.result.now ≡ codes "xor " = c.as_slice.ensures in
+    let front_table : c.as_slice-2.result.now ≡ codes "table " = c.as_slice-2.ensures in
     λ keys rest h other is.
     let read = party-read c.args.role keys c.args.lines.now.rest.now rest c.in_ok-line.line.now c.next.new.self.rest.now c.next.new.self.is_ended
     h is c.in_ok-line.ensures.every in
@@ -50,7 +50,7 @@ returns-in_err-end-2-clause-every c = λ keys rest h other is.
 
 pub returns-in_err-read_table-clause-every : goal.returns-in_err-read_table-clause-every
 returns-in_err-read_table-clause-every c =
-    let front : c.as_slice.result.now ≡ codes "xor " = search rules in
+    let front : c.as_slice.result.now ≡ codes "xor " = c.as_slice.ensures in
     λ keys rest h other is.
     let read = party-read c.args.role keys c.args.lines.now.rest.now rest c.in_ok-line.line.now c.next.new.self.rest.now c.next.new.self.is_ended
     h is c.in_ok-line.ensures.every in
@@ -62,7 +62,7 @@ returns-in_err-read_table-clause-every c =
 
 pub returns-clause-every : goal.returns-clause-every
 returns-clause-every c =
-    let front : c.as_slice.result.now ≡ codes "xor " = search rules in
+    let front : c.as_slice.result.now ≡ codes "xor " = c.as_slice.ensures in
     λ keys rest h other is.
     let read = party-read c.args.role keys c.args.lines.now.rest.now rest c.in_ok-line.line.now c.next.new.self.rest.now c.next.new.self.is_ended
     h is c.in_ok-line.ensures.every in

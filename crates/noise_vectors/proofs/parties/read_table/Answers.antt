@@ -40,7 +40,7 @@ returns-in_err-end-clause-every c =
 pub loop-lines-preserved : goal.loop-lines-preserved
 loop-lines-preserved c =
     let starts : begins c.loop-lines.lines.rest.now ≡ true = search rules in
-    let ended : IsTrue c.next.new.self.is_ended = search rules in
+    let ended : IsTrue c.next.new.self.is_ended = c.in_ok-end.ensures.ended.0 refl in
     let found : TableEntry = record { own = c.in-Some.found.0; remote = c.in-Some.found.1; answer = c.in-Some.found.2 } in
     let added : c.add.new.self ≡ record c.loop-lines.table { entries = c.loop-lines.table.entries ++ found ∷ [] } = search rules in
     let one : length c.add.new.self.entries ≡ length c.loop-lines.table.entries + 1 =

@@ -48,10 +48,10 @@ returns-in_err-end-clause-every c =
 
 pub loop-lines-preserved : goal.loop-lines-preserved
 loop-lines-preserved c =
-    let ended : IsTrue c.next.new.self.is_ended = search rules in
+    let ended : IsTrue c.next.new.self.is_ended = c.in_ok-end.ensures.ended.0 refl in
     let begun : starts_with nat_eq c.loop-lines.lines.rest.now (codes "psk ") ≡ true = search rules in
     let pushed : c.try_push.new.self.items ≡ c.loop-lines.psks.items ++ c.in-Some.psk ∷ [] = search rules in
-    let is_key : IsKey c.in-Some.psk = search rules in
+    let is_key : IsKey c.in-Some.psk = c.in-Some.ensures.right in
     let few : length c.try_push.new.self.items ≤ 9 = search rules in
     let more : length c.try_push.new.self.items ≡ length c.loop-lines.psks.items + 1 =
     ap length pushed ∙ length-append c.loop-lines.psks.items (c.in-Some.psk ∷ []) in (
