@@ -1,0 +1,225 @@
+// A handshake of one party.
+import { NoiseError, code, library, must } from './module.mjs';
+import { KeyPair } from './keys.mjs';
+import { Datagrams, Transport } from './transport.mjs';
+
+const encoder = new TextEncoder();
+const PLACEHOLDER = new Uint8Array(32);
+
+function bytesOf(value, what, length) {
+  if (!(value instanceof Uint8Array)) throw new TypeError(`${what} has to be a Uint8Array`);
+  if (length !== undefined && value.length !== length) throw new TypeError(`${what} has to have ${length} bytes`);
+  return value;
+}
+
+/** Judges a pattern text: its number of messages, or what is wrong and where. */
+export function checkPattern(text) {
+  const lib = library();
+  const bytes = encoder.encode(text);
+  if (bytes.length > 65536) return { valid: false, code: code.LIMIT, name: 'NOISE_LIMIT', line: 1 };
+  const number = lib.x.noise_check_pattern(...lib.put('prologue', bytes), lib.at.told);
+  const data = lib.data(lib.at.told, 12);
+  if (number === code.OK) return { valid: true, messages: data.getUint8(11) };
+  const fault = { valid: false, code: number, name: new NoiseError(number).name };
+  if (number !== code.RULE) return { ...fault, line: Number(data.getBigUint64(0, true)) };
+  return { ...fault, rule: data.getUint8(8), message: data.getUint8(9), token: data.getUint8(10) };
+}
+
+/** One party of a handshake, from its first message to its last. */
+export class Handshake {
+  #place;
+  #options;
+  #ephemeral;
+  #static;
+  #started = false;
+  #busy = false;
+
+  /**
+   * Judges the set-up at once, and throws what noise_start answers. The ephemeral key pair is drawn at the first message,
+   * unless one is handed in: then it must never have served before.
+   */
+  constructor({ pattern, responder = false, prologue = new Uint8Array(0), staticKey, ephemeralKey, remoteStatic, remoteEphemeral, psks = [] }) {
+    if (typeof pattern !== 'string') throw new TypeError('pattern has to be a protocol name or a pattern text');
+    bytesOf(prologue, 'prologue');
+    if (prologue.length > 65535) throw new NoiseError(code.LENGTH);
+    if (psks.length > 9) throw new NoiseError(code.PSK_COUNT);
+    for (const psk of psks) bytesOf(psk, 'a psk', 32);
+    for (const key of [staticKey?.publicKey, ephemeralKey?.publicKey, remoteStatic, remoteEphemeral]) if (key) bytesOf(key, 'a public key', 32);
+    this.#options = { pattern, responder, prologue: prologue.slice(), remoteStatic, remoteEphemeral, psks: psks.map((psk) => psk.slice()) };
+    this.#static = staticKey;
+    this.#ephemeral = ephemeralKey;
+    this.#place = library().take('handshake');
+    try {
+      this.#start(ephemeralKey?.publicKey ?? PLACEHOLDER);
+    } catch (error) {
+      this.dispose();
+      throw error;
+    }
+    this.#started = ephemeralKey !== undefined;
+  }
+
+  #start(ephemeral) {
+    const lib = library();
+    const { pattern, responder, prologue, remoteStatic, remoteEphemeral, psks } = this.#options;
+    const setup = lib.view(lib.at.setup, 422).fill(0);
+    setup[0] = responder ? 1 : 0;
+    for (const [key, place] of [[ephemeral, 1], [this.#static?.publicKey, 34], [remoteEphemeral, 67], [remoteStatic, 100]]) {
+      if (!key) continue;
+      setup[place] = 1;
+      setup.set(key, place + 1);
+    }
+    setup[133] = psks.length;
+    psks.forEach((psk, n) => setup.set(psk, 134 + 32 * n));
+    const name = encoder.encode(pattern);
+    if (name.length > 512) throw new NoiseError(pattern.endsWith('\n') ? code.PATTERN : code.NAME);
+    const answer = lib.x.noise_start(this.#place, ...lib.put('name', name), ...lib.put('prologue', prologue), lib.at.setup);
+    lib.wipe('setup');
+    must(answer);
+  }
+
+  #here() {
+    if (this.#place === undefined) throw new NoiseError(code.DISPOSED);
+    return this.#place;
+  }
+
+  async #alone(work) {
+    this.#here();
+    if (this.#busy) throw new NoiseError(code.BUSY);
+    this.#busy = true;
+    try {
+      if (!this.#started) {
+        this.#ephemeral = await KeyPair.generate();
+        this.#here();
+        this.#start(this.#ephemeral.publicKey);
+        this.#started = true;
+      }
+      return await work();
+    } finally {
+      this.#busy = false;
+    }
+  }
+
+  /** Makes a call again and again, as long as it wants an answer of X25519. */
+  async #answered(call) {
+    const lib = library();
+    for (;;) {
+      const number = call(this.#here());
+      const told = lib.told();
+      if (number !== code.WANTED) {
+        must(number, number === code.SHORT || number === code.TAG ? told.token : undefined);
+        return told;
+      }
+      const answer = await this.#agree(told);
+      const place = this.#here();
+      lib.view(lib.at.told + 18n, 32).set(told.remote);
+      const taken = lib.x.noise_answer(place, told.ofStatic, lib.at.told + 18n, lib.put('answer', answer)[0]);
+      lib.wipe('answer');
+      must(taken);
+    }
+  }
+
+  async #agree({ ofStatic, remote }) {
+    let answer;
+    try {
+      answer = await (ofStatic ? this.#static : this.#ephemeral).agree(remote);
+    } catch (cause) {
+      throw Object.assign(new NoiseError(code.KEY), { cause });
+    }
+    if (!(answer instanceof Uint8Array) || answer.length !== 32 || answer.every((byte) => byte === 0)) throw new NoiseError(code.KEY);
+    return answer;
+  }
+
+  /** Writes the next message, with this payload. */
+  write(payload = new Uint8Array(0)) {
+    bytesOf(payload, 'payload');
+    return this.#alone(async () => {
+      const lib = library();
+      const told = await this.#answered((place) => {
+        const args = lib.put('payload', payload);
+        const number = lib.x.noise_write(place, ...args, lib.at.message, 65535n, lib.at.told);
+        lib.wipe('payload', payload.length);
+        return number;
+      });
+      return lib.view(lib.at.message, told.len).slice();
+    });
+  }
+
+  /** Reads the message that is due, and gives its payload. At NOISE_TAG and NOISE_SHORT the handshake has ended. */
+  read(message) {
+    bytesOf(message, 'message');
+    return this.#alone(async () => {
+      const lib = library();
+      const told = await this.#answered((place) => lib.x.noise_read(place, ...lib.put('message', message), lib.at.told));
+      const payload = lib.view(lib.at.message + BigInt(told.from), told.len).slice();
+      lib.wipe('message', message.length);
+      return payload;
+    });
+  }
+
+  /** How far it is: `messages`, `passed`, `ended`, `writesNext`. */
+  get stage() {
+    const lib = library();
+    must(lib.x.noise_stage(this.#here(), lib.at.number));
+    const [messages, passed, ended, next] = lib.view(lib.at.number, 4);
+    return { messages, passed, ended: ended !== 0, writesNext: next !== 0, done: ended === 0 && passed === messages };
+  }
+
+  /** How many bytes the next message has with a payload of this length. */
+  messageLength(payloadLength) {
+    if (!Number.isSafeInteger(payloadLength) || payloadLength < 0) throw new RangeError('payloadLength has to be a number of bytes');
+    const lib = library();
+    must(lib.x.noise_message_len(this.#here(), BigInt(payloadLength), lib.at.number));
+    return Number(lib.data(lib.at.number, 8).getBigUint64(0, true));
+  }
+
+  /** The handshake hash so far. Before the first call of `write` or `read` an ephemeral key of a pre-message isn't drawn yet. */
+  get hash() {
+    return library().hash(library().x.noise_hash, this.#here());
+  }
+
+  get remoteStatic() {
+    return library().key(library().x.noise_remote_static, this.#here());
+  }
+
+  /** The public key of the ephemeral pair, once it was drawn. */
+  get ephemeralPublicKey() {
+    return this.#ephemeral?.publicKey;
+  }
+
+  #finished(Kind, call, option) {
+    const place = this.#here();
+    if (this.#busy) throw new NoiseError(code.BUSY);
+    const kept = library().take(Kind.kind);
+    const number = call(place, option, kept);
+    if (number !== code.OK) {
+      library().free(Kind.kind, kept);
+      throw new NoiseError(number);
+    }
+    const end = new Kind(kept, { hash: this.hash, remoteStatic: this.remoteStatic });
+    this.dispose();
+    return end;
+  }
+
+  /** Makes the transport, and uses this handshake up. Each direction renews its key behind each `interval` of its messages; 0 is never. */
+  finish({ interval = 0n } = {}) {
+    const messages = BigInt(interval);
+    if (messages < 0n || messages >= 1n << 64n) throw new RangeError('interval has to be from 0 to 2^64 - 1');
+    return this.#finished(Transport, library().x.noise_finish, messages);
+  }
+
+  /** Makes the state of datagrams, with a window of 64, 256 or 1024 nonces, and uses this handshake up. */
+  finishDatagrams({ window = 64 } = {}) {
+    if (![64, 256, 1024].includes(window)) throw new NoiseError(code.WINDOW);
+    return this.#finished(Datagrams, library().x.noise_finish_datagrams, window);
+  }
+
+  /** Overwrites the struct and the secrets, and gives its place back. A used-up handshake throws NOISE_DISPOSED. */
+  dispose() {
+    if (this.#place === undefined) return;
+    library().free('handshake', this.#place);
+    this.#place = undefined;
+    for (const psk of this.#options.psks) psk.fill(0);
+    this.#ephemeral = undefined;
+  }
+}
+if (Symbol.dispose) Handshake.prototype[Symbol.dispose] = Handshake.prototype.dispose;

@@ -1,0 +1,189 @@
+// The WebAssembly module: how it is loaded, where its structs stand, and how a code becomes an error.
+
+/** The numbers of include/noise.h, and behind them those of this module, which are negative. */
+const NAMES = {
+  1: ['NAME', 'no protocol name of a fundamental pattern with 25519, ChaChaPoly and SHA256, or a psk place beyond its messages'],
+  2: ['PATTERN', 'a pattern text that spells no valid pattern: checkPattern says where'],
+  4: ['EPHEMERAL_MISSING', 'the pattern has a token e of this party, and no ephemeral key was handed in'],
+  5: ['STATIC_MISSING', 'the pattern has a token s of this party: hand in staticKey'],
+  6: ['REMOTE_MISSING', "a key of the other party's pre-message is lacking: hand in remoteStatic or remoteEphemeral"],
+  7: ['REMOTE_UNEXPECTED', "a key was handed in that isn't in the other party's pre-message: leave it out"],
+  8: ['PSK_COUNT', 'not one secret for each psk token'],
+  10: ['NOT_YOUR_TURN', 'the other party is to write, or at read this one is'],
+  11: ['TOO_LONG', 'the message or datagram would have, or has, more bytes than it may have'],
+  12: ['DONE', 'all messages of the handshake have passed: finish'],
+  13: ['ENDED', 'the handshake was ended by a refused message: start anew'],
+  14: ['AGREEMENT', 'the kept struct was changed'],
+  15: ['SHORT', 'the message has too few bytes'],
+  16: ['TAG', 'a tag is wrong: something differs between the parties, or the message was changed'],
+  17: ['EXHAUSTED', 'no more messages under this key: start anew'],
+  18: ['ROOM', 'the place for the message is too short'],
+  19: ['NOT_DONE', 'messages of the handshake are still due'],
+  20: ['WANTED', 'an answer of X25519 is lacking'],
+  21: ['FULL', 'it has 8 answers already'],
+  22: ['ONE_WAY', 'a one-way pattern: the responder seals nothing, and nothing comes to the initiator'],
+  23: ['STRUCT', 'the kept struct is none that a call has left'],
+  24: ['LENGTH', 'more than 65535 bytes were handed in'],
+  25: ['WINDOW', 'a window other than 64, 256 and 1024'],
+  26: ['RESERVED', 'the datagram has the nonce 2^64 - 1, which none has: drop it'],
+  27: ['OLD', 'the datagram is further below the greatest opened one than the window reaches: drop it'],
+  28: ['REPEATED', 'a datagram of this nonce was opened: drop it'],
+  29: ['NOT_DUE', "write wouldn't write a payload of this length now"],
+  30: ['HEADING', "the first line isn't a base, its modifiers in order, and a colon"],
+  31: ['ARROW', "the line doesn't begin with two spaces, an arrow and a space"],
+  32: ['TOKEN', 'something between the commas is no token'],
+  33: ['PRE_MESSAGE', 'a line before "..." has other tokens than e, s or "e, s", or stands in the wrong place, or "..." does'],
+  34: ['TURN', "it is the other party's turn"],
+  35: ['PSK_PLACE', "the psk tokens aren't where the heading says"],
+  36: ['NAME_TAKEN', 'the base is that of a fundamental pattern, and this is another'],
+  37: ['LIMIT', 'a ninth message, no token but psk, or more than eight others'],
+  38: ['ENDING', 'the line has no line feed, or there is no message'],
+  39: ['RULE', 'the pattern breaks a rule'],
+  '-1': ['BUSY', 'another call on this handshake is under way: await it first'],
+  '-2': ['DISPOSED', 'this object is used up'],
+  '-3': ['NO_MEMORY64', 'this engine runs no WebAssembly with 64-bit memory: take a browser of 2025 or later with memory64, '
+    + 'node --experimental-wasm-memory64 where Node lacks it, or the native library (docs/C.md)'],
+  '-4': ['NOT_LOADED', 'await load() first'],
+  '-5': ['KEY', "the other party's public key has no answer of X25519, or one of all zeros: close"],
+  '-6': ['CLOSED', 'the other party closed the connection, or it broke, in the middle of a frame or of the handshake'],
+};
+
+/** The codes by name, as `code.TAG`. */
+export const code = Object.freeze(Object.fromEntries([['OK', 0], ...Object.entries(NAMES).map(([n, [name]]) => [name, Number(n)])]));
+
+/** What a refused call throws: `code` is the number of include/noise.h, `name` its name there, `token` where a handshake message was refused. */
+export class NoiseError extends Error {
+  constructor(number, token) {
+    const [name, text] = NAMES[number] ?? ['UNKNOWN', `code ${number}`];
+    super(text);
+    this.code = number;
+    this.name = `NOISE_${name}`;
+    this.token = token;
+  }
+}
+
+/** Throws unless the code is OK. */
+export function must(number, token) {
+  if (number !== 0) throw new NoiseError(number, token);
+}
+
+const SCRATCH = { name: 512, prologue: 65536, payload: 65536, message: 65552, told: 56, setup: 422, answer: 32, key: 33, number: 16 };
+const PAGE = 65536;
+
+/** An instance, and the places in its memory: `at` for what one call needs, `take` and `free` for what is kept. */
+class Library {
+  constructor(instance) {
+    this.x = instance.exports;
+    this.memory = this.x.memory;
+    this.sizes = {
+      handshake: Number(this.x.noise_handshake_size()),
+      transport: Number(this.x.noise_transport_size()),
+      datagrams: Number(this.x.noise_datagrams_size()),
+    };
+    this.kept = { handshake: [], transport: [], datagrams: [] };
+    this.next = this.memory.buffer.byteLength;
+    this.end = this.next;
+    this.at = Object.fromEntries(Object.entries(SCRATCH).map(([name, size]) => [name, this.#place(size)]));
+  }
+
+  #place(size) {
+    const place = this.next;
+    this.next += (size + 15) & ~15;
+    const pages = Math.ceil((this.next - this.end) / PAGE);
+    if (pages > 0) {
+      // Node 20's memory64 takes a number here, and engines of the final proposal a BigInt.
+      try { this.memory.grow(BigInt(pages)); } catch { this.memory.grow(pages); }
+      this.end += pages * PAGE;
+    }
+    return BigInt(place);
+  }
+
+  /** The bytes at a place. The view holds until the next call of `take`. */
+  view(place, size) {
+    return new Uint8Array(this.memory.buffer, Number(place), size);
+  }
+
+  data(place, size) {
+    return new DataView(this.memory.buffer, Number(place), size);
+  }
+
+  /** Copies bytes to a place of one call, and gives the place and the length as the exports take them. */
+  put(name, bytes) {
+    if (bytes.length > SCRATCH[name]) throw new NoiseError(name === 'message' ? code.TOO_LONG : code.LENGTH);
+    this.view(this.at[name], bytes.length).set(bytes);
+    return [this.at[name], BigInt(bytes.length)];
+  }
+
+  wipe(name, size = SCRATCH[name]) {
+    this.view(this.at[name], size).fill(0);
+  }
+
+  /** A place for a struct that is kept. */
+  take(kind) {
+    return this.kept[kind].pop() ?? this.#place(this.sizes[kind]);
+  }
+
+  /** Overwrites a kept struct, and lets its place be taken again. */
+  free(kind, place) {
+    this.view(place, this.sizes[kind]).fill(0);
+    this.kept[kind].push(place);
+  }
+
+  /** What the last call has told. */
+  told() {
+    const data = this.data(this.at.told, 56);
+    return {
+      from: Number(data.getBigUint64(0, true)),
+      len: Number(data.getBigUint64(8, true)),
+      token: data.getUint8(16),
+      ofStatic: data.getUint8(17),
+      remote: this.view(this.at.told + 18n, 32).slice(),
+    };
+  }
+
+  /** The 32 bytes that a call writes to its last pointer. */
+  hash(call, place) {
+    must(call(place, this.at.answer));
+    return this.view(this.at.answer, 32).slice();
+  }
+
+  /** The public key that a call writes to its last pointer, or undefined where it isn't known. */
+  key(call, place) {
+    must(call(place, this.at.key));
+    const key = this.view(this.at.key, 33);
+    return key[0] === 0 ? undefined : key.slice(1);
+  }
+}
+
+let loaded;
+
+/** The library that `load` has made. */
+export function library() {
+  if (!loaded) throw new NoiseError(code.NOT_LOADED);
+  return loaded;
+}
+
+async function bytesOf(source) {
+  if (source instanceof ArrayBuffer || ArrayBuffer.isView(source)) return source;
+  const url = new URL(source, import.meta.url);
+  if (url.protocol === 'file:') return (await import('node:fs/promises')).readFile(url);
+  const answer = await fetch(url);
+  if (!answer.ok) throw new Error(`${url}: ${answer.status} ${answer.statusText}`);
+  return answer.arrayBuffer();
+}
+
+/** Whether this engine runs WebAssembly with 64-bit memory: a module of nothing but such a memory is tried. */
+export function hasMemory64() {
+  return typeof WebAssembly === 'object' && WebAssembly.validate(Uint8Array.of(0, 97, 115, 109, 1, 0, 0, 0, 5, 3, 1, 4, 1));
+}
+
+/**
+ * Loads the module, once: later calls do nothing. Without an argument it is noise_c.wasm beside this file.
+ * Throws NOISE_NO_MEMORY64 where the engine lacks 64-bit memory, and what `fetch` and WebAssembly throw.
+ */
+export async function load(source = 'noise_c.wasm') {
+  if (loaded) return;
+  if (!hasMemory64()) throw new NoiseError(code.NO_MEMORY64);
+  const { instance } = await WebAssembly.instantiate(await bytesOf(source), {});
+  loaded ??= new Library(instance);
+}

@@ -1,0 +1,147 @@
+/** What a refused call throws. */
+export class NoiseError extends Error {
+  /** The number of include/noise.h; negative for what only this module tells. */
+  code: number;
+  /** `NOISE_TAG` and so on. */
+  name: string;
+  /** At NOISE_SHORT and NOISE_TAG of `Handshake.read`: the token at which the message was refused, from 0 on; the payload is behind the last. */
+  token?: number;
+}
+export const code: Readonly<Record<string, number>>;
+
+/** Loads the module, once. Without an argument it is noise_c.wasm beside noise.mjs. */
+export function load(source?: string | URL | ArrayBuffer | Uint8Array): Promise<void>;
+/** Whether this engine runs WebAssembly with 64-bit memory. */
+export function hasMemory64(): boolean;
+
+/** Whatever answers for a key pair of X25519. */
+export interface DH {
+  /** 32 bytes. */
+  readonly publicKey: Uint8Array;
+  /** The answer of X25519 for this pair and a public key. An answer of all zeros is refused. */
+  agree(remote: Uint8Array): Uint8Array | Promise<Uint8Array>;
+}
+/** A key pair of WebCrypto, whose private key isn't extractable. */
+export class KeyPair implements DH {
+  static generate(): Promise<KeyPair>;
+  static from(pair: CryptoKeyPair): Promise<KeyPair>;
+  readonly publicKey: Uint8Array;
+  agree(remote: Uint8Array): Promise<Uint8Array>;
+}
+
+export interface HandshakeOptions {
+  /** A protocol name, or a pattern text whose lines end with a line feed. */
+  pattern: string;
+  responder?: boolean;
+  /** At most 65535 bytes, the same at both parties. */
+  prologue?: Uint8Array;
+  staticKey?: DH;
+  /** Drawn at the first message, where it isn't handed in. It must never have served before. */
+  ephemeralKey?: DH;
+  remoteStatic?: Uint8Array;
+  remoteEphemeral?: Uint8Array;
+  /** 32 bytes for each psk token, in their order. */
+  psks?: Uint8Array[];
+}
+export interface Stage {
+  messages: number;
+  passed: number;
+  ended: boolean;
+  writesNext: boolean;
+  done: boolean;
+}
+export class Handshake {
+  constructor(options: HandshakeOptions);
+  write(payload?: Uint8Array): Promise<Uint8Array>;
+  read(message: Uint8Array): Promise<Uint8Array>;
+  readonly stage: Stage;
+  messageLength(payloadLength: number): number;
+  readonly hash: Uint8Array;
+  readonly remoteStatic: Uint8Array | undefined;
+  readonly ephemeralPublicKey: Uint8Array | undefined;
+  finish(options?: { interval?: bigint | number }): Transport;
+  finishDatagrams(options?: { window?: 64 | 256 | 1024 }): Datagrams;
+  dispose(): void;
+}
+
+export interface Sealer {
+  readonly hash: Uint8Array;
+  readonly remoteStatic: Uint8Array | undefined;
+  seal(payload: Uint8Array): Uint8Array;
+  dispose(): void;
+}
+export interface Opener {
+  readonly hash: Uint8Array;
+  readonly remoteStatic: Uint8Array | undefined;
+  open(message: Uint8Array): Uint8Array;
+  dispose(): void;
+}
+export class Transport implements Sealer, Opener {
+  private constructor();
+  readonly hash: Uint8Array;
+  readonly remoteStatic: Uint8Array | undefined;
+  seal(payload: Uint8Array): Uint8Array;
+  open(message: Uint8Array): Uint8Array;
+  readonly nonces: { send: bigint; receive: bigint };
+  /** Two halves; this object is used up. */
+  split(): [Sealer, Opener];
+  dispose(): void;
+}
+export class Datagrams implements Sealer, Opener {
+  private constructor();
+  readonly hash: Uint8Array;
+  readonly remoteStatic: Uint8Array | undefined;
+  seal(payload: Uint8Array): Uint8Array;
+  open(datagram: Uint8Array): Uint8Array;
+  readonly nonce: bigint;
+  dispose(): void;
+}
+
+export interface NoiseSocketOptions extends HandshakeOptions {
+  interval?: bigint | number;
+  /** Asked behind the last message; where it answers false, the channel is closed. */
+  judge?(remoteStatic: Uint8Array | undefined): boolean | Promise<boolean>;
+}
+export class NoiseSocket implements AsyncIterable<Uint8Array> {
+  private constructor();
+  static open(carrier: WebSocket | { readable: ReadableStream<Uint8Array>; writable: WritableStream<Uint8Array> }, options: NoiseSocketOptions): Promise<NoiseSocket>;
+  readonly hash: Uint8Array;
+  readonly remoteStatic: Uint8Array | undefined;
+  send(payload: Uint8Array): Promise<void>;
+  receive(): Promise<Uint8Array | undefined>;
+  close(): Promise<void>;
+  [Symbol.asyncIterator](): AsyncIterator<Uint8Array>;
+}
+
+export type Verdict =
+  | { valid: true; messages: number }
+  | { valid: false; code: number; name: string; line: number }
+  | { valid: false; code: number; name: string; rule: number; message: number; token: number };
+/** Judges a pattern text, by the proved check. */
+export function checkPattern(text: string): Verdict;
+
+export type Role = 'initiator' | 'responder';
+export interface Piece {
+  token: number;
+  kind: 'e' | 's' | 'ee' | 'es' | 'se' | 'ss' | 'psk' | 'payload' | 'tag';
+  length: number;
+  sealed: boolean;
+}
+export interface Layout {
+  section: string;
+  base: string;
+  psks: number;
+  before: Record<Role, string[]>;
+  atFirst: Record<Role, string[]>;
+  messages: { from: Role; tokens: string[]; pieces: Piece[]; length: number; known: Record<Role, string[]> }[];
+  static: Record<Role, boolean>;
+  oneWay: boolean;
+}
+/** What a pattern's messages consist of. This isn't proved. */
+export function layout(pattern: string): Layout;
+
+export const FUNDAMENTAL: readonly string[];
+export const DEFERRED: readonly string[];
+export function textOf(base: string, places?: number[]): string;
+export function asText(pattern: string): string;
+export function protocolName(section: string): string;

@@ -1,0 +1,173 @@
+import test from 'node:test';
+import assert from 'node:assert/strict';
+import { DEFERRED, FUNDAMENTAL, Handshake, KeyPair, NoiseError, NoiseSocket, checkPattern, code, layout, load, protocolName, textOf } from '../noise.mjs';
+
+const text = (s) => new TextEncoder().encode(s);
+const other = (role) => (role === 'initiator' ? 'responder' : 'initiator');
+const refused = (number, token) => (error) => error instanceof NoiseError && error.code === number && (token === undefined || error.token === token);
+
+test('before load each call is refused', () => assert.throws(() => checkPattern('NN:\n'), refused(code.NOT_LOADED)));
+
+/** Both parties of a pattern, with keys of WebCrypto. */
+async function parties(pattern, options = {}) {
+  const plan = layout(pattern);
+  const keys = {};
+  for (const role of ['initiator', 'responder']) keys[role] = plan.static[role] ? await KeyPair.generate() : undefined;
+  const psks = Array.from({ length: plan.psks }, (_, n) => new Uint8Array(32).fill(n + 1));
+  const make = (role) => new Handshake({
+    pattern, responder: role === 'responder', prologue: text('a test'), staticKey: keys[role], psks,
+    remoteStatic: plan.before[other(role)].includes('s') ? keys[other(role)].publicKey : undefined, ...options[role],
+  });
+  return { plan, keys, initiator: make('initiator'), responder: make('responder') };
+}
+
+/** Passes all messages, each with a payload, and compares each length with the layout's. */
+async function pass({ plan, ...ends }) {
+  for (const [n, { from, length }] of plan.messages.entries()) {
+    const payload = text(`payload ${n}`);
+    const message = await ends[from].write(payload);
+    assert.equal(message.length, length + payload.length);
+    assert.deepEqual(await ends[other(from)].read(message), payload);
+    assert.deepEqual(ends.initiator.hash, ends.responder.hash);
+  }
+}
+
+test('with the module loaded', async (t) => {
+  await load();
+  const all = [
+    ...FUNDAMENTAL.map((base) => [base, protocolName(base)]), ...DEFERRED.map((base) => [base, textOf(base)]),
+    ['XXpsk3', protocolName('XXpsk3')], ['NNpsk0+psk2', protocolName('NNpsk0+psk2')], ['NK1psk0', textOf('NK1', [0])],
+  ];
+  for (const [base, pattern] of all) {
+    await t.test(`${base} from its first message to transport messages`, async () => {
+      const it = await parties(pattern);
+      await pass(it);
+      assert.throws(() => it.initiator.finish({ interval: -1 }));
+      const [a, b] = [it.initiator.finish({ interval: 2 }), it.responder.finish({ interval: 2 })];
+      assert.deepEqual(a.hash, b.hash);
+      assert.deepEqual(b.remoteStatic, it.keys.initiator?.publicKey);
+      assert.deepEqual(a.remoteStatic, it.keys.responder?.publicKey);
+      for (let n = 0; n < 5; n += 1) assert.deepEqual(b.open(a.seal(text(`message ${n}`))), text(`message ${n}`));
+      if (it.plan.oneWay) assert.throws(() => b.seal(text('no')), refused(code.ONE_WAY));
+      else assert.deepEqual(a.open(b.seal(text('back'))), text('back'));
+      for (const end of [a, b]) end.dispose();
+      assert.throws(() => a.seal(text('x')), refused(code.DISPOSED));
+      await assert.rejects(it.initiator.write(), refused(code.DISPOSED));
+    });
+  }
+
+  await t.test("the tables have the library's patterns: another under a fundamental name is refused", () => {
+    for (const base of [...FUNDAMENTAL, ...DEFERRED]) {
+      assert.deepEqual(checkPattern(textOf(base)), { valid: true, messages: layout(base).messages.length });
+    }
+    assert.equal(checkPattern(textOf('XX1').replace('XX1', 'XX')).code, code.NAME_TAKEN);
+  });
+
+  await t.test('each rule, and each malformed line, is told with its place', () => {
+    const rule = (lines) => { const { rule: r, message, token } = checkPattern(`MINE:\n${lines.map((line) => `  ${line}\n`).join('')}`); return [r, message, token]; };
+    assert.deepEqual(rule(['-> e, es']), [1, 1, 1]);
+    assert.deepEqual(rule(['-> e', '<- e, ee', '-> e']), [2, 3, 0]);
+    assert.deepEqual(rule(['-> e', '<- e, ee, ee']), [3, 2, 2]);
+    assert.deepEqual(rule(['<- s', '...', '-> e', '<- e, es']), [4, 2, 2]);
+    assert.deepEqual(rule(['-> e, s', '<- e, se']), [4, 3, 0]);
+    assert.deepEqual(checkPattern('MINEpsk0:\n  -> psk, s\n').rule, 5);
+    const fault = (s) => { const { name, line } = checkPattern(s); return [name, line]; };
+    assert.deepEqual(fault('mine:\n  -> e\n'), ['NOISE_HEADING', 1]);
+    assert.deepEqual(fault('MINE:\n -> e\n'), ['NOISE_ARROW', 2]);
+    assert.deepEqual(fault('MINE:\n  -> e, x\n'), ['NOISE_TOKEN', 2]);
+    assert.deepEqual(fault('MINE:\n  -> e\n  -> e\n'), ['NOISE_TURN', 3]);
+    assert.deepEqual(fault('MINE:\n  -> e, psk\n'), ['NOISE_PSK_PLACE', 2]);
+    assert.deepEqual(fault('MINE:\n  -> e'), ['NOISE_ENDING', 2]);
+  });
+
+  await t.test('a set-up is judged at once', () => {
+    const start = (options) => () => new Handshake(options);
+    assert.throws(start({ pattern: 'Noise_QQ_25519_ChaChaPoly_SHA256' }), refused(code.NAME));
+    assert.throws(start({ pattern: 'MINE:\n  -> e, es\n' }), refused(code.PATTERN));
+    assert.throws(start({ pattern: protocolName('XX') }), refused(code.STATIC_MISSING));
+    assert.throws(start({ pattern: protocolName('NK') }), refused(code.REMOTE_MISSING));
+    assert.throws(start({ pattern: protocolName('NN'), remoteStatic: new Uint8Array(32) }), refused(code.REMOTE_UNEXPECTED));
+    assert.throws(start({ pattern: protocolName('NNpsk0') }), refused(code.PSK_COUNT));
+    assert.throws(start({ pattern: protocolName('NN'), prologue: new Uint8Array(65536) }), refused(code.LENGTH));
+    assert.throws(start({ pattern: protocolName('NN'), prologue: 'text' }), TypeError);
+  });
+
+  await t.test('a changed message ends the handshake at its token, and a second call is refused', async () => {
+    const it = await parties(protocolName('XX'));
+    const write = it.initiator.write();
+    await assert.rejects(it.initiator.write(), refused(code.BUSY));
+    await it.responder.read(await write);
+    await assert.rejects(it.responder.read(new Uint8Array(40)), refused(code.NOT_YOUR_TURN));
+    const message = await it.responder.write();
+    message[40] ^= 1;
+    await assert.rejects(it.initiator.read(message), refused(code.TAG, 2));
+    assert.equal(it.initiator.stage.ended, true);
+    await assert.rejects(it.initiator.read(message), refused(code.ENDED));
+    assert.throws(() => it.initiator.finish(), refused(code.ENDED));
+    assert.throws(() => it.responder.finish(), refused(code.NOT_DONE));
+  });
+
+  await t.test('a public key without an answer ends nothing, and is told', async () => {
+    const it = await parties(protocolName('NN'));
+    await it.responder.read(new Uint8Array(32));
+    await assert.rejects(it.responder.write(), refused(code.KEY));
+    assert.equal(it.responder.stage.ended, false);
+  });
+
+  await t.test('datagrams come late, twice, changed and too late', async () => {
+    const it = await parties(protocolName('NN'));
+    await pass(it);
+    assert.throws(() => it.initiator.finishDatagrams({ window: 65 }), refused(code.WINDOW));
+    const [a, b] = [it.initiator.finishDatagrams(), it.responder.finishDatagrams()];
+    const sent = Array.from({ length: 70 }, (_, n) => a.seal(text(`${n}`)));
+    assert.equal(a.nonce, 70n);
+    assert.deepEqual(b.open(sent[2]), text('2'));
+    assert.deepEqual(b.open(sent[1]), text('1'));
+    assert.throws(() => b.open(sent[1]), refused(code.REPEATED));
+    assert.throws(() => b.open(sent[3].with(12, sent[3][12] ^ 1)), refused(code.TAG));
+    assert.deepEqual(b.open(sent[69]), text('69'));
+    assert.throws(() => b.open(sent[3]), refused(code.OLD));
+    assert.throws(() => b.open(sent[3].slice(0, 23)), refused(code.SHORT));
+  });
+
+  await t.test('the halves of a transport, and what is used up', async () => {
+    const it = await parties(protocolName('NN'));
+    await pass(it);
+    const [a, b] = [it.initiator.finish(), it.responder.finish()];
+    const [sealer] = a.split();
+    assert.throws(() => a.seal(text('x')), refused(code.DISPOSED));
+    assert.deepEqual(b.open(sealer.seal(new Uint8Array(65519))).length, 65519);
+    assert.throws(() => sealer.seal(new Uint8Array(65520)), refused(code.TOO_LONG));
+    assert.throws(() => b.open(new Uint8Array(15)), refused(code.SHORT));
+    assert.throws(() => b.open(new Uint8Array(65536)), refused(code.LENGTH));
+    assert.deepEqual(b.nonces, { send: 0n, receive: 1n });
+  });
+
+  await t.test('many at once, and again in the places of those that were disposed of', async () => {
+    for (let round = 0; round < 3; round += 1) {
+      await Promise.all(Array.from({ length: 30 }, async () => {
+        const it = await parties(protocolName('IK'));
+        await pass(it);
+        for (const end of [it.initiator, it.responder]) end.dispose();
+      }));
+    }
+  });
+
+  await t.test('a channel over a pair of streams, in pieces of one byte', async () => {
+    const bytewise = () => new TransformStream({ transform(chunk, controller) { for (const byte of chunk) controller.enqueue(Uint8Array.of(byte)); } }, { highWaterMark: 1e6 }, { highWaterMark: 1e6 });
+    const [up, down] = [bytewise(), bytewise()];
+    const [client, server] = [await KeyPair.generate(), await KeyPair.generate()];
+    const options = { pattern: protocolName('XX'), interval: 3 };
+    const same = (key) => (got) => Buffer.compare(got, key.publicKey) === 0;
+    const [a, b] = await Promise.all([
+      NoiseSocket.open({ readable: down.readable, writable: up.writable }, { ...options, staticKey: client, judge: same(server) }),
+      NoiseSocket.open({ readable: up.readable, writable: down.writable }, { ...options, staticKey: server, responder: true, judge: same(client) }),
+    ]);
+    for (let n = 0; n < 7; n += 1) {
+      await a.send(text(`hello ${n}`));
+      assert.deepEqual(await b.receive(), text(`hello ${n}`));
+    }
+    await a.close();
+    assert.equal(await b.receive(), undefined);
+  });
+});
