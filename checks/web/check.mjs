@@ -1,0 +1,219 @@
+// The page as a user meets it: node check.mjs WEB ROOM. Saved vector files go to ROOM/files, screenshots to ROOM/pictures.
+import assert from 'node:assert/strict';
+import { writeFile } from 'node:fs/promises';
+import { join } from 'node:path';
+import { Browser } from './browser.mjs';
+import { serve } from './server.mjs';
+import { DEFERRED, FUNDAMENTAL } from '../../bindings/js/patterns.mjs';
+
+const [web, room] = process.argv.slice(2);
+const server = await serve(web);
+const browser = await Browser.start();
+const report = (text) => console.log(`web: ${text}`);
+const quoted = JSON.stringify;
+const run = (work) => browser.evaluate(`(async () => { ${work} })()`);
+const idle = 'document.getElementById("log").lastElementChild';
+const click = (selector) => run(`document.querySelector(${quoted(selector)}).click()`);
+const type = (id, value) => run(`const it = document.getElementById(${quoted(id)}); it.value = ${quoted(value)}; it.dispatchEvent(new Event('input')); it.dispatchEvent(new Event('change'))`);
+const count = () => browser.evaluate('document.getElementById("log").childElementCount');
+const state = () => browser.evaluate('document.getElementById("state").textContent');
+const save = async (name) => writeFile(join(room, 'files', `${name}.vector`), await browser.evaluate('noisePage.vectorFile'));
+
+async function open(fragment = '') {
+  await browser.open(server.url + fragment);
+  await browser.until('globalThis.noisePage !== undefined');
+}
+
+async function begin() {
+  await click('#start');
+  await browser.until('document.getElementById("all").disabled === false');
+}
+
+/** Does something that adds so many entries to the log. */
+async function adding(entries, work) {
+  const before = await count();
+  await work();
+  await browser.until(`document.getElementById("log").childElementCount >= ${before + entries}`);
+}
+const write = (role) => adding(1, () => click(`[data-write=${role}]`));
+/** Presses a button of the log's last written message, or of the Nth. */
+const deliver = (n, button = 0) => adding(1, () => run(`document.querySelectorAll('#log .deliver')[${n}].querySelectorAll('button')[${button}].click()`));
+const last = () => browser.evaluate(`${idle}.className + ': ' + ${idle}.firstElementChild.textContent`);
+
+async function allPatterns() {
+  await type('payload', 'hi');
+  for (const base of [...FUNDAMENTAL, ...DEFERRED]) {
+    await type('pick', base);
+    await begin();
+    await click('#all');
+    await browser.until('document.getElementById("all").disabled');
+    assert.match(await state(), /initiator is open .*responder is open/, base);
+    assert.match(await browser.evaluate('[...document.querySelectorAll("#log .hash")].at(-1).textContent'), /^hash at both ends [0-9a-f]{64}$/, base);
+    // Each length in the picture is that of the message that the library has written, with a payload of two bytes.
+    const drawn = await browser.evaluate('[...document.querySelectorAll("#picture text")].map((it) => /: (\\d+) bytes \\+ payload/.exec(it.textContent)?.[1]).filter(Boolean).map(Number)');
+    const written = await browser.evaluate('noisePage.lines.filter((it) => it.startsWith("wrote")).map((it) => it.split(" ")[3].length / 2 - 4)');
+    assert.deepEqual(drawn, written, base);
+    await write('initiator');
+    await deliver(written.length);
+    assert.match(await last(), /^accepted/, base);
+    await save(base);
+  }
+  report(`${FUNDAMENTAL.length} fundamental and ${DEFERRED.length} deferred patterns run to the end, with equal hashes`);
+}
+
+async function faults() {
+  const cases = [
+    ['MINE:\n  -> e, es\n', 'es', 'Rule 1'],
+    ['MINE:\n  -> e\n  <- e, ee\n  -> e\n', 'e', 'Rule 2'],
+    ['MINE:\n  -> e\n  <- e, ee, ee\n', 'ee', 'Rule 3'],
+    ['MINE:\n  -> e, s\n  <- e, se\n', 'se', 'Rule 4'],
+    ['MINEpsk0:\n  -> psk, s\n', 's', 'Rule 5'],
+    ['mine:\n  -> e\n', 'mine:', 'Line 1'],
+    ['MINE:\n -> e\n', ' -> e', 'Line 2'],
+    ['MINE:\n  -> e, foo, s\n', 'foo', 'Line 2'],
+    ['MINE:\n  -> e\n  -> e, ee\n', '->', 'Line 3'],
+    ['MINE:\n  -> e, psk\n', 'psk', 'Line 2'],
+    ['XX:\n  -> e\n', 'XX', 'Line 1'],
+  ];
+  for (const [text, marked, title] of cases) {
+    await type('text', text);
+    assert.equal(await browser.evaluate('document.querySelector("mark").textContent'), marked, text);
+    assert.ok((await browser.evaluate('document.querySelector("#verdict .title").textContent')).startsWith(title), text);
+    assert.equal(await browser.evaluate('document.getElementById("start").disabled'), true);
+  }
+  report(`${cases.length} faults are marked at their places`);
+}
+
+async function ownPattern() {
+  await type('text', 'MINE:\n  <- s\n  ...\n  -> e, es\n  <- e, ee\n  -> s, se\n');
+  await run('document.querySelector("#places input[value=\'2\']").click()');
+  assert.equal(await browser.evaluate('document.getElementById("text").value.split("\\n")[0]'), 'MINEpsk2:');
+  assert.match(await browser.evaluate('document.getElementById("verdict").className'), /good/);
+  await type('interval', '2');
+  await begin();
+  await click('#all');
+  await browser.until('document.getElementById("all").disabled');
+  for (let n = 0; n < 5; n += 1) await write('initiator');
+  for (const n of [3, 4, 5]) await deliver(n);
+  await deliver(3);
+  assert.match(await last(), /^refused: Responder refused transport message.*a tag is wrong. Its state stays/);
+  await deliver(6, 1);
+  await deliver(6);
+  assert.match(await last(), /^accepted/);
+  await save('own-pattern');
+  await type('interval', '0');
+}
+
+async function refusals() {
+  await type('pick', 'XX');
+  await begin();
+  await write('initiator');
+  await write('initiator');
+  assert.match(await last(), /^refused: Initiator wrote nothing: it is the other party’s turn/);
+  await deliver(0);
+  await deliver(0);
+  assert.match(await last(), /other party’s turn/);
+  await write('responder');
+  await run('document.querySelectorAll("#log .deliver")[1].querySelector("input").value = 40');
+  await deliver(1, 1);
+  assert.match(await last(), /^refused: Initiator refused message 2, whose byte 40 was changed on its way at token 3 \(s\): a tag is wrong. Its handshake has ended/);
+  await deliver(1);
+  await save('refused');
+}
+
+async function datagrams() {
+  await type('pick', 'IK');
+  await type('mode', 'datagrams');
+  await begin();
+  await click('#all');
+  await browser.until('document.getElementById("all").disabled');
+  for (let n = 0; n < 4; n += 1) await write('initiator');
+  for (const n of [4, 3]) await deliver(n);
+  await deliver(3);
+  assert.match(await last(), /a datagram of its nonce was opened/);
+  await deliver(5, 1);
+  assert.match(await last(), /^refused/);
+  assert.equal(await browser.evaluate('document.querySelectorAll(".window i.opened, .window i.top").length'), 2);
+  await save('datagrams');
+  const fragment = await browser.evaluate('location.hash');
+  await open(fragment);
+  assert.equal(await browser.evaluate('document.getElementById("mode").value + document.getElementById("pick").value'), 'datagramsIK');
+}
+
+async function keyboard() {
+  await open();
+  const focused = () => browser.evaluate('document.activeElement.id');
+  for (let n = 0; n < 40 && (await focused()) !== 'start'; n += 1) await browser.press('Tab');
+  assert.equal(await focused(), 'start');
+  await browser.press('Enter', '\r');
+  await browser.until('document.getElementById("all").disabled === false');
+  await browser.press('Tab');
+  await browser.press('Enter', '\r');
+  await browser.until('document.getElementById("all").disabled');
+  assert.match(await state(), /initiator is open/);
+}
+
+async function figures() {
+  await open();
+  const first = await browser.evaluate('noisePage.firstVerdict');
+  const key = await run(`const it = document.getElementById('text'); const start = performance.now();
+    for (let n = 0; n < 50; n += 1) { it.value = 'MINE:\\n  -> e, s\\n  <- e, ee, se\\n'.slice(0, 6 + n % 30); it.dispatchEvent(new Event('input')); }
+    return (performance.now() - start) / 50;`);
+  const ratio = await run(`const { Handshake, KeyPair, protocolName } = await import('./noise/noise.mjs');
+    const pattern = protocolName('XX'); let ends = 0; let curve = 0;
+    for (let n = 0; n < 20; n += 1) {
+      const [a, b, c, d] = await Promise.all([0, 1, 2, 3].map(() => KeyPair.generate()));
+      let start = performance.now();
+      for (let k = 0; k < 3; k += 1) { await a.agree(b.publicKey); await b.agree(a.publicKey); }
+      curve += performance.now() - start;
+      start = performance.now();
+      const [i, r] = [new Handshake({ pattern, staticKey: a, ephemeralKey: c }), new Handshake({ pattern, responder: true, staticKey: b, ephemeralKey: d })];
+      await r.read(await i.write()); await i.read(await r.write()); await r.read(await i.write());
+      i.finish().dispose(); r.finish().dispose();
+      ends += performance.now() - start;
+    }
+    return ends / curve;`);
+  const rate = await run(`const { Handshake, protocolName } = await import('./noise/noise.mjs');
+    const [i, r] = [new Handshake({ pattern: protocolName('NN') }), new Handshake({ pattern: protocolName('NN'), responder: true })];
+    await r.read(await i.write()); await i.read(await r.write());
+    const [transport, payload] = [i.finish(), new Uint8Array(16384)];
+    for (let n = 0; n < 100; n += 1) transport.seal(payload);
+    const start = performance.now();
+    for (let n = 0; n < 400; n += 1) transport.seal(payload);
+    return 400 * 16384 / (performance.now() - start) / 1e3;`);
+  report(`first verdict ${first.toFixed(0)} ms behind the load, ${key.toFixed(2)} ms a key, both ends of XX ${ratio.toFixed(2)} times six X25519 calls, sealing 16 KiB ${rate.toFixed(0)} MB/s`);
+}
+
+async function pictures() {
+  for (const [name, width, height, dark] of [['page-wide', 1100, 900, false], ['page-wide-dark', 1100, 900, true], ['page-phone', 390, 844, false], ['page-phone-dark', 390, 844, true]]) {
+    await browser.send('Emulation.setDeviceMetricsOverride', { width, height, deviceScaleFactor: 1, mobile: width < 500 });
+    await open();
+    if (!name.includes('phone')) await type('pick', 'IK');
+    assert.ok(await browser.evaluate('document.scrollingElement.scrollWidth <= innerWidth'), `${name} is too wide`);
+    await begin();
+    await click('#all');
+    await browser.until('document.getElementById("all").disabled');
+    await writeFile(join(room, 'pictures', `${name}.png`), await browser.picture(width, height, dark));
+    await run('document.getElementById("run").scrollIntoView()');
+    await writeFile(join(room, 'pictures', `${name}-run.png`), await browser.picture(width, height, dark));
+    assert.ok(await browser.evaluate('document.scrollingElement.scrollWidth <= innerWidth'), `${name} is too wide behind a run`);
+    await run('scrollTo(0, 0)');
+  }
+}
+
+try {
+  await open();
+  await allPatterns();
+  await faults();
+  await ownPattern();
+  await refusals();
+  await datagrams();
+  await keyboard();
+  await figures();
+  await pictures();
+  assert.deepEqual(browser.said, [], 'the console has to be silent');
+  report('a pattern of one’s own, refusals, transport, datagrams, the link and the keyboard: as they should be; the console is silent');
+} finally {
+  await browser.close();
+  server.close();
+}

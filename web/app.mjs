@@ -1,0 +1,146 @@
+// The page: what is set up, and what happens at each button.
+import { FUNDAMENTAL, layout, load, textOf } from './noise/noise.mjs';
+import { Editor } from './editor.mjs';
+import { picture, words } from './picture.mjs';
+import { OTHER, Run } from './run.mjs';
+import { element, showLog, showWindows, stateOf } from './runview.mjs';
+import { LANGUAGES, program } from './code.mjs';
+import * as link from './link.mjs';
+import { encode } from './bytes.mjs';
+
+const at = (id) => document.getElementById(id);
+const setup = link.read(location.hash, { text: textOf('XX'), prologue: 'my protocol 1', interval: 0 });
+let plan;
+let run;
+let language = 'C';
+let busy = false;
+
+function save(name, type, text) {
+  const url = URL.createObjectURL(new Blob([text], { type }));
+  const anchor = element('a');
+  Object.assign(anchor, { href: url, download: name });
+  anchor.click();
+  setTimeout(() => URL.revokeObjectURL(url), 1000);
+}
+
+function showPicture() {
+  at('picture').classList.toggle('stale', !plan);
+  if (!plan) return;
+  at('picture').innerHTML = picture(plan, at('picture').clientWidth < 560 ? 360 : 760);
+  at('words').replaceChildren(...words(plan).map((line) => element('li', '', line)));
+}
+
+function showCode() {
+  for (const button of at('languages').children) button.setAttribute('aria-pressed', String(button.textContent === language));
+  if (plan) at('code').textContent = program(language, plan, setup);
+}
+
+function showRun() {
+  const isOpen = Boolean(run?.isOpen);
+  at('start').disabled = !plan;
+  at('start').textContent = run ? 'Begin again with new keys' : 'Draw keys and begin';
+  at('all').disabled = !run || run.next === undefined;
+  at('write').hidden = !run;
+  at('save-vector').disabled = !run;
+  at('interval-l').hidden = setup.mode === 'datagrams';
+  at('window-l').hidden = setup.mode !== 'datagrams';
+  for (const button of document.querySelectorAll('[data-write]')) {
+    button.disabled = !run || run[button.dataset.write].ended || (!isOpen && run.setup.mode === 'datagrams' && Boolean(run[button.dataset.write].sealer));
+  }
+  at('state').textContent = stateOf(run);
+  showLog(at('log'), run, act);
+  showWindows(at('windows'), run);
+}
+
+/** Does one thing at a time with the run, and shows what came of it. */
+async function act(work) {
+  if (busy) return;
+  busy = true;
+  try {
+    await work();
+    at('copied').textContent = '';
+    showRun();
+  } catch (error) {
+    at('state').textContent = `This can’t be done: ${error.message}`;
+  } finally {
+    busy = false;
+  }
+}
+
+function endRun() {
+  run?.dispose();
+  run = undefined;
+  showLog(at('log'));
+}
+
+/** Behind each change of the set-up: a run of another set-up is over. */
+function changed() {
+  history.replaceState(null, '', link.write(setup));
+  endRun();
+  showRun();
+  showCode();
+}
+
+function patternChanged(text, verdict) {
+  setup.text = text;
+  plan = verdict.valid ? layout(text) : undefined;
+  showPicture();
+  changed();
+}
+
+async function begin() {
+  endRun();
+  run = await Run.start({ ...setup, prologue: encode(setup.prologue), isOwn: !FUNDAMENTAL.includes(plan.base) });
+}
+
+const payload = () => encode(at('payload').value);
+
+function wire() {
+  at('prologue').value = setup.prologue;
+  at('interval').value = setup.interval;
+  at('mode').value = setup.mode;
+  at('window').value = setup.window;
+  at('prologue').addEventListener('input', () => { setup.prologue = at('prologue').value; changed(); });
+  at('interval').addEventListener('input', () => { setup.interval = Math.min(999999999, Math.max(0, Math.floor(Number(at('interval').value)) || 0)); changed(); });
+  at('mode').addEventListener('change', () => { setup.mode = at('mode').value; changed(); });
+  at('window').addEventListener('change', () => { setup.window = Number(at('window').value); changed(); });
+  at('start').addEventListener('click', () => act(begin));
+  at('all').addEventListener('click', () => act(() => run.passAll(payload)));
+  for (const button of document.querySelectorAll('[data-write]')) button.addEventListener('click', () => act(() => run.write(button.dataset.write, payload())));
+  at('payload').addEventListener('keydown', ({ key }) => { if (key === 'Enter' && run?.next) act(() => run.write(run.next, payload())); });
+  at('save-vector').addEventListener('click', () => { const { name, text } = run.vectorFile(); save(name, 'text/plain', text); });
+  at('save-pattern').addEventListener('click', () => save(`${plan?.base ?? 'mine'}.pattern`, 'text/plain', setup.text));
+  at('save-picture').addEventListener('click', () => save(`${plan?.base ?? 'pattern'}.svg`, 'image/svg+xml', at('picture').innerHTML));
+  at('copy-link').addEventListener('click', async () => {
+    try {
+      await navigator.clipboard.writeText(location.href);
+      at('copied').textContent = 'Copied.';
+    } catch {
+      at('copied').textContent = 'The address of this page is the link.';
+    }
+  });
+  for (const name of LANGUAGES) {
+    const button = element('button', '', name);
+    button.type = 'button';
+    button.addEventListener('click', () => { language = name; showCode(); });
+    at('languages').append(button);
+  }
+  addEventListener('resize', showPicture);
+}
+
+try {
+  await load();
+  wire();
+  const editor = new Editor(patternChanged);
+  editor.set(setup.text);
+  addEventListener('hashchange', () => {
+    Object.assign(setup, link.read(location.hash, setup));
+    for (const name of ['prologue', 'interval', 'mode', 'window']) at(name).value = setup[name];
+    editor.set(setup.text);
+  });
+  // What the checks and a curious reader of the console may look at; it has no keys.
+  globalThis.noisePage = { get vectorFile() { return run?.vectorFile().text; }, get lines() { return run?.lines; }, OTHER, firstVerdict: performance.now() };
+} catch (error) {
+  at('verdict').className = 'bad';
+  at('verdict').replaceChildren(element('p', 'title', error.code === -3 ? 'This browser can’t run the library.' : 'The library couldn’t be loaded.'), element('p', '', error.message));
+}
