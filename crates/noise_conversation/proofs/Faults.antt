@@ -1,0 +1,34 @@
+-- Which fault of a setup is told.
+use Rattle.std.proofs.Common.{◌≡◌, ◌∙◌, refl, ap, sym, Option, Some, None, Result, Ok, Err}
+use Rattle.std.specs.Prelude.{IsOk, MatchOption, MatchResult}
+use Rattle.noise_keys.specs.declared.faults.SetupFault.{SetupFault}
+use Rattle.noise_conversation.specs.declared.fault.ConversationFault.{ConversationFault}
+use Rattle.noise_conversation.specs.declared.fault.ConversationFault.TheVariants.{Setup, Memory}
+use Rattle.noise_conversation.specs.Setup.{IsFault, or_next}
+
+-- where something was made there is no fault, and else it is the one that is told
+pub none-found : {T : Type 0} (found : Option SetupFault) (result : Result T SetupFault) (value : T) → result ≡ Ok value
+    → MatchOption found (IsOk result) (λ why. result ≡ Err why) → found ≡ None
+none-found None result value is m = refl
+none-found (Some why) result value is m = absurd (let bad = rw is at m in cc)
+
+err-same : {T : Type 0} (a b : SetupFault) (result : Result T SetupFault) → result ≡ Err a → result ≡ Err b → a ≡ b
+err-same a b result e f = let both = sym e ∙ f in cc
+
+pub one-found : {T : Type 0} (found : Option SetupFault) (result : Result T SetupFault) (fault : SetupFault) → result ≡ Err fault
+    → MatchOption found (IsOk result) (λ why. result ≡ Err why) → found ≡ Some fault
+one-found None result fault is m = let bad = rw is at m in cc
+one-found (Some why) result fault is m = ap Some (err-same why fault result m is)
+
+pub first-told : (found next : Option SetupFault) (fault : ConversationFault) → IsFault found fault → IsFault (or_next found next) fault
+first-told None next (Setup why) h = absurd (cc)
+first-told (Some first) next (Setup why) h = h
+first-told found next Memory h = tt
+
+pub next-told : (found next : Option SetupFault) (fault : ConversationFault) → found ≡ None → IsFault next fault → IsFault (or_next found next) fault
+next-told None next fault e h = h
+next-told (Some why) next fault e h = absurd (cc)
+
+pub none-told : (found next : Option SetupFault) → found ≡ None → next ≡ None → or_next found next ≡ None
+none-told None next e f = f
+none-told (Some why) next e f = e

@@ -1,0 +1,4 @@
+pub mod Alike
+pub mod Fit
+pub mod Faults
+pub mod Xor

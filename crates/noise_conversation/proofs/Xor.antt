@@ -1,0 +1,35 @@
+-- The toy keys have an answer at each DH.
+use Rattle.std.proofs.Common.{◌≡◌, refl, ℕ, List, Option, Some, None}
+use Rattle.std.specs.Prelude.{Bool, true, is_some, IsSome}
+use Rattle.noise_names.specs.declared.token.Role.TheVariants.{Initiator}
+use Rattle.noise_names.specs.declared.token.Token.{Token}
+use Rattle.noise_names.specs.declared.token.Token.TheVariants.{E, S, Ee, Es, Se, Ss, Psk}
+use Rattle.noise_keys.specs.declared.keys.Own.{Own}
+use Rattle.noise_keys.specs.declared.keys.Own.TheVariants.{Ephemeral, Static}
+use Rattle.noise_keys.specs.Keys.{key_of, xor_answer}
+use Rattle.noise_handshake.specs.Counterparts.{is_dh}
+use Rattle.noise_handshake.specs.Setup.{public_keys}
+use Rattle.noise_handshake.specs.View.{answered, own_at, remote_at}
+use Rattle.noise_conversation.specs.Setup.{XorKeysAnswer}
+
+gives : (e s : Option (List ℕ)) (x : Own) (l : Option (List ℕ)) → IsSome e → IsSome s → IsSome l
+    → is_some (answered (λ own remote. xor_answer (key_of own e s) remote) x l) ≡ true
+gives None s x l he hs hl = absurd (cc)
+gives (Some e) None x l he hs hl = absurd (cc)
+gives (Some e) (Some s) x None he hs hl = absurd (cc)
+gives (Some e) (Some s) Ephemeral (Some l) he hs hl = refl
+gives (Some e) (Some s) Static (Some l) he hs hl = refl
+
+there : (e s : Option (List ℕ)) (t : Token) → is_dh t ≡ true → IsSome e → IsSome s
+    → IsSome (remote_at Initiator (public_keys (λ own. key_of own e s)) t)
+there e s E d f g = absurd (cc)
+there e s S d f g = absurd (cc)
+there e s Psk d f g = absurd (cc)
+there e s Ee d f g = f
+there e s Es d f g = g
+there e s Se d f g = f
+there e s Ss d f g = g
+
+pub xor-keys-answer : XorKeysAnswer
+xor-keys-answer p prologue psks a b ae as-is be bs t d o =
+    gives a.e a.s (own_at Initiator t) (remote_at Initiator (public_keys (λ own. key_of own b.e b.s)) t) ae as-is (there b.e b.s t d be bs)

@@ -1,0 +1,47 @@
+use Rattle.std.proofs.Common.{◌≡◌, sym, subst, ℕ, List}
+use Rattle.std.proofs.lemmas.Result.{err_from_is_err_and}
+use Rattle.noise_names.specs.declared.token.Role.{Role}
+use Rattle.noise_names.specs.declared.token.Role.TheVariants.{Initiator, Responder}
+use Rattle.noise_duel.specs.Acts.{lines_of}
+use Rattle.noise_duel.specs.Conversation.{HaveParts}
+use Rattle.noise_duel.specs.Messages.{Start}
+use Rattle.noise_duel.specs.Notes.{Note}
+use Rattle.noise_duel.specs.SetUpAlike.{AreParts, material_of}
+use Rattle.noise_conversation.specs.Lines.{untaken}
+use Rattle.noise_conversation.specs.Setup.{start_by}
+use Rattle.noise_conversation.proofs.Fit.{in-turn, none-untaken}
+use Rattle.noise_conversation.proofs.conversation.converse.Goals as goal
+
+pub returns-in_err-duel-clause-setup : goal.returns-in_err-duel-clause-setup
+returns-in_err-duel-clause-setup g c =
+    let p = err_from_is_err_and c.from_residual.result c.from_residual.ensures.1 in
+    rw (p.1, p.2) c.in_err-duel.ensures.setup
+
+pub returns : goal.returns
+returns g c =
+    let p = c.args.pattern in
+    let text = c.args.prologue.now in
+    let lines = lines_of c.args.lines.now in
+    let a : Start = start_by g.K.Keys.public_of g.K.Keys.agreement p Initiator text c.args.psks.now c.args.initiator c.args.responder in
+    let b : Start = start_by g.K.Keys.public_of g.K.Keys.agreement p Responder text c.args.psks.now c.args.responder c.args.initiator in
+    let alike = c.in_ok-duel.ensures.alike in
+    let parts : AreParts p text a b = c.alike_are_parts.ensures p text a b alike.4 alike.0 alike.1 alike.2 c.requires.answers in
+    let have : HaveParts (material_of a b) p text a b = record {
+      pattern = alike.3;
+      valid = alike.4;
+      long = parts.long;
+      initiator = parts.initiator;
+      responder = parts.responder;
+    } in
+    let turns = in-turn p 0 lines c.requires.lines in
+    let come = c.in_ok-made.ensures.comes_through (material_of a b) p text a b c.args.interval have turns c.in_ok-duel.ensures.stands in
+    record {
+      setup = c.in_ok-duel.ensures.setup;
+      initiator_frames = come.initiator_frames;
+      responder_frames = come.responder_frames;
+      payloads = come.entries;
+      taken = λ role. subst (λ (notes : List (Role × Note)). untaken role notes ≡ 0) (sym come.entries) (none-untaken role 0 0 lines);
+      hash = come.hash;
+      keys_there = come.keys_there;
+      keys_back = come.keys_back;
+    }

@@ -1,0 +1,73 @@
+use Rattle.std.proofs.Common.{rules, ◌≡◌, ◌∙◌, ap, sym, refl, subst, ℕ, List, length, Option}
+use Rattle.std.proofs.lemmas.Result.{err_from_is_err_and}
+use Rattle.noise_names.specs.declared.token.Role.TheVariants.{Initiator, Responder}
+use Rattle.noise_names.specs.Plan.{Plan}
+use Rattle.noise_handshake.specs.declared.remote.Remote.{Remote}
+use Rattle.noise_handshake.specs.Setup.{begun, setup_fault}
+use Rattle.noise_keys.specs.declared.faults.SetupFault.{SetupFault}
+use Rattle.noise_session.specs.Ends.{EndStands, end_of}
+use Rattle.noise_duel.specs.Conversation.{facing}
+use Rattle.noise_duel.specs.HeldDuel.{HeldDuel, DuelStands}
+use Rattle.noise_duel.specs.Messages.{Start}
+use Rattle.noise_conversation.specs.Setup.{start_by, IsFault}
+use Rattle.noise_conversation.proofs.Alike.{fault-same}
+use Rattle.noise_conversation.proofs.Faults.{first-told, next-told, none-told}
+use Rattle.noise_conversation.proofs.ends.make_ends.Goals as goal
+
+pub returns-in_err-first-clause-setup : goal.returns-in_err-first-clause-setup
+returns-in_err-first-clause-setup g c =
+    let n : ℕ = length c.args.psks.now in
+    let q = err_from_is_err_and c.from_residual-in_err-first.result c.from_residual-in_err-first.ensures.1 in
+    let known = fault-same Initiator (g.K.Keys.public_of c.args.initiator) c.args.pattern c.args.pattern _ _ n refl c.shown-of_responder.ensures in
+    rw (q.1, q.2) (first-told _ _ _ (subst (λ (found : Option SetupFault). IsFault found c.in_err-first.field-0.0) known c.in_err-first.ensures.setup))
+
+pub returns-in_err-second-clause-setup : goal.returns-in_err-second-clause-setup
+returns-in_err-second-clause-setup g c =
+    let n : ℕ = length c.args.psks.now in
+    let q = err_from_is_err_and c.from_residual-in_err-second.result c.from_residual-in_err-second.ensures.1 in
+    let known = fault-same Initiator (g.K.Keys.public_of c.args.initiator) c.args.pattern c.args.pattern _ _ n refl c.shown-of_responder.ensures in
+    let known-2 = fault-same Responder (g.K.Keys.public_of c.args.responder) c.in_ok-same.same c.args.pattern _ _ n c.in_ok-same.ensures
+    c.shown-of_initiator.ensures in
+    rw (q.1, q.2) (next-told _ _ _ (sym known ∙ c.in_ok-first.ensures.setup)
+    (subst (λ (found : Option SetupFault). IsFault found c.in_err-second.field-0.0) known-2 c.in_err-second.ensures.setup))
+
+pub returns : goal.returns
+returns g c =
+    let p = c.args.pattern in
+    let text = c.args.prologue.now in
+    let psks = c.args.psks.now in
+    let n : ℕ = length psks in
+    let a : Start = start_by g.K.Keys.public_of g.K.Keys.agreement p Initiator text psks c.args.initiator c.args.responder in
+    let b : Start = start_by g.K.Keys.public_of g.K.Keys.agreement p Responder text psks c.args.responder c.args.initiator in
+    let known : c.shown-of_responder.result ≡ a.remote = c.shown-of_responder.ensures in
+    let known-2 : c.shown-of_initiator.result ≡ b.remote = c.shown-of_initiator.ensures in
+    let copy : c.in_ok-same.same ≡ p = c.in_ok-same.ensures in
+    let none = sym (fault-same Initiator a.own p p _ a.remote n refl known) ∙ c.in_ok-first.ensures.setup in
+    let none-2 = sym (fault-same Responder b.own c.in_ok-same.same p _ b.remote n copy known-2) ∙ c.in_ok-second.ensures.setup in
+    let first = subst (λ (r : Remote). EndStands g.K.Keys.public_of g.K.Keys.agreement c.in_ok-first.first
+    (end_of (begun p Initiator text a.own a.agree r psks) c.args.interval)) known c.in_ok-first.ensures.stands in
+    let second = subst (λ (r : Remote). EndStands g.K.Keys.public_of g.K.Keys.agreement c.in_ok-second.second
+    (end_of (begun p Responder text b.own b.agree r psks) c.args.interval)) known-2
+    (subst (λ (q : Plan). EndStands g.K.Keys.public_of g.K.Keys.agreement c.in_ok-second.second
+    (end_of (begun q Responder text b.own b.agree c.shown-of_initiator.result psks) c.args.interval)) copy c.in_ok-second.ensures.stands) in
+    record {
+      setup = none-told _ _ none none-2;
+      stands = subst (λ (d : HeldDuel g.row.K.Denot g.row.K.Denot). DuelStands g.K.Keys.public_of g.K.Keys.agreement g.K.Keys.public_of g.K.Keys.agreement d
+          (facing p a b c.args.interval c.args.interval)) (sym c.new.ensures) (record { initiator = first; responder = second });
+      alike = (
+        record {
+          initiator = none;
+          responder = none-2;
+          prologue_is = refl;
+          prologue_too = refl;
+          secrets = refl;
+          known = refl;
+          known_too = refl;
+          keys = g.met.K.Agreeing.commutes c.args.initiator c.args.responder;
+        },
+        c.long_keys.ensures,
+        c.long_keys-2.ensures,
+        c.in_ok-first.ensures.valid.0,
+        c.in_ok-first.ensures.valid.1,
+      );
+    }

@@ -1,0 +1,136 @@
+//! Two ends of equal setup.
+#![tactic(auto)]
+
+ghost use Rattle.std.specs.Prelude.{◌≡◌, ◌≤◌, ℕ, List, length, IfOk, MatchResult, Some, None};
+ghost use Rattle.noise_names.specs.declared.token.Role.TheVariants.{Initiator, Responder};
+ghost use Rattle.noise_names.specs.Limits.{IsPattern};
+ghost use Rattle.noise_names.specs.Validity.{IsValid};
+ghost use Rattle.noise_handshake.specs.Counterparts.{shown_before};
+ghost use Rattle.noise_handshake.specs.Setup.{begun, setup_fault};
+ghost use Rattle.noise_session.specs.Ends.{EndStands, end_of, progress};
+ghost use Rattle.noise_session.specs.Progress.{role_of};
+ghost use Rattle.noise_duel.specs.Conversation.{facing};
+ghost use Rattle.noise_duel.specs.HeldDuel.{DuelStands};
+ghost use Rattle.noise_duel.specs.SetUpAlike.{AreSetUpAlike, HasLongKeys};
+ghost use Rattle.noise_conversation.specs.Setup.{start_by, first_fault, IsFault};
+
+use crate::ConversationFault;
+use noise_duel::Duel;
+use noise_handshake::{Agreeing, Handshake, Keys, Own, Remote};
+use noise_names::{Role, Token, ValidPattern};
+use noise_session::{End, end_is_told};
+use std::alloc::{AllocError, Global};
+
+// Both ends of this pattern, with equal prologue, psks and interval, each of which knows the keys of the other's pre-message.
+pub(crate) fn make_ends<K: Agreeing>(
+    alloc: Global,
+    pattern: ValidPattern,
+    prologue: &[u8],
+    initiator: K,
+    responder: K,
+    psks: &[[u8; 32]],
+    interval: u64,
+) -> Result<Duel<K, K>, ConversationFault>
+    requires { length prologue.now ≤ 65535 }
+    ensures setup { let a = start_by K.public_of K.agreement pattern Initiator prologue.now psks.now initiator responder in
+        let b = start_by K.public_of K.agreement pattern Responder prologue.now psks.now responder initiator in
+        MatchResult result (λ _. first_fault pattern a b ≡ None) (λ fault. IsFault (first_fault pattern a b) fault) }
+    ensures stands { let a = start_by K.public_of K.agreement pattern Initiator prologue.now psks.now initiator responder in
+        let b = start_by K.public_of K.agreement pattern Responder prologue.now psks.now responder initiator in
+        IfOk result (λ duel. DuelStands K.public_of K.agreement K.public_of K.agreement duel (facing pattern a b interval interval)) }
+    ensures alike { let a = start_by K.public_of K.agreement pattern Initiator prologue.now psks.now initiator responder in
+        let b = start_by K.public_of K.agreement pattern Responder prologue.now psks.now responder initiator in
+        IfOk result (λ _. AreSetUpAlike pattern prologue.now a b × HasLongKeys a × HasLongKeys b × IsPattern pattern × IsValid pattern) }
+{
+    let of_initiator = shown(&pattern, Role::Initiator, &initiator);
+    let of_responder = shown(&pattern, Role::Responder, &responder);
+    long_keys(&initiator);
+    long_keys(&responder);
+    let same = copy(&pattern)?;
+    let first = make_end(
+        alloc,
+        pattern,
+        Role::Initiator,
+        prologue,
+        initiator,
+        of_responder,
+        psks,
+        interval,
+    )?;
+    let second = make_end(
+        alloc,
+        same,
+        Role::Responder,
+        prologue,
+        responder,
+        of_initiator,
+        psks,
+        interval,
+    )?;
+    Ok(Duel::new(first, second))
+}
+
+// One end.
+fn make_end<K: Keys>(
+    alloc: Global,
+    pattern: ValidPattern,
+    role: Role,
+    prologue: &[u8],
+    keys: K,
+    remote: Remote,
+    psks: &[[u8; 32]],
+    interval: u64,
+) -> Result<End<K>, ConversationFault>
+    requires { length prologue.now ≤ 65535 }
+    ensures setup { let found = setup_fault pattern role (K.public_of keys) remote (length psks.now) in
+        MatchResult result (λ _. found ≡ None) (λ fault. IsFault found fault) }
+    ensures stands { IfOk result (λ end. EndStands K.public_of K.agreement end
+        (end_of (begun pattern role prologue.now (K.public_of keys) (K.agreement keys) remote psks.now) interval)) }
+    ensures role { IfOk result (λ end. role_of (progress end) ≡ role) }
+    ensures valid { IfOk result (λ _. IsPattern pattern × IsValid pattern) }
+{
+    let handshake = match Handshake::new(pattern, role, prologue, keys, remote, psks) {
+        Ok(handshake) => handshake,
+        Err(fault) => return Err(ConversationFault::Setup(fault)),
+    };
+    end_is_told::<K>();
+    match End::new(alloc, handshake, interval) {
+        Ok(end) => Ok(end),
+        Err(_) => Err(ConversationFault::Memory),
+    }
+}
+
+// The pattern once more.
+fn copy(pattern: &ValidPattern) -> Result<ValidPattern, AllocError>
+    ensures { IfOk result (λ same. same ≡ pattern.now) }
+{
+    let same = pattern.clone()?;
+    Ok(same)
+}
+
+// The public keys of a party have 32 bytes.
+fn long_keys<K: Keys>(keys: &K)
+    ensures { (x : Own) (k : List ℕ) → K.public_of keys.now x ≡ Some k → length k ≡ 32 }
+{
+    let _ = keys.public(Own::Ephemeral);
+    let _ = keys.public(Own::Static);
+}
+
+// Of a party's public keys those of its pre-message.
+fn shown<K: Keys>(pattern: &ValidPattern, party: Role, keys: &K) -> Remote
+    ensures { result ≡ shown_before pattern.now party (K.public_of keys.now) }
+{
+    let pre = pattern.pattern().pre(party);
+    Remote {
+        e: if pre.contains(&Token::E) {
+            keys.public(Own::Ephemeral)
+        } else {
+            None
+        },
+        s: if pre.contains(&Token::S) {
+            keys.public(Own::Static)
+        } else {
+            None
+        },
+    }
+}

@@ -1,0 +1,16 @@
+//! A whole conversation between two ends of equal setup: the handshake and what follows, in one call.
+#![tactic(auto)]
+
+mod answers;
+mod conversation;
+mod ends;
+mod fault;
+mod fitting;
+
+pub use answers::xor_keys_answer;
+pub use conversation::converse;
+pub use fault::ConversationFault;
+pub use fitting::lines_fit;
+
+#[cfg(test)]
+mod tests;
