@@ -1,5 +1,7 @@
 //! Conversations that nothing is asked for: each caller here has no condition, so what `converse` requires can be met.
 
+ghost use Rattle.std.specs.Prelude.{IsSome};
+
 use crate::{converse, lines_fit, xor_keys_answer};
 use noise_duel::Cuts;
 use noise_handshake::XorKeys;
@@ -26,19 +28,24 @@ fn lines_for(
     Ok(lines)
 }
 
+// Both key pairs, each key of one byte throughout.
+fn both_keys(ephemeral: u8, fixed: u8) -> XorKeys
+    ensures e { IsSome result.e }
+    ensures s { IsSome result.s }
+{
+    XorKeys {
+        e: Some([ephemeral; 32]),
+        s: Some([fixed; 32]),
+    }
+}
+
 // Two parties with both key pairs each, whose transport key is renewed after each message, say these lines.
 fn comes_through(rt: &impl Abort, alloc: Global, pattern: ValidPattern, psks: &[[u8; 32]]) {
     let lines = lines_for(alloc, &pattern).expect(rt, "memory");
     let fit = lines_fit(&pattern, &lines);
     assert!(rt; fit);
-    let initiator = XorKeys {
-        e: Some([0x11; 32]),
-        s: Some([0x22; 32]),
-    };
-    let responder = XorKeys {
-        e: Some([0x33; 32]),
-        s: Some([0x44; 32]),
-    };
+    let initiator = both_keys(0x11, 0x22);
+    let responder = both_keys(0x33, 0x44);
     xor_keys_answer();
     let made = converse(
         alloc, pattern, b"tests", initiator, responder, psks, 1, &lines,
