@@ -15,3 +15,4 @@ pub mod Counterparts
 pub mod Ringing
 pub mod DatagramViews
 pub mod DatagramLaws
+pub mod Exactly

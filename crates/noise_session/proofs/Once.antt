@@ -22,7 +22,7 @@ module _ (accepted-one : (v : View) (message : List ℕ) (xs ys : List (List ℕ
     (refused-one : (v : View) (message : List ℕ) (k j : ℕ) (c d : Cause) → Refuses v message k c → Refuses v message j d → (k ≡ j) × (c ≡ d))
     (apart : (v : View) (message : List ℕ) (xs : List (List ℕ)) (p : List ℕ) (k : ℕ) (c : Cause) → Accepts v message xs p → Refuses v message k c → ⊥)
     (packet-one : (r : History) (writer : Role) (interval n : ℕ) (p q : List ℕ) → packet r writer interval n p ≡ packet r writer interval n q → p ≡ q) where
-  judged-once : (v x y : EndView) (m : List ℕ) (s t : Told) → Judges v m s x → Judges v m t y → (s ≡ t) × (x ≡ y)
+  pub judged-once : (v x y : EndView) (m : List ℕ) (s t : Told) → Judges v m s x → Judges v m t y → (s ≡ t) × (x ≡ y)
   judged-once v x y m s t (accepted _ _ p xs a) (accepted _ _ q ys b) =
       let one = accepted-one v.party m xs ys p q a b in (
         ap Payload one.1,

@@ -16,3 +16,4 @@ pub mod Windows
 pub mod Datagrams
 pub mod EndDatagrams
 pub mod Parts
+pub mod Exactly

@@ -7,6 +7,7 @@ ghost use Rattle.noise_session.specs.Steps.{Told};
 ghost use Rattle.noise_names.specs.Validity.{IsValid};
 ghost use Rattle.noise_session.specs.Counterparts.{EndCounterparts};
 ghost use Rattle.noise_session.specs.Steps.Told.{More, Payload};
+ghost use Rattle.noise_session.specs.Exactly.{AcceptedExactly};
 ghost use Rattle.noise_session.specs.Taking.{Takes};
 ghost use Rattle.noise_session.specs.Sending.{Sends};
 ghost use Rattle.noise_session.specs.declared.faults.SendFault.{SendFault};
@@ -17,6 +18,16 @@ use noise_handshake::{Keys, accepted_once, refused_once, written_is_accepted, wr
 /// A piece comes to one thing at an end: so many bytes, one step, and one view behind it.
 pub fn taken_once()
     ensures { (v x y : EndView) (piece : List ℕ) (m n : ℕ) (s t : Told) → Takes v piece m s x → Takes v piece n t y → (m ≡ n) × (s ≡ t) × (x ≡ y) }
+{
+    accepted_once();
+    refused_once();
+    packet_same();
+}
+
+/// Of a whole message that comes to an end that listens a payload is told exactly where the message is one of it: in the handshake the line of some public
+/// keys, once open the packet at the receiving nonce. A handshake message is refused exactly where its first tokens are some sender's and no more are.
+pub fn accepted_exactly()
+    ensures { AcceptedExactly }
 {
     accepted_once();
     refused_once();

@@ -30,7 +30,9 @@ pub use datagram_laws::{opened_once, sealed_is_opened};
 pub use datagrams::Datagrams;
 pub use end::End;
 pub use faults::{OpenFault, ReceiveFault, SendFault};
-pub use laws::{cuts_alike, end_is_told, sent_once, taken_once, written_is_taken};
+pub use laws::{
+    accepted_exactly, cuts_alike, end_is_told, sent_once, taken_once, written_is_taken,
+};
 pub use noise_events::Window;
 pub use packets::{packet_is_due, packet_same};
 pub use parts::{DatagramParts, TransportParts};
