@@ -1,18 +1,12 @@
 -- The lines of a run, as they are made and written.
-use Rattle.std.proofs.Common.{◌≡◌, ◌∙◌, ap, ap₂, sym, refl, ℕ, ◌+◌, ◌<◌, ◌≤◌, Vec, List, [], ◌∷◌, ◌++◌, Option, Some, Bool, true, false, ◌==◌, length, codes, get_or, map, take, add-one, append_assoc}
+use Rattle.std.proofs.Common.{◌≡◌, ◌∙◌, ap, ap₂, sym, refl, ℕ, ◌+◌, ◌<◌, ◌≤◌, Vec, List, [], ◌∷◌, ◌++◌, Some, length, get_or, map, take, add-one, append_assoc}
 use Rattle.std.specs.Global.{Global}
-use Rattle.std.specs.Prelude.{slice_get, unwrap_or}
-use Rattle.std.specs.List.{join_with_byte}
+use Rattle.std.specs.Prelude.{slice_get}
 use Rattle.std.proofs.Math.Seq.{take-suc}
 use Rattle.std.proofs.lemmas.List.{take_all}
 use Rattle.std.proofs.lemmas.List.Elements.{All-push, All-same}
 use Rattle.std.proofs.lemmas.Option.{slice_get_read, slice_get_within, get_or_from_slice_get}
 use Rattle.noise_names.specs.declared.token.Role.{Role}
-use Rattle.noise_state.specs.History.{hash}
-use Rattle.noise_session.specs.Ends.{EndView, progress_of, session_hash}
-use Rattle.noise_session.specs.Progress.{stage_of}
-use Rattle.noise_session.specs.declared.stage.Stage.{Stage}
-use Rattle.noise_session.specs.declared.stage.Stage.TheVariants as stage
 use Rattle.noise_duel.specs.declared.datagram_report.DatagramEntry.{DatagramEntry}
 use Rattle.noise_duel.specs.DatagramReports.{datagram_note_of, datagram_notes_of}
 use Rattle.noise_duel.specs.declared.entry.Entry.{Entry}
@@ -20,9 +14,8 @@ use Rattle.noise_duel.specs.Entries.{note_of, notes_of}
 use Rattle.noise_duel.specs.Sides.{Sides}
 use Rattle.noise_vectors.specs.Expectations.{bytes_of}
 use Rattle.noise_vectors.specs.VectorFile.{IsExpected}
-use Rattle.noise_vectors.specs.VectorText.{role_word}
 use Rattle.noise_lines.specs.PrintedWords.{AreExpected}
-use Rattle.noise_tool.specs.Printed.{note_line, progress_words, stage_words, state_line}
+use Rattle.noise_tool.specs.Printed.{note_line}
 use Rattle.noise_tool.specs.PrintedDatagrams.{datagram_line}
 
 -- ---- lists of lines
@@ -101,34 +94,3 @@ datagram_line_of e = datagram_line (e.0, datagram_note_of e.1)
 pub datagram_entries-lines : (entries : List (Role × DatagramEntry)) → map datagram_line_of entries ≡ map datagram_line (datagram_notes_of entries)
 datagram_entries-lines [] = refl
 datagram_entries-lines (e ∷ es) = ap (λ (t : List (List ℕ)). datagram_line_of e ∷ t) (datagram_entries-lines es)
-
--- ---- where an end stands
-
--- an end's stage, and the hash that it tells, have the words of how far it has come
-pub stage-told : (v : EndView) (other : List ℕ)
-    → stage_words (stage_of (progress_of v)) (unwrap_or (session_hash v) other) ≡ progress_words (progress_of v) (hash v.party.history)
-stage-told v other = at v.party.ended (v.party.passed == length v.party.pattern.messages) refl refl where
-  at : (ended whole : Bool) → v.party.ended ≡ ended → (v.party.passed == length v.party.pattern.messages) ≡ whole
-      → stage_words (stage_of (progress_of v)) (unwrap_or (session_hash v) other) ≡ progress_words (progress_of v) (hash v.party.history)
-  at true whole p q = rw p refl
-  at false true p q = rw (p, q) refl
-  at false false p q = rw (p, q) refl
-
--- what follows the role in the line
-pub stage-joined : (role : Role) (s : Stage) (hash : List ℕ)
-    → join_with_byte 32 (codes "state" ∷ role_word role ∷ []) ++ 32 ∷ join_with_byte 32 (stage_words s hash)
-    ≡ join_with_byte 32 (codes "state" ∷ role_word role ∷ stage_words s hash)
-stage-joined role (stage.Handshake passed ours) hash = refl
-stage-joined role (stage.Transport sent received) hash = refl
-stage-joined role stage.Ended hash = refl
-
--- the line, from what it is made of
-pub state-told : (role : Role) (v : EndView) (line front : List ℕ) (s : Stage) (h other : List ℕ)
-    → front ≡ join_with_byte 32 (codes "state" ∷ role_word role ∷ []) → s ≡ stage_of (progress_of v) → h ≡ unwrap_or (session_hash v) other
-    → line ≡ front ++ 32 ∷ join_with_byte 32 (stage_words s h) → line ≡ state_line role v
-state-told role v line front s h other begun at_stage at_hash made =
-    made
-    ∙ ap₂ (λ (a b : List ℕ). a ++ 32 ∷ b) begun
-    (ap₂ (λ (x : Stage) (y : List ℕ). join_with_byte 32 (stage_words x y)) at_stage at_hash)
-    ∙ stage-joined role (stage_of (progress_of v)) (unwrap_or (session_hash v) other)
-    ∙ ap (λ (t : List (List ℕ)). join_with_byte 32 (codes "state" ∷ role_word role ∷ t)) (stage-told v other)

@@ -22,7 +22,7 @@ use noise_vectors::{AllowedEvents, FileDatagrams, FileKeys, VectorFile, Version,
 use std::alloc::{AllocError, Global};
 
 /// What comes of the run of a file.
-#[derive(Debug, Drop)]
+#[derive(Drop)]
 pub struct Outcome {
     /// The lines of the run, each without its LF.
     pub lines: Vec<Vec<u8>>,
