@@ -36,13 +36,13 @@ say_events-lines : (lines : List (Role × Vec ℕ Global × List ℕ))
 say_events-lines [] = refl
 say_events-lines (l ∷ ls) = ap (λ (es : List Act). Said l.0 l.1.items ∷ es) (say_events-lines ls)
 
--- the events of a file that are these lines
-pub said-events : (file : VectorFile) (events : List Event) (lines given : List (Role × Vec ℕ Global × List ℕ)) → events ≡ file.events.items
-    → events ≡ map say_of lines → given ≡ lines → say_events (lines_of given) ≡ events_of file.events.items
-said-events file events lines given same said is =
+-- the events that are these lines
+pub said-events : (events : List Event) (lines given : List (Role × Vec ℕ Global × List ℕ)) → events ≡ map say_of lines → given ≡ lines
+    → say_events (lines_of given) ≡ events_of events
+said-events events lines given said is =
     ap (λ (l : List (Role × Vec ℕ Global × List ℕ)). say_events (lines_of l)) is
     ∙ sym (say_events-lines lines)
-    ∙ ap events_of (sym said ∙ same)
+    ∙ ap events_of (sym said)
 
 -- ---- of a file's bytes
 

@@ -10,17 +10,12 @@ use Rattle.noise_duel.specs.DatagramRuns.{DatagramRun}
 use Rattle.noise_duel.specs.DatagramSides.{DatagramSides}
 use Rattle.noise_duel.specs.HeldDuel.{HeldDuel}
 use Rattle.noise_duel.specs.Sides.{Sides}
-use Rattle.noise_vectors.specs.VectorFile.{IsAllowedFile, IsAllowedVersion}
 use Rattle.noise_vectors.specs.VectorText.{window_words}
-use Rattle.noise_vectors.specs.declared.vector.AllowedEvents.TheVariants.{SayOnly}
-use Rattle.noise_vectors.specs.declared.vector.VectorFile.{VectorFile}
-use Rattle.noise_vectors.specs.declared.vector.Version.{Version}
-use Rattle.noise_vectors.specs.declared.vector.Version.TheVariants.{One, Two}
 use Rattle.noise_vectors.specs.declared.file_keys.FileKeys.{FileKeys}
 use Rattle.noise_vectors.specs.declared.vector.FileDatagrams.{FileDatagrams}
 use Rattle.noise_tool.specs.Printed.{state_lines}
 use Rattle.noise_tool.specs.PrintedDatagrams.{datagram_line, datagram_state_lines}
-use Rattle.noise_tool.specs.Running.{AreLast, are_ready, datagrams_in, gone_over, is_ready, ready, unready, without}
+use Rattle.noise_tool.specs.Running.{AreLast, are_ready, gone_over, is_ready, ready, unready, without}
 
 pub on_ok : {A E : Type 0} (r : Result A E) (P Q : Type 0) → (P → Q) → OnOk r P → OnOk r Q
 on_ok (Ok a) P Q f p = f p
@@ -78,12 +73,3 @@ behind-ready given over d notes last r old one two new some are run first more h
           ∙ append_assoc (old ++ window_words over.window ∷ []) (map datagram_line notes) (datagram_state_lines last)
           ∙ append_assoc old (window_words over.window ∷ []) (map datagram_line notes ++ datagram_state_lines last),
     )) h
-
--- ---- files of what is said alone
-
-none-allowed : (version : Version) → IsAllowedVersion SayOnly version → datagrams_in version ≡ None
-none-allowed One h = refl
-none-allowed (Two a) h = h
-
-pub said-has-none : (file : VectorFile) → IsAllowedFile SayOnly file → datagrams_in file.version ≡ None
-said-has-none file h = none-allowed file.version h.1

@@ -7,16 +7,19 @@ use Rattle.noise_events.specs.declared.window.Window.{Window}
 use Rattle.noise_session.specs.Datagrams.{datagrams_of}
 use Rattle.noise_session.specs.EndDatagrams.{is_untouched}
 use Rattle.noise_session.specs.Ends.{EndView, progress_of}
-use Rattle.noise_events.specs.Events.{events_of}
+use Rattle.noise_events.specs.Events.{Event, events_of}
 use Rattle.noise_duel.specs.DatagramNotes.{DatagramNote}
 use Rattle.noise_events.specs.DatagramEvents.{datagram_events_of}
 use Rattle.noise_duel.specs.DatagramRuns.{DatagramRun}
 use Rattle.noise_duel.specs.DatagramSides.{DatagramSides, meeting}
+use Rattle.noise_duel.specs.HeldDuel.{DuelStands, HeldDuel}
 use Rattle.noise_duel.specs.Notes.{Note}
 use Rattle.noise_duel.specs.Runs.{Run}
 use Rattle.noise_duel.specs.Sides.{Sides}
 use Rattle.noise_vectors.specs.Expectations.{bytes_of}
+use Rattle.noise_vectors.specs.FileKeys.{agreement_of, public_of}
 use Rattle.noise_vectors.specs.VectorText.{window_words}
+use Rattle.noise_vectors.specs.declared.file_keys.FileKeys.{FileKeys}
 use Rattle.noise_vectors.specs.declared.vector.FileDatagrams.{FileDatagrams}
 use Rattle.noise_vectors.specs.declared.vector.VectorFile.{VectorFile}
 use Rattle.noise_vectors.specs.declared.vector.Version.{Version}
@@ -54,6 +57,14 @@ pub data AreLast : Option FileDatagrams → Sides → List (List ℕ) → Type 0
   ready : (over : FileDatagrams) (d : Sides) (notes : List (Role × DatagramNote)) (last : DatagramSides) → are_ready d ≡ true
       → DatagramRun (gone_over d over.window) (datagram_events_of over.events.items) notes last
       → AreLast (Some over) d (window_words over.window ∷ (map datagram_line notes ++ datagram_state_lines last))
+
+-- these events, of which the sides make these lines' notes, leave the duel
+pub record LeavesLines (start : Sides) (events : List Event) (duel : HeldDuel FileKeys FileKeys) (lines : List (List ℕ)) : Type 0 where
+  pub notes : List (Role × Note)
+  pub last : Sides
+  pub run : Run start events notes last
+  pub stands : DuelStands public_of agreement_of public_of agreement_of duel last
+  pub lines_are : lines ≡ map (note_line last) notes
 
 -- These are the lines of the file's run: by its valid pattern, two ends start from what the file gives them, nothing is wrong with either setup, and
 -- the file's events make of them these notes and last sides. A file has one such list of lines (`file_run_once`).

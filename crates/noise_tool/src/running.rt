@@ -2,20 +2,22 @@
 
 ghost use Rattle.std.specs.Prelude.{◌≡◌, ◌++◌, ℕ, List, Option, IfErr, IfOk, OnOk};
 ghost use Rattle.std.specs.List.{All};
-ghost use Rattle.noise_duel.specs.HeldDuel.{DuelStands};
+ghost use Rattle.noise_duel.specs.HeldDuel.{DuelStands, facing_as};
 ghost use Rattle.noise_duel.specs.Sides.{Sides};
+ghost use Rattle.noise_events.specs.Events.{events_of};
+ghost use Rattle.noise_session.specs.Ends.{EndView};
 ghost use Rattle.noise_vectors.specs.Expectations.{bytes_of};
 ghost use Rattle.noise_vectors.specs.FileKeys.{agreement_of, public_of};
-ghost use Rattle.noise_vectors.specs.VectorFile.{IsAllowedFile};
+ghost use Rattle.noise_vectors.specs.VectorFile.{IsAllowed, IsAllowedFile};
 ghost use Rattle.noise_vectors.specs.declared.vector.AllowedEvents.TheVariants.{SayOnly};
 ghost use Rattle.noise_tool.specs.Ends.{IsStartFault};
 ghost use Rattle.noise_lines.specs.PrintedWords.{AreExpected};
-ghost use Rattle.noise_tool.specs.Running.{AreLast, IsRunOf, datagrams_in, expected_in};
+ghost use Rattle.noise_tool.specs.Running.{AreLast, IsRunOf, LeavesLines, datagrams_in, expected_in};
 
 use crate::datagram_report::{push_datagram_lines, push_datagram_states};
 use crate::ends::make_ends;
 use crate::report::{entry_lines, push_state_lines};
-use noise_duel::Duel;
+use noise_duel::{Duel, Event};
 use noise_lines::{Fault, Line};
 use noise_session::end_is_told;
 use noise_vectors::{AllowedEvents, FileDatagrams, FileKeys, VectorFile, Version, said_lines};
@@ -41,12 +43,8 @@ pub fn talk(alloc: Global, file: VectorFile) -> Result<Outcome, Fault>
     ensures fault { IfErr result (λ fault. IsStartFault file fault) }
 {
     let (duel, events, version) = make_ends(alloc, file)?;
-    let said = said_lines(alloc, events)?;
-    let (duel, report) = duel.converse(alloc, &said)?;
-    let mut lines = entry_lines(alloc, &report)?;
-    push_state_lines(alloc, &duel, &mut lines)?;
-    let (_, expected) = split_version(alloc, version);
-    Ok(Outcome { lines, expected })
+    let (duel, lines) = say(alloc, duel, events)?;
+    Ok(close(alloc, duel, lines, version)?)
 }
 
 /// The same of all kinds of events, and of datagrams.
@@ -57,11 +55,8 @@ pub fn replay(alloc: Global, file: VectorFile) -> Result<Outcome, Fault>
     ensures fault { IfErr result (λ fault. IsStartFault file fault) }
 {
     let (duel, events, version) = make_ends(alloc, file)?;
-    let (duel, report) = duel.run(alloc, &events)?;
-    let mut lines = entry_lines(alloc, &report)?;
-    let (datagrams, expected) = split_version(alloc, version);
-    go_over(alloc, duel, datagrams, &mut lines)?;
-    Ok(Outcome { lines, expected })
+    let (duel, lines) = run_events(alloc, duel, &events)?;
+    Ok(close(alloc, duel, lines, version)?)
 }
 
 /// One of the two, by what the file is allowed to have.
@@ -76,6 +71,56 @@ pub fn run_vector(alloc: Global, file: VectorFile, allowed: AllowedEvents) -> Re
         AllowedEvents::SayOnly => talk(alloc, file),
         AllowedEvents::Any | AllowedEvents::VersionOne => replay(alloc, file),
     }
+}
+
+// The duel after these events, which only say things, and the lines of what came of them.
+fn say(
+    alloc: Global,
+    duel: Duel<FileKeys, FileKeys>,
+    events: Vec<Event>,
+) -> Result<(Duel<FileKeys, FileKeys>, Vec<Vec<u8>>), AllocError>
+    requires { All (IsAllowed SayOnly) events.items }
+    ensures ran { (v w : EndView) → DuelStands public_of agreement_of public_of agreement_of duel (facing_as v w)
+        → IfOk result (λ r. LeavesLines (facing_as v w) (events_of events.items) r.0 (bytes_of r.1.items)) }
+    ensures printed { IfOk result (λ r. AreExpected r.1.items) }
+{
+    let said = said_lines(alloc, events)?;
+    let (duel, report) = duel.converse(alloc, &said)?;
+    let lines = entry_lines(alloc, &report)?;
+    Ok((duel, lines))
+}
+
+// The duel after these events, and the lines of what came of them.
+fn run_events(
+    alloc: Global,
+    duel: Duel<FileKeys, FileKeys>,
+    events: &[Event],
+) -> Result<(Duel<FileKeys, FileKeys>, Vec<Vec<u8>>), AllocError>
+    ensures ran { (v w : EndView) → DuelStands public_of agreement_of public_of agreement_of duel (facing_as v w)
+        → IfOk result (λ r. LeavesLines (facing_as v w) (events_of events.now) r.0 (bytes_of r.1.items)) }
+    ensures printed { IfOk result (λ r. AreExpected r.1.items) }
+{
+    let (duel, report) = duel.run(alloc, events)?;
+    let lines = entry_lines(alloc, &report)?;
+    Ok((duel, lines))
+}
+
+// What comes of a run whose events have left these lines and this duel.
+fn close(
+    alloc: Global,
+    duel: Duel<FileKeys, FileKeys>,
+    mut lines: Vec<Vec<u8>>,
+    version: Version,
+) -> Result<Outcome, AllocError>
+    ensures behind { (d : Sides) → DuelStands public_of agreement_of public_of agreement_of duel d
+        → IfOk result (λ outcome. (behind : List (List ℕ)) × AreLast (datagrams_in version) d behind
+        × (bytes_of outcome.lines.items ≡ bytes_of lines.items ++ behind)) }
+    ensures printed { AreExpected lines.items → IfOk result (λ outcome. AreExpected outcome.lines.items) }
+    ensures expected { IfOk result (λ outcome. bytes_of outcome.expected.items ≡ expected_in version) }
+{
+    let (datagrams, expected) = split_version(alloc, version);
+    go_over(alloc, duel, datagrams, &mut lines)?;
+    Ok(Outcome { lines, expected })
 }
 
 // The datagrams of a version, and the lines that it expects.
