@@ -26,7 +26,7 @@ export function words({ section, before, messages }) {
   for (const role of ['initiator', 'responder']) if (before[role].length) lines.push(`Known before: the ${role}’s ${before[role].join(' and ')}.`);
   messages.forEach(({ from, pieces, length, known }, n) => {
     lines.push(`Message ${n + 1}, from the ${from}, ${length} bytes and the payload: ${pieces.map(pieceName).join('; ')}. `
-      + `The hash then covers the protocol name, the prologue, keys known before, and all bytes of messages 1 to ${n + 1}. `
+      + `The hash then covers the protocol name, the prologue, keys known before, and all bytes of ${n === 0 ? 'message 1' : `messages 1 to ${n + 1}`}. `
       + `Mixed in or known to the initiator: ${list(known.initiator)}; to the responder: ${list(known.responder)}.`);
   });
   return lines;
@@ -93,7 +93,7 @@ export function picture(plan, width) {
     body += text(middle, y + 10, 'ink', `${arrowOf(from)} message ${n + 1}: ${length} bytes + payload`, 'text-anchor="middle"');
     body += `<path class="line" marker-end="url(#head)" d="M${x1} ${y + 20}H${x2}"/>`;
     body += bar(pieces, middle - widthOf(pieces, scale) / 2, y + 30, scale);
-    body += text(middle, y + 74, 'dim small', narrow ? `hash: name, prologue, messages 1–${n + 1}` : `the hash covers name, prologue, known keys, messages 1 to ${n + 1}`, 'text-anchor="middle"');
+    body += text(middle, y + 74, 'dim small', `${narrow ? 'hash:' : 'the hash covers'} name, prologue, ${plan.before.initiator.length + plan.before.responder.length && !narrow ? 'known keys, ' : ''}${n === 0 ? 'message 1' : `messages 1 to ${n + 1}`}`, 'text-anchor="middle"');
     const height = knows(known, narrow ? y + 92 : y + 40);
     y += narrow ? 92 + height + 14 : Math.max(94, 40 + height + 14);
   });

@@ -69,11 +69,10 @@ function deliverRow(run, entry, act) {
   };
   const place = element('input');
   Object.assign(place, { type: 'number', min: 0, max: entry.message.length - 1, value: 0 });
-  place.setAttribute('aria-label', 'byte to change');
   const here = () => Math.max(0, Math.min(entry.message.length - 1, Math.floor(Number(place.value)) || 0));
   button(`Deliver to the ${to}`, () => run.deliver(to, entry.n));
   button('Deliver with a byte changed', () => run.deliver(to, entry.n, here()));
-  row.append(place);
+  row.append(element('label', '', 'byte ', place));
   return row;
 }
 

@@ -178,7 +178,7 @@ export function hasMemory64() {
 }
 
 /**
- * Loads the module, once: later calls do nothing. Without an argument it is noise_c.wasm beside this file.
+ * Loads the module, once: later calls do nothing. Without an argument it is noise_c.wasm beside this file; a relative address counts from here.
  * Throws NOISE_NO_MEMORY64 where the engine lacks 64-bit memory, and what `fetch` and WebAssembly throw.
  */
 export async function load(source = 'noise_c.wasm') {

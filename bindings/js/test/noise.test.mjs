@@ -171,3 +171,12 @@ test('with the module loaded', async (t) => {
     assert.equal(await b.receive(), undefined);
   });
 });
+
+test('an engine without 64-bit memory is told so', async (t) => {
+  const { spawnSync } = await import('node:child_process');
+  const script = `const { load, hasMemory64 } = await import(${JSON.stringify(new URL('../noise.mjs', import.meta.url).href)}); if (hasMemory64()) console.log('has'); else await load().catch((error) => console.log(error.name));`;
+  const said = spawnSync(process.execPath, ['--input-type=module', '-e', script], { encoding: 'utf8', env: { ...process.env, NODE_OPTIONS: '' } }).stdout.trim();
+  if (said === 'has') return t.skip('this engine has it');
+  assert.equal(said, 'NOISE_NO_MEMORY64');
+  return undefined;
+});
