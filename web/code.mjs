@@ -24,8 +24,7 @@ function setupLines(plan, comment) {
 const c = (plan, text, { prologue, finish }) => `#include <string.h>
 #include "noise.h"
 
-${setupLines(plan, '//').join('\n')}
-static const char pattern[] =
+${setupLines(plan, '//').map((line) => `${line}\n`).join('')}static const char pattern[] =
 ${literal(text).join('\n')};
 static const char prologue[] = ${JSON.stringify(prologue)};
 
@@ -39,20 +38,19 @@ ${plan.psks ? `    setup->psk_count = ${plan.psks};\n` : ''}    return noise_sta
 const go = (plan, text, { prologue, finish }) => `// #include "noise.h"
 import "C"
 
-${setupLines(plan, '//').join('\n')}
-var pattern = []byte(${text.trimEnd().split('\n').map((line) => `"${line}\\n"`).join(' +\n\t')})
+${setupLines(plan, '//').map((line) => `${line}\n`).join('')}var pattern = []byte(${text.trimEnd().split('\n').map((line) => `"${line}\\n"`).join(' +\n\t')})
 var prologue = []byte(${JSON.stringify(prologue)})
 
 func start(h *C.noise_handshake, setup *C.noise_setup) C.uint32_t {
 	setup.e.present = 1 // setup.e.bytes: the public key of a new ephemeral pair
 ${plan.psks ? `\tsetup.psk_count = ${plan.psks}\n` : ''}	return C.noise_start(h, place(pattern), C.size_t(len(pattern)), place(prologue), C.size_t(len(prologue)), setup)
 }
+
 // place is that of examples/go/main.go. Then C.noise_write and C.noise_read in turn, and ${finish.go}.
 `;
 
 const rust = (plan, text, { prologue, finish }) => `// The declarations are those of examples/rust/main.rs.
-${setupLines(plan, '//').join('\n')}
-const PATTERN: &str = concat!(
+${setupLines(plan, '//').map((line) => `${line}\n`).join('')}const PATTERN: &str = concat!(
 ${literal(text, ',').join('\n')}
 );
 const PROLOGUE: &str = ${JSON.stringify(prologue)};
@@ -64,11 +62,10 @@ ${plan.psks ? `    setup.psk_count = ${plan.psks};\n` : ''}    unsafe { noise_st
 // Then noise_write and noise_read in turn, and ${finish.c}.
 `;
 
-const js = (plan, text, { prologue, finish }) => `import { Handshake, KeyPair, load } from './noise.mjs';
+const js = (plan, text, { prologue, finish }) => `import { Handshake, ${plan.static.initiator ? 'KeyPair, ' : ''}load } from './noise.mjs';
 
 await load();
-${setupLines(plan, '//').join('\n')}
-const pattern = [
+${setupLines(plan, '//').map((line) => `${line}\n`).join('')}const pattern = [
 ${text.trimEnd().split('\n').map((line) => `  '${line}',`).join('\n')}
   '',
 ].join('\\n');
@@ -90,6 +87,5 @@ export function program(language, plan, setup) {
   const finish = mode === 'datagrams'
     ? { c: `noise_finish_datagrams(h, ${window}, d)`, go: `C.noise_finish_datagrams(h, ${window}, d)`, js: `handshake.finishDatagrams({ window: ${window} })` }
     : { c: `noise_finish(h, ${interval}, t)`, go: `C.noise_finish(h, ${interval}, t)`, js: `handshake.finish({ interval: ${interval}n })` };
-  const ascii = prologue.replace(/[^\x20-\x7e]/g, '?');
-  return MADE[language](plan, text, { prologue: ascii, finish });
+  return MADE[language](plan, text, { prologue, finish });
 }

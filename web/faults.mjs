@@ -1,5 +1,5 @@
-// What a refusal means, in a sentence, and what would mend it. Which code, line and place it is comes from the proved check; where in a line
-// that has a malformed part the part stands is this page's own reading.
+// What a refusal means, in a sentence, and what would mend it. That a text is refused, and which rule is broken where, comes from the proved check;
+// so do line and kind of a malformed text, of which no contract speaks. Where in that line the part stands is this page's own reading.
 import { linesOf } from './noise/layout.mjs';
 
 const RULES = {

@@ -81,7 +81,7 @@ export function picture(plan, width) {
   const column = (lines, role, at, cls) => lines.map((line, n) => text(role === 'initiator' ? 8 : width - 8, at + n * 15, cls, line, role === 'initiator' ? '' : 'text-anchor="end"')).join('');
   const knows = (known, at) => {
     const rows = ['initiator', 'responder'].map((role) => wrap(known[role], narrow ? Math.floor(width / 15) : 19));
-    body += column(rows[0].length ? rows[0] : ['knows no key'], 'initiator', at, 'dim small') + column(rows[1].length ? rows[1] : ['knows no key'], 'responder', at, 'dim small');
+    body += column(rows[0].length ? rows[0] : ['no key of the other'], 'initiator', at, 'dim small') + column(rows[1].length ? rows[1] : ['no key of the other'], 'responder', at, 'dim small');
     return Math.max(rows[0].length, rows[1].length, 1) * 15;
   };
   const first = knows(plan.atFirst, y);

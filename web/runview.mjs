@@ -17,15 +17,15 @@ export const named = (role) => role[0].toUpperCase() + role.slice(1);
 function piecesOf(run, { number, message, isDatagram }) {
   if (number === undefined) {
     const head = isDatagram ? [{ kind: 'nonce', length: 8 }] : [];
-    return [...head, { kind: 'datagram', length: message.length - 16 - (isDatagram ? 8 : 0) }, { kind: 'tag', length: 16 }];
+    return [...head, { kind: 'text', length: message.length - 16 - (isDatagram ? 8 : 0) }, { kind: 'tag', length: 16 }];
   }
   const { pieces, length } = run.plan.messages[number];
   const rest = message.length - length;
-  return pieces.map((piece) => ({ ...piece, length: piece.kind === 'payload' ? rest : piece.length, kind: piece.kind === 's' && piece.sealed ? 'sealed' : piece.kind }))
+  return pieces.map((piece) => ({ ...piece, length: piece.kind === 'payload' ? rest : piece.length, kind: (piece.sealed && { s: 'sealed', payload: 'text' }[piece.kind]) || piece.kind }))
     .filter(({ length: size }) => size > 0);
 }
 
-const TITLES = { e: 'ephemeral key', s: 'static key', sealed: 'static key, sealed', tag: 'tag', payload: 'payload', nonce: 'nonce', datagram: 'sealed payload' };
+const TITLES = { e: 'ephemeral key', s: 'static key', sealed: 'static key, sealed', tag: 'tag', payload: 'payload', nonce: 'nonce', text: 'payload, sealed' };
 
 function hexOf(run, entry) {
   const box = element('div', 'hex');
