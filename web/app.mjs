@@ -14,6 +14,7 @@ let plan;
 let run;
 let language = 'C';
 let busy = false;
+let addressing;
 
 function save(name, type, text) {
   const url = URL.createObjectURL(new Blob([text], { type }));
@@ -75,7 +76,9 @@ function endRun() {
 
 /** Behind each change of the set-up: a run of another set-up is over. */
 function changed() {
-  history.replaceState(null, '', link.write(setup));
+  // Browsers refuse an address that changes at each key.
+  clearTimeout(addressing);
+  addressing = setTimeout(() => history.replaceState(null, '', link.write(setup)), 250);
   endRun();
   showRun();
   showCode();
@@ -113,7 +116,7 @@ function wire() {
   at('save-picture').addEventListener('click', () => save(`${plan?.base ?? 'pattern'}.svg`, 'image/svg+xml', at('picture').innerHTML));
   at('copy-link').addEventListener('click', async () => {
     try {
-      await navigator.clipboard.writeText(location.href);
+      await navigator.clipboard.writeText(location.href.split('#')[0] + link.write(setup));
       at('copied').textContent = 'Copied.';
     } catch {
       at('copied').textContent = 'The address of this page is the link.';
@@ -138,7 +141,7 @@ try {
     for (const name of ['prologue', 'interval', 'mode', 'window']) at(name).value = setup[name];
     editor.set(setup.text);
   });
-  // What the checks and a curious reader of the console may look at; it has no keys.
+  // What the checks and a curious reader of the console may look at; the vector file of a run has its secrets, but no private keys.
   globalThis.noisePage = { get vectorFile() { return run?.vectorFile().text; }, get lines() { return run?.lines; }, OTHER, firstVerdict: performance.now() };
 } catch (error) {
   at('verdict').className = 'bad';

@@ -100,6 +100,7 @@ export class Run {
     try {
       const number = party.sealer ? undefined : party.handshake.stage.passed;
       const message = party.sealer ? party.sealer.seal(payload) : await party.handshake.write(payload);
+      if (number !== undefined && message.length !== this.plan.messages[number].length + payload.length) throw new Error('the picture has another length than the message');
       const kept = isDatagram ? party.datagrams : party.written;
       const n = kept.push({ message, number, payload, isDatagram }) - 1;
       this.lines.push(`${wrote} ${role} ${n} ${hex(isDatagram ? message : frame(message))}`);

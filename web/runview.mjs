@@ -60,6 +60,8 @@ function outcome(run, entry) {
 /** The buttons that let a written message come, as it is or changed. */
 function deliverRow(run, entry, act) {
   const row = element('div', 'deliver');
+  row.setAttribute('role', 'group');
+  row.setAttribute('aria-label', `What was written at place ${entry.n + 1} by the ${entry.role}`);
   const to = OTHER[entry.role];
   const button = (label, work) => {
     const made = element('button', '', label);
@@ -88,10 +90,10 @@ function item(run, entry, act) {
   return li;
 }
 
-/** Shows what is new in the log, at its end. */
+/** Shows what is new in the log, the newest at the top. */
 export function showLog(list, run, act) {
   if (!run) return list.replaceChildren();
-  for (const entry of run.log.slice(list.childElementCount)) list.append(item(run, entry, act));
+  for (const entry of run.log.slice(list.childElementCount)) list.prepend(item(run, entry, act));
   return undefined;
 }
 

@@ -131,13 +131,13 @@ export class Handshake {
 
   /** Writes the next message, with this payload. */
   write(payload = new Uint8Array(0)) {
-    bytesOf(payload, 'payload');
+    const own = bytesOf(payload, 'payload').slice();
     return this.#alone(async () => {
       const lib = library();
       const told = await this.#answered((place) => {
-        const args = lib.put('payload', payload);
+        const args = lib.put('payload', own);
         const number = lib.x.noise_write(place, ...args, lib.at.message, 65535n, lib.at.told);
-        lib.wipe('payload', payload.length);
+        lib.wipe('payload', own.length);
         return number;
       });
       return lib.view(lib.at.message, told.len).slice();
@@ -146,12 +146,12 @@ export class Handshake {
 
   /** Reads the message that is due, and gives its payload. At NOISE_TAG and NOISE_SHORT the handshake has ended. */
   read(message) {
-    bytesOf(message, 'message');
+    const own = bytesOf(message, 'message').slice();
     return this.#alone(async () => {
       const lib = library();
-      const told = await this.#answered((place) => lib.x.noise_read(place, ...lib.put('message', message), lib.at.told));
+      const told = await this.#answered((place) => lib.x.noise_read(place, ...lib.put('message', own), lib.at.told));
       const payload = lib.view(lib.at.message + BigInt(told.from), told.len).slice();
-      lib.wipe('message', message.length);
+      lib.wipe('message', own.length);
       return payload;
     });
   }

@@ -12,7 +12,7 @@ const browser = await Browser.start();
 const report = (text) => console.log(`web: ${text}`);
 const quoted = JSON.stringify;
 const run = (work) => browser.evaluate(`(async () => { ${work} })()`);
-const idle = 'document.getElementById("log").lastElementChild';
+const newest = 'document.getElementById("log").firstElementChild';
 const click = (selector) => run(`document.querySelector(${quoted(selector)}).click()`);
 const type = (id, value) => run(`const it = document.getElementById(${quoted(id)}); it.value = ${quoted(value)}; it.dispatchEvent(new Event('input')); it.dispatchEvent(new Event('change'))`);
 const count = () => browser.evaluate('document.getElementById("log").childElementCount');
@@ -36,9 +36,9 @@ async function adding(entries, work) {
   await browser.until(`document.getElementById("log").childElementCount >= ${before + entries}`);
 }
 const write = (role) => adding(1, () => click(`[data-write=${role}]`));
-/** Presses a button of the log's last written message, or of the Nth. */
-const deliver = (n, button = 0) => adding(1, () => run(`document.querySelectorAll('#log .deliver')[${n}].querySelectorAll('button')[${button}].click()`));
-const last = () => browser.evaluate(`${idle}.className + ': ' + ${idle}.firstElementChild.textContent`);
+/** Presses a button of the Nth message that was written. */
+const deliver = (n, button = 0) => adding(1, () => run(`[...document.querySelectorAll('#log .deliver')].reverse()[${n}].querySelectorAll('button')[${button}].click()`));
+const last = () => browser.evaluate(`${newest}.className + ': ' + ${newest}.firstElementChild.textContent`);
 
 async function allPatterns() {
   await type('payload', 'hi');
@@ -48,7 +48,7 @@ async function allPatterns() {
     await click('#all');
     await browser.until('document.getElementById("all").disabled');
     assert.match(await state(), /initiator is open .*responder is open/, base);
-    assert.match(await browser.evaluate('[...document.querySelectorAll("#log .hash")].at(-1).textContent'), /^hash at both ends [0-9a-f]{64}$/, base);
+    assert.match(await browser.evaluate('document.querySelector("#log .hash").textContent'), /^hash at both ends [0-9a-f]{64}$/, base);
     // Each length in the picture is that of the message that the library has written, with a payload of two bytes.
     const drawn = await browser.evaluate('[...document.querySelectorAll("#picture text")].map((it) => /: (\\d+) bytes \\+ payload/.exec(it.textContent)?.[1]).filter(Boolean).map(Number)');
     const written = await browser.evaluate('noisePage.lines.filter((it) => it.startsWith("wrote")).map((it) => it.split(" ")[3].length / 2 - 4)');
@@ -114,7 +114,7 @@ async function refusals() {
   await deliver(0);
   assert.match(await last(), /other party’s turn/);
   await write('responder');
-  await run('document.querySelectorAll("#log .deliver")[1].querySelector("input").value = 40');
+  await run('document.querySelector("#log .deliver").querySelector("input").value = 40');
   await deliver(1, 1);
   assert.match(await last(), /^refused: Initiator refused message 2, whose byte 40 was changed on its way at token 3 \(s\): a tag is wrong. Its handshake has ended/);
   await deliver(1);
@@ -135,6 +135,7 @@ async function datagrams() {
   assert.match(await last(), /^refused/);
   assert.equal(await browser.evaluate('document.querySelectorAll(".window i.opened, .window i.top").length'), 2);
   await save('datagrams');
+  await browser.until('location.hash.includes("datagrams") && location.hash.includes("IK")');
   const fragment = await browser.evaluate('location.hash');
   await open(fragment);
   assert.equal(await browser.evaluate('document.getElementById("mode").value + document.getElementById("pick").value'), 'datagramsIK');

@@ -153,6 +153,44 @@ test('with the module loaded', async (t) => {
     }
   });
 
+  await t.test('a channel over a pair of sockets, one message a frame, and a text frame is refused', async () => {
+    /** What NoiseSocket uses of a WebSocket. */
+    class Socket extends EventTarget {
+      readyState = 0;
+      open() { this.readyState = 1; this.dispatchEvent(new Event('open')); }
+      send(data) { queueMicrotask(() => this.other.dispatchEvent(Object.assign(new Event('message'), { data: typeof data === 'string' ? data : data.slice().buffer }))); }
+      close() { for (const it of [this, this.other]) { it.readyState = 3; it.dispatchEvent(new Event('close')); } }
+    }
+    const [one, two] = [new Socket(), new Socket()];
+    Object.assign(one, { other: two });
+    Object.assign(two, { other: one });
+    setTimeout(() => { one.open(); two.open(); }, 5);
+    const pattern = protocolName('NN');
+    const [a, b] = await Promise.all([NoiseSocket.open(one, { pattern }), NoiseSocket.open(two, { pattern, responder: true })]);
+    assert.deepEqual(a.hash, b.hash);
+    await a.send(text('hello'));
+    assert.deepEqual(await b.receive(), text('hello'));
+    two.send('a text');
+    await assert.rejects(a.receive(), refused(code.SHORT));
+    assert.equal(await b.receive(), undefined);
+    await assert.rejects(a.send(text('x')), refused(code.DISPOSED));
+  });
+
+  await t.test('the other party is judged, and a closed connection is told', async () => {
+    const pair = () => { const [up, down] = [new TransformStream(), new TransformStream()]; return [{ readable: down.readable, writable: up.writable }, { readable: up.readable, writable: down.writable }]; };
+    const pattern = protocolName('XX');
+    const [near, far] = pair();
+    const [a, b] = await Promise.allSettled([
+      NoiseSocket.open(near, { pattern, staticKey: await KeyPair.generate(), judge: () => false }),
+      NoiseSocket.open(far, { pattern, staticKey: await KeyPair.generate(), responder: true }).then((channel) => channel.receive()),
+    ]);
+    assert.equal(a.reason.name, 'NOISE_KEY');
+    assert.deepEqual([b.status, b.value], ['fulfilled', undefined]);
+    const [cut, other] = pair();
+    await Promise.all([assert.rejects(NoiseSocket.open(cut, { pattern, staticKey: await KeyPair.generate() }), refused(code.CLOSED)),
+      (async () => { const reader = other.readable.getReader(); await reader.read(); await other.writable.getWriter().close(); })()]);
+  });
+
   await t.test('a channel over a pair of streams, in pieces of one byte', async () => {
     const bytewise = () => new TransformStream({ transform(chunk, controller) { for (const byte of chunk) controller.enqueue(Uint8Array.of(byte)); } }, { highWaterMark: 1e6 }, { highWaterMark: 1e6 });
     const [up, down] = [bytewise(), bytewise()];
