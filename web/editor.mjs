@@ -1,5 +1,5 @@
 // The text of the pattern: judged at each change, its first fault marked, psk places set by a click.
-import { DEFERRED, FUNDAMENTAL, checkPattern, textOf } from './noise/noise.mjs';
+import { DEFERRED, FUNDAMENTAL, checkPattern, layout, textOf } from './noise/noise.mjs';
 import { linesOf } from './noise/layout.mjs';
 import { explain } from './faults.mjs';
 import { element } from './runview.mjs';
@@ -77,7 +77,7 @@ export class Editor {
     const verdict = checkPattern(text);
     const says = verdict.valid ? undefined : explain(text, verdict);
     this.#mark(text, says?.span);
-    this.#tell(verdict, says);
+    this.#tell(text, verdict, says);
     this.#set(text);
     this.changed(text, verdict);
   }
@@ -89,11 +89,12 @@ export class Editor {
     return this.#marks.replaceChildren(text.slice(0, from), element('mark', '', text.slice(from, to) || ' '), text.slice(to === from ? to + 1 : to));
   }
 
-  #tell(verdict, says) {
+  #tell(text, verdict, says) {
     const line = (cls, text) => element('p', cls, text);
     this.#verdict.className = verdict.valid ? 'good' : 'bad';
     this.#verdict.replaceChildren(...(verdict.valid
-      ? [line('title', `Valid: ${verdict.messages} ${verdict.messages === 1 ? 'message' : 'messages'}.`), line('mend', 'None of the five rules is broken. A valid pattern need not be a secure one.')]
+      ? [line('title', `Valid: ${verdict.messages} ${verdict.messages === 1 ? 'message' : 'messages'}.`), line('mend', 'None of the five rules is broken. A valid pattern need not be a secure one.'),
+        line('mend', `Beyond their payloads the messages have ${layout(text).messages.map(({ length }) => length).join(', ')} bytes.`)]
       : [line('title', `${says.title}.`), line('', says.says), line('mend', says.mend)]));
   }
 
