@@ -1,0 +1,260 @@
+// Noisecat joins standard input and output to a secure channel by the Noise Protocol Framework, as nc does to a plain one.
+//
+//	noisecat keygen > server.key              makes a static key; its public key goes to standard error
+//	noisecat -listen :9000 -key server.key -allow KEY,..
+//	noisecat -connect host:9000 -key client.key -peer KEY
+//
+// It ends with status 0 when both ends have said all, and with 1 and a sentence on standard error where anything was wrong.
+package main
+
+import (
+	"encoding/hex"
+	"errors"
+	"flag"
+	"fmt"
+	"io"
+	"net"
+	"os"
+	"strings"
+	"time"
+
+	"example.org/noise"
+)
+
+type options struct {
+	listen, connect, key, allow, peer, pattern, psk, prologue string
+	interval                                                  uint64
+	any, verbose                                              bool
+}
+
+func main() {
+	if err := run(os.Args[1:]); err != nil {
+		if !errors.Is(err, flag.ErrHelp) {
+			fmt.Fprintln(os.Stderr, "noisecat:", sentence(err))
+			os.Exit(1)
+		}
+		os.Exit(2)
+	}
+}
+
+// sentence says what an operator has to know of an error.
+func sentence(err error) string {
+	var handshake *noise.HandshakeError
+	switch {
+	case errors.Is(err, noise.ErrPeerKey) || errors.Is(err, errNotAllowed):
+		return err.Error()
+	case errors.As(err, &handshake) && errors.Is(err, noise.ErrTag):
+		return err.Error() + " (another key, secret, pattern or prologue than the other end has, or a changed message)"
+	case errors.Is(err, noise.ErrTag) || errors.Is(err, noise.ErrShort):
+		return "a message was changed on the way: " + err.Error()
+	case errors.Is(err, io.ErrUnexpectedEOF):
+		return "the connection was cut within a message"
+	case errors.Is(err, noise.ErrCut):
+		return "the connection was cut before the other end said that it was done"
+	}
+	return err.Error()
+}
+
+func run(words []string) error {
+	if len(words) > 0 && words[0] == "keygen" {
+		return keygen()
+	}
+	var o options
+	flags := flag.NewFlagSet("noisecat", flag.ContinueOnError)
+	flags.StringVar(&o.listen, "listen", "", "take one connection at this `address`")
+	flags.StringVar(&o.connect, "connect", "", "connect to this `address`")
+	flags.StringVar(&o.key, "key", "", "the `file` of the static key, as keygen makes it")
+	flags.StringVar(&o.allow, "allow", "", "accept the other end if it has one of these public `keys` (hex, joined by commas)")
+	flags.StringVar(&o.peer, "peer", "", "the public `key` of the other end (hex)")
+	flags.BoolVar(&o.any, "insecure-any", false, "talk to anybody")
+	flags.StringVar(&o.pattern, "pattern", "XX", "the pattern, as IK or XXpsk3, the whole protocol `name`, or @FILE with a pattern text")
+	flags.StringVar(&o.psk, "psk", "", "the `files` of the secrets, 64 hex digits each, one for each psk token, joined by commas")
+	flags.StringVar(&o.prologue, "prologue", "", "the `text` that both ends have agreed on before")
+	flags.Uint64Var(&o.interval, "interval", 0, "renew keys after this `count` of messages; 0: never")
+	flags.BoolVar(&o.verbose, "v", false, "show each message, and the handshake hash, on standard error")
+	if err := flags.Parse(words); err != nil {
+		return flag.ErrHelp
+	}
+	if (o.listen == "") == (o.connect == "") || flags.NArg() > 0 {
+		flags.Usage()
+		return flag.ErrHelp
+	}
+	return join(&o)
+}
+
+func keygen() error {
+	k, err := noise.GenerateKeyPair()
+	if err != nil {
+		return err
+	}
+	fmt.Fprintf(os.Stderr, "public key: %x\n", k.Public())
+	_, err = fmt.Printf("%x\n", k.Secret())
+	return err
+}
+
+var errNotAllowed = errors.New("the other end's key isn't allowed")
+
+// bytes32 reads 64 hex digits.
+func bytes32(what, digits string) ([]byte, error) {
+	b, err := hex.DecodeString(strings.TrimSpace(digits))
+	if err != nil || len(b) != noise.KeyLen {
+		return nil, fmt.Errorf("%s: 64 hex digits are due", what)
+	}
+	return b, nil
+}
+
+func fileOf32(name string) ([]byte, error) {
+	text, err := os.ReadFile(name)
+	if err != nil {
+		return nil, err
+	}
+	return bytes32(name, string(text))
+}
+
+func (o *options) config() (*noise.Config, error) {
+	c := &noise.Config{Pattern: o.pattern, Prologue: []byte(o.prologue), Interval: o.interval, InsecureAcceptAnyKey: o.any}
+	if strings.HasPrefix(o.pattern, "@") {
+		text, err := os.ReadFile(o.pattern[1:])
+		if err != nil {
+			return nil, err
+		}
+		c.Pattern = string(text)
+	}
+	if o.key != "" {
+		secret, err := fileOf32(o.key)
+		if err != nil {
+			return nil, err
+		}
+		if c.Static, err = noise.NewKeyPair(secret); err != nil {
+			return nil, err
+		}
+	}
+	if o.psk != "" {
+		for _, name := range strings.Split(o.psk, ",") {
+			psk, err := fileOf32(name)
+			if err != nil {
+				return nil, err
+			}
+			c.PSKs = append(c.PSKs, psk)
+		}
+	}
+	return c, o.setPeer(c)
+}
+
+// setPeer says who may be at the other end.
+func (o *options) setPeer(c *noise.Config) (err error) {
+	if o.peer != "" {
+		if c.PeerStatic, err = bytes32("-peer", o.peer); err != nil {
+			return err
+		}
+	}
+	if o.allow == "" {
+		return nil
+	}
+	allowed := map[string]bool{}
+	for _, digits := range strings.Split(o.allow, ",") {
+		key, err := bytes32("-allow", digits)
+		if err != nil {
+			return err
+		}
+		allowed[string(key)] = true
+	}
+	c.VerifyPeer = func(key [noise.KeyLen]byte) error {
+		if !allowed[string(key[:])] {
+			return fmt.Errorf("%w: %x", errNotAllowed, key)
+		}
+		return nil
+	}
+	return nil
+}
+
+// meet makes the connection below.
+func (o *options) meet() (net.Conn, error) {
+	if o.connect != "" {
+		return net.Dial("tcp", o.connect)
+	}
+	l, err := net.Listen("tcp", o.listen)
+	if err != nil {
+		return nil, err
+	}
+	defer l.Close()
+	if o.verbose {
+		fmt.Fprintln(os.Stderr, "listening on", l.Addr())
+	}
+	return l.Accept()
+}
+
+func join(o *options) error {
+	config, err := o.config()
+	if err != nil {
+		return err
+	}
+	conn, err := o.meet()
+	if err != nil {
+		return err
+	}
+	if o.verbose {
+		conn = &shown{Conn: conn}
+	}
+	make := noise.Server
+	if o.connect != "" {
+		make = noise.Client
+	}
+	c, err := make(conn, config)
+	if err != nil {
+		conn.Close()
+		return err
+	}
+	defer c.Close()
+	conn.SetDeadline(time.Now().Add(30 * time.Second))
+	if err := c.Handshake(); err != nil {
+		return err
+	}
+	conn.SetDeadline(time.Time{})
+	if o.verbose {
+		s := c.ConnectionState()
+		fmt.Fprintf(os.Stderr, "%s\nhandshake hash: %x\npeer's key: %x\n", s.ProtocolName, s.HandshakeHash, s.PeerStatic)
+	}
+	return carry(c)
+}
+
+// carry moves standard input and output, until both ends have said all.
+func carry(c *noise.Conn) error {
+	sent := make(chan error, 1)
+	go func() {
+		_, err := io.CopyBuffer(struct{ io.Writer }{c}, struct{ io.Reader }{os.Stdin}, make([]byte, noise.MaxMessage-noise.TagLen))
+		if err == nil {
+			err = c.CloseWrite()
+		}
+		if errors.Is(err, noise.ErrOneWay) {
+			err = nil
+		}
+		sent <- err
+	}()
+	_, err := io.CopyBuffer(struct{ io.Writer }{os.Stdout}, struct{ io.Reader }{c}, make([]byte, noise.MaxMessage))
+	if err != nil && !errors.Is(err, noise.ErrOneWay) {
+		return err
+	}
+	return <-sent
+}
+
+// shown shows what goes over a connection.
+type shown struct{ net.Conn }
+
+func (s *shown) Read(b []byte) (int, error) {
+	n, err := s.Conn.Read(b)
+	show("<-", b[:n])
+	return n, err
+}
+
+func (s *shown) Write(b []byte) (int, error) {
+	n, err := s.Conn.Write(b)
+	show("->", b[:n])
+	return n, err
+}
+
+func show(arrow string, b []byte) {
+	if len(b) > 0 {
+		fmt.Fprintf(os.Stderr, "%s %d bytes: %x\n", arrow, len(b), b)
+	}
+}

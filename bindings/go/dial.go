@@ -1,0 +1,85 @@
+package noise
+
+import (
+	"context"
+	"net"
+)
+
+// Dialer makes connections, and passes the handshake as the initiator.
+type Dialer struct {
+	NetDialer *net.Dialer // nil: one of zeros
+	Config    *Config
+}
+
+// Dial connects, and passes the handshake.
+func (d *Dialer) Dial(network, address string) (net.Conn, error) {
+	return d.DialContext(context.Background(), network, address)
+}
+
+// DialContext connects, and passes the handshake; both end with the context.
+func (d *Dialer) DialContext(ctx context.Context, network, address string) (net.Conn, error) {
+	c, err := d.dial(ctx, network, address)
+	if err != nil {
+		return nil, err
+	}
+	return c, nil
+}
+
+func (d *Dialer) dial(ctx context.Context, network, address string) (*Conn, error) {
+	inner := d.NetDialer
+	if inner == nil {
+		inner = new(net.Dialer)
+	}
+	conn, err := inner.DialContext(ctx, network, address)
+	if err != nil {
+		return nil, err
+	}
+	c, err := Client(conn, d.Config)
+	if err == nil {
+		err = c.HandshakeContext(ctx)
+	}
+	if err != nil {
+		conn.Close()
+		return nil, err
+	}
+	return c, nil
+}
+
+// Dial connects, and passes the handshake as the initiator.
+func Dial(network, address string, config *Config) (*Conn, error) {
+	return (&Dialer{Config: config}).dial(context.Background(), network, address)
+}
+
+type listener struct {
+	net.Listener
+	config *Config
+}
+
+// Listen listens, and accepts connections as the responder.
+func Listen(network, address string, config *Config) (net.Listener, error) {
+	if config == nil {
+		return nil, &ConfigError{"", errNil}
+	}
+	inner, err := net.Listen(network, address)
+	if err != nil {
+		return nil, err
+	}
+	return NewListener(inner, config), nil
+}
+
+// NewListener accepts connections of inner as the responder. What Accept gives is a *Conn, whose handshake isn't passed yet: one that hangs holds
+// up nobody else.
+func NewListener(inner net.Listener, config *Config) net.Listener { return &listener{inner, config} }
+
+func (l *listener) Accept() (net.Conn, error) {
+	conn, err := l.Listener.Accept()
+	if err != nil {
+		return nil, err
+	}
+	c, err := Server(conn, l.config)
+	if err != nil {
+		conn.Close()
+		return nil, err
+	}
+	return c, nil
+}

@@ -1,0 +1,6 @@
+//go:build !noise_inplace
+
+package noise
+
+// #cgo pkg-config: noise_c
+import "C"

@@ -1,0 +1,744 @@
+package noise
+
+import (
+	"bytes"
+	"context"
+	"crypto/sha256"
+	"errors"
+	"fmt"
+	"io"
+	"math/rand"
+	"net"
+	"os"
+	"strings"
+	"sync"
+	"testing"
+	"time"
+)
+
+var fundamental = strings.Fields("N K X NN NK NX KN KK KX XN XK XX IN IK IX")
+
+// messages is how many messages a fundamental pattern has.
+func messages(base string) int {
+	switch {
+	case len(base) == 1:
+		return 1
+	case base[0] == 'X':
+		return 3
+	}
+	return 2
+}
+
+func pair(t testing.TB) *KeyPair {
+	t.Helper()
+	k, err := GenerateKeyPair()
+	if err != nil {
+		t.Fatal(err)
+	}
+	return k
+}
+
+func key(k DH) []byte { p := k.Public(); return p[:] }
+
+// configs are those of both parties, which know each other's key where the pattern tells it.
+func configs(t testing.TB, pattern string) (client, server *Config) {
+	c, s := pair(t), pair(t)
+	client = &Config{Pattern: pattern, Prologue: []byte("test"), Static: c, InsecureAcceptAnyKey: true}
+	server = &Config{Pattern: pattern, Prologue: []byte("test"), Static: s, InsecureAcceptAnyKey: true}
+	if sh := shapeOf(client.pattern(), true); sh.known || sh.told >= 0 {
+		client.PeerStatic = key(s)
+	}
+	sh := shapeOf(server.pattern(), false)
+	if sh.known || sh.told >= 0 {
+		server.PeerStatic = key(c)
+	}
+	for i := 0; i < sh.psks; i++ {
+		psk := bytes.Repeat([]byte{byte(i + 1)}, KeyLen)
+		client.PSKs, server.PSKs = append(client.PSKs, psk), append(server.PSKs, psk)
+	}
+	return client, server
+}
+
+// connected are two ends over a connection in memory, with the handshake still to come.
+func connected(t testing.TB, client, server *Config) (*Conn, *Conn) {
+	t.Helper()
+	a, b := tcp(t)
+	c, err := Client(a, client)
+	if err != nil {
+		t.Fatal(err)
+	}
+	s, err := Server(b, server)
+	if err != nil {
+		t.Fatal(err)
+	}
+	t.Cleanup(func() { c.Close(); s.Close() })
+	return c, s
+}
+
+func tcp(t testing.TB) (net.Conn, net.Conn) {
+	t.Helper()
+	l, err := net.Listen("tcp", "127.0.0.1:0")
+	if err != nil {
+		t.Fatal(err)
+	}
+	defer l.Close()
+	a, err := net.Dial("tcp", l.Addr().String())
+	if err != nil {
+		t.Fatal(err)
+	}
+	b, err := l.Accept()
+	if err != nil {
+		t.Fatal(err)
+	}
+	t.Cleanup(func() { a.Close(); b.Close() })
+	return a, b
+}
+
+// both passes the handshake at both ends.
+func both(c, s *Conn) (error, error) {
+	done := make(chan error, 1)
+	go func() {
+		err := s.Handshake()
+		if err != nil {
+			s.conn.Close()
+		}
+		done <- err
+	}()
+	err := c.Handshake()
+	if err != nil {
+		c.conn.Close()
+	}
+	return err, <-done
+}
+
+func must(t testing.TB, errs ...error) {
+	t.Helper()
+	for _, err := range errs {
+		if err != nil {
+			t.Fatal(err)
+		}
+	}
+}
+
+func wants(t testing.TB, err, want error) {
+	t.Helper()
+	if !errors.Is(err, want) {
+		t.Fatalf("got %v, want %v", err, want)
+	}
+}
+
+func TestPatterns(t *testing.T) {
+	for _, base := range fundamental {
+		for place := -1; place <= messages(base); place++ {
+			pattern := base
+			if place >= 0 {
+				pattern = fmt.Sprintf("%spsk%d", base, place)
+			}
+			t.Run(pattern, func(t *testing.T) {
+				client, server := configs(t, pattern)
+				c, s := connected(t, client, server)
+				errC, errS := both(c, s)
+				must(t, errC, errS)
+				a, b := c.ConnectionState(), s.ConnectionState()
+				if a.HandshakeHash != b.HandshakeHash || a.HandshakeHash == [KeyLen]byte{} || !a.HandshakeComplete {
+					t.Fatal("the hashes differ")
+				}
+				if client.PeerStatic != nil && !bytes.Equal(a.PeerStatic, key(server.Static)) || a.ProtocolName != "Noise_"+pattern+suite {
+					t.Fatal("the state is wrong")
+				}
+				exchange(t, c, s)
+				if len(base) > 1 {
+					exchange(t, s, c)
+				}
+			})
+		}
+	}
+}
+
+// exchange sends 200000 bytes, and compares what comes.
+func exchange(t testing.TB, from, to net.Conn) {
+	t.Helper()
+	sent := make([]byte, 200000)
+	rand.New(rand.NewSource(1)).Read(sent)
+	failed := make(chan error, 1)
+	go func() { _, err := from.Write(sent); failed <- err }()
+	got := make([]byte, len(sent))
+	if _, err := io.ReadFull(to, got); err != nil {
+		t.Fatal(err)
+	}
+	must(t, <-failed)
+	if !bytes.Equal(sent, got) {
+		t.Fatal("other bytes came than were sent")
+	}
+}
+
+func TestFullDuplexWithRenewedKeys(t *testing.T) {
+	client, server := configs(t, "IK")
+	client.Interval, server.Interval = 3, 3
+	c, s := connected(t, client, server)
+	var group sync.WaitGroup
+	for _, ends := range [][2]*Conn{{c, s}, {s, c}} {
+		group.Add(2)
+		from, to := ends[0], ends[1]
+		go func() {
+			defer group.Done()
+			for i := 0; i < 50; i++ {
+				if _, err := from.Write(bytes.Repeat([]byte{byte(i)}, 20000)); err != nil {
+					t.Error(err)
+				}
+			}
+			if err := from.CloseWrite(); err != nil {
+				t.Error(err)
+			}
+		}()
+		go func() {
+			defer group.Done()
+			sum := sha256.New()
+			n, err := io.Copy(sum, to)
+			want := sha256.New()
+			for i := 0; i < 50; i++ {
+				want.Write(bytes.Repeat([]byte{byte(i)}, 20000))
+			}
+			if err != nil || n != 1000000 || !bytes.Equal(sum.Sum(nil), want.Sum(nil)) {
+				t.Errorf("%d bytes, %v", n, err)
+			}
+		}()
+	}
+	group.Wait()
+}
+
+func TestConfigFaults(t *testing.T) {
+	k, ok := pair(t), func([KeyLen]byte) error { return nil }
+	psk := make([]byte, KeyLen)
+	psksFor := func([KeyLen]byte) ([][]byte, error) { return [][]byte{psk}, nil }
+	for _, it := range []struct {
+		name   string
+		config *Config
+		field  string
+		want   error
+	}{
+		{"nil", nil, "", errNil},
+		{"no pattern", &Config{Pattern: "ZZ", VerifyPeer: ok}, "Pattern", ErrName},
+		{"no text", &Config{Pattern: "NN:\n  -> ee\n", VerifyPeer: ok}, "Pattern", ErrPattern},
+		{"no static key", &Config{VerifyPeer: ok}, "Static", ErrStaticMissing},
+		{"no peer's key", &Config{Pattern: "NK", VerifyPeer: ok}, "PeerStatic", ErrRemoteMissing},
+		{"a peer's key too many", &Config{Pattern: "NN", PeerStatic: key(k)}, "PeerStatic", ErrRemoteUnexpected},
+		{"a short key", &Config{Pattern: "NK", PeerStatic: key(k)[:31]}, "PeerStatic", errKeyLen},
+		{"two secrets", &Config{Pattern: "NNpsk0", PSKs: [][]byte{psk, psk}}, "PSKs", ErrPskCount},
+		{"no secret", &Config{Pattern: "NNpsk0", InsecureAcceptAnyKey: true}, "PSKs", ErrPskCount},
+		{"ten secrets", &Config{Pattern: "NNpsk0", PSKs: make([][]byte, 10)}, "PSKs", ErrPskCount},
+		{"a short secret", &Config{Pattern: "NNpsk0", PSKs: [][]byte{psk[1:]}}, "PSKs", errKeyLen},
+		{"both kinds of secrets", &Config{Pattern: "NKpsk2", PeerStatic: key(k), PSKs: [][]byte{psk}, PSKFor: psksFor}, "PSKFor", errTwo},
+		{"a secret too late", &Config{Pattern: "XXpsk1", Static: k, VerifyPeer: ok, PSKFor: psksFor}, "PSKFor", errPSKTooLate},
+		{"anybody", &Config{Static: k}, "VerifyPeer", ErrUnauthenticated},
+		{"anybody, without keys", &Config{Pattern: "NN"}, "VerifyPeer", ErrUnauthenticated},
+		{"a verifier that isn't asked", &Config{Pattern: "NN", VerifyPeer: ok}, "VerifyPeer", errNoKey},
+		{"a long prologue", &Config{Static: k, VerifyPeer: ok, Prologue: make([]byte, MaxPrologue+1)}, "Prologue", ErrLength},
+	} {
+		a, _ := net.Pipe()
+		_, err := Client(a, it.config)
+		var fault *ConfigError
+		if !errors.As(err, &fault) || fault.Field != it.field || !errors.Is(err, it.want) {
+			t.Errorf("%s: %v", it.name, err)
+		}
+	}
+}
+
+func TestPeerIsJudged(t *testing.T) {
+	refused := errors.New("not on the list")
+	for _, pattern := range []string{"XX", "IX", "IK", "KK"} {
+		client, server := configs(t, pattern)
+		server.VerifyPeer = func(got [KeyLen]byte) error {
+			if !bytes.Equal(got[:], key(client.Static)) {
+				t.Error("another key is told")
+			}
+			return refused
+		}
+		if pattern == "KK" {
+			_, err := NewHandshakeState(server, false)
+			wants(t, err, refused)
+			continue
+		}
+		c, s := connected(t, client, server)
+		_, err := both(c, s)
+		wants(t, err, refused)
+		var fault *HandshakeError
+		if !errors.As(err, &fault) || fault.Token != -1 {
+			t.Error(err)
+		}
+		_, err = s.Read(make([]byte, 1))
+		wants(t, err, refused)
+	}
+	client, server := configs(t, "XX")
+	client.PeerStatic = key(pair(t))
+	c, s := connected(t, client, server)
+	err, _ := both(c, s)
+	wants(t, err, ErrPeerKey)
+}
+
+func TestSecretsOfAKey(t *testing.T) {
+	for _, it := range []struct {
+		pattern   string
+		initiator bool
+	}{{"IKpsk2", false}, {"IXpsk2", false}, {"XXpsk3", true}, {"KKpsk0", false}, {"KKpsk0", true},
+		{"XA1psk3:\n  -> e\n  <- e, ee, s, es\n  -> s, se, psk\n", true}} {
+		client, server := configs(t, it.pattern)
+		asked, other := client, server.Static
+		if !it.initiator {
+			asked, other = server, client.Static
+		}
+		secrets := asked.PSKs
+		asked.PSKs, asked.PSKFor = nil, func(got [KeyLen]byte) ([][]byte, error) {
+			if !bytes.Equal(got[:], key(other)) {
+				t.Error("asked for another's secrets")
+			}
+			return secrets, nil
+		}
+		client.Payloads, server.Payloads = [][]byte{nil, nil, []byte("third")}, [][]byte{nil, []byte("second")}
+		c, s := connected(t, client, server)
+		errC, errS := both(c, s)
+		must(t, errC, errS)
+		exchange(t, c, s)
+		if c.ConnectionState().HandshakeHash != s.ConnectionState().HandshakeHash {
+			t.Error(it.pattern)
+		}
+	}
+	client, server := configs(t, "IKpsk2")
+	server.PSKs, server.PSKFor = nil, func([KeyLen]byte) ([][]byte, error) { return [][]byte{make([]byte, KeyLen)}, nil }
+	c, s := connected(t, client, server)
+	err, _ := both(c, s)
+	wants(t, err, ErrTag)
+	server.PSKFor = nil
+	server.PSKFor = func([KeyLen]byte) ([][]byte, error) { return nil, io.ErrNoProgress }
+	c, s = connected(t, client, server)
+	_, err = both(c, s)
+	wants(t, err, io.ErrNoProgress)
+}
+
+func TestPayloads(t *testing.T) {
+	client, server := configs(t, "XX")
+	client.Payloads, server.Payloads = [][]byte{[]byte("one"), nil, []byte("three")}, [][]byte{nil, []byte("two")}
+	c, s := connected(t, client, server)
+	errC, errS := both(c, s)
+	must(t, errC, errS)
+	a, b := c.ConnectionState().Payloads, s.ConnectionState().Payloads
+	if a[0] != nil || string(a[1]) != "two" || string(b[0]) != "one" || b[1] != nil || string(b[2]) != "three" {
+		t.Error(a, b)
+	}
+	client.Payloads[0] = make([]byte, MaxMessage)
+	c, s = connected(t, client, server)
+	err, _ := both(c, s)
+	wants(t, err, ErrTooLong)
+}
+
+func TestEnds(t *testing.T) {
+	fresh := func() (*Conn, *Conn) {
+		client, server := configs(t, "XX")
+		c, s := connected(t, client, server)
+		errC, errS := both(c, s)
+		must(t, errC, errS)
+		return c, s
+	}
+	one := make([]byte, 1)
+	c, s := fresh()
+	must(t, c.CloseWrite(), c.CloseWrite())
+	_, err := s.Read(one)
+	wants(t, err, io.EOF)
+	_, err = c.Write(one)
+	wants(t, err, errEnded)
+	exchange(t, s, c)
+	c, s = fresh()
+	must(t, c.Close())
+	wants(t, c.Close(), net.ErrClosed)
+	_, err = s.Read(one)
+	wants(t, err, io.EOF)
+	_, err = c.Read(one)
+	wants(t, err, net.ErrClosed)
+	_, err = c.Write(one)
+	wants(t, err, net.ErrClosed)
+	c, s = fresh()
+	c.conn.Close()
+	_, err = s.Read(one)
+	wants(t, err, ErrCut)
+	c, s = fresh()
+	c.conn.Write([]byte{0, 20, 1})
+	c.conn.Close()
+	_, err = s.Read(one)
+	wants(t, err, io.ErrUnexpectedEOF)
+	c, s = fresh()
+	c.conn.Write([]byte{0, 3, 1, 2, 3})
+	_, err = s.Read(one)
+	wants(t, err, ErrShort)
+	c, s = fresh()
+	c.conn.Write(append([]byte{0, 30}, make([]byte, 30)...))
+	_, err = s.Read(one)
+	wants(t, err, ErrTag)
+	_, err = s.Read(one)
+	wants(t, err, ErrTag)
+	c, s = fresh()
+	waiting := make(chan error)
+	go func() { _, err := s.Read(one); waiting <- err }()
+	time.Sleep(10 * time.Millisecond)
+	s.Close()
+	if err := <-waiting; err == nil {
+		t.Error("read from what was closed")
+	}
+}
+
+func TestOneWay(t *testing.T) {
+	client, server := configs(t, "N")
+	c, s := connected(t, client, server)
+	errC, errS := both(c, s)
+	must(t, errC, errS)
+	exchange(t, c, s)
+	_, err := s.Write([]byte("x"))
+	wants(t, err, ErrOneWay)
+	_, err = c.Read(make([]byte, 1))
+	wants(t, err, ErrOneWay)
+}
+
+func TestDeadlineInAFrame(t *testing.T) {
+	client, server := configs(t, "XX")
+	c, s := connected(t, client, server)
+	errC, errS := both(c, s)
+	must(t, errC, errS)
+	sealed, err := c.sealer.Seal([]byte{0, 21}, []byte("hello"))
+	must(t, err)
+	for _, part := range [][]byte{sealed[:1], sealed[1:9]} {
+		c.conn.Write(part)
+		s.SetReadDeadline(time.Now().Add(20 * time.Millisecond))
+		_, err = s.Read(make([]byte, 9))
+		wants(t, err, os.ErrDeadlineExceeded)
+	}
+	c.conn.Write(sealed[9:])
+	s.SetReadDeadline(time.Time{})
+	got := make([]byte, 9)
+	n, err := s.Read(got)
+	must(t, err)
+	if string(got[:n]) != "hello" {
+		t.Errorf("%q", got[:n])
+	}
+}
+
+func TestHandshakeEndsWithContext(t *testing.T) {
+	client, server := configs(t, "XX")
+	c, _ := connected(t, client, server)
+	ctx, cancel := context.WithTimeout(context.Background(), 20*time.Millisecond)
+	defer cancel()
+	wants(t, c.HandshakeContext(ctx), context.DeadlineExceeded)
+	wants(t, c.Handshake(), context.DeadlineExceeded)
+}
+
+func TestListenAndDial(t *testing.T) {
+	client, server := configs(t, "IK")
+	l, err := Listen("tcp", "127.0.0.1:0", server)
+	must(t, err)
+	defer l.Close()
+	go func() {
+		conn, err := l.Accept()
+		if err == nil {
+			io.Copy(conn, conn)
+			conn.Close()
+		}
+	}()
+	conn, err := (&Dialer{Config: client}).Dial("tcp", l.Addr().String())
+	must(t, err)
+	must(t, err, echo(conn))
+}
+
+func echo(conn net.Conn) error {
+	if _, err := conn.Write([]byte("hello")); err != nil {
+		return err
+	}
+	if err := conn.(*Conn).CloseWrite(); err != nil {
+		return err
+	}
+	got, err := io.ReadAll(conn)
+	if string(got) != "hello" {
+		return fmt.Errorf("%q, %v", got, err)
+	}
+	return err
+}
+
+// opened are the handshakes of both parties, whose messages have passed.
+func opened(t testing.TB, pattern string) (*HandshakeState, *HandshakeState) {
+	t.Helper()
+	client, server := configs(t, pattern)
+	a, err := NewHandshakeState(client, true)
+	must(t, err)
+	b, err := NewHandshakeState(server, false)
+	must(t, err)
+	for w, r := a, b; !a.Done() || !b.Done(); w, r = r, w {
+		_, err := r.WriteMessage(nil, nil)
+		if !r.Done() {
+			wants(t, err, ErrNotYourTurn)
+		}
+		message, err := w.WriteMessage(nil, []byte("payload"))
+		must(t, err)
+		payload, err := r.ReadMessage([]byte("a "), message)
+		must(t, err)
+		if string(payload) != "a payload" {
+			t.Fatalf("%q", payload)
+		}
+	}
+	return a, b
+}
+
+func TestHandshakeIsUsedUp(t *testing.T) {
+	a, b := opened(t, "XX")
+	_, err := a.WriteMessage(nil, nil)
+	wants(t, err, ErrDone)
+	_, err = b.ReadMessage(nil, nil)
+	wants(t, err, ErrDone)
+	s, r, err := a.Split()
+	must(t, err)
+	_, _, err = a.Split()
+	wants(t, err, ErrEnded)
+	_, err = a.Datagrams(64)
+	wants(t, err, ErrEnded)
+	must(t, s.Close(), r.Close())
+	_, err = s.Seal(nil, nil)
+	wants(t, err, ErrClosed)
+	_, err = r.Open(nil, nil)
+	wants(t, err, ErrClosed)
+}
+
+func TestSealAndOpenInPlace(t *testing.T) {
+	a, b := opened(t, "XX")
+	s, _, err := a.Split()
+	must(t, err)
+	_, r, err := b.Split()
+	must(t, err)
+	place := append(make([]byte, 0, 64), "in place"...)
+	for i := 0; i < 3; i++ {
+		message, err := s.Seal(place[:0], place)
+		must(t, err)
+		_, err = r.Open(nil, message[1:])
+		wants(t, err, ErrTag)
+		kept := append([]byte(nil), message...)
+		kept[3] ^= 1
+		changed := append([]byte(nil), kept...)
+		_, err = r.Open(kept[:0], kept)
+		wants(t, err, ErrTag)
+		if !bytes.Equal(kept, changed) {
+			t.Error("a refusal has changed the message")
+		}
+		place, err = r.Open(message[:0], message)
+		must(t, err)
+		if string(place) != "in place" || s.Nonce() != uint64(i+1) || r.Nonce() != uint64(i+1) {
+			t.Fatalf("%q", place)
+		}
+	}
+	_, err = s.Seal(nil, make([]byte, MaxMessage-TagLen+1))
+	wants(t, err, ErrTooLong)
+	_, err = r.Open(nil, make([]byte, MaxMessage+1))
+	wants(t, err, ErrLength)
+}
+
+func TestDatagrams(t *testing.T) {
+	a, b := opened(t, "IK")
+	_, err := a.Datagrams(65)
+	wants(t, err, ErrWindow)
+	s, err := a.Datagrams(64)
+	must(t, err)
+	r, err := b.Datagrams(64)
+	must(t, err)
+	var sealed [100][]byte
+	for i := range sealed {
+		sealed[i], err = s.Seal(nil, []byte{byte(i)})
+		must(t, err)
+	}
+	for _, i := range []int{0, 5, 3, 99, 40} {
+		got, err := r.Open([]byte{7}, sealed[i])
+		must(t, err)
+		if !bytes.Equal(got, []byte{7, byte(i)}) {
+			t.Error(i, got)
+		}
+		_, err = r.Open(nil, sealed[i])
+		wants(t, err, ErrRepeated)
+	}
+	_, err = r.Open(nil, sealed[35])
+	wants(t, err, ErrOld)
+	_, err = r.Open(nil, sealed[36][:23])
+	wants(t, err, ErrShort)
+	sealed[36][9] ^= 1
+	_, err = r.Open(nil, sealed[36])
+	wants(t, err, ErrTag)
+	back, err := r.Seal(nil, []byte("back"))
+	must(t, err)
+	got, err := s.Open(back[:0], back)
+	must(t, err)
+	if string(got) != "back" {
+		t.Error(got)
+	}
+	must(t, s.Close())
+	_, err = s.Seal(nil, nil)
+	wants(t, err, ErrClosed)
+}
+
+type zeros struct{ *KeyPair }
+
+func (zeros) Agree([KeyLen]byte) (answer [KeyLen]byte, err error) { return answer, nil }
+
+func TestZerosAreRefused(t *testing.T) {
+	client, server := configs(t, "XX")
+	server.Static = zeros{server.Static.(*KeyPair)}
+	c, s := connected(t, client, server)
+	_, err := both(c, s)
+	wants(t, err, ErrLowOrder)
+	h, err := NewHandshakeState(client, false)
+	must(t, err)
+	_, err = h.ReadMessage(nil, make([]byte, 32))
+	must(t, err)
+	_, err = h.WriteMessage(nil, nil)
+	wants(t, err, ErrLowOrder)
+	_, err = h.WriteMessage(nil, nil)
+	wants(t, err, ErrEnded)
+}
+
+func TestNoAllocation(t *testing.T) {
+	a, b := opened(t, "XX")
+	s, _, err := a.Split()
+	must(t, err)
+	_, r, err := b.Split()
+	must(t, err)
+	payload, room := make([]byte, 1000), make([]byte, 0, 2000)
+	if n := testing.AllocsPerRun(100, func() {
+		message, err := s.Seal(room, payload)
+		if err == nil {
+			_, err = r.Open(message[:0], message)
+		}
+		must(t, err)
+	}); n != 0 {
+		t.Errorf("%v allocations at a message", n)
+	}
+}
+
+// TestFaults runs many channels at once, whose bytes are changed, lost or cut on the way: no wrong byte is ever handed out.
+func TestFaults(t *testing.T) {
+	var group sync.WaitGroup
+	for i := 0; i < 60; i++ {
+		group.Add(1)
+		go func(seed int64) {
+			defer group.Done()
+			client, server := configs(t, "XX")
+			a, b := net.Pipe()
+			x, y := net.Pipe()
+			go relay(b, x, seed)
+			go func() { io.Copy(b, x); b.Close() }()
+			c, _ := Client(a, client)
+			s, _ := Server(y, server)
+			s.SetDeadline(time.Now().Add(2 * time.Second))
+			c.SetDeadline(time.Now().Add(2 * time.Second))
+			go func() {
+				for j := 0; j < 100; j++ {
+					if _, err := c.Write(bytes.Repeat([]byte{byte(j)}, 50)); err != nil {
+						break
+					}
+				}
+				c.conn.Close()
+			}()
+			got, err := io.ReadAll(s)
+			s.conn.Close()
+			for at, b := range got {
+				if int(b) != at/50 {
+					t.Error("a wrong byte")
+					break
+				}
+			}
+			if err == nil {
+				t.Error("nothing said that the stream was cut")
+			}
+		}(int64(i))
+	}
+	group.Wait()
+}
+
+// relay passes some bytes on, and then flips one, leaves some out, or ends.
+func relay(from, to net.Conn, seed int64) {
+	defer to.Close()
+	dice := rand.New(rand.NewSource(seed))
+	io.CopyN(to, from, dice.Int63n(6000))
+	some := make([]byte, 60)
+	n, _ := io.ReadFull(from, some)
+	switch seed % 3 {
+	case 0:
+		some[dice.Intn(60)] ^= 1 << dice.Intn(8)
+		to.Write(some[:n])
+	case 1:
+	case 2:
+		from.Close()
+		return
+	}
+	io.Copy(to, from)
+}
+
+func FuzzServer(f *testing.F) {
+	f.Add([]byte("\x00\x20aaaaaaaaaaaaaaaaaaaaaaaaaaaaaaaa"), uint8(0))
+	f.Add([]byte{0, 0}, uint8(7))
+	f.Fuzz(func(t *testing.T, wire []byte, which uint8) {
+		client, server := configs(t, fundamental[int(which)%len(fundamental)])
+		for _, make := range []func(net.Conn, *Config) (*Conn, error){Client, Server} {
+			config := server
+			if which%2 == 0 {
+				config = client
+			}
+			c, err := make(&script{Reader: bytes.NewReader(wire)}, config)
+			if err != nil {
+				continue
+			}
+			if n, err := c.Read([]byte{0}); n != 0 || err == nil {
+				t.Fatal("a byte nobody has sealed")
+			}
+			c.Close()
+		}
+	})
+}
+
+func FuzzOpen(f *testing.F) {
+	f.Add([]byte("hello"), uint16(3))
+	f.Fuzz(func(t *testing.T, payload []byte, flip uint16) {
+		if len(payload) > MaxMessage-TagLen {
+			return
+		}
+		a, b := opened(t, "NN")
+		s, _, _ := a.Split()
+		_, r, _ := b.Split()
+		message, err := s.Seal(nil, payload)
+		must(t, err)
+		changed := append([]byte(nil), message...)
+		changed[int(flip)%len(changed)] ^= 1
+		_, err = r.Open(nil, changed)
+		wants(t, err, ErrTag)
+		got, err := r.Open(nil, message)
+		must(t, err)
+		if !bytes.Equal(got, payload) {
+			t.Fatal("another payload")
+		}
+	})
+}
+
+// script is a connection that has these bytes to read.
+type script struct {
+	io.Reader
+	net.Conn
+}
+
+func (s *script) Read(b []byte) (int, error)         { return s.Reader.Read(b) }
+func (s *script) Write(b []byte) (int, error)        { return len(b), nil }
+func (s *script) Close() error                       { return nil }
+func (s *script) SetWriteDeadline(_ time.Time) error { return nil }
+
+func BenchmarkSeal(b *testing.B) {
+	for _, size := range []int{64, 1024, 16384} {
+		b.Run(fmt.Sprint(size), func(b *testing.B) {
+			x, _ := opened(b, "NN")
+			s, _, _ := x.Split()
+			payload, room := make([]byte, size), make([]byte, 0, size+TagLen)
+			b.SetBytes(int64(size))
+			for i := 0; i < b.N; i++ {
+				s.Seal(room, payload)
+			}
+		})
+	}
+}
