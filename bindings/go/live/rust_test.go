@@ -1,0 +1,113 @@
+package live
+
+import (
+	"bufio"
+	"bytes"
+	"fmt"
+	"io"
+	"net"
+	"os"
+	"os/exec"
+	"strings"
+	"testing"
+	"time"
+
+	"example.org/noise"
+)
+
+// TestRust runs the package against the example `echo` of the crate in bindings/rust, whose path NOISE_RUST_ECHO has.
+func TestRust(t *testing.T) {
+	program := os.Getenv("NOISE_RUST_ECHO")
+	if program == "" {
+		t.Skip("NOISE_RUST_ECHO isn't set")
+	}
+	for _, pattern := range patterns {
+		for place := -1; place <= len(pattern.Messages); place++ {
+			name := pattern.Name
+			if place >= 0 {
+				name = fmt.Sprintf("%spsk%d", name, place)
+			}
+			for _, initiator := range []bool{true, false} {
+				t.Run(fmt.Sprintf("%s/%v", name, initiator), func(t *testing.T) {
+					withRust(t, program, name, place >= 0, initiator, len(pattern.Messages) == 1)
+				})
+			}
+		}
+	}
+}
+
+func withRust(t *testing.T, program, name string, psk, initiator, oneWay bool) {
+	own, err := noise.GenerateKeyPair()
+	must(t, err)
+	other, err := noise.GenerateKeyPair()
+	must(t, err)
+	config := &noise.Config{Pattern: name, Prologue: []byte("live"), Static: own, InsecureAcceptAnyKey: true}
+	letters, _, _ := strings.Cut(name, "psk")
+	if at := strings.LastIndex(letters, "K"); initiator && (oneWay || at == len(letters)-1) || !initiator && letters[0] == 'K' {
+		key := other.Public()
+		config.PeerStatic = key[:]
+	}
+	secret := "-"
+	if psk {
+		secret = strings.Repeat("07", 32)
+		config.PSKs = [][]byte{bytes.Repeat([]byte{7}, 32)}
+	}
+	words := []string{name, fmt.Sprintf("%x", other.Secret()), fmt.Sprintf("%x", own.Public()), secret}
+	if initiator {
+		toRust(t, exec.Command(program, append(words, "@127.0.0.1:0")...), config, oneWay)
+	} else {
+		fromRust(t, program, words, config, oneWay)
+	}
+}
+
+// toRust sends a megabyte, and wants it back.
+func toRust(t *testing.T, cmd *exec.Cmd, config *noise.Config, oneWay bool) {
+	cmd.Stderr = os.Stderr
+	said, err := cmd.StdoutPipe()
+	must(t, err)
+	must(t, cmd.Start())
+	address, err := bufio.NewReader(said).ReadString('\n')
+	must(t, err)
+	c, err := noise.Dial("tcp", strings.TrimSpace(address), config)
+	must(t, err)
+	defer c.Close()
+	c.SetDeadline(time.Now().Add(20 * time.Second))
+	megabyte := bytes.Repeat([]byte("0123456789abcdef"), 1<<16)
+	_, err = c.Write(megabyte)
+	must(t, err)
+	must(t, c.CloseWrite())
+	if !oneWay {
+		got, err := io.ReadAll(c)
+		must(t, err)
+		if !bytes.Equal(got, megabyte) {
+			t.Error("other bytes came back")
+		}
+	}
+	must(t, cmd.Wait())
+}
+
+// fromRust sends back what comes.
+func fromRust(t *testing.T, program string, words []string, config *noise.Config, oneWay bool) {
+	l, err := net.Listen("tcp", "127.0.0.1:0")
+	must(t, err)
+	defer l.Close()
+	cmd := exec.Command(program, append(words, l.Addr().String())...)
+	cmd.Stderr = os.Stderr
+	must(t, cmd.Start())
+	conn, err := noise.NewListener(l, config).Accept()
+	must(t, err)
+	defer conn.Close()
+	conn.SetDeadline(time.Now().Add(20 * time.Second))
+	if oneWay {
+		n, err := io.Copy(io.Discard, conn)
+		must(t, err)
+		if n != 1<<20 {
+			t.Error(n)
+		}
+	} else {
+		_, err = io.Copy(struct{ io.Writer }{conn}, struct{ io.Reader }{conn})
+		must(t, err)
+		must(t, conn.(*noise.Conn).CloseWrite())
+	}
+	must(t, cmd.Wait())
+}

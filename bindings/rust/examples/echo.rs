@@ -1,0 +1,66 @@
+// One end over TCP: echo PATTERN OWN_SECRET PEER_KEY PSK ADDRESS. It connects as the initiator, sends a megabyte, and wants it back; where ADDRESS
+// begins with '@' it listens there, tells where on a line, and sends back what it reads. PSK is '-' where there is none.
+use std::io::{self, Read, Write};
+use std::net::{TcpListener, TcpStream};
+use yulimosar::{Builder, KeyPair, Stream};
+
+fn bytes32(digits: &str) -> [u8; 32] {
+    let mut bytes = [0; 32];
+    for (i, byte) in bytes.iter_mut().enumerate() {
+        *byte = u8::from_str_radix(&digits[2 * i..2 * i + 2], 16).expect("hex digits");
+    }
+    bytes
+}
+
+fn main() -> io::Result<()> {
+    let words: Vec<String> = std::env::args().collect();
+    let (pattern, secret, peer, psk, address) = match &words[..] {
+        [_, pattern, secret, peer, psk, address] => (pattern, secret, peer, psk, address),
+        _ => panic!("usage: echo PATTERN OWN_SECRET PEER_KEY PSK ADDRESS"),
+    };
+    let listens = address.strip_prefix('@');
+    let (own, peer) = (KeyPair::from_secret(&bytes32(secret))?, bytes32(peer));
+    let psk = if psk == "-" { None } else { Some(bytes32(psk)) };
+    let mut builder = Builder::new(pattern).prologue(b"live").static_key(own);
+    let letters = pattern.split("psk").next().unwrap_or_default().as_bytes();
+    if letters[if listens.is_some() { 0 } else { letters.len() - 1 }] == b'K' || letters.len() == 1 && listens.is_none() {
+        builder = builder.remote_static(&peer);
+    }
+    if let Some(psk) = &psk {
+        builder = builder.psk(psk);
+    }
+    match listens {
+        None => send(Stream::anonymous(TcpStream::connect(address)?, builder.initiator::<KeyPair>()?)?, letters.len() == 1),
+        Some(address) => {
+            let listener = TcpListener::bind(address)?;
+            println!("{}", listener.local_addr()?);
+            echo(Stream::anonymous(listener.accept()?.0, builder.responder::<KeyPair>()?)?, letters.len() == 1)
+        }
+    }
+}
+
+fn send(mut stream: Stream<TcpStream>, one_way: bool) -> io::Result<()> {
+    let megabyte: Vec<u8> = (0..1 << 20).map(|i: u32| (i % 251) as u8).collect();
+    if one_way {
+        stream.write_all(&megabyte)?;
+        return stream.close_write();
+    }
+    let (mut reads, mut writes) = stream.split(TcpStream::try_clone)?;
+    let sent = megabyte.clone();
+    let writer = std::thread::spawn(move || writes.write_all(&sent).and_then(|_| writes.close_write()));
+    let mut back = Vec::new();
+    reads.read_to_end(&mut back)?;
+    writer.join().expect("no panic")?;
+    assert!(back == megabyte, "other bytes came back");
+    Ok(())
+}
+
+fn echo(mut stream: Stream<TcpStream>, one_way: bool) -> io::Result<()> {
+    let mut all = Vec::new();
+    stream.read_to_end(&mut all)?;
+    if one_way {
+        return Ok(());
+    }
+    stream.write_all(&all)?;
+    stream.close_write()
+}

@@ -1,0 +1,109 @@
+use crate::header::{MAX_PSKS, OK};
+use crate::raw::{self, Key, Setup};
+use crate::{Dh, Ephemeral, Error, Handshake, NoKey};
+
+/// What a handshake starts from.
+pub struct Builder<'a, S: Dh = NoKey> {
+    pattern: &'a str,
+    prologue: &'a [u8],
+    static_key: Option<S>,
+    remote_static: Option<[u8; 32]>,
+    psks: [Option<&'a [u8; 32]>; MAX_PSKS],
+    psk_count: usize,
+    interval: u64,
+}
+
+impl<'a> Builder<'a, NoKey> {
+    /// A handshake of this pattern: a protocol name, as `Noise_XX_25519_ChaChaPoly_SHA256`; the name of a pattern alone, as `XXpsk3`; or a
+    /// pattern text of one's own, whose last byte is a line feed.
+    pub fn new(pattern: &'a str) -> Self {
+        Builder { pattern, prologue: &[], static_key: None, remote_static: None, psks: [None; MAX_PSKS], psk_count: 0, interval: 0 }
+    }
+}
+
+impl<'a, S: Dh> Builder<'a, S> {
+    /// What the parties have agreed on before, at most 65535 bytes: the same at both.
+    pub fn prologue(mut self, prologue: &'a [u8]) -> Self {
+        self.prologue = prologue;
+        self
+    }
+
+    /// This party's static key pair.
+    pub fn static_key<T: Dh>(self, key: T) -> Builder<'a, T> {
+        let Builder { pattern, prologue, static_key: _, remote_static, psks, psk_count, interval } = self;
+        Builder { pattern, prologue, static_key: Some(key), remote_static, psks, psk_count, interval }
+    }
+
+    /// The other party's static key, where the pattern needs it beforehand, as the responder's in IK.
+    pub fn remote_static(mut self, key: &[u8; 32]) -> Self {
+        self.remote_static = Some(*key);
+        self
+    }
+
+    /// The secret of the next psk token.
+    pub fn psk(mut self, secret: &'a [u8; 32]) -> Self {
+        if let Some(place) = self.psks.get_mut(self.psk_count) {
+            *place = Some(secret);
+        }
+        self.psk_count += 1;
+        self
+    }
+
+    /// The count of messages after which each direction renews its key; 0, as it is else, is never. The same at both parties.
+    pub fn interval(mut self, messages: u64) -> Self {
+        self.interval = messages;
+        self
+    }
+
+    /// Begins as the initiator, which writes the first message, with a new ephemeral key pair.
+    pub fn initiator<E: Ephemeral>(self) -> Result<Handshake<S, E>, Error> {
+        self.begin(0)
+    }
+
+    /// Begins as the responder, with a new ephemeral key pair.
+    pub fn responder<E: Ephemeral>(self) -> Result<Handshake<S, E>, Error> {
+        self.begin(1)
+    }
+
+    fn begin<E: Ephemeral>(self, responder: u8) -> Result<Handshake<S, E>, Error> {
+        if self.psk_count > MAX_PSKS {
+            return Err(Error::PskCount);
+        }
+        let ephemeral = E::draw().ok_or(Error::KeyPair)?;
+        let mut psks = [[0; 32]; MAX_PSKS];
+        for (place, psk) in psks.iter_mut().zip(self.psks.iter().flatten()) {
+            place.copy_from_slice(&psk[..]);
+        }
+        let setup = Setup {
+            responder,
+            e: Key::of(Some(ephemeral.public())),
+            s: Key::of(self.static_key.as_ref().map(|key| key.public())),
+            remote_e: Key::default(),
+            remote_s: Key::of(self.remote_static),
+            psk_count: self.psk_count as u8,
+            psks,
+        };
+        let mut memory = raw::Handshake::new();
+        match start(&mut memory, self.pattern, self.prologue, &setup) {
+            OK => Ok(Handshake::begun(memory, self.static_key, ephemeral, self.interval)),
+            code => Err(Error::of(code, None)),
+        }
+    }
+}
+
+const SUITE: &[u8] = b"_25519_ChaChaPoly_SHA256";
+
+fn start(memory: &mut raw::Handshake, pattern: &str, prologue: &[u8], setup: &Setup) -> u32 {
+    if pattern.ends_with('\n') || pattern.starts_with("Noise_") {
+        return memory.start(pattern.as_bytes(), prologue, setup);
+    }
+    // A name of more bytes than there is room for is none that the library knows.
+    let mut name = [0; 128];
+    let mut len = 0;
+    for part in [b"Noise_", pattern.as_bytes(), SUITE] {
+        let end = (len + part.len()).min(name.len());
+        name[len..end].copy_from_slice(&part[..end - len]);
+        len = end;
+    }
+    memory.start(&name[..len], prologue, setup)
+}

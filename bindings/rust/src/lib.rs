@@ -1,0 +1,72 @@
+//! The Noise Protocol Framework, revision 34, with 25519, ChaChaPoly and SHA256, over the static library `noise_c`, whose calls are proved
+//! to do what the framework says.
+//!
+//! [`Builder`] begins a [`Handshake`]; that makes a [`Transport`], for a stream, or [`Datagrams`], for a network that loses and reorders.
+//! [`Stream`] is all of it over anything that reads and writes. X25519 comes by the trait [`Dh`]: from OpenSSL with the feature `openssl`, or
+//! from any other crate in a few lines.
+//!
+//! No heap is used but in [`Stream`]; without the feature `std` the crate is `no_std`. Keys are overwritten when a value is dropped; what a move
+//! leaves of it on the stack isn't.
+//!
+//! ```
+//! # #[cfg(feature = "openssl")] fn main() -> Result<(), Box<dyn std::error::Error>> {
+//! use std::io::{Read, Write};
+//! use std::net::{TcpListener, TcpStream};
+//! use yulimosar::{Builder, KeyPair, Stream};
+//!
+//! let (server, client) = (KeyPair::generate()?, KeyPair::generate()?);
+//! let (server_key, client_key) = (*server.public_key(), *client.public_key());
+//! let listener = TcpListener::bind("127.0.0.1:0")?;
+//! let address = listener.local_addr()?;
+//! let echo = std::thread::spawn(move || -> std::io::Result<()> {
+//!     let handshake = Builder::new("XX").prologue(b"chat 1").static_key(server).responder::<KeyPair>()?;
+//!     let mut stream = Stream::new(listener.accept()?.0, handshake, |key| key == &client_key)?;
+//!     let mut said = [0; 5];
+//!     stream.read_exact(&mut said)?;
+//!     stream.write_all(&said)?;
+//!     stream.close_write()
+//! });
+//! let handshake = Builder::new("XX").prologue(b"chat 1").static_key(client).initiator::<KeyPair>()?;
+//! let mut stream = Stream::new(TcpStream::connect(address)?, handshake, |key| key == &server_key)?;
+//! stream.write_all(b"hello")?;
+//! let mut answer = String::new();
+//! stream.read_to_string(&mut answer)?;
+//! assert_eq!(answer, "hello");
+//! echo.join().unwrap()?;
+//! # Ok(()) }
+//! # #[cfg(not(feature = "openssl"))] fn main() {}
+//! ```
+#![cfg_attr(not(feature = "std"), no_std)]
+#![deny(unsafe_op_in_unsafe_fn, missing_docs)]
+
+mod builder;
+mod dh;
+mod error;
+mod handshake;
+#[allow(dead_code)]
+mod header;
+#[cfg(feature = "openssl")]
+mod key_pair;
+mod raw;
+#[cfg(feature = "std")]
+mod stream;
+mod transport;
+
+pub use builder::Builder;
+pub use dh::{Dh, Ephemeral, NoKey};
+pub use error::Error;
+pub use handshake::Handshake;
+#[cfg(feature = "openssl")]
+pub use key_pair::KeyPair;
+#[cfg(feature = "std")]
+pub use stream::{ReadHalf, Stream, WriteHalf};
+pub use transport::{DatagramReceiver, DatagramSender, Datagrams, Receiver, Sender, Transport};
+
+/// The bytes of a key, a secret, an answer of X25519, and a handshake hash.
+pub const KEY_LEN: usize = header::KEY_LEN;
+/// How much longer a transport message is than its payload, in bytes.
+pub const TAG_LEN: usize = header::TAG_LEN;
+/// How much longer a datagram is than its payload, in bytes.
+pub const DATAGRAM_OVERHEAD: usize = header::DATAGRAM_OVERHEAD;
+/// The bytes of the longest message of a handshake or a transport.
+pub const MAX_MESSAGE: usize = header::MAX_MESSAGE;

@@ -1,0 +1,226 @@
+// What include/noise.h declares, and the calls of it: all `unsafe` of this crate is here.
+//
+// Each call is sound since what the header asks of a caller holds by type. Pointers come of references and slices: none is NULL, each leads to as
+// many bytes as its count says, and one that isn't const comes of `&mut`, so no other pointer leads there. The kept structs are aligned to 8
+// by their declaration. A kept struct that is handed in for change comes of `&mut`: one thread has it. What stands in it is tested by the call.
+use crate::header::{KEY_LEN, MAX_PSKS, OK, SIZE_OF_DATAGRAMS, SIZE_OF_HANDSHAKE, SIZE_OF_TRANSPORT};
+use core::sync::atomic::{compiler_fence, Ordering};
+
+#[repr(C, align(8))]
+pub(crate) struct Handshake([u8; SIZE_OF_HANDSHAKE]);
+#[repr(C, align(8))]
+pub(crate) struct Transport([u8; SIZE_OF_TRANSPORT]);
+#[repr(C, align(8))]
+pub(crate) struct Datagrams([u8; SIZE_OF_DATAGRAMS]);
+
+#[repr(C)]
+#[derive(Clone, Copy, Default)]
+pub(crate) struct Key {
+    present: u8,
+    bytes: [u8; KEY_LEN],
+}
+
+#[repr(C)]
+pub(crate) struct Setup {
+    pub(crate) responder: u8,
+    pub(crate) e: Key,
+    pub(crate) s: Key,
+    pub(crate) remote_e: Key,
+    pub(crate) remote_s: Key,
+    pub(crate) psk_count: u8,
+    pub(crate) psks: [[u8; KEY_LEN]; MAX_PSKS],
+}
+
+#[repr(C)]
+#[derive(Default)]
+pub(crate) struct Told {
+    pub(crate) from: usize,
+    pub(crate) len: usize,
+    pub(crate) token: u8,
+    pub(crate) of_static: u8,
+    pub(crate) remote: [u8; KEY_LEN],
+}
+
+#[repr(C)]
+#[derive(Default)]
+pub(crate) struct Stage {
+    pub(crate) messages: u8,
+    pub(crate) passed: u8,
+    pub(crate) ended: u8,
+    pub(crate) writes_next: u8,
+}
+
+extern "C" {
+    fn noise_start(h: *mut Handshake, pattern: *const u8, pattern_len: usize, prologue: *const u8, prologue_len: usize, setup: *const Setup) -> u32;
+    fn noise_answer(h: *mut Handshake, of_static: u8, remote: *const u8, answer: *const u8) -> u32;
+    fn noise_write(h: *mut Handshake, payload: *const u8, payload_len: usize, out: *mut u8, out_len: usize, told: *mut Told) -> u32;
+    fn noise_read(h: *mut Handshake, message: *mut u8, message_len: usize, told: *mut Told) -> u32;
+    fn noise_message_len(h: *const Handshake, payload_len: usize, len: *mut usize) -> u32;
+    fn noise_hash(h: *const Handshake, hash: *mut u8) -> u32;
+    fn noise_remote_static(h: *const Handshake, key: *mut Key) -> u32;
+    fn noise_stage(h: *const Handshake, told: *mut Stage) -> u32;
+    fn noise_finish(h: *const Handshake, interval: u64, t: *mut Transport) -> u32;
+    fn noise_finish_datagrams(h: *const Handshake, window: u32, d: *mut Datagrams) -> u32;
+    fn noise_transport_seal(t: *mut Transport, payload: *const u8, payload_len: usize, out: *mut u8, out_len: usize, told: *mut Told) -> u32;
+    fn noise_transport_open(t: *mut Transport, message: *mut u8, message_len: usize, told: *mut Told) -> u32;
+    fn noise_transport_nonces(t: *const Transport, send: *mut u64, receive: *mut u64) -> u32;
+    fn noise_datagrams_seal(d: *mut Datagrams, payload: *const u8, payload_len: usize, out: *mut u8, out_len: usize, told: *mut Told) -> u32;
+    fn noise_datagrams_open(d: *mut Datagrams, datagram: *mut u8, datagram_len: usize, told: *mut Told) -> u32;
+}
+
+impl Key {
+    pub(crate) fn of(bytes: Option<[u8; KEY_LEN]>) -> Key {
+        bytes.map_or_else(Key::default, |bytes| Key { present: 1, bytes })
+    }
+
+    fn bytes(self) -> Option<[u8; KEY_LEN]> {
+        Some(self.bytes).filter(|_| self.present != 0)
+    }
+}
+
+// Overwrites bytes with zeros, in a way that the compiler keeps.
+pub(crate) fn wipe(bytes: &mut [u8]) {
+    for byte in bytes {
+        // SAFETY: a reference leads to a byte that may be written.
+        unsafe { core::ptr::write_volatile(byte, 0) };
+    }
+    compiler_fence(Ordering::SeqCst);
+}
+
+impl Handshake {
+    // Memory in which nothing is begun: each call on it answers STRUCT.
+    pub(crate) const fn new() -> Handshake {
+        Handshake([0; SIZE_OF_HANDSHAKE])
+    }
+
+    pub(crate) fn start(&mut self, pattern: &[u8], prologue: &[u8], setup: &Setup) -> u32 {
+        // SAFETY: see above.
+        unsafe { noise_start(self, pattern.as_ptr(), pattern.len(), prologue.as_ptr(), prologue.len(), setup) }
+    }
+
+    pub(crate) fn answer(&mut self, of_static: u8, remote: &[u8; KEY_LEN], answer: &[u8; KEY_LEN]) -> u32 {
+        // SAFETY: see above.
+        unsafe { noise_answer(self, of_static, remote.as_ptr(), answer.as_ptr()) }
+    }
+
+    pub(crate) fn write(&mut self, payload: &[u8], out: &mut [u8], told: &mut Told) -> u32 {
+        // SAFETY: see above.
+        unsafe { noise_write(self, payload.as_ptr(), payload.len(), out.as_mut_ptr(), out.len(), told) }
+    }
+
+    pub(crate) fn read(&mut self, message: &mut [u8], told: &mut Told) -> u32 {
+        // SAFETY: see above.
+        unsafe { noise_read(self, message.as_mut_ptr(), message.len(), told) }
+    }
+
+    pub(crate) fn message_len(&self, payload_len: usize) -> Option<usize> {
+        let mut len = 0;
+        // SAFETY: see above.
+        Some(unsafe { noise_message_len(self, payload_len, &mut len) }).filter(|code| *code == OK).map(|_| len)
+    }
+
+    pub(crate) fn hash(&self) -> [u8; KEY_LEN] {
+        let mut hash = [0; KEY_LEN];
+        // SAFETY: see above.
+        unsafe { noise_hash(self, hash.as_mut_ptr()) };
+        hash
+    }
+
+    pub(crate) fn remote_static(&self) -> Option<[u8; KEY_LEN]> {
+        let mut key = Key::default();
+        // SAFETY: see above.
+        unsafe { noise_remote_static(self, &mut key) };
+        key.bytes()
+    }
+
+    pub(crate) fn stage(&self) -> Stage {
+        let mut stage = Stage::default();
+        // SAFETY: see above.
+        unsafe { noise_stage(self, &mut stage) };
+        stage
+    }
+
+    pub(crate) fn finish(&self, interval: u64, transport: &mut Transport) -> u32 {
+        // SAFETY: see above.
+        unsafe { noise_finish(self, interval, transport) }
+    }
+
+    pub(crate) fn finish_datagrams(&self, window: u32, datagrams: &mut Datagrams) -> u32 {
+        // SAFETY: see above.
+        unsafe { noise_finish_datagrams(self, window, datagrams) }
+    }
+}
+
+impl Transport {
+    pub(crate) const fn new() -> Transport {
+        Transport([0; SIZE_OF_TRANSPORT])
+    }
+
+    // Of the two one only seals, and the other only opens: sealing uses and changes the key and the nonce of its direction alone, and so does
+    // opening, so nothing is sealed twice at one nonce.
+    pub(crate) fn for_other_direction(&self) -> Transport {
+        Transport(self.0)
+    }
+
+    pub(crate) fn seal(&mut self, payload: &[u8], out: &mut [u8], told: &mut Told) -> u32 {
+        // SAFETY: see above.
+        unsafe { noise_transport_seal(self, payload.as_ptr(), payload.len(), out.as_mut_ptr(), out.len(), told) }
+    }
+
+    pub(crate) fn open(&mut self, message: &mut [u8], told: &mut Told) -> u32 {
+        // SAFETY: see above.
+        unsafe { noise_transport_open(self, message.as_mut_ptr(), message.len(), told) }
+    }
+
+    pub(crate) fn nonces(&self) -> (u64, u64) {
+        let (mut send, mut receive) = (0, 0);
+        // SAFETY: see above.
+        unsafe { noise_transport_nonces(self, &mut send, &mut receive) };
+        (send, receive)
+    }
+}
+
+impl Datagrams {
+    pub(crate) const fn new() -> Datagrams {
+        Datagrams([0; SIZE_OF_DATAGRAMS])
+    }
+
+    // As of a transport.
+    pub(crate) fn for_other_direction(&self) -> Datagrams {
+        Datagrams(self.0)
+    }
+
+    pub(crate) fn seal(&mut self, payload: &[u8], out: &mut [u8], told: &mut Told) -> u32 {
+        // SAFETY: see above.
+        unsafe { noise_datagrams_seal(self, payload.as_ptr(), payload.len(), out.as_mut_ptr(), out.len(), told) }
+    }
+
+    pub(crate) fn open(&mut self, datagram: &mut [u8], told: &mut Told) -> u32 {
+        // SAFETY: see above.
+        unsafe { noise_datagrams_open(self, datagram.as_mut_ptr(), datagram.len(), told) }
+    }
+}
+
+impl Drop for Handshake {
+    fn drop(&mut self) {
+        wipe(&mut self.0);
+    }
+}
+
+impl Drop for Transport {
+    fn drop(&mut self) {
+        wipe(&mut self.0);
+    }
+}
+
+impl Drop for Datagrams {
+    fn drop(&mut self) {
+        wipe(&mut self.0);
+    }
+}
+
+impl Drop for Setup {
+    fn drop(&mut self) {
+        self.psks.iter_mut().for_each(|psk| wipe(psk));
+    }
+}

@@ -1,0 +1,299 @@
+use crate::header::{MAX_MESSAGE, TAG_LEN};
+use crate::raw::wipe;
+use crate::{Dh, Ephemeral, Error, Handshake, Receiver, Sender};
+use std::io::{self, ErrorKind, Read, Write};
+
+/// A secure channel over anything that reads and writes. Each message has its length in front, in two bytes, the higher first (Noise, 13).
+///
+/// An empty payload says that nothing more will come: `close_write` sends it, and `read` then gives 0. A connection that ends without it is
+/// `ConnectionAborted` between two messages, and `UnexpectedEof` within one.
+pub struct Stream<T> {
+    below: T,
+    reading: Reading,
+    writing: Writing,
+    hash: [u8; 32],
+    remote_static: Option<[u8; 32]>,
+}
+
+/// The half of a `Stream` that reads.
+pub struct ReadHalf<T> {
+    below: T,
+    reading: Reading,
+}
+
+/// The half of a `Stream` that writes.
+pub struct WriteHalf<T> {
+    below: T,
+    writing: Writing,
+}
+
+struct Reading {
+    receiver: Receiver,
+    frames: Frames,
+    rest: (usize, usize), // of the frame: what is opened and isn't read yet
+    ended: Option<Ended>,
+}
+
+#[derive(Clone, Copy)]
+enum Ended {
+    Said,
+    Cut,
+    Within,
+    Refused(Error),
+}
+
+struct Writing {
+    sender: Sender,
+    frame: Vec<u8>,
+    ended: bool,
+    broken: bool,
+}
+
+// Takes frames, and goes on within one where the stream had nothing more for a time.
+#[derive(Default)]
+struct Frames {
+    buffer: Vec<u8>,
+    have: usize,
+}
+
+impl Frames {
+    // The next message stands in buffer[2..]: its end.
+    fn next(&mut self, from: &mut impl Read) -> io::Result<usize> {
+        self.fill(from, 2)?;
+        let end = 2 + usize::from(u16::from_be_bytes([self.buffer[0], self.buffer[1]]));
+        self.fill(from, end)?;
+        self.have = 0;
+        Ok(end)
+    }
+
+    fn fill(&mut self, from: &mut impl Read, wanted: usize) -> io::Result<()> {
+        if self.buffer.len() < wanted {
+            self.buffer.resize(wanted, 0);
+        }
+        while self.have < wanted {
+            match from.read(&mut self.buffer[self.have..wanted]) {
+                Ok(0) if self.have == 0 => return Err(Ended::Cut.into()),
+                Ok(0) => return Err(Ended::Within.into()),
+                Ok(count) => self.have += count,
+                Err(error) if error.kind() == ErrorKind::Interrupted => {}
+                Err(error) => return Err(error),
+            }
+        }
+        Ok(())
+    }
+}
+
+impl From<Ended> for io::Error {
+    fn from(ended: Ended) -> io::Error {
+        match ended {
+            Ended::Said | Ended::Cut => {
+                io::Error::new(ErrorKind::ConnectionAborted, "the connection was cut: the other party didn't say that it was done")
+            }
+            Ended::Within => io::Error::new(ErrorKind::UnexpectedEof, "the connection was cut within a message"),
+            Ended::Refused(error) => error.into(),
+        }
+    }
+}
+
+impl Reading {
+    fn read(&mut self, below: &mut impl Read, into: &mut [u8]) -> io::Result<usize> {
+        if into.is_empty() {
+            return Ok(0);
+        }
+        if self.rest.0 == self.rest.1 && !self.open(below)? {
+            return Ok(0);
+        }
+        let count = into.len().min(self.rest.1 - self.rest.0);
+        into[..count].copy_from_slice(&self.frames.buffer[self.rest.0..self.rest.0 + count]);
+        self.rest.0 += count;
+        Ok(count)
+    }
+
+    // Takes the next message: whether there is one.
+    fn open(&mut self, below: &mut impl Read) -> io::Result<bool> {
+        match self.ended {
+            None => {}
+            Some(Ended::Said) => return Ok(false),
+            Some(ended) => return Err(ended.into()),
+        }
+        let end = self.frames.next(below).map_err(|error| {
+            match error.kind() {
+                ErrorKind::ConnectionAborted => self.ended = Some(Ended::Cut),
+                ErrorKind::UnexpectedEof => self.ended = Some(Ended::Within),
+                _ => {}
+            }
+            error
+        })?;
+        match self.receiver.open(&mut self.frames.buffer[2..end]) {
+            Ok(payload) => self.rest = (2, 2 + payload.len()),
+            Err(error) => {
+                self.ended = Some(Ended::Refused(error));
+                return Err(error.into());
+            }
+        }
+        if self.rest.0 == self.rest.1 {
+            self.ended = Some(Ended::Said);
+        }
+        Ok(self.ended.is_none())
+    }
+}
+
+impl Drop for Reading {
+    fn drop(&mut self) {
+        wipe(&mut self.frames.buffer);
+    }
+}
+
+impl Writing {
+    fn write(&mut self, below: &mut impl Write, bytes: &[u8]) -> io::Result<usize> {
+        let count = bytes.len().min(MAX_MESSAGE - TAG_LEN);
+        if count > 0 {
+            self.send(below, &bytes[..count])?;
+        }
+        Ok(count)
+    }
+
+    fn send(&mut self, below: &mut impl Write, payload: &[u8]) -> io::Result<()> {
+        if self.ended || self.broken {
+            return Err(ErrorKind::BrokenPipe.into());
+        }
+        let len = payload.len() + TAG_LEN;
+        self.frame.resize(2 + len, 0);
+        self.frame[..2].copy_from_slice(&(len as u16).to_be_bytes());
+        self.sender.seal(payload, &mut self.frame[2..])?;
+        self.broken = true; // until all of it is written
+        below.write_all(&self.frame)?;
+        self.broken = false;
+        Ok(())
+    }
+
+    fn close(&mut self, below: &mut impl Write) -> io::Result<()> {
+        if !self.ended {
+            self.send(below, &[])?;
+            self.ended = true;
+        }
+        below.flush()
+    }
+}
+
+impl<T: Read + Write> Stream<T> {
+    /// Passes the handshake over `below`, with empty payloads. `accept` is asked about the other party's static key as soon as that is known,
+    /// before anything else is read or written; it isn't asked where the handshake tells none, as by the pattern NN: see `anonymous`.
+    pub fn new<S: Dh, E: Ephemeral>(below: T, handshake: Handshake<S, E>, accept: impl FnOnce(&[u8; 32]) -> bool) -> io::Result<Stream<T>> {
+        let (stream, asked) = Stream::pass(below, handshake, accept)?;
+        if asked {
+            Ok(stream)
+        } else {
+            Err(Error::Refused.into())
+        }
+    }
+
+    /// Passes a handshake that tells no static key of the other party, or one that nobody judges: by a secret that both have (psk), or with
+    /// anybody.
+    pub fn anonymous<S: Dh, E: Ephemeral>(below: T, handshake: Handshake<S, E>) -> io::Result<Stream<T>> {
+        Ok(Stream::pass(below, handshake, |_| true)?.0)
+    }
+
+    fn pass<S: Dh, E: Ephemeral>(
+        mut below: T,
+        mut handshake: Handshake<S, E>,
+        accept: impl FnOnce(&[u8; 32]) -> bool,
+    ) -> io::Result<(Stream<T>, bool)> {
+        let mut accept = Some(accept);
+        let (mut frames, mut out) = (Frames::default(), vec![0; 2]);
+        loop {
+            if let Some(key) = handshake.remote_static() {
+                if !accept.take().map_or(true, |accept| accept(&key)) {
+                    return Err(Error::Refused.into());
+                }
+            }
+            if handshake.is_done() {
+                break;
+            }
+            if handshake.writes_next() {
+                out.resize(2 + handshake.message_len(0).ok_or(Error::TooLong)?, 0);
+                let len = handshake.write(&[], &mut out[2..])?;
+                out[..2].copy_from_slice(&(len as u16).to_be_bytes());
+                below.write_all(&out)?;
+                below.flush()?;
+            } else {
+                let end = frames.next(&mut below)?;
+                handshake.read(&mut frames.buffer[2..end])?;
+            }
+        }
+        let (hash, remote_static) = (handshake.hash(), handshake.remote_static());
+        let (sender, receiver) = handshake.finish()?.split();
+        let reading = Reading { receiver, frames, rest: (0, 0), ended: None };
+        let writing = Writing { sender, frame: Vec::new(), ended: false, broken: false };
+        Ok((Stream { below, reading, writing, hash, remote_static }, accept.is_none()))
+    }
+}
+
+impl<T> Stream<T> {
+    /// The handshake hash, the same at both ends, for what is bound to the channel (Noise, 11.2).
+    pub fn hash(&self) -> &[u8; 32] {
+        &self.hash
+    }
+
+    /// The other party's static key; none where the handshake told none.
+    pub fn remote_static(&self) -> Option<&[u8; 32]> {
+        self.remote_static.as_ref()
+    }
+
+    /// The stream below. What is read from it or written to it breaks the channel.
+    pub fn get_ref(&self) -> &T {
+        &self.below
+    }
+
+    /// Two halves, for two threads. `clone` makes the second handle of the stream below: `stream.split(TcpStream::try_clone)`.
+    pub fn split(self, clone: impl FnOnce(&T) -> io::Result<T>) -> io::Result<(ReadHalf<T>, WriteHalf<T>)> {
+        let second = clone(&self.below)?;
+        Ok((ReadHalf { below: self.below, reading: self.reading }, WriteHalf { below: second, writing: self.writing }))
+    }
+}
+
+impl<T: Write> Stream<T> {
+    /// Says that nothing more will come: `read` at the other end gives 0. What that writes can still be read.
+    pub fn close_write(&mut self) -> io::Result<()> {
+        self.writing.close(&mut self.below)
+    }
+}
+
+impl<T: Write> WriteHalf<T> {
+    /// As of `Stream`.
+    pub fn close_write(&mut self) -> io::Result<()> {
+        self.writing.close(&mut self.below)
+    }
+}
+
+impl<T: Read> Read for Stream<T> {
+    fn read(&mut self, into: &mut [u8]) -> io::Result<usize> {
+        self.reading.read(&mut self.below, into)
+    }
+}
+
+impl<T: Read> Read for ReadHalf<T> {
+    fn read(&mut self, into: &mut [u8]) -> io::Result<usize> {
+        self.reading.read(&mut self.below, into)
+    }
+}
+
+impl<T: Write> Write for Stream<T> {
+    fn write(&mut self, bytes: &[u8]) -> io::Result<usize> {
+        self.writing.write(&mut self.below, bytes)
+    }
+
+    fn flush(&mut self) -> io::Result<()> {
+        self.below.flush()
+    }
+}
+
+impl<T: Write> Write for WriteHalf<T> {
+    fn write(&mut self, bytes: &[u8]) -> io::Result<usize> {
+        self.writing.write(&mut self.below, bytes)
+    }
+
+    fn flush(&mut self) -> io::Result<()> {
+        self.below.flush()
+    }
+}

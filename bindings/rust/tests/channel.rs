@@ -1,0 +1,254 @@
+// Handshakes, transports, datagrams and streams, with a key agreement that is none: what these tests look at doesn't depend on it.
+use std::io::{self, ErrorKind, Read, Write};
+use std::net::{TcpListener, TcpStream};
+use std::sync::atomic::{AtomicU8, Ordering};
+use yulimosar::{Builder, Dh, Ephemeral, Error, Handshake, NoKey, Stream};
+
+#[derive(Clone, Copy)]
+struct Toy(u8);
+
+static DRAWN: AtomicU8 = AtomicU8::new(100);
+
+impl Dh for Toy {
+    fn public(&self) -> [u8; 32] {
+        [self.0; 32]
+    }
+
+    fn agree(&self, remote: &[u8; 32]) -> Option<[u8; 32]> {
+        Some([self.0.wrapping_mul(remote[0]) | 1; 32]).filter(|_| remote != &[0; 32])
+    }
+}
+
+impl Ephemeral for Toy {
+    fn draw() -> Option<Toy> {
+        Some(Toy(DRAWN.fetch_add(2, Ordering::Relaxed) | 1))
+    }
+}
+
+const PSK: [u8; 32] = [7; 32];
+
+fn builder(pattern: &str, own: Toy, other: Toy, initiator: bool) -> Builder<'_, Toy> {
+    let mut builder = Builder::new(pattern).prologue(b"test").static_key(own);
+    let letters = pattern.split("psk").next().unwrap().as_bytes();
+    if letters[if initiator { letters.len() - 1 } else { 0 }] == b'K' || letters.len() == 1 && initiator {
+        builder = builder.remote_static(&other.public());
+    }
+    if pattern.contains("psk") {
+        builder = builder.psk(&PSK);
+    }
+    builder
+}
+
+type Party = Handshake<Toy, Toy>;
+
+fn begun(pattern: &str) -> (Party, Party) {
+    let (client, server) = (Toy(3), Toy(5));
+    (builder(pattern, client, server, true).initiator().unwrap(), builder(pattern, server, client, false).responder().unwrap())
+}
+
+fn done(pattern: &str) -> (Party, Party) {
+    let (mut client, mut server) = begun(pattern);
+    let mut message = [0; 1000];
+    while !client.is_done() || !server.is_done() {
+        let (writer, reader) = if client.writes_next() { (&mut client, &mut server) } else { (&mut server, &mut client) };
+        assert_eq!(reader.write(b"", &mut [0; 100]), Err(Error::NotYourTurn));
+        let len = writer.write(b"payload", &mut message).unwrap();
+        assert_eq!(reader.read(&mut message[..len]).unwrap(), b"payload");
+    }
+    (client, server)
+}
+
+fn patterns() -> Vec<String> {
+    let mut all = Vec::new();
+    for base in "N K X NN NK NX KN KK KX XN XK XX IN IK IX".split(' ') {
+        let messages = if base.len() == 1 { 1 } else { 2 + usize::from(base.starts_with('X')) };
+        all.push(base.to_owned());
+        all.extend((0..=messages).map(|place| format!("{base}psk{place}")));
+    }
+    all
+}
+
+#[test]
+fn every_pattern_makes_a_transport() {
+    for pattern in patterns() {
+        let (client, server) = done(&pattern);
+        assert_eq!(client.hash(), server.hash());
+        let (mut client, mut server) = (client.finish().unwrap(), server.finish().unwrap());
+        let mut message = [0; 21];
+        assert_eq!(client.seal(b"hello", &mut message), Ok(21));
+        assert_eq!(server.open(&mut message).unwrap(), b"hello");
+        assert_eq!(server.seal(b"hello", &mut message).is_err(), pattern.split("psk").next().unwrap().len() == 1);
+    }
+}
+
+#[test]
+fn builds_are_refused() {
+    let fault = |builder: Builder<Toy>| builder.initiator::<Toy>().err().unwrap();
+    let own = || Builder::new("XX").static_key(Toy(3));
+    assert_eq!(fault(Builder::new("ZZ").static_key(Toy(3))), Error::Name);
+    assert_eq!(fault(Builder::new(&"X".repeat(1000)).static_key(Toy(3))), Error::Name);
+    assert_eq!(fault(Builder::new("NN:\n  -> ee\n").static_key(Toy(3))), Error::Pattern);
+    assert_eq!(Builder::<NoKey>::new("XX").initiator::<Toy>().err(), Some(Error::StaticMissing));
+    assert_eq!(fault(Builder::new("NK").static_key(Toy(3))), Error::RemoteMissing);
+    assert_eq!(fault(own().remote_static(&[1; 32])), Error::RemoteUnexpected);
+    assert_eq!(fault(own().psk(&PSK)), Error::PskCount);
+    assert_eq!(fault((0..300).fold(own(), |builder, _| builder.psk(&PSK))), Error::PskCount);
+    assert_eq!(fault(own().prologue(&[0; 65536])), Error::TooLong);
+}
+
+#[test]
+fn refusals_of_a_handshake() {
+    let (mut client, mut server) = begun("XX");
+    assert_eq!(server.read(&mut [1; 31]), Err(Error::Short { token: Some(0) }));
+    assert_eq!(server.read(&mut [1; 32]), Err(Error::Ended));
+    let mut message = [0; 200];
+    assert_eq!(client.write(b"", &mut message[..31]), Err(Error::Room));
+    assert_eq!(client.message_len(5), Some(37));
+    let len = client.write(b"", &mut message).unwrap();
+    let (_, mut server) = begun("XX");
+    server.read(&mut message[..len]).unwrap();
+    let len = server.write(b"", &mut message).unwrap();
+    message[len - 1] ^= 1;
+    assert_eq!(client.read(&mut message[..len]), Err(Error::Tag { token: Some(4) }));
+    assert_eq!(client.finish().err(), Some(Error::Ended));
+    assert_eq!(server.finish().err(), Some(Error::NotDone));
+}
+
+#[test]
+fn halves_are_the_transport() {
+    let (client, server) = done("KK");
+    let ((mut seals, mut opens), mut server) = (client.finish().unwrap().split(), server.finish().unwrap());
+    for i in 0..5 {
+        let (mut there, mut back) = ([0; 17], [0; 17]);
+        seals.seal(&[i], &mut there).unwrap();
+        server.seal(&[i], &mut back).unwrap();
+        assert_eq!(server.open(&mut there).unwrap(), [i]);
+        assert_eq!(opens.open(&mut back.clone()).unwrap(), [i]);
+        assert_eq!(opens.open(&mut back), Err(Error::Tag { token: None }));
+        assert_eq!((seals.nonce(), opens.nonce()), (u64::from(i) + 1, u64::from(i) + 1));
+    }
+}
+
+#[test]
+fn datagrams_come_in_any_order_and_once() {
+    let (client, server) = done("IK");
+    let (mut client, mut server) = (client.finish_datagrams(64).unwrap(), server.finish_datagrams(64).unwrap());
+    let sealed: Vec<[u8; 25]> = (0..100)
+        .map(|i| {
+            let mut datagram = [0; 25];
+            client.seal(&[i], &mut datagram).unwrap();
+            datagram
+        })
+        .collect();
+    for i in [0, 5, 3, 99, 40] {
+        assert_eq!(server.open(&mut sealed[i].clone()).unwrap(), [i as u8]);
+        assert_eq!(server.open(&mut sealed[i].clone()), Err(Error::Repeated));
+    }
+    assert_eq!(server.open(&mut sealed[35].clone()), Err(Error::Old));
+    let mut short = sealed[36];
+    assert_eq!(server.open(&mut short[..23]), Err(Error::Short { token: None }));
+    assert_eq!(done("IK").0.finish_datagrams(65).err(), Some(Error::Window));
+}
+
+fn tcp() -> (TcpStream, TcpStream) {
+    let listener = TcpListener::bind("127.0.0.1:0").unwrap();
+    let client = TcpStream::connect(listener.local_addr().unwrap()).unwrap();
+    (client, listener.accept().unwrap().0)
+}
+
+fn streams() -> (Stream<TcpStream>, Stream<TcpStream>) {
+    let ((a, b), (client, server)) = (tcp(), begun("XX"));
+    let server = std::thread::spawn(move || Stream::new(b, server, |key| key == &[3; 32]).unwrap());
+    (Stream::new(a, client, |key| key == &[5; 32]).unwrap(), server.join().unwrap())
+}
+
+#[test]
+fn streams_carry_all_both_ways_at_once() {
+    let (client, server) = streams();
+    assert_eq!(client.hash(), server.hash());
+    assert_eq!(server.remote_static(), Some(&[3; 32]));
+    let sent: Vec<u8> = (0..300_000_u32).map(|i| i as u8).collect();
+    let ends = [client, server].map(|stream| {
+        let ((mut reads, mut writes), sent) = (stream.split(TcpStream::try_clone).unwrap(), sent.clone());
+        let writer = std::thread::spawn(move || writes.write_all(&sent).and_then(|_| writes.close_write()).unwrap());
+        let reader = std::thread::spawn(move || {
+            let mut got = Vec::new();
+            reads.read_to_end(&mut got).unwrap();
+            got
+        });
+        (writer, reader)
+    });
+    for (writer, reader) in ends {
+        writer.join().unwrap();
+        assert!(reader.join().unwrap() == sent);
+    }
+}
+
+#[test]
+fn ends_of_a_stream() {
+    let kind = |bytes: &[u8]| {
+        let (client, mut server) = streams();
+        client.get_ref().write_all(bytes).unwrap();
+        drop(client);
+        let first = server.read(&mut [0; 9]).unwrap_err().kind();
+        assert_eq!(server.read(&mut [0; 9]).unwrap_err().kind(), first);
+        first
+    };
+    assert_eq!(kind(&[]), ErrorKind::ConnectionAborted);
+    assert_eq!(kind(&[0]), ErrorKind::UnexpectedEof);
+    assert_eq!(kind(&[0, 9, 1]), ErrorKind::UnexpectedEof);
+    assert_eq!(kind(&[0, 2, 1, 1]), ErrorKind::InvalidData);
+    assert_eq!(kind(&[&[0, 30], &[1; 30][..]].concat()), ErrorKind::InvalidData);
+    let (mut client, mut server) = streams();
+    client.close_write().unwrap();
+    assert_eq!(server.read(&mut [0; 9]).unwrap(), 0);
+    assert_eq!(client.write(b"x").unwrap_err().kind(), ErrorKind::BrokenPipe);
+}
+
+#[test]
+fn the_other_key_is_judged() {
+    let ((a, b), (client, server)) = (tcp(), begun("XX"));
+    let server = std::thread::spawn(move || Stream::new(b, server, |_| true).err().map(|error| error.kind()));
+    let refused = Stream::new(a, client, |_| false).err().unwrap();
+    assert_eq!(refused.get_ref().unwrap().to_string(), Error::Refused.to_string());
+    assert_eq!(server.join().unwrap(), Some(ErrorKind::ConnectionAborted));
+}
+
+// A stream that has these bytes to read.
+struct Script<'a>(&'a [u8]);
+
+impl Read for Script<'_> {
+    fn read(&mut self, into: &mut [u8]) -> io::Result<usize> {
+        self.0.read(into)
+    }
+}
+
+impl Write for Script<'_> {
+    fn write(&mut self, bytes: &[u8]) -> io::Result<usize> {
+        Ok(bytes.len())
+    }
+
+    fn flush(&mut self) -> io::Result<()> {
+        Ok(())
+    }
+}
+
+#[test]
+fn no_bytes_of_the_wire_make_a_stream() {
+    let mut state = 1_u64;
+    let mut next = || {
+        state = state.wrapping_mul(6364136223846793005).wrapping_add(1442695040888963407);
+        (state >> 33) as usize
+    };
+    let patterns = patterns();
+    for _ in 0..3000 {
+        let (client, server) = begun(&patterns[next() % patterns.len()]);
+        let mut wire: Vec<u8> = (0..next() % 300).map(|_| next() as u8).collect();
+        if wire.len() > 2 {
+            wire[0] = 0;
+        }
+        let party = if next() % 2 == 0 { client } else { server };
+        let byte = Stream::anonymous(Script(&wire), party).and_then(|mut stream| stream.read(&mut [0]));
+        assert!(byte.is_err());
+    }
+}
