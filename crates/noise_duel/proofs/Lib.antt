@@ -27,3 +27,4 @@ pub mod Received
 pub mod DatagramHappening
 pub mod DatagramAgreeing
 pub mod DatagramRunOnce
+pub mod Clash

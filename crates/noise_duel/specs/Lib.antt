@@ -24,3 +24,4 @@ pub mod DatagramRuns
 pub mod DatagramReports
 pub mod OneDatagram
 pub mod DatagramAgreement
+pub mod Clash

@@ -3,6 +3,7 @@
 
 ghost use Rattle.noise_duel.specs.Agreement.{HashTells, SecretsTell, KeysTell, KnowEachOther, VisiblyEqualIsOne};
 ghost use Rattle.noise_duel.specs.Below.{LawsBelow};
+ghost use Rattle.noise_duel.specs.Clash.{ClashStands, ClashFound, ClashTold};
 ghost use Rattle.noise_duel.specs.Invariant.{EndsStand};
 ghost use Rattle.noise_duel.specs.Conversation.{LinesComeThrough, LinesRun};
 ghost use Rattle.noise_duel.specs.OwnFrames.{EndsFrame};
@@ -86,4 +87,14 @@ pub fn alike_are_parts()
     ensures { AlikeAreParts }
 {
     laws_below();
+}
+
+/// The position of a collision, computed from the texts that two histories hashed (`clash_position`): at it two texts differ with one digest, it is there
+/// where any two collide, and so it is where two opened ends have one hash and different conversations.
+pub fn clash_told()
+    ensures stands { ClashStands }
+    ensures found { ClashFound }
+    ensures told { ClashTold }
+{
+    ends_agree();
 }

@@ -1,0 +1,109 @@
+-- The first position at which two histories clash.
+use Rattle.std.proofs.Common.{◌≡◌, ◌≢◌, ◌≤◌, ◌+◌, ℕ, zero, suc, List, [], ◌∷◌, refl, ap, sym, subst, ◌∙◌, arith, ◌⊎◌, inl, inr, slice_get}
+use Rattle.std.specs.Prelude.{Bool, true, false, not, ◌&&◌, Option, Some, None, if◌then◌else◌, bytes_eq}
+use Rattle.std.proofs.lemmas.Slice.Eq.{bytes_eq-Decides}
+use Rattle.sha2.specs.Sha256.{sha256}
+use Rattle.noise_state.specs.History.{History}
+use Rattle.noise_duel.specs.Clash.{clash, first_clash, clash_position, ClashStands, ClashFound, ClashTold}
+use Rattle.noise_duel.specs.Collision.{hash_texts, CollisionAt, Collision}
+use Rattle.noise_duel.specs.Networks.{HashesTell}
+
+left-true : (a b : Bool) → (a && b) ≡ true → a ≡ true
+left-true true b h = refl
+left-true false b h = absurd (cc)
+
+right-true : (a b : Bool) → (a && b) ≡ true → b ≡ true
+right-true true b h = h
+right-true false b h = absurd (cc)
+
+both-true : (a b : Bool) → a ≡ true → b ≡ true → (a && b) ≡ true
+both-true true b e f = f
+both-true false b e f = absurd (cc)
+
+not-both : (b : Bool) → not b ≡ true → b ≡ true → ⊥
+not-both true e f = cc
+not-both false e f = cc
+
+not-true : (b : Bool) → (b ≡ true → ⊥) → not b ≡ true
+not-true true f = absurd (f refl)
+not-true false f = refl
+
+clash-differs : (x y : List ℕ) → clash x y ≡ true → x ≢ y
+clash-differs x y h e = not-both (bytes_eq x y) (left-true (not (bytes_eq x y)) (bytes_eq (sha256 x) (sha256 y)) h) ((bytes_eq-Decides x y).1 e)
+
+clash-same : (x y : List ℕ) → clash x y ≡ true → sha256 x ≡ sha256 y
+clash-same x y h = (bytes_eq-Decides (sha256 x) (sha256 y)).0 (right-true (not (bytes_eq x y)) (bytes_eq (sha256 x) (sha256 y)) h)
+
+is-clash : (x y : List ℕ) → x ≢ y → sha256 x ≡ sha256 y → clash x y ≡ true
+is-clash x y f e =
+    both-true (not (bytes_eq x y)) (bytes_eq (sha256 x) (sha256 y)) (not-true (bytes_eq x y) (λ t. f ((bytes_eq-Decides x y).0 t)))
+    ((bytes_eq-Decides (sha256 x) (sha256 y)).1 e)
+
+same-some : (m n : ℕ) → Some m ≡ Some n → m ≡ n
+same-some m n e = cc
+
+later : (x y : List ℕ) (xs ys : List (List ℕ)) (k : ℕ) → CollisionAt xs ys k → CollisionAt (x ∷ xs) (y ∷ ys) (suc k)
+later x y xs ys k c = record { left = c.left; right = c.right; at_left = c.at_left; at_right = c.at_right; differ = c.differ; same = c.same }
+
+abbrev StandsFrom : ℕ → ℕ → List (List ℕ) → List (List ℕ) → Type 0
+StandsFrom n i xs ys = (k : ℕ) × (i ≡ n + k) × CollisionAt xs ys k
+
+stands-by : (b : Bool) (n i : ℕ) (x y : List ℕ) (xs ys : List (List ℕ)) → clash x y ≡ b
+    → (if b then Some n else first_clash (n + 1) xs ys) ≡ Some i → (first_clash (n + 1) xs ys ≡ Some i → StandsFrom (n + 1) i xs ys)
+    → StandsFrom n i (x ∷ xs) (y ∷ ys)
+stands-by true n i x y xs ys c e more =
+    let here : n ≡ i = same-some n i e in
+    (0, omega arith, record { left = x; right = y; at_left = refl; at_right = refl; differ = clash-differs x y c; same = clash-same x y c })
+stands-by false n i x y xs ys c e more =
+    let r = more e in
+    let count : i ≡ (n + 1) + r.0 = r.1 in
+    (suc r.0, omega arith, later x y xs ys r.0 r.2)
+
+stands-from : (n i : ℕ) (xs ys : List (List ℕ)) → first_clash n xs ys ≡ Some i → StandsFrom n i xs ys
+stands-from n i [] ys e = absurd (cc)
+stands-from n i (x ∷ xs) [] e = absurd (cc)
+stands-from n i (x ∷ xs) (y ∷ ys) e = stands-by (clash x y) n i x y xs ys refl e (stands-from (n + 1) i xs ys)
+
+abbrev FoundFrom : ℕ → ℕ → List (List ℕ) → List (List ℕ) → Type 0
+FoundFrom n k xs ys = (j : ℕ) × (first_clash n xs ys ≡ Some j) × (j ≤ n + k)
+
+found-by : (b : Bool) (n k : ℕ) (x y : List ℕ) (xs ys : List (List ℕ)) → clash x y ≡ b → CollisionAt (x ∷ xs) (y ∷ ys) k
+    → ((m : ℕ) → CollisionAt xs ys m → FoundFrom (n + 1) m xs ys)
+    → (j : ℕ) × ((if b then Some n else first_clash (n + 1) xs ys) ≡ Some j) × (j ≤ n + k)
+found-by true n k x y xs ys c at more = (n, refl, omega arith)
+found-by false n zero x y xs ys c at more =
+    let left : x ≡ at.left = let e = at.at_left in cc in
+    let right : y ≡ at.right = let e = at.at_right in cc in
+    let clashes = is-clash x y (λ e. at.differ (sym left ∙ (e ∙ right))) (ap sha256 left ∙ at.same ∙ sym (ap sha256 right)) in
+    absurd (let both : false ≡ true = sym c ∙ clashes in cc)
+found-by false n (suc k) x y xs ys c at more =
+    let r =
+    more k (record { left = at.left; right = at.right; at_left = at.at_left; at_right = at.at_right; differ = at.differ; same = at.same }) in
+    let low : r.0 ≤ (n + 1) + k = r.2 in
+    (r.0, r.1, omega arith)
+
+found-from : (n k : ℕ) (xs ys : List (List ℕ)) → CollisionAt xs ys k → FoundFrom n k xs ys
+found-from n k [] ys c = absurd (let e = c.at_left in cc)
+found-from n k (x ∷ xs) [] c = absurd (let e = c.at_right in cc)
+found-from n k (x ∷ xs) (y ∷ ys) c = found-by (clash x y) n k x y xs ys refl c (λ m. found-from (n + 1) m xs ys)
+
+pub clash-stands : ClashStands
+unfolding clash_position
+clash-stands r s i e =
+    let w = stands-from 0 i (hash_texts r) (hash_texts s) e in
+    let same : w.0 ≡ i = let count : i ≡ 0 + w.0 = w.1 in omega arith in
+    subst (λ (k : ℕ). CollisionAt (hash_texts r) (hash_texts s) k) same w.2
+
+pub clash-found : ClashFound
+unfolding clash_position
+clash-found r s i c =
+    let w = found-from 0 i (hash_texts r) (hash_texts s) c in
+    let low : w.0 ≤ 0 + i = w.2 in
+    (w.0, w.1, omega arith)
+
+pub clash-told : HashesTell → ClashTold
+clash-told tell p a b i j events notes d run one differ =
+    elim (tell p a b i j events notes d run one) [
+      | inl same ↦ absurd (differ same)
+      | inr c ↦ (let w = clash-found _ _ c.0 c.1 in (w.0, w.1, clash-stands _ _ w.0 w.1))
+    ]
