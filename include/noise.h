@@ -41,6 +41,11 @@
            if (code != NOISE_OK) fail();
            if (stage.writes_next) send(message, told.len);   // else the payload is the told.len bytes of message from told.from on
        }
+       if (code != NOISE_OK) fail();
+       noise_key remote;
+       if (noise_transport_remote_static(&t, &remote) != NOISE_OK) fail();
+       if (!remote.present || memcmp(remote.bytes, expected_remote_static, 32) != 0) fail();
+       noise_wipe(&h, sizeof h);                             // and t, when it is done with
 
    FRAMES. A message doesn't say how long it is. Over a stream send its length in front of it, in two bytes, the higher first (Noise, 13);
    a datagram of a network needs none:
@@ -59,7 +64,8 @@
        }
 
    WHAT IS TESTED. What a caller can get wrong in a value is told by a number, and no number of bytes, no count and no content of a kept
-   struct makes a call stop the process or touch memory that it wasn't handed: NOISE_STRUCT is told for a struct that stands for nothing.
+   struct makes a call stop the process or touch memory that it wasn't handed: NOISE_STRUCT is told for a struct that stands for nothing, by each call
+   but noise_answer, which only counts the answers: the call after it tells.
 
    WHAT CAN'T BE TESTED, AND IS THE CALLER'S TO KEEP
    - No pointer is NULL, also where its count is 0. Each leads to as many bytes as its count or its type says.
@@ -68,13 +74,16 @@
    - A kept struct stands at an address that is a multiple of 8, as its declaration here has it.
    - A kept struct is used by one thread at a time. Different ones may be used at once: there is no other state.
    - A copy of a kept struct is never used beside the original. Both would seal at the same nonce under the same key, which shows what was
-     sealed. To move a struct is fine; so is to try a message that came on a copy that is then thrown away.
+     sealed. To move a struct is fine; so is to try a message that came on a copy that is then thrown away. And so, for two threads, is a copy
+     of a noise_transport or a noise_datagrams where from then on one of the two only seals and the other only opens: either call uses and
+     changes what belongs to its own direction alone. Overwrite both.
    - A new ephemeral key pair for each handshake. One that has served before makes the same keys again.
    - An answer of X25519 that is all zeros: whoever wants such a key refused (Noise, 12.1) doesn't hand it in, and ends there.
    - The other party's static key: noise_remote_static tells it; nothing compares it with the one that was expected.
 
    WHICH BYTES STAY. Secrets (psks), answers and keys stand in the kept structs, also behind an end: overwrite a noise_handshake behind
-   noise_finish, and each struct when it is done with. What a call leaves on the stack isn't overwritten. A call takes at most some 26 KB of it.
+   noise_finish, and each struct when it is done with, by noise_wipe. What a call leaves on the stack isn't overwritten. A call takes at most
+   14 KB of it, as measured.
 
    A CHANGE OF THE LIBRARY. A caller that may meet another build of it than that of this header compares noise_handshake_size() with
    sizeof(noise_handshake), and so on, before anything else. */
@@ -200,6 +209,12 @@ typedef struct {
     uint8_t messages;              /* OK: how many messages the pattern has */
 } noise_pattern_told;
 
+/* Overwrites bytes with zeros, in a way that no compiler leaves out. */
+static inline void noise_wipe(void *at, size_t len) {
+    volatile unsigned char *byte = (volatile unsigned char *)at;
+    while (len--) *byte++ = 0;
+}
+
 /* HANDSHAKES */
 
 /* How many bytes a noise_handshake has. */
@@ -222,6 +237,7 @@ uint32_t noise_start(noise_handshake *h, const uint8_t *pattern, size_t pattern_
 
 /* Hands in what X25519 makes of one of this party's secret keys, the static one's or (of_static 0) the ephemeral one's, and a public key of the
    other: after NOISE_WANTED those that told names.
+   Of several answers of one key pair to one key the first counts.
    OK · FULL: 8 were handed in already, and nothing is changed. A handshake asks for at most four, each once; so only a party that hands in
    answers nobody has asked for, or answers for messages that it then doesn't read or write, comes to this: it starts anew. */
 uint32_t noise_answer(noise_handshake *h, uint8_t of_static, const uint8_t remote[32], const uint8_t answer[32]);

@@ -8,6 +8,6 @@ void write_all(const uint8_t *at, size_t len);
 void read_all(uint8_t *at, size_t len);
 bool x25519(const uint8_t secret[32], const uint8_t remote[32], uint8_t answer[32]);
 extern const bool is_responder;
-extern const uint8_t own_ephemeral_public[32], own_static_public[32], own_static_secret[32], own_ephemeral_secret[32], prologue[];
+extern const uint8_t own_ephemeral_public[32], own_static_public[32], own_static_secret[32], own_ephemeral_secret[32], prologue[], expected_remote_static[32];
 extern const size_t prologue_len;
 extern uint8_t message[65535], answer[32];
