@@ -18,11 +18,11 @@ export function checkPattern(text) {
   const bytes = encoder.encode(text);
   if (bytes.length > 65536) return { valid: false, code: code.LIMIT, name: 'NOISE_LIMIT', line: 1 };
   const number = lib.x.noise_check_pattern(...lib.put('prologue', bytes), lib.at.told);
-  const data = lib.data(lib.at.told, 12);
-  if (number === code.OK) return { valid: true, messages: data.getUint8(11) };
+  const [rule, message, token, messages] = lib.view(lib.at.told + 8n, 4);
+  if (number === code.OK) return { valid: true, messages };
   const fault = { valid: false, code: number, name: new NoiseError(number).name };
-  if (number !== code.RULE) return { ...fault, line: Number(data.getBigUint64(0, true)) };
-  return { ...fault, rule: data.getUint8(8), message: data.getUint8(9), token: data.getUint8(10) };
+  if (number !== code.RULE) return { ...fault, line: Number(lib.number(lib.at.told)) };
+  return { ...fault, rule, message, token };
 }
 
 /** One party of a handshake, from its first message to its last. */
@@ -109,16 +109,17 @@ export class Handshake {
         must(number, number === code.SHORT || number === code.TAG ? told.token : undefined);
         return told;
       }
-      const answer = await this.#agree(told);
+      const remote = lib.wanted();
+      const answer = await this.#agree(told.ofStatic, remote);
       const place = this.#here();
-      lib.view(lib.at.told + 18n, 32).set(told.remote);
+      lib.view(lib.at.told + 18n, 32).set(remote);
       const taken = lib.x.noise_answer(place, told.ofStatic, lib.at.told + 18n, lib.put('answer', answer)[0]);
       lib.wipe('answer');
       must(taken);
     }
   }
 
-  async #agree({ ofStatic, remote }) {
+  async #agree(ofStatic, remote) {
     let answer;
     try {
       answer = await (ofStatic ? this.#static : this.#ephemeral).agree(remote);
@@ -169,7 +170,7 @@ export class Handshake {
     if (!Number.isSafeInteger(payloadLength) || payloadLength < 0) throw new RangeError('payloadLength has to be a number of bytes');
     const lib = library();
     must(lib.x.noise_message_len(this.#here(), BigInt(payloadLength), lib.at.number));
-    return Number(lib.data(lib.at.number, 8).getBigUint64(0, true));
+    return Number(lib.number(lib.at.number));
   }
 
   /** The handshake hash so far. Before the first call of `write` or `read` an ephemeral key of a pre-message isn't drawn yet. */

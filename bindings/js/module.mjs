@@ -72,6 +72,9 @@ const PAGE = 65536;
 
 /** An instance, and the places in its memory: `at` for what one call needs, `take` and `free` for what is kept. */
 class Library {
+  #bytes;
+  #data;
+
   constructor(instance) {
     this.x = instance.exports;
     this.memory = this.x.memory;
@@ -83,6 +86,7 @@ class Library {
     this.kept = { handshake: [], transport: [], datagrams: [] };
     this.next = this.memory.buffer.byteLength;
     this.end = this.next;
+    this.#see();
     this.at = Object.fromEntries(Object.entries(SCRATCH).map(([name, size]) => [name, this.#place(size)]));
   }
 
@@ -94,28 +98,38 @@ class Library {
       // Node 20's memory64 takes a number here, and engines of the final proposal a BigInt.
       try { this.memory.grow(BigInt(pages)); } catch { this.memory.grow(pages); }
       this.end += pages * PAGE;
+      this.#see();
     }
     return BigInt(place);
   }
 
-  /** The bytes at a place. The view holds until the next call of `take`. */
-  view(place, size) {
-    return new Uint8Array(this.memory.buffer, Number(place), size);
+  /** Takes views of the whole memory: those that were taken before it grew see nothing any more. Only JavaScript makes it grow. */
+  #see() {
+    this.#bytes = new Uint8Array(this.memory.buffer);
+    this.#data = new DataView(this.memory.buffer);
   }
 
-  data(place, size) {
-    return new DataView(this.memory.buffer, Number(place), size);
+  /** The bytes at a place. The view holds until the next call of `take`. */
+  view(place, size) {
+    const start = Number(place);
+    return this.#bytes.subarray(start, start + size);
+  }
+
+  /** The number of 8 bytes at a place. */
+  number(place) {
+    return this.#data.getBigUint64(Number(place), true);
   }
 
   /** Copies bytes to a place of one call, and gives the place and the length as the exports take them. */
   put(name, bytes) {
     if (bytes.length > SCRATCH[name]) throw new NoiseError(name === 'message' ? code.TOO_LONG : code.LENGTH);
-    this.view(this.at[name], bytes.length).set(bytes);
+    this.#bytes.set(bytes, Number(this.at[name]));
     return [this.at[name], BigInt(bytes.length)];
   }
 
   wipe(name, size = SCRATCH[name]) {
-    this.view(this.at[name], size).fill(0);
+    const start = Number(this.at[name]);
+    this.#bytes.fill(0, start, start + size);
   }
 
   /** A place for a struct that is kept. */
@@ -131,14 +145,18 @@ class Library {
 
   /** What the last call has told. */
   told() {
-    const data = this.data(this.at.told, 56);
+    const start = Number(this.at.told);
     return {
-      from: Number(data.getBigUint64(0, true)),
-      len: Number(data.getBigUint64(8, true)),
-      token: data.getUint8(16),
-      ofStatic: data.getUint8(17),
-      remote: this.view(this.at.told + 18n, 32).slice(),
+      from: Number(this.#data.getBigUint64(start, true)),
+      len: Number(this.#data.getBigUint64(start + 8, true)),
+      token: this.#bytes[start + 16],
+      ofStatic: this.#bytes[start + 17],
     };
+  }
+
+  /** The other party's public key for which the last call wants an answer. */
+  wanted() {
+    return this.view(this.at.told + 18n, 32).slice();
   }
 
   /** The 32 bytes that a call writes to its last pointer. */

@@ -71,8 +71,7 @@ export class Transport extends Sealed {
   get nonces() {
     const lib = library();
     must(lib.x.noise_transport_nonces(this.place, lib.at.number, lib.at.number + 8n));
-    const data = lib.data(lib.at.number, 16);
-    return { send: data.getBigUint64(0, true), receive: data.getBigUint64(8, true) };
+    return { send: lib.number(lib.at.number), receive: lib.number(lib.at.number + 8n) };
   }
 
   /** Two halves in the place of this object, which is used up: one seals, the other opens. `dispose` of either overwrites both. */
@@ -105,7 +104,7 @@ export class Datagrams extends Sealed {
   get nonce() {
     const lib = library();
     must(lib.x.noise_datagrams_nonce(this.place, lib.at.number));
-    return lib.data(lib.at.number, 8).getBigUint64(0, true);
+    return lib.number(lib.at.number);
   }
 }
 for (const Kind of [Transport, Datagrams]) if (Symbol.dispose) Kind.prototype[Symbol.dispose] = Kind.prototype.dispose;
