@@ -186,12 +186,20 @@ async function figures() {
   report(`first verdict ${first.toFixed(0)} ms behind the load, ${key.toFixed(2)} ms a key, both ends of XX ${ratio.toFixed(2)} times six X25519 calls, sealing 16 KiB ${rate.toFixed(0)} MB/s`);
 }
 
+/** How far the page's parts moved while it loaded, as Chromium counts it. */
+const SHIFT = `new Promise((done) => {
+  let sum = 0;
+  new PerformanceObserver((list) => { for (const { value, hadRecentInput } of list.getEntries()) if (!hadRecentInput) sum += value; }).observe({ type: 'layout-shift', buffered: true });
+  setTimeout(() => done(sum), 200);
+})`;
+
 async function pictures() {
   for (const [name, width, height, dark] of [['page-wide', 1100, 1010, false], ['page-wide-dark', 1100, 1010, true], ['page-phone', 390, 844, false], ['page-phone-dark', 390, 844, true]]) {
     await browser.send('Emulation.setDeviceMetricsOverride', { width, height, deviceScaleFactor: 1, mobile: width < 500 });
     await open();
-    if (!name.includes('phone')) await type('pick', 'IK');
     assert.ok(await browser.evaluate('document.scrollingElement.scrollWidth <= innerWidth'), `${name} is too wide`);
+    assert.ok(await browser.evaluate(SHIFT) < 0.02, `${name} shifts while it loads`);
+    if (!name.includes('phone')) await type('pick', 'IK');
     await begin();
     await click('#all');
     await browser.until('document.getElementById("all").disabled');
