@@ -2,5 +2,6 @@ pub mod ConversionLemmas
 pub mod EndLemmas
 pub mod OneRunLemmas
 pub mod PerformingLemmas
+pub mod Shortness
 pub mod PrintedLemmas
 pub mod RunningLemmas

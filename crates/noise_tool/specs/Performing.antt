@@ -57,6 +57,16 @@ IsDone (Talk path) file before after = IfSome file (λ text. HasRun text before 
 IsDone (Replay path) file before after = IfSome file (λ text. HasRun text before after)
 IsDone (Convert path) file before after = IfSome file (λ text. HasConverted text before after)
 
+-- the bytes of a file, where they are known, are at most 4194304
+abbrev pub IsShort : Option (List ℕ) → Type 0
+IsShort file = IfSome file (λ text. length text ≤ 4194304)
+
+-- such is the file that is read, if one is
+abbrev pub ReadsShort : Chosen → Option (List ℕ) → Type 0
+ReadsShort Listing file = ⊤
+ReadsShort (Show name) file = ⊤
+ReadsShort _ file = IsShort file
+
 abbrev pub IsTooLong : List ℕ → Fault → Type 0
 IsTooLong text fault = (fault ≡ TooLong) × (4194304 < length text)
 

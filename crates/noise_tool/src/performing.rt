@@ -1,12 +1,12 @@
 //! Doing what the command line asks for.
 
-ghost use Rattle.std.specs.Prelude.{◌≡◌, ◌⊎◌, ◌≤◌, IfErr, IfSome, OnOk};
+ghost use Rattle.std.specs.Prelude.{◌≡◌, ◌⊎◌, ◌≤◌, IfErr, IfSome, MatchResult, OnOk};
 ghost use Rattle.noise_lines.specs.Faults.{status_of};
 ghost use Rattle.std.specs.Io.KnownBytes.{Appends};
 ghost use Rattle.noise_vectors.specs.Expectations.{bytes_of};
 ghost use Rattle.noise_vectors.specs.declared.vector.AllowedEvents.TheVariants.{VersionOne};
 ghost use Rattle.noise_tool.specs.Performing.{HasConverted, HasRun, IsDone, IsFault, IsOfLines, IsRunFault, IsTooLongConverted, IsUnlike, IsUnmet};
-ghost use Rattle.noise_tool.specs.Performing.{LeavesFile};
+ghost use Rattle.noise_tool.specs.Performing.{IsShort, LeavesFile, ReadsShort};
 ghost use Rattle.noise_lines.specs.Lines.{lines_text};
 ghost use Rattle.noise_lines.specs.Told.{LeavesOther, TellsRule};
 ghost use Rattle.noise_tool.specs.Running.{IsMet};
@@ -38,6 +38,7 @@ pub fn perform<R: Read, O: Write, E: Write>(
         × IsFault chosen.now (R.remaining file.old) (O.contents out.old) (O.contents out.new) fault
         × (IsOfLines fault ⊎ LeavesOther fault out.old out.new err.old err.new)
         × TellsRule fault (O.contents out.old) (O.contents out.new)) }
+    ensures long { (2 ≤ result) ⊎ ReadsShort chosen.now (R.remaining file.old) }
     ensures unwritten { result ≡ 2 → out.new ≡ out.old }
     ensures quiet { result ≡ 0 → err.new ≡ err.old }
     ensures unread { LeavesFile chosen.now file.old file.new }
@@ -57,6 +58,8 @@ fn run<R: Read, O: Write>(
     ensures done { OnOk result (IsDone chosen.now (R.remaining file.old) (O.contents out.old) (O.contents out.new)) }
     ensures fault { IfErr result (λ fault. (status_of fault ≡ 3)
         ⊎ IsFault chosen.now (R.remaining file.old) (O.contents out.old) (O.contents out.new) fault) }
+    ensures long { MatchResult result (λ _. ReadsShort chosen.now (R.remaining file.old))
+        (λ fault. (2 ≤ status_of fault) ⊎ ReadsShort chosen.now (R.remaining file.old)) }
     ensures unwritten { IfErr result (λ fault. (status_of fault ≡ 3) ⊎ IsOfLines fault ⊎ (out.new ≡ out.old)) }
     ensures unread { LeavesFile chosen.now file.old file.new }
 {
@@ -83,6 +86,7 @@ fn run_file<R: Read, O: Write>(
     ensures done { OnOk result (IfSome (R.remaining file.old) (λ text. HasRun text (O.contents out.old) (O.contents out.new))) }
     ensures fault { IfErr result (λ fault. (status_of fault ≡ 3)
         ⊎ IfSome (R.remaining file.old) (λ text. IsRunFault allowed text fault ⊎ IsUnmet text (O.contents out.old) (O.contents out.new) fault)) }
+    ensures long { MatchResult result (λ _. IsShort (R.remaining file.old)) (λ fault. (2 ≤ status_of fault) ⊎ IsShort (R.remaining file.old)) }
     ensures unwritten { IfErr result (λ fault. (status_of fault ≡ 3) ⊎ IsOfLines fault ⊎ (out.new ≡ out.old)) }
 {
     let text = read_file(alloc, file)?;
@@ -113,6 +117,7 @@ fn convert_file<R: Read, O: Write>(alloc: Global, file: &mut R, out: &mut O) -> 
     ensures done { OnOk result (IfSome (R.remaining file.old) (λ text. HasConverted text (O.contents out.old) (O.contents out.new))) }
     ensures fault { IfErr result (λ fault. (status_of fault ≡ 3)
         ⊎ IfSome (R.remaining file.old) (λ text. IsRunFault VersionOne text fault ⊎ IsTooLongConverted text fault)) }
+    ensures long { MatchResult result (λ _. IsShort (R.remaining file.old)) (λ fault. (2 ≤ status_of fault) ⊎ IsShort (R.remaining file.old)) }
     ensures unwritten { IfErr result (λ fault. (status_of fault ≡ 3) ⊎ (out.new ≡ out.old)) }
 {
     let text = read_file(alloc, file)?;

@@ -1,8 +1,10 @@
-use Rattle.std.proofs.Common.{rules, ◌≡◌, ◌∙◌, sym, inr}
+use Rattle.std.proofs.Common.{arith, inl, rules, ◌≡◌, ◌∙◌, sym, inr}
 use Rattle.std.proofs.lemmas.Result.{err_from_is_err_and}
 use Rattle.noise_vectors.specs.declared.vector.AllowedEvents.TheVariants.{VersionOne}
 use Rattle.noise_vectors.specs.declared.vector.Version.TheVariants.{One}
 use Rattle.noise_tool.proofs.PerformingLemmas.{Ran, convert-fault, has-converted, no-converted, no-start}
+use Rattle.noise_tool.specs.Performing.{IsShort}
+use Rattle.noise_tool.proofs.Shortness.{short-of, stays-short, unread-at}
 use Rattle.noise_tool.proofs.performing.convert_file.Goals as goal
 
 pub returns-in_err-outcome-clause-fault : goal.returns-in_err-outcome-clause-fault
@@ -54,3 +56,24 @@ returns-clause-done g c =
     has-converted (g.R.Read.remaining c.args.file.now) c.in_ok-vector.vector c.in_ok-outcome.outcome _ _ c.deref-4.result.now c.print.result ran one meets
     (text ∙ rw (← lines) (c.in_ok-converted.ensures.converted c.in_ok-vector.vector one (c.deref-2.ensures.value ∙ spelled)))
     (rw text c.in_ok-converted.ensures.short) c.print.ensures.printed
+
+pub returns-in_err-text-clause-long : goal.returns-in_err-text-clause-long
+returns-in_err-text-clause-long g c =
+    let p = err_from_is_err_and c.from_residual.result c.from_residual.ensures.1 in
+    rw (p.1, p.2) (inl (unread-at (g.R.Read.remaining c.args.file.now) _ c.in_err-text.ensures.fault))
+
+pub returns-in_err-vector-clause-long : goal.returns-in_err-vector-clause-long
+returns-in_err-vector-clause-long g c =
+    stays-short (IsShort (g.R.Read.remaining c.args.file.now)) c.from_residual-in_err-vector.result (short-of (g.R.Read.remaining c.args.file.now) c.in_ok-text.text.items c.in_ok-text.ensures.bytes (omega (arith, c.in_ok-text.text.ok.0, c.in_ok-text.ensures.bound)))
+
+pub returns-in_err-outcome-clause-long : goal.returns-in_err-outcome-clause-long
+returns-in_err-outcome-clause-long g c =
+    stays-short (IsShort (g.R.Read.remaining c.args.file.now)) c.from_residual-in_err-outcome.result (short-of (g.R.Read.remaining c.args.file.now) c.in_ok-text.text.items c.in_ok-text.ensures.bytes (omega (arith, c.in_ok-text.text.ok.0, c.in_ok-text.ensures.bound)))
+
+pub returns-in_err-converted-clause-long : goal.returns-in_err-converted-clause-long
+returns-in_err-converted-clause-long g c =
+    stays-short (IsShort (g.R.Read.remaining c.args.file.now)) c.from_residual-in_err-converted.result (short-of (g.R.Read.remaining c.args.file.now) c.in_ok-text.text.items c.in_ok-text.ensures.bytes (omega (arith, c.in_ok-text.text.ok.0, c.in_ok-text.ensures.bound)))
+
+pub returns-clause-long : goal.returns-clause-long
+returns-clause-long g c =
+    stays-short (IsShort (g.R.Read.remaining c.args.file.now)) c.print.result (short-of (g.R.Read.remaining c.args.file.now) c.in_ok-text.text.items c.in_ok-text.ensures.bytes (omega (arith, c.in_ok-text.text.ok.0, c.in_ok-text.ensures.bound)))

@@ -1,6 +1,8 @@
-use Rattle.std.proofs.Common.{◌∙◌, sym, inr}
+use Rattle.std.proofs.Common.{arith, inl, ◌∙◌, sym, inr}
 use Rattle.std.proofs.lemmas.Result.{err_from_is_err_and}
 use Rattle.noise_tool.proofs.PerformingLemmas.{Ran, has-run, no-run, no-start}
+use Rattle.noise_tool.specs.Performing.{IsShort}
+use Rattle.noise_tool.proofs.Shortness.{short-of, stays-short, unread-at}
 use Rattle.noise_tool.proofs.performing.run_file.Goals as goal
 
 pub returns-in_err-outcome-clause-fault : goal.returns-in_err-outcome-clause-fault
@@ -35,3 +37,20 @@ returns-clause-fault g c =
     } in
     no-run c.args.allowed (g.R.Read.remaining c.args.file.now) c.in_ok-vector.vector c.in_ok-outcome.outcome _ _ c.print_outcome.result ran
     c.print_outcome.ensures.fault
+
+pub returns-in_err-text-clause-long : goal.returns-in_err-text-clause-long
+returns-in_err-text-clause-long g c =
+    let p = err_from_is_err_and c.from_residual.result c.from_residual.ensures.1 in
+    rw (p.1, p.2) (inl (unread-at (g.R.Read.remaining c.args.file.now) _ c.in_err-text.ensures.fault))
+
+pub returns-in_err-vector-clause-long : goal.returns-in_err-vector-clause-long
+returns-in_err-vector-clause-long g c =
+    stays-short (IsShort (g.R.Read.remaining c.args.file.now)) c.from_residual-in_err-vector.result (short-of (g.R.Read.remaining c.args.file.now) c.in_ok-text.text.items c.in_ok-text.ensures.bytes (omega (arith, c.in_ok-text.text.ok.0, c.in_ok-text.ensures.bound)))
+
+pub returns-in_err-outcome-clause-long : goal.returns-in_err-outcome-clause-long
+returns-in_err-outcome-clause-long g c =
+    stays-short (IsShort (g.R.Read.remaining c.args.file.now)) c.from_residual-in_err-outcome.result (short-of (g.R.Read.remaining c.args.file.now) c.in_ok-text.text.items c.in_ok-text.ensures.bytes (omega (arith, c.in_ok-text.text.ok.0, c.in_ok-text.ensures.bound)))
+
+pub returns-clause-long : goal.returns-clause-long
+returns-clause-long g c =
+    stays-short (IsShort (g.R.Read.remaining c.args.file.now)) c.print_outcome.result (short-of (g.R.Read.remaining c.args.file.now) c.in_ok-text.text.items c.in_ok-text.ensures.bytes (omega (arith, c.in_ok-text.text.ok.0, c.in_ok-text.ensures.bound)))
