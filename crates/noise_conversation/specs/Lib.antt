@@ -1,2 +1,3 @@
+pub mod Agreement
 pub mod Lines
 pub mod Setup

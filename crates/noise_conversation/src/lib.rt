@@ -6,11 +6,13 @@ mod conversation;
 mod ends;
 mod fault;
 mod fitting;
+mod network;
 
 pub use answers::xor_keys_answer;
 pub use conversation::converse;
 pub use fault::ConversationFault;
 pub use fitting::lines_fit;
+pub use network::{hash_is_told, run_events};
 
 #[cfg(test)]
 mod tests;

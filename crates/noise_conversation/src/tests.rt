@@ -2,8 +2,8 @@
 
 ghost use Rattle.std.specs.Prelude.{IsSome};
 
-use crate::{converse, lines_fit, xor_keys_answer};
-use noise_duel::Cuts;
+use crate::{converse, lines_fit, run_events, xor_keys_answer};
+use noise_duel::{Cuts, Event};
 use noise_handshake::XorKeys;
 use noise_names::{Pattern, PskPlaces, Role, ValidPattern, fundamental};
 use std::alloc::{AllocError, Global};
@@ -97,4 +97,27 @@ fn of_an_own_text(rt: HostRuntime) {
     let pattern = Pattern::parse_text(text).expect(&rt, "a pattern");
     let pattern = pattern.check().expect(&rt, "a valid pattern");
     comes_through(&rt, rt.alloc(), pattern, &[]);
+}
+
+#[test]
+fn over_a_network(rt: HostRuntime) {
+    let pattern = pattern(&rt, b"NN", &[]);
+    let events = [
+        Event::Write(Role::Initiator, Vec::new(rt.alloc())),
+        Event::Deliver(Role::Responder, 0, Cuts::whole()),
+        Event::Deliver(Role::Responder, 0, Cuts::whole()),
+    ];
+    let made = run_events(
+        rt.alloc(),
+        pattern,
+        b"tests",
+        both_keys(0x11, 0x22),
+        both_keys(0x33, 0x44),
+        &[],
+        0,
+        &events,
+    );
+    let (_, report) = made.expect(&rt, "a run");
+    let told = report.entries.len();
+    assert!(rt; told == 3);
 }

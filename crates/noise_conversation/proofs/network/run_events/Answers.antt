@@ -1,0 +1,31 @@
+use Rattle.std.proofs.Common.{◌≡◌, refl, inr, ℕ, List}
+use Rattle.std.proofs.lemmas.Result.{err_from_is_err_and}
+use Rattle.noise_names.specs.declared.token.Role.TheVariants.{Initiator, Responder}
+use Rattle.noise_duel.specs.Messages.{Start}
+use Rattle.noise_duel.specs.Networks.{HaveSameSecrets}
+use Rattle.noise_conversation.specs.Setup.{start_by}
+use Rattle.noise_conversation.proofs.network.run_events.Goals as goal
+
+pub returns-in_err-duel-clause-setup : goal.returns-in_err-duel-clause-setup
+returns-in_err-duel-clause-setup g c =
+    let p = err_from_is_err_and c.from_residual.result c.from_residual.ensures.1 in
+    rw (p.1, p.2) c.in_err-duel.ensures.setup
+
+pub returns : goal.returns
+returns g c =
+    let p = c.args.pattern in
+    let text = c.args.prologue.now in
+    let i : ℕ = c.args.interval in
+    let a : Start = start_by g.K.Keys.public_of g.K.Keys.agreement p Initiator text c.args.psks.now c.args.initiator c.args.responder in
+    let b : Start = start_by g.K.Keys.public_of g.K.Keys.agreement p Responder text c.args.psks.now c.args.responder c.args.initiator in
+    let alike = (c.in_ok-duel.ensures.alike).0 in
+    let told = c.in_ok-made.ensures.agrees p a b i i c.in_ok-duel.ensures.stands in
+    let secrets : HaveSameSecrets p a b = record { psks = refl; keys = alike.keys; initiator = alike.initiator; responder = alike.responder } in
+    record {
+      setup = c.in_ok-duel.ensures.setup;
+      agrees = record {
+        reports = told.0;
+        history = λ hash e f. told.1.one (c.hash_is_told.ensures c.in_ok-made.made.0 told.0.last hash told.0.stands e f) (inr secrets);
+        payloads = λ hash e f. told.1.payloads refl (c.hash_is_told.ensures c.in_ok-made.made.0 told.0.last hash told.0.stands e f) (inr secrets);
+      };
+    }

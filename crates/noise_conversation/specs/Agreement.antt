@@ -1,0 +1,30 @@
+-- What two ends of equal setup agree on over any network.
+use Rattle.std.specs.Prelude.{◌≡◌, ◌⊎◌, ℕ, List, Option, Some}
+use Rattle.noise_names.specs.Plan.{Plan}
+use Rattle.noise_keys.specs.declared.keys.Own.{Own}
+use Rattle.noise_session.specs.Ends.{hash_in}
+use Rattle.noise_events.specs.Events.{Event}
+use Rattle.noise_duel.specs.declared.report.Report.{Report}
+use Rattle.noise_duel.specs.Conversation.{facing}
+use Rattle.noise_duel.specs.HeldDuel.{HeldDuel, DuelStands}
+use Rattle.noise_duel.specs.Networks.{HaveOneHash, HaveOneHistory, HistoriesCollide, PayloadsAgree}
+use Rattle.noise_duel.specs.Reports.{Reports}
+use Rattle.noise_duel.specs.Sides.{Sides}
+use Rattle.noise_conversation.specs.Setup.{Starts}
+
+module _ {K : Type 0} (public_of : K → Own → Option (List ℕ)) (agreement : K → Own → List ℕ → Option (List ℕ)) where
+  -- The report tells what the run of the events makes of two new ends, and the ends left are those behind it. Where both tell one hash, they have one
+  -- history, and what each accepted is the first of what the other wrote, up to a forged message; or two texts that they hashed collide.
+  pub record AgreeOverNetwork (p : Plan) (s : Starts) (interval : ℕ) (events : List Event) (duel : HeldDuel K K) (report : Report) : Type 0 where
+    pub reports : Reports public_of agreement public_of agreement (facing p s.initiator s.responder interval interval) events duel report
+    pub history : (hash : List ℕ) → hash_in duel.initiator.phase ≡ Some hash → hash_in duel.responder.phase ≡ Some hash
+        → HaveOneHistory reports.last ⊎ HistoriesCollide reports.last
+    pub payloads : (hash : List ℕ) → hash_in duel.initiator.phase ≡ Some hash → hash_in duel.responder.phase ≡ Some hash
+        → PayloadsAgree interval reports.last ⊎ HistoriesCollide reports.last
+
+-- Two ends that tell one hash stand for views that have one hash: the one that agreement speaks of.
+module _ {A B : Type 0} (public_a : A → Own → Option (List ℕ)) (agreement_a : A → Own → List ℕ → Option (List ℕ))
+    (public_b : B → Own → Option (List ℕ)) (agreement_b : B → Own → List ℕ → Option (List ℕ)) where
+  abbrev pub HashIsTold : Type 0
+  HashIsTold = (duel : HeldDuel A B) (d : Sides) (hash : List ℕ) → DuelStands public_a agreement_a public_b agreement_b duel d
+      → hash_in duel.initiator.phase ≡ Some hash → hash_in duel.responder.phase ≡ Some hash → HaveOneHash d

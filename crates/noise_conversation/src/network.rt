@@ -1,0 +1,52 @@
+//! Two ends of equal setup over any network.
+#![tactic(auto)]
+
+ghost use Rattle.std.specs.Prelude.{◌≡◌, ◌≤◌, length, IfOk, MatchResult, None};
+ghost use Rattle.noise_events.specs.Events.{events_of};
+ghost use Rattle.noise_conversation.specs.Agreement.{AgreeOverNetwork, HashIsTold};
+ghost use Rattle.noise_conversation.specs.Setup.{IsFault, fault_of, starts};
+
+use crate::ConversationFault;
+use crate::ends::make_ends;
+use noise_duel::{Duel, Event, Report};
+use noise_handshake::{Agreeing, Keys};
+use noise_names::ValidPattern;
+use noise_session::end_is_told;
+use std::alloc::Global;
+
+/// Two new ends of one pattern, with equal prologue, psks and interval and with keys that agree, and any events between them: frames get lost, come twice
+/// or in another order, or were written by nobody.
+///
+/// Where both ends then tell one hash, they had all of the conversation in common, and what each accepted is the first of what the other wrote, up to a
+/// forged message; or two texts that they hashed collide. A setup with a fault, or want of memory, is told instead.
+pub fn run_events<K: Agreeing>(
+    alloc: Global,
+    pattern: ValidPattern,
+    prologue: &[u8],
+    initiator: K,
+    responder: K,
+    psks: &[[u8; 32]],
+    interval: u64,
+    events: &[Event],
+) -> Result<(Duel<K, K>, Report), ConversationFault>
+    requires { length prologue.now ≤ 65535 }
+    ensures setup { let found = fault_of pattern (starts K.public_of K.agreement pattern prologue.now psks.now initiator responder) in
+        MatchResult result (λ _. found ≡ None) (λ fault. IsFault found fault) }
+    ensures agrees { let s = starts K.public_of K.agreement pattern prologue.now psks.now initiator responder in
+        IfOk result (λ r. AgreeOverNetwork K.public_of K.agreement pattern s interval (events_of events.now) r.0 r.1) }
+{
+    let duel = make_ends(
+        alloc, pattern, prologue, initiator, responder, psks, interval,
+    )?;
+    hash_is_told::<K, K>();
+    let made = duel.run(alloc, events)?;
+    Ok(made)
+}
+
+/// Where both ends of a duel tell one hash, they have the one hash that the laws on agreement speak of.
+pub fn hash_is_told<A: Keys, B: Keys>()
+    ensures { HashIsTold A.public_of A.agreement B.public_of B.agreement }
+{
+    end_is_told::<A>();
+    end_is_told::<B>();
+}
