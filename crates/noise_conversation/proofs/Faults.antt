@@ -1,6 +1,6 @@
 -- Which fault of a setup is told.
 use Rattle.std.proofs.Common.{◌≡◌, ◌∙◌, refl, ap, sym, Option, Some, None, Result, Ok, Err}
-use Rattle.std.specs.Prelude.{IsOk, MatchOption, MatchResult}
+use Rattle.std.specs.Prelude.{IsOk, MatchOption}
 use Rattle.noise_keys.specs.declared.faults.SetupFault.{SetupFault}
 use Rattle.noise_conversation.specs.declared.fault.ConversationFault.{ConversationFault}
 use Rattle.noise_conversation.specs.declared.fault.ConversationFault.TheVariants.{Setup, Memory}

@@ -1,6 +1,6 @@
 -- The toy keys have an answer at each DH.
 use Rattle.std.proofs.Common.{◌≡◌, refl, ℕ, List, Option, Some, None}
-use Rattle.std.specs.Prelude.{Bool, true, is_some, IsSome}
+use Rattle.std.specs.Prelude.{true, is_some, IsSome}
 use Rattle.noise_names.specs.declared.token.Role.TheVariants.{Initiator}
 use Rattle.noise_names.specs.declared.token.Token.{Token}
 use Rattle.noise_names.specs.declared.token.Token.TheVariants.{E, S, Ee, Es, Se, Ss, Psk}

@@ -1,7 +1,6 @@
-use Rattle.std.proofs.Common.{◌≡◌, ◌∙◌, ◌∷◌, ◌+◌, ap, sym, subst, ℕ, List, arith, drop, length}
-use Rattle.std.specs.Prelude.{Bool, true}
+use Rattle.std.proofs.Common.{◌≡◌, ◌∙◌, ◌∷◌, ◌+◌, ap, sym, ℕ, arith, drop, length}
+use Rattle.std.specs.Prelude.{true}
 use Rattle.std.proofs.lemmas.List.{drop_more}
-use Rattle.noise_names.specs.declared.token.Role.{Role}
 use Rattle.noise_names.specs.declared.token.Role.TheVariants.{Initiator}
 use Rattle.noise_names.specs.Tokens.{other}
 use Rattle.noise_duel.specs.Acts.{lines_of}
