@@ -60,7 +60,7 @@ func withRust(t *testing.T, program, name string, psk, initiator, oneWay bool) {
 	}
 }
 
-// toRust sends a megabyte, and wants it back.
+// toRust sends 128 KiB, and wants them back.
 func toRust(t *testing.T, cmd *exec.Cmd, config *noise.Config, oneWay bool) {
 	cmd.Stderr = os.Stderr
 	said, err := cmd.StdoutPipe()
@@ -72,14 +72,14 @@ func toRust(t *testing.T, cmd *exec.Cmd, config *noise.Config, oneWay bool) {
 	must(t, err)
 	defer c.Close()
 	c.SetDeadline(time.Now().Add(20 * time.Second))
-	megabyte := bytes.Repeat([]byte("0123456789abcdef"), 1<<16)
-	_, err = c.Write(megabyte)
+	sent := bytes.Repeat([]byte("0123456789abcdef"), 1<<13)
+	_, err = c.Write(sent)
 	must(t, err)
 	must(t, c.CloseWrite())
 	if !oneWay {
 		got, err := io.ReadAll(c)
 		must(t, err)
-		if !bytes.Equal(got, megabyte) {
+		if !bytes.Equal(got, sent) {
 			t.Error("other bytes came back")
 		}
 	}
@@ -101,7 +101,7 @@ func fromRust(t *testing.T, program string, words []string, config *noise.Config
 	if oneWay {
 		n, err := io.Copy(io.Discard, conn)
 		must(t, err)
-		if n != 1<<20 {
+		if n != 1<<17 {
 			t.Error(n)
 		}
 	} else {

@@ -1,4 +1,4 @@
-// One end over TCP: echo PATTERN OWN_SECRET PEER_KEY PSK ADDRESS. It connects as the initiator, sends a megabyte, and wants it back; where ADDRESS
+// One end over TCP: echo PATTERN OWN_SECRET PEER_KEY PSK ADDRESS. It connects as the initiator, sends 128 KiB, and wants them back; where ADDRESS
 // begins with '@' it listens there, tells where on a line, and sends back what it reads. PSK is '-' where there is none.
 use std::io::{self, Read, Write};
 use std::net::{TcpListener, TcpStream};
@@ -40,18 +40,18 @@ fn main() -> io::Result<()> {
 }
 
 fn send(mut stream: Stream<TcpStream>, one_way: bool) -> io::Result<()> {
-    let megabyte: Vec<u8> = (0..1 << 20).map(|i: u32| (i % 251) as u8).collect();
+    let bytes: Vec<u8> = (0..1 << 17).map(|i: u32| (i % 251) as u8).collect();
     if one_way {
-        stream.write_all(&megabyte)?;
+        stream.write_all(&bytes)?;
         return stream.close_write();
     }
     let (mut reads, mut writes) = stream.split(TcpStream::try_clone)?;
-    let sent = megabyte.clone();
+    let sent = bytes.clone();
     let writer = std::thread::spawn(move || writes.write_all(&sent).and_then(|_| writes.close_write()));
     let mut back = Vec::new();
     reads.read_to_end(&mut back)?;
     writer.join().expect("no panic")?;
-    assert!(back == megabyte, "other bytes came back");
+    assert!(back == bytes, "other bytes came back");
     Ok(())
 }
 
