@@ -18,8 +18,20 @@ use std::io::Read;
 /// The most bytes of a frame: a length of 2 bytes, and a message of 65535.
 pub(crate) const FRAME_MAX: usize = 65537;
 
-// Zeros for a whole frame, in memory that holds just them.
+// Zeros for a whole frame, in memory that holds just them. `vec!` promises to take at least as much: where it took more, they are put one by one.
 pub(crate) fn zeros(alloc: Global) -> Result<Vec<u8>, AllocError>
+    ensures { IfOk result (λ bytes. (length bytes.items ≡ 65537) × (vec_capacity bytes ≡ 65537)) }
+{
+    let bytes = vec![in alloc; 0u8; FRAME_MAX]?;
+    if bytes.capacity() == FRAME_MAX {
+        Ok(bytes)
+    } else {
+        zeros_one_by_one(alloc)
+    }
+}
+
+// Such zeros, put one by one into memory that is taken for just them.
+fn zeros_one_by_one(alloc: Global) -> Result<Vec<u8>, AllocError>
     ensures { IfOk result (λ bytes. (length bytes.items ≡ 65537) × (vec_capacity bytes ≡ 65537)) }
 {
     let mut bytes = Vec::with_capacity(alloc, FRAME_MAX)?;
