@@ -1,5 +1,5 @@
 // The page: what is set up, and what happens at each button.
-import { FUNDAMENTAL, layout, load, textOf } from './noise/noise.mjs';
+import { FUNDAMENTAL, layout, load, textOf } from '../bindings/js/noise.mjs';
 import { Editor } from './editor.mjs';
 import { picture, words } from './picture.mjs';
 import { OTHER, Run } from './run.mjs';

@@ -1,6 +1,6 @@
 // The text of the pattern: judged at each change, its first fault marked, psk places set by a click.
-import { DEFERRED, FUNDAMENTAL, checkPattern, layout, textOf } from './noise/noise.mjs';
-import { linesOf } from './noise/layout.mjs';
+import { DEFERRED, FUNDAMENTAL, checkPattern, layout, textOf } from '../bindings/js/noise.mjs';
+import { linesOf } from '../bindings/js/layout.mjs';
 import { explain } from './faults.mjs';
 import { element } from './runview.mjs';
 

@@ -1,6 +1,6 @@
 // What a refusal means, in a sentence, and what would mend it. That a text is refused, and which rule is broken where, comes from the proved check;
 // so do line and kind of a malformed text, of which no contract speaks. Where in that line the part stands is this page's own reading.
-import { linesOf } from './noise/layout.mjs';
+import { linesOf } from '../bindings/js/layout.mjs';
 
 const RULES = {
   1: ['This DH needs a public key that its party doesn’t have yet.', 'Send the missing e or s in an earlier place, or name it before “...”.'],

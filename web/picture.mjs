@@ -1,4 +1,4 @@
-// The picture of a handshake, as SVG, and the same in words. The page's own reading of the standard (noise/layout.mjs) is drawn, and not proved.
+// The picture of a handshake, as SVG, and the same in words. The page's own reading of the standard (bindings/js/layout.mjs) is drawn, and not proved.
 const STYLE = `
   .bg{fill:#fff}.ink{fill:#1c2330}.dim{fill:#596275}.line{stroke:#596275;stroke-width:1.5;fill:none}.life{stroke:#c4cad6;stroke-width:1.5}
   .e{fill:#8fb8f0}.s{fill:#f2b872}.sealed{fill:#7fc8a9}.tag{fill:#b9a3e3}.payload{fill:#e6e9ef;stroke:#596275;stroke-dasharray:3 2}.payload.sealed{fill:#cfeadf;stroke-dasharray:none}

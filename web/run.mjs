@@ -1,5 +1,5 @@
 // A run of a pattern: two parties with real keys in one page, the messages between them, and what the vector file says of it. No DOM here.
-import { Handshake, KeyPair, layout } from './noise/noise.mjs';
+import { Handshake, KeyPair, layout } from '../bindings/js/noise.mjs';
 import { frame, hex, hexOrDash } from './bytes.mjs';
 
 export const OTHER = { initiator: 'responder', responder: 'initiator' };

@@ -160,7 +160,7 @@ async function figures() {
   const key = await run(`const it = document.getElementById('text'); const start = performance.now();
     for (let n = 0; n < 50; n += 1) { it.value = 'MINE:\\n  -> e, s\\n  <- e, ee, se\\n'.slice(0, 6 + n % 30); it.dispatchEvent(new Event('input')); }
     return (performance.now() - start) / 50;`);
-  const ratio = await run(`const { Handshake, KeyPair, protocolName } = await import('./noise/noise.mjs');
+  const ratio = await run(`const { Handshake, KeyPair, protocolName } = await import('../bindings/js/noise.mjs');
     const pattern = protocolName('XX'); const ends = []; const curve = [];
     const median = (times) => times.slice(20).sort((x, y) => x - y)[20];
     for (let n = 0; n < 61; n += 1) {
@@ -175,7 +175,7 @@ async function figures() {
       ends.push(performance.now() - start);
     }
     return median(ends) / median(curve);`);
-  const rate = await run(`const { Handshake, protocolName } = await import('./noise/noise.mjs');
+  const rate = await run(`const { Handshake, protocolName } = await import('../bindings/js/noise.mjs');
     const [i, r] = [new Handshake({ pattern: protocolName('NN') }), new Handshake({ pattern: protocolName('NN'), responder: true })];
     await r.read(await i.write()); await i.read(await r.write());
     const [transport, payload] = [i.finish(), new Uint8Array(16384)];
