@@ -1,4 +1,4 @@
-// The page as a user meets it: node check.mjs WEB ROOM. Saved vector files go to ROOM/files, screenshots to ROOM/pictures.
+// The page as a user meets it: node check.mjs TOP ROOM, with the top of the repository. Saved vector files go to ROOM/files, screenshots to ROOM/pictures.
 import assert from 'node:assert/strict';
 import { writeFile } from 'node:fs/promises';
 import { join } from 'node:path';
@@ -6,8 +6,8 @@ import { Browser } from './browser.mjs';
 import { serve } from './server.mjs';
 import { DEFERRED, FUNDAMENTAL } from '../../bindings/js/patterns.mjs';
 
-const [web, room] = process.argv.slice(2);
-const server = await serve(web);
+const [top, room] = process.argv.slice(2);
+const server = await serve(top);
 const browser = await Browser.start();
 const report = (text) => console.log(`web: ${text}`);
 const quoted = JSON.stringify;
@@ -20,7 +20,7 @@ const state = () => browser.evaluate('document.getElementById("state").textConte
 const save = async (name) => writeFile(join(room, 'files', `${name}.vector`), await browser.evaluate('noisePage.vectorFile'));
 
 async function open(fragment = '') {
-  await browser.open(server.url + fragment);
+  await browser.open(`${server.url}web/${fragment}`);
   await browser.until('globalThis.noisePage !== undefined');
 }
 
