@@ -21,7 +21,9 @@ import pathlib
 import re
 import sys
 
+from cryptography.exceptions import InvalidTag
 from cryptography.hazmat.primitives.asymmetric.x25519 import X25519PrivateKey, X25519PublicKey
+from cryptography.hazmat.primitives.ciphers.aead import ChaCha20Poly1305
 from cryptography.hazmat.primitives.serialization import Encoding, PublicFormat
 
 SUFFIX = "_25519_ChaChaPoly_SHA256"
@@ -147,7 +149,8 @@ class Vector:
         """The DH answer of the initiator's key of the first letter and the responder's of the second."""
         return agreement(self.private["initiator", first], self.public_key("responder", second))
 
-    def computed_hash(self, pattern):
+    def schedule(self, pattern):
+        """The key schedule after the handshake."""
         schedule, psks = KeySchedule(self.name), iter(self.psks)
         schedule.mix_hash(self.prologue)
         for role in pattern.before:
@@ -170,7 +173,28 @@ class Vector:
                     self.public_key(role, token[ROLES.index(role)])
                     schedule.mix_key(self.answer(*token))
             schedule.mix_hash(rest)
-        return schedule.hash
+        return schedule
+
+    def senders(self, pattern, schedule):
+        """Who sends each message. No vector says so: after the handshake it is whoever has the key that opens the message, and else the parties in
+        turn. A message of the responder ends a one-way pattern's, since it may send none (7.4)."""
+        ciphers = dict(zip(ROLES, map(ChaCha20Poly1305, hkdf(schedule.chaining_key, b"", 2))))
+        sent, senders = dict.fromkeys(ROLES, 0), [ROLES[number % 2] for number in range(len(pattern.messages))]
+
+        def opens(role, message):
+            try:
+                ciphers[role].decrypt(bytes(4) + sent[role].to_bytes(8, "little"), message, b"")
+            except InvalidTag:
+                return False
+            return True
+
+        for number, (_, message) in enumerate(self.messages[len(senders) :], len(senders)):
+            role = next((it for it in ROLES if opens(it, message)), ROLES[number % 2])
+            if len(pattern.messages) == 1 and role != ROLES[0]:
+                break
+            sent[role] += 1
+            senders.append(role)
+        return senders
 
     def keys(self, role):
         """The lines of a party: its public keys, and what DH gives for each of them and each key of the other."""
@@ -190,8 +214,7 @@ class Vector:
             raise LeftOut("it ends before the handshake does")
         if len(self.psks) != len(pattern.places):
             raise LeftOut(f"it has {len(self.psks)} secrets for {len(pattern.places)} psk tokens")
-        is_one_way = len(pattern.messages) == 1
-        handshake_hash = self.hash or self.computed_hash(pattern)
+        schedule = self.schedule(pattern)
         yield from ("vector 2", f"protocol {self.name}")
         if not pattern.is_fundamental:
             yield from [*pattern.text(), "end"]
@@ -200,16 +223,15 @@ class Vector:
         for role in ROLES:
             yield from self.keys(role)
         expected, written, sent = [], dict.fromkeys(ROLES, 0), dict.fromkeys(ROLES, 0)
-        for number, (payload, message) in enumerate(self.messages):
-            role, other = ROLES if is_one_way or number % 2 == 0 else ROLES[::-1]
-            text = payload.hex() or "-"
+        for number, (role, (payload, message)) in enumerate(zip(self.senders(pattern, schedule), self.messages)):
+            other, text = ROLES[1 - ROLES.index(role)], payload.hex() or "-"
             yield f"say {role} {text} -"
             expected.append(f"wrote {role} {written[role]} {len(message):04x}{message.hex()}")
             expected.append(f"payload {other} {text}")
             written[role] += 1
             sent[role] += number >= len(pattern.messages)
         for role, other in (ROLES, ROLES[::-1]):
-            expected.append(f"state {role} transport {sent[role]} {sent[other]} {handshake_hash.hex()}")
+            expected.append(f"state {role} transport {sent[role]} {sent[other]} {(self.hash or schedule.hash).hex()}")
         yield from (f"expect {it}" for it in expected)
 
 
