@@ -13,6 +13,3 @@ pub use conversation::converse;
 pub use fault::ConversationFault;
 pub use fitting::lines_fit;
 pub use network::{hash_is_told, run_events};
-
-#[cfg(test)]
-mod tests;

@@ -2,7 +2,7 @@
 
 ghost use Rattle.std.specs.Prelude.{IsSome};
 
-use crate::{converse, lines_fit, run_events, xor_keys_answer};
+use noise_conversation::{converse, lines_fit, run_events, xor_keys_answer};
 use noise_duel::{Cuts, Event};
 use noise_handshake::XorKeys;
 use noise_names::{Pattern, PskPlaces, Role, ValidPattern, fundamental};
