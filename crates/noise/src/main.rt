@@ -1,9 +1,6 @@
 //! The command `noise`: handshake patterns, and two ends of a Noise session that are run on a vector file. Each call is of `noise_tool`.
 #![tactic(auto)]
 
-#[cfg(test)]
-mod tests;
-
 use noise_tool::{Chosen, Fault, LineFault, chosen, perform, tell};
 use std::env;
 use std::fs::File;

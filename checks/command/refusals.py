@@ -1,0 +1,53 @@
+"""Commands whose file or output fails at each byte, both where the program reads and writes a byte a call, and as it does by itself."""
+
+import functools
+import multiprocessing
+import os
+
+from cases import words_of
+from program import Ran, run
+
+MOST_LIMITS = 400
+
+
+def refuse_each(listed, refuse):
+    """For each command that the file lists, each limit of its reads and of its writes. Returns how many runs there were, and the faults."""
+    folder = os.path.dirname(listed)
+    with open(listed, encoding="utf-8") as file:
+        lines = [line[2:].rstrip("\n") for line in file if line.startswith("$ ")]
+    tries = [it for line in lines for it in tries_of(line, folder)]
+    with multiprocessing.Pool() as pool:
+        faults = pool.map(functools.partial(fault_of, folder, refuse), tries, chunksize=16)
+    return len(tries), [it for it in faults if it]
+
+
+def tries_of(line, folder):
+    """The runs of a command: its words, the variables, and what it has to do."""
+    _, words = words_of(line)
+    whole = run(words, folder)
+    yield words, {}, whole._replace(err=b"")
+    if words[0] not in ("list", "show"):
+        size = os.path.getsize(f"{folder}/{words[1]}")
+        for variables in limits("READ", range(size + 1)):
+            yield words, variables, Ran(3, b"", b"cannot read\n")
+        yield words, {"READ_PIECE": "1"}, whole
+    step = max(1, len(whole.out) // MOST_LIMITS)
+    for variables in limits("OUTPUT", range(0, len(whole.out), step)):
+        yield words, variables, Ran(3, whole.out[: int(variables["OUTPUT_LIMIT"])], b"cannot write\n")
+    yield words, {"OUTPUT_PIECE": "1"}, whole
+
+
+def limits(stream, sizes):
+    """The variables by which the calls of a stream fail after so many bytes, with calls of any size and with calls of a byte."""
+    for size in sizes:
+        yield {f"{stream}_LIMIT": str(size)}
+        yield {f"{stream}_LIMIT": str(size), f"{stream}_PIECE": "1"}
+
+
+def fault_of(folder, refuse, attempt):
+    """What is told of a run that isn't as it has to be, and nothing of another."""
+    words, variables, expected = attempt
+    ran = run(words, folder, {**variables, "LD_PRELOAD": refuse})
+    if ran == expected:
+        return None
+    return f"command: {variables} noise {' '.join(words)}: not as expected\nexpected {expected}\nprinted {ran}"
