@@ -33,6 +33,18 @@ class Cases:
                 self.run_case(path, line, expected)
         for path in self.files("table"):
             self.run_table(path)
+        self.faults += [f"command: {path}: no command names it" for path in self.unnamed()]
+
+    def unnamed(self):
+        """The files that no command of their folder names."""
+        texts = {}
+        for path in self.files("case") + self.files("commands"):
+            with open(path, encoding="utf-8") as file:
+                texts.setdefault(os.path.dirname(path), set()).update(file.read().split())
+        for path in self.files("*"):
+            folder, name = os.path.split(path)
+            if not name.endswith((".case", ".commands", ".table", ".long")) and name not in texts.get(folder, ()):
+                yield os.path.relpath(path, self.folder)
 
     def expect(self, name, expected, ran):
         """Counts a case, and keeps a fault where the run isn't as expected."""
