@@ -40,7 +40,7 @@ type Conn struct {
 
 // ConnectionState is what a handshake has agreed on.
 type ConnectionState struct {
-	HandshakeComplete bool
+	HandshakeComplete bool         // all messages of the handshake have passed
 	ProtocolName      string       // as Noise_XX_25519_ChaChaPoly_SHA256
 	Initiator         bool         // this party wrote the first message
 	HandshakeHash     [KeyLen]byte // the same at both parties: for what is bound to the channel (the framework's section 11.2)

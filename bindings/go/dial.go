@@ -8,7 +8,7 @@ import (
 // Dialer makes connections, and passes the handshake as the initiator.
 type Dialer struct {
 	NetDialer *net.Dialer // nil: one of zeros
-	Config    *Config
+	Config    *Config     // of the initiator
 }
 
 // Dial connects, and passes the handshake.
@@ -71,6 +71,7 @@ func Listen(network, address string, config *Config) (net.Listener, error) {
 // up nobody else.
 func NewListener(inner net.Listener, config *Config) net.Listener { return &listener{inner, config} }
 
+// Accept gives a *Conn whose handshake isn't passed yet.
 func (l *listener) Accept() (net.Conn, error) {
 	conn, err := l.Listener.Accept()
 	if err != nil {

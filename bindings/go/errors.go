@@ -49,6 +49,7 @@ var texts = map[Code]string{
 	ErrRule:             "the pattern isn't valid",
 }
 
+// Error says what the code means.
 func (c Code) Error() string {
 	if text, ok := texts[c]; ok {
 		return "noise: " + text
@@ -79,11 +80,12 @@ var (
 
 // HandshakeError is what was wrong with a message of a handshake. Unwrap gives the cause, as ErrTag or what VerifyPeer has answered.
 type HandshakeError struct {
-	Message int // the message, from 0 on
-	Token   int // ErrShort, ErrTag: the token at which it was refused, from 0 on, the payload behind the last; else -1
-	Err     error
+	Message int   // the message, from 0 on
+	Token   int   // ErrShort, ErrTag: the token at which it was refused, from 0 on, the payload behind the last; else -1
+	Err     error // the cause
 }
 
+// Error names the message, the token and the cause.
 func (e *HandshakeError) Error() string {
 	if e.Token < 0 {
 		return fmt.Sprintf("handshake message %d: %v", e.Message+1, e.Err)
@@ -91,14 +93,16 @@ func (e *HandshakeError) Error() string {
 	return fmt.Sprintf("handshake message %d, token %d: %v", e.Message+1, e.Token+1, e.Err)
 }
 
+// Unwrap is the cause.
 func (e *HandshakeError) Unwrap() error { return e.Err }
 
 // ConfigError is a fault of a Config, told before a byte is sent.
 type ConfigError struct {
 	Field string // of the Config
-	Err   error
+	Err   error  // what is wrong with it
 }
 
+// Error names the field, and says what is wrong with it.
 func (e *ConfigError) Error() string {
 	if e.Field == "" {
 		return "noise: Config: " + e.Err.Error()
@@ -106,4 +110,5 @@ func (e *ConfigError) Error() string {
 	return "noise: Config." + e.Field + ": " + e.Err.Error()
 }
 
+// Unwrap is what is wrong with the field.
 func (e *ConfigError) Unwrap() error { return e.Err }

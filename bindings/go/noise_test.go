@@ -385,6 +385,57 @@ func TestEnds(t *testing.T) {
 	}
 }
 
+// TestCutInAHandshake ends the connection between the messages of a handshake, within the length of one, and within one.
+func TestCutInAHandshake(t *testing.T) {
+	for _, it := range []struct {
+		sent []byte
+		want error
+	}{{nil, ErrCut}, {[]byte{0}, io.ErrUnexpectedEOF}, {[]byte{0, 32}, io.ErrUnexpectedEOF}, {make([]byte, 33)[:33:33], ErrShort},
+		{append([]byte{0, 32}, make([]byte, 31)...), io.ErrUnexpectedEOF}} {
+		client, server := configs(t, "XX")
+		c, s := connected(t, client, server)
+		c.conn.Write(it.sent)
+		c.conn.Close()
+		for i := 0; i < 2; i++ {
+			n, err := s.Read(make([]byte, 1))
+			wants(t, err, it.want)
+			if n != 0 {
+				t.Error("a byte that nobody has sealed")
+			}
+		}
+	}
+}
+
+// TestCutAtEachByte ends the connection behind each byte of a frame: before its first one it is ErrCut, behind its last one too, and
+// io.ErrUnexpectedEOF between; only an end that was said is io.EOF.
+func TestCutAtEachByte(t *testing.T) {
+	for cut := 0; cut <= 23; cut++ {
+		client, server := configs(t, "NN")
+		c, s := connected(t, client, server)
+		errC, errS := both(c, s)
+		must(t, errC, errS)
+		frame, err := c.sealer.Seal([]byte{0, 21}, []byte("hello"))
+		must(t, err)
+		c.conn.Write(frame[:cut])
+		c.conn.Close()
+		got, err := io.ReadAll(s)
+		switch {
+		case cut == 0:
+			wants(t, err, ErrCut)
+		case cut < len(frame):
+			wants(t, err, io.ErrUnexpectedEOF)
+		default:
+			wants(t, err, ErrCut)
+			if string(got) != "hello" {
+				t.Errorf("%q", got)
+			}
+		}
+		if cut < len(frame) && len(got) != 0 {
+			t.Errorf("%q of a message that has not come", got)
+		}
+	}
+}
+
 func TestOneWay(t *testing.T) {
 	client, server := configs(t, "N")
 	c, s := connected(t, client, server)
@@ -596,81 +647,50 @@ func TestZerosAreRefused(t *testing.T) {
 	wants(t, err, ErrEnded)
 }
 
+// TestNoAllocation counts what a message takes of the heap, once the buffers have grown.
 func TestNoAllocation(t *testing.T) {
 	a, b := opened(t, "XX")
 	s, _, err := a.Split()
 	must(t, err)
 	_, r, err := b.Split()
 	must(t, err)
+	a, b = opened(t, "XX")
+	x, err := a.Datagrams(64)
+	must(t, err)
+	y, err := b.Datagrams(64)
+	must(t, err)
+	client, server := configs(t, "XX")
+	c, d := connected(t, client, server)
+	errC, errD := both(c, d)
+	must(t, errC, errD)
 	payload, room := make([]byte, 1000), make([]byte, 0, 2000)
-	if n := testing.AllocsPerRun(100, func() {
-		message, err := s.Seal(room, payload)
-		if err == nil {
-			_, err = r.Open(message[:0], message)
-		}
-		must(t, err)
-	}); n != 0 {
-		t.Errorf("%v allocations at a message", n)
-	}
-}
-
-// TestFaults runs many channels at once, whose bytes are changed, lost or cut on the way: no wrong byte is ever handed out.
-func TestFaults(t *testing.T) {
-	var group sync.WaitGroup
-	for i := 0; i < 60; i++ {
-		group.Add(1)
-		go func(seed int64) {
-			defer group.Done()
-			client, server := configs(t, "XX")
-			a, b := net.Pipe()
-			x, y := net.Pipe()
-			go relay(b, x, seed)
-			go func() { io.Copy(b, x); b.Close() }()
-			c, _ := Client(a, client)
-			s, _ := Server(y, server)
-			s.SetDeadline(time.Now().Add(2 * time.Second))
-			c.SetDeadline(time.Now().Add(2 * time.Second))
-			go func() {
-				for j := 0; j < 100; j++ {
-					if _, err := c.Write(bytes.Repeat([]byte{byte(j)}, 50)); err != nil {
-						break
-					}
-				}
-				c.conn.Close()
-			}()
-			got, err := io.ReadAll(s)
-			s.conn.Close()
-			for at, b := range got {
-				if int(b) != at/50 {
-					t.Error("a wrong byte")
-					break
-				}
-			}
+	for name, pass := range map[string]func() error{
+		"transport": func() error {
+			message, err := s.Seal(room, payload)
 			if err == nil {
-				t.Error("nothing said that the stream was cut")
+				_, err = r.Open(message[:0], message)
 			}
-		}(int64(i))
+			return err
+		},
+		"datagrams": func() error {
+			datagram, err := x.Seal(room, payload)
+			if err == nil {
+				_, err = y.Open(datagram[:0], datagram)
+			}
+			return err
+		},
+		"connection": func() error {
+			_, err := c.Write(payload)
+			if err == nil {
+				_, err = io.ReadFull(d, payload)
+			}
+			return err
+		},
+	} {
+		if n := testing.AllocsPerRun(100, func() { must(t, pass()) }); n != 0 {
+			t.Errorf("%s: %v allocations at a message", name, n)
+		}
 	}
-	group.Wait()
-}
-
-// relay passes some bytes on, and then flips one, leaves some out, or ends.
-func relay(from, to net.Conn, seed int64) {
-	defer to.Close()
-	dice := rand.New(rand.NewSource(seed))
-	io.CopyN(to, from, dice.Int63n(6000))
-	some := make([]byte, 60)
-	n, _ := io.ReadFull(from, some)
-	switch seed % 3 {
-	case 0:
-		some[dice.Intn(60)] ^= 1 << dice.Intn(8)
-		to.Write(some[:n])
-	case 1:
-	case 2:
-		from.Close()
-		return
-	}
-	io.Copy(to, from)
 }
 
 func FuzzServer(f *testing.F) {

@@ -1,6 +1,6 @@
 // Handshakes, transports, datagrams and streams, with a key agreement that is none: what these tests look at doesn't depend on it.
 use std::io::{self, ErrorKind, Read, Write};
-use std::net::{TcpListener, TcpStream};
+use std::net::{Shutdown, TcpListener, TcpStream};
 use std::sync::atomic::{AtomicU8, Ordering};
 use yulimosar::{Builder, Dh, Ephemeral, Error, Handshake, NoKey, Stream};
 
@@ -250,5 +250,75 @@ fn no_bytes_of_the_wire_make_a_stream() {
         let party = if next() % 2 == 0 { client } else { server };
         let byte = Stream::anonymous(Script(&wire), party).and_then(|mut stream| stream.read(&mut [0]));
         assert!(byte.is_err());
+    }
+}
+
+fn frame(from: &mut TcpStream) -> Option<Vec<u8>> {
+    let mut frame = vec![0; 2];
+    from.read_exact(&mut frame).ok()?;
+    frame.resize(2 + usize::from(u16::from_be_bytes([frame[0], frame[1]])), 0);
+    from.read_exact(&mut frame[2..]).ok()?;
+    Some(frame)
+}
+
+// Carries the three messages of XX, and then frames, of which one, counted from 0, is struck by a fault.
+fn relay(mut client: TcpStream, mut server: TcpStream, fault: usize, at: usize) {
+    for to_server in [true, false, true] {
+        let (from, to) = if to_server { (&mut client, &mut server) } else { (&mut server, &mut client) };
+        let message = frame(from).unwrap();
+        to.write_all(&message).unwrap();
+    }
+    let mut count = 0;
+    while let Some(mut message) = frame(&mut client) {
+        let end = message.len() - 1;
+        match fault {
+            _ if count != at => {}
+            1 => message[2 + 7 * at % (end - 1)] ^= 1 << (at % 8),
+            2 => message.clear(),
+            3 => message.extend(message.clone()),
+            4 => message = [frame(&mut client).unwrap(), message].concat(),
+            5 => message.truncate(1 + 5 * at % end),
+            6 => message.clear(),
+            7 => message[0] ^= 0x40,
+            _ => {}
+        }
+        server.write_all(&message).unwrap();
+        if count == at && (fault == 5 || fault == 6) {
+            break;
+        }
+        count += 1;
+    }
+    server.shutdown(Shutdown::Write).unwrap();
+    io::copy(&mut client, &mut io::sink()).unwrap();
+}
+
+#[test]
+fn no_fault_of_the_wire_makes_a_wrong_byte() {
+    for (fault, kind) in [
+        (0, None),
+        (1, Some(ErrorKind::InvalidData)),
+        (2, Some(ErrorKind::InvalidData)),
+        (3, Some(ErrorKind::InvalidData)),
+        (4, Some(ErrorKind::InvalidData)),
+        (5, Some(ErrorKind::UnexpectedEof)),
+        (6, Some(ErrorKind::ConnectionAborted)),
+        (7, Some(ErrorKind::UnexpectedEof)),
+    ] {
+        for at in 0..10 {
+            let ((a, b), (c, d), (client, server)) = (tcp(), tcp(), begun("XX"));
+            let relayed = std::thread::spawn(move || relay(b, c, fault, at));
+            let sent = std::thread::spawn(move || -> io::Result<()> {
+                let mut stream = Stream::new(a, client, |_| true)?;
+                (0..10).try_for_each(|i| stream.write_all(&[i; 30]))?;
+                stream.close_write()
+            });
+            let (mut stream, mut got) = (Stream::new(d, server, |_| true).unwrap(), Vec::new());
+            let told = stream.read_to_end(&mut got).err().map(|error| error.kind());
+            assert_eq!(told, kind, "fault {fault} at {at}");
+            let whole = [10, at, at, at + 1, at, at, at, at][fault];
+            assert_eq!(got, (0..whole as u8).flat_map(|i| [i; 30]).collect::<Vec<u8>>());
+            sent.join().unwrap().unwrap();
+            relayed.join().unwrap();
+        }
     }
 }

@@ -4,6 +4,7 @@
 //	noisecat -listen :9000 -key server.key -allow KEY,..
 //	noisecat -connect host:9000 -key client.key -peer KEY
 //
+// With port 0 it listens at a free one, and says on standard error where.
 // It ends with status 0 when both ends have said all, and with 1 and a sentence on standard error where anything was wrong.
 package main
 
@@ -16,6 +17,7 @@ import (
 	"net"
 	"os"
 	"strings"
+	"syscall"
 	"time"
 
 	"example.org/noise"
@@ -51,6 +53,8 @@ func sentence(err error) string {
 		return "the connection was cut within a message"
 	case errors.Is(err, noise.ErrCut):
 		return "the connection was cut before the other end said that it was done"
+	case errors.Is(err, syscall.ECONNRESET) || errors.Is(err, syscall.EPIPE):
+		return "the connection was cut: " + err.Error()
 	}
 	return err.Error()
 }
@@ -178,7 +182,7 @@ func (o *options) meet() (net.Conn, error) {
 		return nil, err
 	}
 	defer l.Close()
-	if o.verbose {
+	if o.verbose || strings.HasSuffix(o.listen, ":0") {
 		fmt.Fprintln(os.Stderr, "listening on", l.Addr())
 	}
 	return l.Accept()

@@ -3,14 +3,19 @@ package main
 import (
 	"bufio"
 	"bytes"
-	"crypto/rand"
+	"crypto/sha256"
+	"encoding/binary"
+	"hash"
 	"io"
+	"math/rand"
 	"net"
 	"os"
 	"os/exec"
 	"path/filepath"
+	"strconv"
 	"strings"
 	"testing"
+	"time"
 )
 
 // built is the command, built once.
@@ -46,12 +51,19 @@ func keyFile(t *testing.T, name string, cmd *exec.Cmd) string {
 	return strings.TrimSpace(strings.TrimPrefix(public.String(), "public key: "))
 }
 
-// run2 runs a server, which takes any free port, and then a client, which is made for that address. It gives what the two have printed on these
-// inputs.
-func run2(t *testing.T, server *exec.Cmd, client func(address string) *exec.Cmd, in [2][]byte) (out, errs [2]bytes.Buffer, failed [2]error) {
+// side is one process: what it reads from standard input, where its output goes, and what it has said on standard error, and how it ended.
+type side struct {
+	in     io.Reader
+	out    io.Writer
+	said   bytes.Buffer
+	status int
+}
+
+// run2 runs a server, which takes any free port, and then a client, which is made for that address.
+func run2(t *testing.T, server *exec.Cmd, client func(address string) *exec.Cmd, ends *[2]side) {
 	t.Helper()
-	server.Args = append(server.Args, "-listen", "127.0.0.1:0", "-v")
-	server.Stdin, server.Stdout = bytes.NewReader(in[0]), &out[0]
+	server.Args = append(server.Args, "-listen", "127.0.0.1:0")
+	server.Stdin, server.Stdout = ends[0].in, ends[0].out
 	said, err := server.StderrPipe()
 	if err != nil {
 		t.Fatal(err)
@@ -63,51 +75,136 @@ func run2(t *testing.T, server *exec.Cmd, client func(address string) *exec.Cmd,
 	line, _ := lines.ReadString('\n')
 	address := strings.TrimSpace(strings.TrimPrefix(line, "listening on "))
 	read := make(chan struct{})
-	go func() { io.Copy(&errs[0], lines); close(read) }()
+	go func() { io.Copy(&ends[0].said, lines); close(read) }()
 	cmd := client(address)
-	cmd.Stdin, cmd.Stdout, cmd.Stderr = bytes.NewReader(in[1]), &out[1], &errs[1]
-	failed[1] = cmd.Run()
+	cmd.Stdin, cmd.Stdout, cmd.Stderr = ends[1].in, ends[1].out, &ends[1].said
+	cmd.Run()
 	<-read
-	failed[0] = server.Wait()
-	return
+	server.Wait()
+	ends[0].status, ends[1].status = server.ProcessState.ExitCode(), cmd.ProcessState.ExitCode()
 }
 
-func TestNoisecat(t *testing.T) {
+// pair is the command, the public keys of the files s and c beside it, and a client that wants this key of the server.
+func pair(t *testing.T) (cat func(...string) *exec.Cmd, server, client string, to func(peer string) func(string) *exec.Cmd) {
+	t.Helper()
 	room, cat := built(t)
-	server, client := keyFile(t, room+"/s", cat("keygen")), keyFile(t, room+"/c", cat("keygen"))
-	file, back := make([]byte, 1<<20), []byte("thanks")
-	rand.Read(file)
-	to := func(peer string) func(string) *exec.Cmd {
+	server, client = keyFile(t, room+"/s", cat("keygen")), keyFile(t, room+"/c", cat("keygen"))
+	to = func(peer string) func(string) *exec.Cmd {
 		return func(address string) *exec.Cmd { return cat("-connect", address, "-key", "c", "-peer", peer) }
 	}
+	return cat, server, client, to
+}
 
-	out, errs, failed := run2(t, cat("-key", "s", "-allow", client), to(server), [2][]byte{back, file})
-	if failed[0] != nil || failed[1] != nil || !bytes.Equal(out[0].Bytes(), file) || !bytes.Equal(out[1].Bytes(), back) {
-		t.Fatal(failed, errs[1].String())
+// hashed draws bytes from a seed; its sum is that of what was read.
+func hashed(seed, count int64) (io.Reader, hash.Hash) {
+	sum := sha256.New()
+	return io.TeeReader(io.LimitReader(rand.New(rand.NewSource(seed)), count), sum), sum
+}
+
+// TestFile sends NOISECAT_MB megabytes each way at once.
+func TestFile(t *testing.T) {
+	count := int64(64) << 20
+	if text := os.Getenv("NOISECAT_MB"); text != "" {
+		megabytes, err := strconv.ParseInt(text, 10, 32)
+		if err != nil {
+			t.Fatal(err)
+		}
+		count = megabytes << 20
 	}
-	if !strings.Contains(errs[0].String(), "handshake hash: ") || !strings.Contains(errs[0].String(), "peer's key: "+client) {
+	cat, server, client, to := pair(t)
+	var ends [2]side
+	var sent, came [2]hash.Hash
+	for i := range ends {
+		ends[i].in, sent[i] = hashed(int64(i), count)
+		came[i] = sha256.New()
+		ends[i].out = came[i]
+	}
+	start := time.Now()
+	run2(t, cat("-key", "s", "-allow", client), to(server), &ends)
+	for i := range ends {
+		if ends[i].status != 0 || ends[i].said.Len() != 0 {
+			t.Errorf("status %d: %s", ends[i].status, ends[i].said.String())
+		}
+		if !bytes.Equal(sent[i].Sum(nil), came[1-i].Sum(nil)) {
+			t.Error("another digest")
+		}
+	}
+	took := time.Since(start)
+	t.Logf("%d MB each way at once in %.1f s: %.0f MB/s", count>>20, took.Seconds(), float64(2*count>>20)/took.Seconds())
+}
+
+func TestVerbose(t *testing.T) {
+	cat, server, client, to := pair(t)
+	var ends [2]side
+	run2(t, cat("-key", "s", "-allow", client, "-v"), to(server), &ends)
+	if said := ends[0].said.String(); !strings.Contains(said, "handshake hash: ") || !strings.Contains(said, "peer's key: "+client) {
 		t.Error("-v doesn't show the hash and the key")
 	}
-	_, errs, failed = run2(t, cat("-key", "s", "-allow", server), to(server), [2][]byte{})
-	if failed[0] == nil || !strings.Contains(errs[0].String(), "isn't allowed: "+client) {
-		t.Error("a key that isn't allowed:", errs[0].String())
+}
+
+// refused looks for status 1, and a sentence with these words.
+func refused(t *testing.T, end *side, words string) {
+	t.Helper()
+	said := end.said.String()
+	if end.status != 1 || !strings.HasPrefix(said, "noisecat: ") || !strings.Contains(said, words) || strings.Count(said, "\n") != 1 {
+		t.Errorf("status %d, without the words %q: %s", end.status, words, said)
 	}
-	_, errs, failed = run2(t, cat("-key", "s", "-allow", client), to(client), [2][]byte{})
-	if failed[1] == nil || !strings.Contains(errs[1].String(), "another static key") {
-		t.Error("a wrong key:", errs[1].String())
+}
+
+func TestOtherKeys(t *testing.T) {
+	cat, server, client, to := pair(t)
+	for _, it := range []struct {
+		allow, peer, more string
+		end               int
+		words             string
+	}{
+		{server, server, "", 0, "isn't allowed: " + client},
+		{client, client, "", 1, "another static key"},
+		{client, server, "-prologue=other", 1, "another key, secret, pattern or prologue"},
+		{client, server, "-pattern=IK", 1, "another key, secret, pattern or prologue"},
+		{client, "12", "", 1, "64 hex digits"},
+	} {
+		var ends [2]side
+		run2(t, cat("-key", "s", "-allow", it.allow), func(address string) *exec.Cmd {
+			cmd := to(it.peer)(address)
+			if it.more != "" {
+				cmd.Args = append(cmd.Args, it.more)
+			}
+			if it.words == "64 hex digits" { // the server waits until somebody comes
+				if conn, err := net.Dial("tcp", address); err == nil {
+					conn.Close()
+				}
+			}
+			return cmd
+		}, &ends)
+		refused(t, &ends[it.end], it.words)
 	}
-	for name, change := range map[string]func(io.Writer, io.Reader){"was changed": flip, "within a message": cut} {
+}
+
+// TestFaults changes and cuts what a client sends to a server.
+func TestFaults(t *testing.T) {
+	cat, server, client, to := pair(t)
+	for _, it := range []struct {
+		words  string
+		change func(io.Writer, io.Reader)
+	}{{"was changed", flip}, {"cut within a message", cutWithin}, {"cut before the other end said that it was done", cutBetween}} {
 		middle, err := net.Listen("tcp", "127.0.0.1:0")
 		if err != nil {
 			t.Fatal(err)
 		}
 		defer middle.Close()
-		_, errs, failed = run2(t, cat("-key", "s", "-allow", client), func(address string) *exec.Cmd {
-			go pass(middle, address, change)
+		var ends [2]side
+		ends[1].in, _ = hashed(1, 1<<20)
+		came := new(bytes.Buffer)
+		ends[0].out = came
+		run2(t, cat("-key", "s", "-allow", client), func(address string) *exec.Cmd {
+			go pass(middle, address, it.change)
 			return to(server)(middle.Addr().String())
-		}, [2][]byte{nil, file})
-		if failed[0] == nil || !strings.Contains(errs[0].String(), name) {
-			t.Errorf("%s: %s", name, errs[0].String())
+		}, &ends)
+		refused(t, &ends[0], it.words)
+		sent, _ := hashed(1, int64(came.Len()))
+		if want, _ := io.ReadAll(sent); came.Len() == 0 || !bytes.Equal(came.Bytes(), want) {
+			t.Error("other bytes came than were sent")
 		}
 	}
 }
@@ -120,8 +217,18 @@ func flip(to io.Writer, from io.Reader) {
 	io.Copy(to, from)
 }
 
-func cut(to io.Writer, from io.Reader) { io.CopyN(to, from, 100000) }
+func cutWithin(to io.Writer, from io.Reader) { io.CopyN(to, from, 100000) }
 
+func cutBetween(to io.Writer, from io.Reader) {
+	var length [2]byte
+	for i := 0; i < 5; i++ {
+		io.ReadFull(from, length[:])
+		to.Write(length[:])
+		io.CopyN(to, from, int64(binary.BigEndian.Uint16(length[:])))
+	}
+}
+
+// pass takes one connection, and carries what comes to the server, changed, and what the server says back.
 func pass(middle net.Listener, at string, change func(io.Writer, io.Reader)) {
 	from, err := middle.Accept()
 	if err != nil {
@@ -131,8 +238,11 @@ func pass(middle net.Listener, at string, change func(io.Writer, io.Reader)) {
 	if err != nil {
 		return
 	}
-	go func() { io.Copy(from, to); from.Close() }()
+	back := make(chan bool)
+	go func() { io.Copy(from, to); close(back) }()
 	change(to, from)
+	to.(*net.TCPConn).CloseWrite() // closed with something unread it would be reset
+	<-back
 	to.Close()
 	from.Close()
 }
