@@ -1,12 +1,11 @@
-// The page: what is set up, and what happens at each button.
-import { FUNDAMENTAL, layout, load, textOf } from '../bindings/js/noise.mjs';
+// The page: what is set up, and what happens at each button. What the first verdict doesn't need is loaded after it.
+import { layout } from '../bindings/js/layout.mjs';
+import { load } from '../bindings/js/module.mjs';
+import { FUNDAMENTAL, textOf } from '../bindings/js/patterns.mjs';
 import { Editor } from './editor.mjs';
+import { element } from './element.mjs';
 import { picture, words } from './picture.mjs';
-import { OTHER, Run } from './run.mjs';
-import { element, showLog, showWindows, stateOf } from './runview.mjs';
-import { LANGUAGES, program } from './code.mjs';
 import * as link from './link.mjs';
-import { encode } from './bytes.mjs';
 
 const at = (id) => document.getElementById(id);
 const setup = link.read(location.hash, { text: textOf('XX'), prologue: 'my protocol 1', interval: 0 });
@@ -15,6 +14,13 @@ let run;
 let language = 'C';
 let busy = false;
 let addressing;
+/** What run.mjs, runview.mjs, code.mjs and bytes.mjs export, once they are there. */
+let late;
+
+async function loadLate() {
+  const modules = await Promise.all([import('./run.mjs'), import('./runview.mjs'), import('./code.mjs'), import('./bytes.mjs')]);
+  return Object.assign({}, ...modules);
+}
 
 function save(name, type, text) {
   const url = URL.createObjectURL(new Blob([text], { type }));
@@ -27,16 +33,18 @@ function save(name, type, text) {
 function showPicture() {
   at('picture').classList.toggle('stale', !plan);
   if (!plan) return;
-  at('picture').innerHTML = picture(plan, at('picture').clientWidth < 560 ? 360 : 760);
+  at('picture').innerHTML = picture(plan, innerWidth < 632 ? 360 : 760);
   at('words').replaceChildren(...words(plan).map((line) => element('li', '', line)));
 }
 
 function showCode() {
+  if (!late) return;
   for (const button of at('languages').children) button.setAttribute('aria-pressed', String(button.textContent === language));
-  if (plan) at('code').textContent = program(language, plan, setup);
+  if (plan) at('code').textContent = late.program(language, plan, setup);
 }
 
 function showRun() {
+  if (!late) return;
   const isOpen = Boolean(run?.isOpen);
   at('start').disabled = !plan;
   at('start').textContent = run ? 'Begin again with new keys' : 'Draw keys and begin';
@@ -48,9 +56,9 @@ function showRun() {
   for (const button of document.querySelectorAll('[data-write]')) {
     button.disabled = !run || run[button.dataset.write].ended || (!isOpen && run.setup.mode === 'datagrams' && Boolean(run[button.dataset.write].sealer));
   }
-  at('state').textContent = stateOf(run);
-  showLog(at('log'), run, act);
-  showWindows(at('windows'), run);
+  at('state').textContent = late.stateOf(run);
+  late.showLog(at('log'), run, act);
+  late.showWindows(at('windows'), run);
 }
 
 /** Does one thing at a time with the run, and shows what came of it. */
@@ -71,7 +79,7 @@ async function act(work) {
 function endRun() {
   run?.dispose();
   run = undefined;
-  showLog(at('log'));
+  at('log').replaceChildren();
 }
 
 /** Behind each change of the set-up: a run of another set-up is over. */
@@ -93,10 +101,10 @@ function patternChanged(text, verdict) {
 
 async function begin() {
   endRun();
-  run = await Run.start({ ...setup, prologue: encode(setup.prologue), isOwn: !FUNDAMENTAL.includes(plan.base) });
+  run = await late.Run.start({ ...setup, prologue: late.encode(setup.prologue), isOwn: !FUNDAMENTAL.includes(plan.base) });
 }
 
-const payload = () => encode(at('payload').value);
+const payload = () => late.encode(at('payload').value);
 
 function wire() {
   at('prologue').value = setup.prologue;
@@ -122,13 +130,17 @@ function wire() {
       at('copied').textContent = 'The address of this page is the link.';
     }
   });
-  for (const name of LANGUAGES) {
+  addEventListener('resize', showPicture);
+}
+
+/** The buttons of section 4 that show a program. */
+function wireLanguages() {
+  for (const name of late.LANGUAGES) {
     const button = element('button', '', name);
     button.type = 'button';
     button.addEventListener('click', () => { language = name; showCode(); });
     at('languages').append(button);
   }
-  addEventListener('resize', showPicture);
 }
 
 try {
@@ -141,8 +153,13 @@ try {
     for (const name of ['prologue', 'interval', 'mode', 'window']) at(name).value = setup[name];
     editor.set(setup.text);
   });
+  const firstVerdict = performance.now();
+  late = await loadLate();
+  wireLanguages();
+  showRun();
+  showCode();
   // What the checks and a curious reader of the console may look at; the vector file of a run has its secrets, but no private keys.
-  globalThis.noisePage = { get vectorFile() { return run?.vectorFile().text; }, get lines() { return run?.lines; }, OTHER, firstVerdict: performance.now() };
+  globalThis.noisePage = { get vectorFile() { return run?.vectorFile().text; }, get lines() { return run?.lines; }, firstVerdict };
 } catch (error) {
   at('verdict').className = 'bad';
   at('verdict').replaceChildren(element('p', 'title', error.code === -3 ? 'This browser can’t run the library.' : 'The library couldn’t be loaded.'), element('p', '', error.message));

@@ -1,8 +1,9 @@
 // The text of the pattern: judged at each change, its first fault marked, psk places set by a click.
-import { DEFERRED, FUNDAMENTAL, checkPattern, layout, textOf } from '../bindings/js/noise.mjs';
-import { linesOf } from '../bindings/js/layout.mjs';
+import { checkPattern } from '../bindings/js/check.mjs';
+import { layout, linesOf } from '../bindings/js/layout.mjs';
+import { DEFERRED, FUNDAMENTAL, textOf } from '../bindings/js/patterns.mjs';
 import { explain } from './faults.mjs';
-import { element } from './runview.mjs';
+import { element } from './element.mjs';
 
 const HEADING = /^([A-Z][A-Z0-9]{0,7})((?:psk[0-8])(?:\+psk[0-8])*)?:$/;
 
@@ -51,7 +52,7 @@ export class Editor {
       return made;
     };
     this.#pick.append(new Option('your own', ''), group('Fundamental (7.4, 7.5)', FUNDAMENTAL), group('Deferred (18.1)', DEFERRED));
-    this.#pick.addEventListener('change', () => { if (this.#pick.value) this.set(textOf(this.#pick.value)); });
+    this.#pick.addEventListener('change', () => this.set(this.#pick.value ? textOf(this.#pick.value) : this.text.replace(/^[A-Z0-9]*/, 'MINE')));
     for (let place = 0; place <= 8; place += 1) {
       const box = element('input');
       Object.assign(box, { type: 'checkbox', value: place });

@@ -98,7 +98,7 @@ export function picture(plan, width) {
     y += narrow ? 92 + height + 14 : Math.max(94, 40 + height + 14);
   });
   const lives = narrow ? '' : [left, right].map((x) => `<path class="life" d="M${x} 34V${y}"/>`).join('');
-  return `<svg xmlns="http://www.w3.org/2000/svg" viewBox="0 0 ${width} ${y + 6}" role="img" aria-labelledby="picture-title picture-desc">`
+  return `<svg xmlns="http://www.w3.org/2000/svg" viewBox="0 0 ${width} ${y + 6}" role="img" aria-labelledby="picture-title" aria-describedby="picture-desc">`
     + `<title id="picture-title">The handshake ${escape(plan.section)}</title><desc id="picture-desc">${escape(words(plan).join(' '))}</desc><style>${STYLE}</style>`
     + `<defs><marker id="head" viewBox="0 0 8 8" refX="7" refY="4" markerWidth="8" markerHeight="8" orient="auto"><path class="dim" d="M0 0L8 4L0 8z"/></marker></defs>`
     + `<rect class="bg" width="${width}" height="${y + 6}"/>${lives}${body}</svg>`;

@@ -46,10 +46,11 @@ export class Run {
     run.log = [];
     run.psks = Array.from({ length: run.plan.psks }, () => crypto.getRandomValues(new Uint8Array(32)));
     const keys = {};
-    for (const role of ['initiator', 'responder']) {
-      keys[role] = { e: new Asked(await KeyPair.generate(), 'e') };
-      if (run.plan.static[role]) keys[role].s = new Asked(await KeyPair.generate(), 's');
-    }
+    const draw = async (own) => new Asked(await KeyPair.generate(), own);
+    await Promise.all(['initiator', 'responder'].map(async (role) => {
+      const [e, s] = await Promise.all([draw('e'), run.plan.static[role] ? draw('s') : undefined]);
+      keys[role] = { e, s };
+    }));
     for (const role of ['initiator', 'responder']) {
       const known = (own) => (run.plan.before[OTHER[role]].includes(own) ? keys[OTHER[role]][own].publicKey : undefined);
       const party = new Party(role, keys[role]);

@@ -1,15 +1,8 @@
 // The run as it is shown: each message with its bytes by piece, what came of it, and the buttons that deliver it.
 import { CAUSES } from './faults.mjs';
 import { OTHER } from './run.mjs';
+import { element } from './element.mjs';
 import { hex, shown } from './bytes.mjs';
-
-/** An element with a class, and its children. */
-export function element(name, cls, ...children) {
-  const made = document.createElement(name);
-  if (cls) made.className = cls;
-  made.append(...children);
-  return made;
-}
 
 export const named = (role) => role[0].toUpperCase() + role.slice(1);
 

@@ -5,24 +5,18 @@ import { Datagrams, Transport } from './transport.mjs';
 
 const encoder = new TextEncoder();
 const PLACEHOLDER = new Uint8Array(32);
+let lastPattern = { text: '', bytes: new Uint8Array(0) };
+
+/** The bytes of a pattern: most handshakes have that of the one before. */
+function patternBytes(text) {
+  if (text !== lastPattern.text) lastPattern = { text, bytes: encoder.encode(text) };
+  return lastPattern.bytes;
+}
 
 function bytesOf(value, what, length) {
   if (!(value instanceof Uint8Array)) throw new TypeError(`${what} has to be a Uint8Array`);
   if (length !== undefined && value.length !== length) throw new TypeError(`${what} has to have ${length} bytes`);
   return value;
-}
-
-/** Judges a pattern text: its number of messages, or what is wrong and where. */
-export function checkPattern(text) {
-  const lib = library();
-  const bytes = encoder.encode(text);
-  if (bytes.length > 65536) return { valid: false, code: code.LIMIT, name: 'NOISE_LIMIT', line: 1 };
-  const number = lib.x.noise_check_pattern(...lib.put('prologue', bytes), lib.at.told);
-  const [rule, message, token, messages] = lib.view(lib.at.told + 8n, 4);
-  if (number === code.OK) return { valid: true, messages };
-  const fault = { valid: false, code: number, name: new NoiseError(number).name };
-  if (number !== code.RULE) return { ...fault, line: Number(lib.number(lib.at.told)) };
-  return { ...fault, rule, message, token };
 }
 
 /** One party of a handshake, from its first message to its last. */
@@ -70,7 +64,7 @@ export class Handshake {
     }
     setup[133] = psks.length;
     psks.forEach((psk, n) => setup.set(psk, 134 + 32 * n));
-    const name = encoder.encode(pattern);
+    const name = patternBytes(pattern);
     if (name.length > 512) throw new NoiseError(pattern.endsWith('\n') ? code.PATTERN : code.NAME);
     const answer = lib.x.noise_start(this.#place, ...lib.put('name', name), ...lib.put('prologue', prologue), lib.at.setup);
     lib.wipe('setup');

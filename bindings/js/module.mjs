@@ -143,12 +143,12 @@ class Library {
     this.kept[kind].push(place);
   }
 
-  /** What the last call has told. */
+  /** What the last call has told. Both numbers of 8 bytes are places in a message, below 2^32. */
   told() {
     const start = Number(this.at.told);
     return {
-      from: Number(this.#data.getBigUint64(start, true)),
-      len: Number(this.#data.getBigUint64(start + 8, true)),
+      from: this.#data.getUint32(start, true),
+      len: this.#data.getUint32(start + 8, true),
       token: this.#bytes[start + 16],
       ofStatic: this.#bytes[start + 17],
     };
@@ -174,6 +174,7 @@ class Library {
 }
 
 let loaded;
+let loading;
 
 /** The library that `load` has made. */
 export function library() {
@@ -181,13 +182,15 @@ export function library() {
   return loaded;
 }
 
-async function bytesOf(source) {
-  if (source instanceof ArrayBuffer || ArrayBuffer.isView(source)) return source;
+async function instanceOf(source) {
+  if (source instanceof ArrayBuffer || ArrayBuffer.isView(source)) return WebAssembly.instantiate(source, {});
   const url = new URL(source, import.meta.url);
-  if (url.protocol === 'file:') return (await import('node:fs/promises')).readFile(url);
+  if (url.protocol === 'file:') return WebAssembly.instantiate(await (await import('node:fs/promises')).readFile(url), {});
   const answer = await fetch(url);
   if (!answer.ok) throw new Error(`${url}: ${answer.status} ${answer.statusText}`);
-  return answer.arrayBuffer();
+  // A server that doesn't know the type of .wasm takes part too.
+  const isTyped = answer.headers.get('content-type') === 'application/wasm';
+  return isTyped ? WebAssembly.instantiateStreaming(answer, {}) : WebAssembly.instantiate(await answer.arrayBuffer(), {});
 }
 
 /** Whether this engine runs WebAssembly with 64-bit memory: a module of nothing but such a memory is tried. */
@@ -200,8 +203,13 @@ export function hasMemory64() {
  * Throws NOISE_NO_MEMORY64 where the engine lacks 64-bit memory, and what `fetch` and WebAssembly throw.
  */
 export async function load(source = 'noise_c.wasm') {
-  if (loaded) return;
   if (!hasMemory64()) throw new NoiseError(code.NO_MEMORY64);
-  const { instance } = await WebAssembly.instantiate(await bytesOf(source), {});
-  loaded ??= new Library(instance);
+  loading ??= instanceOf(source);
+  try {
+    const { instance } = await loading;
+    loaded ??= new Library(instance);
+  } catch (error) {
+    loading = undefined;
+    throw error;
+  }
 }

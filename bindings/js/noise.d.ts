@@ -102,9 +102,17 @@ export interface NoiseSocketOptions extends HandshakeOptions {
   /** Asked behind the last message; where it answers false, the channel is closed. */
   judge?(remoteStatic: Uint8Array | undefined): boolean | Promise<boolean>;
 }
+/** What is used of a stream of Node, as a socket of TCP. */
+export interface NodeStream extends AsyncIterable<Uint8Array> {
+  pipe: unknown;
+  on(event: 'error', listener: () => void): unknown;
+  write(bytes: Uint8Array, done: (error?: Error | null) => void): boolean;
+  end(done: () => void): unknown;
+  destroy(): unknown;
+}
 export class NoiseSocket implements AsyncIterable<Uint8Array> {
   private constructor();
-  static open(carrier: WebSocket | { readable: ReadableStream<Uint8Array>; writable: WritableStream<Uint8Array> }, options: NoiseSocketOptions): Promise<NoiseSocket>;
+  static open(carrier: WebSocket | NodeStream | { readable: ReadableStream<Uint8Array>; writable: WritableStream<Uint8Array> }, options: NoiseSocketOptions): Promise<NoiseSocket>;
   readonly hash: Uint8Array;
   readonly remoteStatic: Uint8Array | undefined;
   send(payload: Uint8Array): Promise<void>;

@@ -2,7 +2,8 @@
 // it is used, and what of it is proved.
 export { NoiseError, code, hasMemory64, load } from './module.mjs';
 export { KeyPair } from './keys.mjs';
-export { Handshake, checkPattern } from './handshake.mjs';
+export { checkPattern } from './check.mjs';
+export { Handshake } from './handshake.mjs';
 export { Datagrams, Transport } from './transport.mjs';
 export { NoiseSocket } from './socket.mjs';
 export { layout } from './layout.mjs';

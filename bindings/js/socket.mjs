@@ -1,12 +1,13 @@
-// A channel over what moves bytes: a WebSocket, one message a frame, or a pair of WHATWG streams, each message with its length in front.
+// A channel over what moves bytes: a WebSocket, one message a frame, or a pair of WHATWG streams or a stream of Node, each message with its length in
+// front.
 import { NoiseError, code } from './module.mjs';
 import { Handshake } from './handshake.mjs';
 
-/** What comes, in order: those who wait are served as it comes. */
+/** What comes, in order: those who wait are served as it comes. At the end there is undefined, or what was thrown at it. */
 class Queue {
   #items = [];
   #waiting = [];
-  #ended = false;
+  #end;
 
   push(item) {
     const next = this.#waiting.shift();
@@ -14,15 +15,14 @@ class Queue {
     else this.#items.push(item);
   }
 
-  end() {
-    this.#ended = true;
-    for (const next of this.#waiting.splice(0)) next(undefined);
+  end(thrown) {
+    this.#end ??= thrown ? () => Promise.reject(thrown) : () => Promise.resolve(undefined);
+    for (const next of this.#waiting.splice(0)) next(this.#end());
   }
 
   take() {
     if (this.#items.length > 0) return Promise.resolve(this.#items.shift());
-    if (this.#ended) return Promise.resolve(undefined);
-    return new Promise((resolve) => { this.#waiting.push(resolve); });
+    return this.#end?.() ?? new Promise((resolve) => { this.#waiting.push(resolve); });
   }
 }
 
@@ -34,16 +34,37 @@ async function overWebSocket(socket) {
     // A text frame is no message of Noise: an empty one stands for it, and is refused.
     queue.push(typeof data === 'string' ? new Uint8Array(0) : new Uint8Array(data));
   });
-  for (const event of ['close', 'error']) socket.addEventListener(event, () => queue.end());
+  socket.addEventListener('close', ({ wasClean }) => queue.end(wasClean === false ? new NoiseError(code.CLOSED) : undefined));
   if (socket.readyState === 0) await new Promise((resolve) => { for (const event of ['open', 'close', 'error']) socket.addEventListener(event, resolve, { once: true }); });
   if (socket.readyState !== 1) throw new NoiseError(code.CLOSED);
   return { send: async (message) => socket.send(message), take: () => queue.take(), close: async () => socket.close() };
 }
 
-/** Messages over a pair of streams of bytes, each behind its length in two bytes, the higher first (Noise, 13). */
-async function overStreams({ readable, writable }) {
+/** A pair of WHATWG streams, by what is read next, a way to write, and one to close. */
+function ofStreams({ readable, writable }) {
   const reader = readable.getReader();
   const writer = writable.getWriter();
+  return { read: () => reader.read(), write: (bytes) => writer.write(bytes), close: () => Promise.allSettled([writer.close(), reader.cancel()]) };
+}
+
+/** The same of a stream of Node, as a socket of TCP. By Duplex.toWeb of Node 20 an error after the close would end the program. */
+function ofNode(stream) {
+  const chunks = stream[Symbol.asyncIterator]();
+  stream.on('error', () => {});
+  return {
+    read: () => chunks.next(),
+    write: (bytes) => new Promise((resolve, reject) => { stream.write(bytes, (error) => { if (error) reject(error); else resolve(); }); }),
+    close: async () => {
+      await new Promise((resolve) => { stream.end(resolve); });
+      stream.destroy();
+    },
+  };
+}
+
+const broken = (cause) => { throw Object.assign(new NoiseError(code.CLOSED), { cause }); };
+
+/** Messages over a stream of bytes, each after its length in two bytes, the higher first (Noise, 13). */
+function overStream({ read, write, close }) {
   let rest = new Uint8Array(0);
 
   /** So many bytes, or undefined where the stream ends in front of the first. */
@@ -51,9 +72,10 @@ async function overStreams({ readable, writable }) {
     const parts = [rest];
     let held = rest.length;
     while (held < count) {
-      const { value, done } = await reader.read();
+      const { value, done } = await read().catch(broken);
       if (done && held === 0 && isFirst) return undefined;
       if (done) throw new NoiseError(code.CLOSED);
+      if (!(value instanceof Uint8Array)) throw new TypeError('the stream has to be one of bytes, as Uint8Array');
       parts.push(value);
       held += value.length;
     }
@@ -73,10 +95,16 @@ async function overStreams({ readable, writable }) {
     const frame = new Uint8Array(2 + message.length);
     frame.set([message.length >> 8, message.length & 255]);
     frame.set(message, 2);
-    await writer.write(frame);
+    await write(frame).catch(broken);
   }
 
-  return { send, take, close: async () => { await Promise.allSettled([writer.close(), reader.cancel()]); } };
+  return { send, take, close };
+}
+
+/** What moves the messages of a WebSocket, a pair of WHATWG streams or a stream of Node. */
+function over(carrier) {
+  if (typeof carrier.readable?.getReader === 'function') return overStream(ofStreams(carrier));
+  return typeof carrier.pipe === 'function' ? overStream(ofNode(carrier)) : overWebSocket(carrier);
 }
 
 /** An open channel: `send` and `receive` move payloads. It closes at the first message that is refused. */
@@ -92,14 +120,15 @@ export class NoiseSocket {
   }
 
   /**
-   * Passes a handshake, without payloads, over a WebSocket or over `{readable, writable}`. The options are those of Handshake, and `interval`.
+   * Passes a handshake, without payloads, over a WebSocket, over `{readable, writable}`, or over a stream of Node. The options are those of
+   * Handshake, and `interval`. What a WebSocket got before this call isn't seen.
    * `judge(remoteStatic)` is asked behind the last message, and has to answer true: else the channel is closed.
    */
   static async open(carrier, { interval = 0n, judge, ...options }) {
     const handshake = new Handshake(options);
     let channel;
     try {
-      channel = await (carrier.readable ? overStreams(carrier) : overWebSocket(carrier));
+      channel = await over(carrier);
       while (!handshake.stage.done) {
         if (handshake.stage.writesNext) {
           await channel.send(await handshake.write());
@@ -128,12 +157,14 @@ export class NoiseSocket {
     await this.#channel.send(this.#transport.seal(payload));
   }
 
-  /** The next payload, or undefined where the connection was closed between messages. A close isn't authenticated. */
+  /**
+   * The next payload, or undefined where the connection was closed between messages. A close isn't authenticated. Where it was cut inside a
+   * message, or a WebSocket without its closing frames, it throws NOISE_CLOSED.
+   */
   async receive() {
-    const message = await this.#channel.take();
-    if (!message) return undefined;
     try {
-      return this.#transport.open(message);
+      const message = await this.#channel.take();
+      return message && this.#transport.open(message);
     } catch (error) {
       await this.close();
       throw error;

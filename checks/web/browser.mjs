@@ -79,9 +79,15 @@ export class Browser {
   }
 
   async press(key, text) {
-    const code = { Tab: 9, Enter: 13, ' ': 32 }[key];
+    const code = { Tab: 9, Enter: 13, ' ': 32, ArrowUp: 38, ArrowDown: 40 }[key] ?? 0;
     await this.send('Input.dispatchKeyEvent', { type: 'keyDown', key, code: key, windowsVirtualKeyCode: code, text });
     await this.send('Input.dispatchKeyEvent', { type: 'keyUp', key, code: key, windowsVirtualKeyCode: code });
+  }
+
+  /** Types a text where the focus is, in the place of what is there. */
+  async type(text) {
+    await this.send('Input.dispatchKeyEvent', { type: 'keyDown', commands: ['selectAll'] });
+    await this.send('Input.insertText', { text });
   }
 
   async picture(width, height, dark, isWhole = false) {

@@ -3,7 +3,10 @@ import assert from 'node:assert/strict';
 import { writeFile } from 'node:fs/promises';
 import { join } from 'node:path';
 import { Browser } from './browser.mjs';
+import { keyboard, speech } from './access.mjs';
+import { figures } from './figures.mjs';
 import { serve } from './server.mjs';
+import { EXPECTED, takeChannels } from './socket-server.mjs';
 import { DEFERRED, FUNDAMENTAL } from '../../bindings/js/patterns.mjs';
 
 const [top, room] = process.argv.slice(2);
@@ -74,12 +77,16 @@ async function faults() {
     ['MINE:\n  -> e\n  -> e, ee\n', '->', 'Line 3'],
     ['MINE:\n  -> e, psk\n', 'psk', 'Line 2'],
     ['XX:\n  -> e\n', 'XX', 'Line 1'],
+    ['MINE:\n  <- s\n  -> s\n  ...\n  -> e, es\n', '  -> s', 'Line 3'],
+    ['MINE:\n  -> e\n  <- e, e, e, e, e, e, e, e, e\n', '  <- e, e, e, e, e, e, e, e, e', 'Line 3'],
+    ['MINE:\n', 'MINE:', 'Line 2: ending'],
   ];
   for (const [text, marked, title] of cases) {
     await type('text', text);
     assert.equal(await browser.evaluate('document.querySelector("mark").textContent'), marked, text);
     assert.ok((await browser.evaluate('document.querySelector("#verdict .title").textContent')).startsWith(title), text);
     assert.equal(await browser.evaluate('document.getElementById("start").disabled'), true);
+    assert.equal(await browser.evaluate('document.getElementById("text").getAttribute("aria-invalid")'), 'true');
   }
   report(`${cases.length} faults are marked at their places`);
 }
@@ -141,49 +148,16 @@ async function datagrams() {
   assert.equal(await browser.evaluate('document.getElementById("mode").value + document.getElementById("pick").value'), 'datagramsIK');
 }
 
-async function keyboard() {
-  await open();
-  const focused = () => browser.evaluate('document.activeElement.id');
-  for (let n = 0; n < 40 && (await focused()) !== 'start'; n += 1) await browser.press('Tab');
-  assert.equal(await focused(), 'start');
-  await browser.press('Enter', '\r');
-  await browser.until('document.getElementById("all").disabled === false');
-  await browser.press('Tab');
-  await browser.press('Enter', '\r');
-  await browser.until('document.getElementById("all").disabled');
-  assert.match(await state(), /initiator is open/);
-}
-
-async function figures() {
-  await open();
-  const first = await browser.evaluate('noisePage.firstVerdict');
-  const key = await run(`const it = document.getElementById('text'); const start = performance.now();
-    for (let n = 0; n < 50; n += 1) { it.value = 'MINE:\\n  -> e, s\\n  <- e, ee, se\\n'.slice(0, 6 + n % 30); it.dispatchEvent(new Event('input')); }
-    return (performance.now() - start) / 50;`);
-  const ratio = await run(`const { Handshake, KeyPair, protocolName } = await import('../bindings/js/noise.mjs');
-    const pattern = protocolName('XX'); const ends = []; const curve = [];
-    const median = (times) => times.slice(20).sort((x, y) => x - y)[20];
-    for (let n = 0; n < 61; n += 1) {
-      const [a, b, c, d] = await Promise.all([0, 1, 2, 3].map(() => KeyPair.generate()));
-      let start = performance.now();
-      for (let k = 0; k < 3; k += 1) { await a.agree(b.publicKey); await b.agree(a.publicKey); }
-      curve.push(performance.now() - start);
-      start = performance.now();
-      const [i, r] = [new Handshake({ pattern, staticKey: a, ephemeralKey: c }), new Handshake({ pattern, responder: true, staticKey: b, ephemeralKey: d })];
-      await r.read(await i.write()); await i.read(await r.write()); await r.read(await i.write());
-      i.finish().dispose(); r.finish().dispose();
-      ends.push(performance.now() - start);
-    }
-    return median(ends) / median(curve);`);
-  const rate = await run(`const { Handshake, protocolName } = await import('../bindings/js/noise.mjs');
-    const [i, r] = [new Handshake({ pattern: protocolName('NN') }), new Handshake({ pattern: protocolName('NN'), responder: true })];
-    await r.read(await i.write()); await i.read(await r.write());
-    const [transport, payload] = [i.finish(), new Uint8Array(16384)];
-    for (let n = 0; n < 100; n += 1) transport.seal(payload);
-    const start = performance.now();
-    for (let n = 0; n < 400; n += 1) transport.seal(payload);
-    return 400 * 16384 / (performance.now() - start) / 1e3;`);
-  report(`first verdict ${first.toFixed(0)} ms behind the load, ${key.toFixed(2)} ms a key, both ends of XX ${ratio.toFixed(2)} times six X25519 calls, sealing 16 KiB ${rate.toFixed(0)} MB/s`);
+/** Channels over the browser's WebSocket, from a page of this server that isn't the one of web/. */
+async function sockets() {
+  const told = await takeChannels(server.server);
+  await browser.open(`${server.url}bindings/js/package.json`);
+  await browser.until('document.readyState === "complete" && location.href.endsWith("package.json")');
+  const outcomes = await run(`const { attempts } = await import('/checks/web/socket-client.mjs');
+    return attempts(${quoted(server.url.replace('http', 'ws'))}, ${quoted(Object.keys(EXPECTED))});`);
+  assert.deepEqual(outcomes, EXPECTED);
+  assert.deepEqual(told.failed, []);
+  report(`${Object.keys(EXPECTED).length} channels over the browser’s WebSocket, with the same outcomes`);
 }
 
 /** How far the page's parts moved while it loaded, as Chromium counts it. */
@@ -198,6 +172,7 @@ async function pictures() {
     await browser.send('Emulation.setDeviceMetricsOverride', { width, height, deviceScaleFactor: 1, mobile: width < 500 });
     await open();
     assert.ok(await browser.evaluate('document.scrollingElement.scrollWidth <= innerWidth'), `${name} is too wide`);
+    assert.equal(await browser.evaluate("document.getElementById(\"write\").offsetHeight"), 0);
     assert.ok(await browser.evaluate(SHIFT) < 0.02, `${name} shifts while it loads`);
     if (!name.includes('phone')) await type('pick', 'IK');
     await begin();
@@ -218,11 +193,13 @@ try {
   await ownPattern();
   await refusals();
   await datagrams();
-  await keyboard();
-  await figures();
+  await keyboard(browser, open);
+  await speech(browser, open);
+  await sockets();
+  report(await figures(browser, open));
   await pictures();
   assert.deepEqual(browser.said, [], 'the console has to be silent');
-  report('a pattern of one’s own, refusals, transport, datagrams, the link and the keyboard: as they should be; the console is silent');
+  report('a pattern of one’s own, refusals, transport, datagrams, the link, the keyboard alone, what a screen reader is told: as they should be; the console is silent');
 } finally {
   await browser.close();
   server.close();

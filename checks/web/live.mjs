@@ -2,7 +2,6 @@
 import assert from 'node:assert/strict';
 import { readFile } from 'node:fs/promises';
 import { connect } from 'node:net';
-import { Duplex } from 'node:stream';
 import { join } from 'node:path';
 import { KeyPair, NoiseSocket, load, protocolName } from '../../bindings/js/noise.mjs';
 
@@ -23,7 +22,7 @@ async function connection() {
 await load();
 const socket = await connection();
 const server = new Uint8Array(await readFile(join(folder, 'server.public')));
-const channel = await NoiseSocket.open(Duplex.toWeb(socket), {
+const channel = await NoiseSocket.open(socket, {
   pattern: protocolName(pattern),
   prologue: bytes('example channel 1'),
   interval: 1000n,

@@ -3,11 +3,15 @@ import { createServer } from 'node:http';
 import { readFile } from 'node:fs/promises';
 import { extname, join, normalize } from 'node:path';
 
-const TYPES = { '.html': 'text/html', '.css': 'text/css', '.mjs': 'text/javascript', '.wasm': 'application/wasm' };
+const TYPES = { '.html': 'text/html', '.json': 'application/json', '.css': 'text/css', '.mjs': 'text/javascript', '.wasm': 'application/wasm' };
 
 export async function serve(folder) {
   const server = createServer(async ({ url }, answer) => {
     const path = normalize(decodeURIComponent(new URL(url, 'http://localhost').pathname));
+    if (path === '/favicon.ico') {
+      answer.writeHead(204).end();
+      return;
+    }
     try {
       const file = await readFile(join(folder, path.endsWith('/') ? `${path}index.html` : path));
       answer.writeHead(200, { 'content-type': TYPES[extname(path)] ?? 'text/html' }).end(file);
@@ -16,5 +20,5 @@ export async function serve(folder) {
     }
   });
   await new Promise((resolve) => { server.listen(0, '127.0.0.1', resolve); });
-  return { url: `http://127.0.0.1:${server.address().port}/`, close: () => { server.closeAllConnections(); server.close(); } };
+  return { server, url: `http://127.0.0.1:${server.address().port}/`, close: () => { server.closeAllConnections(); server.close(); } };
 }

@@ -1,0 +1,17 @@
+// The judgement of a pattern text.
+import { NoiseError, code, library } from './module.mjs';
+
+const encoder = new TextEncoder();
+
+/** Judges a pattern text: its number of messages, or what is wrong and where. */
+export function checkPattern(text) {
+  const lib = library();
+  const bytes = encoder.encode(text);
+  if (bytes.length > 65536) return { valid: false, code: code.LIMIT, name: 'NOISE_LIMIT', line: 1 };
+  const number = lib.x.noise_check_pattern(...lib.put('prologue', bytes), lib.at.told);
+  const [rule, message, token, messages] = lib.view(lib.at.told + 8n, 4);
+  if (number === code.OK) return { valid: true, messages };
+  const fault = { valid: false, code: number, name: new NoiseError(number).name };
+  if (number !== code.RULE) return { ...fault, line: Number(lib.number(lib.at.told)) };
+  return { ...fault, rule, message, token };
+}

@@ -1,0 +1,53 @@
+// What the page and the module take in Chromium. These are printed, and nothing fails by them: how fast a machine is, and what else it does, differs.
+// Of several runs the faster half counts.
+
+const TYPING = `const it = document.getElementById('text'); const start = performance.now();
+  for (let n = 0; n < 50; n += 1) { it.value = 'MINE:\\n  -> e, s\\n  <- e, ee, se\\n'.slice(0, 6 + n % 30); it.dispatchEvent(new Event('input')); }
+  return (performance.now() - start) / 50;`;
+
+// Both ends of XX, and six times what WebCrypto takes for one answer of X25519: a key imported, and bits derived. The last 200 of 400: in the
+// first ones the engine compiles what runs often.
+const RATIO = `const { Handshake, KeyPair, protocolName } = await import('../bindings/js/noise.mjs');
+  const name = 'X25519';
+  const pair = async () => { const { privateKey, publicKey } = await crypto.subtle.generateKey({ name }, false, ['deriveBits']); return { privateKey, bytes: await crypto.subtle.exportKey('raw', publicKey) }; };
+  const agree = async (own, other) => new Uint8Array(await crypto.subtle.deriveBits({ name, public: await crypto.subtle.importKey('raw', other.bytes, { name }, true, []) }, own.privateKey, 256));
+  const pattern = protocolName('XX'); const ends = []; const curve = [];
+  for (let n = 0; n < 400; n += 1) {
+    const [a, b] = await Promise.all([pair(), pair()]);
+    const [c, d, e, f] = await Promise.all([0, 1, 2, 3].map(() => KeyPair.generate()));
+    let start = performance.now();
+    for (let k = 0; k < 3; k += 1) { await agree(a, b); await agree(b, a); }
+    curve.push(performance.now() - start);
+    start = performance.now();
+    const [i, r] = [new Handshake({ pattern, staticKey: c, ephemeralKey: d }), new Handshake({ pattern, responder: true, staticKey: e, ephemeralKey: f })];
+    await r.read(await i.write()); await i.read(await r.write()); await r.read(await i.write());
+    i.finish().dispose(); r.finish().dispose();
+    ends.push(performance.now() - start);
+  }
+  const mean = (times) => times.slice(200).sort((x, y) => x - y).slice(0, 100).reduce((x, y) => x + y) / 100;
+  return mean(ends) / mean(curve);`;
+
+const SEALING = `const { Handshake, protocolName } = await import('../bindings/js/noise.mjs');
+  const [i, r] = [new Handshake({ pattern: protocolName('NN') }), new Handshake({ pattern: protocolName('NN'), responder: true })];
+  await r.read(await i.write()); await i.read(await r.write());
+  const [transport, payload] = [i.finish(), new Uint8Array(16384)];
+  for (let n = 0; n < 400; n += 1) transport.seal(payload);
+  const times = [];
+  for (let k = 0; k < 20; k += 1) {
+    const start = performance.now();
+    for (let n = 0; n < 40; n += 1) transport.seal(payload);
+    times.push(performance.now() - start);
+  }
+  return 10 * 40 * 16384 / times.sort((x, y) => x - y).slice(0, 10).reduce((x, y) => x + y) / 1e3;`;
+
+export async function figures(browser, open) {
+  const run = (work) => browser.evaluate(`(async () => { ${work} })()`);
+  const loads = [];
+  for (let n = 0; n < 5; n += 1) {
+    await open();
+    loads.push(await browser.evaluate('noisePage.firstVerdict'));
+  }
+  const [first, key, ratio, rate] = [loads.sort((x, y) => x - y)[2], await run(TYPING), await run(RATIO), await run(SEALING)];
+  return `first verdict ${first.toFixed(0)} ms after the page is asked for, ${key.toFixed(2)} ms a key, both ends of XX ${ratio.toFixed(2)} times six answers of X25519, `
+    + `sealing 16 KiB ${rate.toFixed(0)} MB/s`;
+}
