@@ -65,10 +65,11 @@
 
    WHAT IS TESTED. What a caller can get wrong in a value is told by a number, and no number of bytes, no count and no content of a kept
    struct makes a call stop the process or touch memory that it wasn't handed: NOISE_STRUCT is told for a struct that stands for nothing, by each call
-   but noise_answer, which only counts the answers: the call after it tells.
+   but noise_start, which begins one, and noise_answer, which looks only at the count of answers: the call after it tells.
 
    WHAT CAN'T BE TESTED, AND IS THE CALLER'S TO KEEP
-   - No pointer is NULL, also where its count is 0. Each leads to as many bytes as its count or its type says.
+   - A pointer that has a count may be NULL where the count is 0, as in `NULL, 0`, or as the data() of an empty vector. No other pointer is NULL.
+     Each leads to as many bytes as its count or its type says.
    - No pointer of a call that isn't const leads to bytes to which another of its pointers leads. So noise_write can't write a message over
      the payload; noise_read and the two _open calls work in place, on one place.
    - A kept struct stands at an address that is a multiple of 8, as its declaration here has it.
@@ -83,7 +84,7 @@
 
    WHICH BYTES STAY. Secrets (psks), answers and keys stand in the kept structs, also behind an end: overwrite a noise_handshake behind
    noise_finish, and each struct when it is done with, by noise_wipe. What a call leaves on the stack isn't overwritten. A call takes at most
-   14 KB of it, as measured.
+   14 KB of it, as measured on x86-64 by checks/c-library/stack.c: what each call has changed of a stack that was filled before.
 
    A CHANGE OF THE LIBRARY. A caller that may meet another build of it than that of this header compares noise_handshake_size() with
    sizeof(noise_handshake), and so on, before anything else. */
@@ -92,6 +93,11 @@
 
 #include <stddef.h>
 #include <stdint.h>
+
+/* The version of this header: docs/VERSIONS.md says what each number promises. */
+#define NOISE_VERSION_MAJOR 1
+#define NOISE_VERSION_MINOR 0
+#define NOISE_VERSION_PATCH 0
 
 #ifdef __cplusplus
 #define NOISE_ALIGNED alignas(8)
@@ -239,7 +245,8 @@ uint32_t noise_start(noise_handshake *h, const uint8_t *pattern, size_t pattern_
    other: after NOISE_WANTED those that told names.
    Of several answers of one key pair to one key the first counts.
    OK · FULL: 8 were handed in already, and nothing is changed. A handshake asks for at most four, each once; so only a party that hands in
-   answers nobody has asked for, or answers for messages that it then doesn't read or write, comes to this: it starts anew. */
+   answers nobody has asked for, or answers for messages that it then doesn't read or write, comes to this: it starts anew. STRUCT isn't told here:
+   of a struct that stands for nothing the answer is OK or FULL by its count of answers, and the call after it tells. */
 uint32_t noise_answer(noise_handshake *h, uint8_t of_static, const uint8_t remote[32], const uint8_t answer[32]);
 
 /* Writes the next message, with this payload, to the front of out. Until a key is agreed on, the payload is sent as it is: noise_message_len says
@@ -327,6 +334,64 @@ uint32_t noise_datagrams_open(noise_datagrams *d, uint8_t *datagram, size_t data
 
 /* The nonce of the next datagram that is sealed: how many there were. OK · STRUCT. */
 uint32_t noise_datagrams_nonce(const noise_datagrams *d, uint64_t *send);
+
+/* NULL, WHERE A COUNT IS 0. The library's own calls take no NULL. Each that takes bytes and their count is also a macro, as the functions of the C
+   library may be (C11, 7.1.4): an inline function that puts the address of a byte, which nobody reads or writes, in the place of NULL. Whoever
+   calls past it, as by a pointer to the function, (noise_start)(..), dlsym or another language, hands in no NULL. */
+
+static inline uint32_t noise_start_inline(noise_handshake *h, const uint8_t *pattern, size_t pattern_len, const uint8_t *prologue, size_t prologue_len,
+    const noise_setup *setup) {
+    const uint8_t nothing = 0;
+    return noise_start(h, pattern || pattern_len ? pattern : &nothing, pattern_len, prologue || prologue_len ? prologue : &nothing, prologue_len, setup);
+}
+
+static inline uint32_t noise_write_inline(noise_handshake *h, const uint8_t *payload, size_t payload_len, uint8_t *out, size_t out_len,
+    noise_told *told) {
+    uint8_t nothing[2] = {0, 0};
+    return noise_write(h, payload || payload_len ? payload : nothing, payload_len, out || out_len ? out : nothing + 1, out_len, told);
+}
+
+static inline uint32_t noise_read_inline(noise_handshake *h, uint8_t *message, size_t message_len, noise_told *told) {
+    uint8_t nothing = 0;
+    return noise_read(h, message || message_len ? message : &nothing, message_len, told);
+}
+
+static inline uint32_t noise_check_pattern_inline(const uint8_t *text, size_t text_len, noise_pattern_told *told) {
+    const uint8_t nothing = 0;
+    return noise_check_pattern(text || text_len ? text : &nothing, text_len, told);
+}
+
+static inline uint32_t noise_transport_seal_inline(noise_transport *t, const uint8_t *payload, size_t payload_len, uint8_t *out, size_t out_len,
+    noise_told *told) {
+    uint8_t nothing[2] = {0, 0};
+    return noise_transport_seal(t, payload || payload_len ? payload : nothing, payload_len, out || out_len ? out : nothing + 1, out_len, told);
+}
+
+static inline uint32_t noise_transport_open_inline(noise_transport *t, uint8_t *message, size_t message_len, noise_told *told) {
+    uint8_t nothing = 0;
+    return noise_transport_open(t, message || message_len ? message : &nothing, message_len, told);
+}
+
+static inline uint32_t noise_datagrams_seal_inline(noise_datagrams *d, const uint8_t *payload, size_t payload_len, uint8_t *out, size_t out_len,
+    noise_told *told) {
+    uint8_t nothing[2] = {0, 0};
+    return noise_datagrams_seal(d, payload || payload_len ? payload : nothing, payload_len, out || out_len ? out : nothing + 1, out_len, told);
+}
+
+static inline uint32_t noise_datagrams_open_inline(noise_datagrams *d, uint8_t *datagram, size_t datagram_len, noise_told *told) {
+    uint8_t nothing = 0;
+    return noise_datagrams_open(d, datagram || datagram_len ? datagram : &nothing, datagram_len, told);
+}
+
+#define noise_start(h, pattern, pattern_len, prologue, prologue_len, setup) \
+    noise_start_inline(h, pattern, pattern_len, prologue, prologue_len, setup)
+#define noise_write(h, payload, payload_len, out, out_len, told) noise_write_inline(h, payload, payload_len, out, out_len, told)
+#define noise_read(h, message, message_len, told) noise_read_inline(h, message, message_len, told)
+#define noise_check_pattern(text, text_len, told) noise_check_pattern_inline(text, text_len, told)
+#define noise_transport_seal(t, payload, payload_len, out, out_len, told) noise_transport_seal_inline(t, payload, payload_len, out, out_len, told)
+#define noise_transport_open(t, message, message_len, told) noise_transport_open_inline(t, message, message_len, told)
+#define noise_datagrams_seal(d, payload, payload_len, out, out_len, told) noise_datagrams_seal_inline(d, payload, payload_len, out, out_len, told)
+#define noise_datagrams_open(d, datagram, datagram_len, told) noise_datagrams_open_inline(d, datagram, datagram_len, told)
 
 #ifdef __cplusplus
 }

@@ -1,4 +1,5 @@
-// The library as C calls it. check FOLDER writes vector files, and what `noise talk` has to print for them, into FOLDER.
+// The library as C calls it. check FOLDER writes vector files, and what `noise talk` has to print for them, into FOLDER. check FOLDER files does no more
+// than that.
 #include "ends.h"
 
 static void check_declared_sizes(void) {
@@ -8,10 +9,12 @@ static void check_declared_sizes(void) {
 }
 
 int main(int count, char **words) {
-    MUST(count == 2);
+    MUST(count == 2 || count == 3);
     check_declared_sizes();
     check_vectors(words[1]);
     check_texts(words[1]);
+    if (count == 3) return 0;
+    check_null();
     check_refusals();
     check_transport();
     check_datagrams();

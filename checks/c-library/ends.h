@@ -67,6 +67,7 @@ uint8_t *place_at_edge(size_t size);
 
 void check_vectors(const char *folder);
 void check_texts(const char *folder);
+void check_null(void);
 void check_refusals(void);
 void check_transport(void);
 void check_datagrams(void);

@@ -107,7 +107,7 @@ void shake_hands(int socket, const char *pattern, bool is_responder, const key_p
     }
     if (code != NOISE_OK) die("the handshake has ended");
     EVP_PKEY_free(ephemeral.secret);
-    OPENSSL_cleanse(&h, sizeof h);                       // the answers stand in it
+    noise_wipe(&h, sizeof h);                            // the answers stand in it
 }
 
 void send_text(int socket, noise_transport *t, const char *text) {

@@ -35,7 +35,7 @@ int main(int count, char **words) {
     send_text(server, &t, words[2]);
     take_text(server, &t, text);
     printf("client: the server says: %s\n", text);
-    OPENSSL_cleanse(&t, sizeof t);
+    noise_wipe(&t, sizeof t);
     close(server);
     return 0;
 }

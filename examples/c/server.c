@@ -29,7 +29,7 @@ int main(int count, char **words) {
     take_text(client, &t, text);
     printf(" says: %s\n", text);
     send_text(client, &t, text);
-    OPENSSL_cleanse(&t, sizeof t);
+    noise_wipe(&t, sizeof t);
     close(client);
     close(listening);
     return 0;

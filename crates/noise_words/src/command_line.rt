@@ -64,7 +64,7 @@ fn top<'a>(alloc: Global) -> Result<Command<'a>, AllocError>
     ensures { IfOk result (λ c. app_of c ≡ record noise { top = record noise.top { is_leaf = true }; subs = [] }) }
 {
     Command::new(alloc, "noise")
-        .version("0.1.0")
+        .version("1.0.0")
         .about("Noise handshake patterns, and transport sessions between two ends, by a file")
         .subcommand_required(true)
         .bin_name("noise")

@@ -1,0 +1,435 @@
+// Calls of the library on random values, as long as it is told: fuzz SECONDS [SEED]. What is handed in as const stands on pages that can't be written,
+// every place ends at a page that can't be touched or begins behind one, and what a refusal leaves is compared byte by byte. Genuine messages have to be
+// taken and changed ones refused; of structs with changed bytes each call has to answer one of its codes. The seed is printed: with it the run is the
+// same again, as far as it goes.
+#define _GNU_SOURCE
+#include "ends.h"
+#include <inttypes.h>
+#include <stdlib.h>
+#include <sys/mman.h>
+#include <time.h>
+#include <unistd.h>
+
+enum { ROOM = 17 * 4096, MARGIN = 64, MARK = 0xc3, MOST_DATAGRAMS = 200 };
+
+// Pages between two that can't be touched, and the bytes of them that a call is handed.
+typedef struct {
+    uint8_t *pages, *at;
+    size_t len;
+    bool is_const;
+} place;
+
+typedef uint32_t writing(void *kept, const uint8_t *payload, size_t payload_len, uint8_t *out, size_t out_len, noise_told *told);
+typedef uint32_t opening(void *kept, uint8_t *message, size_t message_len, noise_told *told);
+
+static place kept_place, first_place, second_place, out_place, told_place;
+static uint8_t payload[ROOM], message[ROOM], before[ROOM], datagrams[MOST_DATAGRAMS][400];
+static size_t datagram_lens[MOST_DATAGRAMS];
+static uint64_t state;
+static unsigned long calls, went_well, rounds;
+
+static const uint64_t begun = CODE(NOISE_OK) | CODE(NOISE_STRUCT);
+static const uint64_t write_codes = CODE(NOISE_OK) | CODE(NOISE_NOT_YOUR_TURN) | CODE(NOISE_TOO_LONG) | CODE(NOISE_DONE) | CODE(NOISE_ENDED)
+    | CODE(NOISE_AGREEMENT) | CODE(NOISE_ROOM) | CODE(NOISE_WANTED) | CODE(NOISE_STRUCT);
+static const uint64_t read_codes = CODE(NOISE_OK) | CODE(NOISE_NOT_YOUR_TURN) | CODE(NOISE_DONE) | CODE(NOISE_ENDED) | CODE(NOISE_AGREEMENT)
+    | CODE(NOISE_SHORT) | CODE(NOISE_TAG) | CODE(NOISE_WANTED) | CODE(NOISE_STRUCT) | CODE(NOISE_LENGTH);
+static const uint64_t seal_codes = CODE(NOISE_OK) | CODE(NOISE_STRUCT) | CODE(NOISE_ROOM) | CODE(NOISE_ONE_WAY) | CODE(NOISE_TOO_LONG) | CODE(NOISE_EXHAUSTED);
+static const uint64_t open_codes = CODE(NOISE_OK) | CODE(NOISE_STRUCT) | CODE(NOISE_LENGTH) | CODE(NOISE_ONE_WAY) | CODE(NOISE_EXHAUSTED)
+    | CODE(NOISE_SHORT) | CODE(NOISE_TAG);
+static const uint64_t datagram_codes = CODE(NOISE_OK) | CODE(NOISE_STRUCT) | CODE(NOISE_ONE_WAY) | CODE(NOISE_SHORT) | CODE(NOISE_TOO_LONG)
+    | CODE(NOISE_RESERVED) | CODE(NOISE_OLD) | CODE(NOISE_REPEATED) | CODE(NOISE_TAG);
+static const uint64_t start_codes = CODE(NOISE_OK) | CODE(NOISE_NAME) | CODE(NOISE_PATTERN) | CODE(NOISE_EPHEMERAL_MISSING)
+    | CODE(NOISE_STATIC_MISSING) | CODE(NOISE_REMOTE_MISSING) | CODE(NOISE_REMOTE_UNEXPECTED) | CODE(NOISE_PSK_COUNT) | CODE(NOISE_LENGTH);
+
+static uint32_t random_number(void) {
+    state = state * 6364136223846793005u + 1442695040888963407u;
+    return (uint32_t)(state >> 33);
+}
+
+static size_t below(size_t limit) {
+    return random_number() % limit;
+}
+
+static bool one_in(size_t n) {
+    return below(n) == 0;
+}
+
+// Mostly short, now and then next to the greatest.
+static size_t random_len(void) {
+    if (one_in(40)) return NOISE_MAX_MESSAGE - 60 + below(90);
+    return one_in(8) ? below(5000) : below(200);
+}
+
+static void make_place(place *p) {
+    size_t page = (size_t)sysconf(_SC_PAGESIZE);
+    MUST(ROOM % page == 0);
+    uint8_t *at = mmap(0, ROOM + 2 * page, PROT_NONE, MAP_PRIVATE | MAP_ANONYMOUS, -1, 0);
+    MUST(at != MAP_FAILED && mprotect(at + page, ROOM, PROT_READ | PROT_WRITE) == 0);
+    p->pages = at + page;
+}
+
+// Puts these bytes, or a filling where there are none, at one of the two edges, with marked bytes on the other side.
+static void *put(place *p, const void *bytes, size_t len, bool is_const) {
+    MUST(len + MARGIN <= ROOM);
+    if (p->is_const) MUST(mprotect(p->pages, ROOM, PROT_READ | PROT_WRITE) == 0);
+    bool at_end = !one_in(3);
+    p->at = at_end ? p->pages + ROOM - len : p->pages;
+    p->len = len;
+    p->is_const = is_const;
+    memset(at_end ? p->at - MARGIN : p->at + len, MARK, MARGIN);
+    if (bytes)
+        memcpy(p->at, bytes, len);
+    else
+        memset(p->at, 0x5e, len);
+    if (is_const) MUST(mprotect(p->pages, ROOM, PROT_READ) == 0);
+    return p->at;
+}
+
+// Bytes that have a count: of none, now and then NULL.
+static uint8_t *put_bytes(place *p, const void *bytes, size_t len, bool is_const) {
+    uint8_t *at = put(p, bytes, len, is_const);
+    return len == 0 && one_in(2) ? NULL : at;
+}
+
+static void must_be_marked(const place *p) {
+    const uint8_t *margin = p->at == p->pages ? p->at + p->len : p->at - MARGIN;
+    for (unsigned i = 0; i < MARGIN; i++) MUST(margin[i] == MARK);
+}
+
+static uint32_t counted(uint32_t code, uint64_t codes) {
+    calls++;
+    went_well += code == NOISE_OK;
+    MUST(is_in(code, codes));
+    must_be_marked(&kept_place);
+    must_be_marked(&first_place);
+    must_be_marked(&second_place);
+    must_be_marked(&out_place);
+    must_be_marked(&told_place);
+    return code;
+}
+
+static uint32_t write_handshake(void *kept, const uint8_t *bytes, size_t len, uint8_t *out, size_t out_len, noise_told *told) {
+    return noise_write((noise_handshake *)kept, bytes, len, out, out_len, told);
+}
+
+static uint32_t seal_transport(void *kept, const uint8_t *bytes, size_t len, uint8_t *out, size_t out_len, noise_told *told) {
+    return noise_transport_seal((noise_transport *)kept, bytes, len, out, out_len, told);
+}
+
+static uint32_t seal_datagrams(void *kept, const uint8_t *bytes, size_t len, uint8_t *out, size_t out_len, noise_told *told) {
+    return noise_datagrams_seal((noise_datagrams *)kept, bytes, len, out, out_len, told);
+}
+
+static uint32_t read_handshake(void *kept, uint8_t *bytes, size_t len, noise_told *told) {
+    return noise_read((noise_handshake *)kept, bytes, len, told);
+}
+
+static uint32_t open_transport(void *kept, uint8_t *bytes, size_t len, noise_told *told) {
+    return noise_transport_open((noise_transport *)kept, bytes, len, told);
+}
+
+static uint32_t open_datagrams(void *kept, uint8_t *bytes, size_t len, noise_told *told) {
+    return noise_datagrams_open((noise_datagrams *)kept, bytes, len, told);
+}
+
+// A refused call of a transport or of datagrams tells nothing beside its code.
+static void must_be_untold(const noise_told *told) {
+    for (size_t i = 0; i < sizeof *told; i++) MUST(((const uint8_t *)told)[i] == 0x5e);
+}
+
+// Writes or seals `len` bytes of `payload` to `message`, with room for `out_len`.
+static uint32_t call_writing(writing *call, void *kept, size_t size, uint64_t codes, size_t len, size_t out_len, noise_told *told) {
+    void *in_place = put(&kept_place, kept, size, false);
+    const uint8_t *bytes = put_bytes(&first_place, payload, len, true);
+    uint8_t *out = put_bytes(&out_place, NULL, out_len, false);
+    noise_told *told_there = put(&told_place, NULL, sizeof *told, false);
+    memset(before, 0x5e, out_len);
+    uint32_t code = counted(call(in_place, bytes, len, out, out_len, told_there), codes);
+    *told = *told_there;
+    size_t written = code == NOISE_OK ? told->len : 0;
+    MUST(written <= out_len);
+    if (code != NOISE_AGREEMENT) MUST(!memcmp(out_place.at + written, before, out_len - written));
+    if (code != NOISE_OK) MUST(!memcmp(in_place, kept, size));
+    if (code != NOISE_OK && call != write_handshake) must_be_untold(told_there);
+    memcpy(kept, in_place, size);
+    memcpy(message, out_place.at, written);
+    return code;
+}
+
+// Reads or opens these bytes. What a refused message of a handshake leaves is a struct that has ended.
+static uint32_t call_opening(opening *call, void *kept, size_t size, uint64_t codes, uint8_t *bytes, size_t len, noise_told *told) {
+    void *in_place = put(&kept_place, kept, size, false);
+    uint8_t *there = put_bytes(&out_place, bytes, len, false);
+    noise_told *told_there = put(&told_place, NULL, sizeof *told, false);
+    uint32_t code = counted(call(in_place, there, len, told_there), codes);
+    *told = *told_there;
+    bool may_end = call == read_handshake && is_in(code, CODE(NOISE_SHORT) | CODE(NOISE_TAG) | CODE(NOISE_AGREEMENT));
+    if (code == NOISE_OK)
+        MUST(told->from <= len && told->len <= len - told->from);
+    else
+        MUST(!memcmp(out_place.at, bytes, len));
+    if (code != NOISE_OK && !may_end) MUST(!memcmp(in_place, kept, size));
+    if (code != NOISE_OK && call != read_handshake) must_be_untold(told_there);
+    memcpy(kept, in_place, size);
+    memcpy(bytes, out_place.at, len);
+    return code;
+}
+
+static void hand_in_there(noise_handshake *h, unsigned role, const noise_told *told, uint64_t codes) {
+    uint8_t answer[32];
+    const uint8_t *own = public_key(role, told->of_static & 1);
+    for (unsigned i = 0; i < 32; i++) answer[i] = own[i] ^ told->remote[i];
+    noise_handshake *there = put(&kept_place, h, sizeof *h, false);
+    uint8_t *remote_there = put(&first_place, told->remote, 32, true), *answer_there = put(&second_place, answer, 32, true);
+    uint32_t code = counted(noise_answer(there, told->of_static, remote_there, answer_there), codes);
+    if (code == NOISE_FULL) MUST(!memcmp(there, h, sizeof *h));
+    *h = *there;
+}
+
+static uint32_t write_there(noise_handshake *h, unsigned role, size_t len, size_t out_len, noise_told *told) {
+    uint32_t code;
+    while ((code = call_writing(write_handshake, h, sizeof *h, write_codes, len, out_len, told)) == NOISE_WANTED)
+        hand_in_there(h, role, told, CODE(NOISE_OK));
+    return code;
+}
+
+static uint32_t read_there(noise_handshake *h, unsigned role, uint8_t *bytes, size_t len, noise_told *told) {
+    uint32_t code;
+    while ((code = call_opening(read_handshake, h, sizeof *h, read_codes, bytes, len, told)) == NOISE_WANTED)
+        hand_in_there(h, role, told, CODE(NOISE_OK));
+    return code;
+}
+
+static void change_bytes(uint8_t *bytes, size_t len) {
+    for (size_t n = 1 + below(one_in(3) ? 20 : 2); n && len; n--) bytes[below(len)] ^= (uint8_t)(1 + below(255));
+}
+
+// A call that only asks: nothing is changed but, at OK, what it tells.
+#define ASK(kept, kept_type, out_size, codes, call)                                                              \
+    do {                                                                                                         \
+        const kept_type *k = put(&kept_place, kept, sizeof(kept_type), true);                                    \
+        void *o = put(&out_place, NULL, out_size, false);                                                        \
+        memset(before, 0x5e, out_size);                                                                          \
+        if (counted(call, codes) != NOISE_OK) MUST(!memcmp(o, before, out_size));                                \
+    } while (0)
+
+static void ask_handshake(const noise_handshake *h) {
+    uint64_t ends_codes = begun | CODE(NOISE_NOT_DONE) | CODE(NOISE_ENDED);
+    uint32_t window = (uint32_t[]){64, 256, 1024, 0, 65}[below(5)];
+    ASK(h, noise_handshake, sizeof(size_t), begun | CODE(NOISE_NOT_DUE), noise_message_len(k, random_len(), o));
+    ASK(h, noise_handshake, 32, begun, noise_hash(k, o));
+    ASK(h, noise_handshake, sizeof(noise_key), begun, noise_remote_static(k, o));
+    ASK(h, noise_handshake, sizeof(noise_stage_told), begun, noise_stage(k, o));
+    ASK(h, noise_handshake, sizeof(noise_transport), ends_codes, noise_finish(k, random_number(), o));
+    ASK(h, noise_handshake, sizeof(noise_datagrams), ends_codes | CODE(NOISE_WINDOW), noise_finish_datagrams(k, window, o));
+}
+
+static void ask_transport(const noise_transport *t) {
+    ASK(t, noise_transport, 32, begun, noise_transport_hash(k, o));
+    ASK(t, noise_transport, sizeof(noise_key), begun, noise_transport_remote_static(k, o));
+    const noise_transport *k = put(&kept_place, t, sizeof *t, true);
+    uint64_t *send = put(&out_place, NULL, 8, false), *receive = put(&told_place, NULL, 8, false);
+    counted(noise_transport_nonces(k, send, receive), begun);
+}
+
+static void ask_datagrams(const noise_datagrams *d) {
+    ASK(d, noise_datagrams, 8, begun, noise_datagrams_nonce(k, o));
+}
+
+// All calls on a copy whose bytes may be changed, with bytes of any kind.
+static void disturb_handshake(const noise_handshake *h, unsigned role) {
+    static uint8_t bytes[ROOM];
+    noise_handshake copy = *h;
+    noise_told told = {0};
+    size_t len = random_len();
+    if (!one_in(3)) change_bytes(copy.kept, sizeof copy);
+    for (size_t i = 0; i < len; i++) bytes[i] = (uint8_t)random_number();
+    ask_handshake(&copy);
+    call_writing(write_handshake, &copy, sizeof copy, write_codes, random_len(), random_len(), &told);
+    call_opening(read_handshake, &copy, sizeof copy, read_codes, bytes, len, &told);
+    hand_in_there(&copy, role, &told, CODE(NOISE_OK) | CODE(NOISE_FULL));
+    call_opening(read_handshake, &copy, sizeof copy, read_codes, bytes, len, &told);
+}
+
+static void disturb_transport(const noise_transport *t) {
+    noise_transport copy = *t;
+    noise_told told;
+    if (!one_in(3)) change_bytes(copy.kept, sizeof copy);
+    ask_transport(&copy);
+    call_writing(seal_transport, &copy, sizeof copy, seal_codes, random_len(), random_len(), &told);
+    call_opening(open_transport, &copy, sizeof copy, open_codes, payload, random_len(), &told);
+}
+
+static void disturb_datagrams(const noise_datagrams *d) {
+    noise_datagrams copy = *d;
+    noise_told told;
+    if (!one_in(3)) change_bytes(copy.kept, sizeof copy);
+    ask_datagrams(&copy);
+    call_writing(seal_datagrams, &copy, sizeof copy, seal_codes, random_len(), random_len(), &told);
+    call_opening(open_datagrams, &copy, sizeof copy, datagram_codes, payload, random_len(), &told);
+}
+
+static uint32_t start_there(noise_handshake *h, const void *pattern, size_t len, size_t prologue_len, const noise_setup *setup) {
+    noise_handshake old = *h;
+    noise_handshake *there = put(&kept_place, h, sizeof *h, false);
+    const uint8_t *pattern_there = put_bytes(&first_place, pattern, len, true);
+    const uint8_t *prologue_there = put_bytes(&second_place, prologue(), prologue_len, true);
+    const noise_setup *setup_there = put(&out_place, setup, sizeof *setup, true);
+    uint32_t code = counted(noise_start(there, pattern_there, len, prologue_there, prologue_len, setup_there), start_codes);
+    if (code != NOISE_OK) MUST(!memcmp(there, &old, sizeof old));
+    *h = *there;
+    return code;
+}
+
+// Patterns, prologues and setups that are wrong in some byte, or not at all.
+static void disturb_start(const plan *p, unsigned role) {
+    noise_handshake h;
+    uint8_t pattern[500];
+    const char *right = p->text[0] ? p->text : p->name;
+    size_t len = strlen(right);
+    noise_setup setup = setup_of(p, role);
+    memset(&h, 0x33, sizeof h);
+    memcpy(pattern, right, len);
+    if (one_in(2)) change_bytes(pattern, len);
+    if (one_in(3)) change_bytes((uint8_t *)&setup, sizeof setup);
+    if (one_in(4)) len = below(len + 1);
+    start_there(&h, pattern, len, one_in(30) ? NOISE_MAX_PROLOGUE + 1 : random_len() % (NOISE_MAX_PROLOGUE + 1), &setup);
+    noise_pattern_told *told = put(&told_place, NULL, sizeof *told, false);
+    counted(noise_check_pattern(put_bytes(&first_place, pattern, len, true), len, told), CODE(NOISE_OK) | (CODE(NOISE_RULE + 1) - CODE(NOISE_HEADING)));
+}
+
+static plan random_plan(void) {
+    static const char *const ours[] = {"NK1:\n  <- s\n  ...\n  -> e\n  <- e, ee, es\n", "XX1psk0+psk3:\n  -> psk, e\n  <- e, ee, s\n  -> es, s, se, psk\n"};
+    if (one_in(6)) return plan_of_text(ours[0], "NK", 0, true);
+    if (one_in(6)) return plan_of_text(ours[1], "XX", 2, true);
+    const char *base = patterns[below(PATTERNS)];
+    plan plain = plan_of(base, -1), p = plan_of(base, (int)below(plain.messages + 2) - 1);
+    p.prologue_len = one_in(9) ? NOISE_MAX_PROLOGUE : below(100);
+    return p;
+}
+
+// A changed message on a copy: it may be one that nobody can tell from a genuine one, as long as no key is agreed on.
+static void try_changed(const noise_handshake *h, unsigned role, size_t len) {
+    static uint8_t changed[ROOM];
+    noise_handshake copy = *h;
+    noise_told told;
+    memcpy(changed, message, len);
+    change_bytes(changed, len);
+    if (one_in(3)) len = below(len + 1);
+    uint32_t code = read_there(&copy, role, changed, len, &told);
+    MUST(is_in(code, CODE(NOISE_OK) | CODE(NOISE_SHORT) | CODE(NOISE_TAG)));
+    if (code != NOISE_OK) MUST(call_opening(read_handshake, &copy, sizeof copy, read_codes, changed, len, &told) == NOISE_ENDED);
+}
+
+static void shake_hands(const plan *p, noise_handshake h[2]) {
+    noise_told told;
+    for (unsigned m = 0; m < p->messages; m++) {
+        unsigned writer = m % 2, reader = 1 - writer;
+        size_t len = random_len() % 60000, needed;
+        disturb_handshake(&h[below(2)], writer);
+        MUST(noise_message_len(&h[writer], len, &needed) == NOISE_OK);
+        MUST(write_there(&h[writer], writer, len, below(needed), &told) == NOISE_ROOM && told.len == needed);
+        MUST(write_there(&h[writer], writer, len, needed + (one_in(2) ? 0 : below(50)), &told) == NOISE_OK && told.len == needed);
+        try_changed(&h[reader], reader, needed);
+        MUST(read_there(&h[reader], reader, message, needed, &told) == NOISE_OK);
+        MUST(told.len == len && !memcmp(message + told.from, payload, len));
+    }
+}
+
+static void use_stream(const plan *p, const noise_handshake h[2]) {
+    noise_transport t[2];
+    noise_told told;
+    uint64_t interval = below(5);
+    for (unsigned role = 0; role < 2; role++) MUST(noise_finish(&h[role], interval, &t[role]) == NOISE_OK);
+    for (size_t n = below(12); n; n--) {
+        unsigned sender = p->one_way ? 0 : (unsigned)below(2);
+        size_t len = random_len() % (NOISE_MAX_MESSAGE - NOISE_TAG_LEN + 1), sealed = len + NOISE_TAG_LEN;
+        disturb_transport(&t[below(2)]);
+        MUST(call_writing(seal_transport, &t[sender], sizeof *t, seal_codes, len, below(sealed), &told) == NOISE_ROOM);
+        MUST(call_writing(seal_transport, &t[sender], sizeof *t, seal_codes, len, sealed, &told) == NOISE_OK && told.len == sealed);
+        size_t at = below(sealed);
+        message[at] ^= 0x40;
+        MUST(call_opening(open_transport, &t[!sender], sizeof *t, open_codes, message, sealed, &told) == NOISE_TAG);
+        message[at] ^= 0x40;
+        MUST(call_opening(open_transport, &t[!sender], sizeof *t, open_codes, message, sealed, &told) == NOISE_OK);
+        MUST(told.len == len && !memcmp(message + told.from, payload, len));
+    }
+}
+
+// What docs/C.md says of a datagram of this nonce.
+static uint32_t wanted_of(const bool *opened, size_t greatest, bool is_any, size_t nonce, size_t window) {
+    if (is_any && greatest > nonce && greatest - nonce >= window) return NOISE_OLD;
+    return opened[nonce] ? NOISE_REPEATED : NOISE_OK;
+}
+
+static void open_in_any_order(noise_datagrams *d, size_t count, size_t window) {
+    bool opened[MOST_DATAGRAMS] = {false}, is_any = false;
+    size_t greatest = 0;
+    noise_told told;
+    for (size_t n = 2 * count; n; n--) {
+        size_t nonce = below(count), len = datagram_lens[nonce];
+        uint32_t wanted = wanted_of(opened, greatest, is_any, nonce, window);
+        memcpy(message, datagrams[nonce], len);
+        message[8 + below(len - 8)] ^= 0x11;
+        MUST(call_opening(open_datagrams, d, sizeof *d, datagram_codes, message, len, &told) == (wanted == NOISE_OK ? NOISE_TAG : wanted));
+        memcpy(message, datagrams[nonce], len);
+        MUST(call_opening(open_datagrams, d, sizeof *d, datagram_codes, message, len, &told) == wanted);
+        if (wanted != NOISE_OK) continue;
+        MUST(told.len == len - NOISE_DATAGRAM_OVERHEAD && !memcmp(message + told.from, payload, told.len));
+        opened[nonce] = is_any = true;
+        if (nonce > greatest) greatest = nonce;
+    }
+}
+
+static void use_network(const plan *p, const noise_handshake h[2]) {
+    noise_datagrams d[2];
+    noise_told told;
+    uint32_t window = (uint32_t[]){64, 256, 1024}[below(3)];
+    unsigned sender = p->one_way ? 0 : (unsigned)below(2);
+    for (unsigned role = 0; role < 2; role++) MUST(noise_finish_datagrams(&h[role], window, &d[role]) == NOISE_OK);
+    size_t count = 1 + below(one_in(2) ? MOST_DATAGRAMS : 10);
+    for (size_t i = 0; i < count; i++) {
+        size_t len = below(300);
+        datagram_lens[i] = len + NOISE_DATAGRAM_OVERHEAD;
+        MUST(call_writing(seal_datagrams, &d[sender], sizeof *d, seal_codes, len, datagram_lens[i] + below(9), &told) == NOISE_OK);
+        MUST(told.len == datagram_lens[i]);
+        memcpy(datagrams[i], message, told.len);
+    }
+    disturb_datagrams(&d[below(2)]);
+    open_in_any_order(&d[!sender], count, window);
+    disturb_datagrams(&d[!sender]);
+}
+
+static void try_round(void) {
+    plan p = random_plan();
+    noise_handshake h[2];
+    size_t len = strlen(p.text[0] ? p.text : p.name);
+    for (unsigned role = 0; role < 2; role++) {
+        noise_setup setup = setup_of(&p, role);
+        memset(&h[role], 0x44, sizeof *h);
+        disturb_start(&p, role);
+        MUST(start_there(&h[role], p.text[0] ? p.text : p.name, len, p.prologue_len, &setup) == NOISE_OK);
+    }
+    for (size_t i = 0; i < 512; i++) payload[below(sizeof payload)] = (uint8_t)random_number();
+    shake_hands(&p, h);
+    ask_handshake(&h[0]);
+    use_stream(&p, h);
+    use_network(&p, h);
+    rounds++;
+}
+
+int main(int count, char **words) {
+    MUST(count == 2 || count == 3);
+    time_t until = time(NULL) + strtol(words[1], NULL, 10);
+    state = count == 3 ? strtoull(words[2], NULL, 10) : (uint64_t)time(NULL) * 1000003u + (uint64_t)getpid();
+    printf("c-library: fuzz: seed %" PRIu64 "\n", state);
+    fflush(stdout);
+    place *places[] = {&kept_place, &first_place, &second_place, &out_place, &told_place};
+    for (size_t i = 0; i < sizeof places / sizeof *places; i++) {
+        make_place(places[i]);
+        put(places[i], NULL, 0, false);
+    }
+    while (time(NULL) < until) try_round();
+    printf("c-library: fuzz: %lu rounds, %lu calls, %lu of them went well\n", rounds, calls, went_well);
+    return 0;
+}
