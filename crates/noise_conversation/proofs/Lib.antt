@@ -1,4 +1,6 @@
 pub mod Alike
+pub mod Exactly
 pub mod Fit
+pub mod Framed
 pub mod Faults
 pub mod Xor

@@ -1,3 +1,4 @@
 pub mod Agreement
+pub mod Exactly
 pub mod Lines
 pub mod Setup

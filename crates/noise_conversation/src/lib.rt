@@ -6,10 +6,14 @@ mod conversation;
 mod ends;
 mod fault;
 mod fitting;
+mod laws;
 mod network;
+mod taking;
 
 pub use answers::xor_keys_answer;
 pub use conversation::converse;
 pub use fault::ConversationFault;
 pub use fitting::lines_fit;
+pub use laws::{read_exactly, told_exactly};
 pub use network::{hash_is_told, run_events};
+pub use taking::comes_as;
