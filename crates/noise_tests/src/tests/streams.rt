@@ -1,8 +1,9 @@
 //! Readers and writers that fail or end at each place of a frame, an interruption among the failures.
 
-use super::support::{at_nonces, ends, first_frame, opened};
-use noise_handshake::{Cause, XorKeys};
-use noise_session::{Counted, End, ReceiveFault, SendFault, Stage, Step};
+use super::support::{end, first_frame, opened};
+use noise_handshake::XorKeys;
+use noise_names::Role;
+use noise_session::{Counted, End, ReceiveFault, SendFault, Stage, Step, Transport};
 use std::alloc::Global;
 use std::io::{Error, ErrorKind, Read, Result, Write};
 use std::process::Abort;
@@ -34,7 +35,7 @@ impl Read for Reader {
     }
 }
 
-// Takes a byte a write. Behind so many bytes it fails once and then goes on, or it takes none.
+// Takes a byte a write. Behind so many bytes it fails once and then goes on, or it takes none. A flush fails in place of that write.
 #[derive(Drop)]
 struct Writer {
     taken: [u8; 36],
@@ -61,7 +62,10 @@ impl Write for Writer {
     }
 
     fn flush(&mut self) -> Result<()> {
-        Ok(())
+        match self.failure.take() {
+            Some(kind) => Err(Error::from(kind)),
+            None => Ok(()),
+        }
     }
 }
 
@@ -86,7 +90,7 @@ fn failing_writer(left: usize, failure: Option<ErrorKind>) -> Counted<Writer> {
 
 // A read that fails so at this place leaves the bytes before it, and the next call goes on behind them.
 fn goes_on(rt: &impl Abort, alloc: Global, place: usize, kind: ErrorKind) {
-    let (_, mut responder) = ends(rt, alloc);
+    let mut responder = end(rt, alloc, Role::Responder, &[]);
     let mut from = failing_reader(place, Some(kind));
     let failed = responder.receive(&mut from) == Err(ReceiveFault::Input);
     assert!(rt; failed);
@@ -108,7 +112,7 @@ fn goes_on_behind_a_failed_read(rt: HostRuntime) {
 #[test]
 fn tells_where_the_input_ends(rt: HostRuntime) {
     for place in 0..36 {
-        let (_, mut responder) = ends(&rt, rt.alloc());
+        let mut responder = end(&rt, rt.alloc(), Role::Responder, &[]);
         let mut from = failing_reader(place, None);
         let told = match place {
             0 => Ok(None),
@@ -123,7 +127,7 @@ fn tells_where_the_input_ends(rt: HostRuntime) {
 
 // A write that fails at this place ends the session, and isn't tried again: the writer would take the rest.
 fn ends_at(rt: &impl Abort, alloc: Global, place: usize, failure: Option<ErrorKind>) {
-    let (mut initiator, _) = ends(rt, alloc);
+    let mut initiator = end(rt, alloc, Role::Initiator, &[]);
     let mut out = failing_writer(place, failure);
     let told = initiator.write_to(b"hi", &mut out);
     assert!(rt; told == Err(SendFault::Output { written: place }));
@@ -145,102 +149,27 @@ fn ends_where_a_write_fails(rt: HostRuntime) {
 
 #[test]
 fn writes_a_byte_a_call(rt: HostRuntime) {
-    let (mut initiator, _) = ends(&rt, rt.alloc());
+    let mut initiator = end(&rt, rt.alloc(), Role::Initiator, &[]);
     let mut out = failing_writer(36, Some(ErrorKind::Other));
     assert!(rt; initiator.write_to(b"hi", &mut out) == Ok(36));
     assert!(rt; out.failures() == 0);
     assert!(rt; out.into_inner().taken == first_frame());
 }
 
-// Gives these bytes, as many as it is asked for, and notes how many it was asked for in its first two reads.
-#[derive(Drop)]
-struct Noting {
-    bytes: [u8; 36],
-    at: usize,
-    asked: [usize; 2],
-    reads: usize,
-}
-
-impl Read for Noting {
-    fn read(&mut self, buf: &mut [u8]) -> Result<usize> {
-        if self.reads < 2 {
-            self.asked[self.reads] = buf.len();
-            self.reads += 1;
-        }
-        let at = self.at.min(36);
-        let count = buf.len().min(36 - at);
-        buf[..count].copy_from_slice(&self.bytes[at..at + count]);
-        self.at = at + count;
-        Ok(count)
-    }
-}
-
-// Of these bytes the responder is told this step, and asks for so many bytes in its two reads.
-fn asks(rt: &impl Abort, alloc: Global, bytes: [u8; 36], step: Step<'_>, asked: [usize; 2]) {
-    let (_, mut responder) = ends(rt, alloc);
-    let mut from = Counted::new(Noting {
-        bytes,
-        at: 0,
-        asked: [0; 2],
-        reads: 0,
-    });
-    let told = responder.receive(&mut from) == Ok(Some(step));
-    assert!(rt; told);
-    assert!(rt; from.into_inner().asked == asked);
-}
-
-#[test]
-fn asks_for_the_missing_bytes(rt: HostRuntime) {
-    let (token, cause) = (0, Cause::Short);
-    asks(
-        &rt,
-        rt.alloc(),
-        first_frame(),
-        Step::Payload(b"hi"),
-        [2, 34],
-    );
-    asks(
-        &rt,
-        rt.alloc(),
-        [0; 36],
-        Step::Refused { token, cause },
-        [2, 0],
-    );
-}
-
-// Notes its first flush, and fails at each one behind it.
-#[derive(Drop)]
-struct Flushing {
-    flushed: bool,
-}
-
-impl Write for Flushing {
-    fn write(&mut self, buf: &[u8]) -> Result<usize> {
-        Ok(buf.len())
-    }
-
-    fn flush(&mut self) -> Result<()> {
-        if self.flushed {
-            return Err(Error::from(ErrorKind::Other));
-        }
-        self.flushed = true;
-        Ok(())
-    }
-}
-
 #[test]
 fn flush_is_passed_on_and_not_counted(rt: HostRuntime) {
-    let mut out = Counted::new(Flushing { flushed: false });
-    assert!(rt; out.flush().is_ok());
+    let mut out = failing_writer(0, Some(ErrorKind::Other));
     assert!(rt; out.flush().is_err());
+    assert!(rt; out.flush().is_ok());
     assert!(rt; out.failures() == 0);
-    assert!(rt; out.into_inner().flushed);
 }
 
 // It passes whichever allocation fails: see `rt try --test --fail-alloc N`.
 #[test]
 fn an_end_or_no_memory(rt: HostRuntime) {
-    let transport = at_nonces(&rt, opened(&rt).0, 7, 9);
+    let mut transport = Transport::new(opened(&rt).0, 0);
+    assert!(rt; transport.interval() == 0);
+    transport.set_nonces(7, 9);
     let made: std::result::Result<End<XorKeys>, _> = End::from_transport(rt.alloc(), transport);
     if let Ok(end) = made {
         let (send, receive) = (7, 9);

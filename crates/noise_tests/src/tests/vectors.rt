@@ -1,11 +1,8 @@
 //! Which line of a wrong vector file is told, and that a right one is read.
 
-mod expectations;
-
 use noise_vectors::{AllowedEvents, LineKind, VectorFault, read_vector};
-use std::alloc::{AllocError, Global};
+use std::alloc::Global;
 use std::process::Abort;
-use std::test::Fail;
 
 const PSK: &str = "psk 3333333333333333333333333333333333333333333333333333333333333333";
 
@@ -191,97 +188,12 @@ const UNENDED: [(&str, usize, LineKind); 8] = [
     ("expect ", 13, LineKind::Expect),
 ];
 
-// What is allowed, and which line of that file is told.
-const ALLOWED: [(AllowedEvents, Option<VectorFault>); 3] = [
+// What is allowed, the line of that file that is told, and its kind.
+const ALLOWED: [(AllowedEvents, Option<(usize, LineKind)>); 3] = [
     (AllowedEvents::Any, None),
-    (
-        AllowedEvents::SayOnly,
-        Some(VectorFault::Line(8, LineKind::Event)),
-    ),
-    (
-        AllowedEvents::VersionOne,
-        Some(VectorFault::Line(1, LineKind::Header)),
-    ),
+    (AllowedEvents::SayOnly, Some((8, LineKind::Event))),
+    (AllowedEvents::VersionOne, Some((1, LineKind::Header))),
 ];
-
-#[test]
-fn tells_what_version_2_adds(rt: HostRuntime) -> Result<(), Fail> {
-    let alloc = rt.alloc();
-    for (last, number, kind) in &UNENDED {
-        let file = file_to(alloc, &SECOND, last, *number)?;
-        let fault = fault_of(alloc, file.as_str(), AllowedEvents::Any);
-        assert!(rt; fault == Some(VectorFault::Line(*number, *kind)), "{last}");
-    }
-    for (allowed, told) in &ALLOWED {
-        let file = file_to(alloc, &SECOND, "", 14)?;
-        assert!(rt; fault_of(alloc, file.as_str(), *allowed) == *told);
-        let file = file_to(alloc, &FULL, "", 34)?;
-        assert!(rt; fault_of(alloc, file.as_str(), *allowed).is_none());
-    }
-    Ok(())
-}
-
-// The lines in front of that of this number, and behind them a last one without an LF.
-fn file_to(alloc: Global, lines: &[&str], last: &str, number: usize) -> Result<String, AllocError> {
-    let mut text = String::new(alloc);
-    for (index, line) in lines.iter().enumerate() {
-        if index + 1 < number {
-            text.push_str(line)?;
-            text.push_str("\n")?;
-        }
-    }
-    text.push_str(last)?;
-    Ok(text)
-}
-
-#[test]
-fn tells_the_first_wrong_line(rt: HostRuntime) -> Result<(), Fail> {
-    tells_each(&rt, rt.alloc(), AllowedEvents::SayOnly, &FULL, &WRONG)?;
-    tells_each(&rt, rt.alloc(), AllowedEvents::SayOnly, &OWN, &WRONG_IN_OWN)?;
-    tells_each(
-        &rt,
-        rt.alloc(),
-        AllowedEvents::Any,
-        &SECOND,
-        &WRONG_IN_SECOND,
-    )?;
-    Ok(())
-}
-
-// That each of these wrong lines is told, where it stands in a file of the right ones.
-fn tells_each(
-    rt: &impl Abort,
-    alloc: Global,
-    allowed: AllowedEvents,
-    lines: &[&str],
-    rows: &[(&str, usize, LineKind)],
-) -> Result<(), AllocError> {
-    for (wrong, number, kind) in rows {
-        let file = file_with(alloc, lines, wrong, *number)?;
-        let fault = fault_of(alloc, file.as_str(), allowed);
-        assert!(rt; fault == Some(VectorFault::Line(*number, *kind)), "{wrong}");
-    }
-    Ok(())
-}
-
-// The file of these lines, with a wrong one in front of that of this number.
-fn file_with(
-    alloc: Global,
-    lines: &[&str],
-    wrong: &str,
-    number: usize,
-) -> Result<String, AllocError> {
-    let mut text = String::new(alloc);
-    for (index, line) in lines.iter().enumerate() {
-        if index + 1 == number {
-            text.push_str(wrong)?;
-            text.push_str("\n")?;
-        }
-        text.push_str(line)?;
-        text.push_str("\n")?;
-    }
-    Ok(text)
-}
 
 // Lines that are no events, where all kinds of events are allowed. In version 1 those that version 2 adds aren't either.
 const NO_EVENTS: [&str; 33] = [
@@ -320,9 +232,8 @@ const NO_EVENTS: [&str; 33] = [
     "expect one",
 ];
 
-// Lines that are events. Where `say` alone is allowed, all but the first are refused.
-const EVENTS: [&str; 8] = [
-    "say responder 6869 1,0,65535",
+// Lines that are events, but not where `say` alone is allowed.
+const BESIDE_SAY: [&str; 7] = [
     "write initiator -",
     "write responder 6869",
     "deliver responder 0 -",
@@ -332,100 +243,134 @@ const EVENTS: [&str; 8] = [
     "raw initiator 00",
 ];
 
+// The front and end of a line of the file of version 2, how many bytes stand between them, in front of which line it stands, and which kind of line it is
+// told not to be, or that it is one.
+const LONG: [(&str, usize, &str, usize, Option<LineKind>); 11] = [
+    ("prologue ", 65536, "", 3, Some(LineKind::Prologue)),
+    ("say initiator ", 65535, " -", 8, None),
+    ("say initiator ", 65536, " -", 8, Some(LineKind::Event)),
+    ("write initiator ", 65535, "", 8, None),
+    ("write initiator ", 65536, "", 8, Some(LineKind::Event)),
+    ("raw responder ", 131072, "", 8, None),
+    ("raw responder ", 131073, "", 8, Some(LineKind::Event)),
+    ("seal initiator ", 65535, "", 9, None),
+    ("seal initiator ", 65536, "", 9, Some(LineKind::Event)),
+    ("foreign responder ", 131072, "", 9, None),
+    ("foreign responder ", 131073, "", 9, Some(LineKind::Event)),
+];
+
+// Appends lines.
+fn push_lines(rt: &impl Abort, text: &mut String, lines: &[&str]) {
+    for line in lines {
+        text.push_str(line).expect(rt, "memory");
+        text.push_str("\n").expect(rt, "memory");
+    }
+}
+
+// The lines in front of that of this number, and behind them this text.
+fn text_to(rt: &impl Abort, alloc: Global, lines: &[&str], number: usize, last: &str) -> String {
+    let mut text = String::new(alloc);
+    let before = number.saturating_sub(1);
+    assert!(rt; before <= lines.len());
+    push_lines(rt, &mut text, &lines[..before]);
+    text.push_str(last).expect(rt, "memory");
+    text
+}
+
+// The file of these lines with one more in front of that of this number.
+fn file_with(rt: &impl Abort, alloc: Global, lines: &[&str], number: usize, line: &str) -> String {
+    let mut text = text_to(rt, alloc, lines, number, line);
+    text.push_str("\n").expect(rt, "memory");
+    let before = number.saturating_sub(1);
+    assert!(rt; before <= lines.len());
+    push_lines(rt, &mut text, &lines[before..]);
+    text
+}
+
+// This is told of a text, or it is read.
+fn tells(
+    rt: &impl Abort,
+    alloc: Global,
+    allowed: AllowedEvents,
+    text: &String,
+    told: Option<(usize, LineKind)>,
+    case: &str,
+) {
+    let fault = read_vector(alloc, text.as_bytes(), allowed).err();
+    let told = told.map(|(number, kind)| VectorFault::Line(number, kind));
+    assert!(rt; fault == told, "{case}");
+}
+
+// That each of these wrong lines is told, where it stands in a file of the right ones.
+fn tells_each(
+    rt: &impl Abort,
+    alloc: Global,
+    allowed: AllowedEvents,
+    lines: &[&str],
+    rows: &[(&str, usize, LineKind)],
+) {
+    for (line, number, kind) in rows {
+        let text = file_with(rt, alloc, lines, *number, line);
+        tells(rt, alloc, allowed, &text, Some((*number, *kind)), line);
+    }
+}
+
 #[test]
-fn tells_a_wrong_event(rt: HostRuntime) -> Result<(), Fail> {
+fn tells_the_first_wrong_line(rt: HostRuntime) {
+    let alloc = rt.alloc();
+    tells_each(&rt, alloc, AllowedEvents::SayOnly, &FULL, &WRONG);
+    tells_each(&rt, alloc, AllowedEvents::SayOnly, &OWN, &WRONG_IN_OWN);
+    tells_each(&rt, alloc, AllowedEvents::Any, &SECOND, &WRONG_IN_SECOND);
+}
+
+#[test]
+fn tells_a_wrong_event(rt: HostRuntime) {
     let alloc = rt.alloc();
     for line in &NO_EVENTS {
-        let file = file_with(alloc, &FULL, line, 32)?;
-        let fault = fault_of(alloc, file.as_str(), AllowedEvents::Any);
-        assert_eq!(rt;
-            fault,
-            Some(VectorFault::Line(32, LineKind::Event)),
-            "{line}"
-        );
+        let text = file_with(&rt, alloc, &FULL, 32, line);
+        let told = Some((32, LineKind::Event));
+        tells(&rt, alloc, AllowedEvents::Any, &text, told, line);
     }
-    for (index, line) in EVENTS.iter().enumerate() {
-        let file = file_with(alloc, &FULL, line, 33)?;
-        let fault = fault_of(alloc, file.as_str(), AllowedEvents::Any);
-        assert_eq!(rt; fault, None, "{line}");
-        let refused = if index == 0 {
-            None
-        } else {
-            Some(VectorFault::Line(33, LineKind::Event))
-        };
-        let fault = fault_of(alloc, file.as_str(), AllowedEvents::SayOnly);
-        assert_eq!(rt; fault, refused, "{line}");
+    for line in &BESIDE_SAY {
+        let text = file_with(&rt, alloc, &FULL, 33, line);
+        let told = Some((33, LineKind::Event));
+        tells(&rt, alloc, AllowedEvents::SayOnly, &text, told, line);
+        tells(&rt, alloc, AllowedEvents::Any, &text, None, line);
     }
-    Ok(())
 }
-
-// Why this text is refused, if it is.
-fn fault_of(alloc: Global, text: &str, allowed: AllowedEvents) -> Option<VectorFault> {
-    read_vector(alloc, text.as_bytes(), allowed).err()
-}
-
-// The front of an event's line, in front of which line of the file of version 2 it stands, how many bytes stand behind it, and whether it is an event.
-const SIZES: [(&str, usize, usize, bool); 8] = [
-    ("write initiator ", 8, 65535, true),
-    ("write initiator ", 8, 65536, false),
-    ("raw responder ", 8, 131072, true),
-    ("raw responder ", 8, 131073, false),
-    ("seal initiator ", 9, 65535, true),
-    ("seal initiator ", 9, 65536, false),
-    ("foreign responder ", 9, 131072, true),
-    ("foreign responder ", 9, 131073, false),
-];
 
 #[test]
-fn tells_an_event_with_too_many_bytes(rt: HostRuntime) -> Result<(), Fail> {
+fn tells_a_last_line_without_its_end(rt: HostRuntime) {
     let alloc = rt.alloc();
-    for (front, number, count, is_event) in &SIZES {
-        let mut line = String::from_str(alloc, front)?;
-        push_digits(&mut line, *count)?;
-        let file = file_with(alloc, &SECOND, line.as_str(), *number)?;
-        let told = if *is_event {
-            None
-        } else {
-            Some(VectorFault::Line(*number, LineKind::Event))
-        };
-        let fault = fault_of(alloc, file.as_str(), AllowedEvents::Any);
-        assert!(rt; fault == told, "{front}{count}");
+    for (last, number, kind) in &UNENDED {
+        let text = text_to(&rt, alloc, &SECOND, *number, last);
+        let told = Some((*number, *kind));
+        tells(&rt, alloc, AllowedEvents::Any, &text, told, last);
     }
-    Ok(())
 }
-
-// How many bytes the prologue and the payload have, and the line that is told: a word has at most 65535 bytes.
-const LONG: [(usize, usize, Option<VectorFault>); 3] = [
-    (65536, 0, Some(VectorFault::Line(3, LineKind::Prologue))),
-    (65535, 65536, Some(VectorFault::Line(7, LineKind::Event))),
-    (65535, 65535, None),
-];
 
 #[test]
-fn tells_that_bytes_are_too_many(rt: HostRuntime) -> Result<(), Fail> {
+fn tells_a_line_that_is_not_allowed(rt: HostRuntime) {
     let alloc = rt.alloc();
-    for (prologue, payload, told) in &LONG {
-        let mut file = String::from_str(
-            alloc,
-            "vector 1\nprotocol Noise_NN_25519_ChaChaPoly_SHA256\nprologue ",
-        )?;
-        push_digits(&mut file, *prologue)?;
-        file.push_str("\ninterval 0\ninitiator xor - -\nresponder xor - -\nsay initiator ")?;
-        push_digits(&mut file, *payload)?;
-        file.push_str(" -\n")?;
-        let fault = fault_of(alloc, file.as_str(), AllowedEvents::SayOnly);
-        assert_eq!(rt; fault, *told, "{prologue} {payload}");
+    for (allowed, told) in &ALLOWED {
+        let text = text_to(&rt, alloc, &SECOND, 14, "");
+        tells(&rt, alloc, *allowed, &text, *told, "version 2");
+        let text = text_to(&rt, alloc, &FULL, 34, "");
+        tells(&rt, alloc, *allowed, &text, None, "version 1");
     }
-    Ok(())
 }
 
-// Appends the digits of so many bytes 0, or a hyphen for none.
-fn push_digits(text: &mut String, count: usize) -> Result<(), AllocError> {
-    if count == 0 {
-        return text.push_str("-");
+#[test]
+fn tells_that_bytes_are_too_many(rt: HostRuntime) {
+    let alloc = rt.alloc();
+    for (word, count, end, number, kind) in &LONG {
+        let mut line = String::from_str(alloc, word).expect(&rt, "memory");
+        for _ in 0..*count {
+            line.push_str("00").expect(&rt, "memory");
+        }
+        line.push_str(end).expect(&rt, "memory");
+        let text = file_with(&rt, alloc, &SECOND, *number, line.as_str());
+        let told = kind.map(|kind| (*number, kind));
+        tells(&rt, alloc, AllowedEvents::Any, &text, told, word);
     }
-    for _ in 0..count {
-        text.push_str("00")?;
-    }
-    Ok(())
 }
