@@ -2,6 +2,7 @@
 #![tactic(auto)]
 
 mod answers;
+mod clash;
 mod conversation;
 mod ends;
 mod fault;
@@ -11,6 +12,7 @@ mod network;
 mod taking;
 
 pub use answers::xor_keys_answer;
+pub use clash::run_apart;
 pub use conversation::converse;
 pub use fault::ConversationFault;
 pub use fitting::lines_fit;
