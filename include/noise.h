@@ -1,23 +1,24 @@
-/* The Noise Protocol Framework, revision 34, with 25519, ChaChaPoly and SHA256, for C (C11), C++ (C++11) and whatever calls C.
+/* The Noise Protocol Framework, revision 34, with 25519, ChaChaPoly and SHA256. For C (C11), C++ (C++11) and any language that calls C.
 
-   WHAT IT DOES. It runs a handshake pattern message by message, and then seals and opens transport messages or datagrams. It does no
-   curve arithmetic, draws no random bytes, opens no socket, and takes no memory: the caller hands in public keys and, where one is asked
-   for, the answer of X25519; and a handshake, a transport and the state of datagrams are structs that the caller keeps.
+   WHAT THE LIBRARY DOES. It runs a handshake pattern message by message. After the handshake it seals (encrypts) and opens (decrypts) transport
+   messages or datagrams. It does no curve arithmetic, draws no random bytes, opens no socket and allocates no memory. The caller supplies public
+   keys, computes X25519 when a call asks for it, and keeps the state in structs of three types: noise_handshake, noise_transport and
+   noise_datagrams, the kept structs.
 
    THE ORDER OF CALLS
 
        noise_start                              once, by each party
-       noise_write, noise_read                  in turn, the initiator writes first; at NOISE_WANTED: noise_answer, and the same call again
-       noise_finish                             behind the last message: for a stream, which loses no message and changes no order
-         noise_transport_seal, _open              as often as wanted
-       noise_finish_datagrams                   in its place: for a network that loses, repeats and reorders
-         noise_datagrams_seal, _open              as often as wanted
+       noise_write, noise_read                  in turn; the initiator writes first. At NOISE_WANTED call noise_answer, then repeat the call
+       noise_finish                             after the last message, for a stream, which loses no message and keeps their order
+         noise_transport_seal, _open              as often as needed
+       noise_finish_datagrams                   in place of noise_finish, for a network that loses, repeats and reorders messages
+         noise_datagrams_seal, _open              as often as needed
 
-   noise_stage tells whose turn it is, and noise_finish answers NOISE_NOT_DONE as long as messages are due.
+   noise_stage says whose turn it is. noise_finish returns NOISE_NOT_DONE as long as messages are due.
 
-   A WHOLE HANDSHAKE, of either party. `send` and `take` are the program's, as below under FRAMES; `x25519` is the curve's:
+   A WHOLE HANDSHAKE, for either party. FRAMES, below, has `send` and `take`; `x25519` is the function of the curve:
 
-       noise_setup setup = {0};                              // {0}: no keys, no secrets, the initiator
+       noise_setup setup = {0};                              // {0}: the initiator, without keys or psks
        setup.responder = is_responder;
        setup.e.present = 1; memcpy(setup.e.bytes, own_ephemeral_public, 32);
        setup.s.present = 1; memcpy(setup.s.bytes, own_static_public, 32);
@@ -39,16 +40,16 @@
                if (noise_answer(&h, told.of_static, told.remote, answer) != NOISE_OK) fail();
            }
            if (code != NOISE_OK) fail();
-           if (stage.writes_next) send(message, told.len);   // else the payload is the told.len bytes of message from told.from on
+           if (stage.writes_next) send(message, told.len);   // else the payload is message[told.from], told.len bytes
        }
        if (code != NOISE_OK) fail();
        noise_key remote;
        if (noise_transport_remote_static(&t, &remote) != NOISE_OK) fail();
        if (!remote.present || memcmp(remote.bytes, expected_remote_static, 32) != 0) fail();
-       noise_wipe(&h, sizeof h);                             // and t, when it is done with
+       noise_wipe(&h, sizeof h);                             // and t, once it is no longer used
 
-   FRAMES. A message doesn't say how long it is. Over a stream send its length in front of it, in two bytes, the higher first (Noise, 13);
-   a datagram of a network needs none:
+   FRAMES. A message doesn't contain its length. Over a stream, send the length before the message, in two bytes, the higher byte first
+   (Noise, 13). A datagram needs no length:
 
        void send(const uint8_t *message, size_t len) {
            uint8_t head[2] = { (uint8_t)(len >> 8), (uint8_t)len };
@@ -63,31 +64,32 @@
            return len;
        }
 
-   WHAT IS TESTED. What a caller can get wrong in a value is told by a number, and no number of bytes, no count and no content of a kept
-   struct makes a call stop the process or touch memory that it wasn't handed: NOISE_STRUCT is told for a struct that stands for nothing, by each call
-   but noise_start, which begins one, and noise_answer, which looks only at the count of answers: the call after it tells.
+   WHAT THE LIBRARY CHECKS. A call returns a code for each wrong value. No length, no count and no content of a kept struct makes a call stop
+   the process or access memory that it wasn't given. NOISE_STRUCT means that the kept struct holds no state that a call makes. Each call that
+   takes a kept struct checks this, but for two: noise_start, which initializes it, and noise_answer, which checks only the number of answers
+   (the next call returns NOISE_STRUCT).
 
-   WHAT CAN'T BE TESTED, AND IS THE CALLER'S TO KEEP
-   - A pointer that has a count may be NULL where the count is 0, as in `NULL, 0`, or as the data() of an empty vector. No other pointer is NULL.
-     Each leads to as many bytes as its count or its type says.
-   - No pointer of a call that isn't const leads to bytes to which another of its pointers leads. So noise_write can't write a message over
-     the payload; noise_read and the two _open calls work in place, on one place.
-   - A kept struct stands at an address that is a multiple of 8, as its declaration here has it.
-   - A kept struct is used by one thread at a time. Different ones may be used at once: there is no other state.
-   - A copy of a kept struct is never used beside the original. Both would seal at the same nonce under the same key, which shows what was
-     sealed. To move a struct is fine; so is to try a message that came on a copy that is then thrown away. And so, for two threads, is a copy
-     of a noise_transport or a noise_datagrams where from then on one of the two only seals and the other only opens: either call uses and
-     changes what belongs to its own direction alone. Overwrite both.
-   - A new ephemeral key pair for each handshake. One that has served before makes the same keys again.
-   - An answer of X25519 that is all zeros: whoever wants such a key refused (Noise, 12.1) doesn't hand it in, and ends there.
-   - The other party's static key: noise_remote_static tells it; nothing compares it with the one that was expected.
+   WHAT THE CALLER MUST ENSURE, since no call can check it
+   - A pointer that has a count may be NULL if the count is 0, as in `NULL, 0` or as the data() of an empty vector. No other pointer may be NULL.
+     Each pointer leads to as many bytes as its count or its type says.
+   - The bytes at a pointer that isn't const overlap those of no other pointer of the call. So noise_write can't write a message over its payload.
+     noise_read and the two _open calls take one pointer and work in place.
+   - The address of a kept struct is a multiple of 8, as its declaration here ensures.
+   - One thread at a time uses a kept struct. Several threads may use different structs at once: the library has no other state.
+   - Never use a copy of a kept struct beside the original. Both would seal with the same nonce and key, which reveals what was sealed.
+     You may move a struct. You may read or open a message on a copy and then discard the copy. And two threads may each have a copy of a
+     noise_transport or a noise_datagrams if, from then on, one copy only seals and the other only opens: each call uses and changes only the
+     state of its own direction. Overwrite both copies at the end.
+   - Each handshake has a new ephemeral key pair. A pair that was used before makes the same keys again.
+   - X25519 may give all zeros. If you want such a key refused (Noise, 12.1), don't pass it to noise_answer, and end the handshake.
+   - No call compares the other party's static key with the one that you expect. noise_remote_static returns it; compare it yourself.
 
-   WHICH BYTES STAY. Secrets (psks), answers and keys stand in the kept structs, also behind an end: overwrite a noise_handshake behind
-   noise_finish, and each struct when it is done with, by noise_wipe. What a call leaves on the stack isn't overwritten. A call takes at most
-   14 KB of it, as measured on x86-64 by checks/c-library/stack.c: what each call has changed of a stack that was filled before.
+   WIPING. The kept structs contain psks, X25519 answers and keys, also after the handshake has ended. Overwrite them with noise_wipe: a
+   noise_handshake after noise_finish, and each other struct once it is no longer used. Calls don't overwrite what they leave on the stack. A
+   call uses at most 14 KB of stack. checks/c-library/stack.c measured this on x86-64: it fills the stack, and looks at what each call has changed.
 
-   A CHANGE OF THE LIBRARY. A caller that may meet another build of it than that of this header compares noise_handshake_size() with
-   sizeof(noise_handshake), and so on, before anything else. */
+   ANOTHER BUILD. If the program may run with another build of the library than this header's, compare noise_handshake_size() with
+   sizeof(noise_handshake), and likewise for the other two structs, before any other call. */
 #ifndef NOISE_H
 #define NOISE_H
 
@@ -106,116 +108,117 @@ extern "C" {
 #define NOISE_ALIGNED _Alignas(8)
 #endif
 
-/* What a call answers. Which codes a call may answer stands at the call. All but NOISE_OK leave everything as it was, but for `told`, and
-   but for NOISE_SHORT and NOISE_TAG of noise_read, which end the handshake, and NOISE_AGREEMENT, which no struct of this library's answers. */
+/* What a call returns. The comment at each call lists its codes. After any code but NOISE_OK everything except `told` is as it was before,
+   with two exceptions: NOISE_SHORT and NOISE_TAG of noise_read end the handshake, and NOISE_AGREEMENT, which is returned only for a struct that
+   something other than this library has changed. */
 enum noise_code {
     NOISE_OK = 0,
 
-    /* noise_start: nothing is begun. */
-    NOISE_NAME = 1,                /* no protocol name of a fundamental pattern with 25519, ChaChaPoly and SHA256, or a psk place beyond its messages */
-    NOISE_PATTERN = 2,             /* a pattern text that spells no pattern, or one that isn't valid: noise_check_pattern says where */
-    NOISE_EPHEMERAL_MISSING = 4,   /* the pattern has a token e of this party: hand in setup.e */
-    NOISE_STATIC_MISSING = 5,      /* the pattern has a token s of this party: hand in setup.s */
-    NOISE_REMOTE_MISSING = 6,      /* a key of the other's pre-message isn't in setup.remote_e, setup.remote_s: get it first, or take another pattern */
-    NOISE_REMOTE_UNEXPECTED = 7,   /* setup.remote_e or setup.remote_s has a key that isn't in the other's pre-message: leave it out */
-    NOISE_PSK_COUNT = 8,           /* not one secret for each psk token */
+    /* noise_start: no handshake was started. */
+    NOISE_NAME = 1,                /* not the name of a fundamental pattern with 25519, ChaChaPoly and SHA256, or it has a psk place beyond the messages */
+    NOISE_PATTERN = 2,             /* the pattern text has a fault, or the pattern isn't valid: noise_check_pattern says where */
+    NOISE_EPHEMERAL_MISSING = 4,   /* the pattern has a token e of this party: set setup.e */
+    NOISE_STATIC_MISSING = 5,      /* the pattern has a token s of this party: set setup.s */
+    NOISE_REMOTE_MISSING = 6,      /* setup.remote_e or setup.remote_s lacks a key of the other party's pre-message: get it first, or use another pattern */
+    NOISE_REMOTE_UNEXPECTED = 7,   /* setup.remote_e or setup.remote_s has a key that isn't in the other party's pre-message: leave it out */
+    NOISE_PSK_COUNT = 8,           /* the number of psks isn't the number of psk tokens */
 
     /* noise_write, noise_read. */
-    NOISE_NOT_YOUR_TURN = 10,      /* the other party writes the next message, or, at noise_read, this one does */
-    NOISE_TOO_LONG = 11,           /* the message, or the datagram, would have more bytes than it may have, or has: send less; drop the datagram */
-    NOISE_DONE = 12,               /* all messages of the handshake have passed: noise_finish */
-    NOISE_ENDED = 13,              /* the handshake was ended by a refused message: start anew */
-    NOISE_AGREEMENT = 14,          /* only of a struct that was changed, and `out` of noise_write may then be too: else NOISE_WANTED is answered */
-    NOISE_SHORT = 15,              /* the message has too few bytes. In a handshake that has ended it; tell nobody why */
-    NOISE_TAG = 16,                /* a tag is wrong: something differs between the parties, or the message was changed. In a handshake that has ended it */
-    NOISE_EXHAUSTED = 17,          /* the nonce is 2^64 - 1: no more messages under this key; start anew */
-    NOISE_ROOM = 18,               /* the place for the message is too short: told.len of noise_write, and noise_message_len, tell how long it is */
+    NOISE_NOT_YOUR_TURN = 10,      /* noise_write: the other party writes the next message. noise_read: this party does */
+    NOISE_TOO_LONG = 11,           /* writing, sealing: the result would be too long; send less. noise_datagrams_open: the datagram is too long; drop it */
+    NOISE_DONE = 12,               /* all messages of the handshake have passed: call noise_finish */
+    NOISE_ENDED = 13,              /* a refused message has ended the handshake: start a new one */
+    NOISE_AGREEMENT = 14,          /* only for a changed struct (otherwise NOISE_WANTED is returned); noise_write may then have changed `out` */
+    NOISE_SHORT = 15,              /* the message has too few bytes. After noise_read the handshake has ended; tell nobody why */
+    NOISE_TAG = 16,                /* a tag is wrong: the parties differ in something, or the message was changed. After noise_read the handshake has ended */
+    NOISE_EXHAUSTED = 17,          /* the nonce is 2^64 - 1: this key encrypts no more messages; start a new handshake */
+    NOISE_ROOM = 18,               /* `out` is too short: told.len of noise_write, or noise_message_len, gives the length that it needs */
     NOISE_NOT_DONE = 19,           /* noise_finish: messages of the handshake are still due */
-    NOISE_WANTED = 20,             /* an answer of X25519 is lacking: `told` says which. Hand it in by noise_answer, and make the same call again */
-    NOISE_FULL = 21,               /* noise_answer: it has 8 answers already. No pattern needs more: see noise_answer */
+    NOISE_WANTED = 20,             /* the call needs a result of X25519: `told` says which. Pass it to noise_answer, then repeat the call */
+    NOISE_FULL = 21,               /* noise_answer: the struct has 8 answers already. No pattern needs more: see noise_answer */
 
     /* Transport and datagrams. */
-    NOISE_ONE_WAY = 22,            /* a one-way pattern (N, K, X): the responder seals nothing, and nothing comes to the initiator */
-    NOISE_STRUCT = 23,             /* the kept struct is none that a call has left: it wasn't started, or was changed, or came from another build */
-    NOISE_LENGTH = 24,             /* what was handed in has more than 65535 bytes */
-    NOISE_WINDOW = 25,             /* noise_finish_datagrams: a window other than 64, 256 and 1024 */
-    NOISE_RESERVED = 26,           /* the datagram has the nonce 2^64 - 1, which none has: drop it */
-    NOISE_OLD = 27,                /* the datagram is further behind the greatest opened one than the window reaches: drop it */
-    NOISE_REPEATED = 28,           /* a datagram of this nonce was opened: drop it */
-    NOISE_NOT_DUE = 29,            /* noise_message_len: noise_write wouldn't write a payload of this length now */
+    NOISE_ONE_WAY = 22,            /* a one-way pattern (N, K, X): the responder can't seal, and the initiator can't open */
+    NOISE_STRUCT = 23,             /* the kept struct holds no state that a call makes: it wasn't started, was changed, or comes from another build */
+    NOISE_LENGTH = 24,             /* the prologue or the message has more than 65535 bytes */
+    NOISE_WINDOW = 25,             /* noise_finish_datagrams: the window isn't 64, 256 or 1024 */
+    NOISE_RESERVED = 26,           /* the datagram has the nonce 2^64 - 1, which no datagram may have: drop it */
+    NOISE_OLD = 27,                /* the datagram's nonce is below the window, which ends at the greatest nonce opened: drop it */
+    NOISE_REPEATED = 28,           /* a datagram with this nonce was opened before: drop it */
+    NOISE_NOT_DUE = 29,            /* noise_message_len: noise_write wouldn't accept a payload of this length now */
 
-    /* noise_check_pattern: told.line has a fault, or the pattern breaks a rule. */
-    NOISE_HEADING = 30,            /* line 1 isn't a base, its modifiers in order, and ':' */
+    /* noise_check_pattern: the line told.line has a fault, or the pattern breaks a rule. */
+    NOISE_HEADING = 30,            /* line 1 isn't a base name, its modifiers in order, and ':' */
     NOISE_ARROW = 31,              /* the line doesn't begin with two spaces, an arrow and a space */
-    NOISE_TOKEN = 32,              /* something between the commas is no token */
-    NOISE_PRE_MESSAGE = 33,        /* a line before "..." has other tokens than e, s or "e, s", or stands in the wrong place, or "..." does */
-    NOISE_TURN = 34,               /* it is the other party's turn */
-    NOISE_PSK_PLACE = 35,          /* the psk tokens aren't where the heading says, or it has a place beyond the messages */
-    NOISE_NAME_TAKEN = 36,         /* the base is that of a fundamental pattern, and this is another */
-    NOISE_LIMIT = 37,              /* a ninth message, no token but psk, or more than eight others */
+    NOISE_TOKEN = 32,              /* a word between the commas isn't a token */
+    NOISE_PRE_MESSAGE = 33,        /* a line before "..." has tokens other than e, s or "e, s", or this line or "..." is in the wrong place */
+    NOISE_TURN = 34,               /* the line is a message of the wrong party: it is the other party's turn */
+    NOISE_PSK_PLACE = 35,          /* the psk tokens aren't where the heading says, or the heading has a psk place beyond the messages */
+    NOISE_NAME_TAKEN = 36,         /* the base name is that of a fundamental pattern, and this pattern is another */
+    NOISE_LIMIT = 37,              /* a ninth message, or a message with no token but psk, or with more than eight others */
     NOISE_ENDING = 38,             /* the line has no line feed, or there is no message */
-    NOISE_RULE = 39                /* the pattern isn't valid: told.rule is broken at told.message, told.token */
+    NOISE_RULE = 39                /* the pattern isn't valid: it breaks the rule told.rule at told.message, told.token */
 };
 
 /* Sizes, in bytes. */
 enum {
-    NOISE_KEY_LEN = 32,            /* a public key, an answer of X25519, a secret, a handshake hash */
-    NOISE_TAG_LEN = 16,            /* how much longer a transport message is than its payload */
-    NOISE_DATAGRAM_OVERHEAD = 24,  /* how much longer a datagram is than its payload: 8 of the nonce, 16 of the tag */
-    NOISE_MAX_MESSAGE = 65535,     /* the longest message of a handshake or a transport; so a transport's payload has at most 65519 */
-    NOISE_MAX_DATAGRAM = 65543,    /* the longest datagram, of a payload of 65519 */
+    NOISE_KEY_LEN = 32,            /* a public key, a result of X25519, a psk, a handshake hash */
+    NOISE_TAG_LEN = 16,            /* a transport message has so many bytes more than its payload */
+    NOISE_DATAGRAM_OVERHEAD = 24,  /* a datagram has so many bytes more than its payload: 8 of the nonce, 16 of the tag */
+    NOISE_MAX_MESSAGE = 65535,     /* the longest message of a handshake or a transport; a transport's payload has at most 65519 */
+    NOISE_MAX_DATAGRAM = 65543,    /* the longest datagram; its payload has 65519 */
     NOISE_MAX_PROLOGUE = 65535,
     NOISE_MAX_PSKS = 9
 };
 
-/* What the caller keeps. What stands in them is the library's: hand it back as a call left it. */
+/* The kept structs: the caller provides the memory, and only the library reads and changes the content. */
 typedef struct { NOISE_ALIGNED unsigned char kept[1472]; } noise_handshake;
 typedef struct { NOISE_ALIGNED unsigned char kept[160]; } noise_transport;
 typedef struct { NOISE_ALIGNED unsigned char kept[224]; } noise_datagrams;
 
-/* A public key; none where present is 0. */
+/* A public key, or none if present is 0. */
 typedef struct {
     uint8_t present;
     uint8_t bytes[32];
 } noise_key;
 
-/* What a party starts from. noise_setup setup = {0} is the initiator without keys and secrets. */
+/* What a party starts a handshake with. noise_setup setup = {0} is the initiator, without keys or psks. */
 typedef struct {
-    uint8_t responder;             /* 0: the initiator, which writes the first message; any other: the responder */
-    noise_key e, s;                /* own public keys, ephemeral and static: each that the pattern has a token of for this party */
-    noise_key remote_e, remote_s;  /* the other's public keys: each of its pre-message, as the responder's s in IK, and no other */
-    uint8_t psk_count;             /* one secret for each psk token, in their order; at most 9 */
+    uint8_t responder;             /* 0: the initiator, which writes the first message; any other value: the responder */
+    noise_key e, s;                /* this party's public keys, ephemeral and static: each for which the pattern has a token of this party */
+    noise_key remote_e, remote_s;  /* the other party's public keys: those of its pre-message (as the responder's s in IK), and no other */
+    uint8_t psk_count;             /* how many psks there are: one for each psk token, in the order of the tokens; at most 9 */
     uint8_t psks[9][32];
 } noise_setup;
 
-/* What a call tells beside its code. Which parts are set stands at each code; the others are left open. */
+/* What a call returns beside its code. Each comment names the codes at which the field is set; at others its value is unspecified. */
 typedef struct {
-    size_t from;                   /* OK of noise_read and the _open calls: where in the message the payload begins */
-    size_t len;                    /* OK: how many bytes the payload has there. OK of noise_write and the _seal calls: how many bytes of `out`
-                                      the message has, or at ROOM of noise_write would have */
-    uint8_t token;                 /* SHORT, TAG of noise_read: the token at which it was refused, from 0 on; the payload is behind the last */
-    uint8_t of_static;             /* WANTED: of which own key pair: 0 the ephemeral one, 1 the static one */
-    uint8_t remote[32];            /* WANTED: and of which public key of the other */
+    size_t from;                   /* OK of noise_read and the _open calls: the offset of the payload in the message */
+    size_t len;                    /* OK of noise_read and the _open calls: the length of the payload. OK of noise_write and the _seal calls:
+                                      the length of the message in `out`. ROOM of noise_write: the length that the message would have */
+    uint8_t token;                 /* SHORT, TAG of noise_read: the token at which it was refused, counted from 0; the payload comes after the last */
+    uint8_t of_static;             /* WANTED: which key pair of this party X25519 needs: 0 the ephemeral one, 1 the static one */
+    uint8_t remote[32];            /* WANTED: the public key of the other party that it needs */
 } noise_told;
 
-/* How far a handshake is. */
+/* The progress of a handshake. */
 typedef struct {
     uint8_t messages;              /* how many messages the pattern has, 1 to 8 */
-    uint8_t passed;                /* how many have passed */
+    uint8_t passed;                /* how many of them have been written or read */
     uint8_t ended;                 /* 1 if a refused message has ended it, else 0 */
-    uint8_t writes_next;           /* 1 if the next message, if there is one, is this party's to write, else 0 */
+    uint8_t writes_next;           /* 1 if this party writes the next message, if there is one; else 0 */
 } noise_stage_told;
 
 /* What is wrong with a pattern text. */
 typedef struct {
-    size_t line;                   /* the codes 30 to 38: the line, from 1 on */
-    uint8_t rule;                  /* NOISE_RULE: the lowest rule, 1 to 5, that is broken at the first place where one is */
-    uint8_t message;               /* NOISE_RULE: the message, from 1 on; the transport counts as one message more */
-    uint8_t token;                 /* NOISE_RULE: the token, from 0 on; the payload is behind the last. Of the transport: 0 initiator, 1 responder */
+    size_t line;                   /* the codes 30 to 38: the line, counted from 1 */
+    uint8_t rule;                  /* NOISE_RULE: the lowest rule, 1 to 5, that is broken at the first place where any is */
+    uint8_t message;               /* NOISE_RULE: the message, counted from 1; the transport counts as one more message */
+    uint8_t token;                 /* NOISE_RULE: the token, counted from 0; the payload comes after the last. In the transport: 0 initiator, 1 responder */
     uint8_t messages;              /* OK: how many messages the pattern has */
 } noise_pattern_told;
 
-/* Overwrites bytes with zeros, in a way that no compiler leaves out. */
+/* Overwrites bytes with zeros; the compiler can't remove the writes. */
 static inline void noise_wipe(void *at, size_t len) {
     volatile unsigned char *byte = (volatile unsigned char *)at;
     while (len--) *byte++ = 0;
@@ -223,121 +226,125 @@ static inline void noise_wipe(void *at, size_t len) {
 
 /* HANDSHAKES */
 
-/* How many bytes a noise_handshake has. */
+/* Returns the size of a noise_handshake, in bytes. */
 size_t noise_handshake_size(void);
 
-/* Begins a handshake in *h.
-   pattern: a protocol name, as Noise_XXpsk3_25519_ChaChaPoly_SHA256, without a zero behind it; or a pattern text of one's own, each of whose
-   lines, the last too, ends with a line feed:
+/* Starts a handshake in *h, which may hold anything before.
+   pattern: a protocol name, as Noise_XXpsk3_25519_ChaChaPoly_SHA256, without a zero byte at the end; or the text of your own pattern, in which
+   each line ends with a line feed, the last line too:
        NK1:
          <- s
          ...
          -> e
          <- e, ee, es
    (at most 413 bytes). The name of such a handshake is Noise_, the heading without its colon, and _25519_ChaChaPoly_SHA256.
-   prologue: what the parties have agreed on before, at most 65535 bytes, the same at both.
-   OK · NAME · PATTERN · LENGTH: the prologue is too long · EPHEMERAL_MISSING, STATIC_MISSING, REMOTE_MISSING, REMOTE_UNEXPECTED, PSK_COUNT, of
-   several the first. At any code but OK *h is unchanged. */
+   prologue: what the parties have agreed on before; the same bytes at both, at most 65535.
+   OK · NAME · PATTERN · LENGTH: the prologue is too long · EPHEMERAL_MISSING, STATIC_MISSING, REMOTE_MISSING, REMOTE_UNEXPECTED, PSK_COUNT. If
+   several apply, the first is returned; but a psk_count above 9 gives PSK_COUNT before the keys are checked. At any code but OK *h is unchanged. */
 uint32_t noise_start(noise_handshake *h, const uint8_t *pattern, size_t pattern_len, const uint8_t *prologue, size_t prologue_len,
     const noise_setup *setup);
 
-/* Hands in what X25519 makes of one of this party's secret keys, the static one's or (of_static 0) the ephemeral one's, and a public key of the
-   other: after NOISE_WANTED those that told names.
-   Of several answers of one key pair to one key the first counts.
-   OK · FULL: 8 were handed in already, and nothing is changed. A handshake asks for at most four, each once; so only a party that hands in
-   answers nobody has asked for, or answers for messages that it then doesn't read or write, comes to this: it starts anew. STRUCT isn't told here:
-   of a struct that stands for nothing the answer is OK or FULL by its count of answers, and the call after it tells. */
+/* Supplies the result of X25519 on one of this party's secret keys (of_static 0: the ephemeral one; else the static one) and a public key of the
+   other party. After NOISE_WANTED pass told.of_static and told.remote. If one key pair has several answers for one public key, the first counts.
+   OK · FULL: *h has 8 answers already, and is unchanged. A handshake asks for at most four, each once. So FULL comes only to a party that supplies
+   answers that no call has asked for, or answers for messages that it then doesn't read or write: start a new handshake. This call doesn't return
+   STRUCT: for a struct without a valid state it returns OK or FULL by the number of answers there, and the next call returns STRUCT. */
 uint32_t noise_answer(noise_handshake *h, uint8_t of_static, const uint8_t remote[32], const uint8_t answer[32]);
 
-/* Writes the next message, with this payload, to the front of out. Until a key is agreed on, the payload is sent as it is: noise_message_len says
-   how much longer the message is, and the standard's 7.7 how well each payload is protected.
-   OK: told->len bytes of out are the message; the bytes behind it are unchanged · WANTED: told->of_static, told->remote · STRUCT · ENDED · DONE ·
-   NOT_YOUR_TURN · TOO_LONG: the message would have more than 65535 bytes · ROOM: out is shorter than the message, which has told->len bytes. At
-   any code but OK neither *h nor out is changed (but for NOISE_AGREEMENT: see there). */
+/* Writes the next message, with this payload, to the start of out. Until the parties share a key, the payload isn't encrypted: section 7.7 of the
+   standard says how well each payload is protected. noise_message_len gives the length of the message.
+   OK: the message is the first told->len bytes of out; the bytes after it are unchanged · WANTED: told->of_static, told->remote · STRUCT · ENDED ·
+   DONE · NOT_YOUR_TURN · TOO_LONG: the message would have more than 65535 bytes · ROOM: out is shorter than the message, which has told->len bytes.
+   At any code but OK *h and out are unchanged (except at NOISE_AGREEMENT: see there). */
 uint32_t noise_write(noise_handshake *h, const uint8_t *payload, size_t payload_len, uint8_t *out, size_t out_len, noise_told *told);
 
-/* Reads the message that is due, in place.
-   OK: told->len bytes of message from told->from on are now the payload · WANTED: told->of_static, told->remote; nothing is changed: the same
-   message is read again behind noise_answer · SHORT, TAG: told->token; the handshake has ended · STRUCT · LENGTH · ENDED · DONE · NOT_YOUR_TURN.
-   At any code but OK message is unchanged. */
+/* Reads the next message, in place.
+   OK: the payload is now the told->len bytes of message from told->from on · WANTED: told->of_static, told->remote; *h is unchanged: call
+   noise_answer, then read the same message again · SHORT, TAG: told->token; the handshake has ended · STRUCT · LENGTH · ENDED · DONE ·
+   NOT_YOUR_TURN. At any code but OK message is unchanged. */
 uint32_t noise_read(noise_handshake *h, uint8_t *message, size_t message_len, noise_told *told);
 
-/* How many bytes the next message has with a payload of this length.
-   OK: *len · STRUCT · NOT_DUE: noise_write would answer ENDED, DONE, NOT_YOUR_TURN or TOO_LONG. */
+/* Returns the length of the next message with a payload of this length.
+   OK: *len · STRUCT · NOT_DUE: noise_write would return ENDED, DONE, NOT_YOUR_TURN or TOO_LONG. At any code but OK *len is unchanged. */
 uint32_t noise_message_len(const noise_handshake *h, size_t payload_len, size_t *len);
 
-/* The handshake hash so far, 32 bytes. Behind the last message it is the same at both parties, and only there if nobody has changed anything;
-   what is bound to the session signs it (Noise, 11.2). OK · STRUCT. */
+/* Returns the handshake hash so far, 32 bytes. After the last message both parties have the same hash, unless somebody has changed something. To
+   bind other data to the session, sign the hash (Noise, 11.2). OK · STRUCT. */
 uint32_t noise_hash(const noise_handshake *h, uint8_t hash[32]);
 
-/* The other party's static public key; key->present is 0 where it isn't known. OK · STRUCT.
-   Compare it with the one that you expect, or look it up, before you say anything that matters. */
+/* Returns the other party's static public key; key->present is 0 if it isn't known (yet). OK · STRUCT.
+   Compare the key with the one that you expect, or look it up, before you send anything that matters. */
 uint32_t noise_remote_static(const noise_handshake *h, noise_key *key);
 
-/* How far it is. OK · STRUCT. */
+/* Returns the progress of the handshake. OK · STRUCT. */
 uint32_t noise_stage(const noise_handshake *h, noise_stage_told *told);
 
-/* Looks through a pattern text, as noise_start does.
+/* Checks the text of a pattern, as noise_start does.
    OK: told->messages · HEADING to ENDING: told->line · RULE: told->rule, told->message, told->token. The rules are: 1, both public keys of a DH
-   token stand earlier; 2, a party sends one e and one s; 3, a DH token stands once; 4, a party encrypts after a DH of its static key only if
-   the DH of its ephemeral key with the same key of the other stands earlier; 5, a party encrypts after a psk only behind an e of its own.
-   A valid pattern need not be a secure one. */
+   token come earlier; 2, a party sends one e and one s; 3, a DH token occurs once; 4, a party encrypts after a DH of its static key only if
+   the DH of its ephemeral key with the same key of the other party came earlier; 5, a party encrypts after a psk only after an e of its own.
+   A valid pattern isn't necessarily a secure one. */
 uint32_t noise_check_pattern(const uint8_t *text, size_t text_len, noise_pattern_told *told);
 
-/* TRANSPORT: both parties send and take messages in order, over a stream. */
+/* TRANSPORT: both parties send and receive messages in order, over a stream. */
 
-/* How many bytes a noise_transport has. */
+/* Returns the size of a noise_transport, in bytes. */
 size_t noise_transport_size(void);
 
-/* Makes a transport of a handshake whose messages have all passed. Each direction renews its key behind each `interval` messages of its own
-   (Noise, 11.3); 0 is never. No message says so: both parties need the same interval.
-   OK · STRUCT · NOT_DONE · ENDED. *h is unchanged; overwrite it then, and make no second transport of it. */
+/* Makes the transport of a handshake, once all its messages have been written or read. Each direction renews its key after each `interval` of its
+   messages (Noise, 11.3); 0 means never. No message announces this, so both parties need the same interval.
+   OK · STRUCT · NOT_DONE · ENDED. At any code but OK *t is unchanged. *h is always unchanged: after OK overwrite it, and never make a second
+   transport from it. */
 uint32_t noise_finish(const noise_handshake *h, uint64_t interval, noise_transport *t);
 
-/* Seals a payload as the next message, to the front of out: 16 bytes longer than the payload.
-   OK: told->len bytes of out are the message; the bytes behind it are unchanged · STRUCT · ROOM: out isn't 16 bytes longer than the payload ·
-   ONE_WAY · TOO_LONG: a payload of more than 65519 bytes · EXHAUSTED; of several the first. At any code but OK neither *t nor out is changed. */
+/* Seals a payload as the next message, which it writes to the start of out. The message is 16 bytes longer than the payload.
+   OK: the message is the first told->len bytes of out; the bytes after it are unchanged · STRUCT · ROOM: out has fewer bytes than the message ·
+   ONE_WAY · TOO_LONG: the payload has more than 65519 bytes · EXHAUSTED. If several apply, the first is returned. At any code but OK *t and out
+   are unchanged. */
 uint32_t noise_transport_seal(noise_transport *t, const uint8_t *payload, size_t payload_len, uint8_t *out, size_t out_len, noise_told *told);
 
 /* Opens the next message of the other party, in place.
-   OK: told->len bytes of message from told->from on are now the payload · STRUCT · LENGTH · ONE_WAY · EXHAUSTED · SHORT · TAG. At any code but OK
-   neither *t nor message is changed, so a message that somebody put in does no harm. But where one that is due was lost or changed, all
-   later ones are TAG: over a stream close at the first. */
+   OK: the payload is now the told->len bytes of message from told->from on · STRUCT · LENGTH · ONE_WAY · EXHAUSTED · SHORT · TAG. At any code but OK
+   *t and message are unchanged, so a forged message that somebody inserted does no harm. But if a message was lost or changed, all later
+   messages give TAG: over a stream, close the connection at the first. */
 uint32_t noise_transport_open(noise_transport *t, uint8_t *message, size_t message_len, noise_told *told);
 
-/* The nonces of the next message that is sealed, and of the next that is opened: how many there were. OK · STRUCT. */
+/* Returns the nonces of the next message to seal and of the next to open: how many were sealed, and opened, so far. OK · STRUCT. */
 uint32_t noise_transport_nonces(const noise_transport *t, uint64_t *send, uint64_t *receive);
 
-/* The handshake hash, and the other party's static public key, as above. OK · STRUCT. */
+/* Return the handshake hash and the other party's static public key, as noise_hash and noise_remote_static do. OK · STRUCT. */
 uint32_t noise_transport_hash(const noise_transport *t, uint8_t hash[32]);
 uint32_t noise_transport_remote_static(const noise_transport *t, noise_key *key);
 
-/* DATAGRAMS: for a network that loses, repeats and reorders. Each has its nonce in front, in 8 bytes, the highest first. */
+/* DATAGRAMS, for a network that loses, repeats and reorders messages. A datagram begins with its nonce, in 8 bytes, the highest byte first. */
 
-/* How many bytes a noise_datagrams has. */
+/* Returns the size of a noise_datagrams, in bytes. */
 size_t noise_datagrams_size(void);
 
-/* Makes the state of datagrams of a handshake whose messages have all passed (and were sent in order, each answered: the handshake itself
-   isn't for such a network). A datagram may come behind others of nonces less than `window` greater: 64, 256 or 1024. Keys are never renewed.
-   OK · WINDOW · STRUCT · NOT_DONE · ENDED. *h is unchanged; overwrite it then, and make no second state or transport of it. */
+/* Makes the state for datagrams of a handshake, once all its messages have been written or read. (The handshake itself needs its messages in order,
+   each one delivered.) `window` is 64, 256 or 1024: a datagram may arrive after others whose nonces are less than `window` greater. Keys are
+   never renewed.
+   OK · WINDOW · STRUCT · NOT_DONE · ENDED. At any code but OK *d is unchanged. *h is always unchanged: after OK overwrite it, and never make a
+   second state or a transport from it. */
 uint32_t noise_finish_datagrams(const noise_handshake *h, uint32_t window, noise_datagrams *d);
 
-/* Seals a payload as a datagram, to the front of out: 24 bytes longer than the payload. Codes as of noise_transport_seal, with ROOM where out
-   isn't 24 bytes longer. */
+/* Seals a payload as the next datagram, which it writes to the start of out. The datagram is 24 bytes longer than the payload.
+   The codes are those of noise_transport_seal: ROOM if out has fewer bytes than the datagram. */
 uint32_t noise_datagrams_seal(noise_datagrams *d, const uint8_t *payload, size_t payload_len, uint8_t *out, size_t out_len, noise_told *told);
 
 /* Opens a datagram of the other party, in place.
-   OK: told->len bytes of datagram from told->from on are now the payload; no other datagram of this nonce is opened any more · STRUCT · ONE_WAY ·
-   SHORT: fewer than 24 bytes · TOO_LONG: more than 65543 · RESERVED · OLD · REPEATED · TAG. At any code but OK neither *d nor datagram is
-   changed: drop it and wait for the next. OLD and REPEATED are by themselves no sign of an attack. */
+   OK: the payload is now the told->len bytes of datagram from told->from on; no other datagram with this nonce will be opened · STRUCT · ONE_WAY ·
+   SHORT: it has fewer than 24 bytes · TOO_LONG: more than 65543 · RESERVED · OLD · REPEATED · TAG. At any code but OK *d and datagram are
+   unchanged: drop the datagram and wait for the next. OLD and REPEATED alone are no sign of an attack. */
 uint32_t noise_datagrams_open(noise_datagrams *d, uint8_t *datagram, size_t datagram_len, noise_told *told);
 
-/* The nonce of the next datagram that is sealed: how many there were. OK · STRUCT. */
+/* Returns the nonce of the next datagram to seal: how many were sealed so far. OK · STRUCT. */
 uint32_t noise_datagrams_nonce(const noise_datagrams *d, uint64_t *send);
 
-/* NULL, WHERE A COUNT IS 0. The library's own calls take no NULL. Each that takes bytes and their count is also a macro, as the functions of the C
-   library may be (C11, 7.1.4): an inline function that puts the address of a byte, which nobody reads or writes, in the place of NULL. Whoever
-   calls past it, as by a pointer to the function, (noise_start)(..), dlsym or another language, hands in no NULL. */
+/* NULL WITH A COUNT OF 0. The functions of the library accept no NULL. So each function that takes bytes and their count is also a macro, as the
+   functions of the C library may be (C11, 7.1.4). The macro calls an inline function, which replaces NULL by the address of a byte that nobody
+   reads or writes. A call that bypasses the macro must not pass NULL: a call by a function pointer, as (noise_start)(..), by dlsym, or from
+   another language. */
 
 static inline uint32_t noise_start_inline(noise_handshake *h, const uint8_t *pattern, size_t pattern_len, const uint8_t *prologue, size_t prologue_len,
     const noise_setup *setup) {
