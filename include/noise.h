@@ -40,7 +40,7 @@
                if (noise_answer(&h, told.of_static, told.remote, answer) != NOISE_OK) fail();
            }
            if (code != NOISE_OK) fail();
-           if (stage.writes_next) send(message, told.len);   // else the payload is message[told.from], told.len bytes
+           if (stage.writes_next) send(message, told.len);   // else the payload is the told.len bytes at message + told.from
        }
        if (code != NOISE_OK) fail();
        noise_key remote;
@@ -70,10 +70,10 @@
    (the next call returns NOISE_STRUCT).
 
    WHAT THE CALLER MUST ENSURE, since no call can check it
-   - A pointer that has a count may be NULL if the count is 0, as in `NULL, 0` or as the data() of an empty vector. No other pointer may be NULL.
-     Each pointer leads to as many bytes as its count or its type says.
+   - A pointer that has a count may be NULL if the count is 0, as in `NULL, 0` or as the data() of an empty vector (see the end of this header).
+     No other pointer may be NULL. Each pointer leads to as many bytes as its count or its type says.
    - The bytes at a pointer that isn't const overlap those of no other pointer of the call. So noise_write can't write a message over its payload.
-     noise_read and the two _open calls take one pointer and work in place.
+     noise_read and the two _open calls work in place, in one buffer.
    - The address of a kept struct is a multiple of 8, as its declaration here ensures.
    - One thread at a time uses a kept struct. Several threads may use different structs at once: the library has no other state.
    - Never use a copy of a kept struct beside the original. Both would seal with the same nonce and key, which reveals what was sealed.
@@ -108,9 +108,9 @@ extern "C" {
 #define NOISE_ALIGNED _Alignas(8)
 #endif
 
-/* What a call returns. The comment at each call lists its codes. After any code but NOISE_OK everything except `told` is as it was before,
-   with two exceptions: NOISE_SHORT and NOISE_TAG of noise_read end the handshake, and NOISE_AGREEMENT, which is returned only for a struct that
-   something other than this library has changed. */
+/* What a call returns. The comment at each call lists its codes. After any code but NOISE_OK everything except `told` is as it was before.
+   There are two exceptions. NOISE_SHORT and NOISE_TAG of noise_read end the handshake. NOISE_AGREEMENT may come with other changes; it is
+   returned only for a struct that something other than this library has changed. */
 enum noise_code {
     NOISE_OK = 0,
 
