@@ -65,8 +65,8 @@
        }
 
    WHAT THE LIBRARY CHECKS. A call returns a code for each wrong value. No length, no count and no content of a kept struct makes a call stop
-   the process or access memory that it wasn't given. NOISE_STRUCT means that the kept struct holds no state that a call makes. Each call that
-   takes a kept struct checks this, but for two: noise_start, which initializes it, and noise_answer, which checks only the number of answers
+   the process or access memory that it wasn't given. NOISE_STRUCT means that the kept struct holds no state that a call could have made. Each
+   call that takes a kept struct checks this, but for two: noise_start, which initializes it, and noise_answer, which checks only the number of answers
    (the next call returns NOISE_STRUCT).
 
    WHAT THE CALLER MUST ENSURE, since no call can check it
@@ -139,7 +139,7 @@ enum noise_code {
 
     /* Transport and datagrams. */
     NOISE_ONE_WAY = 22,            /* a one-way pattern (N, K, X): the responder can't seal, and the initiator can't open */
-    NOISE_STRUCT = 23,             /* the kept struct holds no state that a call makes: it wasn't started, was changed, or comes from another build */
+    NOISE_STRUCT = 23,             /* the kept struct holds no state that a call could have made: it wasn't started, was changed, or comes from another build */
     NOISE_LENGTH = 24,             /* the prologue or the message has more than 65535 bytes */
     NOISE_WINDOW = 25,             /* noise_finish_datagrams: the window isn't 64, 256 or 1024 */
     NOISE_RESERVED = 26,           /* the datagram has the nonce 2^64 - 1, which no datagram may have: drop it */
@@ -268,7 +268,7 @@ uint32_t noise_read(noise_handshake *h, uint8_t *message, size_t message_len, no
    OK: *len · STRUCT · NOT_DUE: noise_write would return ENDED, DONE, NOT_YOUR_TURN or TOO_LONG. At any code but OK *len is unchanged. */
 uint32_t noise_message_len(const noise_handshake *h, size_t payload_len, size_t *len);
 
-/* Returns the handshake hash so far, 32 bytes. After the last message both parties have the same hash, unless somebody has changed something. To
+/* Returns the handshake hash so far, 32 bytes. After the last message it is the same at both parties, and only if nobody has changed anything. To
    bind other data to the session, sign the hash (Noise, 11.2). OK · STRUCT. */
 uint32_t noise_hash(const noise_handshake *h, uint8_t hash[32]);
 
