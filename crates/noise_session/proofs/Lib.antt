@@ -2,6 +2,7 @@ pub mod Places
 pub mod Framing
 pub mod Renewing
 pub mod Unopened
+pub mod Splitting
 pub mod Streaming
 pub mod Facing
 pub mod Views

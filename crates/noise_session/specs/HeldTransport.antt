@@ -1,17 +1,16 @@
 -- What a transport holds, which views it stands for, and what it refuses (Noise 5.1, 7.4, 11.3).
-use Rattle.std.specs.Prelude.{◌≡◌, ℕ, ◌+◌, ◌%◌, ◌==◌, nat_lt, List, Bool, ◌&&◌, not, Option, Some, None, option_map, if◌then◌else◌}
+use Rattle.std.specs.Prelude.{◌≡◌, ℕ, ◌%◌, ◌==◌, nat_lt, List, Bool, ◌&&◌, not, Option, Some, option_map, if◌then◌else◌}
 use Rattle.noise_aead.specs.Sealing.{rekeyed}
 use Rattle.noise_names.specs.declared.token.Role.{Role}
-use Rattle.noise_names.specs.declared.token.Role.TheVariants.{Initiator, Responder}
-use Rattle.noise_names.specs.Tokens.{same_role, other}
+use Rattle.noise_names.specs.Tokens.{other}
 use Rattle.noise_names.specs.Plan.{is_one_way}
 use Rattle.noise_state.specs.History.{History, hash}
 use Rattle.noise_handshake.specs.View.{View}
 use Rattle.noise_session.specs.declared.faults.SendFault.{SendFault}
-use Rattle.noise_session.specs.declared.faults.SendFault.TheVariants as send
 use Rattle.noise_session.specs.declared.faults.OpenFault.{OpenFault}
 use Rattle.noise_session.specs.declared.faults.OpenFault.TheVariants as unopened
-use Rattle.noise_session.specs.Transport.{transport_key, packet, last_nonce}
+use Rattle.noise_session.specs.Halves.{HeldHalf, sender_fault, receiver_fault}
+use Rattle.noise_session.specs.Transport.{transport_key, packet}
 
 -- a transport as contracts see it
 pub record HeldTransport : Type 0 where
@@ -72,20 +71,36 @@ pub record TransportStands (t : HeldTransport) (v : TransportView) : Type 0 wher
 abbrev pub renewed_key : ℕ → ℕ → Option (List ℕ) → Option (List ℕ)
 renewed_key interval nonce key = if not (interval == 0) && (nonce % interval == 0) then option_map rekeyed key else key
 
--- why a payload of this length isn't sealed now: the first of these
-abbrev pub seal_fault : HeldTransport → ℕ → Option SendFault
-seal_fault t payload =
-    if t.one_way && same_role t.role Responder then Some send.OneWay
-    else if nat_lt 65535 (payload + 16) then Some send.TooLong
-    else if t.send_nonce == last_nonce then Some send.Exhausted
-    else None
+-- the direction of the messages that the party seals, and that of those that it opens
+abbrev pub sending_half : HeldTransport → HeldHalf
+sending_half t = record { role = t.role; one_way = t.one_way; interval = t.interval; key = t.send_key; nonce = t.send_nonce }
 
--- why no message is opened now, whatever it is: the first of these
+abbrev pub receiving_half : HeldTransport → HeldHalf
+receiving_half t = record { role = t.role; one_way = t.one_way; interval = t.interval; key = t.receive_key; nonce = t.receive_nonce }
+
+-- The half that seals holds what the view says.
+pub record SenderStands (h : HeldHalf) (v : TransportView) : Type 0 where
+  pub role : h.role ≡ v.role
+  pub one_way : h.one_way ≡ v.one_way
+  pub interval : h.interval ≡ v.interval
+  pub key : h.key ≡ Some (transport_key v.history v.role v.interval v.sent)
+  pub nonce : h.nonce ≡ v.sent
+
+-- The half that opens holds what the view says.
+pub record ReceiverStands (h : HeldHalf) (v : TransportView) : Type 0 where
+  pub role : h.role ≡ v.role
+  pub one_way : h.one_way ≡ v.one_way
+  pub interval : h.interval ≡ v.interval
+  pub key : h.key ≡ Some (transport_key v.history (other v.role) v.interval v.received)
+  pub nonce : h.nonce ≡ v.received
+
+-- why a payload of this length isn't sealed now
+abbrev pub seal_fault : HeldTransport → ℕ → Option SendFault
+seal_fault t payload = sender_fault (sending_half t) payload
+
+-- why no message is opened now, whatever it is
 abbrev pub open_fault : HeldTransport → Option OpenFault
-open_fault t =
-    if t.one_way && same_role t.role Initiator then Some unopened.OneWay
-    else if t.receive_nonce == last_nonce then Some unopened.Exhausted
-    else None
+open_fault t = receiver_fault (receiving_half t)
 
 -- why a message of this length isn't opened that is no packet of the other party
 abbrev pub no_packet : ℕ → OpenFault

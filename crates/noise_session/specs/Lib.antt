@@ -1,5 +1,6 @@
 pub mod Frames
 pub mod Transport
+pub mod Halves
 pub mod HeldTransport
 pub mod Counting
 pub mod Faults

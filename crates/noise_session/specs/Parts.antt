@@ -1,7 +1,9 @@
 -- The parts of a transport, for a caller that keeps them itself between two messages.
 use Rattle.std.specs.Prelude.{Some}
 use Rattle.noise_session.specs.declared.parts.TransportParts.{TransportParts}
+use Rattle.noise_session.specs.declared.parts.HalfParts.{HalfParts}
 use Rattle.noise_session.specs.declared.parts.DatagramParts.{DatagramParts}
+use Rattle.noise_session.specs.Halves.{HeldHalf}
 use Rattle.noise_session.specs.HeldTransport.{HeldTransport}
 use Rattle.noise_session.specs.Datagrams.{HeldDatagrams}
 
@@ -18,6 +20,9 @@ transport_in p = record {
   receive_key = Some p.receive_key;
   receive_nonce = p.receive_nonce;
 }
+
+abbrev pub half_in : HalfParts → HeldHalf
+half_in p = record { role = p.role; one_way = p.one_way; interval = p.interval; key = Some p.key; nonce = p.nonce }
 
 abbrev pub datagrams_in : DatagramParts → HeldDatagrams
 datagrams_in p = record {

@@ -26,6 +26,18 @@ pub struct TransportParts {
     pub receive_nonce: u64,
 }
 
+/// What the sending or the receiving half of a transport holds between two messages.
+#[derive(Drop)]
+pub struct HalfParts {
+    pub role: Role,
+    /// Whether only the initiator writes (Noise, 7.4).
+    pub one_way: bool,
+    /// After how many messages the key is renewed; 0 for never.
+    pub interval: u64,
+    pub key: [u8; 32],
+    pub nonce: u64,
+}
+
 /// What a transport of datagrams holds between two of them.
 #[derive(Drop)]
 pub struct DatagramParts {

@@ -4,26 +4,18 @@
 ghost use Rattle.std.specs.Prelude.{◌≡◌, ◌≢◌, ◌≤◌, ◌+◌, ℕ, List, [], length, take, drop, Option, Some, None, IsSome, IsOk, IfOk, IfErr, OnOk, OnErr};
 ghost use Rattle.std.specs.Prelude.{MatchOption, MatchResult};
 ghost use Rattle.noise_state.specs.Cipher.{key_in, nonce_in};
-ghost use Rattle.noise_state.specs.History.{piece_under, rekeyed_times};
+ghost use Rattle.noise_state.specs.History.{piece_under};
 ghost use Rattle.noise_handshake.specs.View.{View};
 ghost use Rattle.noise_handshake.specs.Opening.{Opens};
-ghost use Rattle.noise_session.specs.Transport.{renewals};
 ghost use Rattle.noise_session.specs.Parts.{transport_in};
-ghost use Rattle.noise_session.specs.HeldTransport.{TransportView, TransportStands, transport_of, next_packet, due_packet, renewed_key};
-ghost use Rattle.noise_session.specs.HeldTransport.{seal_fault, open_fault, no_packet};
+ghost use Rattle.noise_session.specs.HeldTransport.{TransportView, TransportStands, SenderStands, ReceiverStands, transport_of, next_packet, due_packet};
+ghost use Rattle.noise_session.specs.HeldTransport.{sending_half, receiving_half, seal_fault, open_fault, no_packet, renewed_key};
 
-use crate::parts::key_and_nonce;
-use crate::{OpenFault, SendFault, TransportParts};
+use crate::{OpenFault, Receiver, SendFault, Sender, TransportParts};
 use noise_handshake::Opened;
 use noise_names::Role;
-use noise_state::{CipherFault, CipherState};
+use noise_state::CipherState;
 use std::marker::Model;
-
-// The longest payload in bytes: its message has 16 more, and at most 65535 (Noise, 3).
-const PAYLOAD_MAX: usize = 65519;
-
-// The nonce that no message has (Noise, 5.1).
-const LAST_NONCE: u64 = u64::MAX;
 
 /// The transport of one party: it seals this party's payloads and opens the messages of the other.
 ///
@@ -31,35 +23,36 @@ const LAST_NONCE: u64 = u64::MAX;
 /// call takes memory, and a fault changes nothing.
 #[derive(Drop)]
 pub struct Transport {
-    role: Role,
-    one_way: bool,
     hash: [u8; 32],
     remote_static: Option<[u8; 32]>,
-    interval: u64,
-    sending: CipherState,
-    receiving: CipherState,
+    sender: Sender,
+    receiver: Receiver,
 }
 
 impl Model for Transport {
-    ghost use Rattle.std.specs.Prelude.{IsSome};
-    ghost use Rattle.noise_state.specs.Cipher.{key_in, nonce_in};
+    ghost use Rattle.std.specs.Prelude.{◌≡◌};
     ghost use Rattle.noise_session.specs.HeldTransport.{HeldTransport};
 
     ghost Value = { HeldTransport };
 
     ghost view = { λ t. record {
-      role = t.role;
-      one_way = t.one_way;
+      role = t.sender.role;
+      one_way = t.sender.one_way;
       hash = t.hash;
       remote_static = t.remote_static;
-      interval = t.interval;
-      send_key = key_in t.sending;
-      send_nonce = nonce_in t.sending;
-      receive_key = key_in t.receiving;
-      receive_nonce = nonce_in t.receiving;
+      interval = t.sender.interval;
+      send_key = t.sender.key;
+      send_nonce = t.sender.nonce;
+      receive_key = t.receiver.key;
+      receive_nonce = t.receiver.nonce;
     } };
 
-    ghost invariant = { λ t. IsSome (key_in t.sending) × IsSome (key_in t.receiving) };
+    // Both halves are of one party.
+    ghost invariant = { λ t. record {
+      role : t.receiver.role ≡ t.sender.role;
+      one_way : t.receiver.one_way ≡ t.sender.one_way;
+      interval : t.receiver.interval ≡ t.sender.interval;
+    } };
 }
 
 impl Transport {
@@ -79,13 +72,10 @@ impl Transport {
             Role::Responder => (responder, initiator),
         };
         Transport {
-            role,
-            one_way,
             hash,
             remote_static,
-            interval,
-            sending,
-            receiving,
+            sender: Sender::new(role, one_way, interval, sending),
+            receiver: Receiver::new(role, one_way, interval, receiving),
         }
     }
 
@@ -94,18 +84,20 @@ impl Transport {
         ensures { transport_in result ≡ self }
     {
         let hash = self.hash;
-        let (send_key, send_nonce) = key_and_nonce(self.sending);
-        let (receive_key, receive_nonce) = key_and_nonce(self.receiving);
+        let sender = self.sender.into_parts();
+        let receiver = self.receiver.into_parts();
+        let send_key = sender.key;
+        let receive_key = receiver.key;
         TransportParts {
-            role: self.role,
-            one_way: self.one_way,
+            role: sender.role,
+            one_way: sender.one_way,
             hash,
             remote_static: self.remote_static,
-            interval: self.interval,
+            interval: sender.interval,
             send_key,
-            send_nonce,
+            send_nonce: sender.nonce,
             receive_key,
-            receive_nonce,
+            receive_nonce: receiver.nonce,
         }
     }
 
@@ -117,29 +109,38 @@ impl Transport {
         ensures { result ≡ transport_in parts }
     {
         let hash = parts.hash;
+        let sending = CipherState::from_parts(Some(parts.send_key), parts.send_nonce);
+        let receiving = CipherState::from_parts(Some(parts.receive_key), parts.receive_nonce);
         Transport {
-            role: parts.role,
-            one_way: parts.one_way,
             hash,
             remote_static: parts.remote_static,
-            interval: parts.interval,
-            sending: CipherState::from_parts(Some(parts.send_key), parts.send_nonce),
-            receiving: CipherState::from_parts(Some(parts.receive_key), parts.receive_nonce),
+            sender: Sender::new(parts.role, parts.one_way, parts.interval, sending),
+            receiver: Receiver::new(parts.role, parts.one_way, parts.interval, receiving),
         }
+    }
+
+    /// The half that seals and the half that opens, as for two threads. Each does what this transport does in its direction; the
+    /// hash and the other party's static key are told by the transport alone.
+    pub fn split(self) -> (Sender, Receiver)
+        ensures sender { result.0 ≡ sending_half self }
+        ensures receiver { result.1 ≡ receiving_half self }
+        ensures stands { (v : TransportView) → TransportStands self v → SenderStands result.0 v × ReceiverStands result.1 v }
+    {
+        (self.sender, self.receiver)
     }
 
     /// The role of this party.
     pub fn role(&self) -> Role
         ensures { result ≡ self.now.role }
     {
-        self.role
+        self.sender.role()
     }
 
     /// Whether only the initiator writes (Noise, 7.4).
     pub fn one_way(&self) -> bool
         ensures { result ≡ self.now.one_way }
     {
-        self.one_way
+        self.sender.one_way()
     }
 
     /// The hash of the whole handshake (Noise, 11.2), 32 bytes.
@@ -160,7 +161,7 @@ impl Transport {
     pub fn interval(&self) -> u64
         ensures { result ≡ self.now.interval }
     {
-        self.interval
+        self.sender.interval()
     }
 
     // The cipher states of this party's messages and of the other's.
@@ -168,21 +169,21 @@ impl Transport {
         ensures sending { (key_in result.0 ≡ self.send_key) × (nonce_in result.0 ≡ self.send_nonce) × IsSome (key_in result.0) }
         ensures receiving { (key_in result.1 ≡ self.receive_key) × (nonce_in result.1 ≡ self.receive_nonce) × IsSome (key_in result.1) }
     {
-        (self.sending, self.receiving)
+        (self.sender.into_cipher(), self.receiver.into_cipher())
     }
 
     /// The nonce of the next message that is sealed.
     pub fn send_nonce(&self) -> u64
         ensures { result ≡ self.now.send_nonce }
     {
-        self.sending.nonce()
+        self.sender.nonce()
     }
 
     /// The nonce of the next message that is opened.
     pub fn receive_nonce(&self) -> u64
         ensures { result ≡ self.now.receive_nonce }
     {
-        self.receiving.nonce()
+        self.receiver.nonce()
     }
 
     /// Sets the nonces of the next messages, where no key is ever renewed.
@@ -193,8 +194,8 @@ impl Transport {
         ensures alone { self.new ≡ record self.old { send_nonce = send; receive_nonce = receive } }
         ensures stands { (v : TransportView) → TransportStands self.old v → TransportStands self.new (record v { sent = send; received = receive }) }
     {
-        self.sending.set_nonce(send);
-        self.receiving.set_nonce(receive);
+        self.sender.set_nonce(send);
+        self.receiver.set_nonce(receive);
     }
 
     /// Seals a payload into the first bytes of `out`, 16 more than it has, and tells how many.
@@ -213,23 +214,30 @@ impl Transport {
         ensures seals { (v : TransportView) → TransportStands self.old v → IfOk result (λ n.
             (take n out.new ≡ next_packet v payload.now) × TransportStands self.new (record v { sent = v.sent + 1 })) }
     {
-        if self.one_way && self.role == Role::Responder {
-            return Err(SendFault::OneWay);
-        }
-        if payload.len() > PAYLOAD_MAX {
-            return Err(SendFault::TooLong);
-        }
-        if self.sending.nonce() == LAST_NONCE {
-            return Err(SendFault::Exhausted);
-        }
-        out[..payload.len()].copy_from_slice(payload);
-        match self.sending.encrypt(&[], out, payload.len()) {
-            Ok(len) => {
-                renew(&mut self.sending, self.interval);
-                Ok(len)
-            }
-            Err(_) => unreachable!(),
-        }
+        self.sender.seal(payload, out)
+    }
+
+    /// Seals the payload in the first `payload_len` bytes of `buffer` in place: the message is in the first bytes, 16 more, and
+    /// it tells how many.
+    ///
+    /// `buffer` holds them where the payload has at most 65519 bytes. The faults are those of `seal`.
+    pub fn seal_in_place(
+        &mut self,
+        buffer: &mut [u8],
+        payload_len: usize,
+    ) -> Result<usize, SendFault>
+        requires { seal_fault self.old payload_len ≡ None → payload_len + 16 ≤ length buffer.old }
+        ensures fault { MatchOption (seal_fault self.old payload_len) (IsOk result) (λ fault. result ≡ Err fault) }
+        ensures len { IfOk result (λ n. (n ≡ payload_len + 16) × (n ≤ length buffer.new)) }
+        ensures rest { IfOk result (λ n. drop n buffer.new ≡ drop n buffer.old) }
+        ensures counted { OnOk result (self.new ≡ record self.old { send_key = self.new.send_key; send_nonce = self.old.send_nonce + 1 }) }
+        ensures unchanged { OnErr result ((self.new ≡ self.old) × (buffer.new ≡ buffer.old)) }
+        ensures sealed { IfOk result (λ n. take n buffer.new ≡ piece_under self.old.send_key self.old.send_nonce [] (take payload_len buffer.old)) }
+        ensures renewed { OnOk result (self.new.send_key ≡ renewed_key self.old.interval (self.old.send_nonce + 1) self.old.send_key) }
+        ensures seals { (v : TransportView) → TransportStands self.old v → IfOk result (λ n.
+            (take n buffer.new ≡ next_packet v (take payload_len buffer.old)) × TransportStands self.new (record v { sent = v.sent + 1 })) }
+    {
+        self.sender.seal_in_place(buffer, payload_len)
     }
 
     /// Opens a message in place, and tells how many first bytes of it are then the payload. The 16 of the tag behind them stay
@@ -251,19 +259,7 @@ impl Transport {
             (λ n. (message.old ≡ due_packet v (take n message.new)) × TransportStands self.new (record v { received = v.received + 1 }))
             (λ _. open_fault self.old ≡ None → (payload : List ℕ) → message.old ≢ due_packet v payload) }
     {
-        if self.one_way && self.role == Role::Initiator {
-            return Err(OpenFault::OneWay);
-        }
-        match self.receiving.decrypt(&[], message) {
-            Ok(len) => {
-                renew(&mut self.receiving, self.interval);
-                Ok(len)
-            }
-            Err(CipherFault::Exhausted) => Err(OpenFault::Exhausted),
-            Err(CipherFault::Short) => Err(OpenFault::Short),
-            Err(CipherFault::Tag) => Err(OpenFault::Tag),
-            Err(CipherFault::TooLong) => unreachable!(),
-        }
+        self.receiver.open_within(message)
     }
 
     /// Opens a message in place, and gives its payload, a part of the message's own bytes.
@@ -285,19 +281,5 @@ impl Transport {
     {
         let len = self.open_within(message)?;
         Ok(&mut message[..len])
-    }
-}
-
-// Renews the key where the nonce has come to a multiple of the interval.
-fn renew(cipher: &mut CipherState, interval: u64)
-    requires { IsSome (key_in cipher.old) }
-    ensures nonce { nonce_in cipher.new ≡ nonce_in cipher.old }
-    ensures keyed { IsSome (key_in cipher.new) }
-    ensures renewed { key_in cipher.new ≡ renewed_key interval (nonce_in cipher.old) (key_in cipher.old) }
-    ensures key { (first : List ℕ) (n : ℕ) → nonce_in cipher.old ≡ n + 1 → key_in cipher.old ≡ Some (rekeyed_times (renewals interval n) first)
-        → key_in cipher.new ≡ Some (rekeyed_times (renewals interval (n + 1)) first) }
-{
-    if interval != 0 && cipher.nonce() % interval == 0 {
-        cipher.rekey();
     }
 }

@@ -1,41 +1,15 @@
-use Rattle.std.proofs.Common.{◌≡◌, [], length, sym, subst}
-use Rattle.noise_state.specs.declared.cipher.CipherFault.{CipherFault}
-use Rattle.noise_state.specs.Cipher.{DecryptRefused, keyed_in, nonce_in}
-use Rattle.noise_state.specs.History.{piece_under}
-use Rattle.noise_session.specs.HeldTransport.{HeldTransport}
-use Rattle.noise_session.proofs.Unopened.{due_piece, not_ok}
+use Rattle.std.proofs.Common.{refl, sym, ◌∙◌, ap, subst}
+use Rattle.std.proofs.lemmas.Result.{MatchResult-weaker}
+use Rattle.noise_session.specs.contracts.transport.Transport.{the_view}
+use Rattle.noise_session.specs.HeldTransport.{HeldTransport, TransportStands, open_fault}
+use Rattle.noise_session.proofs.Splitting.{receiver-stands, transport-opened, same-fault}
 use Rattle.noise_session.proofs.transport.Transport.open_within.Goals as goal
 
-pub returns-in-Err-Short-clause-opens : goal.returns-in-Err-Short-clause-opens
-returns-in-Err-Short-clause-opens c v s listens payload is =
-    let piece = subst (λ (t : HeldTransport). c.args.message.now ≡ piece_under t.receive_key t.receive_nonce [] payload) (sym c.self.view_is)
-    (due_piece c.args.self.now v c.args.message.now payload s is) in
-    let refused = subst (λ (f : CipherFault). DecryptRefused (keyed_in c.self.inside.receiving) (nonce_in c.self.inside.receiving)
-    (length c.args.message.now) f)
-    c.in-Err-Short.field-0-is c.in-Err-Short.ensures.refused in
-    not_ok c.decrypt.result _ c.in-Err-Short.is (c.decrypt.ensures.accepts.1 (refused.0, refused.1, (payload, piece)))
-
-pub returns-in-Err-Tag-clause-opens : goal.returns-in-Err-Tag-clause-opens
-returns-in-Err-Tag-clause-opens c v s listens payload is =
-    let piece = subst (λ (t : HeldTransport). c.args.message.now ≡ piece_under t.receive_key t.receive_nonce [] payload) (sym c.self.view_is)
-    (due_piece c.args.self.now v c.args.message.now payload s is) in
-    let refused = subst (λ (f : CipherFault). DecryptRefused (keyed_in c.self.inside.receiving) (nonce_in c.self.inside.receiving)
-    (length c.args.message.now) f)
-    c.in-Err-Tag.field-0-is c.in-Err-Tag.ensures.refused in
-    not_ok c.decrypt.result _ c.in-Err-Tag.is (c.decrypt.ensures.accepts.1 (refused.0, refused.1, (payload, piece)))
-
-pub returns-in-Err-Short-clause-opened : goal.returns-in-Err-Short-clause-opened
-returns-in-Err-Short-clause-opened c listens payload is =
-    let piece = subst (λ (t : HeldTransport). c.args.message.now ≡ piece_under t.receive_key t.receive_nonce [] payload) (sym c.self.view_is) is in
-    let refused = subst (λ (f : CipherFault). DecryptRefused (keyed_in c.self.inside.receiving) (nonce_in c.self.inside.receiving)
-    (length c.args.message.now) f)
-    c.in-Err-Short.field-0-is c.in-Err-Short.ensures.refused in
-    not_ok c.decrypt.result _ c.in-Err-Short.is (c.decrypt.ensures.accepts.1 (refused.0, refused.1, (payload, piece)))
-
-pub returns-in-Err-Tag-clause-opened : goal.returns-in-Err-Tag-clause-opened
-returns-in-Err-Tag-clause-opened c listens payload is =
-    let piece = subst (λ (t : HeldTransport). c.args.message.now ≡ piece_under t.receive_key t.receive_nonce [] payload) (sym c.self.view_is) is in
-    let refused = subst (λ (f : CipherFault). DecryptRefused (keyed_in c.self.inside.receiving) (nonce_in c.self.inside.receiving)
-    (length c.args.message.now) f)
-    c.in-Err-Tag.field-0-is c.in-Err-Tag.ensures.refused in
-    not_ok c.decrypt.result _ c.in-Err-Tag.is (c.decrypt.ensures.accepts.1 (refused.0, refused.1, (payload, piece)))
+pub returns-clause-opens : goal.returns-clause-opens
+returns-clause-opens c v s =
+    let t = the_view c.self.inside in
+    let here = subst (λ (h : HeldTransport). TransportStands h v) (sym c.self.view_is) s in
+    let half = receiver-stands t c.self.inside.receiver v here c.self.invariant.role c.self.invariant.one_way c.self.invariant.interval refl refl in
+    MatchResult-weaker c.open_within.result (c.open_within.ensures.opens v half)
+    (λ n h. (h.0, transport-opened t c.open_within.new.self v here h.1))
+    (λ _ h free. h (same-fault t c.self.inside.receiver c.self.invariant.role c.self.invariant.one_way refl ∙ ap open_fault c.self.view_is ∙ free))

@@ -1,8 +1,8 @@
 use Rattle.std.proofs.Common.{◌≢◌, ℕ, ◌+◌, ◌%◌, Some, sym, ◌∙◌, ap}
 use Rattle.noise_state.specs.History.{rekeyed_times}
 use Rattle.noise_session.proofs.Renewing.{renewals-kept, renewals-never}
-use Rattle.noise_session.proofs.transport.renew.Goals.{else-interval-ne0-via-then-interval-ne0+else-nonce-interval-eq0, else-interval-ne0-via-else-interval-ne0}
-use Rattle.noise_session.proofs.transport.renew.Goals as goal
+use Rattle.noise_session.proofs.renewal.renew.Goals.{else-interval-ne0-via-then-interval-ne0+else-nonce-interval-eq0, else-interval-ne0-via-else-interval-ne0}
+use Rattle.noise_session.proofs.renewal.renew.Goals as goal
 
 pub returns-else-interval-ne0-clause-key : goal.returns-else-interval-ne0-clause-key
 returns-else-interval-ne0-clause-key c first n count key =

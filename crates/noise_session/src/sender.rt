@@ -1,0 +1,205 @@
+//! The sending half of a transport (Noise, 5.2 and 11.3).
+#![tactic(auto)]
+
+ghost use Rattle.std.specs.Prelude.{◌≡◌, ◌≤◌, ◌+◌, [], length, take, drop, None, Err, IsOk, IsSome, IfOk, OnOk, OnErr, MatchOption};
+ghost use Rattle.noise_state.specs.Cipher.{key_in, nonce_in};
+ghost use Rattle.noise_state.specs.History.{piece_under};
+ghost use Rattle.noise_session.specs.Halves.{sender_fault};
+ghost use Rattle.noise_session.specs.HeldTransport.{TransportView, SenderStands, next_packet, renewed_key};
+ghost use Rattle.noise_session.specs.Parts.{half_in};
+
+use crate::parts::key_and_nonce;
+use crate::renewal::renew;
+use crate::{HalfParts, SendFault};
+use noise_names::Role;
+use noise_state::CipherState;
+use std::marker::Model;
+
+// The longest payload in bytes: its message has 16 more, and at most 65535 (Noise, 3).
+const PAYLOAD_MAX: usize = 65519;
+
+// The nonce that no message has (Noise, 5.1).
+const LAST_NONCE: u64 = u64::MAX;
+
+/// The sending half of a transport: it seals this party's payloads, as the whole transport does.
+///
+/// `Transport::split` makes it, for a thread of its own. That of the responder of a one-way session answers OneWay to every
+/// payload. No call takes memory, and a fault changes nothing.
+#[derive(Drop)]
+pub struct Sender {
+    role: Role,
+    one_way: bool,
+    interval: u64,
+    cipher: CipherState,
+}
+
+impl Model for Sender {
+    ghost use Rattle.std.specs.Prelude.{IsSome};
+    ghost use Rattle.noise_state.specs.Cipher.{key_in, nonce_in};
+    ghost use Rattle.noise_session.specs.Halves.{HeldHalf};
+
+    ghost Value = { HeldHalf };
+
+    ghost view = { λ s. record {
+      role = s.role;
+      one_way = s.one_way;
+      interval = s.interval;
+      key = key_in s.cipher;
+      nonce = nonce_in s.cipher;
+    } };
+
+    ghost invariant = { λ s. IsSome (key_in s.cipher) };
+}
+
+impl Sender {
+    // The half that seals with this cipher state.
+    pub(crate) fn new(role: Role, one_way: bool, interval: u64, cipher: CipherState) -> Sender
+        requires { IsSome (key_in cipher) }
+        ensures { result ≡ record { role = role; one_way = one_way; interval = interval; key = key_in cipher; nonce = nonce_in cipher } }
+    {
+        Sender {
+            role,
+            one_way,
+            interval,
+            cipher,
+        }
+    }
+
+    /// What it holds, for a caller that keeps it itself until the next message.
+    pub fn into_parts(self) -> HalfParts
+        ensures { half_in result ≡ self }
+    {
+        let (key, nonce) = key_and_nonce(self.cipher);
+        HalfParts {
+            role: self.role,
+            one_way: self.one_way,
+            interval: self.interval,
+            key,
+            nonce,
+        }
+    }
+
+    /// The sending half that holds these parts. Any parts make one: a key and a nonce don't show of which half they are.
+    ///
+    /// A half that was taken apart is put together once: two of them would seal at the same nonce.
+    pub fn from_parts(parts: HalfParts) -> Sender
+        ensures { result ≡ half_in parts }
+    {
+        Sender {
+            role: parts.role,
+            one_way: parts.one_way,
+            interval: parts.interval,
+            cipher: CipherState::from_parts(Some(parts.key), parts.nonce),
+        }
+    }
+
+    // The cipher state.
+    pub(crate) fn into_cipher(self) -> CipherState
+        ensures { (key_in result ≡ self.key) × (nonce_in result ≡ self.nonce) × IsSome (key_in result) }
+    {
+        self.cipher
+    }
+
+    pub(crate) fn role(&self) -> Role
+        ensures { result ≡ self.now.role }
+    {
+        self.role
+    }
+
+    pub(crate) fn one_way(&self) -> bool
+        ensures { result ≡ self.now.one_way }
+    {
+        self.one_way
+    }
+
+    pub(crate) fn interval(&self) -> u64
+        ensures { result ≡ self.now.interval }
+    {
+        self.interval
+    }
+
+    /// The nonce of the next message that is sealed.
+    pub fn nonce(&self) -> u64
+        ensures { result ≡ self.now.nonce }
+    {
+        self.cipher.nonce()
+    }
+
+    // Sets the nonce of the next message.
+    pub(crate) fn set_nonce(&mut self, nonce: u64)
+        ensures { self.new ≡ record self.old { nonce = nonce } }
+    {
+        self.cipher.set_nonce(nonce);
+    }
+
+    // Why a payload of this length isn't sealed now.
+    fn refusal(&self, payload_len: usize) -> Option<SendFault>
+        ensures { result ≡ sender_fault self.now payload_len }
+    {
+        if self.one_way && self.role == Role::Responder {
+            return Some(SendFault::OneWay);
+        }
+        if payload_len > PAYLOAD_MAX {
+            return Some(SendFault::TooLong);
+        }
+        if self.cipher.nonce() == LAST_NONCE {
+            return Some(SendFault::Exhausted);
+        }
+        None
+    }
+
+    /// Seals a payload into the first bytes of `out`, 16 more than it has, and tells how many.
+    ///
+    /// `out` holds them where the payload has at most 65519 bytes. The faults are OneWay, TooLong and Exhausted, looked for
+    /// in this order.
+    pub fn seal(&mut self, payload: &[u8], out: &mut [u8]) -> Result<usize, SendFault>
+        requires { sender_fault self.old (length payload.now) ≡ None → length payload.now + 16 ≤ length out.old }
+        ensures fault { MatchOption (sender_fault self.old (length payload.now)) (IsOk result) (λ fault. result ≡ Err fault) }
+        ensures len { IfOk result (λ n. (n ≡ length payload.now + 16) × (n ≤ length out.new)) }
+        ensures rest { IfOk result (λ n. drop n out.new ≡ drop n out.old) }
+        ensures counted { OnOk result (self.new ≡ record self.old { key = self.new.key; nonce = self.old.nonce + 1 }) }
+        ensures unchanged { OnErr result ((self.new ≡ self.old) × (out.new ≡ out.old)) }
+        ensures sealed { IfOk result (λ n. take n out.new ≡ piece_under self.old.key self.old.nonce [] payload.now) }
+        ensures renewed { OnOk result (self.new.key ≡ renewed_key self.old.interval (self.old.nonce + 1) self.old.key) }
+        ensures seals { (v : TransportView) → SenderStands self.old v → IfOk result (λ n.
+            (take n out.new ≡ next_packet v payload.now) × SenderStands self.new (record v { sent = v.sent + 1 })) }
+    {
+        if let Some(fault) = self.refusal(payload.len()) {
+            return Err(fault);
+        }
+        out[..payload.len()].copy_from_slice(payload);
+        self.seal_in_place(out, payload.len())
+    }
+
+    /// Seals the payload in the first `payload_len` bytes of `buffer` in place: the message is in the first bytes, 16 more, and
+    /// it tells how many.
+    ///
+    /// `buffer` holds them where the payload has at most 65519 bytes. The faults are those of `seal`.
+    pub fn seal_in_place(
+        &mut self,
+        buffer: &mut [u8],
+        payload_len: usize,
+    ) -> Result<usize, SendFault>
+        requires { sender_fault self.old payload_len ≡ None → payload_len + 16 ≤ length buffer.old }
+        ensures fault { MatchOption (sender_fault self.old payload_len) (IsOk result) (λ fault. result ≡ Err fault) }
+        ensures len { IfOk result (λ n. (n ≡ payload_len + 16) × (n ≤ length buffer.new)) }
+        ensures rest { IfOk result (λ n. drop n buffer.new ≡ drop n buffer.old) }
+        ensures counted { OnOk result (self.new ≡ record self.old { key = self.new.key; nonce = self.old.nonce + 1 }) }
+        ensures unchanged { OnErr result ((self.new ≡ self.old) × (buffer.new ≡ buffer.old)) }
+        ensures sealed { IfOk result (λ n. take n buffer.new ≡ piece_under self.old.key self.old.nonce [] (take payload_len buffer.old)) }
+        ensures renewed { OnOk result (self.new.key ≡ renewed_key self.old.interval (self.old.nonce + 1) self.old.key) }
+        ensures seals { (v : TransportView) → SenderStands self.old v → IfOk result (λ n.
+            (take n buffer.new ≡ next_packet v (take payload_len buffer.old)) × SenderStands self.new (record v { sent = v.sent + 1 })) }
+    {
+        if let Some(fault) = self.refusal(payload_len) {
+            return Err(fault);
+        }
+        match self.cipher.encrypt(&[], buffer, payload_len) {
+            Ok(len) => {
+                renew(&mut self.cipher, self.interval);
+                Ok(len)
+            }
+            Err(_) => unreachable!(),
+        }
+    }
+}
