@@ -33,14 +33,19 @@ fn run(rt: &HostRuntime, order: &Chosen) -> u8 {
     match order {
         Chosen::List | Chosen::Show(_) => run_on(rt, order, &mut io::empty()),
         Chosen::Check(name) | Chosen::Talk(name) | Chosen::Replay(name) | Chosen::Convert(name) =>
-            match File::open(rt, name.as_str()) {
-                Ok(mut file) => run_on(rt, order, &mut file),
-                Err(error) if error.kind() == ErrorKind::OutOfMemory => ends_with(
-                    rt,
-                    Fault::Memory,
-                ),
-                Err(_) => ends_with(rt, Fault::Unreadable),
-            },
+            run_on_file(rt, order, name.as_str()),
+    }
+}
+
+// Does it on the file of this name: `-` is standard input.
+fn run_on_file(rt: &HostRuntime, order: &Chosen, name: &str) -> u8 {
+    if name == "-" {
+        return run_on(rt, order, &mut rt.stdin());
+    }
+    match File::open(rt, name) {
+        Ok(mut file) => run_on(rt, order, &mut file),
+        Err(error) if error.kind() == ErrorKind::OutOfMemory => ends_with(rt, Fault::Memory),
+        Err(_) => ends_with(rt, Fault::Unreadable),
     }
 }
 
