@@ -34,6 +34,6 @@ pub fn seal_in_place(key: &[u8; 32], nonce: &[u8; 12], ad: &[u8], buf: &mut [u8]
 pub fn rekey(key: &[u8; 32]) -> [u8; 32]
     ensures { result ≡ rekeyed key.now }
 {
-    let mut words = keystream::generator(key, &nonce(u64::MAX), 16);
+    let mut words = keystream::generator_apart(key, &nonce(u64::MAX), 16);
     keystream::half_block(&mut words)
 }

@@ -13,10 +13,8 @@ const BLOCK_LEN: usize = 64;
 
 /// The generator at this word of the keystream. A block has 16 words.
 ///
-/// It isn't inlined, so that the compiler doesn't see that no caller asks for a word within a block:
-/// else all of the refill of four blocks would be part of `next_word`, which would then be too long
-/// to be inlined where a block is read.
-#[inline(never)]
+/// It is inlined, so that the compiler knows the place of each word of the first blocks.
+#[inline(always)]
 pub fn generator(key: &[u8; 32], nonce: &[u8; 12], word: u32) -> ChaCha20Rng
     ensures place { (b : ℕ) → word ≡ 16 * b → result ≡ generator_at key.now nonce.now b }
     ensures room { result.word_pos + 2 ^ 35 ≤ 2 ^ 68 }
@@ -29,7 +27,18 @@ pub fn generator(key: &[u8; 32], nonce: &[u8; 12], word: u32) -> ChaCha20Rng
     words
 }
 
+/// The same generator, out of line, for a call at another word than the rest. If the compiler saw that no call asks for a word
+/// within a block, it would make the refill of four blocks a part of `next_word`, which would then be too long to be inlined.
+#[inline(never)]
+pub fn generator_apart(key: &[u8; 32], nonce: &[u8; 12], word: u32) -> ChaCha20Rng
+    ensures place { (b : ℕ) → word ≡ 16 * b → result ≡ generator_at key.now nonce.now b }
+    ensures room { result.word_pos + 2 ^ 35 ≤ 2 ^ 68 }
+{
+    generator(key, nonce, word)
+}
+
 /// The first half of the next block. The other half is passed over.
+#[inline(always)]
 pub fn half_block(words: &mut ChaCha20Rng) -> [u8; 32]
     requires { words.old.word_pos + 16 < 2 ^ 68 }
     ensures bytes { result ≡ bytes_from words.old 32 }
@@ -87,6 +96,7 @@ pub fn xor64(text: &mut [u8; 64], stream: &[u8; 64])
 }
 
 /// Xors the text with the keystream from the generator's place on.
+#[inline(always)]
 pub fn apply(words: &mut ChaCha20Rng, text: &mut [u8])
     requires fits { length text.old ≤ 65535 }
     requires room { words.old.word_pos + 2 ^ 15 < 2 ^ 68 }

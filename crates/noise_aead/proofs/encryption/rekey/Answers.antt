@@ -15,5 +15,5 @@ returns c =
     let shown : front ≡ bytes_from (generator_at key nonce 1) 32 = xored-zeros (stream_byte key nonce 1) 0 32 in
     c.half_block.ensures.bytes
     ∙ ap (λ (g : ChaCha). bytes_from g 32)
-    (c.generator-words.ensures.place 1 refl ∙ ap (λ (n : List ℕ). generator_at key n 1) c.nonce.ensures)
+    (c.generator_apart-words.ensures.place 1 refl ∙ ap (λ (n : List ℕ). generator_at key n 1) c.nonce.ensures)
     ∙ sym shown ∙ sym (take_at front (seal_tag key nonce [] front) 32 (length-masked key nonce (replicate 32 0)))
