@@ -2,8 +2,8 @@
 
    WHAT THE LIBRARY DOES. It runs a handshake pattern message by message. After the handshake it seals (encrypts) and opens (decrypts) transport
    messages or datagrams. It does no curve arithmetic, draws no random bytes, opens no socket and allocates no memory. The caller supplies public
-   keys, computes X25519 when a call asks for it, and keeps the state in structs of three types: noise_handshake, noise_transport and
-   noise_datagrams, the kept structs.
+   keys, computes X25519 when a call asks for it, and keeps the state in structs, the kept structs: noise_handshake, noise_transport and
+   noise_datagrams; and noise_sender and noise_receiver, into which a transport can be split.
 
    THE ORDER OF CALLS
 
@@ -13,6 +13,8 @@
          noise_transport_seal, _open              as often as needed
        noise_finish_datagrams                   in place of noise_finish, for a network that loses, repeats and reorders messages
          noise_datagrams_seal, _open              as often as needed
+       noise_transport_split                    for a thread that sends and one that receives, each with a struct of its own
+         noise_sender_seal, noise_receiver_open   as often as needed
 
    noise_stage says whose turn it is. noise_finish returns NOISE_NOT_DONE as long as messages are due.
 
@@ -66,20 +68,22 @@
 
    WHAT THE LIBRARY CHECKS. A call returns a code for each wrong value. No length, no count and no content of a kept struct makes a call stop
    the process or access memory that it wasn't given. NOISE_STRUCT means that the kept struct holds no state that a call could have made. Each
-   call that takes a kept struct checks this, but for two: noise_start, which initializes it, and noise_answer, which checks only the number of answers
-   (the next call returns NOISE_STRUCT).
+   call that takes a kept struct checks this, but for the calls that initialize it, and for noise_answer, which checks only the number of answers
+   (the next call returns NOISE_STRUCT). A kept struct begins with a mark of its type and of its layout's version: a struct of zeros, of another type,
+   or of another build whose layout differs gives NOISE_STRUCT.
 
    WHAT THE CALLER MUST ENSURE, since no call can check it
    - A pointer that has a count may be NULL if the count is 0, as in `NULL, 0` or as the data() of an empty vector (see the end of this header).
      No other pointer may be NULL. Each pointer leads to as many bytes as its count or its type says.
    - The bytes at a pointer that isn't const overlap those of no other pointer of the call. So noise_write can't write a message over its payload.
-     noise_read and the two _open calls work in place, in one buffer.
+     noise_read, the _open calls and noise_transport_seal_in_place work in place, in one buffer.
    - The address of a kept struct is a multiple of 8, as its declaration here ensures.
-   - One thread at a time uses a kept struct. Several threads may use different structs at once: the library has no other state.
+   - One thread at a time uses a kept struct. Several threads may use different structs at once: the library has no other state. For a thread that
+     sends and one that receives, split the transport: each half is a struct of its own, and needs no lock.
    - Never use a copy of a kept struct beside the original. Both would seal with the same nonce and key, which reveals what was sealed.
      You may move a struct. You may read or open a message on a copy and then discard the copy. And two threads may each have a copy of a
-     noise_transport or a noise_datagrams if, from then on, one copy only seals and the other only opens: each call uses and changes only the
-     state of its own direction. Overwrite both copies at the end.
+     noise_datagrams if, from then on, one copy only seals and the other only opens: each call uses and changes only the state of its own
+     direction. Overwrite both copies at the end.
    - Each handshake has a new ephemeral key pair. A pair that was used before makes the same keys again.
    - X25519 may give all zeros. If you want such a key refused (Noise, 12.1), don't pass it to noise_answer, and end the handshake.
    - No call compares the other party's static key with the one that you expect. noise_remote_static returns it; compare it yourself.
@@ -89,7 +93,7 @@
    call uses at most 14 KB of stack. checks/c-library/stack.c measured this on x86-64: it fills the stack, and looks at what each call has changed.
 
    ANOTHER BUILD. If the program may run with another build of the library than this header's, compare noise_handshake_size() with
-   sizeof(noise_handshake), and likewise for the other two structs, before any other call. */
+   sizeof(noise_handshake), and likewise for the other kept structs, before any other call. */
 #ifndef NOISE_H
 #define NOISE_H
 
@@ -174,7 +178,11 @@ enum {
 /* The kept structs: the caller provides the memory, and only the library reads and changes the content. */
 typedef struct { NOISE_ALIGNED unsigned char kept[1472]; } noise_handshake;
 typedef struct { NOISE_ALIGNED unsigned char kept[160]; } noise_transport;
-typedef struct { NOISE_ALIGNED unsigned char kept[224]; } noise_datagrams;
+typedef struct { NOISE_ALIGNED unsigned char kept[296]; } noise_datagrams;
+
+/* The halves of a transport: one seals, the other opens. */
+typedef struct { NOISE_ALIGNED unsigned char kept[56]; } noise_sender;
+typedef struct { NOISE_ALIGNED unsigned char kept[56]; } noise_receiver;
 
 /* A public key, or none if present is 0. */
 typedef struct {
@@ -303,6 +311,11 @@ uint32_t noise_finish(const noise_handshake *h, uint64_t interval, noise_transpo
    are unchanged. */
 uint32_t noise_transport_seal(noise_transport *t, const uint8_t *payload, size_t payload_len, uint8_t *out, size_t out_len, noise_told *told);
 
+/* Seals a payload as noise_transport_seal does, in one buffer: the payload is the first payload_len bytes of buffer, and the message replaces it.
+   OK: the message is the first told->len bytes of buffer, 16 more than the payload; the bytes after it are unchanged. The other codes are those of
+   noise_transport_seal: ROOM if buffer has fewer bytes than the message. */
+uint32_t noise_transport_seal_in_place(noise_transport *t, uint8_t *buffer, size_t buffer_len, size_t payload_len, noise_told *told);
+
 /* Opens the next message of the other party, in place.
    OK: the payload is now the told->len bytes of message from told->from on · STRUCT · LENGTH · ONE_WAY · EXHAUSTED · SHORT · TAG. At any code but OK
    *t and message are unchanged, so a forged message that somebody inserted does no harm. But if a message was lost or changed, all later
@@ -315,6 +328,19 @@ uint32_t noise_transport_nonces(const noise_transport *t, uint64_t *send, uint64
 /* Return the handshake hash and the other party's static public key, as noise_hash and noise_remote_static do. OK · STRUCT. */
 uint32_t noise_transport_hash(const noise_transport *t, uint8_t hash[32]);
 uint32_t noise_transport_remote_static(const noise_transport *t, noise_key *key);
+
+/* Splits a transport into the half that seals and the half that opens, for two threads. Ask for the hash and the other party's static key before.
+   OK: *sender and *receiver may have held anything before; *t is now all zeros, and each call with it returns STRUCT · STRUCT: all is unchanged. */
+uint32_t noise_transport_split(noise_transport *t, noise_sender *sender, noise_receiver *receiver);
+
+/* Return the size of a noise_sender and of a noise_receiver, in bytes. */
+size_t noise_sender_size(void);
+size_t noise_receiver_size(void);
+
+/* Seals and opens as noise_transport_seal and noise_transport_open do, with the same codes and renewed keys. In a one-way pattern (N, K, X)
+   noise_sender_seal of the responder and noise_receiver_open of the initiator return ONE_WAY. */
+uint32_t noise_sender_seal(noise_sender *s, const uint8_t *payload, size_t payload_len, uint8_t *out, size_t out_len, noise_told *told);
+uint32_t noise_receiver_open(noise_receiver *r, uint8_t *message, size_t message_len, noise_told *told);
 
 /* DATAGRAMS, for a network that loses, repeats and reorders messages. A datagram begins with its nonce, in 8 bytes, the highest byte first. */
 
@@ -340,6 +366,57 @@ uint32_t noise_datagrams_open(noise_datagrams *d, uint8_t *datagram, size_t data
 
 /* Returns the nonce of the next datagram to seal: how many were sealed so far. OK · STRUCT. */
 uint32_t noise_datagrams_nonce(const noise_datagrams *d, uint64_t *send);
+
+/* Return the handshake hash and the other party's static public key, as noise_hash and noise_remote_static do. OK · STRUCT. */
+uint32_t noise_datagrams_hash(const noise_datagrams *d, uint8_t hash[32]);
+uint32_t noise_datagrams_remote_static(const noise_datagrams *d, noise_key *key);
+
+/* CODES IN WORDS */
+
+/* Returns one sentence that says what a code means; for a number that is no code, that it is none. */
+static inline const char *noise_text(uint32_t code) {
+    switch (code) {
+    case NOISE_OK: return "The call succeeded.";
+    case NOISE_NAME: return "The protocol name is not that of a fundamental pattern with 25519, ChaChaPoly and SHA256.";
+    case NOISE_PATTERN: return "The pattern text has a fault, or the pattern is not valid.";
+    case NOISE_EPHEMERAL_MISSING: return "The setup lacks this party's ephemeral public key.";
+    case NOISE_STATIC_MISSING: return "The setup lacks this party's static public key.";
+    case NOISE_REMOTE_MISSING: return "The setup lacks a public key of the other party's pre-message.";
+    case NOISE_REMOTE_UNEXPECTED: return "The setup has a public key of the other party that is not in its pre-message.";
+    case NOISE_PSK_COUNT: return "The number of secrets is not the number of psk tokens.";
+    case NOISE_NOT_YOUR_TURN: return "It is the other party's turn.";
+    case NOISE_TOO_LONG: return "The message would be or is too long.";
+    case NOISE_DONE: return "All messages of the handshake have passed.";
+    case NOISE_ENDED: return "The handshake has ended, since a message was refused.";
+    case NOISE_AGREEMENT: return "A result of X25519 is missing in a struct that something else has changed.";
+    case NOISE_SHORT: return "The message has too few bytes.";
+    case NOISE_TAG: return "The message is not one that the other party made for this call.";
+    case NOISE_EXHAUSTED: return "This key encrypts and decrypts no more messages.";
+    case NOISE_ROOM: return "The buffer is too short for the message.";
+    case NOISE_NOT_DONE: return "Messages of the handshake are still due.";
+    case NOISE_WANTED: return "The call needs a result of X25519.";
+    case NOISE_FULL: return "The handshake holds as many results of X25519 as it can.";
+    case NOISE_ONE_WAY: return "The pattern is one-way: the responder seals nothing, and the initiator opens nothing.";
+    case NOISE_STRUCT: return "The struct holds no state that a call could have made.";
+    case NOISE_LENGTH: return "The prologue or the message has more than 65535 bytes.";
+    case NOISE_WINDOW: return "The window is not 64, 256 or 1024.";
+    case NOISE_RESERVED: return "The datagram has the nonce that no datagram may have.";
+    case NOISE_OLD: return "The datagram is older than the window.";
+    case NOISE_REPEATED: return "A datagram with this nonce was opened before.";
+    case NOISE_NOT_DUE: return "A payload of this length can not be written now.";
+    case NOISE_HEADING: return "Line 1 of the pattern text is not a base name, its modifiers in order, and a colon.";
+    case NOISE_ARROW: return "The line does not begin with two spaces, an arrow and a space.";
+    case NOISE_TOKEN: return "A word of the line is not a token.";
+    case NOISE_PRE_MESSAGE: return "A line of the pre-messages has other tokens than theirs, or is in the wrong place.";
+    case NOISE_TURN: return "The line is a message of the wrong party.";
+    case NOISE_PSK_PLACE: return "The psk tokens are not where the heading says.";
+    case NOISE_NAME_TAKEN: return "The base name is that of another pattern, a fundamental one.";
+    case NOISE_LIMIT: return "The pattern has too many messages, or a message has too few or too many tokens.";
+    case NOISE_ENDING: return "The line has no line feed, or there is no message.";
+    case NOISE_RULE: return "The pattern is not valid.";
+    default: return "This number is not a code of the library.";
+    }
+}
 
 /* NULL WITH A COUNT OF 0. The functions of the library accept no NULL. So each function that takes bytes and their count is also a macro, as the
    functions of the C library may be (C11, 7.1.4). The macro calls an inline function, which replaces NULL by the address of a byte that nobody
@@ -379,6 +456,23 @@ static inline uint32_t noise_transport_open_inline(noise_transport *t, uint8_t *
     return noise_transport_open(t, message || message_len ? message : &nothing, message_len, told);
 }
 
+static inline uint32_t noise_transport_seal_in_place_inline(noise_transport *t, uint8_t *buffer, size_t buffer_len, size_t payload_len,
+    noise_told *told) {
+    uint8_t nothing = 0;
+    return noise_transport_seal_in_place(t, buffer || buffer_len ? buffer : &nothing, buffer_len, payload_len, told);
+}
+
+static inline uint32_t noise_sender_seal_inline(noise_sender *s, const uint8_t *payload, size_t payload_len, uint8_t *out, size_t out_len,
+    noise_told *told) {
+    uint8_t nothing[2] = {0, 0};
+    return noise_sender_seal(s, payload || payload_len ? payload : nothing, payload_len, out || out_len ? out : nothing + 1, out_len, told);
+}
+
+static inline uint32_t noise_receiver_open_inline(noise_receiver *r, uint8_t *message, size_t message_len, noise_told *told) {
+    uint8_t nothing = 0;
+    return noise_receiver_open(r, message || message_len ? message : &nothing, message_len, told);
+}
+
 static inline uint32_t noise_datagrams_seal_inline(noise_datagrams *d, const uint8_t *payload, size_t payload_len, uint8_t *out, size_t out_len,
     noise_told *told) {
     uint8_t nothing[2] = {0, 0};
@@ -397,6 +491,10 @@ static inline uint32_t noise_datagrams_open_inline(noise_datagrams *d, uint8_t *
 #define noise_check_pattern(text, text_len, told) noise_check_pattern_inline(text, text_len, told)
 #define noise_transport_seal(t, payload, payload_len, out, out_len, told) noise_transport_seal_inline(t, payload, payload_len, out, out_len, told)
 #define noise_transport_open(t, message, message_len, told) noise_transport_open_inline(t, message, message_len, told)
+#define noise_transport_seal_in_place(t, buffer, buffer_len, payload_len, told) \
+    noise_transport_seal_in_place_inline(t, buffer, buffer_len, payload_len, told)
+#define noise_sender_seal(s, payload, payload_len, out, out_len, told) noise_sender_seal_inline(s, payload, payload_len, out, out_len, told)
+#define noise_receiver_open(r, message, message_len, told) noise_receiver_open_inline(r, message, message_len, told)
 #define noise_datagrams_seal(d, payload, payload_len, out, out_len, told) noise_datagrams_seal_inline(d, payload, payload_len, out, out_len, told)
 #define noise_datagrams_open(d, datagram, datagram_len, told) noise_datagrams_open_inline(d, datagram, datagram_len, told)
 

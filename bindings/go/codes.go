@@ -58,5 +58,7 @@ const (
 const (
 	sizeOfHandshake = 1472
 	sizeOfTransport = 160
-	sizeOfDatagrams = 224
+	sizeOfDatagrams = 296
+	sizeOfSender    = 56
+	sizeOfReceiver  = 56
 )

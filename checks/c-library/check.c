@@ -6,6 +6,8 @@ static void check_declared_sizes(void) {
     MUST(noise_handshake_size() == sizeof(noise_handshake));
     MUST(noise_transport_size() == sizeof(noise_transport));
     MUST(noise_datagrams_size() == sizeof(noise_datagrams));
+    MUST(noise_sender_size() == sizeof(noise_sender));
+    MUST(noise_receiver_size() == sizeof(noise_receiver));
 }
 
 int main(int count, char **words) {
@@ -18,6 +20,7 @@ int main(int count, char **words) {
     check_refusals();
     check_transport();
     check_datagrams();
+    check_halves();
     check_changed_structs();
     puts("c-library: all codes, bytes and places were right");
     return 0;

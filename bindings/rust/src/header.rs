@@ -49,4 +49,6 @@ pub(crate) const MAX_PSKS: usize = 9;
 
 pub(crate) const SIZE_OF_HANDSHAKE: usize = 1472;
 pub(crate) const SIZE_OF_TRANSPORT: usize = 160;
-pub(crate) const SIZE_OF_DATAGRAMS: usize = 224;
+pub(crate) const SIZE_OF_DATAGRAMS: usize = 296;
+pub(crate) const SIZE_OF_SENDER: usize = 56;
+pub(crate) const SIZE_OF_RECEIVER: usize = 56;

@@ -16,6 +16,7 @@ use Rattle.noise_handshake.specs.Party.{Stands, behind_message, behind_own, behi
 use Rattle.noise_handshake.specs.Writing.{Writes}
 use Rattle.noise_c.specs.declared.kept.NoiseHandshake.{NoiseHandshake}
 use Rattle.noise_c.specs.Kept.{public_in, agreement_in, text_in, held_in, IsPatternOf, IsUsable, KeepsView, WasRead, WasWritten, WasDeclined}
+use Rattle.noise_c.specs.declared.marks.TheConstants.{HANDSHAKE}
 use Rattle.noise_c.specs.Codes.{read_code, token_in}
 
 module _ (old new : NoiseHandshake) (h h2 : Held Table) (p : Plan) (v : View) (one : (q : Plan) → IsPatternOf (text_in old) q → q ≡ h.pattern) (same : h ≡ held_in h.pattern old)
@@ -51,9 +52,10 @@ pub stands-for : (old : NoiseHandshake) (h : Held Table) (p : Plan) (v : View) �
 stands-for old h p v one same k = subst (λ (z : Held Table). Stands public_in agreement_in z v) (ap (λ (q : Plan). held_in q old) (one p k.pattern) ∙ sym same) k.stands
 
 -- what keeps a handshake is usable
-pub usable-kept : (new : NoiseHandshake) (h : Held Table) → new.text_len ≤ 416 → new.answer_count ≤ 8 → new.secret_count ≤ 9
+pub usable-kept : (new : NoiseHandshake) (h : Held Table) → new.mark ≡ HANDSHAKE → new.text_len ≤ 416 → new.answer_count ≤ 8 → new.secret_count ≤ 9
     → IsPatternOf (text_in new) h.pattern → IsValid h.pattern → held_in h.pattern new ≡ h → IsWhole public_in h → IsUsable new
-usable-kept new h t a n named valid same whole = record {
+usable-kept new h m t a n named valid same whole = record {
+  mark = m;
   text = t;
   answers = a;
   secrets = n;
@@ -64,11 +66,11 @@ usable-kept new h t a n named valid same whole = record {
 }
 
 -- the same of what a usable one becomes
-pub usable-behind : (old new : NoiseHandshake) (h h2 : Held Table) → IsUsable old → new.text_len ≡ old.text_len → new.answer_count ≡ old.answer_count
+pub usable-behind : (old new : NoiseHandshake) (h h2 : Held Table) → IsUsable old → new.mark ≡ old.mark → new.text_len ≡ old.text_len → new.answer_count ≡ old.answer_count
     → new.secret_count ≤ 9 → text_in new ≡ text_in old → IsPatternOf (text_in old) h.pattern → h2.pattern ≡ h.pattern → IsValid h2.pattern
     → held_in h2.pattern new ≡ h2 → IsWhole public_in h2 → IsUsable new
-usable-behind old new h h2 u t a n name named stays valid same whole =
-    usable-kept new h2 (omega (arith, t, u.text)) (omega (arith, a, u.answers)) n
+usable-behind old new h h2 u m t a n name named stays valid same whole =
+    usable-kept new h2 (m ∙ u.mark) (omega (arith, t, u.text)) (omega (arith, a, u.answers)) n
     (subst (λ (z : List ℕ). IsPatternOf z h2.pattern) (sym name) (subst (λ (q : Plan). IsPatternOf (text_in old) q) (sym stays) named)) valid same whole
 
 -- a handshake that has ended

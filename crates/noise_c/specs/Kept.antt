@@ -28,6 +28,7 @@ use Rattle.noise_c.specs.declared.kept.NoiseKey.{NoiseKey}
 use Rattle.noise_c.specs.declared.kept.NoiseAnswer.{NoiseAnswer}
 use Rattle.noise_c.specs.declared.kept.NoiseHandshake.{NoiseHandshake}
 use Rattle.noise_c.specs.declared.kept.NoiseSetup.{NoiseSetup}
+use Rattle.noise_c.specs.declared.marks.TheConstants.{HANDSHAKE}
 use Rattle.noise_c.specs.declared.kept.NoiseStageTold.{NoiseStageTold}
 use Rattle.noise_c.specs.Codes.{read_code, token_in, write_code, setup_code}
 
@@ -110,8 +111,9 @@ held_in p k = record {
   state = state_of (record { chaining_key = k.chaining_key; hash = k.hash; key = key_in k.cipher; nonce = k.nonce });
 }
 
--- A call has left this: no more text, answers and secrets than there is room for, and what a handshake of the named pattern may hold.
+-- A call has left this: its mark is that of a handshake of this layout; no more text, answers and secrets than there is room for, and what a handshake of the named pattern may hold.
 pub record IsUsable (k : NoiseHandshake) : Type 0 where
+  pub mark : k.mark ≡ HANDSHAKE
   pub text : k.text_len ≤ 416
   pub answers : k.answer_count ≤ 8
   pub secrets : k.secret_count ≤ 9

@@ -4,6 +4,7 @@ use Rattle.noise_events.specs.declared.window.Window.{Window}
 use Rattle.noise_events.specs.declared.window.Window.TheVariants.{W64, W256, W1024}
 use Rattle.noise_session.specs.Datagrams.{HeldDatagrams, unsealed}
 use Rattle.noise_c.specs.declared.kept_datagrams.NoiseDatagrams.{NoiseDatagrams}
+use Rattle.noise_c.specs.declared.marks.TheConstants.{DATAGRAMS}
 use Rattle.noise_c.specs.KeptTransport.{is_party, party_in}
 use Rattle.noise_c.specs.TransportCodes.{sealing_code}
 
@@ -14,9 +15,9 @@ is_window width = (width == 64) || (width == 256) || (width == 1024)
 abbrev pub window_in : ℕ → Window
 window_in width = if width == 64 then W64 else if width == 256 then W256 else W1024
 
--- A call has left this: memory of zeros stands for no datagrams.
+-- A call has left this: its mark is that of datagrams of this layout. Memory of zeros stands for none.
 abbrev pub is_datagrams : NoiseDatagrams → Bool
-is_datagrams k = is_party k.party && is_window k.window
+is_datagrams k = (k.mark == DATAGRAMS) && is_party k.party && is_window k.window
 
 -- the datagrams
 abbrev pub datagrams_kept_in : NoiseDatagrams → HeldDatagrams

@@ -1,11 +1,12 @@
 -- What the memory that C keeps of a transport stands for.
-use Rattle.std.specs.Prelude.{ℕ, ◌==◌, ◌+◌, nat_lt, not, ◌||◌, length, Bool, Option, Some, option_map, if◌then◌else◌}
+use Rattle.std.specs.Prelude.{ℕ, ◌==◌, ◌+◌, nat_lt, not, ◌||◌, ◌&&◌, length, Bool, Option, Some, option_map, if◌then◌else◌}
 use Rattle.noise_names.specs.declared.token.Role.{Role}
 use Rattle.noise_names.specs.declared.token.Role.TheVariants.{Initiator, Responder}
 use Rattle.noise_handshake.specs.Held.{Held}
 use Rattle.noise_keys.specs.Table.{Table}
 use Rattle.noise_session.specs.HeldTransport.{HeldTransport, seal_fault, open_fault}
 use Rattle.noise_c.specs.declared.kept_transport.NoiseTransport.{NoiseTransport}
+use Rattle.noise_c.specs.declared.marks.TheConstants.{TRANSPORT}
 use Rattle.noise_c.specs.Kept.{key_in}
 use Rattle.noise_c.specs.TransportCodes.{sealing_code, open_code}
 
@@ -15,6 +16,10 @@ is_party party = (party == 1) || (party == 2)
 
 abbrev pub party_in : ℕ → Role
 party_in party = if party == 1 then Initiator else Responder
+
+-- A call has left this: its mark is that of a transport of this layout, and it is of one of the two parties.
+abbrev pub is_transport : NoiseTransport → Bool
+is_transport k = (k.mark == TRANSPORT) && is_party k.party
 
 -- the transport
 abbrev pub transport_kept_in : NoiseTransport → HeldTransport
@@ -37,13 +42,13 @@ finish_code h = if h.ended then 13 else if h.passed == length h.pattern.messages
 -- the number that sealing tells, by the lengths of the payload and of what there is room for
 abbrev pub transport_seal_code : NoiseTransport → ℕ → ℕ → ℕ
 transport_seal_code k payload room =
-    if not (is_party k.party) then 23
+    if not (is_transport k) then 23
     else if nat_lt room (payload + 16) then 18
     else sealing_code (seal_fault (transport_kept_in k) payload)
 
 -- the number of a message of this length that isn't looked into
 abbrev pub transport_open_refusal : NoiseTransport → ℕ → Option ℕ
 transport_open_refusal k message =
-    if not (is_party k.party) then Some 23
+    if not (is_transport k) then Some 23
     else if nat_lt 65535 message then Some 24
     else option_map open_code (open_fault (transport_kept_in k))

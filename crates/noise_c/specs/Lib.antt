@@ -4,3 +4,4 @@ pub mod Kept
 pub mod TransportCodes
 pub mod KeptTransport
 pub mod KeptDatagrams
+pub mod KeptHalves

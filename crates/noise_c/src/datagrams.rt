@@ -6,7 +6,8 @@ ghost use Rattle.noise_names.specs.Plan.{Plan};
 ghost use Rattle.noise_handshake.specs.View.{View};
 ghost use Rattle.noise_session.specs.declared.datagram_fault.DatagramFault.{DatagramFault};
 ghost use Rattle.noise_session.specs.Datagrams.{DatagramView, Pictures, Opens, datagram, datagrams_of, accepting, nonce_named};
-ghost use Rattle.noise_c.specs.Kept.{held_in, IsUsable, KeepsView};
+ghost use Rattle.noise_state.specs.History.{hash};
+ghost use Rattle.noise_c.specs.Kept.{key_in, held_in, IsUsable, KeepsView};
 ghost use Rattle.noise_c.specs.TransportCodes.{datagram_code};
 ghost use Rattle.noise_c.specs.KeptTransport.{finish_code};
 ghost use Rattle.noise_c.specs.KeptDatagrams.{is_window, window_in, is_datagrams, datagrams_kept_in, datagrams_seal_code};
@@ -15,7 +16,8 @@ ghost use Rattle.noise_c.specs.declared.transport_codes.TheConstants.{EXHAUSTED,
 
 use crate::codes::{OK, ROOM, STRUCT};
 use crate::finishing::opened_of;
-use crate::kept::{NoiseHandshake, NoiseTold};
+use crate::held::kept_key;
+use crate::kept::{NoiseHandshake, NoiseKey, NoiseTold};
 use crate::kept_datagrams::{NoiseDatagrams, datagrams_of, kept_datagrams, window_named};
 use crate::transport_codes::{WINDOW, datagram_code, seal_code};
 use noise_session::Datagrams;
@@ -51,6 +53,8 @@ pub extern "C" fn noise_finish_datagrams(
     ensures code { is_window window ≡ true → (u : IsUsable kept.now) → result ≡ finish_code (held_in u.pattern kept.now) }
     ensures stands { result ≡ OK → (p : Plan) (v : View) → KeepsView kept.now p v
         → Pictures (datagrams_kept_in datagrams.new) (datagrams_of v (window_in window)) }
+    ensures tells { result ≡ OK → (p : Plan) (v : View) → KeepsView kept.now p v
+        → (datagrams.new.hash ≡ hash v.history) × (key_in datagrams.new.remote_static ≡ v.remote.s) }
     ensures known { result ≡ OK → is_datagrams datagrams.new ≡ true }
     ensures unchanged { OK < result → datagrams.new ≡ datagrams.old }
     ensures codes { (result ≡ OK) ⊎ (result ≡ ENDED) ⊎ (result ≡ NOT_DONE) ⊎ (result ≡ STRUCT) ⊎ (result ≡ WINDOW) }
@@ -60,7 +64,10 @@ pub extern "C" fn noise_finish_datagrams(
     };
     match opened_of(kept) {
         Ok(opened) => {
-            *datagrams = kept_datagrams(Datagrams::with_window(opened, window));
+            let hash = opened.hash();
+            let remote_static = kept_key(opened.remote_static());
+            let begun = Datagrams::with_window(opened, window);
+            *datagrams = kept_datagrams(begun, hash, remote_static);
             OK
         }
         Err(code) => code,
@@ -87,6 +94,7 @@ pub extern "C" fn noise_datagrams_seal(
         × Pictures (datagrams_kept_in kept.new) (record v { sent = v.sent + 1 }) }
     ensures rest { drop (length payload.now + 24) out.new ≡ drop (length payload.now + 24) out.old }
     ensures counted { result ≡ OK → datagrams_kept_in kept.new ≡ record (datagrams_kept_in kept.old) { send_nonce = kept.old.send_nonce + 1 } }
+    ensures tells { result ≡ OK → (kept.new.hash ≡ kept.old.hash) × (kept.new.remote_static ≡ kept.old.remote_static) }
     ensures known { result ≡ OK → is_datagrams kept.new ≡ true }
     ensures unchanged { OK < result → (kept.new ≡ kept.old) × (out.new ≡ out.old) × (told.new ≡ told.old) }
     ensures codes { (result ≡ OK) ⊎ (result ≡ TOO_LONG) ⊎ (result ≡ EXHAUSTED) ⊎ (result ≡ ROOM) ⊎ (result ≡ ONE_WAY) ⊎ (result ≡ STRUCT) }
@@ -101,7 +109,9 @@ pub extern "C" fn noise_datagrams_seal(
         Ok(len) => {
             told.from = 0;
             told.len = len;
-            *kept = kept_datagrams(datagrams);
+            let hash = kept.hash;
+            let remote_static = kept.remote_static;
+            *kept = kept_datagrams(datagrams, hash, remote_static);
             OK
         }
         Err(fault) => seal_code(fault),
@@ -129,6 +139,7 @@ pub extern "C" fn noise_datagrams_open(
     ensures beyond { result ≡ OK → (take 8 datagram.new ≡ take 8 datagram.old)
         × (drop (8 + told.new.len) datagram.new ≡ drop (8 + told.new.len) datagram.old) }
     ensures same { result ≡ OK → datagrams_kept_in kept.new ≡ record (datagrams_kept_in kept.old) { recent = (datagrams_kept_in kept.new).recent } }
+    ensures tells { result ≡ OK → (kept.new.hash ≡ kept.old.hash) × (kept.new.remote_static ≡ kept.old.remote_static) }
     ensures known { result ≡ OK → is_datagrams kept.new ≡ true }
     ensures unchanged { OK < result → (kept.new ≡ kept.old) × (datagram.new ≡ datagram.old) × (told.new ≡ told.old) }
     ensures codes { (result ≡ OK) ⊎ (result ≡ TOO_LONG) ⊎ (result ≡ SHORT) ⊎ (result ≡ TAG) ⊎ (result ≡ ONE_WAY) ⊎ (result ≡ STRUCT) ⊎ (result ≡ RESERVED)
@@ -141,7 +152,9 @@ pub extern "C" fn noise_datagrams_open(
         Ok(len) => {
             told.from = NONCE_LEN;
             told.len = len;
-            *kept = kept_datagrams(datagrams);
+            let hash = kept.hash;
+            let remote_static = kept.remote_static;
+            *kept = kept_datagrams(datagrams, hash, remote_static);
             OK
         }
         Err(fault) => datagram_code(fault),
@@ -160,5 +173,35 @@ pub extern "C" fn noise_datagrams_nonce(kept: &NoiseDatagrams, send: &mut u64) -
         return STRUCT;
     };
     *send = datagrams.send_nonce();
+    OK
+}
+
+/// Tells the hash of the whole handshake (Noise, 11.2), 32 bytes.
+#[unsafe(no_mangle)]
+pub extern "C" fn noise_datagrams_hash(kept: &NoiseDatagrams, hash: &mut [u8; 32]) -> u32
+    ensures unusable { result ≡ STRUCT ↔ is_datagrams kept.now ≡ false }
+    ensures hash { result ≡ OK → hash.new ≡ kept.now.hash }
+    ensures unchanged { OK < result → hash.new ≡ hash.old }
+    ensures codes { (result ≡ OK) ⊎ (result ≡ STRUCT) }
+{
+    if datagrams_of(kept).is_none() {
+        return STRUCT;
+    }
+    *hash = kept.hash;
+    OK
+}
+
+/// Tells the other party's static public key, 32 bytes: none where the handshake didn't tell it.
+#[unsafe(no_mangle)]
+pub extern "C" fn noise_datagrams_remote_static(kept: &NoiseDatagrams, key: &mut NoiseKey) -> u32
+    ensures unusable { result ≡ STRUCT ↔ is_datagrams kept.now ≡ false }
+    ensures key { result ≡ OK → key.new ≡ kept.now.remote_static }
+    ensures unchanged { OK < result → key.new ≡ key.old }
+    ensures codes { (result ≡ OK) ⊎ (result ≡ STRUCT) }
+{
+    if datagrams_of(kept).is_none() {
+        return STRUCT;
+    }
+    *key = kept.remote_static;
     OK
 }

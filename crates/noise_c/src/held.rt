@@ -14,6 +14,7 @@ ghost use Rattle.noise_c.specs.declared.codes.TheConstants.{NAME, PATTERN};
 use crate::codes::{NAME, PATTERN};
 use crate::kept::{NoiseHandshake, NoiseKey};
 use crate::kept_keys::{KeptKeys, key_of};
+use crate::marks::HANDSHAKE;
 use noise_handshake::{Handshake, Parts, Progress, Remote};
 use noise_names::{Pattern, ProtocolName, Role, ValidPattern, fundamental};
 use noise_state::StateParts;
@@ -174,6 +175,9 @@ pub(crate) fn handshake_of<'a>(kept: &'a NoiseHandshake) -> Option<Handshake<Kep
     ensures same { IfSome result (λ h. h ≡ held_in h.pattern kept.now) }
     ensures count { IfSome result (λ h. length h.secrets ≡ kept.now.secret_count) }
 {
+    if kept.mark != HANDSHAKE {
+        return None;
+    }
     if kept.text_len > 416 {
         return None;
     }
@@ -191,6 +195,7 @@ pub(crate) fn handshake_of<'a>(kept: &'a NoiseHandshake) -> Option<Handshake<Kep
 
 // Keeps what messages have changed, and how many secrets are left.
 pub(crate) fn keep(progress: &Progress, left: u8, kept: &mut NoiseHandshake)
+    ensures mark { kept.new.mark ≡ kept.old.mark }
     ensures text { text_in kept.new ≡ text_in kept.old }
     ensures same { (h : Held Table) → HasProgress h progress.now → h.keys ≡ table_in kept.old → h.role ≡ role_in kept.old.responder
         → h.secrets ≡ drop (9 - left) kept.old.secrets → held_in h.pattern kept.new ≡ h }

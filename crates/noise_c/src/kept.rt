@@ -23,6 +23,7 @@ pub struct NoiseAnswer {
 #[repr(C)]
 #[derive(Clone, Copy)]
 pub struct NoiseHandshake {
+    pub mark: u32,
     pub text: [u8; 416],
     pub text_len: u16,
     pub responder: u8,

@@ -4,16 +4,21 @@
 ghost use Rattle.std.specs.Prelude.{◌≡◌, IfSome, is_some, true};
 ghost use Rattle.noise_c.specs.KeptDatagrams.{is_window, window_in, is_datagrams, datagrams_kept_in};
 
+use crate::kept::NoiseKey;
 use crate::kept_transport::{party_of, role_named};
+use crate::marks::DATAGRAMS;
 use noise_session::{DatagramParts, Datagrams, Window};
 
 /// Datagrams of one party: of the initiator where `party` is 1, of the responder where it is 2. The window has 64, 256 or 1024
-/// nonces. At any other numbers there are none. `include/noise.h` declares the same as aligned bytes.
+/// nonces. At any other numbers or mark there are none. `include/noise.h` declares the same as aligned bytes.
 #[repr(C)]
 #[derive(Clone, Copy)]
 pub struct NoiseDatagrams {
+    pub mark: u32,
     pub party: u8,
     pub one_way: u8,
+    pub hash: [u8; 32],
+    pub remote_static: NoiseKey,
     pub window: u32,
     pub send_key: [u8; 32],
     pub send_nonce: u64,
@@ -51,6 +56,9 @@ pub(crate) fn datagrams_of(kept: &NoiseDatagrams) -> Option<Datagrams>
     ensures known { is_some result ≡ is_datagrams kept.now }
     ensures same { IfSome result (λ datagrams. datagrams ≡ datagrams_kept_in kept.now) }
 {
+    if kept.mark != DATAGRAMS {
+        return None;
+    }
     let role = role_named(kept.party)?;
     let window = window_named(kept.window)?;
     let send_key = kept.send_key;
@@ -68,18 +76,26 @@ pub(crate) fn datagrams_of(kept: &NoiseDatagrams) -> Option<Datagrams>
     }))
 }
 
-// How C keeps datagrams.
-pub(crate) fn kept_datagrams(datagrams: Datagrams) -> NoiseDatagrams
+// How C keeps datagrams, with the hash of their handshake and the other party's static key.
+pub(crate) fn kept_datagrams(
+    datagrams: Datagrams,
+    hash: [u8; 32],
+    remote_static: NoiseKey,
+) -> NoiseDatagrams
     ensures known { is_datagrams result ≡ true }
     ensures same { datagrams_kept_in result ≡ datagrams }
+    ensures told { (result.hash ≡ hash) × (result.remote_static ≡ remote_static) }
 {
     let parts = datagrams.into_parts();
     let send_key = parts.send_key;
     let receive_key = parts.receive_key;
     let words = parts.words;
     NoiseDatagrams {
+        mark: DATAGRAMS,
         party: party_of(parts.role),
         one_way: u8::from(parts.one_way),
+        hash,
+        remote_static,
         window: width_of(parts.window),
         send_key,
         send_nonce: parts.send_nonce,

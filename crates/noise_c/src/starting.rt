@@ -7,12 +7,14 @@ ghost use Rattle.noise_names.specs.Validity.{IsValid};
 ghost use Rattle.noise_handshake.specs.Party.{Stands};
 ghost use Rattle.noise_c.specs.Kept.{role_in, public_in, agreement_in, table_in, table_of, text_in, psks_in, begun_in, fault_in, start_code};
 ghost use Rattle.noise_c.specs.Kept.{IsPatternOf, IsNoName, IsNoText, IsNotValid, IsUsable, IsStartCode, KeepsView};
+ghost use Rattle.noise_c.specs.declared.marks.TheConstants.{HANDSHAKE};
 ghost use Rattle.noise_c.specs.declared.codes.TheConstants.{EPHEMERAL_MISSING, LENGTH, NAME, OK, PATTERN, PSK_COUNT};
 
 use crate::codes::{LENGTH, OK, PSK_COUNT, setup_code};
 use crate::held::{keep, pattern_of, role_of};
 use crate::kept::{NoiseHandshake, NoiseSetup};
 use crate::kept_keys::{KeptKeys, key_of};
+use crate::marks::HANDSHAKE;
 use noise_handshake::{Handshake, Remote, SetupFault};
 use noise_names::ValidPattern;
 
@@ -51,6 +53,7 @@ fn begin<'a>(
 fn keep_start(kept: &mut NoiseHandshake, text: &[u8], setup: &NoiseSetup)
     requires short { length text.now ≤ 413 }
     requires count { setup.now.psk_count ≤ 9 }
+    ensures mark { kept.new.mark ≡ HANDSHAKE }
     ensures text { text_in kept.new ≡ text.now }
     ensures len { kept.new.text_len ≤ 416 }
     ensures answers { kept.new.answer_count ≤ 8 }
@@ -59,6 +62,7 @@ fn keep_start(kept: &mut NoiseHandshake, text: &[u8], setup: &NoiseSetup)
     ensures secrets { drop (9 - setup.now.psk_count) kept.new.secrets ≡ psks_in setup.now }
 {
     let count = setup.psk_count as usize;
+    kept.mark = HANDSHAKE;
     kept.secrets[9 - count..].copy_from_slice(&setup.psks[..count]);
     kept.text[..text.len()].copy_from_slice(text);
     kept.text_len = text.len() as u16;

@@ -7,7 +7,7 @@ ghost use Rattle.noise_handshake.specs.View.{View};
 ghost use Rattle.noise_session.specs.HeldTransport.{TransportView, TransportStands, transport_of, next_packet, due_packet, no_packet};
 ghost use Rattle.noise_c.specs.Kept.{key_in, held_in, IsUsable, KeepsView};
 ghost use Rattle.noise_c.specs.TransportCodes.{open_code};
-ghost use Rattle.noise_c.specs.KeptTransport.{is_party, transport_kept_in, finish_code, transport_seal_code, transport_open_refusal};
+ghost use Rattle.noise_c.specs.KeptTransport.{is_transport, transport_kept_in, finish_code, transport_seal_code, transport_open_refusal};
 ghost use Rattle.noise_c.specs.declared.codes.TheConstants.{ENDED, LENGTH, OK, ROOM, SHORT, STRUCT, TAG, TOO_LONG};
 ghost use Rattle.noise_c.specs.declared.transport_codes.TheConstants.{EXHAUSTED, NOT_DONE, ONE_WAY};
 
@@ -45,7 +45,7 @@ pub extern "C" fn noise_finish(
     ensures code { (u : IsUsable kept.now) → result ≡ finish_code (held_in u.pattern kept.now) }
     ensures stands { result ≡ OK → (p : Plan) (v : View) → KeepsView kept.now p v
         → TransportStands (transport_kept_in transport.new) (transport_of v interval) }
-    ensures known { result ≡ OK → is_party transport.new.party ≡ true }
+    ensures known { result ≡ OK → is_transport transport.new ≡ true }
     ensures unchanged { OK < result → transport.new ≡ transport.old }
     ensures codes { (result ≡ OK) ⊎ (result ≡ ENDED) ⊎ (result ≡ NOT_DONE) ⊎ (result ≡ STRUCT) }
 {
@@ -80,7 +80,7 @@ pub extern "C" fn noise_transport_seal(
       send_key = (transport_kept_in kept.new).send_key;
       send_nonce = kept.old.send_nonce + 1;
     } }
-    ensures known { result ≡ OK → is_party kept.new.party ≡ true }
+    ensures known { result ≡ OK → is_transport kept.new ≡ true }
     ensures unchanged { OK < result → (kept.new ≡ kept.old) × (out.new ≡ out.old) × (told.new ≡ told.old) }
     ensures codes { (result ≡ OK) ⊎ (result ≡ TOO_LONG) ⊎ (result ≡ EXHAUSTED) ⊎ (result ≡ ROOM) ⊎ (result ≡ ONE_WAY) ⊎ (result ≡ STRUCT) }
 {
@@ -91,6 +91,48 @@ pub extern "C" fn noise_transport_seal(
         return ROOM;
     }
     match transport.seal(payload, out) {
+        Ok(len) => {
+            told.from = 0;
+            told.len = len;
+            *kept = kept_transport(transport);
+            OK
+        }
+        Err(fault) => seal_code(fault),
+    }
+}
+
+/// Seals the payload in the first `payload_len` bytes of `buffer` in place, and tells how many bytes the message has: the first of
+/// `buffer`, 16 more than the payload (Noise, 5.2).
+///
+/// The codes are those of `noise_transport_seal`: ROOM where `buffer` has fewer than 16 bytes more than the payload.
+#[unsafe(no_mangle)]
+pub extern "C" fn noise_transport_seal_in_place(
+    kept: &mut NoiseTransport,
+    buffer: &mut [u8],
+    payload_len: usize,
+    told: &mut NoiseTold,
+) -> u32
+    ensures code { result ≡ transport_seal_code kept.old payload_len (length buffer.old) }
+    ensures place { result ≡ OK → told.new ≡ record told.old { from = 0; len = payload_len + 16 } }
+    ensures seals { result ≡ OK → (v : TransportView) → TransportStands (transport_kept_in kept.old) v
+        → (take (payload_len + 16) buffer.new ≡ next_packet v (take payload_len buffer.old))
+        × TransportStands (transport_kept_in kept.new) (record v { sent = v.sent + 1 }) }
+    ensures rest { drop (payload_len + 16) buffer.new ≡ drop (payload_len + 16) buffer.old }
+    ensures counted { result ≡ OK → transport_kept_in kept.new ≡ record (transport_kept_in kept.old) {
+      send_key = (transport_kept_in kept.new).send_key;
+      send_nonce = kept.old.send_nonce + 1;
+    } }
+    ensures known { result ≡ OK → is_transport kept.new ≡ true }
+    ensures unchanged { OK < result → (kept.new ≡ kept.old) × (buffer.new ≡ buffer.old) × (told.new ≡ told.old) }
+    ensures codes { (result ≡ OK) ⊎ (result ≡ TOO_LONG) ⊎ (result ≡ EXHAUSTED) ⊎ (result ≡ ROOM) ⊎ (result ≡ ONE_WAY) ⊎ (result ≡ STRUCT) }
+{
+    let Some(mut transport) = transport_of(kept) else {
+        return STRUCT;
+    };
+    if buffer.len() < TAG_LEN || buffer.len() - TAG_LEN < payload_len {
+        return ROOM;
+    }
+    match transport.seal_in_place(buffer, payload_len) {
         Ok(len) => {
             told.from = 0;
             told.len = len;
@@ -125,7 +167,7 @@ pub extern "C" fn noise_transport_open(
       receive_key = (transport_kept_in kept.new).receive_key;
       receive_nonce = kept.old.receive_nonce + 1;
     } }
-    ensures known { result ≡ OK → is_party kept.new.party ≡ true }
+    ensures known { result ≡ OK → is_transport kept.new ≡ true }
     ensures unchanged { OK < result → (kept.new ≡ kept.old) × (message.new ≡ message.old) × (told.new ≡ told.old) }
     ensures codes { (result ≡ OK) ⊎ (result ≡ SHORT) ⊎ (result ≡ TAG) ⊎ (result ≡ EXHAUSTED) ⊎ (result ≡ ONE_WAY) ⊎ (result ≡ STRUCT) ⊎ (result ≡ LENGTH) }
 {
@@ -153,7 +195,7 @@ pub extern "C" fn noise_transport_nonces(
     send: &mut u64,
     receive: &mut u64,
 ) -> u32
-    ensures unusable { result ≡ STRUCT ↔ is_party kept.now.party ≡ false }
+    ensures unusable { result ≡ STRUCT ↔ is_transport kept.now ≡ false }
     ensures nonces { result ≡ OK → (send.new ≡ (transport_kept_in kept.now).send_nonce) × (receive.new ≡ (transport_kept_in kept.now).receive_nonce) }
     ensures unchanged { OK < result → (send.new ≡ send.old) × (receive.new ≡ receive.old) }
     ensures codes { (result ≡ OK) ⊎ (result ≡ STRUCT) }
@@ -169,7 +211,7 @@ pub extern "C" fn noise_transport_nonces(
 /// Tells the hash of the whole handshake (Noise, 11.2), 32 bytes.
 #[unsafe(no_mangle)]
 pub extern "C" fn noise_transport_hash(kept: &NoiseTransport, hash: &mut [u8; 32]) -> u32
-    ensures unusable { result ≡ STRUCT ↔ is_party kept.now.party ≡ false }
+    ensures unusable { result ≡ STRUCT ↔ is_transport kept.now ≡ false }
     ensures hash { result ≡ OK → hash.new ≡ (transport_kept_in kept.now).hash }
     ensures unchanged { OK < result → hash.new ≡ hash.old }
     ensures codes { (result ≡ OK) ⊎ (result ≡ STRUCT) }
@@ -184,7 +226,7 @@ pub extern "C" fn noise_transport_hash(kept: &NoiseTransport, hash: &mut [u8; 32
 /// Tells the other party's static public key, 32 bytes: none where the handshake didn't tell it.
 #[unsafe(no_mangle)]
 pub extern "C" fn noise_transport_remote_static(kept: &NoiseTransport, key: &mut NoiseKey) -> u32
-    ensures unusable { result ≡ STRUCT ↔ is_party kept.now.party ≡ false }
+    ensures unusable { result ≡ STRUCT ↔ is_transport kept.now ≡ false }
     ensures key { result ≡ OK → key_in key.new ≡ (transport_kept_in kept.now).remote_static }
     ensures unchanged { OK < result → key.new ≡ key.old }
     ensures codes { (result ≡ OK) ⊎ (result ≡ STRUCT) }

@@ -7,5 +7,5 @@ use Rattle.noise_c.proofs.datagrams.noise_finish_datagrams.Goals as goal
 pub returns-in-Ok-clause-stands : goal.returns-in-Ok-clause-stands
 returns-in-Ok-clause-stands c e p v k =
     subst (λ (z : HeldDatagrams). Pictures z (datagrams_of v (window_in c.args.window))) (sym c.kept_datagrams.ensures.same)
-    (subst (λ (w : Window). Pictures c.with_window.result (datagrams_of v w)) c.in-Some.ensures.same
-    (c.with_window.ensures v (c.in-Ok.ensures.opens p v k)))
+    (subst (λ (w : Window). Pictures c.with_window-begun.result (datagrams_of v w)) c.in-Some.ensures.same
+    (c.with_window-begun.ensures v (c.in-Ok.ensures.opens p v k)))

@@ -38,6 +38,7 @@ returns-clause-usable c =
     let held : held_of c.parts_of.result c.secrets_of.result.now ≡ held_in c.in-Ok.pattern c.args.kept.now =
     ap (λ (z : List (List ℕ)). held_of c.parts_of.result z) c.secrets_of.ensures.same ∙ c.parts_of.ensures in (
       λ some. record {
+        mark = c.if-kept-ne-HANDSHAKE.false;
         text = omega (arith, c.if-kept-gt416.false);
         answers = omega (arith, c.if-kept-gt8.false);
         secrets = omega (arith, c.if-kept-gt9.false);

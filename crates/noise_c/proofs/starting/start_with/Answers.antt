@@ -28,7 +28,7 @@ returns-in-Ok-clause-usable c e =
     let same : held_in h.pattern c.keep.new.kept ≡ h =
     c.keep.ensures.same h c.progress.ensures.same (c.in-Ok.ensures.keys ∙ sym c.keep_start.ensures.keys)
     (c.in-Ok.ensures.role ∙ ap role_in (sym c.keep_start.ensures.role)) (c.in-Ok.ensures.secrets ∙ sym c.keep_start.ensures.secrets) in
-    usable-kept c.keep.new.kept h (omega (arith, c.keep.ensures.text_len, c.keep_start.ensures.len))
+    usable-kept c.keep.new.kept h (c.keep.ensures.mark ∙ c.keep_start.ensures.mark) (omega (arith, c.keep.ensures.text_len, c.keep_start.ensures.len))
     (omega (arith, c.keep.ensures.answers, c.keep_start.ensures.answers)) (omega (arith, c.keep.ensures.secrets, c.if-setup-gt9.false))
     (subst (λ (z : List ℕ). IsPatternOf z h.pattern) (sym (c.keep.ensures.text ∙ c.keep_start.ensures.text))
     (subst (λ (q : Plan). IsPatternOf c.args.text.now q) (sym c.in-Ok.ensures.pattern) c.requires.named))

@@ -42,7 +42,7 @@ returns-in-Ok-clause-stays c e =
     (c.in-Ok.ensures.state.role ∙ ap (λ (z : Held Table). z.role) c.in-Some.ensures.same)
     (secrets-left c.args.kept.now c.in-Some.handshake h2 c.in-Ok.ensures.state.taken _ (c.in-Some.ensures.usable.0 refl).secrets
     c.in-Some.ensures.count c.in-Some.ensures.same c.in-Ok.ensures.state.secrets c.secrets.ensures.same) in
-    usable-behind c.args.kept.now c.keep.new.kept c.in-Some.handshake h2 (c.in-Some.ensures.usable.0 refl) c.keep.ensures.text_len c.keep.ensures.answers
+    usable-behind c.args.kept.now c.keep.new.kept c.in-Some.handshake h2 (c.in-Some.ensures.usable.0 refl) c.keep.ensures.mark c.keep.ensures.text_len c.keep.ensures.answers
     (omega (arith, c.keep.ensures.secrets, c.secrets.ensures.few)) c.keep.ensures.text c.in-Some.ensures.named c.in-Ok.ensures.state.pattern
     c.progress.ensures.valid same c.progress.ensures.whole
 
