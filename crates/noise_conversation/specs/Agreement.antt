@@ -6,10 +6,12 @@ use Rattle.noise_session.specs.Ends.{hash_in}
 use Rattle.noise_events.specs.Events.{Event}
 use Rattle.noise_duel.specs.declared.report.Report.{Report}
 use Rattle.noise_duel.specs.Conversation.{facing}
+use Rattle.noise_duel.specs.Entries.{bytes_of, notes_of}
 use Rattle.noise_duel.specs.HeldDuel.{HeldDuel, DuelStands}
 use Rattle.noise_duel.specs.Networks.{HaveOneHash, HaveOneHistory, HistoriesCollide, PayloadsAgree}
 use Rattle.noise_duel.specs.Reports.{Reports}
 use Rattle.noise_duel.specs.Sides.{Sides}
+use Rattle.noise_conversation.specs.Entries.{EntriesAgree, KeysMeet}
 use Rattle.noise_conversation.specs.Setup.{Starts}
 
 module _ {K : Type 0} (public_of : K → Own → Option (List ℕ)) (agreement : K → Own → List ℕ → Option (List ℕ)) where
@@ -21,6 +23,12 @@ module _ {K : Type 0} (public_of : K → Own → Option (List ℕ)) (agreement :
         → HaveOneHistory reports.last ⊎ HistoriesCollide reports.last
     pub payloads : (hash : List ℕ) → hash_in duel.initiator.phase ≡ Some hash → hash_in duel.responder.phase ≡ Some hash
         → PayloadsAgree interval reports.last ⊎ HistoriesCollide reports.last
+    -- the same of the report's own entries and frames, and of the keys that the ends left hold
+    pub entries : (hash : List ℕ) → hash_in duel.initiator.phase ≡ Some hash → hash_in duel.responder.phase ≡ Some hash
+        → EntriesAgree p reports.last.initiator.view.party.history interval events (notes_of report.entries.items)
+        (bytes_of report.initiator.items) (bytes_of report.responder.items) ⊎ HistoriesCollide reports.last
+    pub keys : (hash : List ℕ) → hash_in duel.initiator.phase ≡ Some hash → hash_in duel.responder.phase ≡ Some hash
+        → KeysMeet events (notes_of report.entries.items) duel ⊎ HistoriesCollide reports.last
 
 -- Two ends that tell one hash stand for views that have one hash: the one that agreement speaks of.
 module _ {A B : Type 0} (public_a : A → Own → Option (List ℕ)) (agreement_a : A → Own → List ℕ → Option (List ℕ))

@@ -1,5 +1,7 @@
 pub mod Agreement
 pub mod Clash
+pub mod Entries
 pub mod Exactly
 pub mod Lines
+pub mod Payloads
 pub mod Setup

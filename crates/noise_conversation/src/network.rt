@@ -8,6 +8,7 @@ ghost use Rattle.noise_conversation.specs.Setup.{IsFault, fault_of, starts};
 
 use crate::ConversationFault;
 use crate::ends::make_ends;
+use crate::entries::{entries_agree, keys_meet};
 use noise_duel::{Duel, Event, Report};
 use noise_handshake::{Agreeing, Keys};
 use noise_names::ValidPattern;
@@ -18,7 +19,10 @@ use std::alloc::Global;
 /// or in another order, or were written by nobody.
 ///
 /// Where both ends then tell one hash, they had all of the conversation in common, and what each accepted is the first of what the other wrote, up to a
-/// forged message; or two texts that they hashed collide. A setup with a fault, or want of memory, is told instead.
+/// forged message; or two texts that they hashed collide. So the payloads that the report tells of a role as accepted are the first of those that it tells
+/// of the other as written, or the number of a forged frame is named; and where all of them came, open ends have equal keys for the next message.
+///
+/// A setup with a fault, or want of memory, is told instead.
 pub fn run_events<K: Agreeing>(
     alloc: Global,
     pattern: ValidPattern,
@@ -39,6 +43,8 @@ pub fn run_events<K: Agreeing>(
         alloc, pattern, prologue, initiator, responder, psks, interval,
     )?;
     hash_is_told::<K, K>();
+    entries_agree();
+    keys_meet::<K, K>();
     let made = duel.run(alloc, events)?;
     Ok(made)
 }

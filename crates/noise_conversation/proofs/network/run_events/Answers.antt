@@ -1,6 +1,8 @@
 use Rattle.std.proofs.Common.{refl, inr, ℕ}
 use Rattle.std.proofs.lemmas.Result.{err_from_is_err_and}
 use Rattle.noise_names.specs.declared.token.Role.TheVariants.{Initiator, Responder}
+use Rattle.noise_events.specs.Events.{events_of}
+use Rattle.noise_duel.specs.Entries.{notes_of}
 use Rattle.noise_duel.specs.Messages.{Start}
 use Rattle.noise_duel.specs.Networks.{HaveSameSecrets}
 use Rattle.noise_conversation.specs.Setup.{start_by}
@@ -21,11 +23,20 @@ returns g c =
     let alike = (c.in_ok-duel.ensures.alike).0 in
     let told = c.in_ok-made.ensures.agrees p a b i i c.in_ok-duel.ensures.stands in
     let secrets : HaveSameSecrets p a b = record { psks = refl; keys = alike.keys; initiator = alike.initiator; responder = alike.responder } in
+    let last = told.0.last in
+    let notes = notes_of c.in_ok-made.made.1.entries.items in
+    let hashes = c.hash_is_told.ensures c.in_ok-made.made.0 last in
     record {
       setup = c.in_ok-duel.ensures.setup;
       agrees = record {
         reports = told.0;
-        history = λ hash e f. told.1.one (c.hash_is_told.ensures c.in_ok-made.made.0 told.0.last hash told.0.stands e f) (inr secrets);
-        payloads = λ hash e f. told.1.payloads refl (c.hash_is_told.ensures c.in_ok-made.made.0 told.0.last hash told.0.stands e f) (inr secrets);
+        history = λ hash e f. told.1.one (hashes hash told.0.stands e f) (inr secrets);
+        payloads = λ hash e f. told.1.payloads refl (hashes hash told.0.stands e f) (inr secrets);
+        entries = λ hash e f.
+            rw (told.0.frames.initiator, told.0.frames.responder)
+            (c.entries_agree.ensures p a b i (events_of c.args.events.now) notes last told.0.run (hashes hash told.0.stands e f) (inr secrets));
+        keys = λ hash e f.
+            c.keys_meet.ensures p a b i (events_of c.args.events.now) notes last c.in_ok-made.made.0 told.0.run told.0.stands
+            (hashes hash told.0.stands e f) (inr secrets);
       };
     }

@@ -1,0 +1,260 @@
+-- What a report tells of payloads and keys, from what agreement says of the run.
+use Rattle.std.proofs.Common.{◌≡◌, ℕ, ◌+◌, List, [], ◌∷◌, ◌++◌, length, map, take, drop, refl, ap, sym, subst, ◌∙◌, arith, inl, inr, append_assoc, length-append, Option, Some, None}
+use Rattle.std.proofs.Math.Seq.{take-append-add}
+use Rattle.std.proofs.lemmas.Bool.Decides.{nat_tests}
+use Rattle.std.proofs.lemmas.List.{length-map}
+use Rattle.std.proofs.lemmas.Option.{slice_get-map}
+use Rattle.std.specs.Prelude.{Bool, true, false, suc, slice_get, option_map, if◌then◌else◌, ◌==◌}
+use Rattle.noise_names.specs.declared.token.Role.{Role}
+use Rattle.noise_names.specs.declared.token.Role.TheVariants.{Initiator, Responder}
+use Rattle.noise_names.specs.Tokens.{other, same_role, turn_from}
+use Rattle.noise_names.specs.Plan.{Plan}
+use Rattle.noise_keys.specs.declared.keys.Own.{Own}
+use Rattle.noise_state.specs.History.{History, hash}
+use Rattle.noise_session.specs.declared.phase.Phase.{Phase}
+use Rattle.noise_session.specs.declared.phase.Phase.TheVariants as phase
+use Rattle.noise_session.specs.Ends.{EndView, PhaseStands, session_hash}
+use Rattle.noise_session.specs.Frames.{frame}
+use Rattle.noise_session.specs.Transport.{packet, transport_key}
+use Rattle.noise_duel.specs.Forgery.{ForgedAt, PrefixOrForged, contents, in_stream}
+use Rattle.noise_duel.specs.Invariant.{EndsStand}
+use Rattle.noise_duel.specs.Messages.{HandshakeMessage}
+use Rattle.noise_duel.specs.Networks.{HaveOneHistory, PayloadsAgree, PayloadsCome, SecretsMakeOne}
+use Rattle.noise_duel.specs.OwnFrames.{EndsFrame, own_messages}
+use Rattle.noise_duel.specs.Reports.{receive_key_in, send_key_in}
+use Rattle.noise_duel.specs.Sides.{Side, TransportMessage}
+use Rattle.noise_conversation.specs.Entries.{turns_of, ForgedFrame, FrontOrForged, EntriesAgree, EntriesCome, KeysMeet, KeysCome}
+use Rattle.noise_conversation.specs.Payloads.{own_payloads, told_to, written_by}
+use Rattle.noise_conversation.proofs.Payloads.{Kept, ends-kept, payloads-are-told}
+
+-- ---- lists
+
+get-behind : {X : Type 0} (xs ys : List X) (n : ℕ) → slice_get (xs ++ ys) (length xs + n) ≡ slice_get ys n
+get-behind [] ys n = ap (slice_get ys) (omega arith)
+get-behind (x ∷ xs) ys n =
+    let one : length (x ∷ xs) + n ≡ suc (length xs + n) = omega arith in
+    ap (slice_get ((x ∷ xs) ++ ys)) one ∙ get-behind xs ys n
+
+take-behind : (xs ys zs : List (List ℕ)) (n : ℕ) → take n ys ≡ take n zs → take (length xs + n) (xs ++ ys) ≡ take (length xs + n) (xs ++ zs)
+take-behind xs ys zs n e = take-append-add xs ys n ∙ ap (λ (z : List (List ℕ)). xs ++ z) e ∙ sym (take-append-add xs zs n)
+
+-- ---- how many messages of the handshake are a role's own
+
+own-as-many : (role : Role) (n : ℕ) (ps : List HandshakeMessage) → length (own_messages role n ps) ≡ length (own_payloads role n ps)
+own-as-many role n [] = refl
+own-as-many role n (p ∷ ps) =
+    by (same_role (turn_from Initiator n) role) (own-as-many role (n + 1) ps)
+  where
+    by : (b : Bool) → length (own_messages role (n + 1) ps) ≡ length (own_payloads role (n + 1) ps)
+        → length ((if b then p.message ∷ [] else []) ++ own_messages role (n + 1) ps)
+        ≡ length ((if b then p.payload ∷ [] else []) ++ own_payloads role (n + 1) ps)
+    by true e = omega (arith, e)
+    by false e = e
+
+-- those from message n on, and those before it
+turns-own : (role : Role) (n : ℕ) (ps : List HandshakeMessage) → turns_of role n + length (own_payloads role n ps) ≡ turns_of role (n + length ps)
+turns-own role n [] =
+    let same : n + length {A = HandshakeMessage} [] ≡ n = omega arith in
+    let none : turns_of role n + length {A = List ℕ} [] ≡ turns_of role n = omega arith in
+    none ∙ ap (turns_of role) (sym same)
+turns-own role n (p ∷ ps) =
+    let one : n + 1 ≡ suc n = omega arith in
+    let same : (n + 1) + length ps ≡ n + length (p ∷ ps) = omega arith in
+    let step : turns_of role (n + 1) ≡ turns_of role n + (if same_role (turn_from Initiator n) role then 1 else 0) = ap (turns_of role) one in
+    let later = turns-own role (n + 1) ps in
+    by (same_role (turn_from Initiator n) role) step later ∙ ap (turns_of role) same
+  where
+    by : (b : Bool) → turns_of role (n + 1) ≡ turns_of role n + (if b then 1 else 0)
+        → turns_of role (n + 1) + length (own_payloads role (n + 1) ps) ≡ turns_of role (n + 1 + length ps)
+        → turns_of role n + length ((if b then p.payload ∷ [] else []) ++ own_payloads role (n + 1) ps) ≡ turns_of role (n + 1 + length ps)
+    by true e f = omega (arith, e, f)
+    by false e f = omega (arith, e, f)
+
+own-count : (role : Role) (ps : List HandshakeMessage) (n : ℕ) → length ps ≡ n → turns_of role n ≡ length (own_payloads role 0 ps)
+own-count role ps n e =
+    let all = turns-own role 0 ps in
+    let same : 0 + length ps ≡ n = omega (arith, e) in
+    let none : 0 + length (own_payloads role 0 ps) ≡ length (own_payloads role 0 ps) = omega arith in
+    sym (ap (turns_of role) same) ∙ sym all ∙ none
+
+-- ---- what was told of what was written
+
+frame-is : (m n : List ℕ) → frame m ≡ frame n → m ≡ n
+frame-is m n e = ap (drop 2) e
+
+-- the writer's frames, at a number behind those of the handshake
+frame-behind : (mine : List (List ℕ)) (sent : List TransportMessage) (frames : List (List ℕ)) (h n : ℕ) (bytes : List ℕ)
+    → frames ≡ map frame (mine ++ map (λ (m : TransportMessage). m.message) sent) → h ≡ length mine
+    → slice_get frames (h + n) ≡ Some (frame bytes) → (m : TransportMessage) × (slice_get sent n ≡ Some m) × (m.message ≡ bytes)
+frame-behind mine sent frames h n bytes e same is =
+    let messages : List (List ℕ) = map (λ (m : TransportMessage). m.message) sent in
+    let there : slice_get frames (h + n) ≡ option_map frame (option_map (λ (m : TransportMessage). m.message) (slice_get sent n)) =
+    ap (λ (fs : List (List ℕ)). slice_get fs (h + n)) e
+    ∙ slice_get-map frame (mine ++ messages) (h + n)
+    ∙ ap (λ (k : ℕ). option_map frame (slice_get (mine ++ messages) (k + n))) same
+    ∙ ap (option_map frame) (get-behind mine messages n ∙ slice_get-map (λ (m : TransportMessage). m.message) sent n) in
+    by (slice_get sent n) refl (sym there ∙ is)
+  where
+    by : (o : Option TransportMessage) → slice_get sent n ≡ o
+        → option_map frame (option_map (λ (m : TransportMessage). m.message) o) ≡ Some (frame bytes)
+        → (m : TransportMessage) × (slice_get sent n ≡ Some m) × (m.message ≡ bytes)
+    by None f g = absurd (cc)
+    by (Some m) f g = let same : frame m.message ≡ frame bytes = cc in (m, f, frame-is m.message bytes same)
+
+module _ (r : History) (writer : Role) (interval opening : ℕ) (frames mine own written told : List (List ℕ)) (sent received : List TransportMessage) where
+  front-or-forged : frames ≡ map frame (mine ++ map (λ (m : TransportMessage). m.message) sent) → opening ≡ length mine → opening ≡ length own
+      → written ≡ own ++ contents sent → told ≡ own ++ contents received → PrefixOrForged r writer interval sent received
+      → FrontOrForged r writer interval opening frames written told
+  front-or-forged f m o w t agree = elim agree [
+    | inl front ↦ inl (
+      front.0,
+      w ∙ ap (λ (z : List (List ℕ)). own ++ z) front.1 ∙ sym (append_assoc own (contents received) front.0)
+          ∙ ap (λ (z : List (List ℕ)). z ++ front.0) (sym t),
+    )
+    | inr forged ↦ inr (forged.0 + opening, before forged.0 forged.1, at forged.0 forged.2)
+  ]
+    where
+      before : (n : ℕ) → take n (contents received) ≡ take n (contents sent) → take (n + opening) told ≡ take (n + opening) written
+      before n e =
+          let same : n + opening ≡ length own + n = omega (arith, o) in
+          ap (λ (k : ℕ). take k told) same ∙ ap (take (length own + n)) t ∙ take-behind own (contents received) (contents sent) n e
+          ∙ ap (take (length own + n)) (sym w) ∙ ap (λ (k : ℕ). take k written) (sym same)
+
+      at : (n : ℕ) → ForgedAt r writer interval (in_stream sent) (in_stream received) n → ForgedFrame r writer interval opening frames told (n + opening)
+      at n forged =
+          let same : n + opening ≡ length own + n = omega (arith, o) in
+          let turned : n + opening ≡ opening + n = omega arith in
+          record {
+            payload = forged.forged.payload;
+            nonce = n;
+            number = turned;
+            entry = ap (slice_get told) same ∙ ap (λ (z : List (List ℕ)). slice_get z (length own + n)) t ∙ get-behind own (contents received) n
+                ∙ slice_get-map (λ (z : TransportMessage). z.payload) received n
+                ∙ ap (option_map (λ (z : TransportMessage). z.payload)) forged.came;
+            unwritten = λ e.
+                let there = frame-behind mine sent frames opening n (packet r writer interval n forged.forged.payload) f m
+                (sym (ap (slice_get frames) turned) ∙ e) in
+                forged.unwritten there.0 there.1 (there.2 ∙ sym forged.packet_at);
+          }
+
+-- ---- both ends
+
+same-is : (a b : ℕ) → (a == b) ≡ true → a ≡ b
+same-is a b e = grind (arith, nat_tests)
+
+-- an end that tells a hash has seen all messages
+hashed : (v : EndView) (h : List ℕ) → session_hash v ≡ Some h → v.party.passed ≡ length v.party.pattern.messages
+hashed v h e = by (v.party.passed == length v.party.pattern.messages) refl e
+  where
+    by : (b : Bool) → (v.party.passed == length v.party.pattern.messages) ≡ b → (if b then Some (hash v.party.history) else None) ≡ Some h
+        → v.party.passed ≡ length v.party.pattern.messages
+    by true f g = same-is v.party.passed (length v.party.pattern.messages) f
+    by false f g = absurd (cc)
+
+all-passed : (p : Plan) (role : Role) (s : Side) (h : List ℕ) → Kept p role s → session_hash s.view ≡ Some h → length s.passed ≡ length p.messages
+all-passed p role s h k e = k.count ∙ hashed s.view h e ∙ ap (λ (q : Plan). length q.messages) k.pattern_is
+
+module _ (framed : EndsFrame) (one : SecretsMakeOne) (come : PayloadsCome) where
+  pub entries-come : EntriesCome
+  entries-come p a b interval events notes d run hashes secrets =
+      elim (one p a b interval interval events notes d run hashes secrets) [
+        | inr clash ↦ inr clash
+        | inl history ↦ elim (come p a b interval events notes d run hashes secrets) [
+          | inr clash ↦ inr clash
+          | inl agree ↦ inl (entries history agree)
+        ]
+      ]
+    where
+      entries : HaveOneHistory d → PayloadsAgree interval d
+          → EntriesAgree p d.initiator.view.party.history interval events notes d.initiator.frames d.responder.frames
+      entries history agree =
+          let k = ends-kept p a b interval interval events notes d run in
+          let f = framed p a b interval interval events notes d run in
+          let t = payloads-are-told p a b interval interval events notes d run in
+          let ps : List HandshakeMessage = d.initiator.passed in
+          let qs : List HandshakeMessage = d.responder.passed in
+          let all : length ps ≡ length p.messages = all-passed p Initiator d.initiator hashes.hash k.0 hashes.initiator in
+          let also : length qs ≡ length p.messages = all-passed p Responder d.responder hashes.hash k.1 hashes.responder in
+          record {
+            there = front-or-forged d.initiator.view.party.history Initiator interval (turns_of Initiator (length p.messages)) d.initiator.frames
+                (own_messages Initiator 0 ps) (own_payloads Initiator 0 ps) (written_by Initiator events notes) (told_to Responder notes)
+                d.initiator.sent d.responder.received
+                (f.0 ∙ ap (λ (r : Role). map frame (own_messages r 0 ps ++ map (λ (m : TransportMessage). m.message) d.initiator.sent)) k.0.role_is)
+                (own-count Initiator ps (length p.messages) all ∙ sym (own-as-many Initiator 0 ps)) (own-count Initiator ps (length p.messages) all)
+                t.0.written
+                (t.1.told ∙ ap (λ (ms : List HandshakeMessage). own_payloads Initiator 0 ms ++ contents d.responder.received) (sym history.passed))
+                agree.there;
+            back = front-or-forged d.initiator.view.party.history Responder interval (turns_of Responder (length p.messages)) d.responder.frames
+                (own_messages Responder 0 qs) (own_payloads Responder 0 qs) (written_by Responder events notes) (told_to Initiator notes)
+                d.responder.sent d.initiator.received
+                (f.1 ∙ ap (λ (r : Role). map frame (own_messages r 0 qs ++ map (λ (m : TransportMessage). m.message) d.responder.sent)) k.1.role_is)
+                (own-count Responder qs (length p.messages) also ∙ sym (own-as-many Responder 0 qs)) (own-count Responder qs (length p.messages) also)
+                t.1.written
+                (t.0.told ∙ ap (λ (ms : List HandshakeMessage). own_payloads Responder 0 ms ++ contents d.initiator.received) history.passed)
+                (let P : History → Type 0 = λ r. PrefixOrForged r Responder interval d.responder.sent d.initiator.received in
+                subst P (sym history.history) agree.back);
+          }
+
+-- ---- keys
+
+module _ {K : Type 0} (public_of : K → Own → Option (List ℕ)) (agreement : K → Own → List ℕ → Option (List ℕ)) where
+  sending-key : (x : Phase K) (v : EndView) (k : List ℕ) → PhaseStands public_of agreement x v → send_key_in x ≡ Some k
+      → k ≡ transport_key v.party.history v.party.role v.interval v.sent
+  sending-key (phase.Handshaking h i) v k s e = absurd (cc)
+  sending-key (phase.Open t) v k s e = let is = s.transport.send_key in cc
+  sending-key (phase.Ended r o) v k s e = absurd (cc)
+
+  receiving-key : (x : Phase K) (v : EndView) (k : List ℕ) → PhaseStands public_of agreement x v → receive_key_in x ≡ Some k
+      → k ≡ transport_key v.party.history (other v.party.role) v.interval v.received
+  receiving-key (phase.Handshaking h i) v k s e = absurd (cc)
+  receiving-key (phase.Open t) v k s e = let is = s.transport.receive_key in cc
+  receiving-key (phase.Ended r o) v k s e = absurd (cc)
+
+-- as many were received as were sent
+as-many : (own written told : List (List ℕ)) (sent received : List TransportMessage) (n m : ℕ) → written ≡ own ++ contents sent
+    → told ≡ own ++ contents received → length told ≡ length written → n ≡ length sent → m ≡ length received → m ≡ n
+as-many own written told sent received n m w t e f g =
+    let a = ap length w ∙ length-append own (contents sent) in
+    let b = ap length t ∙ length-append own (contents received) in
+    let c : length (contents sent) ≡ length sent = simp length-map in
+    let d : length (contents received) ≡ length received = simp length-map in
+    omega (arith, a, b, c, d, e, f, g)
+
+keys-same : (v w : EndView) (k l : List ℕ) → k ≡ transport_key v.party.history v.party.role v.interval v.sent
+    → l ≡ transport_key w.party.history (other w.party.role) w.interval w.received
+    → w.party.history ≡ v.party.history → other w.party.role ≡ v.party.role → w.interval ≡ v.interval → w.received ≡ v.sent → l ≡ k
+keys-same v w k l e f history role interval count = cc
+
+module _ {A B : Type 0} (public_a : A → Own → Option (List ℕ)) (agreement_a : A → Own → List ℕ → Option (List ℕ))
+    (public_b : B → Own → Option (List ℕ)) (agreement_b : B → Own → List ℕ → Option (List ℕ)) (stand : EndsStand) (one : SecretsMakeOne) where
+  pub keys-come : KeysCome public_a agreement_a public_b agreement_b
+  keys-come p a b interval events notes d duel run stands hashes secrets =
+      elim (one p a b interval interval events notes d run hashes secrets) [
+        | inr clash ↦ inr clash
+        | inl history ↦ inl (keys history)
+      ]
+    where
+      keys : HaveOneHistory d → KeysMeet events notes duel
+      keys history =
+          let n = ends-kept p a b interval interval events notes d run in
+          let t = payloads-are-told p a b interval interval events notes d run in
+          let s = stand p a b interval interval events notes d run in
+          let same : d.responder.view.interval ≡ d.initiator.view.interval = s.1.interval_is ∙ sym s.0.interval_is in
+          record {
+            there = λ e k l f g. keys-same d.initiator.view d.responder.view k l
+                (sending-key public_a agreement_a duel.initiator.phase d.initiator.view k stands.initiator.phase f)
+                (receiving-key public_b agreement_b duel.responder.phase d.responder.view l stands.responder.phase g)
+                (sym history.history) (ap other n.1.role_is ∙ sym n.0.role_is) same
+                (as-many (own_payloads Initiator 0 d.initiator.passed) (written_by Initiator events notes) (told_to Responder notes)
+                d.initiator.sent d.responder.received d.initiator.view.sent d.responder.view.received t.0.written
+                (t.1.told ∙ ap (λ (ms : List HandshakeMessage). own_payloads Initiator 0 ms ++ contents d.responder.received) (sym history.passed))
+                e s.0.sending s.1.receiving);
+            back = λ e k l f g. keys-same d.responder.view d.initiator.view k l
+                (sending-key public_b agreement_b duel.responder.phase d.responder.view k stands.responder.phase f)
+                (receiving-key public_a agreement_a duel.initiator.phase d.initiator.view l stands.initiator.phase g)
+                history.history (ap other n.0.role_is ∙ sym n.1.role_is) (sym same)
+                (as-many (own_payloads Responder 0 d.responder.passed) (written_by Responder events notes) (told_to Initiator notes)
+                d.responder.sent d.initiator.received d.responder.view.sent d.initiator.view.received t.1.written
+                (t.0.told ∙ ap (λ (ms : List HandshakeMessage). own_payloads Responder 0 ms ++ contents d.initiator.received) history.passed)
+                e s.1.sending s.0.receiving);
+          }

@@ -1,0 +1,69 @@
+-- What two ends with one hash agree on of a report: the payloads that it tells of, and the keys of the next messages.
+use Rattle.std.specs.Prelude.{◌≡◌, ◌≢◌, ◌⊎◌, ℕ, zero, suc, ◌+◌, List, ◌++◌, length, take, Option, Some, slice_get, if◌then◌else◌}
+use Rattle.noise_names.specs.declared.token.Role.{Role}
+use Rattle.noise_names.specs.declared.token.Role.TheVariants.{Initiator, Responder}
+use Rattle.noise_names.specs.Tokens.{same_role, turn_from}
+use Rattle.noise_names.specs.Plan.{Plan}
+use Rattle.noise_keys.specs.declared.keys.Own.{Own}
+use Rattle.noise_state.specs.History.{History}
+use Rattle.noise_session.specs.Frames.{frame}
+use Rattle.noise_session.specs.Transport.{packet}
+use Rattle.noise_events.specs.Events.{Event}
+use Rattle.noise_duel.specs.Conversation.{facing}
+use Rattle.noise_duel.specs.HeldDuel.{HeldDuel, DuelStands}
+use Rattle.noise_duel.specs.Messages.{Start}
+use Rattle.noise_duel.specs.Networks.{HaveOneHash, HistoriesCollide, ShareSecrets}
+use Rattle.noise_duel.specs.Notes.{Note}
+use Rattle.noise_duel.specs.Reports.{receive_key_in, send_key_in}
+use Rattle.noise_duel.specs.Runs.{Run}
+use Rattle.noise_duel.specs.Sides.{Sides}
+use Rattle.noise_conversation.specs.Payloads.{told_to, written_by}
+
+-- how many of the first n handshake messages a role writes (Noise 5.3: the initiator writes first, then they take turns)
+abbrev pub turns_of : Role → ℕ → ℕ
+turns_of role zero = 0
+turns_of role (suc n) = turns_of role n + (if same_role (turn_from Initiator n) role then 1 else 0)
+
+-- A forged frame was accepted: payload number i that a role was told came as a packet at a nonce, which is the number behind the handshake messages of
+-- the writer, and the writer's frame number i isn't that packet's, or there is none (Noise 5.2, 12.3).
+pub record ForgedFrame (r : History) (writer : Role) (interval opening : ℕ) (frames told : List (List ℕ)) (i : ℕ) : Type 0 where
+  pub payload : List ℕ
+  pub nonce : ℕ
+  pub number : i ≡ opening + nonce
+  pub entry : slice_get told i ≡ Some payload
+  pub unwritten : slice_get frames i ≢ Some (frame (packet r writer interval nonce payload))
+
+-- what a role was told are the first of the payloads that the other wrote, in order, or the first that isn't came in a forged frame
+abbrev pub FrontOrForged : History → Role → ℕ → ℕ → List (List ℕ) → List (List ℕ) → List (List ℕ) → Type 0
+FrontOrForged r writer interval opening frames written told =
+    ((rest : List (List ℕ)) × (written ≡ told ++ rest))
+    ⊎ ((i : ℕ) × (take i told ≡ take i written) × ForgedFrame r writer interval opening frames told i)
+
+-- In each direction, over all of the session, the handshake too: the frames are those that the two roles wrote, the history is the one of both.
+pub record EntriesAgree (p : Plan) (r : History) (interval : ℕ) (events : List Event) (notes : List (Role × Note))
+    (initiator responder : List (List ℕ)) : Type 0 where
+  pub there : FrontOrForged r Initiator interval (turns_of Initiator (length p.messages)) initiator
+      (written_by Initiator events notes) (told_to Responder notes)
+  pub back : FrontOrForged r Responder interval (turns_of Responder (length p.messages)) responder
+      (written_by Responder events notes) (told_to Initiator notes)
+
+-- With equal hashes, the same secrets and equal intervals so it is, or two texts that they hashed collide.
+abbrev pub EntriesCome : Type 0
+EntriesCome = (p : Plan) (a b : Start) (interval : ℕ) (events : List Event) (notes : List (Role × Note)) (d : Sides)
+    → Run (facing p a b interval interval) events notes d → HaveOneHash d → ShareSecrets p a b d
+    → EntriesAgree p d.initiator.view.party.history interval events notes d.initiator.frames d.responder.frames ⊎ HistoriesCollide d
+
+-- Where a role was told as many payloads as the other wrote, it opens the next message by the key that the other writes it by, if both are open.
+pub record KeysMeet {A B : Type 0} (events : List Event) (notes : List (Role × Note)) (duel : HeldDuel A B) : Type 0 where
+  pub there : length (told_to Responder notes) ≡ length (written_by Initiator events notes) → (k l : List ℕ)
+      → send_key_in duel.initiator.phase ≡ Some k → receive_key_in duel.responder.phase ≡ Some l → l ≡ k
+  pub back : length (told_to Initiator notes) ≡ length (written_by Responder events notes) → (k l : List ℕ)
+      → send_key_in duel.responder.phase ≡ Some k → receive_key_in duel.initiator.phase ≡ Some l → l ≡ k
+
+module _ {A B : Type 0} (public_a : A → Own → Option (List ℕ)) (agreement_a : A → Own → List ℕ → Option (List ℕ))
+    (public_b : B → Own → Option (List ℕ)) (agreement_b : B → Own → List ℕ → Option (List ℕ)) where
+  -- With equal hashes, the same secrets and equal intervals so it is, or two texts that they hashed collide.
+  abbrev pub KeysCome : Type 0
+  KeysCome = (p : Plan) (a b : Start) (interval : ℕ) (events : List Event) (notes : List (Role × Note)) (d : Sides) (duel : HeldDuel A B)
+      → Run (facing p a b interval interval) events notes d → DuelStands public_a agreement_a public_b agreement_b duel d
+      → HaveOneHash d → ShareSecrets p a b d → KeysMeet events notes duel ⊎ HistoriesCollide d
