@@ -103,9 +103,11 @@ fn of_an_own_text(rt: HostRuntime) {
 fn over_a_network(rt: HostRuntime) {
     let pattern = pattern(&rt, b"NN", &[]);
     let events = [
+        Event::Say(Role::Initiator, Vec::new(rt.alloc()), Cuts::whole()),
+        Event::Say(Role::Responder, Vec::new(rt.alloc()), Cuts::whole()),
         Event::Write(Role::Initiator, Vec::new(rt.alloc())),
-        Event::Deliver(Role::Responder, 0, Cuts::whole()),
-        Event::Deliver(Role::Responder, 0, Cuts::whole()),
+        Event::Deliver(Role::Responder, 1, Cuts::whole()),
+        Event::Deliver(Role::Responder, 1, Cuts::whole()),
     ];
     let made = run_events(
         rt.alloc(),
@@ -117,7 +119,10 @@ fn over_a_network(rt: HostRuntime) {
         0,
         &events,
     );
-    let (_, report) = made.expect(&rt, "a run");
+    let (duel, report) = made.expect(&rt, "a run");
     let told = report.entries.len();
-    assert!(rt; told == 3);
+    assert!(rt; told == 7);
+    let hash = duel.initiator().hash();
+    assert!(rt; hash.is_some());
+    assert!(rt; hash == duel.responder().hash());
 }
