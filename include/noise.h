@@ -82,8 +82,8 @@
      sends and one that receives, split the transport: each half is a struct of its own, and needs no lock.
    - Never use a copy of a kept struct beside the original. Both would seal with the same nonce and key, which reveals what was sealed.
      You may move a struct. You may read or open a message on a copy and then discard the copy. And two threads may each have a copy of a
-     noise_datagrams if, from then on, one copy only seals and the other only opens: each call uses and changes only the state of its own
-     direction. Overwrite both copies at the end.
+     noise_datagrams (or of a noise_transport, in place of its halves) if, from then on, one copy only seals and the other only opens: each call
+     uses and changes only the state of its own direction. Overwrite both copies at the end.
    - Each handshake has a new ephemeral key pair. A pair that was used before makes the same keys again.
    - X25519 may give all zeros. If you want such a key refused (Noise, 12.1), don't pass it to noise_answer, and end the handshake.
    - No call compares the other party's static key with the one that you expect. noise_remote_static returns it; compare it yourself.
