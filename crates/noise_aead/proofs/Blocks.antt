@@ -40,23 +40,23 @@ sixteen_words f p = refl
 
 -- ---- the generator
 
--- the word n places behind h, and the generator behind it
+-- the word n places after h, and the generator after it
 pub next : (h g g' : ChaCha) (n w : ℕ) → g ≡ record h { word_pos = h.word_pos + n } → (w, g') ≡ next_word 10 g
     → h.word_pos + (n + 1) < 2 ^ 68
     → (w ≡ word_at 10 h.key h.stream (h.word_pos + n)) × (g' ≡ record h { word_pos = h.word_pos + (n + 1) })
 next h g g' n w at e small =
     let here : w ≡ word_at 10 g.key g.stream g.word_pos = ap (λ (p : ℕ × ChaCha). p.0) e in
-    let behind : g' ≡ record g { word_pos = (g.word_pos + 1) % 2 ^ 68 } = ap (λ (p : ℕ × ChaCha). p.1) e in
+    let after : g' ≡ record g { word_pos = (g.word_pos + 1) % 2 ^ 68 } = ap (λ (p : ℕ × ChaCha). p.1) e in
     let place : (h.word_pos + n + 1) % 2 ^ 68 ≡ h.word_pos + (n + 1) = omega arith in (
       here ∙ ap (λ (x : ChaCha). word_at 10 x.key x.stream x.word_pos) at,
-      behind ∙ ap (λ (x : ChaCha). record x { word_pos = (x.word_pos + 1) % 2 ^ 68 }) at
+      after ∙ ap (λ (x : ChaCha). record x { word_pos = (x.word_pos + 1) % 2 ^ 68 }) at
           ∙ ap (λ (p : ℕ). record h { word_pos = p }) place,
     )
 
 byte_of_word : (f : ℕ → ℕ) (a b c d : ℕ) → a ≡ b → c ≡ d → byte_at a (f c) ≡ byte_at b (f d)
 byte_of_word f a b c d e h = cc
 
--- a generator i blocks behind g gives the bytes from 64 i on
+-- a generator i blocks after g gives the bytes from 64 i on
 pub byte_from-later : (g h : ChaCha) (i k : ℕ) → h ≡ record g { word_pos = g.word_pos + 16 * i } → byte_from h k ≡ byte_from g (64 * i + k)
 byte_from-later g h i k e =
     let within : k % 4 ≡ (64 * i + k) % 4 = omega arith in

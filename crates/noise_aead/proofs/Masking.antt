@@ -65,7 +65,7 @@ xored_more f g text done new a n e end fits same before now =
     let len : length front ≡ a = length-xored f 0 (take a text) ∙ front_len in
     let kept : take a done ≡ front = ap (take a) before ∙ take_at front (drop a text) a len in
     let left : drop a done ≡ drop a text = ap (drop a) before ∙ drop_at front (drop a text) a len in
-    let behind : drop n (drop a done) ≡ drop e text = ap (drop n) left ∙ drop-drop n a text ∙ ap (λ (k : ℕ). drop k text) end in
+    let after : drop n (drop a done) ≡ drop e text = ap (drop n) left ∙ drop-drop n a text ∙ ap (λ (k : ℕ). drop k text) end in
     let more : new ≡ xored f (a + 0) next =
     now ∙ ap (λ (bytes : List ℕ). xored g 0 (take n bytes)) left ∙ xored-later f g a same 0 next in
     let place : 0 + length (take a text) ≡ a + 0 = omega arith in
@@ -74,7 +74,7 @@ xored_more f g text done new a n e end fits same before now =
     ∙ ap (λ (k : ℕ). front ++ xored f k next) place in
     ap (λ (bytes : List ℕ). bytes ++ (new ++ drop n (drop a done))) kept
     ∙ ap (λ (bytes : List ℕ). front ++ (bytes ++ drop n (drop a done))) more
-    ∙ ap (λ (bytes : List ℕ). front ++ (xored f (a + 0) next ++ bytes)) behind
+    ∙ ap (λ (bytes : List ℕ). front ++ (xored f (a + 0) next ++ bytes)) after
     ∙ sym (append_assoc front (xored f (a + 0) next) (drop e text))
     ∙ ap (λ (bytes : List ℕ). bytes ++ drop e text) (sym whole)
 

@@ -9,10 +9,10 @@ use Rattle.noise_handshake.specs.declared.faults.ReadFault.{ReadFault}
 use Rattle.noise_handshake.specs.declared.faults.ReadFault.TheVariants as read
 use Rattle.noise_handshake.specs.declared.faults.Unread.{Unread}
 use Rattle.noise_handshake.specs.declared.faults.Unread.TheVariants as unread
-use Rattle.noise_handshake.specs.Held.{Held, behind_unread, ended_as}
+use Rattle.noise_handshake.specs.Held.{Held, after_unread, ended_as}
 use Rattle.noise_keys.specs.Table.{Table}
 use Rattle.noise_handshake.specs.View.{View, Accepts}
-use Rattle.noise_handshake.specs.Party.{Stands, behind_message, behind_own, behind_declined, Declines}
+use Rattle.noise_handshake.specs.Party.{Stands, after_message, after_own, after_declined, Declines}
 use Rattle.noise_handshake.specs.Writing.{Writes}
 use Rattle.noise_c.specs.declared.kept.NoiseHandshake.{NoiseHandshake}
 use Rattle.noise_c.specs.Kept.{public_in, agreement_in, text_in, held_in, IsPatternOf, IsUsable, KeepsView, WasRead, WasWritten, WasDeclined}
@@ -33,19 +33,19 @@ module _ (old new : NoiseHandshake) (h h2 : Held Table) (p : Plan) (v : View) (o
   }
 
   pub was-read : (message new_message : List ℕ) (start end : ℕ) → start ≤ end
-      → (xs : List (List ℕ)) → Accepts v message xs (slice_range new_message start end) → Stands public_in agreement_in h2 (behind_message v xs (slice_range new_message start end))
+      → (xs : List (List ℕ)) → Accepts v message xs (slice_range new_message start end) → Stands public_in agreement_in h2 (after_message v xs (slice_range new_message start end))
       → WasRead p v message (slice_range new_message start (start + (end - start))) new
   was-read message new_message start end r xs a s =
       let n : end ≡ start + (end - start) = omega (arith, r) in
       subst (λ (z : ℕ). WasRead p v message (slice_range new_message start z) new) n
-      (record { carried = xs; accepts = a; keeps = keeps (behind_message v xs (slice_range new_message start end)) s })
+      (record { carried = xs; accepts = a; keeps = keeps (after_message v xs (slice_range new_message start end)) s })
 
-  pub was-declined : (message : List ℕ) (fault : ReadFault) (code token : ℕ) → code ≡ read_code fault → token ≡ token_in fault → Declines v message fault → Stands public_in agreement_in h2 (behind_declined v fault)
+  pub was-declined : (message : List ℕ) (fault : ReadFault) (code token : ℕ) → code ≡ read_code fault → token ≡ token_in fault → Declines v message fault → Stands public_in agreement_in h2 (after_declined v fault)
       → WasDeclined p v message code token new
-  was-declined message fault code token e t d s = record { fault = fault; code_is = e; token_is = t; declines = d; keeps = keeps (behind_declined v fault) s }
+  was-declined message fault code token e t d s = record { fault = fault; code_is = e; token_is = t; declines = d; keeps = keeps (after_declined v fault) s }
 
-  pub was-written : (payload message : List ℕ) (xs : List (List ℕ)) → Writes v payload xs message → Stands public_in agreement_in h2 (behind_own v xs payload) → WasWritten p v payload message new
-  was-written payload message xs w s = record { carried = xs; writes = w; keeps = keeps (behind_own v xs payload) s }
+  pub was-written : (payload message : List ℕ) (xs : List (List ℕ)) → Writes v payload xs message → Stands public_in agreement_in h2 (after_own v xs payload) → WasWritten p v payload message new
+  was-written payload message xs w s = record { carried = xs; writes = w; keeps = keeps (after_own v xs payload) s }
 
 -- a handshake that was opened stands for what is kept
 pub stands-for : (old : NoiseHandshake) (h : Held Table) (p : Plan) (v : View) → ((q : Plan) → IsPatternOf (text_in old) q → q ≡ h.pattern) → h ≡ held_in h.pattern old → KeepsView old p v → Stands public_in agreement_in h v
@@ -66,10 +66,10 @@ usable-kept new h m t a n named valid same whole = record {
 }
 
 -- the same of what a usable one becomes
-pub usable-behind : (old new : NoiseHandshake) (h h2 : Held Table) → IsUsable old → new.mark ≡ old.mark → new.text_len ≡ old.text_len → new.answer_count ≡ old.answer_count
+pub usable-after : (old new : NoiseHandshake) (h h2 : Held Table) → IsUsable old → new.mark ≡ old.mark → new.text_len ≡ old.text_len → new.answer_count ≡ old.answer_count
     → new.secret_count ≤ 9 → text_in new ≡ text_in old → IsPatternOf (text_in old) h.pattern → h2.pattern ≡ h.pattern → IsValid h2.pattern
     → held_in h2.pattern new ≡ h2 → IsWhole public_in h2 → IsUsable new
-usable-behind old new h h2 u m t a n name named stays valid same whole =
+usable-after old new h h2 u m t a n name named stays valid same whole =
     usable-kept new h2 (m ∙ u.mark) (omega (arith, t, u.text)) (omega (arith, a, u.answers)) n
     (subst (λ (z : List ℕ). IsPatternOf z h2.pattern) (sym name) (subst (λ (q : Plan). IsPatternOf (text_in old) q) (sym stays) named)) valid same whole
 
@@ -80,22 +80,22 @@ ended-kept old new h h2 n same e =
     ap (λ (q : Plan). held_in q new) (ap (λ (z : Held Table). z.pattern) e) ∙ ap (held_in h.pattern) n ∙ sym (e ∙ ap (λ (z : Held Table). ended_as z) same)
 
 -- a refusal ends it
-pub refused-leaves : (h h2 : Held Table) (u : Unread) (fault : ReadFault) (token : ℕ) (cause : Cause) → h2 ≡ behind_unread h u → u ≡ unread.Declined fault
+pub refused-leaves : (h h2 : Held Table) (u : Unread) (fault : ReadFault) (token : ℕ) (cause : Cause) → h2 ≡ after_unread h u → u ≡ unread.Declined fault
     → fault ≡ read.Refused token cause → h2 ≡ ended_as h
-refused-leaves h h2 u fault token cause e f g = e ∙ ap (behind_unread h) (f ∙ ap unread.Declined g)
+refused-leaves h h2 u fault token cause e f g = e ∙ ap (after_unread h) (f ∙ ap unread.Declined g)
 
--- the secrets that are left behind a message stand at the same end
-secrets-behind : (old : NoiseHandshake) (h h2 : Held Table) (taken : List (List ℕ)) → old.secret_count ≤ 9 → length h.secrets ≡ old.secret_count
+-- the secrets that are left after a message stand at the same end
+secrets-after : (old : NoiseHandshake) (h h2 : Held Table) (taken : List (List ℕ)) → old.secret_count ≤ 9 → length h.secrets ≡ old.secret_count
     → h ≡ held_in h.pattern old → h.secrets ≡ taken ++ h2.secrets → h2.secrets ≡ drop (9 - length h2.secrets) old.secrets
-secrets-behind old h h2 taken few count same behind =
+secrets-after old h h2 taken few count same after =
     let c : ℕ = old.secret_count in
-    let n : length h.secrets ≡ length taken + length h2.secrets = ap length behind ∙ length-append taken h2.secrets in
+    let n : length h.secrets ≡ length taken + length h2.secrets = ap length after ∙ length-append taken h2.secrets in
     let i : 9 - c + length taken ≡ 9 - length h2.secrets = omega (arith, few, count, n) in
-    sym (drop-append_seam taken h2.secrets) ∙ ap (drop (length taken)) (sym behind ∙ ap (λ (z : Held Table). z.secrets) same)
+    sym (drop-append_seam taken h2.secrets) ∙ ap (drop (length taken)) (sym after ∙ ap (λ (z : Held Table). z.secrets) same)
     ∙ drop-drop (length taken) (9 - c) old.secrets ∙ ap (λ (k : ℕ). drop k old.secrets) i
 
 -- the same by the slice that lends them
 pub secrets-left : (old : NoiseHandshake) (h h2 : Held Table) (taken left : List (List ℕ)) → old.secret_count ≤ 9 → length h.secrets ≡ old.secret_count
     → h ≡ held_in h.pattern old → h.secrets ≡ taken ++ h2.secrets → left ≡ h2.secrets → h2.secrets ≡ drop (9 - length left) old.secrets
-secrets-left old h h2 taken left few count same behind e =
-    secrets-behind old h h2 taken few count same behind ∙ ap (λ (z : List (List ℕ)). drop (9 - length z) old.secrets) (sym e)
+secrets-left old h h2 taken left few count same after e =
+    secrets-after old h h2 taken few count same after ∙ ap (λ (z : List (List ℕ)). drop (9 - length z) old.secrets) (sym e)

@@ -23,7 +23,7 @@ use Rattle.noise_handshake.specs.Parts.{IsWhole}
 use Rattle.noise_handshake.specs.Setup.{begun, setup_fault}
 use Rattle.noise_handshake.specs.View.{View, Accepts}
 use Rattle.noise_handshake.specs.Writing.{Writes}
-use Rattle.noise_handshake.specs.Party.{Stands, behind_message, behind_own, Declines, behind_declined, Withholds}
+use Rattle.noise_handshake.specs.Party.{Stands, after_message, after_own, Declines, after_declined, Withholds}
 use Rattle.noise_c.specs.declared.kept.NoiseKey.{NoiseKey}
 use Rattle.noise_c.specs.declared.kept.NoiseAnswer.{NoiseAnswer}
 use Rattle.noise_c.specs.declared.kept.NoiseHandshake.{NoiseHandshake}
@@ -127,19 +127,19 @@ pub record KeepsView (k : NoiseHandshake) (p : Plan) (v : View) : Type 0 where
   pub pattern : IsPatternOf (text_in k) p
   pub stands : Stands public_in agreement_in (held_in p k) v
 
--- The payload was accepted, and what is kept stands for the view behind the message.
+-- The payload was accepted, and what is kept stands for the view after the message.
 pub record WasRead (p : Plan) (v : View) (message payload : List ℕ) (k : NoiseHandshake) : Type 0 where
   pub carried : List (List ℕ)
   pub accepts : Accepts v message carried payload
-  pub keeps : KeepsView k p (behind_message v carried payload)
+  pub keeps : KeepsView k p (after_message v carried payload)
 
--- The message was declined for a fault of this number and token, and what is kept stands for the view behind that.
+-- The message was declined for a fault of this number and token, and what is kept stands for the view after that.
 pub record WasDeclined (p : Plan) (v : View) (message : List ℕ) (code token : ℕ) (k : NoiseHandshake) : Type 0 where
   pub fault : ReadFault
   pub code_is : code ≡ read_code fault
   pub token_is : token ≡ token_in fault
   pub declines : Declines v message fault
-  pub keeps : KeepsView k p (behind_declined v fault)
+  pub keeps : KeepsView k p (after_declined v fault)
 
 -- A payload of this length was withheld for a fault of this number.
 pub record WasWithheld (v : View) (payload code : ℕ) : Type 0 where
@@ -147,13 +147,13 @@ pub record WasWithheld (v : View) (payload code : ℕ) : Type 0 where
   pub code_is : code ≡ write_code fault
   pub withholds : Withholds v payload fault
 
--- The payload was written as this message, and what is kept stands for the view behind it.
+-- The payload was written as this message, and what is kept stands for the view after it.
 pub record WasWritten (p : Plan) (v : View) (payload message : List ℕ) (k : NoiseHandshake) : Type 0 where
   pub carried : List (List ℕ)
   pub writes : Writes v payload carried message
-  pub keeps : KeepsView k p (behind_own v carried payload)
+  pub keeps : KeepsView k p (after_own v carried payload)
 
--- what is kept has this answer behind the others, and is otherwise as it was
+-- what is kept has this answer after the others, and is otherwise as it was
 pub record IsAdded (old new : NoiseHandshake) (entry : TableEntry) : Type 0 where
   pub text : text_in new ≡ text_in old
   pub held : (p : Plan) → held_in p new

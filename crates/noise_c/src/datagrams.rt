@@ -119,7 +119,7 @@ pub extern "C" fn noise_datagrams_seal(
 }
 
 /// Opens a datagram in place, and tells where its payload stands: from the ninth byte on. The 8 of the nonce in front of it and the 16 of
-/// the tag behind it stay as they are. At any answer but OK its bytes and what is kept are unchanged.
+/// the tag after it stay as they are. At any answer but OK its bytes and what is kept are unchanged.
 ///
 /// ONE_WAY, SHORT (fewer than 24 bytes), TOO_LONG (more than 65543), RESERVED (the nonce that no message has: Noise, 5.1), OLD, REPEATED
 /// and TAG are looked for in this order.

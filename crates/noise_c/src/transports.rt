@@ -143,7 +143,7 @@ pub extern "C" fn noise_transport_seal_in_place(
     }
 }
 
-/// Opens a message in place, and tells how many first bytes of it are then the payload (Noise, 5.2). The 16 of the tag behind them stay
+/// Opens a message in place, and tells how many first bytes of it are then the payload (Noise, 5.2). The 16 of the tag after them stay
 /// as they are. At any answer but OK its bytes and the transport are unchanged.
 ///
 /// LENGTH where it has more than 65535 bytes; then ONE_WAY, EXHAUSTED, SHORT (fewer than the 16 of a tag) and TAG are looked for in this

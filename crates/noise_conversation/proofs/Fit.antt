@@ -80,7 +80,7 @@ turn-suc party (suc n) = turn-suc (other party) n
 pub turn-next : (party : Role) (n : ℕ) → turn_from party (n + 1) ≡ other (turn_from party n)
 turn-next party n = rw add-one (turn-suc party n)
 
--- where a line fits, all lines from it on fit if those behind it do
+-- where a line fits, all lines from it on fit if those after it do
 pub one-line : (p : Plan) (n : ℕ) (role : Role) (payload : List ℕ) (len : ℕ) (lines : List (Role × List ℕ)) (fits : Bool) → len ≡ length payload
     → fits ≡ line_fits p n role len → fits ≡ true → lines_fit_from p n ((role, payload) ∷ lines) ≡ lines_fit_from p (n + 1) lines
 one-line p n role payload len lines fits a b d =

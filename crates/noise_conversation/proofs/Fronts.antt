@@ -29,14 +29,14 @@ use Rattle.noise_conversation.proofs.Payloads.{Kept, ends-kept, payloads-are-tol
 
 -- ---- lists
 
-get-behind : {X : Type 0} (xs ys : List X) (n : ℕ) → slice_get (xs ++ ys) (length xs + n) ≡ slice_get ys n
-get-behind [] ys n = ap (slice_get ys) (omega arith)
-get-behind (x ∷ xs) ys n =
+get-after : {X : Type 0} (xs ys : List X) (n : ℕ) → slice_get (xs ++ ys) (length xs + n) ≡ slice_get ys n
+get-after [] ys n = ap (slice_get ys) (omega arith)
+get-after (x ∷ xs) ys n =
     let one : length (x ∷ xs) + n ≡ suc (length xs + n) = omega arith in
-    ap (slice_get ((x ∷ xs) ++ ys)) one ∙ get-behind xs ys n
+    ap (slice_get ((x ∷ xs) ++ ys)) one ∙ get-after xs ys n
 
-take-behind : (xs ys zs : List (List ℕ)) (n : ℕ) → take n ys ≡ take n zs → take (length xs + n) (xs ++ ys) ≡ take (length xs + n) (xs ++ zs)
-take-behind xs ys zs n e = take-append-add xs ys n ∙ ap (λ (z : List (List ℕ)). xs ++ z) e ∙ sym (take-append-add xs zs n)
+take-after : (xs ys zs : List (List ℕ)) (n : ℕ) → take n ys ≡ take n zs → take (length xs + n) (xs ++ ys) ≡ take (length xs + n) (xs ++ zs)
+take-after xs ys zs n e = take-append-add xs ys n ∙ ap (λ (z : List (List ℕ)). xs ++ z) e ∙ sym (take-append-add xs zs n)
 
 -- ---- how many messages of the handshake are a role's own
 
@@ -82,17 +82,17 @@ own-count role ps n e =
 frame-is : (m n : List ℕ) → frame m ≡ frame n → m ≡ n
 frame-is m n e = ap (drop 2) e
 
--- the writer's frames, at a number behind those of the handshake
-frame-behind : (mine : List (List ℕ)) (sent : List TransportMessage) (frames : List (List ℕ)) (h n : ℕ) (bytes : List ℕ)
+-- the writer's frames, at a number after those of the handshake
+frame-after : (mine : List (List ℕ)) (sent : List TransportMessage) (frames : List (List ℕ)) (h n : ℕ) (bytes : List ℕ)
     → frames ≡ map frame (mine ++ map (λ (m : TransportMessage). m.message) sent) → h ≡ length mine
     → slice_get frames (h + n) ≡ Some (frame bytes) → (m : TransportMessage) × (slice_get sent n ≡ Some m) × (m.message ≡ bytes)
-frame-behind mine sent frames h n bytes e same is =
+frame-after mine sent frames h n bytes e same is =
     let messages : List (List ℕ) = map (λ (m : TransportMessage). m.message) sent in
     let there : slice_get frames (h + n) ≡ option_map frame (option_map (λ (m : TransportMessage). m.message) (slice_get sent n)) =
     ap (λ (fs : List (List ℕ)). slice_get fs (h + n)) e
     ∙ slice_get-map frame (mine ++ messages) (h + n)
     ∙ ap (λ (k : ℕ). option_map frame (slice_get (mine ++ messages) (k + n))) same
-    ∙ ap (option_map frame) (get-behind mine messages n ∙ slice_get-map (λ (m : TransportMessage). m.message) sent n) in
+    ∙ ap (option_map frame) (get-after mine messages n ∙ slice_get-map (λ (m : TransportMessage). m.message) sent n) in
     by (slice_get sent n) refl (sym there ∙ is)
   where
     by : (o : Option TransportMessage) → slice_get sent n ≡ o
@@ -117,7 +117,7 @@ module _ (r : History) (writer : Role) (interval opening : ℕ) (frames mine own
       before : (n : ℕ) → take n (contents received) ≡ take n (contents sent) → take (n + opening) told ≡ take (n + opening) written
       before n e =
           let same : n + opening ≡ length own + n = omega (arith, o) in
-          ap (λ (k : ℕ). take k told) same ∙ ap (take (length own + n)) t ∙ take-behind own (contents received) (contents sent) n e
+          ap (λ (k : ℕ). take k told) same ∙ ap (take (length own + n)) t ∙ take-after own (contents received) (contents sent) n e
           ∙ ap (take (length own + n)) (sym w) ∙ ap (λ (k : ℕ). take k written) (sym same)
 
       at : (n : ℕ) → ForgedAt r writer interval (in_stream sent) (in_stream received) n → ForgedFrame r writer interval opening frames told (n + opening)
@@ -128,11 +128,11 @@ module _ (r : History) (writer : Role) (interval opening : ℕ) (frames mine own
             payload = forged.forged.payload;
             nonce = n;
             number = turned;
-            entry = ap (slice_get told) same ∙ ap (λ (z : List (List ℕ)). slice_get z (length own + n)) t ∙ get-behind own (contents received) n
+            entry = ap (slice_get told) same ∙ ap (λ (z : List (List ℕ)). slice_get z (length own + n)) t ∙ get-after own (contents received) n
                 ∙ slice_get-map (λ (z : TransportMessage). z.payload) received n
                 ∙ ap (option_map (λ (z : TransportMessage). z.payload)) forged.came;
             unwritten = λ e.
-                let there = frame-behind mine sent frames opening n (packet r writer interval n forged.forged.payload) f m
+                let there = frame-after mine sent frames opening n (packet r writer interval n forged.forged.payload) f m
                 (sym (ap (slice_get frames) turned) ∙ e) in
                 forged.unwritten there.0 there.1 (there.2 ∙ sym forged.packet_at);
           }

@@ -17,7 +17,7 @@ use Rattle.noise_session.specs.Steps.Told.{Payload}
 use Rattle.noise_session.specs.Ends.{EndView, closed, end_of}
 use Rattle.noise_session.specs.Taking.{Judges}
 use Rattle.noise_session.specs.Taking.Judges.{accepted, refused, opened, dropped, exhausted}
-use Rattle.noise_session.specs.Sending.{Sends, behind_fault}
+use Rattle.noise_session.specs.Sending.{Sends, after_fault}
 use Rattle.noise_session.specs.Sending.Sends.{refuses, lacks_answer}
 use Rattle.noise_events.specs.Events.{Event}
 use Rattle.noise_duel.specs.Conversation.{facing}
@@ -212,17 +212,17 @@ module _ (plan : Plan) (role : Role) where
     writes-took : (payload : List ℕ) (t : Side) (note : Note) → SideWrites s payload note t → Took s t (payload ∷ []) (note ∷ [])
     writes-took payload t note (writes_nothing _ _ why next sends) = go why next sends
       where
-        behind-kept : (b : Bool) → Kept (with_view s (if b then closed s.view else s.view))
-        behind-kept true = record { role_is = k.role_is; pattern_is = k.pattern_is; count = k.count; unsent = k.unsent; unheard = k.unheard }
-        behind-kept false = record { role_is = k.role_is; pattern_is = k.pattern_is; count = k.count; unsent = k.unsent; unheard = k.unheard }
+        after-kept : (b : Bool) → Kept (with_view s (if b then closed s.view else s.view))
+        after-kept true = record { role_is = k.role_is; pattern_is = k.pattern_is; count = k.count; unsent = k.unsent; unheard = k.unheard }
+        after-kept false = record { role_is = k.role_is; pattern_is = k.pattern_is; count = k.count; unsent = k.unsent; unheard = k.unheard }
 
         none : (why : SendFault) (next : EndView) → Kept (with_view s next) → Took s (with_view s next) (payload ∷ []) (WriteFault why ∷ [])
         none why next kept = record { kept = kept; even = refl; written = sym (append-nil (mine s)); heard = sym (append-nil (theirs s)) }
 
         go : (why : SendFault) (next : EndView) → Sends s.view payload (Err why) next
             → Took s (with_view s next) (payload ∷ []) (WriteFault why ∷ [])
-        go why next (refuses _ _ _ e) = none why (behind_fault s.view why) (behind-kept (ends why))
-        go why next (lacks_answer _ _ token e lacks) = none (Agreement token) (closed s.view) (behind-kept true)
+        go why next (refuses _ _ _ e) = none why (after_fault s.view why) (after-kept (ends why))
+        go why next (lacks_answer _ _ token e lacks) = none (Agreement token) (closed s.view) (after-kept true)
     writes-took payload t note (writes_handshake _ message _ xs e w) =
         wrote-took (record { message = message; carried = xs; payload = payload }) (length s.frames) w.speaks.turn w.speaks.more
     writes-took payload t note (writes_transport _ message _ e due is) =

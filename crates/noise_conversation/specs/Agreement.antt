@@ -15,7 +15,7 @@ use Rattle.noise_conversation.specs.Entries.{EntriesAgree, KeysMeet}
 use Rattle.noise_conversation.specs.Setup.{Starts}
 
 module _ {K : Type 0} (public_of : K → Own → Option (List ℕ)) (agreement : K → Own → List ℕ → Option (List ℕ)) where
-  -- The report tells what the run of the events makes of two new ends, and the ends left are those behind it. Where both tell one hash, they have one
+  -- The report tells what the run of the events makes of two new ends, and the ends left are those after it. Where both tell one hash, they have one
   -- history, and what each accepted is the first of what the other wrote, up to a forged message; or two texts that they hashed collide.
   pub record AgreeOverNetwork (p : Plan) (s : Starts) (interval : ℕ) (events : List Event) (duel : HeldDuel K K) (report : Report) : Type 0 where
     pub reports : Reports public_of agreement public_of agreement (facing p s.initiator s.responder interval interval) events duel report

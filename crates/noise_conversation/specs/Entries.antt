@@ -24,7 +24,7 @@ abbrev pub turns_of : Role → ℕ → ℕ
 turns_of role zero = 0
 turns_of role (suc n) = turns_of role n + (if same_role (turn_from Initiator n) role then 1 else 0)
 
--- A forged frame was accepted: payload number i that a role was told came as a packet at a nonce, which is the number behind the handshake messages of
+-- A forged frame was accepted: payload number i that a role was told came as a packet at a nonce, which is the number after the handshake messages of
 -- the writer, and the writer's frame number i isn't that packet's, or there is none (Noise 5.2, 12.3).
 pub record ForgedFrame (r : History) (writer : Role) (interval opening : ℕ) (frames told : List (List ℕ)) (i : ℕ) : Type 0 where
   pub payload : List ℕ

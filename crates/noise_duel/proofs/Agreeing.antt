@@ -12,11 +12,11 @@ use Rattle.noise_state.specs.Pieces.{piece-same}
 use Rattle.noise_keys.specs.declared.keys.Own.{Own}
 use Rattle.noise_keys.specs.declared.keys.Own.TheVariants.{Ephemeral, Static}
 use Rattle.noise_handshake.specs.declared.remote.Remote.{Remote}
-use Rattle.noise_handshake.specs.Line.{token_piece, behind_token, behind_front, line, behind_line}
-use Rattle.noise_handshake.specs.View.{View, Reader, Fit, Fits, reader, known_behind, learned, secrets_behind, tokens_at, tokens_now, answered, own_at}
+use Rattle.noise_handshake.specs.Line.{token_piece, after_token, after_front, line, after_line}
+use Rattle.noise_handshake.specs.View.{View, Reader, Fit, Fits, reader, known_after, learned, secrets_after, tokens_at, tokens_now, answered, own_at}
 use Rattle.noise_handshake.specs.View.{remote_at}
 use Rattle.noise_handshake.specs.Writing.{Writer, Given, Gives, writer}
-use Rattle.noise_handshake.specs.Party.{behind_own, behind_message}
+use Rattle.noise_handshake.specs.Party.{after_own, after_message}
 use Rattle.noise_duel.specs.Messages.{HandshakeMessage, Exchanged, Start}
 use Rattle.noise_duel.specs.Messages.Exchanged.{none, wrote, took}
 use Rattle.noise_duel.specs.Agreement.{KeysAgree, Knows}
@@ -40,18 +40,18 @@ UsesAt mine role own agree known S x = IsOwnIf mine (own Static) x
 UsesAt mine role own agree known Psk x = Unit {0}
 UsesAt mine role own agree known dh x = answered agree (own_at role dh) (remote_at role known dh) ≡ Some x
 
-abbrev pub known_after : Bool → Remote → Token → List ℕ → Remote
-known_after true known t x = known
-known_after false known t x = known_behind known t x
+abbrev pub known_next : Bool → Remote → Token → List ℕ → Remote
+known_next true known t x = known
+known_next false known t x = known_after known t x
 
 abbrev pub Uses : Bool → Role → (Own → Option (List ℕ)) → (Own → List ℕ → Option (List ℕ)) → Remote → List Token → List (List ℕ) → Type 0
 Uses mine role own agree known [] xs = Unit {0}
 Uses mine role own agree known (t ∷ ts) [] = Unit {0}
-Uses mine role own agree known (t ∷ ts) (x ∷ xs) = UsesAt mine role own agree known t x × Uses mine role own agree (known_after mine known t x) ts xs
+Uses mine role own agree known (t ∷ ts) (x ∷ xs) = UsesAt mine role own agree known t x × Uses mine role own agree (known_next mine known t x) ts xs
 
-abbrev pub known_behind_all : Bool → Remote → List Token → List (List ℕ) → Remote
-known_behind_all true known ts xs = known
-known_behind_all false known ts xs = learned known ts xs
+abbrev pub known_after_all : Bool → Remote → List Token → List (List ℕ) → Remote
+known_after_all true known ts xs = known
+known_after_all false known ts xs = learned known ts xs
 
 abbrev pub writes_now : Role → ℕ → Bool
 writes_now role n = same_role (turn_from Initiator n) role
@@ -60,7 +60,7 @@ abbrev pub UsesAll : Plan → Role → (Own → Option (List ℕ)) → (Own → 
 UsesAll p role own agree n known [] = Unit {0}
 UsesAll p role own agree n known (m ∷ ms) =
     Uses (writes_now role n) role own agree known (tokens_at p.messages n) m.carried
-    × UsesAll p role own agree (n + 1) (known_behind_all (writes_now role n) known (tokens_at p.messages n) m.carried) ms
+    × UsesAll p role own agree (n + 1) (known_after_all (writes_now role n) known (tokens_at p.messages n) m.carried) ms
 
 gives-uses : (w : Writer) (known : Remote) (secrets : List (List ℕ)) (t : Token) (x : List ℕ) → Gives w known secrets t x
     → UsesAt true w.role w.own w.agree known t x
@@ -86,14 +86,14 @@ given-uses : (w : Writer) (known : Remote) (secrets : List (List ℕ)) (ts : Lis
     → Uses true w.role w.own w.agree known ts xs
 given-uses w known secrets [] xs h = tt
 given-uses w known secrets (t ∷ ts) [] h = tt
-given-uses w known secrets (t ∷ ts) (x ∷ xs) h = (gives-uses w known secrets t x h.0, given-uses w known (secrets_behind secrets t) ts xs h.1)
+given-uses w known secrets (t ∷ ts) (x ∷ xs) h = (gives-uses w known secrets t x h.0, given-uses w known (secrets_after secrets t) ts xs h.1)
 
 fit-uses : (v : Reader) (own : Own → Option (List ℕ)) (known : Remote) (secrets : List (List ℕ)) (ts : List Token) (xs : List (List ℕ))
     → Fit v known secrets ts xs → Uses false v.role own v.agree known ts xs
 fit-uses v own known secrets [] xs h = tt
 fit-uses v own known secrets (t ∷ ts) [] h = tt
 fit-uses v own known secrets (t ∷ ts) (x ∷ xs) h =
-    (fits-uses v own known secrets t x h.0, fit-uses v own (known_behind known t x) (secrets_behind secrets t) ts xs h.1)
+    (fits-uses v own known secrets t x h.0, fit-uses v own (known_after known t x) (secrets_after secrets t) ts xs h.1)
 
 pub same-self : (r : Role) → same_role r r ≡ true
 same-self Initiator = refl
@@ -108,13 +108,13 @@ passes-uses v w [] (none _) = tt
 passes-uses v w (p ∷ ps) (wrote _ _ _ _ here more) =
     let mine : writes_now v.role v.passed ≡ true = ap (λ (r : Role). same_role r v.role) here.speaks.turn ∙ same-self v.role in
     subst (λ (b : Bool). Uses b v.role v.own v.agree v.remote (tokens_now v) p.carried
-    × UsesAll v.pattern v.role v.own v.agree (v.passed + 1) (known_behind_all b v.remote (tokens_now v) p.carried) ps) (sym mine)
-    (given-uses (writer v) v.remote v.secrets (tokens_now v) p.carried here.given, passes-uses (behind_own v p.carried p.payload) w ps more)
+    × UsesAll v.pattern v.role v.own v.agree (v.passed + 1) (known_after_all b v.remote (tokens_now v) p.carried) ps) (sym mine)
+    (given-uses (writer v) v.remote v.secrets (tokens_now v) p.carried here.given, passes-uses (after_own v p.carried p.payload) w ps more)
 passes-uses v w (p ∷ ps) (took _ _ _ _ here more) =
     let mine : writes_now v.role v.passed ≡ false = ap (λ (r : Role). same_role r v.role) here.listens.turn ∙ same-other v.role in
     subst (λ (b : Bool). Uses b v.role v.own v.agree v.remote (tokens_now v) p.carried
-    × UsesAll v.pattern v.role v.own v.agree (v.passed + 1) (known_behind_all b v.remote (tokens_now v) p.carried) ps) (sym mine)
-    (fit-uses (reader v) v.own v.remote v.secrets (tokens_now v) p.carried here.reads.fit, passes-uses (behind_message v p.carried p.payload) w ps more)
+    × UsesAll v.pattern v.role v.own v.agree (v.passed + 1) (known_after_all b v.remote (tokens_now v) p.carried) ps) (sym mine)
+    (fit-uses (reader v) v.own v.remote v.secrets (tokens_now v) p.carried here.reads.fit, passes-uses (after_message v p.carried p.payload) w ps more)
 
 -- ---- two parties
 
@@ -132,7 +132,7 @@ is-own role own agree known _ x u = tt
 
 -- what the reader of a token comes to know is right
 pub learns : (known : Remote) (own : Own → Option (List ℕ)) (t : Token) (x y : List ℕ) → Knows known own → x ≡ y → IsOwn own t x
-    → Knows (known_behind known t y) own
+    → Knows (known_after known t y) own
 learns known own E x y f e u = record { e = λ k g. u ∙ ap Some e ∙ g; s = f.s }
 learns known own S x y f e u = record { e = f.e; s = λ k g. u ∙ ap Some e ∙ g }
 learns known own _ x y f e u = f
@@ -164,21 +164,21 @@ module _ (a b : Start) (agrees : KeysAgree a b) where
     text-same mine ka kb secrets r Se x y f g u w m n e = dh-same Static Ephemeral ka.e kb.s x y f.e g.s u w
     text-same mine ka kb secrets r Ss x y f g u w m n e = dh-same Static Static ka.s kb.s x y f.s g.s u w
 
-    -- what each of them knows behind a token
+    -- what each of them knows after a token
     knows-token : (mine : Bool) (ka kb : Remote) (t : Token) (x y : List ℕ) → Knows ka b.own → Knows kb a.own → x ≡ y
         → UsesAt mine Initiator a.own a.agree ka t x → UsesAt (not mine) Responder b.own b.agree kb t y
-        → Knows (known_after mine ka t x) b.own × Knows (known_after (not mine) kb t y) a.own
+        → Knows (known_next mine ka t x) b.own × Knows (known_next (not mine) kb t y) a.own
     knows-token true ka kb t x y f g e u w = (f, learns kb a.own t x y g e (is-own Initiator a.own a.agree ka t x u))
     knows-token false ka kb t x y f g e u w = (learns ka b.own t y x f (sym e) (is-own Responder b.own b.agree kb t y w), g)
 
     record Same (mine : Bool) (ka kb : Remote) (ts : List Token) (xs ys : List (List ℕ)) : Type 0 where
       texts : xs ≡ ys
-      left : Knows (known_behind_all mine ka ts xs) b.own
-      right : Knows (known_behind_all (not mine) kb ts ys) a.own
+      left : Knows (known_after_all mine ka ts xs) b.own
+      right : Knows (known_after_all (not mine) kb ts ys) a.own
 
-    -- behind one token more
+    -- after one token more
     wider : (mine : Bool) (ka kb : Remote) (t : Token) (ts : List Token) (x y : List ℕ) (xs ys : List (List ℕ)) → x ≡ y
-        → Same mine (known_after mine ka t x) (known_after (not mine) kb t y) ts xs ys → Same mine ka kb (t ∷ ts) (x ∷ xs) (y ∷ ys)
+        → Same mine (known_next mine ka t x) (known_next (not mine) kb t y) ts xs ys → Same mine ka kb (t ∷ ts) (x ∷ xs) (y ∷ ys)
     wider true ka kb t ts x y xs ys e h = record { texts = cons-same x y xs ys e h.texts; left = h.left; right = h.right }
     wider false ka kb t ts x y xs ys e h = record { texts = cons-same x y xs ys e h.texts; left = h.left; right = h.right }
 
@@ -188,11 +188,11 @@ module _ (a b : Start) (agrees : KeysAgree a b) where
         → Alike psks r r ts xs ys → Same mine ka kb ts xs ys
     front-agree mine ka kb secrets r [] [] [] f g u w m n h = record { texts = refl; left = none-left mine; right = none-right mine }
       where
-        none-left : (mine : Bool) → Knows (known_behind_all mine ka [] []) b.own
+        none-left : (mine : Bool) → Knows (known_after_all mine ka [] []) b.own
         none-left true = f
         none-left false = f
 
-        none-right : (mine : Bool) → Knows (known_behind_all (not mine) kb [] []) a.own
+        none-right : (mine : Bool) → Knows (known_after_all (not mine) kb [] []) a.own
         none-right true = g
         none-right false = g
     front-agree mine ka kb secrets r [] [] (y ∷ ys) f g u w m n h = absurd h
@@ -203,9 +203,9 @@ module _ (a b : Start) (agrees : KeysAgree a b) where
         let e : x ≡ y = text-same mine ka kb secrets r t x y f g u.0 w.0 m.0 n.0 h.0 in
         let knows = knows-token mine ka kb t x y f g e u.0 w.0 in
         wider mine ka kb t ts x y xs ys e
-        (front-agree mine (known_after mine ka t x) (known_after (not mine) kb t y) (secrets_behind secrets t) (behind_token psks r t x) ts xs ys knows.0
+        (front-agree mine (known_next mine ka t x) (known_next (not mine) kb t y) (secrets_after secrets t) (after_token psks r t x) ts xs ys knows.0
         knows.1 u.1 w.1 m.1 n.1
-        (subst (λ (z : List ℕ). Alike psks (behind_token psks r t x) (behind_token psks r t z) ts xs ys) (sym e) h.1))
+        (subst (λ (z : List ℕ). Alike psks (after_token psks r t x) (after_token psks r t z) ts xs ys) (sym e) h.1))
 
   pub all-agree : (p : Plan) (n : ℕ) (ka kb : Remote) (secrets : List (List ℕ)) (r : History) (ps qs : List HandshakeMessage) → Knows ka b.own → Knows kb a.own
       → UsesAll p Initiator a.own a.agree n ka ps → UsesAll p Responder b.own b.agree n kb qs → UseSecrets p n secrets ps → UseSecrets p n secrets qs
@@ -217,19 +217,19 @@ module _ (a b : Start) (agrees : KeysAgree a b) where
       let ts : List Token = tokens_at p.messages n in
       let mine : Bool = writes_now Initiator n in
       let turned = subst (λ (z : Bool). Uses z Responder b.own b.agree kb ts y.carried
-      × UsesAll p Responder b.own b.agree (n + 1) (known_behind_all z kb ts y.carried) ys) (turns-apart (turn_from Initiator n)) w in
+      × UsesAll p Responder b.own b.agree (n + 1) (known_after_all z kb ts y.carried) ys) (turns-apart (turn_from Initiator n)) w in
       let here = front-agree (has_psk p) mine ka kb secrets r ts x.carried y.carried f g u.0 turned.0 m.0 k.0 h.0.0 in
       let payload : x.payload ≡ y.payload =
-      piece-same (behind_front (has_psk p) r ts x.carried) x.payload y.payload
-      (h.0.1 ∙ ap (λ (zs : List (List ℕ)). piece (behind_front (has_psk p) r ts zs) y.payload) (sym here.texts)) in
+      piece-same (after_front (has_psk p) r ts x.carried) x.payload y.payload
+      (h.0.1 ∙ ap (λ (zs : List (List ℕ)). piece (after_front (has_psk p) r ts zs) y.payload) (sym here.texts)) in
       let message : x.message ≡ y.message =
       c.0.1 ∙ ap (λ (zs : List (List ℕ)). line (has_psk p) r ts zs x.payload) here.texts ∙ ap (line (has_psk p) r ts y.carried) payload ∙ sym d.0.1 in
       let one : x ≡ y = message-same x y message here.texts payload in
-      let behind : behind_line (has_psk p) r ts x.carried x.payload ≡ behind_line (has_psk p) r ts y.carried y.payload =
-      ap (λ (z : HandshakeMessage). behind_line (has_psk p) r ts z.carried z.payload) one in
+      let after : after_line (has_psk p) r ts x.carried x.payload ≡ after_line (has_psk p) r ts y.carried y.payload =
+      ap (λ (z : HandshakeMessage). after_line (has_psk p) r ts z.carried z.payload) one in
       cons-same x y xs ys one
-      (all-agree p (n + 1) (known_behind_all mine ka ts x.carried) (known_behind_all (not mine) kb ts y.carried) (drop (count_by is_psk ts) secrets)
-      (behind_line (has_psk p) r ts x.carried x.payload) xs ys
+      (all-agree p (n + 1) (known_after_all mine ka ts x.carried) (known_after_all (not mine) kb ts y.carried) (drop (count_by is_psk ts) secrets)
+      (after_line (has_psk p) r ts x.carried x.payload) xs ys
       here.left here.right u.1 turned.1 m.1 k.1 c.1
-      (subst (λ (s : History). AreLines p (n + 1) s ys) (sym behind) d.1)
-      (subst (λ (s : History). AllAlike p (n + 1) (behind_line (has_psk p) r ts x.carried x.payload) s xs ys) (sym behind) h.1))
+      (subst (λ (s : History). AreLines p (n + 1) s ys) (sym after) d.1)
+      (subst (λ (s : History). AllAlike p (n + 1) (after_line (has_psk p) r ts x.carried x.payload) s xs ys) (sym after) h.1))

@@ -28,11 +28,11 @@ pub same-or : (xs ys : List ℕ) → (xs ≡ ys) ⊎ (xs ≢ ys)
 same-or [] [] = inl refl
 same-or [] (y ∷ ys) = inr (λ e. cc)
 same-or (x ∷ xs) [] = inr (λ e. cc)
-same-or (x ∷ xs) (y ∷ ys) = elim (eqb_tells x y) [ inl h ↦ behind h.1 (same-or xs ys) | inr h ↦ inr (λ e. h.1 (heads x y xs ys e)) ]
+same-or (x ∷ xs) (y ∷ ys) = elim (eqb_tells x y) [ inl h ↦ after h.1 (same-or xs ys) | inr h ↦ inr (λ e. h.1 (heads x y xs ys e)) ]
   where
-    behind : x ≡ y → (xs ≡ ys) ⊎ (xs ≢ ys) → ((x ∷ xs) ≡ (y ∷ ys)) ⊎ ((x ∷ xs) ≢ (y ∷ ys))
-    behind e (inl f) = inl (cons-same x y xs ys e f)
-    behind e (inr f) = inr (λ g. f (tails x y xs ys g))
+    after : x ≡ y → (xs ≡ ys) ⊎ (xs ≢ ys) → ((x ∷ xs) ≡ (y ∷ ys)) ⊎ ((x ∷ xs) ≢ (y ∷ ys))
+    after e (inl f) = inl (cons-same x y xs ys e f)
+    after e (inr f) = inr (λ g. f (tails x y xs ys g))
 
 abbrev pub chained : List ℕ → List (List ℕ) → List ℕ
 chained start [] = start

@@ -7,19 +7,19 @@ use Rattle.noise_names.specs.declared.token.Token.TheVariants.{E, S, Ee, Es, Se,
 use Rattle.noise_names.specs.Tokens.{is_psk}
 use Rattle.noise_names.specs.Plan.{Plan, has_psk, pre_of}
 use Rattle.noise_names.specs.Names.{name_bytes}
-use Rattle.noise_state.specs.History.{History, Mix, and_then, cipher_key, piece}
+use Rattle.noise_state.specs.History.{History, MixHash, and_then, cipher_key, piece}
 use Rattle.noise_state.specs.Pieces.{length-piece, piece-same}
-use Rattle.noise_handshake.specs.Line.{token_piece, behind_token, front, behind_front, behind_line}
+use Rattle.noise_handshake.specs.Line.{token_piece, after_token, front, after_front, after_line}
 use Rattle.noise_handshake.specs.Length.{Carry, Carries}
-use Rattle.noise_handshake.specs.View.{View, secrets_behind, tokens_at, with_premessage}
-use Rattle.noise_handshake.specs.Party.{behind_own, behind_message}
+use Rattle.noise_handshake.specs.View.{View, secrets_after, tokens_at, with_premessage}
+use Rattle.noise_handshake.specs.Party.{after_own, after_message}
 use Rattle.noise_handshake.specs.Setup.{public_keys}
 use Rattle.noise_duel.proofs.Chain.{split-apart}
 use Rattle.noise_duel.specs.Below.{LawsBelow}
 use Rattle.noise_duel.specs.Messages.{HandshakeMessage, Exchanged, begun_as, answers, answers_from, messages_of}
 use Rattle.noise_duel.specs.Messages.Exchanged.{none, wrote, took}
 use Rattle.noise_duel.specs.Agreement.{VisiblyEqualIsOne}
-use Rattle.noise_duel.proofs.HashedMessages.{behind_all, AreLines, passes-lines}
+use Rattle.noise_duel.proofs.HashedMessages.{after_all, AreLines, passes-lines}
 use Rattle.noise_duel.proofs.Forward.{SecretAt, SecretsFit, UseSecrets, passes-secrets, message-same, pre-same}
 
 heads : {X : Type 0} (x y : X) (xs ys : List X) → (x ∷ xs) ≡ (y ∷ ys) → x ≡ y
@@ -39,9 +39,9 @@ AllCarry p n (m ∷ ms) = Carry (tokens_at p.messages n) m.carried × AllCarry p
 pub passes-carry : LawsBelow → (v w : View) (ps : List HandshakeMessage) → Exchanged v ps w → AllCarry v.pattern v.passed ps
 passes-carry laws v w [] (none _) = tt
 passes-carry laws v w (p ∷ ps) (wrote _ _ _ _ here more) =
-    (laws.written_carries v p.payload p.message p.carried here, passes-carry laws (behind_own v p.carried p.payload) w ps more)
+    (laws.written_carries v p.payload p.message p.carried here, passes-carry laws (after_own v p.carried p.payload) w ps more)
 passes-carry laws v w (p ∷ ps) (took _ _ _ _ here more) =
-    (laws.accepted_carries v p.payload p.message p.carried here, passes-carry laws (behind_message v p.carried p.payload) w ps more)
+    (laws.accepted_carries v p.payload p.message p.carried here, passes-carry laws (after_message v p.carried p.payload) w ps more)
 
 token-equal : (r : History) (secrets : List (List ℕ)) (t : Token) (ts : List Token) (x y p q : List ℕ) (xs ys others rest : List (List ℕ)) → Carries t x
     → Carries t y
@@ -69,12 +69,12 @@ front-equal psks r secrets [] (x ∷ xs) ys p q others rest c d f g h e = absurd
 front-equal psks r secrets (t ∷ ts) [] ys p q others rest c d f g h e = absurd c
 front-equal psks r secrets (t ∷ ts) (x ∷ xs) [] p q others rest c d f g h e = absurd d
 front-equal psks r secrets (t ∷ ts) (x ∷ xs) (y ∷ ys) p q others rest c d f g h e =
-    let a : List ℕ = front psks (behind_token psks r t x) ts xs in
-    let b : List ℕ = front psks (behind_token psks r t y) ts ys in
+    let a : List ℕ = front psks (after_token psks r t x) ts xs in
+    let b : List ℕ = front psks (after_token psks r t y) ts ys in
     let here = token-equal r secrets t ts x y (a ++ p) (b ++ q) xs ys others rest c.0 d.0 f.0 g.0 h
     (sym (append_assoc (token_piece r t x) a p) ∙ e ∙ append_assoc (token_piece r t y) b q) in
-    let later = front-equal psks (behind_token psks r t x) (secrets_behind secrets t) ts xs ys p q others rest c.1 d.1 f.1 g.1 here.2
-    (here.1 ∙ ap (λ (z : List ℕ). front psks (behind_token psks r t z) ts ys ++ q) (sym here.0)) in
+    let later = front-equal psks (after_token psks r t x) (secrets_after secrets t) ts xs ys p q others rest c.1 d.1 f.1 g.1 here.2
+    (here.1 ∙ ap (λ (z : List ℕ). front psks (after_token psks r t z) ts ys ++ q) (sym here.0)) in
     (cons-same x y xs ys here.0 later.0, later.1, later.2)
 
 all-equal : (p : Plan) (n : ℕ) (r : History) (secrets : List (List ℕ)) (ps qs : List HandshakeMessage) → messages_of ps ≡ messages_of qs → AllCarry p n ps
@@ -86,32 +86,32 @@ all-equal p n r secrets (m ∷ ms) [] a k l b c f g h = cc
 all-equal p n r secrets (m ∷ ms) (q ∷ qs) a k l b c f g h =
     let ts : List Token = tokens_at p.messages n in
     let bytes : m.message ≡ q.message = heads m.message q.message (messages_of ms) (messages_of qs) a in
-    let here = front-equal (has_psk p) r secrets ts m.carried q.carried (piece (behind_front (has_psk p) r ts m.carried) m.payload)
-    (piece (behind_front (has_psk p) r ts q.carried) q.payload)
+    let here = front-equal (has_psk p) r secrets ts m.carried q.carried (piece (after_front (has_psk p) r ts m.carried) m.payload)
+    (piece (after_front (has_psk p) r ts q.carried) q.payload)
     (answers_from p (n + 1) ms) (answers_from p (n + 1) qs) k.0 l.0 f.0 g.0 h (sym b.0.1 ∙ bytes ∙ c.0.1) in
     let payload : m.payload ≡ q.payload =
-    piece-same (behind_front (has_psk p) r ts m.carried) m.payload q.payload
-    (here.1 ∙ ap (λ (zs : List (List ℕ)). piece (behind_front (has_psk p) r ts zs) q.payload) (sym here.0)) in
+    piece-same (after_front (has_psk p) r ts m.carried) m.payload q.payload
+    (here.1 ∙ ap (λ (zs : List (List ℕ)). piece (after_front (has_psk p) r ts zs) q.payload) (sym here.0)) in
     let one : m ≡ q = message-same m q bytes here.0 payload in
-    let behind : behind_line (has_psk p) r ts m.carried m.payload ≡ behind_line (has_psk p) r ts q.carried q.payload =
-    ap (λ (z : HandshakeMessage). behind_line (has_psk p) r ts z.carried z.payload) one in
+    let after : after_line (has_psk p) r ts m.carried m.payload ≡ after_line (has_psk p) r ts q.carried q.payload =
+    ap (λ (z : HandshakeMessage). after_line (has_psk p) r ts z.carried z.payload) one in
     cons-same m q ms qs one
-    (all-equal p (n + 1) (behind_line (has_psk p) r ts m.carried m.payload) (drop (count_by is_psk ts) secrets) ms qs
+    (all-equal p (n + 1) (after_line (has_psk p) r ts m.carried m.payload) (drop (count_by is_psk ts) secrets) ms qs
     (tails m.message q.message (messages_of ms) (messages_of qs) a) k.1 l.1 b.1
-    (subst (λ (s : History). AreLines p (n + 1) s qs) (sym behind) c.1) f.1 g.1 here.2)
+    (subst (λ (s : History). AreLines p (n + 1) s qs) (sym after) c.1) f.1 g.1 here.2)
 
 pub visibly-equal-is-one : LawsBelow → VisiblyEqualIsOne
 visibly-equal-is-one laws p a b ps qs v w left right prologue before messages secrets answered =
     let name : List ℕ = name_bytes (record { base = p.base; places = p.places }) in
     let r0 : History = (begun_as p Initiator a).history in
     let s0 : History = (begun_as p Responder b).history in
-    let r : History = and_then (record { name = name; entries = [] }) (Mix a.prologue) in
-    let s : History = and_then (record { name = name; entries = [] }) (Mix b.prologue) in
+    let r : History = and_then (record { name = name; entries = [] }) (MixHash a.prologue) in
+    let s : History = and_then (record { name = name; entries = [] }) (MixHash b.prologue) in
     let first : r0 ≡ s0 =
     pre-same (has_psk p) a.remote (public_keys b.own) (pre_of Responder p) (with_premessage (has_psk p) (public_keys a.own) (pre_of Initiator p) r)
     (with_premessage (has_psk p) b.remote (pre_of Initiator p) s)
     (pre-same (has_psk p) (public_keys a.own) b.remote (pre_of Initiator p) r s
-    (ap (λ (z : List ℕ). and_then (record { name = name; entries = [] }) (Mix z)) prologue) (before Initiator)) (before Responder) in
+    (ap (λ (z : List ℕ). and_then (record { name = name; entries = [] }) (MixHash z)) prologue) (before Initiator)) (before Responder) in
     let l = passes-lines (begun_as p Initiator a) v ps left in
     let m = passes-lines (begun_as p Responder b) w qs right in
     let one : ps ≡ qs = all-equal p 0 r0 a.secrets ps qs messages
@@ -119,4 +119,4 @@ visibly-equal-is-one laws p a b ps qs v w left right prologue before messages se
     (subst (λ (z : History). AreLines p 0 z qs) (sym first) m.lines)
     (passes-secrets (begun_as p Initiator a) v ps left)
     (subst (λ (z : List (List ℕ)). UseSecrets p 0 z qs) (sym secrets) (passes-secrets (begun_as p Responder b) w qs right)) answered in
-    (one, l.history ∙ ap (λ (z : History). behind_all p 0 z ps) first ∙ ap (behind_all p 0 s0) one ∙ sym m.history)
+    (one, l.history ∙ ap (λ (z : History). after_all p 0 z ps) first ∙ ap (after_all p 0 s0) one ∙ sym m.history)

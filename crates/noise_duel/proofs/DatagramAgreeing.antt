@@ -252,7 +252,7 @@ datagram-runs-agree v w events notes last b run =
       back = arrive r Responder last.responder.sealed last.initiator.opened h.responder.comes.sealed h.initiator.comes.opened h.initiator.once;
     }
 
--- ---- behind a run over frames
+-- ---- after a run over frames
 pub runs-make-one-beginning : RunsMakeOneBeginning
 runs-make-one-beginning p a b i j events notes d window run one =
     let both = ends-stand p a b i j events notes d run in

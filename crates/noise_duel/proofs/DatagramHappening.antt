@@ -191,14 +191,14 @@ nothing-yet d events duel sealed report p k empty = record {
 }
 
 pub one-more : (d : DatagramSides) (events rest more : List DatagramEvent) (event : DatagramEvent) (told : Role × DatagramEntry)
-    (duel next : HeldDatagramDuel) (sealed after : SealedDatagrams) (report behind : DatagramReport) → rest ≡ event ∷ more
-    → behind.entries.items ≡ report.entries.items ++ told ∷ []
+    (duel next : HeldDatagramDuel) (sealed after : SealedDatagrams) (report beyond : DatagramReport) → rest ≡ event ∷ more
+    → beyond.entries.items ≡ report.entries.items ++ told ∷ []
     → (h : DatagramsHaveComeTo d events rest duel sealed report) → DatagramHappened h.now event told next after
-    → DatagramsHaveComeTo d events more next after behind
-one-more d events rest more event told duel next sealed after report behind is pushed h t =
+    → DatagramsHaveComeTo d events more next after beyond
+one-more d events rest more event told duel next sealed after report beyond is pushed h t =
     let note : Role × DatagramNote = (told.0, datagram_note_of told.1) in
     let notes_now = datagram_notes_of report.entries.items in
-    let told_more : datagram_notes_of behind.entries.items ≡ notes_now ++ note ∷ [] =
+    let told_more : datagram_notes_of beyond.entries.items ≡ notes_now ++ note ∷ [] =
     ap datagram_notes_of pushed ∙ map-append (λ (e : Role × DatagramEntry). (e.0, datagram_note_of e.1)) report.entries.items (told ∷ []) in
     record {
       now = t.next;

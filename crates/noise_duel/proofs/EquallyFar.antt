@@ -13,11 +13,11 @@ use Rattle.noise_state.specs.History.{History, cipher_key}
 use Rattle.noise_keys.specs.declared.keys.Own.{Own}
 use Rattle.noise_handshake.specs.declared.remote.Remote.{Remote}
 use Rattle.noise_handshake.specs.Length.{Carry}
-use Rattle.noise_handshake.specs.Line.{line, behind_line}
+use Rattle.noise_handshake.specs.Line.{line, after_line}
 use Rattle.noise_handshake.specs.Passed.{passed_places}
 use Rattle.noise_handshake.specs.View.{View, Speaks, tokens_at, tokens_now}
 use Rattle.noise_handshake.specs.Writing.{Given, writer}
-use Rattle.noise_handshake.specs.Party.{behind_own, behind_message}
+use Rattle.noise_handshake.specs.Party.{after_own, after_message}
 use Rattle.noise_handshake.specs.Setup.{token_of}
 use Rattle.noise_handshake.specs.Counterparts.{Counterparts, counterpart, IsEquipped, shown_after}
 use Rattle.noise_duel.specs.Below.{LawsBelow}
@@ -65,8 +65,8 @@ due_of w v payload = record {
   payload = payload;
 }
 
-abbrev pub behind_due : KeyMaterial → View → List ℕ → History
-behind_due w v payload = behind_line (has_psk v.pattern) v.history (tokens_now v) (carried_by w (turn_from Initiator v.passed) v.secrets (tokens_now v)) payload
+abbrev pub after_due : KeyMaterial → View → List ℕ → History
+after_due w v payload = after_line (has_psk v.pattern) v.history (tokens_now v) (carried_by w (turn_from Initiator v.passed) v.secrets (tokens_now v)) payload
 
 -- what a line leaves
 pub record AfterLine (w : KeyMaterial) (n : ℕ) (role : Role) (payload : List ℕ) (d e : Sides) : Type 0 where
@@ -79,7 +79,7 @@ pub record InHandshake (w : KeyMaterial) (payload : List ℕ) (d e : Sides) : Ty
   pub pattern : e.initiator.view.party.pattern ≡ d.initiator.view.party.pattern
   pub count : e.initiator.view.party.passed ≡ d.initiator.view.party.passed + 1
   pub secrets : e.initiator.view.party.secrets ≡ drop (count_by is_psk (tokens_now d.initiator.view.party)) d.initiator.view.party.secrets
-  pub history : e.initiator.view.party.history ≡ behind_due w d.initiator.view.party payload
+  pub history : e.initiator.view.party.history ≡ after_due w d.initiator.view.party payload
   pub passed : e.initiator.passed ≡ d.initiator.passed ++ due_of w d.initiator.view.party payload ∷ []
   pub sent : e.initiator.view.sent ≡ d.initiator.view.sent
   pub sent_there : e.responder.view.sent ≡ d.responder.view.sent
@@ -149,7 +149,7 @@ module _ (laws : LawsBelow) (w : KeyMaterial) (long : (role : Role) (k : Own) �
   -- a line of the handshake
   pub record HandshakeLine (n : ℕ) (role : Role) (payload : List ℕ) (d e : Sides) (notes : List (Role × Note)) : Type 0 where
     pub noted : notes ≡ (role, Wrote (length (side d role).frames)) ∷ (other role, Judged (Payload payload)) ∷ []
-    pub after_line : AfterLine w n role payload d e
+    pub past_line : AfterLine w n role payload d e
     pub handshake : InHandshake w payload d e
 
   pub handshake-at : (n : ℕ) (role : Role) (payload : List ℕ) (d : Sides) → EquallyFar w n d → n < length d.initiator.view.party.pattern.messages
@@ -240,13 +240,13 @@ module _ (laws : LawsBelow) (w : KeyMaterial) (long : (role : Role) (k : Own) �
       } in
       let same : m ≡ due_of w v payload =
       message-same payload sp.message xs (carried_by w (turn_from Initiator v.passed) v.secrets (tokens_now v)) v is sp.writes.spelled in
-      let after_line : AfterLine w n Initiator payload d after =
+      let past_line : AfterLine w n Initiator payload d after =
       record { frames = length-append s.frames (frame sp.message ∷ []); others = refl; interval = refl; equally_far = equally_far } in
       let handshake : InHandshake w payload d after = record {
         pattern = refl;
         count = refl;
         secrets = refl;
-        history = ap (λ (zs : List (List ℕ)). behind_line (has_psk p) v.history (tokens_now v) zs payload) is;
+        history = ap (λ (zs : List (List ℕ)). after_line (has_psk p) v.history (tokens_now v) zs payload) is;
         passed = ap (λ (z : HandshakeMessage). s.passed ++ z ∷ []) same;
         sent = refl;
         sent_there = refl;
@@ -257,7 +257,7 @@ module _ (laws : LawsBelow) (w : KeyMaterial) (long : (role : Role) (k : Own) �
       } in
       record {
         noted = out.0;
-        after_line = subst (λ (z : Sides). AfterLine w n Initiator payload d z) (sym out.1) after_line;
+        past_line = subst (λ (z : Sides). AfterLine w n Initiator payload d z) (sym out.1) past_line;
         handshake = subst (λ (z : Sides). InHandshake w payload d z) (sym out.1) handshake;
       }
   handshake-line n Responder payload d e notes a more turn room does =
@@ -290,7 +290,7 @@ module _ (laws : LawsBelow) (w : KeyMaterial) (long : (role : Role) (k : Own) �
       let equally_far : EquallyFar w (n + 1) after = record {
         valid = a.valid;
         role = a.role;
-        counterparts = laws.turned (behind_own u xs payload) (behind_message v xs payload) sp.counterparts;
+        counterparts = laws.turned (after_own u xs payload) (after_message v xs payload) sp.counterparts;
         mine = a.mine;
         theirs = a.theirs;
         keyed = laws.keyed_next p v.passed v.history xs payload due carry a.keyed;
@@ -309,13 +309,13 @@ module _ (laws : LawsBelow) (w : KeyMaterial) (long : (role : Role) (k : Own) �
       } in
       let same : m ≡ due_of w v payload =
       message-same payload sp.message xs (carried_by w (turn_from Initiator v.passed) v.secrets (tokens_now v)) v is sp.accepts.reads.spelled in
-      let after_line : AfterLine w n Responder payload d after =
+      let past_line : AfterLine w n Responder payload d after =
       record { frames = length-append s.frames (frame sp.message ∷ []); others = refl; interval = refl; equally_far = equally_far } in
       let handshake : InHandshake w payload d after = record {
         pattern = refl;
         count = refl;
         secrets = refl;
-        history = ap (λ (zs : List (List ℕ)). behind_line (has_psk p) v.history (tokens_now v) zs payload) is;
+        history = ap (λ (zs : List (List ℕ)). after_line (has_psk p) v.history (tokens_now v) zs payload) is;
         passed = ap (λ (z : HandshakeMessage). t.passed ++ z ∷ []) same;
         sent = refl;
         sent_there = refl;
@@ -326,7 +326,7 @@ module _ (laws : LawsBelow) (w : KeyMaterial) (long : (role : Role) (k : Own) �
       } in
       record {
         noted = out.0;
-        after_line = subst (λ (z : Sides). AfterLine w n Responder payload d z) (sym out.1) after_line;
+        past_line = subst (λ (z : Sides). AfterLine w n Responder payload d z) (sym out.1) past_line;
         handshake = subst (λ (z : Sides). InHandshake w payload d z) (sym out.1) handshake;
       }
 
@@ -338,7 +338,7 @@ transport_message message payload = record { message = message; payload = payloa
 module _ (w : KeyMaterial) where
   pub record TransportLine (n : ℕ) (role : Role) (payload : List ℕ) (d e : Sides) (notes : List (Role × Note)) : Type 0 where
     pub noted : notes ≡ (role, Wrote (length (side d role).frames)) ∷ (other role, Judged (Payload payload)) ∷ []
-    pub after_line : AfterLine w n role payload d e
+    pub past_line : AfterLine w n role payload d e
     pub transport : InTransport role payload d e
 
   pub transport-at : (n : ℕ) (role : Role) (payload : List ℕ) (d : Sides) → EquallyFar w n d → length d.initiator.view.party.pattern.messages ≤ n
@@ -418,7 +418,7 @@ module _ (w : KeyMaterial) where
       } in
       record {
         noted = out.0;
-        after_line = subst (λ (z : Sides). AfterLine w n Initiator payload d z) (sym out.1)
+        past_line = subst (λ (z : Sides). AfterLine w n Initiator payload d z) (sym out.1)
             (record { frames = length-append s.frames (frame sp.message ∷ []); others = refl; interval = refl; equally_far = equally_far });
         transport = subst (λ (z : Sides). InTransport Initiator payload d z) (sym out.1) (record {
           party = refl;
@@ -464,7 +464,7 @@ module _ (w : KeyMaterial) where
       } in
       record {
         noted = out.0;
-        after_line = subst (λ (z : Sides). AfterLine w n Responder payload d z) (sym out.1)
+        past_line = subst (λ (z : Sides). AfterLine w n Responder payload d z) (sym out.1)
             (record { frames = length-append s.frames (frame sp.message ∷ []); others = refl; interval = refl; equally_far = equally_far });
         transport = subst (λ (z : Sides). InTransport Responder payload d z) (sym out.1) (record {
           party = refl;

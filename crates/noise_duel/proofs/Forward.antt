@@ -7,21 +7,21 @@ use Rattle.noise_names.specs.declared.token.Token.TheVariants.{E, S, Ee, Es, Se,
 use Rattle.noise_names.specs.Tokens.{is_psk}
 use Rattle.noise_names.specs.Plan.{Plan, has_psk, pre_of}
 use Rattle.noise_names.specs.Names.{name_bytes}
-use Rattle.noise_state.specs.History.{History, Mix, and_then, piece}
+use Rattle.noise_state.specs.History.{History, MixHash, and_then, piece}
 use Rattle.noise_state.specs.Pieces.{piece-same}
 use Rattle.noise_handshake.specs.declared.remote.Remote.{Remote}
-use Rattle.noise_handshake.specs.Line.{token_piece, behind_token, behind_front, line, behind_line, with_ephemeral}
-use Rattle.noise_handshake.specs.View.{View, Reader, Fit, Fits, reader, known_behind, secrets_behind, first_secret, tokens_at, tokens_now, with_premessage}
+use Rattle.noise_handshake.specs.Line.{token_piece, after_token, after_front, line, after_line, with_ephemeral}
+use Rattle.noise_handshake.specs.View.{View, Reader, Fit, Fits, reader, known_after, secrets_after, first_secret, tokens_at, tokens_now, with_premessage}
 use Rattle.noise_handshake.specs.View.{start}
 use Rattle.noise_handshake.specs.Writing.{Writer, Given, Gives, writer}
-use Rattle.noise_handshake.specs.Party.{behind_own, behind_message}
+use Rattle.noise_handshake.specs.Party.{after_own, after_message}
 use Rattle.noise_handshake.specs.Setup.{public_keys}
 use Rattle.noise_duel.specs.Collision.{hashed}
 use Rattle.noise_duel.specs.Messages.{HandshakeMessage, Exchanged, begun_as, answers, answers_from, pre_keys}
 use Rattle.noise_duel.specs.Messages.Exchanged.{none, wrote, took}
 use Rattle.noise_duel.specs.Agreement.{SecretsTell}
 use Rattle.noise_duel.proofs.HashedTexts.{Alike, pre-back}
-use Rattle.noise_duel.proofs.HashedMessages.{behind_all, AreLines, AllAlike, passes-lines}
+use Rattle.noise_duel.proofs.HashedMessages.{after_all, AreLines, AllAlike, passes-lines}
 use Rattle.noise_duel.proofs.HashTells.{SameBytes, bytes-or}
 
 heads : {X : Type 0} (x y : X) (xs ys : List X) → (x ∷ xs) ≡ (y ∷ ys) → x ≡ y
@@ -43,7 +43,7 @@ SecretAt secrets _ x = Unit {0}
 abbrev pub SecretsFit : List (List ℕ) → List Token → List (List ℕ) → Type 0
 SecretsFit secrets [] xs = Unit {0}
 SecretsFit secrets (t ∷ ts) [] = Unit {0}
-SecretsFit secrets (t ∷ ts) (x ∷ xs) = SecretAt secrets t x × SecretsFit (secrets_behind secrets t) ts xs
+SecretsFit secrets (t ∷ ts) (x ∷ xs) = SecretAt secrets t x × SecretsFit (secrets_after secrets t) ts xs
 
 abbrev pub UseSecrets : Plan → ℕ → List (List ℕ) → List HandshakeMessage → Type 0
 UseSecrets p n secrets [] = Unit {0}
@@ -63,20 +63,20 @@ fit-secrets : (v : Reader) (known : Remote) (secrets : List (List ℕ)) (ts : Li
 fit-secrets v known secrets [] xs h = tt
 fit-secrets v known secrets (t ∷ ts) [] h = tt
 fit-secrets v known secrets (t ∷ ts) (x ∷ xs) h =
-    (fits-secret v known secrets t x h.0, fit-secrets v (known_behind known t x) (secrets_behind secrets t) ts xs h.1)
+    (fits-secret v known secrets t x h.0, fit-secrets v (known_after known t x) (secrets_after secrets t) ts xs h.1)
 
 given-secrets : (w : Writer) (known : Remote) (secrets : List (List ℕ)) (ts : List Token) (xs : List (List ℕ)) → Given w known secrets ts xs
     → SecretsFit secrets ts xs
 given-secrets w known secrets [] xs h = tt
 given-secrets w known secrets (t ∷ ts) [] h = tt
-given-secrets w known secrets (t ∷ ts) (x ∷ xs) h = (gives-secret w known secrets t x h.0, given-secrets w known (secrets_behind secrets t) ts xs h.1)
+given-secrets w known secrets (t ∷ ts) (x ∷ xs) h = (gives-secret w known secrets t x h.0, given-secrets w known (secrets_after secrets t) ts xs h.1)
 
 pub passes-secrets : (v w : View) (ps : List HandshakeMessage) → Exchanged v ps w → UseSecrets v.pattern v.passed v.secrets ps
 passes-secrets v w [] (none _) = tt
 passes-secrets v w (p ∷ ps) (wrote _ _ _ _ here more) =
-    (given-secrets (writer v) v.remote v.secrets (tokens_now v) p.carried here.given, passes-secrets (behind_own v p.carried p.payload) w ps more)
+    (given-secrets (writer v) v.remote v.secrets (tokens_now v) p.carried here.given, passes-secrets (after_own v p.carried p.payload) w ps more)
 passes-secrets v w (p ∷ ps) (took _ _ _ _ here more) =
-    (fit-secrets (reader v) v.remote v.secrets (tokens_now v) p.carried here.reads.fit, passes-secrets (behind_message v p.carried p.payload) w ps more)
+    (fit-secrets (reader v) v.remote v.secrets (tokens_now v) p.carried here.reads.fit, passes-secrets (after_message v p.carried p.payload) w ps more)
 
 -- ---- forward along a message
 
@@ -103,8 +103,8 @@ module _ (psks : Bool) where
   front-on r secrets (t ∷ ts) (x ∷ xs) [] others rest a f g h = absurd a
   front-on r secrets (t ∷ ts) (x ∷ xs) (y ∷ ys) others rest a f g h =
       let here = token-on r secrets t ts x y xs ys others rest a.0 f.0 g.0 h in
-      let later = front-on (behind_token psks r t x) (secrets_behind secrets t) ts xs ys others rest
-      (subst (λ (z : List ℕ). Alike psks (behind_token psks r t x) (behind_token psks r t z) ts xs ys) (sym here.0) a.1) f.1 g.1 here.1 in
+      let later = front-on (after_token psks r t x) (secrets_after secrets t) ts xs ys others rest
+      (subst (λ (z : List ℕ). Alike psks (after_token psks r t x) (after_token psks r t z) ts xs ys) (sym here.0) a.1) f.1 g.1 here.1 in
       (cons-same x y xs ys here.0 later.0, later.1)
 
 pub message-same : (m q : HandshakeMessage) → m.message ≡ q.message → m.carried ≡ q.carried → m.payload ≡ q.payload → m ≡ q
@@ -123,16 +123,16 @@ all-on p n r secrets (m ∷ ms) (q ∷ qs) a b c f g h =
     let ts : List Token = tokens_at p.messages n in
     let here = front-on (has_psk p) r secrets ts m.carried q.carried (answers_from p (n + 1) ms) (answers_from p (n + 1) qs) a.0.0 f.0 g.0 h in
     let payload : m.payload ≡ q.payload =
-    piece-same (behind_front (has_psk p) r ts m.carried) m.payload q.payload
-    (a.0.1 ∙ ap (λ (zs : List (List ℕ)). piece (behind_front (has_psk p) r ts zs) q.payload) (sym here.0)) in
+    piece-same (after_front (has_psk p) r ts m.carried) m.payload q.payload
+    (a.0.1 ∙ ap (λ (zs : List (List ℕ)). piece (after_front (has_psk p) r ts zs) q.payload) (sym here.0)) in
     let message : m.message ≡ q.message =
     b.0.1 ∙ ap (λ (zs : List (List ℕ)). line (has_psk p) r ts zs m.payload) here.0 ∙ ap (line (has_psk p) r ts q.carried) payload ∙ sym c.0.1 in
     let one : m ≡ q = message-same m q message here.0 payload in
-    let behind : behind_line (has_psk p) r ts m.carried m.payload ≡ behind_line (has_psk p) r ts q.carried q.payload =
-    ap (λ (z : HandshakeMessage). behind_line (has_psk p) r ts z.carried z.payload) one in
-    let later = all-on p (n + 1) (behind_line (has_psk p) r ts m.carried m.payload) (drop (count_by is_psk ts) secrets) ms qs
-    (subst (λ (s : History). AllAlike p (n + 1) (behind_line (has_psk p) r ts m.carried m.payload) s ms qs) (sym behind) a.1) b.1
-    (subst (λ (s : History). AreLines p (n + 1) s qs) (sym behind) c.1) f.1 g.1 here.1 in
+    let after : after_line (has_psk p) r ts m.carried m.payload ≡ after_line (has_psk p) r ts q.carried q.payload =
+    ap (λ (z : HandshakeMessage). after_line (has_psk p) r ts z.carried z.payload) one in
+    let later = all-on p (n + 1) (after_line (has_psk p) r ts m.carried m.payload) (drop (count_by is_psk ts) secrets) ms qs
+    (subst (λ (s : History). AllAlike p (n + 1) (after_line (has_psk p) r ts m.carried m.payload) s ms qs) (sym after) a.1) b.1
+    (subst (λ (s : History). AreLines p (n + 1) s qs) (sym after) c.1) f.1 g.1 here.1 in
     cons-same m q ms qs one later
 
 -- ---- the start
@@ -150,20 +150,20 @@ pre-same psks k l (S ∷ ts) r s e f =
     let x : List ℕ = unwrap_or k.s [] in
     let y : List ℕ = unwrap_or l.s [] in
     let same : x ≡ y = heads x y (pre_keys k ts) (pre_keys l ts) f in
-    pre-same psks k l ts (and_then r (Mix x)) (and_then s (Mix y))
-    (ap (λ (h : History). and_then h (Mix x)) e ∙ ap (λ (z : List ℕ). and_then s (Mix z)) same) (tails x y (pre_keys k ts) (pre_keys l ts) f)
+    pre-same psks k l ts (and_then r (MixHash x)) (and_then s (MixHash y))
+    (ap (λ (h : History). and_then h (MixHash x)) e ∙ ap (λ (z : List ℕ). and_then s (MixHash z)) same) (tails x y (pre_keys k ts) (pre_keys l ts) f)
 pre-same psks k l (_ ∷ ts) r s e f = pre-same psks k l ts r s e f
 
 pub starts-same : (name : List ℕ) (p : Plan) (a b : List ℕ) (i j k l : Remote) → hashed (start name p a i j) ≡ hashed (start name p b k l)
     → start name p a i j ≡ start name p b k l
 starts-same name p a b i j k l e =
-    let r : History = and_then (record { name = name; entries = [] }) (Mix a) in
-    let s : History = and_then (record { name = name; entries = [] }) (Mix b) in
+    let r : History = and_then (record { name = name; entries = [] }) (MixHash a) in
+    let s : History = and_then (record { name = name; entries = [] }) (MixHash b) in
     let later = pre-back (has_psk p) (with_premessage (has_psk p) i (pre_of Initiator p) r) (with_premessage (has_psk p) k (pre_of Initiator p) s) j l
     (pre_of Responder p) e in
     let here = pre-back (has_psk p) r s i k (pre_of Initiator p) later.0 in
     let prologue : a ≡ b = heads a b [] [] here.0 in
-    let first : r ≡ s = ap (λ (z : List ℕ). and_then (record { name = name; entries = [] }) (Mix z)) prologue in
+    let first : r ≡ s = ap (λ (z : List ℕ). and_then (record { name = name; entries = [] }) (MixHash z)) prologue in
     pre-same (has_psk p) j l (pre_of Responder p) (with_premessage (has_psk p) i (pre_of Initiator p) r) (with_premessage (has_psk p) k (pre_of Initiator p) s)
     (pre-same (has_psk p) i k (pre_of Initiator p) r s first here.1) later.1
 
@@ -184,4 +184,4 @@ secrets-tell p a b ps qs v w left right count e secrets answered =
         (subst (λ (s : History). AreLines p 0 s qs) (sym first) m.lines)
         (passes-secrets (begun_as p Initiator a) v ps left)
         (subst (λ (z : List (List ℕ)). UseSecrets p 0 z qs) (sym secrets) (passes-secrets (begun_as p Responder b) w qs right)) answered in
-        (one, l.history ∙ ap (λ (s : History). behind_all p 0 s ps) first ∙ ap (behind_all p 0 s0) one ∙ sym m.history)
+        (one, l.history ∙ ap (λ (s : History). after_all p 0 s ps) first ∙ ap (after_all p 0 s0) one ∙ sym m.history)

@@ -53,12 +53,12 @@ record Delivery (d e : Sides) (role : Role) (n : ℕ) (notes : List (Role × Not
   pub got : slice_get (side d (other role)).frames n ≡ Some bytes
   pub receives : SideReceives (side d role) bytes heard reader
   pub notes_are : notes ≡ noted_by role (heard ++ held_note (length reader.view.held))
-  pub behind : e ≡ with_side d role reader
+  pub beyond : e ≡ with_side d role reader
 
 delivery : (d e : Sides) (role : Role) (n : ℕ) (notes : List (Role × Note)) (bytes : List ℕ) → slice_get (side d (other role)).frames n ≡ Some bytes
     → Happens d (Deliver role n) notes e → Delivery d e role n notes
 delivery d e role n notes bytes there (delivers _ _ _ found heard reader got receives) =
-    record { bytes = found; heard = heard; reader = reader; got = got; receives = receives; notes_are = refl; behind = refl }
+    record { bytes = found; heard = heard; reader = reader; got = got; receives = receives; notes_are = refl; beyond = refl }
 delivery d e role n notes bytes there (misses _ _ _ none) = absurd (some-none _ bytes there none)
 
 -- a write, and the delivery of its frame to the other role, are a Say
@@ -67,14 +67,14 @@ say-of : (d e : Sides) (role : Role) (payload : List ℕ) (n : ℕ) (next : Side
 say-of d e Initiator payload n next notes w h =
     let there = wrote-there d.initiator next payload n w in
     let it = delivery (with_side d Initiator next) e Responder n notes there.0 there.1 h in
-    subst (λ (last : Sides). Happens d (Say Initiator payload) ((Initiator, Wrote n) ∷ notes) last) (sym it.behind)
+    subst (λ (last : Sides). Happens d (Say Initiator payload) ((Initiator, Wrote n) ∷ notes) last) (sym it.beyond)
     (subst (λ (ns : List (Role × Note)). Happens d (Say Initiator payload) ((Initiator, Wrote n) ∷ ns)
     (with_side (with_side d Initiator next) Responder it.reader))
     (sym it.notes_are) (says d Initiator payload it.bytes n it.heard next it.reader w it.got it.receives))
 say-of d e Responder payload n next notes w h =
     let there = wrote-there d.responder next payload n w in
     let it = delivery (with_side d Responder next) e Initiator n notes there.0 there.1 h in
-    subst (λ (last : Sides). Happens d (Say Responder payload) ((Responder, Wrote n) ∷ notes) last) (sym it.behind)
+    subst (λ (last : Sides). Happens d (Say Responder payload) ((Responder, Wrote n) ∷ notes) last) (sym it.beyond)
     (subst (λ (ns : List (Role × Note)). Happens d (Say Responder payload) ((Responder, Wrote n) ∷ ns)
     (with_side (with_side d Responder next) Initiator it.reader))
     (sym it.notes_are) (says d Responder payload it.bytes n it.heard next it.reader w it.got it.receives))

@@ -4,10 +4,10 @@ use Rattle.std.specs.Prelude.{Bool, true, false, is_some, Option, Some, None, if
 use Rattle.noise_kdf.specs.Hkdf.{second_output}
 use Rattle.noise_names.specs.declared.token.Token.{Token}
 use Rattle.noise_names.specs.declared.token.Token.TheVariants.{E, S, Ee, Es, Se, Ss, Psk}
-use Rattle.noise_state.specs.History.{History, Mix, and_then, cipher_key, chaining_key, nonce, hash, piece_under, piece}
+use Rattle.noise_state.specs.History.{History, MixHash, and_then, cipher_key, chaining_key, nonce, hash, piece_under, piece}
 use Rattle.noise_handshake.specs.declared.remote.Remote.{Remote}
-use Rattle.noise_handshake.specs.Line.{with_ephemeral, token_piece, behind_token, front, behind_front, behind_line}
-use Rattle.noise_handshake.specs.Length.{keyed_behind, keyed_behind_tokens}
+use Rattle.noise_handshake.specs.Line.{with_ephemeral, token_piece, after_token, front, after_front, after_line}
+use Rattle.noise_handshake.specs.Length.{keyed_after, keyed_after_tokens}
 use Rattle.noise_handshake.specs.View.{with_premessage}
 use Rattle.noise_duel.specs.Collision.{hashed}
 use Rattle.noise_duel.specs.Messages.{OneEach, clear_keys, pre_keys}
@@ -32,13 +32,13 @@ ephemeral-hashed : (psks : Bool) (r : History) (x : List ℕ) → hashed (with_e
 ephemeral-hashed true r x = refl
 ephemeral-hashed false r x = refl
 
-ephemeral-keyed : (psks : Bool) (r : History) (x : List ℕ) → is_some (cipher_key (with_ephemeral psks r x)) ≡ keyed_behind psks (is_some (cipher_key r)) E
+ephemeral-keyed : (psks : Bool) (r : History) (x : List ℕ) → is_some (cipher_key (with_ephemeral psks r x)) ≡ keyed_after psks (is_some (cipher_key r)) E
 ephemeral-keyed true r x = refl
 ephemeral-keyed false r x = refl
 
--- there is a key behind a token where its kind says so
+-- there is a key after a token where its kind says so
 pub token-keyed : (psks : Bool) (r : History) (t : Token) (x : List ℕ)
-    → is_some (cipher_key (behind_token psks r t x)) ≡ keyed_behind psks (is_some (cipher_key r)) t
+    → is_some (cipher_key (after_token psks r t x)) ≡ keyed_after psks (is_some (cipher_key r)) t
 token-keyed psks r E x = ephemeral-keyed psks r x
 token-keyed psks r S x = refl
 token-keyed psks r Ee x = refl
@@ -48,24 +48,24 @@ token-keyed psks r Ss x = refl
 token-keyed psks r Psk x = refl
 
 pub front-keyed : (psks : Bool) (r : History) (ts : List Token) (xs : List (List ℕ)) → OneEach ts xs
-    → is_some (cipher_key (behind_front psks r ts xs)) ≡ keyed_behind_tokens psks (is_some (cipher_key r)) ts
+    → is_some (cipher_key (after_front psks r ts xs)) ≡ keyed_after_tokens psks (is_some (cipher_key r)) ts
 front-keyed psks r [] [] h = refl
 front-keyed psks r [] (x ∷ xs) h = refl
 front-keyed psks r (t ∷ ts) [] h = absurd h
 front-keyed psks r (t ∷ ts) (x ∷ xs) h =
-    front-keyed psks (behind_token psks r t x) ts xs h ∙ ap (λ (b : Bool). keyed_behind_tokens psks b ts) (token-keyed psks r t x)
+    front-keyed psks (after_token psks r t x) ts xs h ∙ ap (λ (b : Bool). keyed_after_tokens psks b ts) (token-keyed psks r t x)
 
 module _ (psks : Bool) where
   -- each token travels as the same bytes
   abbrev pub Alike : History → History → List Token → List (List ℕ) → List (List ℕ) → Type 0
   Alike r s [] [] [] = Unit {0}
-  Alike r s (t ∷ ts) (x ∷ xs) (y ∷ ys) = (token_piece r t x ≡ token_piece s t y) × Alike (behind_token psks r t x) (behind_token psks s t y) ts xs ys
+  Alike r s (t ∷ ts) (x ∷ xs) (y ∷ ys) = (token_piece r t x ≡ token_piece s t y) × Alike (after_token psks r t x) (after_token psks s t y) ts xs ys
   Alike r s _ _ _ = ⊥
 
   -- ---- as many texts
 
   token-many : (r s : History) (t : Token) (x y : List ℕ) → length (hashed r) ≡ length (hashed s)
-      → length (hashed (behind_token psks r t x)) ≡ length (hashed (behind_token psks s t y))
+      → length (hashed (after_token psks r t x)) ≡ length (hashed (after_token psks s t y))
   token-many r s E x y n = ap length (ephemeral-hashed psks r x) ∙ omega (arith, n) ∙ sym (ap length (ephemeral-hashed psks s y))
   token-many r s S x y n = omega (arith, n)
   token-many r s Ee x y n = n
@@ -75,15 +75,15 @@ module _ (psks : Bool) where
   token-many r s Psk x y n = omega (arith, n)
 
   front-many : (r s : History) (ts : List Token) (xs ys : List (List ℕ)) → OneEach ts xs → OneEach ts ys → length (hashed r) ≡ length (hashed s)
-      → length (hashed (behind_front psks r ts xs)) ≡ length (hashed (behind_front psks s ts ys))
+      → length (hashed (after_front psks r ts xs)) ≡ length (hashed (after_front psks s ts ys))
   front-many r s [] xs ys f g n = n
   front-many r s (t ∷ ts) [] ys f g n = absurd f
   front-many r s (t ∷ ts) (x ∷ xs) [] f g n = absurd g
-  front-many r s (t ∷ ts) (x ∷ xs) (y ∷ ys) f g n = front-many (behind_token psks r t x) (behind_token psks s t y) ts xs ys f g (token-many r s t x y n)
+  front-many r s (t ∷ ts) (x ∷ xs) (y ∷ ys) f g n = front-many (after_token psks r t x) (after_token psks s t y) ts xs ys f g (token-many r s t x y n)
 
   pub line-many : (r s : History) (ts : List Token) (xs ys : List (List ℕ)) (p q : List ℕ) → OneEach ts xs → OneEach ts ys
       → length (hashed r) ≡ length (hashed s)
-      → length (hashed (behind_line psks r ts xs p)) ≡ length (hashed (behind_line psks s ts ys q))
+      → length (hashed (after_line psks r ts xs p)) ≡ length (hashed (after_line psks s ts ys q))
   line-many r s ts xs ys p q f g n = omega (arith, front-many r s ts xs ys f g n)
 
   pub pre-many : (r s : History) (k l : Remote) (ts : List Token) → length (hashed r) ≡ length (hashed s)
@@ -92,12 +92,12 @@ module _ (psks : Bool) where
   pre-many r s k l (E ∷ ts) n =
       pre-many (with_ephemeral psks r (unwrap_or k.e [])) (with_ephemeral psks s (unwrap_or l.e [])) k l ts
       (token-many r s E (unwrap_or k.e []) (unwrap_or l.e []) n)
-  pre-many r s k l (S ∷ ts) n = pre-many (and_then r (Mix (unwrap_or k.s []))) (and_then s (Mix (unwrap_or l.s []))) k l ts (omega (arith, n))
+  pre-many r s k l (S ∷ ts) n = pre-many (and_then r (MixHash (unwrap_or k.s []))) (and_then s (MixHash (unwrap_or l.s []))) k l ts (omega (arith, n))
   pre-many r s k l (_ ∷ ts) n = pre-many r s k l ts n
 
   -- ---- back along a message
 
-  token-back : (r s : History) (t : Token) (x y : List ℕ) → hashed (behind_token psks r t x) ≡ hashed (behind_token psks s t y)
+  token-back : (r s : History) (t : Token) (x y : List ℕ) → hashed (after_token psks r t x) ≡ hashed (after_token psks s t y)
       → (hashed r ≡ hashed s) × (token_piece r t x ≡ token_piece s t y)
   token-back r s E x y e =
       let f : (x ∷ hashed r) ≡ (y ∷ hashed s) = sym (ephemeral-hashed psks r x) ∙ e ∙ ephemeral-hashed psks s y in
@@ -110,7 +110,7 @@ module _ (psks : Bool) where
   token-back r s Psk x y e = (tails (second_output (chaining_key r) x) (second_output (chaining_key s) y) (hashed r) (hashed s) e, refl)
 
   front-back : (r s : History) (ts : List Token) (xs ys : List (List ℕ)) → OneEach ts xs → OneEach ts ys
-      → hashed (behind_front psks r ts xs) ≡ hashed (behind_front psks s ts ys)
+      → hashed (after_front psks r ts xs) ≡ hashed (after_front psks s ts ys)
       → (hashed r ≡ hashed s) × Alike r s ts xs ys
   front-back r s [] [] [] f g e = (e, tt)
   front-back r s [] [] (y ∷ ys) f g e = absurd g
@@ -118,19 +118,19 @@ module _ (psks : Bool) where
   front-back r s (t ∷ ts) [] ys f g e = absurd f
   front-back r s (t ∷ ts) (x ∷ xs) [] f g e = absurd g
   front-back r s (t ∷ ts) (x ∷ xs) (y ∷ ys) f g e =
-      let later = front-back (behind_token psks r t x) (behind_token psks s t y) ts xs ys f g e in
+      let later = front-back (after_token psks r t x) (after_token psks s t y) ts xs ys f g e in
       let here = token-back r s t x y later.0 in
       (here.0, (here.1, later.1))
 
   -- what it hashed tells a message's bytes, token by token
   pub line-back : (r s : History) (ts : List Token) (xs ys : List (List ℕ)) (p q : List ℕ) → OneEach ts xs → OneEach ts ys
-      → hashed (behind_line psks r ts xs p) ≡ hashed (behind_line psks s ts ys q)
-      → (hashed r ≡ hashed s) × Alike r s ts xs ys × (piece (behind_front psks r ts xs) p ≡ piece (behind_front psks s ts ys) q)
+      → hashed (after_line psks r ts xs p) ≡ hashed (after_line psks s ts ys q)
+      → (hashed r ≡ hashed s) × Alike r s ts xs ys × (piece (after_front psks r ts xs) p ≡ piece (after_front psks s ts ys) q)
   line-back r s ts xs ys p q f g e =
-      let a : List ℕ = piece (behind_front psks r ts xs) p in
-      let b : List ℕ = piece (behind_front psks s ts ys) q in
-      let more = front-back r s ts xs ys f g (tails a b (hashed (behind_front psks r ts xs)) (hashed (behind_front psks s ts ys)) e) in
-      (more.0, more.1, heads a b (hashed (behind_front psks r ts xs)) (hashed (behind_front psks s ts ys)) e)
+      let a : List ℕ = piece (after_front psks r ts xs) p in
+      let b : List ℕ = piece (after_front psks s ts ys) q in
+      let more = front-back r s ts xs ys f g (tails a b (hashed (after_front psks r ts xs)) (hashed (after_front psks s ts ys)) e) in
+      (more.0, more.1, heads a b (hashed (after_front psks r ts xs)) (hashed (after_front psks s ts ys)) e)
 
   pub pre-back : (r s : History) (k l : Remote) (ts : List Token) → hashed (with_premessage psks k ts r) ≡ hashed (with_premessage psks l ts s)
       → (hashed r ≡ hashed s) × (pre_keys k ts ≡ pre_keys l ts)
@@ -144,7 +144,7 @@ module _ (psks : Bool) where
   pre-back r s k l (S ∷ ts) e =
       let x : List ℕ = unwrap_or k.s [] in
       let y : List ℕ = unwrap_or l.s [] in
-      let later = pre-back (and_then r (Mix x)) (and_then s (Mix y)) k l ts e in
+      let later = pre-back (and_then r (MixHash x)) (and_then s (MixHash y)) k l ts e in
       (tails x y (hashed r) (hashed s) later.0, cons-same x y (pre_keys k ts) (pre_keys l ts) (heads x y (hashed r) (hashed s) later.0) later.1)
   pre-back r s k l (_ ∷ ts) e = pre-back r s k l ts e
 
@@ -157,8 +157,8 @@ module _ (psks : Bool) where
   front-same r s (t ∷ ts) [] ys h = absurd h
   front-same r s (t ∷ ts) (x ∷ xs) [] h = absurd h
   front-same r s (t ∷ ts) (x ∷ xs) (y ∷ ys) h =
-      ap (λ (b : List ℕ). b ++ front psks (behind_token psks r t x) ts xs) h.0
-      ∙ ap (λ (b : List ℕ). token_piece s t y ++ b) (front-same (behind_token psks r t x) (behind_token psks s t y) ts xs ys h.1)
+      ap (λ (b : List ℕ). b ++ front psks (after_token psks r t x) ts xs) h.0
+      ∙ ap (λ (b : List ℕ). token_piece s t y ++ b) (front-same (after_token psks r t x) (after_token psks s t y) ts xs ys h.1)
 
   static-same : (keyed : Bool) (r s : History) (x y : List ℕ) (older others : List (List ℕ)) → is_some (cipher_key r) ≡ keyed → is_some (cipher_key s) ≡ keyed
       → piece r x ≡ piece s y → older ≡ others
@@ -168,10 +168,10 @@ module _ (psks : Bool) where
 
   open-token : (keyed : Bool) (r s : History) (t : Token) (ts : List Token) (x y : List ℕ) (xs ys : List (List ℕ)) → is_some (cipher_key r) ≡ keyed
       → is_some (cipher_key s) ≡ keyed
-      → token_piece r t x ≡ token_piece s t y → clear_keys psks (keyed_behind psks keyed t) ts xs ≡ clear_keys psks (keyed_behind psks keyed t) ts ys
+      → token_piece r t x ≡ token_piece s t y → clear_keys psks (keyed_after psks keyed t) ts xs ≡ clear_keys psks (keyed_after psks keyed t) ts ys
       → clear_keys psks keyed (t ∷ ts) (x ∷ xs) ≡ clear_keys psks keyed (t ∷ ts) (y ∷ ys)
   open-token keyed r s E ts x y xs ys a b e f =
-      cons-same x y (clear_keys psks (keyed_behind psks keyed E) ts xs) (clear_keys psks (keyed_behind psks keyed E) ts ys) e f
+      cons-same x y (clear_keys psks (keyed_after psks keyed E) ts xs) (clear_keys psks (keyed_after psks keyed E) ts ys) e f
   open-token keyed r s S ts x y xs ys a b e f = static-same keyed r s x y (clear_keys psks keyed ts xs) (clear_keys psks keyed ts ys) a b e f
   open-token keyed r s Ee ts x y xs ys a b e f = f
   open-token keyed r s Es ts x y xs ys a b e f = f
@@ -189,5 +189,5 @@ module _ (psks : Bool) where
   open-same keyed r s (t ∷ ts) (x ∷ xs) [] a b h = absurd h
   open-same keyed r s (t ∷ ts) (x ∷ xs) (y ∷ ys) a b h =
       open-token keyed r s t ts x y xs ys a b h.0
-      (open-same (keyed_behind psks keyed t) (behind_token psks r t x) (behind_token psks s t y) ts xs ys
-      (token-keyed psks r t x ∙ ap (λ (k : Bool). keyed_behind psks k t) a) (token-keyed psks s t y ∙ ap (λ (k : Bool). keyed_behind psks k t) b) h.1)
+      (open-same (keyed_after psks keyed t) (after_token psks r t x) (after_token psks s t y) ts xs ys
+      (token-keyed psks r t x ∙ ap (λ (k : Bool). keyed_after psks k t) a) (token-keyed psks s t y ∙ ap (λ (k : Bool). keyed_after psks k t) b) h.1)

@@ -8,7 +8,7 @@ use Rattle.noise_names.specs.Tokens.{other}
 use Rattle.noise_state.specs.History.{History}
 use Rattle.noise_handshake.specs.View.{View, Accepts}
 use Rattle.noise_handshake.specs.Writing.{Writes}
-use Rattle.noise_handshake.specs.Party.{behind_own, behind_message}
+use Rattle.noise_handshake.specs.Party.{after_own, after_message}
 use Rattle.noise_session.specs.declared.faults.SendFault.{SendFault}
 use Rattle.noise_session.specs.Faults.{ends}
 use Rattle.noise_session.specs.Transport.{packet}
@@ -19,7 +19,7 @@ use Rattle.noise_session.specs.Progress.Progress.{Handshaking, Open, Closed}
 use Rattle.noise_session.specs.Ends.{EndView, progress_of, closed, end_of}
 use Rattle.noise_session.specs.Taking.{Judges}
 use Rattle.noise_session.specs.Taking.Judges.{accepted, refused, opened, dropped, exhausted}
-use Rattle.noise_session.specs.Sending.{Sends, behind_fault}
+use Rattle.noise_session.specs.Sending.{Sends, after_fault}
 use Rattle.noise_session.specs.Sending.Sends.{refuses, lacks_answer}
 use Rattle.noise_duel.specs.Messages.{HandshakeMessage, Exchanged, begun_as}
 use Rattle.noise_duel.specs.Messages.Exchanged.{none, wrote, took}
@@ -38,20 +38,20 @@ use Rattle.noise_duel.specs.Invariant.{ArePackets, ComesOfMessages, EndsStand}
 -- ---- one message more
 
 passes-wrote : (v w : View) (ps : List HandshakeMessage) (p : HandshakeMessage) → Exchanged v ps w → Writes w p.payload p.carried p.message
-    → Exchanged v (ps ++ p ∷ []) (behind_own w p.carried p.payload)
-passes-wrote v w [] p (none _) h = wrote v (behind_own v p.carried p.payload) p [] h (none (behind_own v p.carried p.payload))
+    → Exchanged v (ps ++ p ∷ []) (after_own w p.carried p.payload)
+passes-wrote v w [] p (none _) h = wrote v (after_own v p.carried p.payload) p [] h (none (after_own v p.carried p.payload))
 passes-wrote v w (q ∷ qs) p (wrote _ _ _ _ here more) h =
-    wrote v (behind_own w p.carried p.payload) q (qs ++ p ∷ []) here (passes-wrote (behind_own v q.carried q.payload) w qs p more h)
+    wrote v (after_own w p.carried p.payload) q (qs ++ p ∷ []) here (passes-wrote (after_own v q.carried q.payload) w qs p more h)
 passes-wrote v w (q ∷ qs) p (took _ _ _ _ here more) h =
-    took v (behind_own w p.carried p.payload) q (qs ++ p ∷ []) here (passes-wrote (behind_message v q.carried q.payload) w qs p more h)
+    took v (after_own w p.carried p.payload) q (qs ++ p ∷ []) here (passes-wrote (after_message v q.carried q.payload) w qs p more h)
 
 passes-took : (v w : View) (ps : List HandshakeMessage) (p : HandshakeMessage) → Exchanged v ps w → Accepts w p.message p.carried p.payload
-    → Exchanged v (ps ++ p ∷ []) (behind_message w p.carried p.payload)
-passes-took v w [] p (none _) h = took v (behind_message v p.carried p.payload) p [] h (none (behind_message v p.carried p.payload))
+    → Exchanged v (ps ++ p ∷ []) (after_message w p.carried p.payload)
+passes-took v w [] p (none _) h = took v (after_message v p.carried p.payload) p [] h (none (after_message v p.carried p.payload))
 passes-took v w (q ∷ qs) p (wrote _ _ _ _ here more) h =
-    wrote v (behind_message w p.carried p.payload) q (qs ++ p ∷ []) here (passes-took (behind_own v q.carried q.payload) w qs p more h)
+    wrote v (after_message w p.carried p.payload) q (qs ++ p ∷ []) here (passes-took (after_own v q.carried q.payload) w qs p more h)
 passes-took v w (q ∷ qs) p (took _ _ _ _ here more) h =
-    took v (behind_message w p.carried p.payload) q (qs ++ p ∷ []) here (passes-took (behind_message v q.carried q.payload) w qs p more h)
+    took v (after_message w p.carried p.payload) q (qs ++ p ∷ []) here (passes-took (after_message v q.carried q.payload) w qs p more h)
 
 packets-more : (r : History) (writer : Role) (interval n : ℕ) (ps : List TransportMessage) (m : TransportMessage) → ArePackets r writer interval n ps
     → m.message ≡ packet r writer interval (n + length ps) m.payload
@@ -100,7 +100,7 @@ module _ (first : View) (interval : ℕ) where
     received = h.received;
   }
 
-  refusal-seen : (s : Side) (why : SendFault) → ComesOfMessages first interval s → ComesOfMessages first interval (with_view s (behind_fault s.view why))
+  refusal-seen : (s : Side) (why : SendFault) → ComesOfMessages first interval s → ComesOfMessages first interval (with_view s (after_fault s.view why))
   refusal-seen s why h = by (ends why)
     where
       by : (b : Bool) → ComesOfMessages first interval (with_view s (if b then closed s.view else s.view))
@@ -143,16 +143,16 @@ module _ (first : View) (interval : ℕ) where
       let same : s.view.party ≡ h.last = unended s.view.party h.last h.party w.speaks.going in
       let empty = unsent s h w.speaks.more in
       record {
-        last = behind_own h.last xs payload;
+        last = after_own h.last xs payload;
         passes = passes-wrote first h.last s.passed p h.passes (subst (λ (v : View). Writes v payload xs message) same w);
-        party = ap (λ (v : View). record (behind_own v xs payload) { ended = false }) same
-            ∙ ap (λ (v : View). record (behind_own h.last xs payload) { ended = v.ended }) h.party;
+        party = ap (λ (v : View). record (after_own v xs payload) { ended = false }) same
+            ∙ ap (λ (v : View). record (after_own h.last xs payload) { ended = v.ended }) h.party;
         interval_is = h.interval_is;
         sending = h.sending;
         receiving = h.receiving;
         opened = inl empty;
-        sent = none-packets (behind_own h.last xs payload).history h.last.role s.sent empty.0;
-        received = none-packets (behind_own h.last xs payload).history (other h.last.role) s.received empty.1;
+        sent = none-packets (after_own h.last xs payload).history h.last.role s.sent empty.0;
+        received = none-packets (after_own h.last xs payload).history (other h.last.role) s.received empty.1;
       }
   writes-stands s t payload note h (writes_transport _ message _ e due is) =
       let m : TransportMessage = record { message = message; payload = payload } in
@@ -178,16 +178,16 @@ module _ (first : View) (interval : ℕ) where
       let same : s.view.party ≡ h.last = unended s.view.party h.last h.party a.listens.going in
       let empty = unsent s h a.listens.more in
       record {
-        last = behind_message h.last xs payload;
+        last = after_message h.last xs payload;
         passes = passes-took first h.last s.passed p h.passes (subst (λ (v : View). Accepts v message xs payload) same a);
-        party = ap (λ (v : View). record (behind_message v xs payload) { ended = false }) same
-            ∙ ap (λ (v : View). record (behind_message h.last xs payload) { ended = v.ended }) h.party;
+        party = ap (λ (v : View). record (after_message v xs payload) { ended = false }) same
+            ∙ ap (λ (v : View). record (after_message h.last xs payload) { ended = v.ended }) h.party;
         interval_is = h.interval_is;
         sending = h.sending;
         receiving = h.receiving;
         opened = inl empty;
-        sent = none-packets (behind_message h.last xs payload).history h.last.role s.sent empty.0;
-        received = none-packets (behind_message h.last xs payload).history (other h.last.role) s.received empty.1;
+        sent = none-packets (after_message h.last xs payload).history h.last.role s.sent empty.0;
+        received = none-packets (after_message h.last xs payload).history (other h.last.role) s.received empty.1;
       }
   reads-stands s t message step h (accepts_transport _ _ payload due low is) =
       let m : TransportMessage = record { message = message; payload = payload } in

@@ -16,7 +16,7 @@ use Rattle.noise_handshake.specs.Setup.{public_keys, has_before, has_token, toke
 use Rattle.noise_duel.specs.Below.{LawsBelow}
 use Rattle.noise_duel.specs.Messages.{Start, begun_as, pre_keys}
 use Rattle.noise_duel.specs.Agreement.{IsSetUp, KeysTell, Knows}
-use Rattle.noise_duel.proofs.HashedMessages.{behind_all, AreLines, AllAlike, passes-lines}
+use Rattle.noise_duel.proofs.HashedMessages.{after_all, AreLines, AllAlike, passes-lines}
 use Rattle.noise_duel.proofs.HashTells.{SameBytes, bytes-or, starts-back}
 use Rattle.noise_duel.proofs.Forward.{UseSecrets, passes-secrets, starts-same}
 use Rattle.noise_duel.proofs.Agreeing.{all-agree, passes-uses}
@@ -85,4 +85,4 @@ keys-tell laws p a b ps qs v w sa sb left right count e secrets agrees =
         l.lines
         (subst (λ (s : History). AreLines p 0 s qs) (sym first) m.lines)
         (subst (λ (s : History). AllAlike p 0 r0 s ps qs) (sym first) h.lines) in
-        (one, l.history ∙ ap (λ (s : History). behind_all p 0 s ps) first ∙ ap (behind_all p 0 s0) one ∙ sym m.history)
+        (one, l.history ∙ ap (λ (s : History). after_all p 0 s ps) first ∙ ap (after_all p 0 s0) one ∙ sym m.history)

@@ -8,53 +8,53 @@ use Rattle.noise_names.specs.Tokens.{same_role, turn_from}
 use Rattle.noise_names.specs.Plan.{Plan}
 use Rattle.noise_handshake.specs.declared.remote.Remote.{Remote}
 use Rattle.noise_handshake.specs.View.{View, tokens_at, tokens_now}
-use Rattle.noise_handshake.specs.Party.{behind_own, behind_message}
+use Rattle.noise_handshake.specs.Party.{after_own, after_message}
 use Rattle.noise_duel.specs.Below.{LawsBelow}
 use Rattle.noise_duel.specs.Messages.{HandshakeMessage, Exchanged, Start, begun_as}
 use Rattle.noise_duel.specs.Messages.Exchanged.{none, wrote, took}
 use Rattle.noise_duel.specs.Agreement.{Knows, KnowEachOther}
-use Rattle.noise_duel.proofs.Agreeing.{UsesAt, Uses, UsesAll, known_after, known_behind_all, writes_now, same-self, same-other, is-own, learns, turns-apart}
+use Rattle.noise_duel.proofs.Agreeing.{UsesAt, Uses, UsesAll, known_next, known_after_all, writes_now, same-self, same-other, is-own, learns, turns-apart}
 use Rattle.noise_duel.proofs.Agreeing.{passes-uses}
 use Rattle.noise_duel.proofs.KeysTell.{knows-first}
 
 abbrev known_all : Plan → Role → ℕ → Remote → List HandshakeMessage → Remote
 known_all p role n known [] = known
-known_all p role n known (m ∷ ms) = known_all p role (n + 1) (known_behind_all (writes_now role n) known (tokens_at p.messages n) m.carried) ms
+known_all p role n known (m ∷ ms) = known_all p role (n + 1) (known_after_all (writes_now role n) known (tokens_at p.messages n) m.carried) ms
 
 remote-is : (v w : View) (ps : List HandshakeMessage) → Exchanged v ps w → w.remote ≡ known_all v.pattern v.role v.passed v.remote ps
 remote-is v w [] (none _) = refl
 remote-is v w (p ∷ ps) (wrote _ _ _ _ here more) =
     let mine : writes_now v.role v.passed ≡ true = ap (λ (r : Role). same_role r v.role) here.speaks.turn ∙ same-self v.role in
-    remote-is (behind_own v p.carried p.payload) w ps more
-    ∙ ap (λ (b : Bool). known_all v.pattern v.role (v.passed + 1) (known_behind_all b v.remote (tokens_now v) p.carried) ps) (sym mine)
+    remote-is (after_own v p.carried p.payload) w ps more
+    ∙ ap (λ (b : Bool). known_all v.pattern v.role (v.passed + 1) (known_after_all b v.remote (tokens_now v) p.carried) ps) (sym mine)
 remote-is v w (p ∷ ps) (took _ _ _ _ here more) =
     let mine : writes_now v.role v.passed ≡ false = ap (λ (r : Role). same_role r v.role) here.listens.turn ∙ same-other v.role in
-    remote-is (behind_message v p.carried p.payload) w ps more
-    ∙ ap (λ (b : Bool). known_all v.pattern v.role (v.passed + 1) (known_behind_all b v.remote (tokens_now v) p.carried) ps) (sym mine)
+    remote-is (after_message v p.carried p.payload) w ps more
+    ∙ ap (λ (b : Bool). known_all v.pattern v.role (v.passed + 1) (known_after_all b v.remote (tokens_now v) p.carried) ps) (sym mine)
 
 module _ (a b : Start) where
   token-known : (mine : Bool) (ka kb : Remote) (t : Token) (x : List ℕ) → Knows ka b.own → Knows kb a.own
       → UsesAt mine Initiator a.own a.agree ka t x → UsesAt (not mine) Responder b.own b.agree kb t x
-      → Knows (known_after mine ka t x) b.own × Knows (known_after (not mine) kb t x) a.own
+      → Knows (known_next mine ka t x) b.own × Knows (known_next (not mine) kb t x) a.own
   token-known true ka kb t x f g u w = (f, learns kb a.own t x x g refl (is-own Initiator a.own a.agree ka t x u))
   token-known false ka kb t x f g u w = (learns ka b.own t x x f refl (is-own Responder b.own b.agree kb t x w), g)
 
   here-known : (mine : Bool) (ka kb : Remote) → Knows ka b.own → Knows kb a.own
-      → Knows (known_behind_all mine ka [] []) b.own × Knows (known_behind_all (not mine) kb [] []) a.own
+      → Knows (known_after_all mine ka [] []) b.own × Knows (known_after_all (not mine) kb [] []) a.own
   here-known true ka kb f g = (f, g)
   here-known false ka kb f g = (f, g)
 
   front-known : (mine : Bool) (ka kb : Remote) (ts : List Token) (xs : List (List ℕ)) → Knows ka b.own → Knows kb a.own
       → Uses mine Initiator a.own a.agree ka ts xs → Uses (not mine) Responder b.own b.agree kb ts xs
-      → Knows (known_behind_all mine ka ts xs) b.own × Knows (known_behind_all (not mine) kb ts xs) a.own
+      → Knows (known_after_all mine ka ts xs) b.own × Knows (known_after_all (not mine) kb ts xs) a.own
   front-known true ka kb [] xs f g u w = (f, g)
   front-known false ka kb [] xs f g u w = (f, g)
   front-known true ka kb (t ∷ ts) [] f g u w = (f, g)
   front-known false ka kb (t ∷ ts) [] f g u w = (f, g)
   front-known true ka kb (t ∷ ts) (x ∷ xs) f g u w =
-      let k = token-known true ka kb t x f g u.0 w.0 in front-known true (known_after true ka t x) (known_after false kb t x) ts xs k.0 k.1 u.1 w.1
+      let k = token-known true ka kb t x f g u.0 w.0 in front-known true (known_next true ka t x) (known_next false kb t x) ts xs k.0 k.1 u.1 w.1
   front-known false ka kb (t ∷ ts) (x ∷ xs) f g u w =
-      let k = token-known false ka kb t x f g u.0 w.0 in front-known false (known_after false ka t x) (known_after true kb t x) ts xs k.0 k.1 u.1 w.1
+      let k = token-known false ka kb t x f g u.0 w.0 in front-known false (known_next false ka t x) (known_next true kb t x) ts xs k.0 k.1 u.1 w.1
 
   all-known : (p : Plan) (n : ℕ) (ka kb : Remote) (ps : List HandshakeMessage) → Knows ka b.own → Knows kb a.own → UsesAll p Initiator a.own a.agree n ka ps
       → UsesAll p Responder b.own b.agree n kb ps
@@ -64,12 +64,12 @@ module _ (a b : Start) where
       let mine : Bool = writes_now Initiator n in
       let apart : writes_now Responder n ≡ not mine = turns-apart (turn_from Initiator n) in
       let turned = subst (λ (z : Bool). Uses z Responder b.own b.agree kb (tokens_at p.messages n) m.carried
-      × UsesAll p Responder b.own b.agree (n + 1) (known_behind_all z kb (tokens_at p.messages n) m.carried) ms) apart w in
+      × UsesAll p Responder b.own b.agree (n + 1) (known_after_all z kb (tokens_at p.messages n) m.carried) ms) apart w in
       let k = front-known mine ka kb (tokens_at p.messages n) m.carried f g u.0 turned.0 in
-      let later = all-known p (n + 1) (known_behind_all mine ka (tokens_at p.messages n) m.carried)
-      (known_behind_all (not mine) kb (tokens_at p.messages n) m.carried) ms k.0 k.1 u.1 turned.1 in (
+      let later = all-known p (n + 1) (known_after_all mine ka (tokens_at p.messages n) m.carried)
+      (known_after_all (not mine) kb (tokens_at p.messages n) m.carried) ms k.0 k.1 u.1 turned.1 in (
         later.0,
-        subst (λ (z : Bool). Knows (known_all p Responder (n + 1) (known_behind_all z kb (tokens_at p.messages n) m.carried) ms) a.own) (sym apart)
+        subst (λ (z : Bool). Knows (known_all p Responder (n + 1) (known_after_all z kb (tokens_at p.messages n) m.carried) ms) a.own) (sym apart)
             later.1,
       )
 

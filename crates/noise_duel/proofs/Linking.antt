@@ -127,7 +127,7 @@ reads-any s next held message step (accepts_transport _ _ payload due low is) = 
 reads-any s next held message step (refuses_message _ _ _ after none j) =
     refuses_message s message step after none (judges-any s.view after held message step j)
 
--- bytes that come behind others that made no whole frame
+-- bytes that come after others that made no whole frame
 receives-later : (s last : Side) (front bytes : List ℕ) (notes : List Note) → idle_step (progress_of s.view) ≡ None
     → SideReceives (with_view s (record (s.view) { held = s.view.held ++ front })) bytes notes last → SideReceives s (front ++ bytes) notes last
 receives-later s last front bytes notes due (is_idle _ _ step e) = cc
@@ -149,7 +149,7 @@ nothing-at s (Some step) e partial = is_idle s [] step e
 pub receives-nothing : (s : Side) → IsPartial s.view.held → SideReceives s [] [] s
 receives-nothing s partial = nothing-at s (idle_step (progress_of s.view)) refl partial
 
--- one take, with what comes behind the piece
+-- one take, with what comes after the piece
 pub record HasTaken (s : Side) (piece : List ℕ) (n : ℕ) (step : Told) (next : EndView) : Type 0 where
   pub after : Side
   pub view : after.view ≡ next
@@ -180,7 +180,7 @@ is-idle (Handshaking pattern role passed) step e = idle-turn (is_turn role passe
 is-idle (Open role one_way sent received) step e = idle-silent (one_way && same_role role Initiator) step e
 is-idle (Closed role) step e = subst IsIdleStep (some-same Ended step e) (record { why = idle.Ended; left = λ n. refl; is = refl; quiet = refl })
 
--- what is behind a frame stands behind the bytes that were taken
+-- what is after a frame stands after the bytes that were taken
 rest-taken : (held piece message rest : List ℕ) (n : ℕ) → held ++ piece ≡ frame message ++ rest → n + length rest ≡ length piece → drop n piece ≡ rest
 rest-taken held piece message rest n e count =
     let long : length held + n ≡ length (frame message) = omega (arith, ap length e, length-append held piece, length-append (frame message) rest, count) in
@@ -203,7 +203,7 @@ takes-taken s piece n step next (waits_for_more _ _ e partial) = record {
       let after = with_view s (record (s.view) { held = s.view.held ++ piece }) in
       receives-later s last piece rest notes e (subst (λ (bytes : List ℕ). SideReceives after (bytes ++ rest) notes last) (drop-length piece) h);
 }
-takes-taken s piece n step next (judges _ _ _ message behind _ _ e is short count j) =
+takes-taken s piece n step next (judges _ _ _ message beyond _ _ e is short count j) =
     let r = judges-reads s message step next j in
     record {
       after = r.after;
@@ -211,9 +211,9 @@ takes-taken s piece n step next (judges _ _ _ message behind _ _ e is short coun
       frames = r.frames;
       goes_on = λ rest notes last h.
           subst (λ (ms : List Note). SideReceives s (piece ++ rest) (ms ++ notes) last) (sym r.note)
-          (reads_frame s r.after last (piece ++ rest) message (behind ++ rest) step notes e
-          (sym (append_assoc s.view.held piece rest) ∙ ap (λ (z : List ℕ). z ++ rest) is ∙ append_assoc (frame message) behind rest) short r.reads
-          (subst (λ (bytes : List ℕ). SideReceives r.after (bytes ++ rest) notes last) (rest-taken s.view.held piece message behind n is count) h));
+          (reads_frame s r.after last (piece ++ rest) message (beyond ++ rest) step notes e
+          (sym (append_assoc s.view.held piece rest) ∙ ap (λ (z : List ℕ). z ++ rest) is ∙ append_assoc (frame message) beyond rest) short r.reads
+          (subst (λ (bytes : List ℕ). SideReceives r.after (bytes ++ rest) notes last) (rest-taken s.view.held piece message beyond n is count) h));
     }
 
 -- an end that takes none of some bytes is idle, and stays as it is

@@ -6,7 +6,7 @@ use Rattle.noise_names.specs.Tokens.{other}
 use Rattle.noise_names.specs.Plan.{Plan}
 use Rattle.noise_state.specs.History.{History, hash}
 use Rattle.noise_handshake.specs.View.{View}
-use Rattle.noise_handshake.specs.Party.{behind_own, behind_message}
+use Rattle.noise_handshake.specs.Party.{after_own, after_message}
 use Rattle.noise_duel.specs.Collision.{Collision}
 use Rattle.noise_duel.specs.Messages.{HandshakeMessage, Exchanged, Start, begun_as}
 use Rattle.noise_duel.specs.Messages.Exchanged.{none, wrote, took}
@@ -32,13 +32,13 @@ use Rattle.noise_duel.proofs.Prefixes.{prefix-or-forged}
 
 pub passes-pattern : (v w : View) (ps : List HandshakeMessage) → Exchanged v ps w → w.pattern ≡ v.pattern
 passes-pattern v w [] (none _) = refl
-passes-pattern v w (p ∷ ps) (wrote _ _ _ _ here more) = passes-pattern (behind_own v p.carried p.payload) w ps more
-passes-pattern v w (p ∷ ps) (took _ _ _ _ here more) = passes-pattern (behind_message v p.carried p.payload) w ps more
+passes-pattern v w (p ∷ ps) (wrote _ _ _ _ here more) = passes-pattern (after_own v p.carried p.payload) w ps more
+passes-pattern v w (p ∷ ps) (took _ _ _ _ here more) = passes-pattern (after_message v p.carried p.payload) w ps more
 
 pub passes-role : (v w : View) (ps : List HandshakeMessage) → Exchanged v ps w → w.role ≡ v.role
 passes-role v w [] (none _) = refl
-passes-role v w (p ∷ ps) (wrote _ _ _ _ here more) = passes-role (behind_own v p.carried p.payload) w ps more
-passes-role v w (p ∷ ps) (took _ _ _ _ here more) = passes-role (behind_message v p.carried p.payload) w ps more
+passes-role v w (p ∷ ps) (wrote _ _ _ _ here more) = passes-role (after_own v p.carried p.payload) w ps more
+passes-role v w (p ∷ ps) (took _ _ _ _ here more) = passes-role (after_message v p.carried p.payload) w ps more
 
 -- an end that answers a hash
 record Opened (v : EndView) (h : List ℕ) : Type 0 where

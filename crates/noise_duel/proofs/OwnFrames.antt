@@ -12,7 +12,7 @@ use Rattle.noise_session.specs.Steps.{Told}
 use Rattle.noise_session.specs.Ends.{EndView, closed}
 use Rattle.noise_session.specs.Taking.{Judges}
 use Rattle.noise_session.specs.Taking.Judges.{accepted, refused, opened, dropped, exhausted}
-use Rattle.noise_session.specs.Sending.{Sends, behind_fault}
+use Rattle.noise_session.specs.Sending.{Sends, after_fault}
 use Rattle.noise_session.specs.Sending.Sends.{refuses, lacks_answer}
 use Rattle.noise_duel.specs.Messages.{HandshakeMessage}
 use Rattle.noise_duel.specs.Sides.{TransportMessage, Side, Sides, with_view, wrote_handshake, accepted_handshake, wrote_transport}
@@ -117,7 +117,7 @@ module _ (s : Side) (k : Kept s) where
   writes-kept : (payload : List ℕ) (t : Side) (note : Note) → SideWrites s payload note t → Kept t
   writes-kept payload t note (writes_nothing _ _ why next sends) = go why next sends
     where
-      refusal-kept : (why : SendFault) → Kept (with_view s (behind_fault s.view why))
+      refusal-kept : (why : SendFault) → Kept (with_view s (after_fault s.view why))
       refusal-kept why = by (ends why)
         where
           by : (b : Bool) → Kept (with_view s (if b then closed s.view else s.view))

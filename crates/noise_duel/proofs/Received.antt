@@ -26,7 +26,7 @@ noted_by-append : (role : Role) (ms ns : List Note) → noted_by role (ms ++ ns)
 noted_by-append role [] ns = refl
 noted_by-append role (m ∷ ms) ns = ap (λ (xs : List (Role × Note)). (role, m) ∷ xs) (noted_by-append role ms ns)
 
--- one thing told behind another
+-- one thing told after another
 pub told-more : (role : Role) (before between after : List (Role × Entry)) (notes more : List Note) → notes_of between ≡ notes_of before ++ noted_by role notes
     → notes_of after ≡ notes_of between ++ noted_by role more → notes_of after ≡ notes_of before ++ noted_by role (notes ++ more)
 told-more role before between after notes more e f =
@@ -43,8 +43,8 @@ is-some b zero e f = cc
 is-some b (suc n) e f = omega arith
 
 -- the index of the next piece, of which at most 8 are empty
-pub index-on : (i n rest behind bytes : ℕ) → (8 ≤ i → 0 < n) → behind + n ≡ rest → i + rest ≤ 8 + bytes → rest ≤ bytes → i + 1 + behind ≤ 8 + bytes
-index-on i n rest behind bytes late e f g = grind arith
+pub index-on : (i n rest beyond bytes : ℕ) → (8 ≤ i → 0 < n) → beyond + n ≡ rest → i + rest ≤ 8 + bytes → rest ≤ bytes → i + 1 + beyond ≤ 8 + bytes
+index-on i n rest beyond bytes late e f g = grind arith
 
 -- at most so many are left
 most-left : (step : Told) (n most : ℕ) → n ≤ most → IfSome (left_of step n) (λ l. l.1 ≤ most)
@@ -66,7 +66,7 @@ module _ {K : Type 0} (public_of : K → Own → Option (List ℕ)) (agreement :
   received-none s role bytes end entries stands = record {
     next = s;
     notes = [];
-    goes_on = λ behind more last r. r;
+    goes_on = λ beyond more last r. r;
     stands = stands;
     frames = refl;
     told = sym (append-nil (notes_of entries));
@@ -84,10 +84,10 @@ module _ {K : Type 0} (public_of : K → Own → Option (List ℕ)) (agreement :
       record {
         next = t.after;
         notes = h.notes ++ step_note step;
-        goes_on = λ behind more last r.
-            subst (λ (ns : List Note). SideReceives s (bytes ++ behind) ns last) (sym (append_assoc h.notes (step_note step) more))
-            (h.goes_on behind (step_note step ++ more) last
-            (t.goes_on behind more last (subst (λ (xs : List ℕ). SideReceives t.after (xs ++ behind) more last) is r)));
+        goes_on = λ beyond more last r.
+            subst (λ (ns : List Note). SideReceives s (bytes ++ beyond) ns last) (sym (append_assoc h.notes (step_note step) more))
+            (h.goes_on beyond (step_note step ++ more) last
+            (t.goes_on beyond more last (subst (λ (xs : List ℕ). SideReceives t.after (xs ++ beyond) more last) is r)));
         stands = subst (λ (v : EndView). EndStands public_of agreement then v) (sym t.view) w.2;
         frames = t.frames ∙ h.frames;
         told = told-more role before between after h.notes (step_note step) h.told told;
@@ -117,49 +117,49 @@ module _ {K : Type 0} (public_of : K → Own → Option (List ℕ)) (agreement :
             (t.0 ∙ ap (λ (x : Told). Some x) (sym i.is), some, refl);
       }
 
-  -- bytes of a piece more, with all behind it
-  abbrev received-behind : (s : Side) (role : Role) (bytes rest piece left behind : List ℕ) (end then : HeldEnd K) (before between after : List (Role × Entry))
-      (h : HasReceivedSome public_of agreement s role bytes rest end before between) → rest ≡ piece ++ behind
+  -- bytes of a piece more, with all after it
+  abbrev received-after : (s : Side) (role : Role) (bytes rest piece left beyond : List ℕ) (end then : HeldEnd K) (before between after : List (Role × Entry))
+      (h : HasReceivedSome public_of agreement s role bytes rest end before between) → rest ≡ piece ++ beyond
       → HasReceivedSome public_of agreement h.next role piece left then between after
-      → HasReceivedSome public_of agreement s role bytes (left ++ behind) then before after
-  received-behind s role bytes rest piece left behind end then before between after h is w = record {
+      → HasReceivedSome public_of agreement s role bytes (left ++ beyond) then before after
+  received-after s role bytes rest piece left beyond end then before between after h is w = record {
     next = w.next;
     notes = h.notes ++ w.notes;
     goes_on = λ later more last r.
-        let all : rest ++ later ≡ piece ++ (behind ++ later) = ap (λ (xs : List ℕ). xs ++ later) is ∙ append_assoc piece behind later in
+        let all : rest ++ later ≡ piece ++ (beyond ++ later) = ap (λ (xs : List ℕ). xs ++ later) is ∙ append_assoc piece beyond later in
         subst (λ (ns : List Note). SideReceives s (bytes ++ later) ns last) (sym (append_assoc h.notes w.notes more))
         (h.goes_on later (w.notes ++ more) last
         (subst (λ (xs : List ℕ). SideReceives h.next xs (w.notes ++ more) last) (sym all)
-        (w.goes_on (behind ++ later) more last (subst (λ (xs : List ℕ). SideReceives w.next xs more last) (append_assoc left behind later) r))));
+        (w.goes_on (beyond ++ later) more last (subst (λ (xs : List ℕ). SideReceives w.next xs more last) (append_assoc left beyond later) r))));
     stands = w.stands;
     frames = w.frames ∙ h.frames;
     told = told-more role before between after h.notes w.notes h.told w.told;
   }
 
   -- a whole piece more
-  pub received-piece : (s : Side) (role : Role) (bytes rest piece behind : List ℕ) (end then : HeldEnd K) (before between after : List (Role × Entry))
-      (left : Option (Idle × ℕ)) (h : HasReceivedSome public_of agreement s role bytes rest end before between) → rest ≡ piece ++ behind → left ≡ None
+  pub received-piece : (s : Side) (role : Role) (bytes rest piece beyond : List ℕ) (end then : HeldEnd K) (before between after : List (Role × Entry))
+      (left : Option (Idle × ℕ)) (h : HasReceivedSome public_of agreement s role bytes rest end before between) → rest ≡ piece ++ beyond → left ≡ None
       → ((t : Side) → EndStands public_of agreement end t.view → HasStopped public_of agreement t role piece left then between after)
-      → HasReceivedSome public_of agreement s role bytes behind then before after
-  received-piece s role bytes rest piece behind end then before between after left h is found stops =
+      → HasReceivedSome public_of agreement s role bytes beyond then before after
+  received-piece s role bytes rest piece beyond end then before between after left h is found stops =
       let w = stops h.next h.stands in
       let none : w.rest ≡ [] = subst (λ (l : Option (Idle × ℕ)). AreLeft w.some.next w.rest l) found w.rest_is in
-      subst (λ (xs : List ℕ). HasReceivedSome public_of agreement s role bytes (xs ++ behind) then before after) none
-      (received-behind s role bytes rest piece w.rest behind end then before between after h is w.some)
+      subst (λ (xs : List ℕ). HasReceivedSome public_of agreement s role bytes (xs ++ beyond) then before after) none
+      (received-after s role bytes rest piece w.rest beyond end then before between after h is w.some)
 
-  -- a piece of which some are left, and with them all behind it
-  pub stopped-piece : (s : Side) (role : Role) (bytes rest piece behind : List ℕ) (end then : HeldEnd K) (before between after : List (Role × Entry))
+  -- a piece of which some are left, and with them all after it
+  pub stopped-piece : (s : Side) (role : Role) (bytes rest piece beyond : List ℕ) (end then : HeldEnd K) (before between after : List (Role × Entry))
       (left : Option (Idle × ℕ)) (why : Idle) (n : ℕ) (h : HasReceivedSome public_of agreement s role bytes rest end before between)
-      → rest ≡ piece ++ behind → left ≡ Some (why, n)
+      → rest ≡ piece ++ beyond → left ≡ Some (why, n)
       → ((t : Side) → EndStands public_of agreement end t.view → HasStopped public_of agreement t role piece left then between after)
-      → HasStopped public_of agreement s role bytes (Some (why, n + length behind)) then before after
-  stopped-piece s role bytes rest piece behind end then before between after left why n h is found stops =
+      → HasStopped public_of agreement s role bytes (Some (why, n + length beyond)) then before after
+  stopped-piece s role bytes rest piece beyond end then before between after left why n h is found stops =
       let w = stops h.next h.stands in
       let some = subst (λ (l : Option (Idle × ℕ)). AreLeft w.some.next w.rest l) found w.rest_is in
       record {
-        rest = w.rest ++ behind;
-        some = received-behind s role bytes rest piece w.rest behind end then before between after h is w.some;
-        rest_is = (some.0, omega (arith, some.1), length-append w.rest behind ∙ ap (λ (k : ℕ). k + length behind) some.2);
+        rest = w.rest ++ beyond;
+        some = received-after s role bytes rest piece w.rest beyond end then before between after h is w.some;
+        rest_is = (some.0, omega (arith, some.1), length-append w.rest beyond ∙ ap (λ (k : ℕ). k + length beyond) some.2);
       }
 
   -- what comes of all bytes, where they have ended or some are left

@@ -13,7 +13,7 @@ use Rattle.noise_state.specs.History.{History, hash}
 use Rattle.noise_keys.specs.declared.keys.Own.{Own}
 use Rattle.noise_keys.specs.declared.keys.Own.TheVariants.{Static}
 use Rattle.noise_handshake.specs.Counterparts.{Counterparts, counterpart}
-use Rattle.noise_handshake.specs.Party.{behind_message, behind_own}
+use Rattle.noise_handshake.specs.Party.{after_message, after_own}
 use Rattle.noise_handshake.specs.Passed.{passed_places}
 use Rattle.noise_handshake.specs.Setup.{token_of}
 use Rattle.noise_handshake.specs.View.{View}
@@ -58,8 +58,8 @@ ends-agree stand frame seen back one payloads p a b i j events notes last run = 
 
 passes-own : (v w : View) (ps : List HandshakeMessage) → Exchanged v ps w → w.own ≡ v.own
 passes-own v w [] (none _) = refl
-passes-own v w (p ∷ ps) (wrote _ _ _ _ here more) = passes-own (behind_own v p.carried p.payload) w ps more
-passes-own v w (p ∷ ps) (took _ _ _ _ here more) = passes-own (behind_message v p.carried p.payload) w ps more
+passes-own v w (p ∷ ps) (wrote _ _ _ _ here more) = passes-own (after_own v p.carried p.payload) w ps more
+passes-own v w (p ∷ ps) (took _ _ _ _ here more) = passes-own (after_message v p.carried p.payload) w ps more
 
 or-same : (b c d : Bool) → (c ≡ true → d ≡ true) → (b || c) ≡ true → (b || d) ≡ true
 or-same true c d f h = refl

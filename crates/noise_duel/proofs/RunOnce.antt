@@ -3,7 +3,7 @@ use Rattle.std.proofs.Common.{◌≡◌, ℕ, ◌<◌, List, [], ◌∷◌, ◌+
 use Rattle.std.specs.Prelude.{Option, Err, Result, IsTrue}
 use Rattle.noise_names.specs.declared.token.Role.{Role}
 use Rattle.noise_names.specs.Tokens.{other}
-use Rattle.noise_handshake.specs.Party.{behind_message}
+use Rattle.noise_handshake.specs.Party.{after_message}
 use Rattle.noise_session.specs.declared.faults.SendFault.{SendFault}
 use Rattle.noise_session.specs.Frames.{IsPartial}
 use Rattle.noise_session.specs.Steps.{Told}
@@ -51,8 +51,8 @@ module _ (laws : LawsBelow) where
   judged-once v x y m s t (accepted _ _ p xs a) (accepted _ _ q ys b) =
       let one = laws.accepted_once v.party m xs ys p q a b in (
         ap Payload one.1,
-        ap (λ (zs : List (List ℕ)). record v { party = behind_message v.party zs p; held = [] }) one.0
-            ∙ ap (λ (r : List ℕ). record v { party = behind_message v.party ys r; held = [] }) one.1,
+        ap (λ (zs : List (List ℕ)). record v { party = after_message v.party zs p; held = [] }) one.0
+            ∙ ap (λ (r : List ℕ). record v { party = after_message v.party ys r; held = [] }) one.1,
       )
   judged-once v x y m s t (accepted _ _ p xs a) (refused _ _ k c b) = absurd (laws.not_refused v.party m xs p k c a b)
   judged-once v x y m s t (accepted _ _ p xs a) (opened _ _ q opens low is) = let more = a.listens.more in let all = all-passed v opens in absurd (omega arith)
@@ -160,7 +160,7 @@ module _ (laws : LawsBelow) where
       let two = receives-once next x y rest more rest_notes on on_from in
       (ap (λ (z : Told). Judged z ∷ more) one.0 ∙ ap (λ (zs : List Note). Judged told ∷ zs) two.0, two.1)
 
-  -- what is noted of bytes, with what is held behind them
+  -- what is noted of bytes, with what is held after them
   abbrev all_noted : Role → List Note → Side → List (Role × Note)
   all_noted role notes s = noted_by role (notes ++ held_note (length s.view.held))
 

@@ -12,7 +12,7 @@ use Rattle.noise_state.specs.History.{History, cipher_key}
 use Rattle.noise_handshake.specs.Passed.{passed_places}
 use Rattle.noise_handshake.specs.View.{View, Accepts, Listens, Speaks}
 use Rattle.noise_handshake.specs.Writing.{Writes}
-use Rattle.noise_handshake.specs.Party.{behind_own, behind_message}
+use Rattle.noise_handshake.specs.Party.{after_own, after_message}
 use Rattle.noise_handshake.specs.Counterparts.{Counterparts, IsEquipped}
 use Rattle.noise_aead.specs.Sealing.{nonce_of}
 use Rattle.noise_aead.specs.Sealed.{length-sealed}
@@ -86,7 +86,7 @@ pub record HandshakeStep (s t : Side) (payload : List ℕ) : Type 0 where
   pub message : List ℕ
   pub writes : Writes s.view.party payload carried message
   pub accepts : Accepts t.view.party message carried payload
-  pub counterparts : Counterparts (behind_own s.view.party carried payload) (behind_message t.view.party carried payload)
+  pub counterparts : Counterparts (after_own s.view.party carried payload) (after_message t.view.party carried payload)
   pub lacks : (why : SendFault) (next : Side) → SideWrites s payload (WriteFault why) next → ⊥
   pub written : (k : ℕ) (next : Side) → SideWrites s payload (Wrote k) next
       → (next ≡ wrote_handshake s (record { message = message; carried = carried; payload = payload })) × (k ≡ length s.frames)
@@ -194,7 +194,7 @@ step-transport s t payload all all_t ones onet going going_t short low count his
     record {
       message = m;
       is = refl;
-      lacks = λ why next. writes-no-fault s next payload why free (λ k l. behind-all s.view es l.speaks.more);
+      lacks = λ why next. writes-no-fault s next payload why free (λ k l. after-all s.view es l.speaks.more);
       written = λ k next. writes-packet s next payload k es;
       can_write = writes_transport s m payload free es refl;
       can_receive = receives-can t (accepted_transport t (record { message = m; payload = payload })) m payload idle empty refl (omega (arith, size, short))
@@ -204,5 +204,5 @@ step-transport s t payload all all_t ones onet going going_t short low count his
           (reads-packet t m payload et below_last is);
     }
   where
-    behind-all : (v : EndView) → IsTrue (is_open (progress_of v)) → v.party.passed < length v.party.pattern.messages → ⊥
-    behind-all v h less = omega (arith, less, all-passed v h)
+    after-all : (v : EndView) → IsTrue (is_open (progress_of v)) → v.party.passed < length v.party.pattern.messages → ⊥
+    after-all v h less = omega (arith, less, all-passed v h)

@@ -13,7 +13,7 @@ use Rattle.noise_names.specs.Overhead.{overhead_of}
 use Rattle.noise_names.specs.Validity.{is_among, IsValid}
 use Rattle.noise_names.specs.Limits.{IsPattern}
 use Rattle.noise_names.specs.Names.{name_bytes}
-use Rattle.noise_state.specs.History.{History, Mix, and_then}
+use Rattle.noise_state.specs.History.{History, MixHash, and_then}
 use Rattle.noise_keys.specs.declared.keys.Own.{Own}
 use Rattle.noise_keys.specs.declared.keys.Own.TheVariants.{Ephemeral, Static}
 use Rattle.noise_handshake.specs.declared.remote.Remote.{Remote}
@@ -30,11 +30,11 @@ use Rattle.noise_events.specs.Events.{Say}
 use Rattle.noise_duel.specs.Notes.{Note, Wrote, Judged}
 use Rattle.noise_duel.specs.Runs.{Happens, Run}
 use Rattle.noise_duel.specs.Runs.Run.{ends, begins}
-use Rattle.noise_duel.specs.Conversation.{KeyMaterial, conversation, behind_conversation, public_keys_in, start_in, IsPart, InTurn, notes_of_lines}
+use Rattle.noise_duel.specs.Conversation.{KeyMaterial, conversation, after_conversation, public_keys_in, start_in, IsPart, InTurn, notes_of_lines}
 use Rattle.noise_duel.specs.Conversation.{say_events, facing, in_turn, packets_of, frames_by, payloads_in, LinesComeThrough, LinesRun}
 use Rattle.noise_duel.proofs.Parts.{HasMaterial, answers-meet}
 use Rattle.noise_duel.proofs.Lines.{say-can}
-use Rattle.noise_duel.proofs.EquallyFar.{EquallyFar, due_of, behind_due, handshake_message, HandshakeLine, handshake-at, handshake-line, transport_message}
+use Rattle.noise_duel.proofs.EquallyFar.{EquallyFar, due_of, after_due, handshake_message, HandshakeLine, handshake-at, handshake-line, transport_message}
 use Rattle.noise_duel.proofs.EquallyFar.{TransportLine, transport-at, transport-line}
 
 -- ---- all lines
@@ -72,16 +72,16 @@ module _ (laws : LawsBelow) (w : KeyMaterial) where
   abbrev from : View → List (List ℕ) → List HandshakeMessage
   from v ps = conversation w v.pattern v.passed v.secrets v.history ps
 
-  abbrev behind : View → List (List ℕ) → History
-  behind v ps = behind_conversation w v.pattern v.passed v.secrets v.history ps
+  abbrev beyond : View → List (List ℕ) → History
+  beyond v ps = after_conversation w v.pattern v.passed v.secrets v.history ps
 
   abbrev left : View → ℕ
   left v = length v.pattern.messages - v.passed
 
-  -- with the packets behind them
+  -- with the packets after them
   abbrev coming : Plan → ℕ → List (List ℕ) → History → ℕ → ℕ → ℕ → List (List ℕ) → List (Role × List ℕ) → List (Role × List ℕ)
   coming p n secrets r interval i j ps lines =
-      in_turn n (messages_of (conversation w p n secrets r ps)) ++ packets_of (behind_conversation w p n secrets r ps) interval i j lines
+      in_turn n (messages_of (conversation w p n secrets r ps)) ++ packets_of (after_conversation w p n secrets r ps) interval i j lines
 
   abbrev to_come : Sides → List (Role × List ℕ) → List (Role × List ℕ)
   to_come d lines =
@@ -96,7 +96,7 @@ module _ (laws : LawsBelow) (w : KeyMaterial) where
   record AfterLines (n : ℕ) (lines : List (Role × List ℕ)) (d e : Sides) (notes : List (Role × Note)) : Type 0 where
     noted : notes ≡ notes_of_lines (length d.initiator.frames) (length d.responder.frames) lines
     passed : e.initiator.passed ≡ d.initiator.passed ++ from d.initiator.view.party (payloads_in (left d.initiator.view.party) lines)
-    history : e.initiator.view.party.history ≡ behind d.initiator.view.party (payloads_in (left d.initiator.view.party) lines)
+    history : e.initiator.view.party.history ≡ beyond d.initiator.view.party (payloads_in (left d.initiator.view.party) lines)
     frames : (r : Role) → (side e r).frames ≡ (side d r).frames ++ frames_by r (to_come d lines)
     count : e.initiator.view.party.passed ≡ d.initiator.view.party.passed + length (payloads_in (left d.initiator.view.party) lines)
     last : ℕ
@@ -106,9 +106,9 @@ module _ (laws : LawsBelow) (w : KeyMaterial) where
       → conversation w p n s r xs ≡ conversation w q m t u ys
   from-same p q n m s t r u xs ys e f g h i = cc
 
-  behind-same : (p q : Plan) (n m : ℕ) (s t : List (List ℕ)) (r u : History) (xs ys : List (List ℕ)) → p ≡ q → n ≡ m → s ≡ t → r ≡ u → xs ≡ ys
-      → behind_conversation w p n s r xs ≡ behind_conversation w q m t u ys
-  behind-same p q n m s t r u xs ys e f g h i = cc
+  after-same : (p q : Plan) (n m : ℕ) (s t : List (List ℕ)) (r u : History) (xs ys : List (List ℕ)) → p ≡ q → n ≡ m → s ≡ t → r ≡ u → xs ≡ ys
+      → after_conversation w p n s r xs ≡ after_conversation w q m t u ys
+  after-same p q n m s t r u xs ys e f g h i = cc
 
   module _ (long : (role : Role) (k : Own) → length (w.public role k) ≡ 32) where
     come : (lines : List (Role × List ℕ)) (n : ℕ) (d e : Sides) (notes : List (Role × Note)) → EquallyFar w n d
@@ -119,7 +119,7 @@ module _ (laws : LawsBelow) (w : KeyMaterial) where
         record {
           noted = refl;
           passed = sym (ap (λ (ps : List (List ℕ)). d.initiator.passed ++ from v ps) none ∙ append-nil d.initiator.passed);
-          history = sym (ap (behind v) none);
+          history = sym (ap (beyond v) none);
           frames = λ r. sym (ap (λ (ms : List (Role × List ℕ)). (side d r).frames ++ frames_by r ms)
               (ap (λ (ls : List (Role × List ℕ)). coming v.pattern v.passed v.secrets v.history d.initiator.view.interval d.initiator.view.sent
               d.responder.view.sent (payloads_in (left v) []) ls) (drop-none (left v))
@@ -147,29 +147,29 @@ module _ (laws : LawsBelow) (w : KeyMaterial) where
             let all : payloads_in (left o) (l ∷ lines) ≡ l.1 ∷ ps = ap (λ (k : ℕ). payloads_in k (l ∷ lines)) one in
             let same : payloads_in (left u) lines ≡ ps = ap (λ (k : ℕ). payloads_in k lines) rest in
             record {
-              noted = noted-on l.0 l.1 d next now later lines step.noted step.after_line.frames step.after_line.others ih.noted;
+              noted = noted-on l.0 l.1 d next now later lines step.noted step.past_line.frames step.past_line.others ih.noted;
               passed =
                   ih.passed
                   ∙ ap (λ (ms : List HandshakeMessage). ms ++ from u (payloads_in (left u) lines)) hs.passed
                   ∙ append_assoc d.initiator.passed (due_of w o l.1 ∷ []) (from u (payloads_in (left u) lines))
                   ∙ ap (λ (ms : List HandshakeMessage). d.initiator.passed ++ due_of w o l.1 ∷ ms)
                   (from-same u.pattern o.pattern u.passed (o.passed + 1) u.secrets (drop (count_by is_psk (tokens_now o)) o.secrets) u.history
-                  (behind_due w o l.1) (payloads_in (left u) lines) ps hs.pattern hs.count hs.secrets hs.history same)
+                  (after_due w o l.1) (payloads_in (left u) lines) ps hs.pattern hs.count hs.secrets hs.history same)
                   ∙ ap (λ (qs : List (List ℕ)). d.initiator.passed ++ from o qs) (sym all);
               history =
                   ih.history
-                  ∙ behind-same u.pattern o.pattern u.passed (o.passed + 1) u.secrets (drop (count_by is_psk (tokens_now o)) o.secrets) u.history
-                  (behind_due w o l.1) (payloads_in (left u) lines) ps hs.pattern hs.count hs.secrets hs.history same
-                  ∙ ap (behind o) (sym all);
+                  ∙ after-same u.pattern o.pattern u.passed (o.passed + 1) u.secrets (drop (count_by is_psk (tokens_now o)) o.secrets) u.history
+                  (after_due w o l.1) (payloads_in (left u) lines) ps hs.pattern hs.count hs.secrets hs.history same
+                  ∙ ap (beyond o) (sym all);
               frames = λ r.
                   ih.frames r
                   ∙ ap (λ (ms : List (Role × List ℕ)). (side next r).frames ++ frames_by r ms)
                   (coming-same u.pattern o.pattern u.passed (o.passed + 1) u.secrets (drop (count_by is_psk (tokens_now o)) o.secrets) u.history
-                  (behind_due w o l.1) next.initiator.view.interval d.initiator.view.interval
+                  (after_due w o l.1) next.initiator.view.interval d.initiator.view.interval
                   next.initiator.view.sent d.initiator.view.sent next.responder.view.sent d.responder.view.sent (payloads_in (left u) lines) ps
                   (drop (left u) lines) (drop (length o.pattern.messages - (o.passed + 1)) lines)
-                  hs.pattern hs.count hs.secrets hs.history step.after_line.interval hs.sent hs.sent_there same (ap (λ (k : ℕ). drop k lines) rest))
-                  ∙ sym (hs.frames r (coming o.pattern (o.passed + 1) (drop (count_by is_psk (tokens_now o)) o.secrets) (behind_due w o l.1)
+                  hs.pattern hs.count hs.secrets hs.history step.past_line.interval hs.sent hs.sent_there same (ap (λ (k : ℕ). drop k lines) rest))
+                  ∙ sym (hs.frames r (coming o.pattern (o.passed + 1) (drop (count_by is_psk (tokens_now o)) o.secrets) (after_due w o l.1)
                   d.initiator.view.interval d.initiator.view.sent d.responder.view.sent ps (drop (length o.pattern.messages - (o.passed + 1)) lines)))
                   ∙ sym (ap (λ (k : ℕ). (side d r).frames ++ frames_by r
                   (coming o.pattern o.passed o.secrets o.history d.initiator.view.interval d.initiator.view.sent d.responder.view.sent
@@ -189,13 +189,13 @@ module _ (laws : LawsBelow) (w : KeyMaterial) where
             let none : payloads_in (left o) lines ≡ payloads_in (left o) (l ∷ lines) =
             ap (λ (k : ℕ). payloads_in k lines) zero_left ∙ sym (ap (λ (k : ℕ). payloads_in k (l ∷ lines)) zero_left) in
             record {
-              noted = noted-on l.0 l.1 d next now later lines step.noted step.after_line.frames step.after_line.others ih.noted;
+              noted = noted-on l.0 l.1 d next now later lines step.noted step.past_line.frames step.past_line.others ih.noted;
               passed =
                   ih.passed ∙ ap (λ (ms : List HandshakeMessage). ms ++ from next.initiator.view.party (payloads_in (left next.initiator.view.party) lines))
                   tr.passed
                   ∙ ap (λ (z : View). d.initiator.passed ++ from z (payloads_in (left z) lines)) tr.party
                   ∙ ap (λ (qs : List (List ℕ)). d.initiator.passed ++ from o qs) none;
-              history = ih.history ∙ ap (λ (z : View). behind z (payloads_in (left z) lines)) tr.party ∙ ap (behind o) none;
+              history = ih.history ∙ ap (λ (z : View). beyond z (payloads_in (left z) lines)) tr.party ∙ ap (beyond o) none;
               frames = λ r.
                   ih.frames r
                   ∙ ap (λ (k : ℕ). (side next r).frames ++ frames_by r
@@ -227,11 +227,11 @@ module _ (laws : LawsBelow) (w : KeyMaterial) where
         go true is m rest run does =
             let more : n < length d.initiator.view.party.pattern.messages = less n (length d.initiator.view.party.pattern.messages) is in
             let step = handshake-line laws w long n l.0 l.1 d next now a more m.0 m.1 does in
-            hand more step (rest step.after_line.equally_far (subst (λ (q : Plan). InTurn q (n + 1) lines) (sym step.handshake.pattern) h.1) run)
+            hand more step (rest step.past_line.equally_far (subst (λ (q : Plan). InTurn q (n + 1) lines) (sym step.handshake.pattern) h.1) run)
         go false is m rest run does =
             let over : length d.initiator.view.party.pattern.messages ≤ n = most n (length d.initiator.view.party.pattern.messages) is in
             let step = transport-line w n l.0 l.1 d next now a over m.0 m.1 m.2 does in
-            open-on over step (rest step.after_line.equally_far
+            open-on over step (rest step.past_line.equally_far
             (subst (λ (q : Plan). InTurn q (n + 1) lines) (sym (ap (λ (z : View). z.pattern) step.transport.party)) h.1) run)
 
 -- ---- there is a run of them
@@ -266,7 +266,7 @@ module _ (laws : LawsBelow) (w : KeyMaterial) (long : (role : Role) (k : Own) �
           let next : Sides = with_side (with_side d l.0 after) (other l.0) heard in
           let does = say-can d l.0 l.1 sp.message after heard sp.can_write refl sp.can_receive in
           let step = handshake-line laws w long n l.0 l.1 d next _ a more m.0 m.1 does in
-          first next _ does (rest next step.after_line.equally_far (subst (λ (q : Plan). InTurn q (n + 1) lines) (sym step.handshake.pattern) h.1))
+          first next _ does (rest next step.past_line.equally_far (subst (λ (q : Plan). InTurn q (n + 1) lines) (sym step.handshake.pattern) h.1))
       go false is m rest =
           let over : length d.initiator.view.party.pattern.messages ≤ n = most n (length d.initiator.view.party.pattern.messages) is in
           let sp = transport-at w n l.0 l.1 d a over m.0 m.1 m.2 in
@@ -276,7 +276,7 @@ module _ (laws : LawsBelow) (w : KeyMaterial) (long : (role : Role) (k : Own) �
           let next : Sides = with_side (with_side d l.0 after) (other l.0) heard in
           let does = say-can d l.0 l.1 sp.message after heard sp.can_write refl sp.can_receive in
           let step = transport-line w n l.0 l.1 d next _ a over m.0 m.1 m.2 does in
-          first next _ does (rest next step.after_line.equally_far
+          first next _ does (rest next step.past_line.equally_far
           (subst (λ (q : Plan). InTurn q (n + 1) lines) (sym (ap (λ (z : View). z.pattern) step.transport.party)) h.1))
 
 -- ---- the start
@@ -294,8 +294,8 @@ pre-agree psks x y (E ∷ ts) r f g =
     ap (λ (o : Option (List ℕ)). with_premessage psks x ts (with_ephemeral psks r (unwrap_or o []))) (f refl)
     ∙ pre-agree psks x y ts (with_ephemeral psks r (unwrap_or y.e [])) (λ h. f refl) g
 pre-agree psks x y (S ∷ ts) r f g =
-    ap (λ (o : Option (List ℕ)). with_premessage psks x ts (and_then r (Mix (unwrap_or o [])))) (g refl)
-    ∙ pre-agree psks x y ts (and_then r (Mix (unwrap_or y.s []))) f (λ h. g refl)
+    ap (λ (o : Option (List ℕ)). with_premessage psks x ts (and_then r (MixHash (unwrap_or o [])))) (g refl)
+    ∙ pre-agree psks x y ts (and_then r (MixHash (unwrap_or y.s []))) f (λ h. g refl)
 pre-agree psks x y (Ee ∷ ts) r f g = pre-agree psks x y ts r f g
 pre-agree psks x y (Es ∷ ts) r f g = pre-agree psks x y ts r f g
 pre-agree psks x y (Se ∷ ts) r f g = pre-agree psks x y ts r f g
@@ -352,7 +352,7 @@ module _ (laws : LawsBelow) (w : KeyMaterial) (p : Plan) (prologue : List ℕ) (
   -- the history at the start is that of the key material
   start-is : (begun_as p Initiator a).history ≡ start_in w p prologue
   start-is =
-      let first : List ℕ → History = λ z. and_then (record { name = name_bytes (record { base = p.base; places = p.places }); entries = [] }) (Mix z) in
+      let first : List ℕ → History = λ z. and_then (record { name = name_bytes (record { base = p.base; places = p.places }); entries = [] }) (MixHash z) in
       ap (λ (z : List ℕ). with_premessage (has_psk p) a.remote p.responder (with_premessage (has_psk p) (public_keys a.own) p.initiator (first z)))
       i.prologue_is
       ∙ ap (λ (r : History). with_premessage (has_psk p) a.remote p.responder r)
@@ -406,7 +406,7 @@ lines-come-through laws w p prologue a b interval lines notes d parts turns run 
             (payloads_in (length p.messages - 0) lines) (payloads_in (length p.messages) lines)
             (drop (length p.messages - 0) lines) (drop (length p.messages) lines) refl refl i.secrets (start-is laws w p prologue a b i j) refl refl refl all
             (ap (λ (k : ℕ). drop k lines) (omega arith)));
-        history = c.history ∙ behind-same laws w p p 0 0 a.secrets w.secrets v.history (start_in w p prologue) (payloads_in (length p.messages - 0) lines)
+        history = c.history ∙ after-same laws w p p 0 0 a.secrets w.secrets v.history (start_in w p prologue) (payloads_in (length p.messages - 0) lines)
             (payloads_in (length p.messages) lines) refl refl i.secrets (start-is laws w p prologue a b i j) all;
         count = omega (arith, c.count, ap length all);
         ends = record {

@@ -13,12 +13,12 @@ use Rattle.noise_state.specs.History.{History, cipher_key}
 use Rattle.noise_keys.specs.declared.keys.Own.{Own}
 use Rattle.noise_handshake.specs.declared.remote.Remote.{Remote}
 use Rattle.noise_handshake.specs.declared.faults.Cause.{Cause}
-use Rattle.noise_handshake.specs.Line.{behind_line}
+use Rattle.noise_handshake.specs.Line.{after_line}
 use Rattle.noise_handshake.specs.Length.{Carry}
 use Rattle.noise_handshake.specs.Passed.{passed_places}
 use Rattle.noise_handshake.specs.View.{View, Accepts, Refuses, Speaks, answered, own_at, remote_at, start, tokens_at, tokens_now}
 use Rattle.noise_handshake.specs.Writing.{Writes, Lacks}
-use Rattle.noise_handshake.specs.Party.{IsKeyed, behind_message, behind_own}
+use Rattle.noise_handshake.specs.Party.{IsKeyed, after_message, after_own}
 use Rattle.noise_handshake.specs.Setup.{begun, has_before, has_token, public_keys, setup_fault, token_of}
 use Rattle.noise_handshake.specs.Counterparts.{Counterparts, AnswersMeet, IsEquipped, is_dh, keys_if, shown_after, shown_before}
 use Rattle.noise_session.specs.declared.faults.SendFault.{SendFault}
@@ -39,7 +39,7 @@ pub record LawsBelow : Type 0 where
       → is_some (cipher_key (start name p prologue initiator responder)) ≡ has_key p (passed_places p 0)
   pub keyed_next : (p : Plan) (n : ℕ) (r : History) (xs : List (List ℕ)) (payload : List ℕ)
       → n < length p.messages → Carry (tokens_at p.messages n) xs → is_some (cipher_key r) ≡ has_key p (passed_places p n)
-      → is_some (cipher_key (behind_line (has_psk p) r (tokens_at p.messages n) xs payload)) ≡ has_key p (passed_places p (n + 1))
+      → is_some (cipher_key (after_line (has_psk p) r (tokens_at p.messages n) xs payload)) ≡ has_key p (passed_places p (n + 1))
   pub written_carries : (v : View) (payload message : List ℕ) (xs : List (List ℕ)) → Writes v payload xs message → Carry (tokens_now v) xs
   pub accepted_carries : (v : View) (payload message : List ℕ) (xs : List (List ℕ)) → Accepts v message xs payload → Carry (tokens_now v) xs
   -- which tokens are among the places of a pattern
@@ -57,7 +57,7 @@ pub record LawsBelow : Type 0 where
   pub accepts : (v w : View) (payload message : List ℕ) (xs : List (List ℕ))
       → IsValid v.pattern → Counterparts v w → Writes v payload xs message → Accepts w message xs payload
   pub next : (v w : View) (payload message : List ℕ) (xs : List (List ℕ))
-      → IsValid v.pattern → Counterparts v w → Writes v payload xs message → Counterparts (behind_own v xs payload) (behind_message w xs payload)
+      → IsValid v.pattern → Counterparts v w → Writes v payload xs message → Counterparts (after_own v xs payload) (after_message w xs payload)
   pub turned : (v w : View) → Counterparts v w → Counterparts w v
   pub known : (v w : View) → Counterparts v w → v.remote ≡ shown_after v.pattern (other v.role) v.passed w.own
   pub answer : (agree : Own → List ℕ → Option (List ℕ)) (x : Own) (role : Role) (e s : Bool) (theirs : Own → Option (List ℕ)) (t : Token)

@@ -16,7 +16,7 @@ use Rattle.noise_state.specs.History.{History}
 use Rattle.noise_keys.specs.declared.keys.Own.{Own}
 use Rattle.noise_keys.specs.declared.keys.Own.TheVariants.{Ephemeral, Static}
 use Rattle.noise_handshake.specs.declared.remote.Remote.{Remote}
-use Rattle.noise_handshake.specs.Line.{line, behind_line}
+use Rattle.noise_handshake.specs.Line.{line, after_line}
 use Rattle.noise_handshake.specs.View.{start, tokens_at, first_secret, other_secrets, own_at, remote_at, answered}
 use Rattle.noise_handshake.specs.Setup.{has_before, token_of}
 use Rattle.noise_handshake.specs.Counterparts.{is_dh}
@@ -55,14 +55,14 @@ conversation w p n secrets r (payload ∷ payloads) =
       payload = payload;
     }
     ∷ conversation w p (n + 1) (drop (count_by is_psk (tokens_at p.messages n)) secrets)
-    (behind_line (has_psk p) r (tokens_at p.messages n) (carried_by w (turn_from Initiator n) secrets (tokens_at p.messages n)) payload) payloads
+    (after_line (has_psk p) r (tokens_at p.messages n) (carried_by w (turn_from Initiator n) secrets (tokens_at p.messages n)) payload) payloads
 
--- the history behind them (Noise 5.3)
-abbrev pub behind_conversation : KeyMaterial → Plan → ℕ → List (List ℕ) → History → List (List ℕ) → History
-behind_conversation w p n secrets r [] = r
-behind_conversation w p n secrets r (payload ∷ payloads) =
-    behind_conversation w p (n + 1) (drop (count_by is_psk (tokens_at p.messages n)) secrets)
-    (behind_line (has_psk p) r (tokens_at p.messages n) (carried_by w (turn_from Initiator n) secrets (tokens_at p.messages n)) payload) payloads
+-- the history after them (Noise 5.3)
+abbrev pub after_conversation : KeyMaterial → Plan → ℕ → List (List ℕ) → History → List (List ℕ) → History
+after_conversation w p n secrets r [] = r
+after_conversation w p n secrets r (payload ∷ payloads) =
+    after_conversation w p (n + 1) (drop (count_by is_psk (tokens_at p.messages n)) secrets)
+    (after_line (has_psk p) r (tokens_at p.messages n) (carried_by w (turn_from Initiator n) secrets (tokens_at p.messages n)) payload) payloads
 
 -- a party's public keys
 abbrev pub public_keys_in : KeyMaterial → Role → Remote
@@ -113,7 +113,7 @@ abbrev pub in_turn : ℕ → List (List ℕ) → List (Role × List ℕ)
 in_turn n [] = []
 in_turn n (m ∷ ms) = (turn_from Initiator n, m) ∷ in_turn (n + 1) ms
 
--- the transport messages of lines with their writers, behind a history and so many packets of each (Noise 5.2)
+-- the transport messages of lines with their writers, after a history and so many packets of each (Noise 5.2)
 abbrev pub packets_of : History → ℕ → ℕ → ℕ → List (Role × List ℕ) → List (Role × List ℕ)
 packets_of r interval i j [] = []
 packets_of r interval i j (l ∷ lines) =
@@ -134,7 +134,7 @@ payloads_in k lines = map (λ l. l.1) (take k lines)
 abbrev pub transcript : KeyMaterial → Plan → List ℕ → ℕ → List (Role × List ℕ) → List (Role × List ℕ)
 transcript w p prologue interval lines =
     in_turn 0 (messages_of (conversation w p 0 w.secrets (start_in w p prologue) (payloads_in (length p.messages) lines)))
-    ++ packets_of (behind_conversation w p 0 w.secrets (start_in w p prologue) (payloads_in (length p.messages) lines)) interval 0 0
+    ++ packets_of (after_conversation w p 0 w.secrets (start_in w p prologue) (payloads_in (length p.messages) lines)) interval 0 0
     (drop (length p.messages) lines)
 
 -- two new ends of one pattern, with these intervals
@@ -149,7 +149,7 @@ pub record ComeThrough (w : KeyMaterial) (p : Plan) (prologue : List ℕ) (inter
   pub frames : (role : Role) → (side d role).frames ≡ frames_by role (transcript w p prologue interval lines)
   pub initiator : d.initiator.passed ≡ conversation w p 0 w.secrets (start_in w p prologue) (payloads_in (length p.messages) lines)
   pub responder : d.responder.passed ≡ d.initiator.passed
-  pub history : d.initiator.view.party.history ≡ behind_conversation w p 0 w.secrets (start_in w p prologue) (payloads_in (length p.messages) lines)
+  pub history : d.initiator.view.party.history ≡ after_conversation w p 0 w.secrets (start_in w p prologue) (payloads_in (length p.messages) lines)
   pub count : d.initiator.view.party.passed ≡ length (payloads_in (length p.messages) lines)
   pub ends : EndCounterparts d.initiator.view d.responder.view
   pub there : d.responder.received ≡ d.initiator.sent

@@ -37,7 +37,7 @@ pub record DuelPictures (duel : HeldDatagramDuel) (d : DatagramSides) : Type 0 w
   pub initiator : Pictures duel.initiator d.initiator.view
   pub responder : Pictures duel.responder d.responder.view
 
--- The report tells what a run makes of the two, and those left picture the views behind it.
+-- The report tells what a run makes of the two, and those left picture the views after it.
 pub record DatagramReports (d : DatagramSides) (events : List DatagramEvent) (duel : HeldDatagramDuel) (report : DatagramReport) : Type 0 where
   pub last : DatagramSides
   pub run : DatagramRun d events (datagram_notes_of report.entries.items) last

@@ -22,7 +22,7 @@ pub data PartyOpens : DatagramSide → List ℕ → DatagramNote → DatagramSid
       → PartyOpens s bytes (Payload payload) (opening s bytes payload)
   rejects : (s : DatagramSide) (bytes : List ℕ) (why : DatagramFault) → Opens s.view bytes (Err why) s.view → PartyOpens s bytes (Rejected why) s
 
--- One event, what is noted of it, and the two parties behind it.
+-- One event, what is noted of it, and the two parties after it.
 pub data DatagramHappens : DatagramSides → DatagramEvent → Role × DatagramNote → DatagramSides → Type 0 where
   is_sealed : (d : DatagramSides) (role : Role) (payload : List ℕ) (note : DatagramNote) (next : DatagramSide)
       → PartySeals (party d role) payload note next → DatagramHappens d (Seal role payload) (role, note) (with_party d role next)

@@ -41,7 +41,7 @@ new_party v = record { view = v; sealed = []; opened = [] }
 abbrev pub datagrams_in : DatagramSide → List (List ℕ)
 datagrams_in s = map whole s.sealed
 
--- behind a datagram of its own with this payload, and behind one of the other party
+-- after a datagram of its own with this payload, and after one of the other party
 abbrev pub sealing : DatagramSide → List ℕ → DatagramSide
 sealing s payload = record s {
   view = record (s.view) { sent = s.view.sent + 1 };

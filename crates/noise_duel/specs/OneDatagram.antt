@@ -13,14 +13,14 @@ use Rattle.noise_duel.specs.DatagramRuns.{PartySeals, PartyOpens, DatagramHappen
 use Rattle.noise_duel.specs.DatagramSides.{DatagramSide, DatagramSides, datagrams_in}
 use Rattle.noise_duel.specs.Entries.{bytes_of}
 
--- Behind a seal the datagrams and those that were sealed are those of another side.
+-- After a seal the datagrams and those that were sealed are those of another side.
 pub record HasSealed (s : DatagramSide) (payload : List ℕ) (entry : DatagramEntry) (datagrams : HeldDatagrams) (sealed : List (Vec ℕ Global)) : Type 0 where
   pub next : DatagramSide
   pub seals : PartySeals s payload (datagram_note_of entry) next
   pub pictures : Pictures datagrams next.view
   pub kept : bytes_of sealed ≡ datagrams_in next
 
--- Behind bytes that came the datagrams are those of another side.
+-- After bytes that came the datagrams are those of another side.
 pub record HasOpened (s : DatagramSide) (bytes : List ℕ) (entry : DatagramEntry) (datagrams : HeldDatagrams) : Type 0 where
   pub next : DatagramSide
   pub opens : PartyOpens s bytes (datagram_note_of entry) next
@@ -37,7 +37,7 @@ pub record AreKept (sealed : SealedDatagrams) (d : DatagramSides) : Type 0 where
   pub initiator : bytes_of sealed.initiator.items ≡ datagrams_in d.initiator
   pub responder : bytes_of sealed.responder.items ≡ datagrams_in d.responder
 
--- Behind an event the two are others, and an entry is told.
+-- After an event the two are others, and an entry is told.
 pub record DatagramHappened (d : DatagramSides) (event : DatagramEvent) (told : Role × DatagramEntry) (duel : HeldDatagramDuel)
     (sealed : SealedDatagrams) : Type 0 where
   pub next : DatagramSides
@@ -45,7 +45,7 @@ pub record DatagramHappened (d : DatagramSides) (event : DatagramEvent) (told : 
   pub pictures : DuelPictures duel next
   pub kept : AreKept sealed next
 
--- So far: whatever comes of the events that are left comes, behind the notes so far, of all events.
+-- So far: whatever comes of the events that are left comes, after the notes so far, of all events.
 pub record DatagramsHaveComeTo (d : DatagramSides) (events rest : List DatagramEvent) (duel : HeldDatagramDuel) (sealed : SealedDatagrams)
     (report : DatagramReport) : Type 0 where
   pub now : DatagramSides

@@ -24,7 +24,7 @@ module _ {K : Type 0} (public_of : K → Own → Option (List ℕ)) (agreement :
 
 module _ {A B : Type 0} (public_a : A → Own → Option (List ℕ)) (agreement_a : A → Own → List ℕ → Option (List ℕ))
     (public_b : B → Own → Option (List ℕ)) (agreement_b : B → Own → List ℕ → Option (List ℕ)) where
-  -- Behind a write of this role the ends and the report are others; the number is that of its frame.
+  -- After a write of this role the ends and the report are others; the number is that of its frame.
   pub record RoleWrote (d : Sides) (role : Role) (payload : List ℕ) (number : Option ℕ) (duel : HeldDuel A B) (before after : Report) : Type 0 where
     pub told : Result ℕ SendFault
     pub number_is : number ≡ result_ok told
@@ -34,7 +34,7 @@ module _ {A B : Type 0} (public_a : A → Own → Option (List ℕ)) (agreement_
     pub frames : HasFrames after (with_side d role next)
     pub entries : notes_of after.entries.items ≡ notes_of before.entries.items ++ (role, written_note told) ∷ []
 
-  -- Behind an event the ends and the report are others.
+  -- After an event the ends and the report are others.
   pub record HasHappened (d : Sides) (event : Event) (duel : HeldDuel A B) (before after : Report) : Type 0 where
     pub next : Sides
     pub notes : List (Role × Note)
@@ -43,7 +43,7 @@ module _ {A B : Type 0} (public_a : A → Own → Option (List ℕ)) (agreement_
     pub frames : HasFrames after next
     pub entries : notes_of after.entries.items ≡ notes_of before.entries.items ++ notes
 
-  -- So far: whatever comes of the events that are left comes, behind the notes so far, of all events.
+  -- So far: whatever comes of the events that are left comes, after the notes so far, of all events.
   pub record HasComeTo (d : Sides) (events rest : List Event) (duel : HeldDuel A B) (report : Report) : Type 0 where
     pub now : Sides
     pub goes_on : (notes : List (Role × Note)) (last : Sides) → Run now rest notes last

@@ -41,12 +41,12 @@ AreLeft s rest (Some left) = (idle_step (progress_of s.view) ≡ Some (step_of l
 
 module _ {K : Type 0} (public_of : K → Own → Option (List ℕ)) (agreement : K → Own → List ℕ → Option (List ℕ)) where
   -- Of bytes that come to this side all but the rest were handed over, and the entries are told of them: whatever comes of the rest, with any
-  -- bytes behind it, comes of all of them behind the notes so far.
+  -- bytes after it, comes of all of them after the notes so far.
   pub record HasReceivedSome (s : Side) (role : Role) (bytes rest : List ℕ) (end : HeldEnd K) (before after : List (Role × Entry)) : Type 0 where
     pub next : Side
     pub notes : List Note
-    pub goes_on : (behind : List ℕ) (more : List Note) (last : Side) → SideReceives next (rest ++ behind) more last
-        → SideReceives s (bytes ++ behind) (notes ++ more) last
+    pub goes_on : (beyond : List ℕ) (more : List Note) (last : Side) → SideReceives next (rest ++ beyond) more last
+        → SideReceives s (bytes ++ beyond) (notes ++ more) last
     pub stands : EndStands public_of agreement end next.view
     pub frames : next.frames ≡ s.frames
     pub told : notes_of after ≡ notes_of before ++ noted_by role notes

@@ -44,7 +44,7 @@ pub data SideReads : Side → List ℕ → Told → Side → Type 0 where
   refuses_message : (s : Side) (message : List ℕ) (step : Told) (next : EndView) → GivesNoPayload step → Judges s.view message step next
       → SideReads s message step (with_view s next)
 
--- Bytes come to an end: behind those that it holds they are cut into frames, and each frame's message is read, until the bytes end or the
+-- Bytes come to an end: after those that it holds they are cut into frames, and each frame's message is read, until the bytes end or the
 -- end doesn't listen (Noise 13).
 pub data SideReceives : Side → List ℕ → List Note → Side → Type 0 where
   is_idle : (s : Side) (bytes : List ℕ) (step : Told) → idle_step (progress_of s.view) ≡ Some step
@@ -55,7 +55,7 @@ pub data SideReceives : Side → List ℕ → List Note → Side → Type 0 wher
       → s.view.held ++ bytes ≡ frame message ++ rest → length message ≤ 65535 → SideReads s message step next → SideReceives next rest notes last
       → SideReceives s bytes (Judged step ∷ notes) last
 
--- One event, what is noted of it, and the two ends behind it.
+-- One event, what is noted of it, and the two ends after it.
 pub data Happens : Sides → Event → List (Role × Note) → Sides → Type 0 where
   writes : (d : Sides) (role : Role) (payload : List ℕ) (note : Note) (next : Side) → SideWrites (side d role) payload note next
       → Happens d (Write role payload) ((role, note) ∷ []) (with_side d role next)

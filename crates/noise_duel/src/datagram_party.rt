@@ -17,7 +17,7 @@ const OVERHEAD: usize = 24;
 // The longest payload in bytes.
 const PAYLOAD_MAX: usize = 65519;
 
-/// Seals a payload, keeps the datagram behind those that were sealed before, and tells of it.
+/// Seals a payload, keeps the datagram after those that were sealed before, and tells of it.
 pub(crate) fn seal(
     alloc: Global,
     datagrams: &mut Datagrams,

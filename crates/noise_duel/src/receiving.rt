@@ -50,11 +50,11 @@ fn receive_pieces<K: Keys>(
     let mut rest = bytes;
     let mut index = 0;
     while !rest.is_empty() {
-        let (piece, behind) = rest.split_at(cuts.piece_len(index, rest.len()));
+        let (piece, after) = rest.split_at(cuts.piece_len(index, rest.len()));
         if let Some((why, left)) = receive_piece(alloc, role, end, piece, entries)? {
-            return Ok(Some((why, left + behind.len())));
+            return Ok(Some((why, left + after.len())));
         }
-        rest = behind;
+        rest = after;
         index += 1;
     }
     Ok(None)
@@ -80,8 +80,8 @@ fn receive_piece<K: Keys>(
             return Ok(left_at(step, rest.len()));
         }
         tell(alloc, role, step, entries)?;
-        let (_, behind) = rest.split_at(count);
-        rest = behind;
+        let (_, after) = rest.split_at(count);
+        rest = after;
     }
     Ok(None)
 }

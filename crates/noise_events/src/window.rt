@@ -1,8 +1,8 @@
-//! How far a datagram may come behind another one (Noise, 11.4).
+//! How far a datagram may come after another one (Noise, 11.4).
 
 ghost use Rattle.std.specs.Prelude.{◌≡◌};
 
-/// How far a datagram may come behind another one and still be opened: the nonces less than the width below the greatest
+/// How far a datagram may come after another one and still be opened: the nonces less than the width below the greatest
 /// accepted one, each of which is accepted once.
 #[derive(Clone, Copy, Debug, PartialEq, Eq)]
 pub enum Window {

@@ -21,7 +21,7 @@ unended-write h len e = unended h.ended _ _ e
 -- some of the secrets that were left are taken from their front
 pub advanced : {K : Type 0} (old new : Held K) (secrets : List (List ℕ)) (used count : ℕ) → new.pattern ≡ old.pattern → new.role ≡ old.role → new.keys ≡ old.keys
     → new.passed ≡ old.passed + 1 → new.ended ≡ false → old.secrets ≡ drop used secrets → new.secrets ≡ drop (used + count) secrets → Advances old new
-advanced old new secrets used count p r k n e before behind = record {
+advanced old new secrets used count p r k n e before after = record {
   pattern = p;
   role = r;
   keys = k;
@@ -29,5 +29,5 @@ advanced old new secrets used count p r k n e before behind = record {
   ended = e;
   taken = take count old.secrets;
   secrets = sym (take-append-drop count old.secrets)
-      ∙ ap (λ (z : List (List ℕ)). take count old.secrets ++ z) (ap (drop count) before ∙ drop-drop count used secrets ∙ sym behind);
+      ∙ ap (λ (z : List (List ℕ)). take count old.secrets ++ z) (ap (drop count) before ∙ drop-drop count used secrets ∙ sym after);
 }

@@ -9,8 +9,8 @@ use Rattle.noise_state.specs.History.{History, cipher_key, piece}
 use Rattle.noise_state.specs.Pieces.{length-piece, piece-same}
 use Rattle.noise_handshake.specs.declared.remote.Remote.{Remote}
 use Rattle.noise_handshake.specs.declared.faults.Cause.{Cause}
-use Rattle.noise_handshake.specs.Line.{token_piece, behind_token, front, behind_front}
-use Rattle.noise_handshake.specs.View.{View, Reader, reader, Fits, Fit, known_behind, secrets_behind, Leads, Reaches, Reads, Stops, Accepts, cause_of}
+use Rattle.noise_handshake.specs.Line.{token_piece, after_token, front, after_front}
+use Rattle.noise_handshake.specs.View.{View, Reader, reader, Fits, Fit, known_after, secrets_after, Leads, Reaches, Reads, Stops, Accepts, cause_of}
 use Rattle.noise_handshake.specs.View.{cause_at, learned, tokens_now}
 use Rattle.noise_handshake.specs.inner.Listening.{Fails, StopsKnowing}
 use Rattle.noise_handshake.specs.declared.faults.Cause.TheVariants.{Short, Tag}
@@ -24,7 +24,7 @@ split-apart a b p q n e = (
 some-same : (o : Option (List ℕ)) (x y : List ℕ) → o ≡ Some x → o ≡ Some y → x ≡ y
 some-same o x y f g = cc
 
--- a token's text and what is behind it are determined
+-- a token's text and what is after it are determined
 pub token-apart : (v : Reader) (known : Remote) (secrets : List (List ℕ)) (r : History) (t : Token) (x y p q : List ℕ)
     → Fits v known secrets t x → Fits v known secrets t y → token_piece r t x ++ p ≡ token_piece r t y ++ q → (x ≡ y) × (p ≡ q)
 token-apart v known secrets r E x y p q f g e = split-apart x y p q (f ∙ sym g) e
@@ -51,23 +51,23 @@ front-apart v known secrets r [] (x ∷ xs) ys p q f g e = absurd f
 front-apart v known secrets r (t ∷ ts) [] ys p q f g e = absurd f
 front-apart v known secrets r (t ∷ ts) (x ∷ xs) [] p q f g e = absurd g
 front-apart v known secrets r (t ∷ ts) (x ∷ xs) (y ∷ ys) p q f g e =
-    let a : List ℕ = front v.psks (behind_token v.psks r t x) ts xs in
-    let b : List ℕ = front v.psks (behind_token v.psks r t y) ts ys in
+    let a : List ℕ = front v.psks (after_token v.psks r t x) ts xs in
+    let b : List ℕ = front v.psks (after_token v.psks r t y) ts ys in
     let h = token-apart v known secrets r t x y (a ++ p) (b ++ q) f.0 g.0
     (sym (append_assoc (token_piece r t x) a p) ∙ e ∙ append_assoc (token_piece r t y) b q) in
-    let g1 = subst (λ (z : List ℕ). Fit v (known_behind known t z) (secrets_behind secrets t) ts ys) (sym h.0) g.1 in
-    let e1 : a ++ p ≡ front v.psks (behind_token v.psks r t x) ts ys ++ q =
-    h.1 ∙ ap (λ (z : List ℕ). front v.psks (behind_token v.psks r t z) ts ys ++ q) (sym h.0) in
-    let i = front-apart v (known_behind known t x) (secrets_behind secrets t) (behind_token v.psks r t x) ts xs ys p q f.1 g1 e1 in
+    let g1 = subst (λ (z : List ℕ). Fit v (known_after known t z) (secrets_after secrets t) ts ys) (sym h.0) g.1 in
+    let e1 : a ++ p ≡ front v.psks (after_token v.psks r t x) ts ys ++ q =
+    h.1 ∙ ap (λ (z : List ℕ). front v.psks (after_token v.psks r t z) ts ys ++ q) (sym h.0) in
+    let i = front-apart v (known_after known t x) (secrets_after secrets t) (after_token v.psks r t x) ts xs ys p q f.1 g1 e1 in
     (cons-same x y xs ys h.0 i.0, i.1)
 
 -- no other texts and payload fit a message
 pub reads-one : (v : Reader) (known : Remote) (secrets : List (List ℕ)) (r : History) (ts : List Token) (m : List ℕ) (xs ys : List (List ℕ)) (p q : List ℕ)
     → Reads v known secrets r ts m xs p → Reads v known secrets r ts m ys q → (xs ≡ ys) × (p ≡ q)
 reads-one v known secrets r ts m xs ys p q a b =
-    let h = front-apart v known secrets r ts xs ys (piece (behind_front v.psks r ts xs) p) (piece (behind_front v.psks r ts ys) q) a.fit b.fit
+    let h = front-apart v known secrets r ts xs ys (piece (after_front v.psks r ts xs) p) (piece (after_front v.psks r ts ys) q) a.fit b.fit
     (sym a.spelled ∙ b.spelled) in
-    (h.0, piece-same (behind_front v.psks r ts xs) p q (h.1 ∙ ap (λ (zs : List (List ℕ)). piece (behind_front v.psks r ts zs) q) (sym h.0)))
+    (h.0, piece-same (after_front v.psks r ts xs) p q (h.1 ∙ ap (λ (zs : List (List ℕ)). piece (after_front v.psks r ts zs) q) (sym h.0)))
 
 pub accepts-one : (v : View) (m : List ℕ) (xs ys : List (List ℕ)) (p q : List ℕ) → Accepts v m xs p → Accepts v m ys q → (xs ≡ ys) × (p ≡ q)
 accepts-one v m xs ys p q a b = reads-one (reader v) v.remote v.secrets v.history (tokens_now v) m xs ys p q a.reads b.reads
@@ -80,7 +80,7 @@ leads-none v known secrets r m = record { fit = tt; spelled = refl }
 pub leads-more : (v : Reader) (known : Remote) (secrets : List (List ℕ)) (r : History) (t : Token) (x : List ℕ) (ts : List Token) (xs : List (List ℕ))
     (m more rest : List ℕ)
     → Fits v known secrets t x → m ≡ token_piece r t x ++ more
-    → Leads v (known_behind known t x) (secrets_behind secrets t) (behind_token v.psks r t x) ts xs more rest
+    → Leads v (known_after known t x) (secrets_after secrets t) (after_token v.psks r t x) ts xs more rest
     → Leads v known secrets r (t ∷ ts) (x ∷ xs) m rest
 leads-more v known secrets r t x ts xs m more rest f e l = record {
   fit = (f, l.fit);
@@ -108,28 +108,28 @@ stops-here v known secrets r t ts m cause bad why = (
   refl,
 )
 
--- what leads beyond a token leads from behind it
+-- what leads beyond a token leads from after it
 leads-less : (v : Reader) (known : Remote) (secrets : List (List ℕ)) (r : History) (t : Token) (x : List ℕ) (ts : List Token) (xs : List (List ℕ))
     (m more rest : List ℕ)
     → Fits v known secrets t x → m ≡ token_piece r t x ++ more → Leads v known secrets r (t ∷ ts) xs m rest
-    → Reaches v (known_behind known t x) (secrets_behind secrets t) (behind_token v.psks r t x) ts more
+    → Reaches v (known_after known t x) (secrets_after secrets t) (after_token v.psks r t x) ts more
 leads-less v known secrets r t x ts [] m more rest f e l = absurd l.fit
 leads-less v known secrets r t x ts (y ∷ ys) m more rest f e l =
-    let b : List ℕ = front v.psks (behind_token v.psks r t y) ts ys in
+    let b : List ℕ = front v.psks (after_token v.psks r t y) ts ys in
     let h = token-apart v known secrets r t x y more (b ++ rest) f l.fit.0 (sym e ∙ l.spelled ∙ append_assoc (token_piece r t y) b rest) in
     record {
       carried = ys;
       rest = rest;
       leads = record {
-        fit = subst (λ (z : List ℕ). Fit v (known_behind known t z) (secrets_behind secrets t) ts ys) (sym h.0) l.fit.1;
-        spelled = h.1 ∙ ap (λ (z : List ℕ). front v.psks (behind_token v.psks r t z) ts ys ++ rest) (sym h.0);
+        fit = subst (λ (z : List ℕ). Fit v (known_after known t z) (secrets_after secrets t) ts ys) (sym h.0) l.fit.1;
+        spelled = h.1 ∙ ap (λ (z : List ℕ). front v.psks (after_token v.psks r t z) ts ys ++ rest) (sym h.0);
       };
     }
 
 pub stops-later : (v : Reader) (known : Remote) (secrets : List (List ℕ)) (r : History) (t : Token) (x : List ℕ) (ts : List Token) (m more : List ℕ)
     (k : ℕ) (cause : Cause) (here : Remote)
     → k < length ts → Fits v known secrets t x → m ≡ token_piece r t x ++ more
-    → StopsKnowing v (known_behind known t x) (secrets_behind secrets t) (behind_token v.psks r t x) ts more k cause here
+    → StopsKnowing v (known_after known t x) (secrets_after secrets t) (after_token v.psks r t x) ts more k cause here
     → StopsKnowing v known secrets r (t ∷ ts) m (suc k) cause here
 stops-later v known secrets r t x ts m more k cause here h f e (s, knows) = (
   record {
@@ -151,7 +151,7 @@ cause_at-end keyed (t ∷ ts) rest = cause_at-end keyed ts rest
 -- a stop at the payload
 stops-last : (v : Reader) (known : Remote) (secrets : List (List ℕ)) (r : History) (ts : List Token) (m : List ℕ) (xs : List (List ℕ))
     (rest : List ℕ) (cause : Cause)
-    → Leads v known secrets r ts xs m rest → ((payload : List ℕ) → rest ≡ piece (behind_front v.psks r ts xs) payload → ⊥)
+    → Leads v known secrets r ts xs m rest → ((payload : List ℕ) → rest ≡ piece (after_front v.psks r ts xs) payload → ⊥)
     → cause ≡ (if nat_lt (length rest) 16 then Short else Tag) → Stops v known secrets r ts m (length ts) cause
 stops-last v known secrets r ts m xs rest cause l bad why =
     let whole : take (length ts) ts ≡ ts = take_all (length ts) ts (omega arith) in
@@ -162,15 +162,15 @@ stops-last v known secrets r ts m xs rest cause l bad why =
       leads = subst (λ (us : List Token). Leads v known secrets r us xs m rest) (sym whole) l;
       further = λ h. absurd (omega arith);
       unread = λ e ys payload reads.
-          let h = front-apart v known secrets r ts xs ys rest (piece (behind_front v.psks r ts ys) payload) l.fit reads.fit (sym l.spelled ∙ reads.spelled) in
-          bad payload (h.1 ∙ ap (λ (zs : List (List ℕ)). piece (behind_front v.psks r ts zs) payload) (sym h.0));
-      why = why ∙ sym (cause_at-end (is_some (cipher_key (behind_front v.psks r (take (length ts) ts) xs))) ts rest);
+          let h = front-apart v known secrets r ts xs ys rest (piece (after_front v.psks r ts ys) payload) l.fit reads.fit (sym l.spelled ∙ reads.spelled) in
+          bad payload (h.1 ∙ ap (λ (zs : List (List ℕ)). piece (after_front v.psks r ts zs) payload) (sym h.0));
+      why = why ∙ sym (cause_at-end (is_some (cipher_key (after_front v.psks r (take (length ts) ts) xs))) ts rest);
     }
 
 -- with what is known there
 pub knows-last : (v : Reader) (known here : Remote) (secrets : List (List ℕ)) (r : History) (ts : List Token) (m : List ℕ) (xs : List (List ℕ))
     (rest : List ℕ) (cause : Cause)
-    → Leads v known secrets r ts xs m rest → ((payload : List ℕ) → rest ≡ piece (behind_front v.psks r ts xs) payload → ⊥)
+    → Leads v known secrets r ts xs m rest → ((payload : List ℕ) → rest ≡ piece (after_front v.psks r ts xs) payload → ⊥)
     → cause ≡ (if nat_lt (length rest) 16 then Short else Tag) → here ≡ learned known ts xs → StopsKnowing v known secrets r ts m (length ts) cause here
 unfolding stops-last
 knows-last v known here secrets r ts m xs rest cause l bad why e =
@@ -178,7 +178,7 @@ knows-last v known here secrets r ts m xs rest cause l bad why e =
 
 pub reads-whole : (v : Reader) (known : Remote) (secrets : List (List ℕ)) (r : History) (ts : List Token) (m : List ℕ) (xs : List (List ℕ))
     (rest payload : List ℕ)
-    → Leads v known secrets r ts xs m rest → rest ≡ piece (behind_front v.psks r ts xs) payload → Reads v known secrets r ts m xs payload
+    → Leads v known secrets r ts xs m rest → rest ≡ piece (after_front v.psks r ts xs) payload → Reads v known secrets r ts m xs payload
 reads-whole v known secrets r ts m xs rest payload l e = record {
   fit = l.fit;
   spelled = l.spelled ∙ ap (λ (k : List ℕ). front v.psks r ts xs ++ k) e;
@@ -191,10 +191,10 @@ reads-leads v known secrets r ts xs m rest zero l = record { carried = []; rest 
 reads-leads v known secrets r [] xs m rest (suc k) l = record { carried = []; rest = m; leads = leads-none v known secrets r m }
 reads-leads v known secrets r (t ∷ ts) [] m rest (suc k) l = absurd l.fit
 reads-leads v known secrets r (t ∷ ts) (x ∷ xs) m rest (suc k) l =
-    let next : History = behind_token v.psks r t x in
+    let next : History = after_token v.psks r t x in
     let more : List ℕ = front v.psks next ts xs ++ rest in
     let e : m ≡ token_piece r t x ++ more = l.spelled ∙ append_assoc (token_piece r t x) (front v.psks next ts xs) rest in
-    let i = reads-leads v (known_behind known t x) (secrets_behind secrets t) next ts xs more rest k (record { fit = l.fit.1; spelled = refl }) in
+    let i = reads-leads v (known_after known t x) (secrets_after secrets t) next ts xs more rest k (record { fit = l.fit.1; spelled = refl }) in
     record {
       carried = x ∷ i.carried;
       rest = i.rest;
@@ -212,8 +212,8 @@ pub stops-not : (v : Reader) (known : Remote) (secrets : List (List ℕ)) (r : H
     (xs : List (List ℕ)) (p : List ℕ)
     → Stops v known secrets r ts m k cause → Reads v known secrets r ts m xs p → ⊥
 stops-not v known secrets r ts m k cause xs p s a =
-    let l : Leads v known secrets r ts xs m (piece (behind_front v.psks r ts xs) p) = record { fit = a.fit; spelled = a.spelled } in
+    let l : Leads v known secrets r ts xs m (piece (after_front v.psks r ts xs) p) = record { fit = a.fit; spelled = a.spelled } in
     elim (at-most k (length ts) s.within) [
-      | inl h ↦ s.further h (reads-leads v known secrets r ts xs m (piece (behind_front v.psks r ts xs) p) (suc k) l)
+      | inl h ↦ s.further h (reads-leads v known secrets r ts xs m (piece (after_front v.psks r ts xs) p) (suc k) l)
       | inr e ↦ s.unread e xs p a
     ]

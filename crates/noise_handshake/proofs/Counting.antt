@@ -18,7 +18,7 @@ uses-keyed s k = record { unkeyed = λ (none : keyed s ≡ false). clash (keyed 
 pub uses-same : (s t : SymmetricState) → keyed t ≡ keyed s → nonce_now t ≡ nonce_now s → CountsUses s → CountsUses t
 uses-same s t k n u = record { unkeyed = λ (none : keyed t ≡ false). n ∙ u.unkeyed (sym k ∙ none) }
 
--- a state behind an encryption or a decryption
+-- a state after an encryption or a decryption
 pub uses-next : (s t : SymmetricState) → keyed t ≡ keyed s → nonce_now t ≡ next_nonce (keyed s) (nonce_now s) → CountsUses s → CountsUses t
 uses-next s t k n u = record {
   unkeyed = λ (none : keyed t ≡ false).
@@ -34,8 +34,8 @@ pub most-unkeyed : (b : Bool) (passed n : ℕ) → n ≤ most_used b passed → 
 most-unkeyed true passed n h e = clash true refl e n
 most-unkeyed false passed n h e = omega (arith, h)
 
--- the bound behind one message more
-pub most-behind : (before behind : Bool) (passed n more length : ℕ) → n ≤ most_used before passed → more ≤ n + length + 1 → length ≤ 10
-    → (behind ≡ false → more ≡ 0) → more ≤ most_used behind (passed + 1)
-most-behind before true passed n more length h e short none = omega (arith, most-any before passed n h, e, short)
-most-behind before false passed n more length h e short none = omega (arith, none refl)
+-- the bound after one message more
+pub most-after : (before after : Bool) (passed n more length : ℕ) → n ≤ most_used before passed → more ≤ n + length + 1 → length ≤ 10
+    → (after ≡ false → more ≡ 0) → more ≤ most_used after (passed + 1)
+most-after before true passed n more length h e short none = omega (arith, most-any before passed n h, e, short)
+most-after before false passed n more length h e short none = omega (arith, none refl)

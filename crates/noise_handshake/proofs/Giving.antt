@@ -6,14 +6,14 @@ use Rattle.noise_names.specs.declared.token.Token.TheVariants.{E, S, Ee, Es, Se,
 use Rattle.noise_names.specs.Plan.{has_psk}
 use Rattle.noise_state.specs.History.{History}
 use Rattle.noise_handshake.specs.declared.remote.Remote.{Remote}
-use Rattle.noise_handshake.specs.Line.{token_piece, behind_token, front, behind_front, line}
-use Rattle.noise_handshake.specs.Length.{keyed_behind, keyed_behind_tokens, tag_width, token_width, tokens_width, added_width}
-use Rattle.noise_handshake.specs.View.{View, secrets_behind, tokens_now}
+use Rattle.noise_handshake.specs.Line.{token_piece, after_token, front, after_front, line}
+use Rattle.noise_handshake.specs.Length.{keyed_after, keyed_after_tokens, tag_width, token_width, tokens_width, added_width}
+use Rattle.noise_handshake.specs.View.{View, secrets_after, tokens_now}
 use Rattle.noise_handshake.specs.Writing.{Writer, writer, Gives, Given, LacksAt, Writes, Lacks}
 
 -- one token more in front
 pub lacks-later : (w : Writer) (known : Remote) (secrets : List (List ℕ)) (t : Token) (ts : List Token) (x : List ℕ) (k : ℕ)
-    → Gives w known secrets t x → LacksAt w known (secrets_behind secrets t) ts k → LacksAt w known secrets (t ∷ ts) (suc k)
+    → Gives w known secrets t x → LacksAt w known (secrets_after secrets t) ts k → LacksAt w known secrets (t ∷ ts) (suc k)
 lacks-later w known secrets t ts x k g l = record {
   within = omega (arith, l.within);
   before = x ∷ l.before;
@@ -25,38 +25,38 @@ lacks-later w known secrets t ts x k g l = record {
     further [] h = h
     further (y ∷ ys) h = l.none ys h.1
 
--- a token and those behind it take no more than there is for all of them
+-- a token and those after it take no more than there is for all of them
 pub widths : (psks keyed keyed2 : Bool) (tokens ts : List Token) (t : Token) (n k room : ℕ) → tokens ≡ t ∷ ts → tokens_width psks keyed tokens ≤ room
-    → n ≡ token_width keyed t → keyed2 ≡ keyed_behind psks keyed t → k ≡ tokens_width psks keyed2 ts → n + k ≤ room
+    → n ≡ token_width keyed t → keyed2 ≡ keyed_after psks keyed t → k ≡ tokens_width psks keyed2 ts → n + k ≤ room
 widths psks keyed keyed2 tokens ts t n k room split fits e f h =
     let all : tokens_width psks keyed (t ∷ ts) ≤ room = subst (λ (us : List Token). tokens_width psks keyed us ≤ room) split fits in
-    let more : k ≡ tokens_width psks (keyed_behind psks keyed t) ts = h ∙ ap (λ (b : Bool). tokens_width psks b ts) f in
+    let more : k ≡ tokens_width psks (keyed_after psks keyed t) ts = h ∙ ap (λ (b : Bool). tokens_width psks b ts) f in
     omega (arith, all, e, more)
 
 -- the same of the tokens and a payload
 pub widths-last : (psks keyed keyed2 : Bool) (ts : List Token) (n k p room : ℕ) → added_width psks keyed ts + p ≤ room
-    → n ≡ tokens_width psks keyed ts → keyed2 ≡ keyed_behind_tokens psks keyed ts → k ≡ p + tag_width keyed2 → n + k ≤ room
+    → n ≡ tokens_width psks keyed ts → keyed2 ≡ keyed_after_tokens psks keyed ts → k ≡ p + tag_width keyed2 → n + k ≤ room
 widths-last psks keyed keyed2 ts n k p room fits e f h = omega (arith, ap tag_width f)
 
 module _ (w : Writer) (known : Remote) (secrets others : List (List ℕ)) (r : History) (tokens ts : List Token) (t : Token) (x : List ℕ)
-    (split : tokens ≡ t ∷ ts) (gives : Gives w known secrets t x) (holds : others ≡ secrets_behind secrets t) where
+    (split : tokens ≡ t ∷ ts) (gives : Gives w known secrets t x) (holds : others ≡ secrets_after secrets t) where
   pub given-on : (xs : List (List ℕ)) → Given w known others ts xs → Given w known secrets tokens (x ∷ xs)
   given-on xs h =
-      let later : Given w known (secrets_behind secrets t) ts xs = subst (λ (z : List (List ℕ)). Given w known z ts xs) holds h in
+      let later : Given w known (secrets_after secrets t) ts xs = subst (λ (z : List (List ℕ)). Given w known z ts xs) holds h in
       subst (λ (us : List Token). Given w known secrets us (x ∷ xs)) (sym split) (gives, later)
 
-  pub front-on : (xs : List (List ℕ)) (start more : List ℕ) → start ≡ token_piece r t x → more ≡ front w.psks (behind_token w.psks r t x) ts xs
+  pub front-on : (xs : List (List ℕ)) (start more : List ℕ) → start ≡ token_piece r t x → more ≡ front w.psks (after_token w.psks r t x) ts xs
       → start ++ more ≡ front w.psks r tokens (x ∷ xs)
   front-on xs start more e f =
       ap (λ (z : List ℕ). z ++ more) e ∙ ap (λ (z : List ℕ). token_piece r t x ++ z) f ∙ ap (λ (us : List Token). front w.psks r us (x ∷ xs)) (sym split)
 
-  pub behind-on : {St : Type 0} (stands : St → History → Type 0) (state : St) (xs : List (List ℕ))
-      → stands state (behind_front w.psks (behind_token w.psks r t x) ts xs) → stands state (behind_front w.psks r tokens (x ∷ xs))
-  behind-on stands state xs h = subst (λ (us : List Token). stands state (behind_front w.psks r us (x ∷ xs))) (sym split) h
+  pub after-on : {St : Type 0} (stands : St → History → Type 0) (state : St) (xs : List (List ℕ))
+      → stands state (after_front w.psks (after_token w.psks r t x) ts xs) → stands state (after_front w.psks r tokens (x ∷ xs))
+  after-on stands state xs h = subst (λ (us : List Token). stands state (after_front w.psks r us (x ∷ xs))) (sym split) h
 
   pub lacks-on : (k : ℕ) → LacksAt w known others ts k → LacksAt w known secrets tokens (k + 1)
   lacks-on k l =
-      let later : LacksAt w known (secrets_behind secrets t) ts k = subst (λ (z : List (List ℕ)). LacksAt w known z ts k) holds l in
+      let later : LacksAt w known (secrets_after secrets t) ts k = subst (λ (z : List (List ℕ)). LacksAt w known z ts k) holds l in
       rw add-one (subst (λ (us : List Token). LacksAt w known secrets us (suc k)) (sym split) (lacks-later w known secrets t ts x k gives later))
 
 -- ---- what a party gives is determined
@@ -79,7 +79,7 @@ given-one w known secrets (t ∷ ts) [] ys g h = absurd g
 given-one w known secrets (t ∷ ts) (x ∷ xs) [] g h = absurd h
 given-one w known secrets (t ∷ ts) (x ∷ xs) (y ∷ ys) g h =
     ap (λ (z : List ℕ). z ∷ xs) (gives-one w known secrets t x y g.0 h.0)
-    ∙ ap (λ (zs : List (List ℕ)). y ∷ zs) (given-one w known (secrets_behind secrets t) ts xs ys g.1 h.1)
+    ∙ ap (λ (zs : List (List ℕ)). y ∷ zs) (given-one w known (secrets_after secrets t) ts xs ys g.1 h.1)
 
 -- one text for each of the first tokens
 given-front : (w : Writer) (known : Remote) (secrets : List (List ℕ)) (ts : List Token) (xs : List (List ℕ)) (n : ℕ) → Given w known secrets ts xs
@@ -88,7 +88,7 @@ given-front w known secrets ts xs zero g = tt
 given-front w known secrets [] [] (suc n) g = tt
 given-front w known secrets [] (x ∷ xs) (suc n) g = absurd g
 given-front w known secrets (t ∷ ts) [] (suc n) g = absurd g
-given-front w known secrets (t ∷ ts) (x ∷ xs) (suc n) g = (g.0, given-front w known (secrets_behind secrets t) ts xs n g.1)
+given-front w known secrets (t ∷ ts) (x ∷ xs) (suc n) g = (g.0, given-front w known (secrets_after secrets t) ts xs n g.1)
 
 not-before : (w : Writer) (known : Remote) (secrets : List (List ℕ)) (ts : List Token) (k j : ℕ) → LacksAt w known secrets ts k
     → LacksAt w known secrets ts j → k < j → ⊥

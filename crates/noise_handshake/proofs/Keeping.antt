@@ -1,4 +1,4 @@
--- What holds of every handshake holds behind a message.
+-- What holds of every handshake holds after a message.
 use Rattle.std.proofs.Common.{◌≡◌, ℕ, zero, suc, ◌+◌, ◌-◌, ◌<◌, ◌≤◌, List, [], ◌∷◌, length, drop, refl, ap, sym, subst, ◌∙◌, arith, length-drop}
 use Rattle.std.specs.Prelude.{Bool, Option, count_by}
 use Rattle.noise_names.specs.declared.token.Token.{Token}
@@ -9,14 +9,14 @@ use Rattle.noise_state.specs.Standing.{keyed, nonce_now}
 use Rattle.noise_state.specs.declared.symmetric.SymmetricState.{SymmetricState}
 use Rattle.noise_keys.specs.declared.keys.Own.{Own}
 use Rattle.noise_handshake.specs.declared.remote.Remote.{Remote}
-use Rattle.noise_handshake.specs.Length.{keyed_behind_tokens}
+use Rattle.noise_handshake.specs.Length.{keyed_after_tokens}
 use Rattle.noise_handshake.specs.View.{tokens_at}
 use Rattle.noise_handshake.specs.Held.{Held, most_used}
 use Rattle.noise_handshake.specs.Setup.{secrets_of}
 use Rattle.noise_handshake.specs.inner.Sound.{IsSound}
 use Rattle.noise_handshake.specs.Passed.{passed_places}
 use Rattle.noise_handshake.specs.inner.Counting.{CountsUses}
-use Rattle.noise_handshake.proofs.Counting.{most-behind, most-unkeyed}
+use Rattle.noise_handshake.proofs.Counting.{most-after, most-unkeyed}
 use Rattle.noise_handshake.proofs.Places.{has_key-passed}
 
 -- the secrets of the messages from one on
@@ -40,29 +40,29 @@ module _ {K : Type 0} (public_of : K → Own → Option (List ℕ)) (h : Held K)
   pub counts : CountsUses h.state
   counts = record { unkeyed = most-unkeyed (keyed h.state) h.passed (nonce_now h.state) s.nonce }
 
-  -- there is a key behind it exactly where the pattern says so
-  pub key-behind : (state : SymmetricState) (passed : ℕ) → passed ≡ h.passed + 1
-      → keyed state ≡ keyed_behind_tokens (has_psk h.pattern) (keyed h.state) tokens → keyed state ≡ has_key h.pattern (passed_places h.pattern passed)
-  key-behind state passed p k =
-      k ∙ ap (λ (b : Bool). keyed_behind_tokens (has_psk h.pattern) b tokens) s.keyed
-      ∙ ap (λ (ts : List Token). keyed_behind_tokens (has_psk h.pattern) (has_key h.pattern (passed_places h.pattern h.passed)) ts) e
+  -- there is a key after it exactly where the pattern says so
+  pub key-after : (state : SymmetricState) (passed : ℕ) → passed ≡ h.passed + 1
+      → keyed state ≡ keyed_after_tokens (has_psk h.pattern) (keyed h.state) tokens → keyed state ≡ has_key h.pattern (passed_places h.pattern passed)
+  key-after state passed p k =
+      k ∙ ap (λ (b : Bool). keyed_after_tokens (has_psk h.pattern) b tokens) s.keyed
+      ∙ ap (λ (ts : List Token). keyed_after_tokens (has_psk h.pattern) (has_key h.pattern (passed_places h.pattern h.passed)) ts) e
       ∙ sym (has_key-passed h.pattern h.passed due) ∙ ap (λ (i : ℕ). has_key h.pattern (passed_places h.pattern i)) (sym p)
 
-  pub sound-behind : (remote : Remote) (state : SymmetricState) (secrets : List (List ℕ)) (passed : ℕ) → passed ≡ h.passed + 1
+  pub sound-after : (remote : Remote) (state : SymmetricState) (secrets : List (List ℕ)) (passed : ℕ) → passed ≡ h.passed + 1
       → secrets ≡ drop (count_by is_psk tokens) h.secrets
-      → keyed state ≡ keyed_behind_tokens (has_psk h.pattern) (keyed h.state) tokens → nonce_now state ≤ nonce_now h.state + length tokens + 1
+      → keyed state ≡ keyed_after_tokens (has_psk h.pattern) (keyed h.state) tokens → nonce_now state ≤ nonce_now h.state + length tokens + 1
       → length tokens ≤ 10 → CountsUses state
       → IsSound public_of (record h { remote = remote; state = state; secrets = secrets; passed = passed })
-  sound-behind remote state secrets passed p d k n short u = record {
+  sound-after remote state secrets passed p d k n short u = record {
     within = omega (arith, due, p);
     few = s.few;
     secrets = ap length d ∙ length-drop (count_by is_psk tokens) h.secrets ∙ left _ _ _ counted
         ∙ ap (λ (i : ℕ). secrets_of (drop i h.pattern.messages)) (next ∙ sym p);
     has_e = s.has_e;
     has_s = s.has_s;
-    keyed = key-behind state passed p k;
+    keyed = key-after state passed p k;
     nonce = subst (λ (i : ℕ). nonce_now state ≤ most_used (keyed state) i) (sym p)
-        (most-behind (keyed h.state) (keyed state) h.passed (nonce_now h.state) (nonce_now state) (length tokens) s.nonce n short u.unkeyed);
+        (most-after (keyed h.state) (keyed state) h.passed (nonce_now h.state) (nonce_now state) (length tokens) s.nonce n short u.unkeyed);
   } where
     left : (a b c : ℕ) → a ≡ b + c → a - b ≡ c
     left a b c h = omega arith

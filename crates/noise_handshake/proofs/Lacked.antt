@@ -11,7 +11,7 @@ use Rattle.noise_keys.specs.declared.keys.Own.{Own}
 use Rattle.noise_handshake.specs.declared.remote.Remote.{Remote}
 use Rattle.noise_handshake.specs.Held.{Held, is_turn}
 use Rattle.noise_handshake.specs.Party.{Stands}
-use Rattle.noise_handshake.specs.View.{View, Speaks, own_at, remote_at, secrets_behind, tokens_now}
+use Rattle.noise_handshake.specs.View.{View, Speaks, own_at, remote_at, secrets_after, tokens_now}
 use Rattle.noise_handshake.specs.Wanting.{LacksFor, WantsToWrite}
 use Rattle.noise_handshake.specs.Writing.{Writer, writer, Gives, Given, LacksAt, Lacks}
 use Rattle.noise_handshake.specs.inner.Known.{remote_known}
@@ -22,7 +22,7 @@ use Rattle.noise_handshake.proofs.Wrote.{for-view}
 
 lacks-tail : (w : Writer) (known : Remote) (secrets : List (List ℕ)) (t : Token) (ts : List Token) (x : List ℕ) (k : ℕ) (xs : List (List ℕ))
     → k < length ts → Gives w known secrets t x → Given w known secrets (take (suc k) (t ∷ ts)) xs
-    → ((ys : List (List ℕ)) → Given w known secrets (take (suc (suc k)) (t ∷ ts)) ys → ⊥) → LacksAt w known (secrets_behind secrets t) ts k
+    → ((ys : List (List ℕ)) → Given w known secrets (take (suc (suc k)) (t ∷ ts)) ys → ⊥) → LacksAt w known (secrets_after secrets t) ts k
 lacks-tail w known secrets t ts x k [] h g given none = absurd given
 lacks-tail w known secrets t ts x k (y ∷ ys) h g given none = record {
   within = h;
@@ -32,17 +32,17 @@ lacks-tail w known secrets t ts x k (y ∷ ys) h g given none = record {
 }
 
 -- where the first token has its text the others lack what all lack
-lacks-behind : (w : Writer) (known : Remote) (secrets : List (List ℕ)) (t : Token) (ts : List Token) (x : List ℕ) → Gives w known secrets t x
-    → ((k : ℕ) → LacksAt w known (secrets_behind secrets t) ts k → ⊥) → (k : ℕ) → LacksAt w known secrets (t ∷ ts) k → ⊥
-lacks-behind w known secrets t ts x g f zero l = l.none (x ∷ []) (g, tt)
-lacks-behind w known secrets t ts x g f (suc k) l =
+lacks-after : (w : Writer) (known : Remote) (secrets : List (List ℕ)) (t : Token) (ts : List Token) (x : List ℕ) → Gives w known secrets t x
+    → ((k : ℕ) → LacksAt w known (secrets_after secrets t) ts k → ⊥) → (k : ℕ) → LacksAt w known secrets (t ∷ ts) k → ⊥
+lacks-after w known secrets t ts x g f zero l = l.none (x ∷ []) (g, tt)
+lacks-after w known secrets t ts x g f (suc k) l =
     f k (lacks-tail w known secrets t ts x k l.before (omega (arith, l.within)) g l.given l.none)
 
 later-one : (w : Writer) (known : Remote) (secrets : List (List ℕ)) (t : Token) (ts : List Token) (x : List ℕ) → Gives w known secrets t x
     → (o : Option (Own × List ℕ))
-    → MatchOption o ((k : ℕ) → LacksAt w known (secrets_behind secrets t) ts k → ⊥) (λ want. LacksFor w known (secrets_behind secrets t) ts want.0 want.1)
+    → MatchOption o ((k : ℕ) → LacksAt w known (secrets_after secrets t) ts k → ⊥) (λ want. LacksFor w known (secrets_after secrets t) ts want.0 want.1)
     → MatchOption o ((k : ℕ) → LacksAt w known secrets (t ∷ ts) k → ⊥) (λ want. LacksFor w known secrets (t ∷ ts) want.0 want.1)
-later-one w known secrets t ts x g None h = lacks-behind w known secrets t ts x g h
+later-one w known secrets t ts x g None h = lacks-after w known secrets t ts x g h
 later-one w known secrets t ts x g (Some want) h = record {
   before = t ∷ h.before;
   token = h.token;
@@ -55,7 +55,7 @@ later-one w known secrets t ts x g (Some want) h = record {
 
 -- what the later tokens lack
 pub asked-later : (w : Writer) (known : Remote) (secrets others : List (List ℕ)) (tokens ts : List Token) (t : Token) (x : List ℕ) → tokens ≡ t ∷ ts
-    → others ≡ secrets_behind secrets t → Gives w known secrets t x → (o : Option (Own × List ℕ))
+    → others ≡ secrets_after secrets t → Gives w known secrets t x → (o : Option (Own × List ℕ))
     → MatchOption o ((k : ℕ) → LacksAt w known others ts k → ⊥) (λ want. LacksFor w known others ts want.0 want.1)
     → MatchOption o ((k : ℕ) → LacksAt w known secrets tokens k → ⊥) (λ want. LacksFor w known secrets tokens want.0 want.1)
 asked-later w known secrets others tokens ts t x e f g o h =

@@ -6,7 +6,7 @@ use Rattle.noise_names.specs.Plan.{Plan, has_psk}
 use Rattle.noise_names.specs.Overhead.{has_key}
 use Rattle.noise_handshake.specs.declared.layout.PlacedToken.{PlacedToken}
 use Rattle.noise_handshake.specs.declared.layout.MessageLayout.{MessageLayout}
-use Rattle.noise_handshake.specs.Length.{keyed_behind, token_width}
+use Rattle.noise_handshake.specs.Length.{keyed_after, token_width}
 use Rattle.noise_handshake.specs.Passed.{passed_places}
 use Rattle.noise_handshake.specs.View.{tokens_at}
 use Rattle.noise_handshake.specs.inner.Layout.{placed_from, tokens_of, ArePlaced, IsLaid}
@@ -15,16 +15,16 @@ use Rattle.noise_handshake.specs.inner.Layout.{placed_from, tokens_of, ArePlaced
 pub tokens_of-placed_from : (psks keyed : Bool) (place : ℕ) (ts : List Token) → tokens_of (placed_from psks keyed place ts) ≡ ts
 tokens_of-placed_from psks keyed place [] = refl
 tokens_of-placed_from psks keyed place (t ∷ ts) =
-    ap (λ (us : List Token). t ∷ us) (tokens_of-placed_from psks (keyed_behind psks keyed t) (place + token_width keyed t) ts)
+    ap (λ (us : List Token). t ∷ us) (tokens_of-placed_from psks (keyed_after psks keyed t) (place + token_width keyed t) ts)
 
 pub placed_from-placed : (psks keyed : Bool) (place : ℕ) (ts : List Token) → ArePlaced psks keyed place (placed_from psks keyed place ts)
 placed_from-placed psks keyed place [] = tt
-placed_from-placed psks keyed place (t ∷ ts) = (refl, refl, placed_from-placed psks (keyed_behind psks keyed t) (place + token_width keyed t) ts)
+placed_from-placed psks keyed place (t ∷ ts) = (refl, refl, placed_from-placed psks (keyed_after psks keyed t) (place + token_width keyed t) ts)
 
 -- the first of them
 pub first-placed : (psks key : Bool) (place : ℕ) (placed : List PlacedToken) (first : PlacedToken) (later : List PlacedToken) → placed ≡ first ∷ later
     → ArePlaced psks key place placed
-    → (first.place ≡ place) × (first.width ≡ token_width key first.token) × ArePlaced psks (keyed_behind psks key first.token) (place + first.width) later
+    → (first.place ≡ place) × (first.width ≡ token_width key first.token) × ArePlaced psks (keyed_after psks key first.token) (place + first.width) later
 first-placed psks key place placed first later e a = subst (λ (ps : List PlacedToken). ArePlaced psks key place ps) e a
 
 pub length-tokens_of : (ps : List PlacedToken) → length (tokens_of ps) ≡ length ps
@@ -38,7 +38,7 @@ module _ (p : Plan) (n : ℕ) (laid : MessageLayout) (l : IsLaid (has_psk p) (ha
   pub tokens-laid : tokens_of placed ≡ tokens_at p.messages n
   tokens-laid = ap tokens_of (d ∙ l.tokens) ∙ tokens_of-placed_from (has_psk p) (has_key p (passed_places p n)) 0 (tokens_at p.messages n)
 
-  -- they stand one behind another from the message's start on
+  -- they stand one after another from the message's start on
   pub places-laid : (psks key : Bool) → psks ≡ has_psk p → key ≡ has_key p (passed_places p n) → ArePlaced psks key 0 placed
   places-laid psks key b k =
       let all : ArePlaced (has_psk p) (has_key p (passed_places p n)) 0 placed =

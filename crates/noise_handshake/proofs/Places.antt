@@ -12,7 +12,7 @@ use Rattle.noise_names.specs.Plan.{Plan, does, payload, Place, place, token_plac
 use Rattle.noise_names.specs.Validity.{is_at, occurs}
 use Rattle.noise_names.specs.Overhead.{has_key, added_len, overhead_from, overhead_of}
 use Rattle.noise_names.specs.Facts.{message_places-append}
-use Rattle.noise_handshake.specs.Length.{keyed_behind, keyed_behind_tokens, token_width, added_width}
+use Rattle.noise_handshake.specs.Length.{keyed_after, keyed_after_tokens, token_width, added_width}
 use Rattle.noise_handshake.specs.Passed.{passed_places}
 use Rattle.noise_handshake.specs.View.{tokens_at}
 use Rattle.noise_handshake.proofs.Views.{tokens_at-read}
@@ -45,7 +45,7 @@ module _ (plan : Plan) where
   by_parts earlier p = simp occurs-more
 
   has_key-token : (earlier : List Place) (party : Role) (t : Token) (m i : ℕ)
-      → has_key plan (earlier ++ place party (does t) m i ∷ []) ≡ keyed_behind (has_psk plan) (has_key plan earlier) t
+      → has_key plan (earlier ++ place party (does t) m i ∷ []) ≡ keyed_after (has_psk plan) (has_key plan earlier) t
   has_key-token earlier party E m i =
       by_parts earlier (place party (does E) m i) ∙ simp or-false
       (by_ephemeral (has_psk plan) (occurs Ee earlier || occurs Es earlier || occurs Se earlier || occurs Ss earlier || occurs Psk earlier) (occurs E earlier))
@@ -59,18 +59,18 @@ module _ (plan : Plan) where
   has_key-payload : (earlier : List Place) (party : Role) (m i : ℕ) → has_key plan (earlier ++ place party payload m i ∷ []) ≡ has_key plan earlier
   has_key-payload earlier party m i = by_parts earlier (place party payload m i) ∙ simp or-false
 
-  -- behind the tokens of a message
+  -- after the tokens of a message
   has_key-tokens : (earlier : List Place) (party : Role) (m i : ℕ) (ts : List Token)
-      → has_key plan (earlier ++ token_places party m i ts) ≡ keyed_behind_tokens (has_psk plan) (has_key plan earlier) ts
+      → has_key plan (earlier ++ token_places party m i ts) ≡ keyed_after_tokens (has_psk plan) (has_key plan earlier) ts
   has_key-tokens earlier party m i [] = ap (has_key plan) (append-nil earlier)
   has_key-tokens earlier party m i (t ∷ ts) =
       let here : List Place = earlier ++ place party (does t) m i ∷ [] in
       ap (has_key plan) (sym (append_assoc earlier (place party (does t) m i ∷ []) (token_places party m (i + 1) ts)))
-      ∙ has_key-tokens here party m (i + 1) ts ∙ ap (λ (b : Bool). keyed_behind_tokens (has_psk plan) b ts) (has_key-token earlier party t m i)
+      ∙ has_key-tokens here party m (i + 1) ts ∙ ap (λ (b : Bool). keyed_after_tokens (has_psk plan) b ts) (has_key-token earlier party t m i)
 
-  -- behind a message
+  -- after a message
   has_key-message : (earlier : List Place) (party : Role) (n : ℕ) (ts : List Token)
-      → has_key plan (earlier ++ message_places party n (ts ∷ [])) ≡ keyed_behind_tokens (has_psk plan) (has_key plan earlier) ts
+      → has_key plan (earlier ++ message_places party n (ts ∷ [])) ≡ keyed_after_tokens (has_psk plan) (has_key plan earlier) ts
   has_key-message earlier party n ts =
       ap (has_key plan) (sym (append_assoc earlier (token_places party n 0 ts) (place party payload n (length ts) ∷ [])))
       ∙ has_key-payload (earlier ++ token_places party n 0 ts) party n (length ts) ∙ has_key-tokens earlier party n 0 ts
@@ -91,23 +91,23 @@ module _ (plan : Plan) where
   overhead-message n earlier party i k (t ∷ ts) =
       let p : Place = place party (does t) n i in
       let later : overhead_from plan (earlier ++ p ∷ []) (token_places party n (i + 1) ts ++ place party payload n k ∷ [])
-      ≡ added_width (has_psk plan) (keyed_behind (has_psk plan) (has_key plan earlier) t) ts =
+      ≡ added_width (has_psk plan) (keyed_after (has_psk plan) (has_key plan earlier) t) ts =
       overhead-message n (earlier ++ p ∷ []) party (i + 1) k ts ∙ ap (λ (b : Bool). added_width (has_psk plan) b ts) (has_key-token earlier party t n i) in
       omega (arith, added-token earlier t, later)
 
   -- what the pre-messages make of it
-  pub has_key-start : has_key plan (passed_places plan 0) ≡ keyed_behind_tokens (has_psk plan)
-      (keyed_behind_tokens (has_psk plan) false plan.initiator) plan.responder
+  pub has_key-start : has_key plan (passed_places plan 0) ≡ keyed_after_tokens (has_psk plan)
+      (keyed_after_tokens (has_psk plan) false plan.initiator) plan.responder
   has_key-start =
       let first : List Place = token_places Initiator 0 0 plan.initiator in
       ap (has_key plan) (append-nil (first ++ token_places Responder 0 0 plan.responder))
       ∙ has_key-tokens first Responder 0 0 plan.responder
-      ∙ ap (λ (b : Bool). keyed_behind_tokens (has_psk plan) b plan.responder)
-      (has_key-tokens [] Initiator 0 0 plan.initiator ∙ ap (λ (b : Bool). keyed_behind_tokens (has_psk plan) b plan.initiator) (and-false (has_psk plan)))
+      ∙ ap (λ (b : Bool). keyed_after_tokens (has_psk plan) b plan.responder)
+      (has_key-tokens [] Initiator 0 0 plan.initiator ∙ ap (λ (b : Bool). keyed_after_tokens (has_psk plan) b plan.initiator) (and-false (has_psk plan)))
 
   -- what a message makes of it
   pub has_key-passed : (n : ℕ) → n < length plan.messages
-      → has_key plan (passed_places plan (n + 1)) ≡ keyed_behind_tokens (has_psk plan) (has_key plan (passed_places plan n)) (tokens_at plan.messages n)
+      → has_key plan (passed_places plan (n + 1)) ≡ keyed_after_tokens (has_psk plan) (has_key plan (passed_places plan n)) (tokens_at plan.messages n)
   has_key-passed n h =
       let m : List Token = tokens_at plan.messages n in
       let before : List (List Token) = take n plan.messages in

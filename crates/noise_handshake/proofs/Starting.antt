@@ -1,4 +1,4 @@
--- What a pattern asks of a setup: how many secrets, and whether there is a key behind a pre-message.
+-- What a pattern asks of a setup: how many secrets, and whether there is a key after a pre-message.
 use Rattle.std.proofs.Common.{◌≡◌, ℕ, zero, suc, ◌+◌, ◌<◌, ◌≤◌, List, [], ◌∷◌, ◌++◌, length, drop, cond, eqb, refl, ap, ◌∙◌, arith}
 use Rattle.std.specs.Prelude.{Bool, true, false, ◌||◌, ◌&&◌, IsTrue, nat_le, count_by}
 use Rattle.std.specs.List.{list_any}
@@ -10,7 +10,7 @@ use Rattle.noise_names.specs.declared.token.Token.TheVariants.{E, S, Ee, Es, Se,
 use Rattle.noise_names.specs.Tokens.{is_psk, same_token, own_tokens}
 use Rattle.noise_names.specs.Plan.{Plan}
 use Rattle.noise_names.specs.Limits.{IsPattern, HavePsksAt, psk_if, with_psk_tokens, is_pre_message}
-use Rattle.noise_handshake.specs.Length.{keyed_behind_tokens}
+use Rattle.noise_handshake.specs.Length.{keyed_after_tokens}
 use Rattle.noise_handshake.specs.Setup.{secrets_of}
 
 -- ---- secrets
@@ -79,7 +79,7 @@ later-take-less (suc n) (ts ∷ ms) = omega (arith, later-take-less n ms)
 pub few-left : (p : Plan) (n : ℕ) → IsPattern p → secrets_of (drop n p.messages) ≤ 9
 few-left p n h = omega (arith, later-take-less n p.messages, few-secrets p h)
 
--- ---- the key behind a pre-message
+-- ---- the key after a pre-message
 
 none : (psks k : Bool) → (k || (psks && false)) ≡ k
 none true true = refl
@@ -95,7 +95,7 @@ some false false = refl
 
 -- in a psk pattern an e gives one
 pub pre-keyed : (psks k : Bool) (ts : List Token) → IsTrue (is_pre_message ts)
-    → (k || (psks && list_any (λ t. same_token t E) ts)) ≡ keyed_behind_tokens psks k ts
+    → (k || (psks && list_any (λ t. same_token t E) ts)) ≡ keyed_after_tokens psks k ts
 pre-keyed psks k [] h = none psks k
 pre-keyed psks k (E ∷ []) h = some psks k
 pre-keyed psks k (S ∷ []) h = none psks k

@@ -11,8 +11,8 @@ use Rattle.noise_handshake.specs.declared.remote.Remote.{Remote}
 use Rattle.noise_handshake.specs.declared.faults.Cause.{Cause}
 use Rattle.noise_state.specs.Standing.{StateStands}
 use Rattle.noise_state.specs.declared.symmetric.SymmetricState.{SymmetricState}
-use Rattle.noise_handshake.specs.Line.{token_piece, behind_token, behind_front}
-use Rattle.noise_handshake.specs.View.{Reader, Fits, Leads, known_behind, secrets_behind, learned, cause_of}
+use Rattle.noise_handshake.specs.Line.{token_piece, after_token, after_front}
+use Rattle.noise_handshake.specs.View.{Reader, Fits, Leads, known_after, secrets_after, learned, cause_of}
 use Rattle.noise_handshake.specs.inner.Listening.{Fails, StopsKnowing}
 use Rattle.noise_handshake.proofs.Apart.{leads-none, leads-more, stops-here, stops-later}
 
@@ -24,26 +24,26 @@ stopped v known secrets r tokens ts t m cause here e bad why same =
     subst (λ (us : List Token). StopsKnowing v known secrets r us m 0 cause here) (sym e)
     (subst (λ (z : Remote). StopsKnowing v known secrets r (t ∷ ts) m 0 cause z) (sym same) (stops-here v known secrets r t ts m cause bad why))
 
--- what stands in a list behind its first n bytes, once those behind were written
+-- what stands in a list after its first n bytes, once those after were written
 pub written-at : (m buf post : List ℕ) (n len : ℕ) → n ≤ length m → len ≤ length buf → take ((n + len) - n) (drop n (take n m ++ (buf ++ post))) ≡ take len buf
 written-at m buf post n len h b =
     let whole : length (take n m) ≡ n = omega (arith, length-take n m) in
-    let behind : drop n (take n m ++ (buf ++ post)) ≡ buf ++ post =
+    let after : drop n (take n m ++ (buf ++ post)) ≡ buf ++ post =
     ap (λ (k : ℕ). drop k (take n m ++ (buf ++ post))) (sym whole) ∙ drop-append_seam (take n m) (buf ++ post) in
     let count : (n + len) - n ≡ len = omega arith in
-    ap (λ (k : ℕ). take k (drop n (take n m ++ (buf ++ post)))) count ∙ ap (take len) behind ∙ take-append-le len buf post b
+    ap (λ (k : ℕ). take k (drop n (take n m ++ (buf ++ post)))) count ∙ ap (take len) after ∙ take-append-le len buf post b
 
--- a list whose bytes from n on were written anew, but for those that stand behind the first len of them
+-- a list whose bytes from n on were written anew, but for those that stand after the first len of them
 pub rest-at : (m buf : List ℕ) (n len : ℕ) → n ≤ length m → drop len buf ≡ drop len (drop n m)
     → drop (n + len) (put_mid n (length m - n) m buf) ≡ drop (n + len) m
 rest-at m buf n len h rest =
     sym (drop-drop len n (put_mid n (length m - n) m buf))
-    ∙ ap (drop len) (behind-at m buf n h)
+    ∙ ap (drop len) (after-at m buf n h)
     ∙ rest
     ∙ drop-drop len n m
   where
-    behind-at : (m buf : List ℕ) (n : ℕ) → n ≤ length m → drop n (put_mid n (length m - n) m buf) ≡ buf
-    behind-at m buf n h =
+    after-at : (m buf : List ℕ) (n : ℕ) → n ≤ length m → drop n (put_mid n (length m - n) m buf) ≡ buf
+    after-at m buf n h =
         let post = drop (length m - n) (drop n m) in
         let none : length post ≡ 0 = omega (arith, length-drop (length m - n) (drop n m), length-drop n m) in
         drop_at (take n m) (buf ++ post) n (length-take-le n m h)
@@ -52,13 +52,13 @@ rest-at m buf n len h rest =
 
 module _ (v : Reader) (known known2 : Remote) (secrets secrets2 : List (List ℕ)) (r : History) (tokens ts : List Token) (t : Token) (x m m2 : List ℕ) (n : ℕ)
     (split : tokens ≡ t ∷ ts) (fits : Fits v known secrets t x) (spelled : m ≡ token_piece r t x ++ drop n m)
-    (knows : known2 ≡ known_behind known t x) (holds : secrets2 ≡ secrets_behind secrets t) (goes : m2 ≡ drop n m) where
-  pub led : (xs : List (List ℕ)) (k : ℕ) → Leads v known2 secrets2 (behind_token v.psks r t x) ts xs m2 (drop k m2)
+    (knows : known2 ≡ known_after known t x) (holds : secrets2 ≡ secrets_after secrets t) (goes : m2 ≡ drop n m) where
+  pub led : (xs : List (List ℕ)) (k : ℕ) → Leads v known2 secrets2 (after_token v.psks r t x) ts xs m2 (drop k m2)
       → Leads v known secrets r tokens (x ∷ xs) m (drop (n + k) m)
   led xs k l =
-      let l1 = subst (λ (z : Remote). Leads v z secrets2 (behind_token v.psks r t x) ts xs m2 (drop k m2)) knows l in
-      let l2 = subst (λ (z : List (List ℕ)). Leads v (known_behind known t x) z (behind_token v.psks r t x) ts xs m2 (drop k m2)) holds l1 in
-      let l3 = subst (λ (z : List ℕ). Leads v (known_behind known t x) (secrets_behind secrets t) (behind_token v.psks r t x) ts xs z (drop k z)) goes l2 in
+      let l1 = subst (λ (z : Remote). Leads v z secrets2 (after_token v.psks r t x) ts xs m2 (drop k m2)) knows l in
+      let l2 = subst (λ (z : List (List ℕ)). Leads v (known_after known t x) z (after_token v.psks r t x) ts xs m2 (drop k m2)) holds l1 in
+      let l3 = subst (λ (z : List ℕ). Leads v (known_after known t x) (secrets_after secrets t) (after_token v.psks r t x) ts xs z (drop k z)) goes l2 in
       let l4 = leads-more v known secrets r t x ts xs m (drop n m) (drop k (drop n m)) fits spelled l3 in
       let l5 = subst (λ (z : List ℕ). Leads v known secrets r (t ∷ ts) (x ∷ xs) m z) (drop-drop k n m) l4 in
       subst (λ (us : List Token). Leads v known secrets r us (x ∷ xs) m (drop (n + k) m)) (sym split) l5
@@ -67,11 +67,11 @@ module _ (v : Reader) (known known2 : Remote) (secrets secrets2 : List (List ℕ
   learned-on xs known3 e = e ∙ ap (λ (z : Remote). learned z ts xs) knows ∙ ap (λ (us : List Token). learned known us (x ∷ xs)) (sym split)
 
   pub stopped-later : (k : ℕ) (cause : Cause) (here : Remote) → k < length ts
-      → StopsKnowing v known2 secrets2 (behind_token v.psks r t x) ts m2 k cause here → StopsKnowing v known secrets r tokens m (k + 1) cause here
+      → StopsKnowing v known2 secrets2 (after_token v.psks r t x) ts m2 k cause here → StopsKnowing v known secrets r tokens m (k + 1) cause here
   stopped-later k cause here h s =
-      let l1 = subst (λ (z : Remote). StopsKnowing v z secrets2 (behind_token v.psks r t x) ts m2 k cause here) knows s in
-      let l2 = subst (λ (z : List (List ℕ)). StopsKnowing v (known_behind known t x) z (behind_token v.psks r t x) ts m2 k cause here) holds l1 in
-      let l3 = subst (λ (z : List ℕ). StopsKnowing v (known_behind known t x) (secrets_behind secrets t) (behind_token v.psks r t x) ts z k cause here)
+      let l1 = subst (λ (z : Remote). StopsKnowing v z secrets2 (after_token v.psks r t x) ts m2 k cause here) knows s in
+      let l2 = subst (λ (z : List (List ℕ)). StopsKnowing v (known_after known t x) z (after_token v.psks r t x) ts m2 k cause here) holds l1 in
+      let l3 = subst (λ (z : List ℕ). StopsKnowing v (known_after known t x) (secrets_after secrets t) (after_token v.psks r t x) ts z k cause here)
       goes l2 in
       let l4 = stops-later v known secrets r t x ts m (drop n m) k cause here h fits spelled l3 in
       let l5 = subst (λ (us : List Token). StopsKnowing v known secrets r us m (suc k) cause here) (sym split) l4 in
@@ -81,8 +81,8 @@ module _ (v : Reader) (known known2 : Remote) (secrets secrets2 : List (List ℕ
 -- no tokens
 pub led-none : (v : Reader) (known : Remote) (secrets : List (List ℕ)) (r : History) (tokens : List Token) (m : List ℕ) (state : SymmetricState)
     → tokens ≡ [] → StateStands state r
-    → (xs : List (List ℕ)) × Leads v known secrets r tokens xs m m × StateStands state (behind_front v.psks r tokens xs) × (known ≡ learned known tokens xs)
+    → (xs : List (List ℕ)) × Leads v known secrets r tokens xs m m × StateStands state (after_front v.psks r tokens xs) × (known ≡ learned known tokens xs)
 led-none v known secrets r tokens m state e s =
-    subst (λ (ts : List Token). (xs : List (List ℕ)) × Leads v known secrets r ts xs m m × StateStands state (behind_front v.psks r ts xs)
+    subst (λ (ts : List Token). (xs : List (List ℕ)) × Leads v known secrets r ts xs m m × StateStands state (after_front v.psks r ts xs)
     × (known ≡ learned known ts xs))
     (sym e) ([], leads-none v known secrets r m, s, refl)

@@ -12,11 +12,11 @@ use Rattle.noise_keys.specs.declared.keys.Own.{Own}
 use Rattle.noise_handshake.specs.declared.remote.Remote.{Remote}
 use Rattle.noise_handshake.specs.declared.faults.Cause.TheVariants.{Short, Tag, Agreement}
 use Rattle.noise_handshake.specs.declared.layout.PlacedToken.{PlacedToken}
-use Rattle.noise_handshake.specs.Line.{token_piece, behind_token, front, behind_front}
-use Rattle.noise_handshake.specs.View.{View, Reader, reader, Listens, Fit, Leads, Reaches, Stops, Refuses, known_behind, secrets_behind, learned}
+use Rattle.noise_handshake.specs.Line.{token_piece, after_token, front, after_front}
+use Rattle.noise_handshake.specs.View.{View, Reader, reader, Listens, Fit, Leads, Reaches, Stops, Refuses, known_after, secrets_after, learned}
 use Rattle.noise_handshake.specs.View.{first_secret, own_at, remote_at, cause_of, cause_at, tokens_now}
 use Rattle.noise_handshake.specs.Wanting.{StopsFor, WantsToRead}
-use Rattle.noise_handshake.specs.inner.Known.{is_known, are_known, e_behind, s_behind, e_behind_tokens, s_behind_tokens}
+use Rattle.noise_handshake.specs.inner.Known.{is_known, are_known, e_after, s_after, e_after_tokens, s_after_tokens}
 use Rattle.noise_handshake.specs.inner.Layout.{tokens_of}
 use Rattle.noise_handshake.specs.inner.Listening.{Listening, StopsKnowing}
 use Rattle.noise_handshake.proofs.Apart.{leads-none, leads-more, reads-leads}
@@ -51,13 +51,13 @@ right-true false b h = cc
 
 -- the remote key of a DH among tokens
 known-there : (role : Role) (e s : Bool) (before later : List Token) (t : Token) → are_known role e s (before ++ t ∷ later) ≡ true
-    → is_known role (e_behind_tokens e before) (s_behind_tokens s before) t ≡ true
-known-there role e s [] later t h = left-true (is_known role e s t) (are_known role (e_behind e t) (s_behind s t) later) h
+    → is_known role (e_after_tokens e before) (s_after_tokens s before) t ≡ true
+known-there role e s [] later t h = left-true (is_known role e s t) (are_known role (e_after e t) (s_after s t) later) h
 known-there role e s (u ∷ before) later t h =
-    known-there role (e_behind e u) (s_behind s u) before later t
-    (right-true (is_known role e s u) (are_known role (e_behind e u) (s_behind s u) (before ++ t ∷ later)) h)
+    known-there role (e_after e u) (s_after s u) before later t
+    (right-true (is_known role e s u) (are_known role (e_after e u) (s_after s u) (before ++ t ∷ later)) h)
 
-e-one : (known : Remote) (t : Token) (x : List ℕ) → is_some (known_behind known t x).e ≡ e_behind (is_some known.e) t
+e-one : (known : Remote) (t : Token) (x : List ℕ) → is_some (known_after known t x).e ≡ e_after (is_some known.e) t
 e-one known E x = refl
 e-one known S x = refl
 e-one known Ee x = refl
@@ -66,7 +66,7 @@ e-one known Se x = refl
 e-one known Ss x = refl
 e-one known Psk x = refl
 
-s-one : (known : Remote) (t : Token) (x : List ℕ) → is_some (known_behind known t x).s ≡ s_behind (is_some known.s) t
+s-one : (known : Remote) (t : Token) (x : List ℕ) → is_some (known_after known t x).s ≡ s_after (is_some known.s) t
 s-one known E x = refl
 s-one known S x = refl
 s-one known Ee x = refl
@@ -76,18 +76,18 @@ s-one known Ss x = refl
 s-one known Psk x = refl
 
 e-many : (v : Reader) (known : Remote) (secrets : List (List ℕ)) (ts : List Token) (xs : List (List ℕ)) → Fit v known secrets ts xs
-    → is_some (learned known ts xs).e ≡ e_behind_tokens (is_some known.e) ts
+    → is_some (learned known ts xs).e ≡ e_after_tokens (is_some known.e) ts
 e-many v known secrets [] xs f = refl
 e-many v known secrets (t ∷ ts) [] f = absurd f
 e-many v known secrets (t ∷ ts) (x ∷ xs) f =
-    e-many v (known_behind known t x) (secrets_behind secrets t) ts xs f.1 ∙ ap (λ (b : Bool). e_behind_tokens b ts) (e-one known t x)
+    e-many v (known_after known t x) (secrets_after secrets t) ts xs f.1 ∙ ap (λ (b : Bool). e_after_tokens b ts) (e-one known t x)
 
 s-many : (v : Reader) (known : Remote) (secrets : List (List ℕ)) (ts : List Token) (xs : List (List ℕ)) → Fit v known secrets ts xs
-    → is_some (learned known ts xs).s ≡ s_behind_tokens (is_some known.s) ts
+    → is_some (learned known ts xs).s ≡ s_after_tokens (is_some known.s) ts
 s-many v known secrets [] xs f = refl
 s-many v known secrets (t ∷ ts) [] f = absurd f
 s-many v known secrets (t ∷ ts) (x ∷ xs) f =
-    s-many v (known_behind known t x) (secrets_behind secrets t) ts xs f.1 ∙ ap (λ (b : Bool). s_behind_tokens b ts) (s-one known t x)
+    s-many v (known_after known t x) (secrets_after secrets t) ts xs f.1 ∙ ap (λ (b : Bool). s_after_tokens b ts) (s-one known t x)
 
 -- ---- why reading stops at a token
 
@@ -114,7 +114,7 @@ below k n f = grind arith
 pub stops-within : (v : Reader) (known : Remote) (secrets : List (List ℕ)) (r : History) (ts : List Token) (m : List ℕ) (k : ℕ)
     → Stops v known secrets r ts m k Agreement → k < length ts
 stops-within v known secrets r ts m k s =
-    let keyed : Bool = is_some (cipher_key (behind_front v.psks r (take k ts) s.carried)) in
+    let keyed : Bool = is_some (cipher_key (after_front v.psks r (take k ts) s.carried)) in
     below k (length ts) (λ h. no-cause (nat_lt (length s.rest) 16) (s.why ∙ cause-end keyed ts k s.rest h))
 
 -- where all tokens are read it stops at none
@@ -130,14 +130,14 @@ psk-goes v known secrets r [] xs m rest l = record {
   carried = first_secret secrets ∷ [];
   rest = m;
   leads = leads-more v known secrets r Psk (first_secret secrets) [] [] m m m refl refl
-      (leads-none v known (secrets_behind secrets Psk) (behind_token v.psks r Psk (first_secret secrets)) m);
+      (leads-none v known (secrets_after secrets Psk) (after_token v.psks r Psk (first_secret secrets)) m);
 }
 psk-goes v known secrets r (t ∷ before) [] m rest l = absurd l.fit
 psk-goes v known secrets r (t ∷ before) (x ∷ xs) m rest l =
-    let next : History = behind_token v.psks r t x in
+    let next : History = after_token v.psks r t x in
     let more : List ℕ = front v.psks next before xs ++ rest in
     let e : m ≡ token_piece r t x ++ more = l.spelled ∙ append_assoc (token_piece r t x) (front v.psks next before xs) rest in
-    let i = psk-goes v (known_behind known t x) (secrets_behind secrets t) next before xs more rest (record { fit = l.fit.1; spelled = refl }) in
+    let i = psk-goes v (known_after known t x) (secrets_after secrets t) next before xs more rest (record { fit = l.fit.1; spelled = refl }) in
     record {
       carried = x ∷ i.carried;
       rest = i.rest;
@@ -154,7 +154,7 @@ module _ (v : Reader) (known : Remote) (secrets : List (List ℕ)) (r : History)
     (knows : are_known v.role (is_some known.e) (is_some known.s) (before ++ t ∷ later) ≡ true)
     (s : Stops v known secrets r (before ++ t ∷ later) m (length before) Agreement) where
   abbrev keyed-there : Bool
-  keyed-there = is_some (cipher_key (behind_front v.psks r (take (length before) (before ++ t ∷ later)) s.carried))
+  keyed-there = is_some (cipher_key (after_front v.psks r (take (length before) (before ++ t ∷ later)) s.carried))
 
   leads : Leads v known secrets r before s.carried m s.rest
   leads = subst (λ (us : List Token). Leads v known secrets r us s.carried m s.rest) (take-append_seam before (t ∷ later)) s.leads
@@ -171,7 +171,7 @@ module _ (v : Reader) (known : Remote) (secrets : List (List ℕ)) (r : History)
       let h = known-there v.role (is_some known.e) (is_some known.s) before later t knows in
       subst (λ (b : Bool). is_known v.role b (is_some (learned known before s.carried).s) t ≡ true)
       (sym (e-many v known secrets before s.carried leads.fit))
-      (subst (λ (b : Bool). is_known v.role (e_behind_tokens (is_some known.e) before) b t ≡ true)
+      (subst (λ (b : Bool). is_known v.role (e_after_tokens (is_some known.e) before) b t ≡ true)
       (sym (s-many v known secrets before s.carried leads.fit)) h)
 
   -- the token is a DH, whose remote key is known there

@@ -1,16 +1,16 @@
--- What stands in a buffer behind writes to parts of it.
+-- What stands in a buffer after writes to parts of it.
 use Rattle.std.proofs.Common.{◌≡◌, ℕ, ◌+◌, ◌-◌, ◌≤◌, List, [], ◌++◌, length, take, drop, ap, sym, ◌∙◌, arith, drop-drop, take_all, append-nil}
 use Rattle.std.proofs.Common.{length-take, length-drop}
 use Rattle.std.proofs.lemmas.List.{take-append-le, drop-append-le, drop_all}
 use Rattle.std.proofs.Math.Seq.{drop-append_seam, take-append-add, drop-append-add}
 
--- the rest is as it was, where a text of len bytes was put there first, and then written over with a tag behind it
+-- the rest is as it was, where a text of len bytes was put there first, and then written over with a tag after it
 pub rest-kept : (old put new : List ℕ) (len tag width n : ℕ) → width ≡ len + tag → n ≡ width → length new ≡ width → drop len put ≡ drop len old
     → drop n (new ++ drop width put) ≡ drop n old
 rest-kept old put new len tag width n e f l same =
-    let behind : drop width put ≡ drop width old =
+    let after : drop width put ≡ drop width old =
     ap (λ (k : ℕ). drop k put) e ∙ sym (drop-drop tag len put) ∙ ap (drop tag) same ∙ drop-drop tag len old ∙ ap (λ (k : ℕ). drop k old) (sym e) in
-    ap (λ (k : ℕ). drop k (new ++ drop width put)) (f ∙ sym l) ∙ drop-append_seam new (drop width put) ∙ behind ∙ ap (λ (k : ℕ). drop k old) (sym f)
+    ap (λ (k : ℕ). drop k (new ++ drop width put)) (f ∙ sym l) ∙ drop-append_seam new (drop width put) ∙ after ∙ ap (λ (k : ℕ). drop k old) (sym f)
 
 -- n bytes were written at the front, and then the rest was written over, of which the first k bytes
 module _ (first second : List ℕ) (n k : ℕ) (fits : n ≤ length first) (long : k ≤ length second) where
@@ -22,9 +22,9 @@ module _ (first second : List ℕ) (n k : ℕ) (fits : n ≤ length first) (long
       ap (λ (i : ℕ). take (i + k) (take n first ++ (second ++ post))) (sym count)
       ∙ take-append-add (take n first) (second ++ post) k ∙ ap (λ (z : List ℕ). take n first ++ z) (take-append-le k second post long)
 
-  pub rest-behind : (old : List ℕ) → drop n first ≡ drop n old → drop k second ≡ drop k (take (length first - n) (drop n first))
+  pub rest-after : (old : List ℕ) → drop n first ≡ drop n old → drop k second ≡ drop k (take (length first - n) (drop n first))
       → drop (n + k) (take n first ++ (second ++ drop (length first - n) (drop n first))) ≡ drop (n + k) old
-  rest-behind old same kept =
+  rest-after old same kept =
       let left : List ℕ = drop n first in
       let post : List ℕ = drop (length first - n) left in
       let whole : take (length first - n) left ≡ left = take_all (length first - n) left (omega (arith, length-drop n first)) in

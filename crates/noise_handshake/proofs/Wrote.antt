@@ -16,14 +16,14 @@ use Rattle.noise_handshake.specs.declared.faults.WriteFault.{WriteFault}
 use Rattle.noise_handshake.specs.declared.faults.WriteFault.TheVariants as write
 use Rattle.noise_handshake.specs.declared.remote.Remote.{Remote}
 use Rattle.noise_handshake.specs.Writing.{Writer, writer, Given, LacksAt, Writes, Lacks}
-use Rattle.noise_handshake.specs.Line.{line, behind_line}
+use Rattle.noise_handshake.specs.Line.{line, after_line}
 use Rattle.noise_handshake.specs.Length.{added_width}
 use Rattle.noise_handshake.specs.View.{View, Speaks, tokens_at, tokens_now}
 use Rattle.noise_handshake.specs.inner.Speaking.{Speaking, has_own}
 use Rattle.noise_handshake.specs.Held.{Held, write_fault, is_turn, length_now, length_unless, message_len_of}
 use Rattle.noise_handshake.specs.inner.Sound.{IsSound}
 use Rattle.noise_handshake.specs.Passed.{passed_places}
-use Rattle.noise_handshake.specs.Party.{Stands, behind_own}
+use Rattle.noise_handshake.specs.Party.{Stands, after_own}
 use Rattle.noise_handshake.proofs.Owned.{owned}
 use Rattle.noise_handshake.proofs.Places.{overhead-is}
 
@@ -110,11 +110,11 @@ module _ {K : Type 0} (public_of : K → Own → Option (List ℕ)) (h : Held K)
     short-view = subst (λ (k : ℕ). overhead_of v.pattern (k + 1) + len ≤ 65535) t.passed
         (subst (λ (p : Plan). overhead_of p (h.passed + 1) + len ≤ 65535) t.pattern writes-short)
 
-    -- behind a message of its own
+    -- after a message of its own
     pub wrote : (psks : Bool) (tokens : List Token) (xs : List (List ℕ)) (payload : List ℕ) (state : SymmetricState) (secrets : List (List ℕ))
         (passed : ℕ) → psks ≡ has_psk h.pattern → tokens ≡ tokens_now v
-        → secrets ≡ drop (count_by is_psk tokens) h.secrets → passed ≡ h.passed + 1 → StateStands state (behind_line psks v.history tokens xs payload)
-        → Stands public_of agreement (record h { state = state; secrets = secrets; passed = passed }) (behind_own v xs payload)
+        → secrets ≡ drop (count_by is_psk tokens) h.secrets → passed ≡ h.passed + 1 → StateStands state (after_line psks v.history tokens xs payload)
+        → Stands public_of agreement (record h { state = state; secrets = secrets; passed = passed }) (after_own v xs payload)
     wrote psks tokens xs payload state secrets passed b e u n k = record {
       pattern = t.pattern;
       role = t.role;
@@ -124,8 +124,8 @@ module _ {K : Type 0} (public_of : K → Own → Option (List ℕ)) (h : Held K)
       remote = t.remote;
       passed = n ∙ ap (λ (i : ℕ). i + 1) t.passed;
       ended = t.ended;
-      history = subst (λ (ts : List Token). StateStands state (behind_line (has_psk v.pattern) v.history ts xs payload)) e
-          (subst (λ (z : Bool). StateStands state (behind_line z v.history tokens xs payload)) (b ∙ ap has_psk t.pattern) k);
+      history = subst (λ (ts : List Token). StateStands state (after_line (has_psk v.pattern) v.history ts xs payload)) e
+          (subst (λ (z : Bool). StateStands state (after_line z v.history tokens xs payload)) (b ∙ ap has_psk t.pattern) k);
     }
 
 -- what holds of a party's parts holds of the view that it speaks for

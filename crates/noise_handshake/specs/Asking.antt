@@ -3,7 +3,7 @@ use Rattle.std.specs.Prelude.{ℕ, List}
 use Rattle.noise_handshake.specs.declared.faults.Cause.TheVariants.{Agreement}
 use Rattle.noise_handshake.specs.declared.faults.Unread.{Unread}
 use Rattle.noise_handshake.specs.declared.faults.Unread.TheVariants.{Wanted, Declined}
-use Rattle.noise_handshake.specs.Party.{Declines, behind_declined}
+use Rattle.noise_handshake.specs.Party.{Declines, after_declined}
 use Rattle.noise_handshake.specs.View.{View, Refuses}
 use Rattle.noise_handshake.specs.Wanting.{WantsToRead}
 
@@ -12,7 +12,7 @@ abbrev pub LeavesUnread : View → List ℕ → Unread → Type 0
 LeavesUnread v message (Wanted own key) = WantsToRead v message own key
 LeavesUnread v message (Declined fault) = Declines v message fault × ((token : ℕ) → Refuses v message token Agreement → ⊥)
 
--- the view behind it
-abbrev pub behind_asked : View → Unread → View
-behind_asked v (Wanted own key) = v
-behind_asked v (Declined fault) = behind_declined v fault
+-- the view after it
+abbrev pub after_asked : View → Unread → View
+after_asked v (Wanted own key) = v
+after_asked v (Declined fault) = after_declined v fault

@@ -78,19 +78,19 @@ pub record Advances {K : Type 0} (old new : Held K) : Type 0 where
   pub secrets : old.secrets ≡ taken ++ new.secrets
 
 -- what a fault of reading leaves
-abbrev pub behind_read_fault : {K : Type 0} → Held K → ReadFault → Held K
-behind_read_fault h (read.Refused token cause) = ended_as h
-behind_read_fault h _ = h
+abbrev pub after_read_fault : {K : Type 0} → Held K → ReadFault → Held K
+after_read_fault h (read.Refused token cause) = ended_as h
+after_read_fault h _ = h
 
 -- what a message leaves that isn't read, where a lacking answer is asked for
-abbrev pub behind_unread : {K : Type 0} → Held K → Unread → Held K
-behind_unread h (unread.Wanted own key) = h
-behind_unread h (unread.Declined fault) = behind_read_fault h fault
+abbrev pub after_unread : {K : Type 0} → Held K → Unread → Held K
+after_unread h (unread.Wanted own key) = h
+after_unread h (unread.Declined fault) = after_read_fault h fault
 
 -- what a fault of writing leaves
-abbrev pub behind_write_fault : {K : Type 0} → Held K → WriteFault → Held K
-behind_write_fault h (write.Agreement token) = ended_as h
-behind_write_fault h _ = h
+abbrev pub after_write_fault : {K : Type 0} → Held K → WriteFault → Held K
+after_write_fault h (write.Agreement token) = ended_as h
+after_write_fault h _ = h
 
 -- the fault of a message that was due
 abbrev pub IsRefusal : ReadFault → Type 0

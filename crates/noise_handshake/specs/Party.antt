@@ -1,4 +1,4 @@
--- Which view a handshake stands for, the views behind its messages, and why it doesn't read or write.
+-- Which view a handshake stands for, the views after its messages, and why it doesn't read or write.
 use Rattle.std.specs.Prelude.{◌≡◌, ℕ, ◌+◌, ◌<◌, ◌≤◌, List, length, drop, count_by, Option, true, false, is_some}
 use Rattle.noise_names.specs.Tokens.{is_psk}
 use Rattle.noise_names.specs.Plan.{has_psk}
@@ -10,27 +10,27 @@ use Rattle.noise_handshake.specs.declared.faults.ReadFault.{ReadFault}
 use Rattle.noise_handshake.specs.declared.faults.ReadFault.TheVariants as read
 use Rattle.noise_handshake.specs.declared.faults.WriteFault.{WriteFault}
 use Rattle.noise_handshake.specs.declared.faults.WriteFault.TheVariants as write
-use Rattle.noise_handshake.specs.Line.{behind_line}
+use Rattle.noise_handshake.specs.Line.{after_line}
 use Rattle.noise_handshake.specs.Passed.{passed_places}
 use Rattle.noise_handshake.specs.View.{View, Listens, Refuses, Speaks, learned, tokens_now}
 use Rattle.noise_handshake.specs.Writing.{Lacks}
 use Rattle.noise_handshake.specs.Held.{Held}
 
--- the view behind a message that was accepted
-abbrev pub behind_message : View → List (List ℕ) → List ℕ → View
-behind_message v xs payload = record v {
+-- the view after a message that was accepted
+abbrev pub after_message : View → List (List ℕ) → List ℕ → View
+after_message v xs payload = record v {
   secrets = drop (count_by is_psk (tokens_now v)) v.secrets;
   remote = learned v.remote (tokens_now v) xs;
   passed = v.passed + 1;
-  history = behind_line (has_psk v.pattern) v.history (tokens_now v) xs payload;
+  history = after_line (has_psk v.pattern) v.history (tokens_now v) xs payload;
 }
 
--- the view behind a message of its own
-abbrev pub behind_own : View → List (List ℕ) → List ℕ → View
-behind_own v xs payload = record v {
+-- the view after a message of its own
+abbrev pub after_own : View → List (List ℕ) → List ℕ → View
+after_own v xs payload = record v {
   secrets = drop (count_by is_psk (tokens_now v)) v.secrets;
   passed = v.passed + 1;
-  history = behind_line (has_psk v.pattern) v.history (tokens_now v) xs payload;
+  history = after_line (has_psk v.pattern) v.history (tokens_now v) xs payload;
 }
 
 -- the view of a party that has ended
@@ -61,10 +61,10 @@ Declines v message read.Done = (v.ended ≡ false) × (v.passed ≡ length v.pat
 Declines v message read.NotYourTurn = Speaks v
 Declines v message (read.Refused token cause) = Refuses v message token cause
 
--- the view behind such a fault: only a refusal of a message that was due ends the handshake
-abbrev pub behind_declined : View → ReadFault → View
-behind_declined v (read.Refused token cause) = over v
-behind_declined v _ = v
+-- the view after such a fault: only a refusal of a message that was due ends the handshake
+abbrev pub after_declined : View → ReadFault → View
+after_declined v (read.Refused token cause) = over v
+after_declined v _ = v
 
 -- Why a party doesn't write a payload of this length.
 abbrev pub Withholds : View → ℕ → WriteFault → Type 0
@@ -74,7 +74,7 @@ Withholds v payload write.NotYourTurn = Listens v
 Withholds v payload write.TooLong = Speaks v × (65535 < overhead_of v.pattern (v.passed + 1) + payload)
 Withholds v payload (write.Agreement token) = (overhead_of v.pattern (v.passed + 1) + payload ≤ 65535) × Lacks v token
 
--- the view behind such a fault: only a DH without an answer ends the handshake
-abbrev pub behind_withheld : View → WriteFault → View
-behind_withheld v (write.Agreement token) = over v
-behind_withheld v _ = v
+-- the view after such a fault: only a DH without an answer ends the handshake
+abbrev pub after_withheld : View → WriteFault → View
+after_withheld v (write.Agreement token) = over v
+after_withheld v _ = v

@@ -9,9 +9,9 @@ use Rattle.noise_keys.specs.declared.keys.Own.{Own}
 use Rattle.noise_keys.specs.declared.keys.Own.TheVariants.{Ephemeral, Static}
 use Rattle.noise_handshake.specs.declared.faults.Cause.{Cause}
 use Rattle.noise_handshake.specs.declared.faults.Cause.TheVariants.{Short, Tag, Agreement}
-use Rattle.noise_state.specs.History.{History, Mix, and_then, cipher_key}
+use Rattle.noise_state.specs.History.{History, MixHash, and_then, cipher_key}
 use Rattle.noise_handshake.specs.declared.remote.Remote.{Remote}
-use Rattle.noise_handshake.specs.Line.{with_ephemeral, front, behind_front, line}
+use Rattle.noise_handshake.specs.Line.{with_ephemeral, front, after_front, line}
 use Rattle.noise_names.specs.Tokens.{other, turn_from}
 use Rattle.noise_names.specs.Plan.{Plan, pre_of, has_psk}
 
@@ -38,7 +38,7 @@ tokens_at (tokens ∷ more) (suc i) = tokens_at more i
 abbrev pub with_premessage : Bool → Remote → List Token → History → History
 with_premessage psks p [] r = r
 with_premessage psks p (E ∷ ts) r = with_premessage psks p ts (with_ephemeral psks r (unwrap_or p.e []))
-with_premessage psks p (S ∷ ts) r = with_premessage psks p ts (and_then r (Mix (unwrap_or p.s [])))
+with_premessage psks p (S ∷ ts) r = with_premessage psks p ts (and_then r (MixHash (unwrap_or p.s [])))
 with_premessage psks p (_ ∷ ts) r = with_premessage psks p ts r
 
 -- the prologue, and then the pre-message keys, the initiator's first
@@ -46,7 +46,7 @@ abbrev pub start : List ℕ → Plan → List ℕ → Remote → Remote → Hist
 start name pattern prologue initiator responder =
     let psks = has_psk pattern in
     with_premessage psks responder (pre_of Responder pattern) (with_premessage psks initiator (pre_of Initiator pattern)
-    (and_then (record { name = name; entries = [] }) (Mix prologue)))
+    (and_then (record { name = name; entries = [] }) (MixHash prologue)))
 
 -- ---- DH answers (the table of Noise 5.3)
 
@@ -94,28 +94,28 @@ Fits v known secrets S x = length x ≡ 32
 Fits v known secrets Psk x = x ≡ first_secret secrets
 Fits v known secrets dh x = answered v.agree (own_at v.role dh) (remote_at v.role known dh) ≡ Some x
 
--- the keys known behind a token, and the secrets still to come
-abbrev pub known_behind : Remote → Token → List ℕ → Remote
-known_behind known E x = record known { e = Some x }
-known_behind known S x = record known { s = Some x }
-known_behind known _ x = known
+-- the keys known after a token, and the secrets still to come
+abbrev pub known_after : Remote → Token → List ℕ → Remote
+known_after known E x = record known { e = Some x }
+known_after known S x = record known { s = Some x }
+known_after known _ x = known
 
-abbrev pub secrets_behind : List (List ℕ) → Token → List (List ℕ)
-secrets_behind secrets Psk = other_secrets secrets
-secrets_behind secrets _ = secrets
+abbrev pub secrets_after : List (List ℕ) → Token → List (List ℕ)
+secrets_after secrets Psk = other_secrets secrets
+secrets_after secrets _ = secrets
 
--- one text for each token, each of which fits behind those before it
+-- one text for each token, each of which fits after those before it
 abbrev pub Fit : Reader → Remote → List (List ℕ) → List Token → List (List ℕ) → Type 0
 Fit v known secrets [] [] = Unit {0}
 Fit v known secrets [] (x ∷ xs) = ⊥
 Fit v known secrets (t ∷ ts) [] = ⊥
-Fit v known secrets (t ∷ ts) (x ∷ xs) = Fits v known secrets t x × Fit v (known_behind known t x) (secrets_behind secrets t) ts xs
+Fit v known secrets (t ∷ ts) (x ∷ xs) = Fits v known secrets t x × Fit v (known_after known t x) (secrets_after secrets t) ts xs
 
--- the keys known behind all tokens
+-- the keys known after all tokens
 abbrev pub learned : Remote → List Token → List (List ℕ) → Remote
 learned known [] xs = known
 learned known (t ∷ ts) [] = known
-learned known (t ∷ ts) (x ∷ xs) = learned (known_behind known t x) ts xs
+learned known (t ∷ ts) (x ∷ xs) = learned (known_after known t x) ts xs
 
 -- ---- reading
 
@@ -152,7 +152,7 @@ cause_of keyed E rest = Short
 cause_of keyed S rest = if nat_lt (length rest) (if keyed then 48 else 32) then Short else Tag
 cause_of keyed _ rest = Agreement
 
--- the same of token k; the payload is behind the last
+-- the same of token k; the payload is after the last
 abbrev pub cause_at : Bool → List Token → ℕ → List ℕ → Cause
 cause_at keyed [] k rest = if nat_lt (length rest) 16 then Short else Tag
 cause_at keyed (t ∷ ts) zero rest = cause_of keyed t rest
@@ -174,7 +174,7 @@ pub record Stops (v : Reader) (known : Remote) (secrets : List (List ℕ)) (r : 
   pub leads : Leads v known secrets r (take k ts) carried message rest
   pub further : k < length ts → Reaches v known secrets r (take (suc k) ts) message → ⊥
   pub unread : k ≡ length ts → (xs : List (List ℕ)) (payload : List ℕ) → Reads v known secrets r ts message xs payload → ⊥
-  pub why : cause ≡ cause_at (is_some (cipher_key (behind_front v.psks r (take k ts) carried))) ts k rest
+  pub why : cause ≡ cause_at (is_some (cipher_key (after_front v.psks r (take k ts) carried))) ts k rest
 
 -- The party accepts the message as this payload, where the tokens carry these texts.
 pub record Accepts (v : View) (message : List ℕ) (xs : List (List ℕ)) (payload : List ℕ) : Type 0 where

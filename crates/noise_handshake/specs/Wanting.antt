@@ -8,7 +8,7 @@ use Rattle.noise_state.specs.History.{History}
 use Rattle.noise_handshake.specs.View.{View, Reader, reader, Listens, Speaks, Stops, learned, own_at, remote_at, tokens_now}
 use Rattle.noise_handshake.specs.Writing.{Writer, writer, LacksAt}
 
--- Reading stops at a DH for want of its answer: that of this key pair to this key of the other party, as it is known behind the tokens before.
+-- Reading stops at a DH for want of its answer: that of this key pair to this key of the other party, as it is known after the tokens before.
 pub record StopsFor (v : Reader) (known : Remote) (secrets : List (List ℕ)) (r : History) (ts : List Token) (message : List ℕ)
     (own : Own) (key : List ℕ) : Type 0 where
   pub before : List Token

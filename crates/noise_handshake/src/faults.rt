@@ -27,7 +27,7 @@ pub enum ReadFault {
     Done,
     /// The handshake has ended.
     Ended,
-    /// Reading stopped at this token, counted from 0; the payload is behind the last. The handshake has ended.
+    /// Reading stopped at this token, counted from 0; the payload is after the last. The handshake has ended.
     Refused { token: u8, cause: Cause },
 }
 

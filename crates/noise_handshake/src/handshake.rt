@@ -86,9 +86,9 @@ impl<K: Keys> Handshake<K> {
     ghost use Rattle.noise_handshake.specs.Passed.{passed_places};
     ghost use Rattle.noise_handshake.specs.inner.Layout.{IsLaid};
     ghost use Rattle.noise_handshake.specs.View.{View, Accepts, Refuses, tokens_at};
-    ghost use Rattle.noise_handshake.specs.Held.{is_turn, read_fault, behind_read_fault, write_fault, behind_write_fault, message_len_of, IsRefusal};
-    ghost use Rattle.noise_handshake.specs.Held.{IsAgreement, Advances, IsOfDue, behind_unread};
-    ghost use Rattle.noise_handshake.specs.Asking.{LeavesUnread, behind_asked};
+    ghost use Rattle.noise_handshake.specs.Held.{is_turn, read_fault, after_read_fault, write_fault, after_write_fault, message_len_of, IsRefusal};
+    ghost use Rattle.noise_handshake.specs.Held.{IsAgreement, Advances, IsOfDue, after_unread};
+    ghost use Rattle.noise_handshake.specs.Asking.{LeavesUnread, after_asked};
     ghost use Rattle.noise_handshake.specs.declared.faults.Unread.{Unread};
     ghost use Rattle.noise_handshake.specs.Opening.{Opens};
     ghost use Rattle.noise_handshake.specs.Parts.{held_of, HasProgress, IsWhole};
@@ -96,7 +96,7 @@ impl<K: Keys> Handshake<K> {
     ghost use Rattle.noise_handshake.specs.Writing.{Writes, Lacks};
     ghost use Rattle.noise_handshake.specs.Wanting.{WantsToRead, WantsToWrite};
     ghost use Rattle.noise_handshake.specs.declared.faults.Cause.{Cause};
-    ghost use Rattle.noise_handshake.specs.Party.{Stands, behind_message, behind_own, Declines, behind_declined, Withholds, behind_withheld};
+    ghost use Rattle.noise_handshake.specs.Party.{Stands, after_message, after_own, Declines, after_declined, Withholds, after_withheld};
 
     /// The handshake of one party before its first message.
     ///
@@ -310,7 +310,7 @@ impl<K: Keys> Handshake<K> {
         ensures state { MatchResult result (λ _. Advances self.old self.new) (λ _. self.new ≡ self.old) }
         ensures reads { (v : View) → Stands K.public_of K.agreement self.old v → MatchResult result
             (λ place. let payload = slice_range message.new place.0 place.1 in (xs : List (List ℕ)) × Accepts v message.old xs payload
-            × Stands K.public_of K.agreement self.new (behind_message v xs payload))
+            × Stands K.public_of K.agreement self.new (after_message v xs payload))
             (λ stop. Refuses v message.old stop.token stop.cause × MatchOption stop.want
             ((token : ℕ) → Refuses v message.old token Cause.Agreement → ⊥) (λ want. WantsToRead v message.old want.0 want.1)) }
     {
@@ -342,7 +342,7 @@ impl<K: Keys> Handshake<K> {
     }
 
     /// Reads a message in place, and tells from where to where its payload then stands in it, in bytes. The bytes in front of
-    /// the payload and behind it stay as they are: an encrypted static key isn't decrypted there.
+    /// the payload and after it stay as they are: an encrypted static key isn't decrypted there.
     ///
     /// The message has at most 65535 bytes. At an `Err` its bytes are unchanged. `Refused` ends the handshake, and the
     /// other faults leave it as it was.
@@ -353,11 +353,11 @@ impl<K: Keys> Handshake<K> {
             (take place.0 message.new ≡ take place.0 message.old) × (drop place.1 message.new ≡ drop place.1 message.old)) }
         ensures unchanged { OnErr result (message.new ≡ message.old) }
         ensures fault { MatchOption (read_fault self.old) (IfErr result IsRefusal) (λ fault. result ≡ Err fault) }
-        ensures state { MatchResult result (λ _. Advances self.old self.new) (λ fault. self.new ≡ behind_read_fault self.old fault) }
+        ensures state { MatchResult result (λ _. Advances self.old self.new) (λ fault. self.new ≡ after_read_fault self.old fault) }
         ensures reads { (v : View) → Stands K.public_of K.agreement self.old v → MatchResult result
             (λ place. let payload = slice_range message.new place.0 place.1 in (xs : List (List ℕ)) × Accepts v message.old xs payload
-            × Stands K.public_of K.agreement self.new (behind_message v xs payload))
-            (λ fault. Declines v message.old fault × Stands K.public_of K.agreement self.new (behind_declined v fault)) }
+            × Stands K.public_of K.agreement self.new (after_message v xs payload))
+            (λ fault. Declines v message.old fault × Stands K.public_of K.agreement self.new (after_declined v fault)) }
     {
         if let Some(fault) = self.read_fault() {
             return Err(fault);
@@ -380,10 +380,10 @@ impl<K: Keys> Handshake<K> {
         ensures part { IfOk result (λ payload. (from : ℕ) × (payload.ref_ptr ≡ (message.entry.ref_ptr.0, message.entry.ref_ptr.1 + from))
             × (from + length payload.now ≤ length message.old)) }
         ensures fault { MatchOption (read_fault self.old) (IfErr result IsRefusal) (λ fault. result ≡ Err fault) }
-        ensures state { MatchResult result (λ _. Advances self.old self.new) (λ fault. self.new ≡ behind_read_fault self.old fault) }
+        ensures state { MatchResult result (λ _. Advances self.old self.new) (λ fault. self.new ≡ after_read_fault self.old fault) }
         ensures reads { (v : View) → Stands K.public_of K.agreement self.old v → MatchResult result
-            (λ payload. (xs : List (List ℕ)) × Accepts v message.old xs payload.now × Stands K.public_of K.agreement self.new (behind_message v xs payload.now))
-            (λ fault. Declines v message.old fault × Stands K.public_of K.agreement self.new (behind_declined v fault)) }
+            (λ payload. (xs : List (List ℕ)) × Accepts v message.old xs payload.now × Stands K.public_of K.agreement self.new (after_message v xs payload.now))
+            (λ fault. Declines v message.old fault × Stands K.public_of K.agreement self.new (after_declined v fault)) }
     {
         let (from, to) = self.read_within(message)?;
         Ok(&mut message[from..to])
@@ -402,11 +402,11 @@ impl<K: Keys> Handshake<K> {
             (take place.0 message.new ≡ take place.0 message.old) × (drop place.1 message.new ≡ drop place.1 message.old)) }
         ensures unchanged { OnErr result (message.new ≡ message.old) }
         ensures fault { MatchOption (read_fault self.old) (IfErr result IsOfDue) (λ fault. result ≡ Err (Unread.Declined fault)) }
-        ensures state { MatchResult result (λ _. Advances self.old self.new) (λ unread. self.new ≡ behind_unread self.old unread) }
+        ensures state { MatchResult result (λ _. Advances self.old self.new) (λ unread. self.new ≡ after_unread self.old unread) }
         ensures reads { (v : View) → Stands K.public_of K.agreement self.old v → MatchResult result
             (λ place. let payload = slice_range message.new place.0 place.1 in (xs : List (List ℕ)) × Accepts v message.old xs payload
-            × Stands K.public_of K.agreement self.new (behind_message v xs payload))
-            (λ unread. LeavesUnread v message.old unread × Stands K.public_of K.agreement self.new (behind_asked v unread)) }
+            × Stands K.public_of K.agreement self.new (after_message v xs payload))
+            (λ unread. LeavesUnread v message.old unread × Stands K.public_of K.agreement self.new (after_asked v unread)) }
     {
         if let Some(fault) = self.read_fault() {
             return Err(Unread::Declined(fault));
@@ -500,11 +500,11 @@ impl<K: Keys> Handshake<K> {
         ensures len { IfOk result (λ n. (message_len_of self.old (length payload.now) ≡ Some n) × (n ≤ length out.new)) }
         ensures fault { MatchOption (write_fault self.old (length payload.now)) (IfErr result IsAgreement) (λ fault. (result ≡ Err fault)
             × (out.new ≡ out.old)) }
-        ensures state { MatchResult result (λ _. Advances self.old self.new) (λ fault. self.new ≡ behind_write_fault self.old fault) }
+        ensures state { MatchResult result (λ _. Advances self.old self.new) (λ fault. self.new ≡ after_write_fault self.old fault) }
         ensures beyond { IfOk result (λ n. drop n out.new ≡ drop n out.old) }
         ensures writes { (v : View) → Stands K.public_of K.agreement self.old v → MatchResult result
-            (λ n. (xs : List (List ℕ)) × Writes v payload.now xs (take n out.new) × Stands K.public_of K.agreement self.new (behind_own v xs payload.now))
-            (λ fault. Withholds v (length payload.now) fault × Stands K.public_of K.agreement self.new (behind_withheld v fault)) }
+            (λ n. (xs : List (List ℕ)) × Writes v payload.now xs (take n out.new) × Stands K.public_of K.agreement self.new (after_own v xs payload.now))
+            (λ fault. Withholds v (length payload.now) fault × Stands K.public_of K.agreement self.new (after_withheld v fault)) }
     {
         if let Some(fault) = self.write_fault(payload.len()) {
             return Err(fault);

@@ -5,7 +5,7 @@ ghost use Rattle.std.specs.Prelude.{◌≡◌, ◌≤◌, ◌+◌, ◌*◌, ◌+
 ghost use Rattle.noise_names.specs.Plan.{has_psk};
 ghost use Rattle.noise_names.specs.Overhead.{has_key};
 ghost use Rattle.noise_handshake.specs.Passed.{passed_places};
-ghost use Rattle.noise_handshake.specs.Length.{keyed_behind, keyed_behind_tokens, token_width, tokens_width};
+ghost use Rattle.noise_handshake.specs.Length.{keyed_after, keyed_after_tokens, token_width, tokens_width};
 ghost use Rattle.noise_handshake.specs.inner.Layout.{placed_from, IsLaid, LaysNext};
 
 use crate::setup::psk_count;
@@ -41,9 +41,9 @@ fn token_width(keyed: bool, token: Token) -> u8
     }
 }
 
-// Whether there is a key behind a token.
-fn keyed_behind(psks: bool, keyed: bool, token: Token) -> bool
-    ensures { result ≡ keyed_behind psks keyed token }
+// Whether there is a key after a token.
+fn keyed_after(psks: bool, keyed: bool, token: Token) -> bool
+    ensures { result ≡ keyed_after psks keyed token }
 {
     match token {
         Token::E => psks || keyed,
@@ -52,7 +52,7 @@ fn keyed_behind(psks: bool, keyed: bool, token: Token) -> bool
     }
 }
 
-// Places tokens one behind another, and tells where the bytes behind them start, and whether there is a key there.
+// Places tokens one after another, and tells where the bytes after them start, and whether there is a key there.
 fn place_tokens(
     tokens: &[Token],
     psks: bool,
@@ -64,7 +64,7 @@ fn place_tokens(
     requires small { place ≤ 48 * length placed.old.items }
     ensures place { result.0 ≡ place + tokens_width psks keyed tokens.now }
     ensures small { result.0 ≤ 480 }
-    ensures key { result.1 ≡ keyed_behind_tokens psks keyed tokens.now }
+    ensures key { result.1 ≡ keyed_after_tokens psks keyed tokens.now }
     ensures placed { placed.new.items ≡ placed.old.items ++ placed_from psks keyed place tokens.now }
 {
     let Some((token, later)) = tokens.split_first() else {
@@ -76,8 +76,8 @@ fn place_tokens(
         width,
         place,
     });
-    let behind = keyed_behind(psks, keyed, *token);
-    place_tokens(later, psks, behind, place + u16::from(width), placed)
+    let after = keyed_after(psks, keyed, *token);
+    place_tokens(later, psks, after, place + u16::from(width), placed)
 }
 
 // The layout of a message.
@@ -86,8 +86,8 @@ fn lay_message(tokens: &[Token], psks: bool, keyed: bool) -> MessageLayout
     ensures { IsLaid psks keyed tokens.now result }
 {
     let mut placed = ArrayVec::new();
-    let (payload, behind) = place_tokens(tokens, psks, keyed, 0, &mut placed);
-    let tag = if behind { 16 } else { 0 };
+    let (payload, after) = place_tokens(tokens, psks, keyed, 0, &mut placed);
+    let tag = if after { 16 } else { 0 };
     MessageLayout {
         tokens: placed,
         overhead: payload + tag,
@@ -95,7 +95,7 @@ fn lay_message(tokens: &[Token], psks: bool, keyed: bool) -> MessageLayout
     }
 }
 
-// The layout of the message after so many, where there is a key before it or not. Behind the last message there is none,
+// The layout of the message after so many, where there is a key before it or not. After the last message there is none,
 // and the result is empty.
 pub(crate) fn lay_next(pattern: &Pattern, psks: bool, keyed: bool, passed: u8) -> MessageLayout
     requires psks { psks ≡ has_psk pattern.now }

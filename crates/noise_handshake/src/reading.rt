@@ -5,12 +5,12 @@ ghost use Rattle.std.specs.Prelude.{◌≡◌, ◌≤◌, ◌<◌, ◌+◌, ◌-
 ghost use Rattle.std.specs.Prelude.{MatchOption, MatchResult, IfOk, IfErr, OnOk, OnErr, slice_range, slice_index_or, nat_lt, if◌then◌else◌, IsTrue, true};
 ghost use Rattle.noise_state.specs.Standing.{StateStands, keyed, nonce_now};
 ghost use Rattle.noise_handshake.specs.inner.Counting.{CountsUses};
-ghost use Rattle.noise_state.specs.History.{History, Part, and_then, piece, cipher_key, nonce};
-ghost use Rattle.noise_handshake.specs.Line.{with_ephemeral, token_piece, behind_token, behind_front, behind_line};
-ghost use Rattle.noise_handshake.specs.inner.Known.{is_known, are_known, e_behind, s_behind, e_behind_tokens, s_behind_tokens};
-ghost use Rattle.noise_handshake.specs.Length.{keyed_behind, keyed_behind_tokens, token_width};
-ghost use Rattle.noise_handshake.specs.View.{Reader, Fits, Leads, Stops, known_behind, learned, Reads};
-ghost use Rattle.noise_handshake.specs.View.{cause_of, secrets_behind};
+ghost use Rattle.noise_state.specs.History.{History, Ciphertext, and_then, piece, cipher_key, nonce};
+ghost use Rattle.noise_handshake.specs.Line.{with_ephemeral, token_piece, after_token, after_front, after_line};
+ghost use Rattle.noise_handshake.specs.inner.Known.{is_known, are_known, e_after, s_after, e_after_tokens, s_after_tokens};
+ghost use Rattle.noise_handshake.specs.Length.{keyed_after, keyed_after_tokens, token_width};
+ghost use Rattle.noise_handshake.specs.View.{Reader, Fits, Leads, Stops, known_after, learned, Reads};
+ghost use Rattle.noise_handshake.specs.View.{cause_of, secrets_after};
 ghost use Rattle.noise_handshake.specs.inner.Listening.{Fails, StopsKnowing, width_of_key};
 ghost use Rattle.noise_names.specs.declared.token.Token.{Token};
 ghost use Rattle.noise_handshake.specs.inner.Layout.{tokens_of, ArePlaced};
@@ -19,7 +19,7 @@ ghost use Rattle.noise_handshake.specs.declared.faults.Cause.TheVariants.{Short,
 ghost use Rattle.noise_handshake.specs.Wanting.{StopsFor};
 
 use crate::layout::PlacedToken;
-use crate::tokens::{Means, answer_at, asked_at, mix_ephemeral, secrets_behind};
+use crate::tokens::{Means, answer_at, asked_at, mix_ephemeral, secrets_after};
 use crate::{Cause, Keys, Own, Remote};
 use noise_names::{Role, Token};
 use noise_state::{CipherFault, SymmetricState};
@@ -33,7 +33,7 @@ fn read_e(
 ) -> Result<usize, Cause>
     ensures width { IfOk result (λ n. n ≡ 32) }
     ensures range { IfOk result (λ n. n ≤ length message.now) }
-    ensures key { OnOk result (keyed state.new ≡ keyed_behind psks (keyed state.old) Token.E) }
+    ensures key { OnOk result (keyed state.new ≡ keyed_after psks (keyed state.old) Token.E) }
     ensures known { OnOk result ((is_some known.new.e ≡ true) × (known.new.s ≡ known.old.s)) }
     ensures nonce { nonce_now state.new ≤ nonce_now state.old }
     ensures uses { CountsUses state.old → CountsUses state.new }
@@ -61,7 +61,7 @@ fn open_key(state: &mut SymmetricState, buffer: &mut [u8]) -> Option<[u8; 32]>
     ensures uses { CountsUses state.old → CountsUses state.new }
     ensures opened { (r : History) → StateStands state.old r → length buffer.old ≡ width_of_key r → MatchOption result
         ((x : List ℕ) → buffer.old ≡ piece r x → ⊥)
-        (λ x. (length x ≡ 32) × (buffer.old ≡ piece r x) × StateStands state.new (and_then r (Part (piece r x)))) }
+        (λ x. (length x ≡ 32) × (buffer.old ≡ piece r x) × StateStands state.new (and_then r (Ciphertext (piece r x)))) }
 {
     match state.decrypt_and_hash(buffer) {
         Ok(_) => Some(first_32(buffer)),
@@ -96,7 +96,7 @@ fn read_s(
     ensures uses { CountsUses state.old → CountsUses state.new }
     ensures unchanged { OnErr result (known.new ≡ known.old) }
     ensures read { (r : History) → StateStands state.old r → MatchResult result
-        (λ n. (x : List ℕ) × (length x ≡ 32) × (message.now ≡ piece r x ++ drop n message.now) × StateStands state.new (and_then r (Part (piece r x)))
+        (λ n. (x : List ℕ) × (length x ≡ 32) × (message.now ≡ piece r x ++ drop n message.now) × StateStands state.new (and_then r (Ciphertext (piece r x)))
         × (known.new ≡ record known.old { s = Some x }))
         (λ cause. ((x rest : List ℕ) → length x ≡ 32 → message.now ≡ piece r x ++ rest → ⊥) × (cause ≡ cause_of (is_some (cipher_key r)) Token.S message.now)) }
 {
@@ -130,16 +130,16 @@ fn read_token<K: Keys>(
     requires known { IsTrue (is_known means.now.role (is_some known.old.e) (is_some known.old.s) placed.token) }
     ensures width { IfOk result (λ n. n ≡ token_width (keyed state.old) placed.token) }
     ensures range { IfOk result (λ n. n ≤ length message.now) }
-    ensures key { OnOk result (keyed state.new ≡ keyed_behind means.now.psks (keyed state.old) placed.token) }
-    ensures e { OnOk result (is_some known.new.e ≡ e_behind (is_some known.old.e) placed.token) }
-    ensures s { OnOk result (is_some known.new.s ≡ s_behind (is_some known.old.s) placed.token) }
+    ensures key { OnOk result (keyed state.new ≡ keyed_after means.now.psks (keyed state.old) placed.token) }
+    ensures e { OnOk result (is_some known.new.e ≡ e_after (is_some known.old.e) placed.token) }
+    ensures s { OnOk result (is_some known.new.s ≡ s_after (is_some known.old.s) placed.token) }
     ensures nonce { nonce_now state.new ≤ nonce_now state.old + 1 }
     ensures uses { CountsUses state.old → CountsUses state.new }
     ensures unchanged { OnErr result (known.new ≡ known.old) }
     ensures read { (r : History) → StateStands state.old r
         → let v : Reader = record { role = means.now.role; psks = means.now.psks; agree = K.agreement means.now.keys.now } in MatchResult result
         (λ n. (x : List ℕ) × Fits v known.old secrets.now placed.token x × (message.now ≡ token_piece r placed.token x ++ drop n message.now)
-        × StateStands state.new (behind_token means.now.psks r placed.token x) × (known.new ≡ known_behind known.old placed.token x))
+        × StateStands state.new (after_token means.now.psks r placed.token x) × (known.new ≡ known_after known.old placed.token x))
         (λ cause. Fails v known.old secrets.now r placed.token message.now × (cause ≡ cause_of (is_some (cipher_key r)) placed.token message.now)) }
 {
     match placed.token {
@@ -184,9 +184,9 @@ fn read_tokens<K: Keys>(
     ensures range { (place : ℕ) → place ≤ length message.now → ArePlaced means.now.psks (keyed state.old) place placed.now
         → IfOk result (λ n. place + n ≤ length message.now) }
     ensures stop { IfErr result (λ stop. stop.0 < length (tokens_of placed.now)) }
-    ensures key { OnOk result (keyed state.new ≡ keyed_behind_tokens means.now.psks (keyed state.old) (tokens_of placed.now)) }
-    ensures e { OnOk result (is_some known.new.e ≡ e_behind_tokens (is_some known.old.e) (tokens_of placed.now)) }
-    ensures s { OnOk result (is_some known.new.s ≡ s_behind_tokens (is_some known.old.s) (tokens_of placed.now)) }
+    ensures key { OnOk result (keyed state.new ≡ keyed_after_tokens means.now.psks (keyed state.old) (tokens_of placed.now)) }
+    ensures e { OnOk result (is_some known.new.e ≡ e_after_tokens (is_some known.old.e) (tokens_of placed.now)) }
+    ensures s { OnOk result (is_some known.new.s ≡ s_after_tokens (is_some known.old.s) (tokens_of placed.now)) }
     ensures nonce { nonce_now state.new ≤ nonce_now state.old + length (tokens_of placed.now) }
     ensures uses { CountsUses state.old → CountsUses state.new }
     ensures read { (r : History) (place : ℕ) → StateStands state.old r → place ≤ length message.now
@@ -194,7 +194,7 @@ fn read_tokens<K: Keys>(
         → let v : Reader = record { role = means.now.role; psks = means.now.psks; agree = K.agreement means.now.keys.now } in
         let tokens : List Token = tokens_of placed.now in MatchResult result
         (λ n. (xs : List (List ℕ)) × Leads v known.old secrets.now r tokens xs (drop place message.now) (drop (place + n) message.now)
-        × StateStands state.new (behind_front means.now.psks r tokens xs) × (known.new ≡ learned known.old tokens xs))
+        × StateStands state.new (after_front means.now.psks r tokens xs) × (known.new ≡ learned known.old tokens xs))
         (λ stop. StopsKnowing v known.old secrets.now r tokens (drop place message.now) stop.0 stop.1 known.new) }
 {
     let Some((first, later)) = placed.split_first() else {
@@ -205,7 +205,7 @@ fn read_tokens<K: Keys>(
         Ok(n) => n,
         Err(cause) => return Err((0, cause)),
     };
-    let others = secrets_behind(secrets, first.token);
+    let others = secrets_after(secrets, first.token);
     match read_tokens(state, known, means, others, later, message) {
         Ok(more) => Ok(n + more),
         Err((k, cause)) => Err((k + 1, cause)),
@@ -293,16 +293,16 @@ pub(crate) fn read_message<K: Keys>(
     ensures beyond { IfOk result (λ place.
         (take place.0 message.new ≡ take place.0 message.old) × (drop place.1 message.new ≡ drop place.1 message.old)) }
     ensures stop { IfErr result (λ stop. stop.0 ≤ length (tokens_of placed.now)) }
-    ensures key { OnOk result (keyed state.new ≡ keyed_behind_tokens means.now.psks (keyed state.old) (tokens_of placed.now)) }
-    ensures e { OnOk result (is_some known.new.e ≡ e_behind_tokens (is_some known.old.e) (tokens_of placed.now)) }
-    ensures s { OnOk result (is_some known.new.s ≡ s_behind_tokens (is_some known.old.s) (tokens_of placed.now)) }
+    ensures key { OnOk result (keyed state.new ≡ keyed_after_tokens means.now.psks (keyed state.old) (tokens_of placed.now)) }
+    ensures e { OnOk result (is_some known.new.e ≡ e_after_tokens (is_some known.old.e) (tokens_of placed.now)) }
+    ensures s { OnOk result (is_some known.new.s ≡ s_after_tokens (is_some known.old.s) (tokens_of placed.now)) }
     ensures nonce { nonce_now state.new ≤ nonce_now state.old + length (tokens_of placed.now) + 1 }
     ensures uses { CountsUses state.old → CountsUses state.new }
     ensures read { (r : History) → StateStands state.old r
         → let v : Reader = record { role = means.now.role; psks = means.now.psks; agree = K.agreement means.now.keys.now } in
         let tokens : List Token = tokens_of placed.now in MatchResult result
         (λ place. let payload = slice_range message.new place.0 place.1 in (xs : List (List ℕ)) × Reads v known.old secrets.now r tokens message.old xs payload
-        × StateStands state.new (behind_line means.now.psks r tokens xs payload) × (known.new ≡ learned known.old tokens xs))
+        × StateStands state.new (after_line means.now.psks r tokens xs payload) × (known.new ≡ learned known.old tokens xs))
         (λ stop. StopsKnowing v known.old secrets.now r tokens message.old stop.0 stop.1 known.new) }
     ensures unchanged { OnErr result (message.new ≡ message.old) }
 {

@@ -9,7 +9,7 @@ ghost use Rattle.noise_names.specs.Validity.{is_among};
 ghost use Rattle.noise_names.specs.Overhead.{has_key};
 ghost use Rattle.noise_names.specs.declared.token.Token.TheVariants.{E, S};
 ghost use Rattle.noise_state.specs.Standing.{StateStands, keyed, nonce_now};
-ghost use Rattle.noise_state.specs.History.{History, Mix, and_then};
+ghost use Rattle.noise_state.specs.History.{History, MixHash, and_then};
 ghost use Rattle.noise_handshake.specs.View.{with_premessage};
 ghost use Rattle.noise_handshake.specs.Setup.{token_of, secrets_of, setup_fault, public_keys, keys_of, lacks_own, start_of};
 ghost use Rattle.noise_handshake.specs.inner.PreMessage.{HasPre};
@@ -216,7 +216,7 @@ fn keys_of(party: Role, role: Role, own: &Remote, remote: &Remote) -> Remote
 fn mix_prologue(state: &mut SymmetricState, prologue: &[u8])
     ensures key { keyed state.new ≡ keyed state.old }
     ensures nonce { nonce_now state.new ≡ nonce_now state.old }
-    ensures mixed { (r : History) → StateStands state.old r → StateStands state.new (and_then r (Mix prologue.now)) }
+    ensures mixed { (r : History) → StateStands state.old r → StateStands state.new (and_then r (MixHash prologue.now)) }
 {
     state.mix_hash(prologue);
 }

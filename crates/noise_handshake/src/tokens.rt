@@ -7,9 +7,9 @@ ghost use Rattle.noise_state.specs.Standing.{StateStands, keyed, nonce_now};
 ghost use Rattle.noise_handshake.specs.inner.Counting.{CountsUses};
 ghost use Rattle.noise_state.specs.History.{History};
 ghost use Rattle.noise_handshake.specs.inner.Known.{remote_known};
-ghost use Rattle.noise_handshake.specs.Length.{keyed_behind};
+ghost use Rattle.noise_handshake.specs.Length.{keyed_after};
 ghost use Rattle.noise_handshake.specs.Line.{with_ephemeral};
-ghost use Rattle.noise_handshake.specs.View.{answered, own_at, remote_at, secrets_behind};
+ghost use Rattle.noise_handshake.specs.View.{answered, own_at, remote_at, secrets_after};
 
 use crate::{Keys, Own, Remote};
 use noise_names::{Role, Token};
@@ -74,7 +74,7 @@ pub(crate) fn answer_at<K: Keys>(
 // Mixes an ephemeral public key; in a psk pattern it is a key input too.
 pub(crate) fn mix_ephemeral(state: &mut SymmetricState, psks: bool, key: &[u8; 32])
     ensures mixed { (r : History) → StateStands state.old r → StateStands state.new (with_ephemeral psks r key.now) }
-    ensures keyed { keyed state.new ≡ keyed_behind psks (keyed state.old) Token.E }
+    ensures keyed { keyed state.new ≡ keyed_after psks (keyed state.old) Token.E }
     ensures used { nonce_now state.new ≤ nonce_now state.old }
     ensures uses { CountsUses state.old → CountsUses state.new }
 {
@@ -84,10 +84,10 @@ pub(crate) fn mix_ephemeral(state: &mut SymmetricState, psks: bool, key: &[u8; 3
     }
 }
 
-// The secrets still to come behind a token.
-pub(crate) fn secrets_behind(secrets: &[[u8; 32]], token: Token) -> &[[u8; 32]]
+// The secrets still to come after a token.
+pub(crate) fn secrets_after(secrets: &[[u8; 32]], token: Token) -> &[[u8; 32]]
     requires { token ≡ Token.Psk → 0 < length secrets.now }
-    ensures { result.now ≡ secrets_behind secrets.now token }
+    ensures { result.now ≡ secrets_after secrets.now token }
 {
     match token {
         Token::Psk => &secrets[1..],

@@ -6,10 +6,10 @@ ghost use Rattle.std.specs.Prelude.{IfOk, is_some, None};
 ghost use Rattle.std.specs.List.{list_all};
 ghost use Rattle.noise_state.specs.Standing.{StateStands, keyed, nonce_now};
 ghost use Rattle.noise_handshake.specs.inner.Counting.{CountsUses};
-ghost use Rattle.noise_state.specs.History.{History, Part, and_then, piece};
-ghost use Rattle.noise_handshake.specs.Line.{token_piece, behind_token, front, behind_front, line, behind_line, with_ephemeral};
+ghost use Rattle.noise_state.specs.History.{History, Ciphertext, and_then, piece};
+ghost use Rattle.noise_handshake.specs.Line.{token_piece, after_token, front, after_front, line, after_line, with_ephemeral};
 ghost use Rattle.noise_handshake.specs.inner.Known.{is_known, remote_known};
-ghost use Rattle.noise_handshake.specs.Length.{keyed_behind, keyed_behind_tokens, tag_width, token_width, tokens_width, added_width};
+ghost use Rattle.noise_handshake.specs.Length.{keyed_after, keyed_after_tokens, tag_width, token_width, tokens_width, added_width};
 ghost use Rattle.noise_handshake.specs.Writing.{Writer, Gives, Given, LacksAt};
 ghost use Rattle.noise_handshake.specs.Wanting.{LacksFor};
 ghost use Rattle.noise_handshake.specs.inner.Speaking.{has_own};
@@ -18,7 +18,7 @@ ghost use Rattle.noise_handshake.specs.inner.Layout.{tokens_of};
 ghost use Rattle.noise_names.specs.Tokens.{is_psk};
 
 use crate::layout::PlacedToken;
-use crate::tokens::{Means, answer_at, asked_at, mix_ephemeral, secrets_behind};
+use crate::tokens::{Means, answer_at, asked_at, mix_ephemeral, secrets_after};
 use crate::{Keys, Own, Remote};
 use noise_names::Token;
 use noise_state::SymmetricState;
@@ -53,7 +53,7 @@ fn write_part(state: &mut SymmetricState, text: &[u8], out: &mut [u8]) -> usize
     ensures used { nonce_now state.new ≤ nonce_now state.old + 1 }
     ensures uses { CountsUses state.old → CountsUses state.new }
     ensures written { (r : History) → StateStands state.old r → (take result out.new ≡ piece r text.now)
-        × StateStands state.new (and_then r (Part (piece r text.now))) }
+        × StateStands state.new (and_then r (Ciphertext (piece r text.now))) }
 {
     let len = put(text, out);
     let width = len + tag_width(state);
@@ -68,7 +68,7 @@ fn write_e(state: &mut SymmetricState, psks: bool, key: &[u8; 32], out: &mut [u8
     requires room { 32 ≤ length out.old }
     ensures width { result ≡ 32 }
     ensures rest { drop result out.new ≡ drop result out.old }
-    ensures keyed { keyed state.new ≡ keyed_behind psks (keyed state.old) Token.E }
+    ensures keyed { keyed state.new ≡ keyed_after psks (keyed state.old) Token.E }
     ensures used { nonce_now state.new ≤ nonce_now state.old }
     ensures uses { CountsUses state.old → CountsUses state.new }
     ensures written { (r : History) → StateStands state.old r → (take result out.new ≡ key.now) × StateStands state.new (with_ephemeral psks r key.now) }
@@ -93,7 +93,7 @@ fn write_token<K: Keys>(
     requires nonces { nonce_now state.old < 2 ^ 64 - 1 }
     ensures width { IfSome result (λ n. n ≡ token_width (keyed state.old) token) }
     ensures rest { IfSome result (λ n. drop n out.new ≡ drop n out.old) }
-    ensures keyed { IfSome result (λ _. keyed state.new ≡ keyed_behind means.now.psks (keyed state.old) token) }
+    ensures keyed { IfSome result (λ _. keyed state.new ≡ keyed_after means.now.psks (keyed state.old) token) }
     ensures used { nonce_now state.new ≤ nonce_now state.old + 1 }
     ensures uses { CountsUses state.old → CountsUses state.new }
     ensures written { (r : History) → StateStands state.old r
@@ -106,7 +106,7 @@ fn write_token<K: Keys>(
         MatchOption result
         ((x : List ℕ) → Gives w known.now secrets.now token x → ⊥)
         (λ n. (x : List ℕ) × Gives w known.now secrets.now token x × (take n out.new ≡ token_piece r token x)
-        × StateStands state.new (behind_token means.now.psks r token x)) }
+        × StateStands state.new (after_token means.now.psks r token x)) }
 {
     match token {
         Token::E => match means.keys.public(Own::Ephemeral) {
@@ -146,7 +146,7 @@ fn write_tokens<K: Keys>(
     ensures width { MatchResult result (λ n. n ≡ tokens_width means.now.psks (keyed state.old) (tokens_of placed.now))
         (λ k. k < length (tokens_of placed.now)) }
     ensures rest { IfOk result (λ n. drop n out.new ≡ drop n out.old) }
-    ensures keyed { IfOk result (λ _. keyed state.new ≡ keyed_behind_tokens means.now.psks (keyed state.old) (tokens_of placed.now)) }
+    ensures keyed { IfOk result (λ _. keyed state.new ≡ keyed_after_tokens means.now.psks (keyed state.old) (tokens_of placed.now)) }
     ensures used { nonce_now state.new ≤ nonce_now state.old + length (tokens_of placed.now) }
     ensures uses { CountsUses state.old → CountsUses state.new }
     ensures written { (r : History) → StateStands state.old r
@@ -159,7 +159,7 @@ fn write_tokens<K: Keys>(
         MatchResult result
         (λ n. (xs : List (List ℕ)) × Given w known.now secrets.now (tokens_of placed.now) xs
         × (take n out.new ≡ front means.now.psks r (tokens_of placed.now) xs)
-        × StateStands state.new (behind_front means.now.psks r (tokens_of placed.now) xs))
+        × StateStands state.new (after_front means.now.psks r (tokens_of placed.now) xs))
         (λ k. LacksAt w known.now secrets.now (tokens_of placed.now) k) }
 {
     let Some((first, later)) = placed.split_first() else {
@@ -168,7 +168,7 @@ fn write_tokens<K: Keys>(
     let Some(n) = write_token(state, known, means, secrets, first.token, out) else {
         return Err(0);
     };
-    let others = secrets_behind(secrets, first.token);
+    let others = secrets_after(secrets, first.token);
     match write_tokens(state, known, means, others, later, &mut out[n..]) {
         Ok(more) => Ok(n + more),
         Err(k) => Err(k + 1),
@@ -225,7 +225,7 @@ pub(crate) fn write_lacking<K: Keys>(
     let (first, later) = placed.split_first()?;
     match text_at(known, means, secrets, first.token) {
         Some(_) => {
-            let others = secrets_behind(secrets, first.token);
+            let others = secrets_after(secrets, first.token);
             write_lacking(known, means, others, later)
         }
         None => asked_at(means.role, known, first.token),
@@ -252,7 +252,7 @@ pub(crate) fn write_message<K: Keys>(
     ensures width { MatchResult result (λ n. n ≡ added_width means.now.psks (keyed state.old) (tokens_of placed.now) + length payload.now)
         (λ k. k < length (tokens_of placed.now)) }
     ensures rest { IfOk result (λ n. drop n out.new ≡ drop n out.old) }
-    ensures keyed { IfOk result (λ _. keyed state.new ≡ keyed_behind_tokens means.now.psks (keyed state.old) (tokens_of placed.now)) }
+    ensures keyed { IfOk result (λ _. keyed state.new ≡ keyed_after_tokens means.now.psks (keyed state.old) (tokens_of placed.now)) }
     ensures used { nonce_now state.new ≤ nonce_now state.old + length (tokens_of placed.now) + 1 }
     ensures uses { CountsUses state.old → CountsUses state.new }
     ensures written { (r : History) → StateStands state.old r
@@ -265,7 +265,7 @@ pub(crate) fn write_message<K: Keys>(
         MatchResult result
         (λ n. (xs : List (List ℕ)) × Given w known.now secrets.now (tokens_of placed.now) xs
         × (take n out.new ≡ line means.now.psks r (tokens_of placed.now) xs payload.now)
-        × StateStands state.new (behind_line means.now.psks r (tokens_of placed.now) xs payload.now))
+        × StateStands state.new (after_line means.now.psks r (tokens_of placed.now) xs payload.now))
         (λ k. LacksAt w known.now secrets.now (tokens_of placed.now) k) }
 {
     let from = match write_tokens(state, known, means, secrets, placed, out) {

@@ -12,7 +12,7 @@ pub enum Own {
     Static,
 }
 
-/// The key pairs of a party. Private keys stay behind it: a handshake asks for public keys and for DH answers alone.
+/// The key pairs of a party. Private keys stay after it: a handshake asks for public keys and for DH answers alone.
 ///
 /// Both answers are functions of the value: the same call on the same value answers the same.
 pub trait Keys: Drop {

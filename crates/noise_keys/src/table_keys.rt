@@ -38,7 +38,7 @@ impl Entry {
 }
 
 /// Keys for tests and examples, whose DH answers stand in a table. **A toy, not secure at all:** there is no private key
-/// behind it, and nothing but its maker sees to it that the answers of two ends are the same.
+/// after it, and nothing but its maker sees to it that the answers of two ends are the same.
 ///
 /// It holds at most 8 entries. The answer of a key pair to a remote public key is that of the first entry for the two;
 /// there is none where there is no such entry, whether or not the table has a public key of that key pair.
@@ -74,7 +74,7 @@ impl TableKeys {
         }
     }
 
-    /// Adds an entry behind the others: the answer of this key pair to that remote public key.
+    /// Adds an entry after the others: the answer of this key pair to that remote public key.
     ///
     /// A table with 8 entries is `TableFull`, and stays as it was.
     pub fn add(&mut self, own: Own, remote: [u8; 32], answer: [u8; 32]) -> Result<(), TableFull>

@@ -33,11 +33,11 @@ all_printed : (word : List ℕ) → is_printed word ≡ true → list_all is_pri
 all_printed [] h = refl
 all_printed (b ∷ bs) h = h
 
-printed-append : (front behind : List ℕ) → is_printed front ≡ true → list_all is_printed_byte behind ≡ true → is_printed (front ++ behind) ≡ true
-printed-append [] behind h k = absurd (cc h)
-printed-append (b ∷ bs) behind h k = list_all-append is_printed_byte (b ∷ bs) behind ∙ rw (h, k) refl
+printed-append : (front after : List ℕ) → is_printed front ≡ true → list_all is_printed_byte after ≡ true → is_printed (front ++ after) ≡ true
+printed-append [] after h k = absurd (cc h)
+printed-append (b ∷ bs) after h k = list_all-append is_printed_byte (b ∷ bs) after ∙ rw (h, k) refl
 
--- and so is one behind a space (32)
+-- and so is one after a space (32)
 pub printed-more : (front word : List ℕ) → is_printed front ≡ true → is_printed word ≡ true → is_printed (front ++ 32 ∷ word) ≡ true
 printed-more front word h k = printed-append front (32 ∷ word) h (all_printed word k)
 

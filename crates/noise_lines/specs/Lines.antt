@@ -8,7 +8,7 @@ use Rattle.noise_lines.specs.declared.line.Line.{Line}
 abbrev pub line_of : List (List ℕ) → List ℕ
 line_of words = join_with_byte 32 words
 
--- the text of lines, each with an LF behind it
+-- the text of lines, each with an LF after it
 abbrev pub lines_text : List (List ℕ) → List ℕ
 lines_text lines = flat_map line lines
 

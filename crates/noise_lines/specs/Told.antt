@@ -70,7 +70,7 @@ fault_words Memory = codes "out of memory" ∷ []
 abbrev pub fault_line : Fault → List ℕ
 fault_line why = line_of (fault_words why)
 
--- a broken rule is told on the output, behind what it held
+-- a broken rule is told on the output, after what it held
 abbrev pub TellsRule : Fault → Option (List ℕ) → Option (List ℕ) → Type 0
 TellsRule (Rule f) before after = Appends before after (fault_line (Rule f) ++ 10 ∷ [])
 TellsRule fault before after = ⊤

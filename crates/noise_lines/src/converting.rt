@@ -12,7 +12,7 @@ use crate::faults::Fault;
 use crate::input::LIMIT;
 use std::alloc::{AllocError, Global};
 
-/// The text of a version 1 file with the header of version 2 and, behind it, what is expected: these lines. It has at most 4194304 bytes, or it is too
+/// The text of a version 1 file with the header of version 2 and, after it, what is expected: these lines. It has at most 4194304 bytes, or it is too
 /// long.
 pub fn convert(alloc: Global, text: &[u8], lines: &[Vec<u8>]) -> Result<Vec<u8>, Fault>
     requires { (file : VectorFile) × (file.version ≡ One) × (text.now ≡ text_of file) }
@@ -25,7 +25,7 @@ pub fn convert(alloc: Global, text: &[u8], lines: &[Vec<u8>]) -> Result<Vec<u8>,
     let mut converted = Vec::new(alloc);
     converted.extend_from_slice(b"vector 2\n".as_slice())?;
     match text.strip_prefix(b"vector 1\n".as_slice()) {
-        Some(behind) => converted.extend_from_slice(behind)?,
+        Some(after) => converted.extend_from_slice(after)?,
         None => unreachable!(),
     }
     push_expectations(lines, &mut converted)?;

@@ -71,7 +71,7 @@ impl Line {
         self.text
     }
 
-    /// Writes the line, with an LF behind it.
+    /// Writes the line, with an LF after it.
     pub fn write<W: Write>(self, out: &mut W) -> Result<(), Fault>
         ensures written { OnOk result (Appends (W.contents out.old) (W.contents out.new) (self.text.items ++ 10 ∷ [])) }
         ensures fault { IfErr result (λ fault. status_of fault ≡ 3) }

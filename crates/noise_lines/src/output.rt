@@ -31,7 +31,7 @@ pub fn flush<O: Write>(out: &mut O) -> Result<(), Fault>
     }
 }
 
-/// Writes lines, with an LF behind each.
+/// Writes lines, with an LF after each.
 pub fn write_lines<O: Write>(lines: &[Vec<u8>], out: &mut O) -> Result<(), Fault>
     ensures written { OnOk result (Appends (O.contents out.old) (O.contents out.new) (lines_text (bytes_of lines.now))) }
     ensures fault { IfErr result (λ fault. status_of fault ≡ 3) }

@@ -18,7 +18,7 @@ both false y h = absurd (cc)
 abbrev pub are_numbers : List ℕ → Bool
 are_numbers ns = list_all (λ n. leb n 8) ns
 
--- modifiers with a + behind each
+-- modifiers with a + after each
 abbrev pub fronts : List ℕ → List ℕ
 fronts [] = []
 fronts (n ∷ ns) = modifier n ++ 43 ∷ fronts ns
@@ -200,17 +200,17 @@ join-cons n (m ∷ ns) = refl
 
 -- the rest has no modifier in front
 pub refused_at : (modifiers rest done : List ℕ) → modifiers ≡ fronts done ++ rest → (modifiers ≡ [] → ⊥)
-    → ((n : ℕ) (behind : List ℕ) → n ≤ 8 → rest ≡ modifier n ++ behind → ⊥) → list_all is_modifier (pieces_of modifiers) ≡ false
+    → ((n : ℕ) (after : List ℕ) → n ≤ 8 → rest ≡ modifier n ++ after → ⊥) → list_all is_modifier (pieces_of modifiers) ≡ false
 refused_at modifiers rest done e some none =
     refused modifiers (λ n ns h f. let l : IsLeft rest = left_over done n ns rest h (sym e ∙ f) in
     none l.number (tail_of l.others) l.small (l.spelled ∙ join-cons l.number l.others)) some
 
--- the rest has something else than a + behind a modifier
-pub refused_behind : (modifiers rest done behind : List ℕ) (n : ℕ) → modifiers ≡ fronts done ++ rest → (modifiers ≡ [] → ⊥) → rest ≡ modifier n ++ behind
-    → (behind ≡ [] → ⊥) → ((more : List ℕ) → behind ≡ 43 ∷ more → ⊥) → list_all is_modifier (pieces_of modifiers) ≡ false
-refused_behind modifiers rest done behind n e some here ended plus =
+-- the rest has something else than a + after a modifier
+pub refused_after : (modifiers rest done after : List ℕ) (n : ℕ) → modifiers ≡ fronts done ++ rest → (modifiers ≡ [] → ⊥) → rest ≡ modifier n ++ after
+    → (after ≡ [] → ⊥) → ((more : List ℕ) → after ≡ 43 ∷ more → ⊥) → list_all is_modifier (pieces_of modifiers) ≡ false
+refused_after modifiers rest done after n e some here ended plus =
     refused modifiers (λ k ns h f. let l : IsLeft rest = left_over done k ns rest h (sym e ∙ f) in at l.number l.others (sym here ∙ l.spelled)) some
   where
-    at : (k : ℕ) (others : List ℕ) → modifier n ++ behind ≡ join_with_byte 43 (map modifier (k ∷ others)) → ⊥
+    at : (k : ℕ) (others : List ℕ) → modifier n ++ after ≡ join_with_byte 43 (map modifier (k ∷ others)) → ⊥
     at k [] f = ended (cc)
     at k (m ∷ ms) f = plus (join_with_byte 43 (map modifier (m ∷ ms))) (cc)

@@ -53,12 +53,12 @@ first_word_same t u b c x y hb hc e =
     let named : Some t ≡ Some u = sym (word_named t) ∙ ap token_named word ∙ word_named u in
     (cc, append_cancel_left (word_of u) (b ∷ x) (c ∷ y) (ap (λ (w : List ℕ). w ++ b ∷ x) (sym word) ∙ e))
 
--- what stands behind the first word of a list and a line feed
-abbrev behind : List Token → List ℕ → List ℕ
-behind [] rest = 10 ∷ rest
-behind (v ∷ vs) rest = 44 ∷ 32 ∷ (words (v ∷ vs) ++ 10 ∷ rest)
+-- what stands after the first word of a list and a line feed
+abbrev after : List Token → List ℕ → List ℕ
+after [] rest = 10 ∷ rest
+after (v ∷ vs) rest = 44 ∷ 32 ∷ (words (v ∷ vs) ++ 10 ∷ rest)
 
-word_first : (u : Token) (us : List Token) (rest : List ℕ) → words (u ∷ us) ++ 10 ∷ rest ≡ word_of u ++ behind us rest
+word_first : (u : Token) (us : List Token) (rest : List ℕ) → words (u ∷ us) ++ 10 ∷ rest ≡ word_of u ++ after us rest
 word_first u [] rest = refl
 word_first u (v ∷ vs) rest = append_assoc (word_of u ++ codes ", ") (words (v ∷ vs)) (10 ∷ rest)
     ∙ append_assoc (word_of u) (codes ", ") (words (v ∷ vs) ++ 10 ∷ rest)
@@ -127,7 +127,7 @@ messages_same role ((t ∷ ts) ∷ ms) ((u ∷ us) ∷ ks) h k e =
     cons_same : {a b : List Token} {xs ys : List (List Token)} → a ≡ b → xs ≡ ys → a ∷ xs ≡ b ∷ ys
     cons_same p q = cc
 
--- pre-messages with the line behind them
+-- pre-messages with the line after them
 responder_same : (r s : List Token) (x y : List ℕ) → pre_line Responder r ++ (dots ++ x) ≡ pre_line Responder s ++ (dots ++ y) → (r ≡ s) × (x ≡ y)
 responder_same [] [] x y e = (refl, cc)
 responder_same [] (u ∷ us) x y e = absurd (apart _ _ 2 e (omega arith))
@@ -154,12 +154,12 @@ both_same (t ∷ ts) (u ∷ us) r s x y e =
     (same.tokens, h.0, h.1)
 
 -- messages are no pre-messages
-behind_first : (ms : List (List Token)) (s : List Token) (y : List ℕ) → list_all has_few_tokens ms ≡ true
+after_first : (ms : List (List Token)) (s : List Token) (y : List ℕ) → list_all has_few_tokens ms ≡ true
     → message_lines Responder ms ≡ pre_line Responder s ++ (dots ++ y) → ⊥
-behind_first ms [] y h e = no_dots Responder ms y e
-behind_first [] (u ∷ us) y h e = cc
-behind_first ([] ∷ ms) (u ∷ us) y h e = some_token ms h
-behind_first ((t ∷ ts) ∷ ms) (u ∷ us) y h e =
+after_first ms [] y h e = no_dots Responder ms y e
+after_first [] (u ∷ us) y h e = cc
+after_first ([] ∷ ms) (u ∷ us) y h e = some_token ms h
+after_first ((t ∷ ts) ∷ ms) (u ∷ us) y h e =
     no_dots Initiator ms y (line_same Responder Responder t u ts us (message_lines Initiator ms) (dots ++ y) e).rest
 
 no_pre : (ms : List (List Token)) (j s : List Token) (y : List ℕ) → list_all has_few_tokens ms ≡ true → message_lines Initiator ms ≡ with_dots j s y → ⊥
@@ -170,10 +170,10 @@ no_pre ((t ∷ ts) ∷ ms) [] (u ∷ us) y h e = apart _ _ 2 e (omega arith)
 no_pre [] (u ∷ us) s y h e = cc
 no_pre ([] ∷ ms) (u ∷ us) s y h e = some_token ms h
 no_pre ((t ∷ ts) ∷ ms) (u ∷ us) s y h e =
-    behind_first ms s y (both (has_few_tokens (t ∷ ts)) (list_all has_few_tokens ms) h).1
+    after_first ms s y (both (has_few_tokens (t ∷ ts)) (list_all has_few_tokens ms) h).1
     (line_same Initiator Initiator t u ts us (message_lines Responder ms) (pre_line Responder s ++ (dots ++ y)) e).rest
 
--- the lines behind the heading
+-- the lines after the heading
 regroup : (a b c d : List ℕ) → ((a ++ b) ++ c) ++ d ≡ a ++ (b ++ (c ++ d))
 regroup a b c d = append_assoc (a ++ b) c d ∙ append_assoc a b (c ++ d)
 

@@ -106,11 +106,11 @@ name_spelled bytes s e =
     let kept = kept_section (section_part bytes) sections.0 in
     let prefix_is : take 6 bytes ≡ prefix = (bytes_eq-Decides (take 6 bytes) prefix).0 (not_false _ top.1) in
     let suffix_is : algorithm_part bytes ≡ suffix = (bytes_eq-Decides (algorithm_part bytes) suffix).0 last.0 in
-    let behind : drop 6 bytes ≡ section_part bytes ++ algorithm_part bytes =
+    let after : drop 6 bytes ≡ section_part bytes ++ algorithm_part bytes =
     front_split (λ b. not (eqb b 95)) (drop 6 bytes) ∙ ap (λ (xs : List ℕ). section_part bytes ++ xs) (drop-drop (length (section_part bytes)) 6 bytes) in
     let whole : bytes ≡ prefix ++ (section_part bytes ++ suffix) =
     sym (take-append-drop 6 bytes) ∙ ap (λ (xs : List ℕ). xs ++ drop 6 bytes) prefix_is
-    ∙ ap (λ (xs : List ℕ). prefix ++ xs) (behind ∙ ap (λ (xs : List ℕ). section_part bytes ++ xs) suffix_is) in
+    ∙ ap (λ (xs : List ℕ). prefix ++ xs) (after ∙ ap (λ (xs : List ℕ). section_part bytes ++ xs) suffix_is) in
     let spelled : bytes ≡ name_bytes (section_in (section_part bytes)) =
     whole ∙ ap (λ (xs : List ℕ). prefix ++ (xs ++ suffix)) kept.1 in
     subst (λ (t : Section). Names bytes t) last.1 (record { is_section = kept.0; spelled = spelled })
@@ -139,8 +139,8 @@ part_of : (s : Section) → IsSection s → section_part (name_bytes s) ≡ sect
 part_of s h = front_is (λ b. not (eqb b 95)) (section_bytes s.base s.places) 95 (codes "25519_ChaChaPoly_SHA256")
     (all_weaker is_section_byte (λ b. not (eqb b 95)) (section_bytes s.base s.places) no_underscore (section_bytes-all s h)) refl
 
-behind_of : (s : Section) → IsSection s → algorithm_part (name_bytes s) ≡ suffix
-behind_of s h =
+after_of : (s : Section) → IsSection s → algorithm_part (name_bytes s) ≡ suffix
+after_of s h =
     ap (λ (n : ℕ). drop n (name_bytes s)) (ap (λ (xs : List ℕ). 6 + length xs) (part_of s h))
     ∙ drop_at (prefix ++ section_bytes s.base s.places) suffix (6 + length (section_bytes s.base s.places))
     (length-append prefix (section_bytes s.base s.places))
@@ -159,22 +159,22 @@ name_every bytes s h = ap name_read h.spelled ∙ read where
         not_less n k = grind (arith, nat_tests)
 
   suffix_is : bytes_eq (algorithm_part (name_bytes s)) suffix ≡ true
-  suffix_is = (bytes_eq-Decides (algorithm_part (name_bytes s)) suffix).1 (behind_of s h.is_section)
+  suffix_is = (bytes_eq-Decides (algorithm_part (name_bytes s)) suffix).1 (after_of s h.is_section)
 
   read : name_read (name_bytes s) ≡ Ok s
   read = rw (short, suffix_is, part_of s h.is_section) (section_keeps s (Ok (section_in (section_bytes s.base s.places))) h.is_section
       ∙ ap (λ (t : Section). Ok t) (section_in-spelled s h.is_section))
 
 -- the parts of a name that is read
-pub section_is : (bytes behind section : List ℕ) (n : ℕ) → behind ≡ drop 6 bytes → n ≡ length (take_while (λ b. not (eqb b 95)) behind)
-    → section ≡ take n behind → section ≡ section_part bytes
-section_is bytes behind section n here e f =
-    f ∙ ap (λ (k : ℕ). take k behind) e ∙ take-front (λ b. not (eqb b 95)) behind ∙ ap (take_while (λ b. not (eqb b 95))) here
+pub section_is : (bytes after section : List ℕ) (n : ℕ) → after ≡ drop 6 bytes → n ≡ length (take_while (λ b. not (eqb b 95)) after)
+    → section ≡ take n after → section ≡ section_part bytes
+section_is bytes after section n here e f =
+    f ∙ ap (λ (k : ℕ). take k after) e ∙ take-front (λ b. not (eqb b 95)) after ∙ ap (take_while (λ b. not (eqb b 95))) here
 
-pub algorithm_is : (bytes behind algorithm : List ℕ) (n : ℕ) → behind ≡ drop 6 bytes → n ≡ length (take_while (λ b. not (eqb b 95)) behind)
-    → algorithm ≡ drop n behind → algorithm ≡ algorithm_part bytes
-algorithm_is bytes behind algorithm n here e f =
-    f ∙ ap (λ (k : ℕ). drop k behind) (e ∙ ap (λ (bs : List ℕ). length (take_while (λ b. not (eqb b 95)) bs)) here)
+pub algorithm_is : (bytes after algorithm : List ℕ) (n : ℕ) → after ≡ drop 6 bytes → n ≡ length (take_while (λ b. not (eqb b 95)) after)
+    → algorithm ≡ drop n after → algorithm ≡ algorithm_part bytes
+algorithm_is bytes after algorithm n here e f =
+    f ∙ ap (λ (k : ℕ). drop k after) (e ∙ ap (λ (bs : List ℕ). length (take_while (λ b. not (eqb b 95)) bs)) here)
     ∙ ap (λ (bs : List ℕ). drop (length (section_part bytes)) bs) here
     ∙ drop-drop (length (section_part bytes)) 6 bytes
 

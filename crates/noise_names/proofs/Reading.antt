@@ -48,12 +48,12 @@ stripped s p x h = strip_prefix_is Decides-eqb s p (Some x) h
 pub not-stripped : (s p : List ℕ) → pointwise eqb (take (length p) s) p ≡ false → (rest : List ℕ) → s ≢ p ++ rest
 not-stripped s p h = strip_prefix_is {A = ℕ} Decides-eqb s p None h
 
--- what stands behind the first word of a list
-abbrev behind_word : List Token → List ℕ → List ℕ
-behind_word [] rest = rest
-behind_word (v ∷ vs) rest = 44 ∷ 32 ∷ (words (v ∷ vs) ++ rest)
+-- what stands after the first word of a list
+abbrev after_word : List Token → List ℕ → List ℕ
+after_word [] rest = rest
+after_word (v ∷ vs) rest = 44 ∷ 32 ∷ (words (v ∷ vs) ++ rest)
 
-word-first : (u : Token) (us : List Token) (rest : List ℕ) → words (u ∷ us) ++ rest ≡ word_of u ++ behind_word us rest
+word-first : (u : Token) (us : List Token) (rest : List ℕ) → words (u ∷ us) ++ rest ≡ word_of u ++ after_word us rest
 word-first u [] rest = refl
 word-first u (v ∷ vs) rest = append_assoc (word_of u ++ codes ", ") (words (v ∷ vs)) rest ∙ append_assoc (word_of u) (codes ", ") (words (v ∷ vs) ++ rest)
 
@@ -64,9 +64,9 @@ pub record IsLeft (kept : List Token) (left : List ℕ) (own : List Token) (more
   pub tokens : own ≡ kept ++ own_tokens (first ∷ others)
   pub spelled : left ≡ words (first ∷ others) ++ 10 ∷ more
 
--- what a token and what is behind it are in such a list
+-- what a token and what is after it are in such a list
 abbrev pub IsFirstWord : List ℕ → Token → List ℕ → Type 0
-IsFirstWord left token behind = (t : Token) (b : ℕ) (more : List ℕ) → is_lower b ≡ false → left ≡ word_of t ++ b ∷ more → (token ≡ t) × (behind ≡ b ∷ more)
+IsFirstWord left token beyond = (t : Token) (b : ℕ) (more : List ℕ) → is_lower b ≡ false → left ≡ word_of t ++ b ∷ more → (token ≡ t) × (beyond ≡ b ∷ more)
 
 -- the token was kept
 abbrev pub IsKept : List Token → Token → List Token → Type 0
@@ -81,28 +81,28 @@ kept_is kept kept' own token u us same e few k =
     let is : kept' ≡ kept ++ own_tokens (u ∷ []) = k (omega arith) ∙ ap (λ (t : Token). kept ++ own_tokens (t ∷ [])) same in
     (is, all ∙ sym (append_assoc kept (own_tokens (u ∷ [])) (own_tokens us)) ∙ ap (λ (ts : List Token). ts ++ own_tokens us) (sym is))
 
-pub left-more : (kept kept' own : List Token) (left behind rest more : List ℕ) (token : Token) → IsLeft kept left own more → length own ≤ 8
-    → IsFirstWord left token behind → IsKept kept token kept' → behind ≡ codes ", " ++ rest → IsLeft kept' rest own more
-left-more kept kept' own left behind rest more token l few w k e = at l.first l.others l.tokens l.spelled where
+pub left-more : (kept kept' own : List Token) (left beyond rest more : List ℕ) (token : Token) → IsLeft kept left own more → length own ≤ 8
+    → IsFirstWord left token beyond → IsKept kept token kept' → beyond ≡ codes ", " ++ rest → IsLeft kept' rest own more
+left-more kept kept' own left beyond rest more token l few w k e = at l.first l.others l.tokens l.spelled where
   at : (u : Token) (us : List Token) → own ≡ kept ++ own_tokens (u ∷ us) → left ≡ words (u ∷ us) ++ 10 ∷ more → IsLeft kept' rest own more
   at u [] o s =
-      let is : (token ≡ u) × (behind ≡ 10 ∷ more) = w u 10 more refl s in
-      absurd (two_heads behind more (32 ∷ rest) 10 44 is.1 e (omega arith))
+      let is : (token ≡ u) × (beyond ≡ 10 ∷ more) = w u 10 more refl s in
+      absurd (two_heads beyond more (32 ∷ rest) 10 44 is.1 e (omega arith))
   at u (v ∷ vs) o s =
-      let is : (token ≡ u) × (behind ≡ 44 ∷ 32 ∷ (words (v ∷ vs) ++ 10 ∷ more)) =
+      let is : (token ≡ u) × (beyond ≡ 44 ∷ 32 ∷ (words (v ∷ vs) ++ 10 ∷ more)) =
       w u 44 (32 ∷ (words (v ∷ vs) ++ 10 ∷ more)) refl (s ∙ word-first u (v ∷ vs) (10 ∷ more)) in
       let both : 44 ∷ 32 ∷ rest ≡ 44 ∷ 32 ∷ (words (v ∷ vs) ++ 10 ∷ more) = sym e ∙ is.1 in
       record { first = v; others = vs; tokens = (kept_is kept kept' own token u (v ∷ vs) is.0 o few k).1; spelled = cc }
 
-pub left-end : (kept kept' own : List Token) (left behind more : List ℕ) (token : Token) → IsLeft kept left own more → length own ≤ 8
-    → IsFirstWord left token behind → IsKept kept token kept' → ((rest : List ℕ) → behind ≢ codes ", " ++ rest) → (kept' ≡ own) × (behind ≡ 10 ∷ more)
-left-end kept kept' own left behind more token l few w k e = at l.first l.others l.tokens l.spelled where
-  at : (u : Token) (us : List Token) → own ≡ kept ++ own_tokens (u ∷ us) → left ≡ words (u ∷ us) ++ 10 ∷ more → (kept' ≡ own) × (behind ≡ 10 ∷ more)
+pub left-end : (kept kept' own : List Token) (left beyond more : List ℕ) (token : Token) → IsLeft kept left own more → length own ≤ 8
+    → IsFirstWord left token beyond → IsKept kept token kept' → ((rest : List ℕ) → beyond ≢ codes ", " ++ rest) → (kept' ≡ own) × (beyond ≡ 10 ∷ more)
+left-end kept kept' own left beyond more token l few w k e = at l.first l.others l.tokens l.spelled where
+  at : (u : Token) (us : List Token) → own ≡ kept ++ own_tokens (u ∷ us) → left ≡ words (u ∷ us) ++ 10 ∷ more → (kept' ≡ own) × (beyond ≡ 10 ∷ more)
   at u [] o s =
-      let is : (token ≡ u) × (behind ≡ 10 ∷ more) = w u 10 more refl s in
+      let is : (token ≡ u) × (beyond ≡ 10 ∷ more) = w u 10 more refl s in
       ((kept_is kept kept' own token u [] is.0 o few k).0 ∙ sym o, is.1)
   at u (v ∷ vs) o s =
-      let is : (token ≡ u) × (behind ≡ 44 ∷ 32 ∷ (words (v ∷ vs) ++ 10 ∷ more)) =
+      let is : (token ≡ u) × (beyond ≡ 44 ∷ 32 ∷ (words (v ∷ vs) ++ 10 ∷ more)) =
       w u 44 (32 ∷ (words (v ∷ vs) ++ 10 ∷ more)) refl (s ∙ word-first u (v ∷ vs) (10 ∷ more)) in
       absurd (e (words (v ∷ vs) ++ 10 ∷ more) is.1)
 
@@ -117,10 +117,10 @@ pub left-start : (kept : List Token) (list : List ℕ) (t : Token) (ts : List To
     → IsLeft kept list (own_tokens (t ∷ ts)) more
 left-start kept list t ts more none e = record { first = t; others = ts; tokens = sym (ap (λ (k : List Token). k ++ own_tokens (t ∷ ts)) none); spelled = e }
 
-pub line-behind : (behind rest more : List ℕ) → behind ≡ 10 ∷ more → behind ≡ codes "\n" ++ rest → rest ≡ more
-line-behind behind rest more e f = let both : 10 ∷ more ≡ 10 ∷ rest = sym e ∙ f in cc
+pub line-after : (beyond rest more : List ℕ) → beyond ≡ 10 ∷ more → beyond ≡ codes "\n" ++ rest → rest ≡ more
+line-after beyond rest more e f = let both : 10 ∷ more ≡ 10 ∷ rest = sym e ∙ f in cc
 
--- what reading a line of a party answers: its tokens and what is behind it, or nothing
+-- what reading a line of a party answers: its tokens and what is after it, or nothing
 abbrev pub There : Role → List ℕ → List Token → List ℕ → Type 0
 There role lines tokens rest = (t : Token) (ts : List Token) (more : List ℕ) → length (own_tokens (t ∷ ts)) ≤ 8 → lines ≡ token_line role (t ∷ ts) ++ more
     → (tokens ≡ own_tokens (t ∷ ts)) × (rest ≡ more)
@@ -147,11 +147,11 @@ pre-read role (t ∷ ts) tokens lines rest more there absent pre e other_line =
 third_differs : (xs ys : List ℕ) (a b : ℕ) → get_or xs 2 0 ≡ a → get_or ys 2 0 ≡ b → xs ≡ ys → (a ≡ b → ⊥) → ⊥
 third_differs xs ys a b p q e differ = differ (sym p ∙ ap (λ (k : List ℕ). get_or k 2 0) e ∙ q)
 
--- the lines behind pre-messages are no lines of the initiator
+-- the lines after pre-messages are no lines of the initiator
 
-behind-first : (r : List Token) (rest x : List ℕ) → pre_line Responder r ++ (codes "  ...\n" ++ rest) ≡ codes "  " ++ (arrow_of Initiator ++ x) → ⊥
-behind-first [] rest x e = third_differs _ _ 46 45 refl refl e (λ h. omega arith)
-behind-first (u ∷ us) rest x e = third_differs _ _ 60 45 refl refl e (λ h. omega arith)
+after-first : (r : List Token) (rest x : List ℕ) → pre_line Responder r ++ (codes "  ...\n" ++ rest) ≡ codes "  " ++ (arrow_of Initiator ++ x) → ⊥
+after-first [] rest x e = third_differs _ _ 46 45 refl refl e (λ h. omega arith)
+after-first (u ∷ us) rest x e = third_differs _ _ 60 45 refl refl e (λ h. omega arith)
 
 -- the lines of messages do not begin with the line that ends the pre-messages
 messages-first : (role : Role) (ms : List (List Token)) (x : List ℕ) → message_lines role ms ≡ codes "  ...\n" ++ x → ⊥
@@ -194,30 +194,30 @@ pub record AreNone (i r : List Token) (lines rest : List ℕ) (ms : List (List T
   pub lines_are : lines ≡ message_lines Initiator ms
   pub no_dots : (x : List ℕ) → rest ≢ codes "  ...\n" ++ x
 
-pre-there : (i r first second : List Token) (lines behind rest : List ℕ) (ms : List (List Token)) → There Initiator lines first behind
-    → Absent Initiator lines first behind → There Responder behind second rest → Absent Responder behind second rest → is_pre_message i ≡ true
+pre-there : (i r first second : List Token) (lines beyond rest : List ℕ) (ms : List (List Token)) → There Initiator lines first beyond
+    → Absent Initiator lines first beyond → There Responder beyond second rest → Absent Responder beyond second rest → is_pre_message i ≡ true
     → is_pre_message r ≡ true → lines ≡ pre_line Initiator i ++ (pre_line Responder r ++ (codes "  ...\n" ++ message_lines Initiator ms))
     → ArePreMessages i r first second lines rest ms
-pre-there i r first second lines behind rest ms there absent there2 absent2 pi pr e =
-    let a = pre-read Initiator i first lines behind (pre_line Responder r ++ (codes "  ...\n" ++ message_lines Initiator ms)) there absent pi e
-    (behind-first r (message_lines Initiator ms)) in
-    let b = pre-read Responder r second behind rest (codes "  ...\n" ++ message_lines Initiator ms) there2 absent2 pr a.1
+pre-there i r first second lines beyond rest ms there absent there2 absent2 pi pr e =
+    let a = pre-read Initiator i first lines beyond (pre_line Responder r ++ (codes "  ...\n" ++ message_lines Initiator ms)) there absent pi e
+    (after-first r (message_lines Initiator ms)) in
+    let b = pre-read Responder r second beyond rest (codes "  ...\n" ++ message_lines Initiator ms) there2 absent2 pr a.1
     (λ x f. third_differs _ _ 46 60 refl refl f (λ h. omega arith)) in
     record { first_is = a.0; second_is = b.0; rest_is = b.1 }
 
-pub pre-both : (i r first second : List Token) (lines behind rest : List ℕ) (ms : List (List Token)) → There Initiator lines first behind
-    → Absent Initiator lines first behind → There Responder behind second rest → Absent Responder behind second rest → is_pre_message i ≡ true
+pub pre-both : (i r first second : List Token) (lines beyond rest : List ℕ) (ms : List (List Token)) → There Initiator lines first beyond
+    → Absent Initiator lines first beyond → There Responder beyond second rest → Absent Responder beyond second rest → is_pre_message i ≡ true
     → is_pre_message r ≡ true → list_all has_few_tokens ms ≡ true → lines ≡ pre_lines i r ++ message_lines Initiator ms
     → ArePreMessages i r first second lines rest ms ⊎ AreNone i r lines rest ms
-pre-both [] [] first second lines behind rest ms there absent there2 absent2 pi pr sizes e =
-    let a = message-read Initiator ms first lines behind there absent sizes e in
-    let b = message-read Responder a.0 second behind rest there2 absent2 a.2 a.1 in
+pre-both [] [] first second lines beyond rest ms there absent there2 absent2 pi pr sizes e =
+    let a = message-read Initiator ms first lines beyond there absent sizes e in
+    let b = message-read Responder a.0 second beyond rest there2 absent2 a.2 a.1 in
     inr (record { no_first = refl; no_second = refl; lines_are = e; no_dots = λ x f. messages-first Initiator b.0 x (sym b.1 ∙ f) })
-pre-both [] (u ∷ us) first second lines behind rest ms there absent there2 absent2 pi pr sizes e =
-    inl (pre-there [] (u ∷ us) first second lines behind rest ms there absent there2 absent2 pi pr (e
+pre-both [] (u ∷ us) first second lines beyond rest ms there absent there2 absent2 pi pr sizes e =
+    inl (pre-there [] (u ∷ us) first second lines beyond rest ms there absent there2 absent2 pi pr (e
     ∙ append_assoc (pre_line Responder (u ∷ us)) (codes "  ...\n") (message_lines Initiator ms)))
-pre-both (t ∷ ts) r first second lines behind rest ms there absent there2 absent2 pi pr sizes e =
-    inl (pre-there (t ∷ ts) r first second lines behind rest ms there absent there2 absent2 pi pr (e
+pre-both (t ∷ ts) r first second lines beyond rest ms there absent there2 absent2 pi pr sizes e =
+    inl (pre-there (t ∷ ts) r first second lines beyond rest ms there absent there2 absent2 pi pr (e
     ∙ append_assoc (pre_line Initiator (t ∷ ts) ++ pre_line Responder r) (codes "  ...\n") (message_lines Initiator ms)
     ∙ append_assoc (pre_line Initiator (t ∷ ts)) (pre_line Responder r) (codes "  ...\n" ++ message_lines Initiator ms)))
 
@@ -292,23 +292,23 @@ pub length-own : (ms : List (List Token)) → length (map own_tokens ms) ≡ len
 length-own ms = length-map ms own_tokens
 
 -- a heading
-pub heading-parts : (text section behind front back : List ℕ) (n : ℕ) → list_all is_section_byte section ≡ true → text ≡ (section ++ codes ":") ++ behind
-    → n ≡ length (take_while (λ b. not (eqb b 58)) text) → front ≡ take n text → back ≡ drop n text → (front ≡ section) × (back ≡ codes ":" ++ behind)
-heading-parts text section behind front back n all e n_is f b =
+pub heading-parts : (text section beyond front back : List ℕ) (n : ℕ) → list_all is_section_byte section ≡ true → text ≡ (section ++ codes ":") ++ beyond
+    → n ≡ length (take_while (λ b. not (eqb b 58)) text) → front ≡ take n text → back ≡ drop n text → (front ≡ section) × (back ≡ codes ":" ++ beyond)
+heading-parts text section beyond front back n all e n_is f b =
     let test : ℕ → Bool = λ c. not (eqb c 58) in
-    let whole : text ≡ section ++ (58 ∷ behind) = e ∙ append_assoc section (codes ":") behind in
+    let whole : text ≡ section ++ (58 ∷ beyond) = e ∙ append_assoc section (codes ":") beyond in
     let other_bytes : list_all test section ≡ true = all_weaker is_section_byte test section no_colon all in
-    let front_part : take_while test text ≡ section = ap (take_while test) whole ∙ front_is test section 58 behind other_bytes refl in
+    let front_part : take_while test text ≡ section = ap (take_while test) whole ∙ front_is test section 58 beyond other_bytes refl in
     let n_is_length : n ≡ length section = n_is ∙ ap length front_part in (
-      f ∙ rw (n_is_length, whole) (take-append_seam section (58 ∷ behind)),
-      b ∙ rw (n_is_length, whole) (drop-append_seam section (58 ∷ behind)),
+      f ∙ rw (n_is_length, whole) (take-append_seam section (58 ∷ beyond)),
+      b ∙ rw (n_is_length, whole) (drop-append_seam section (58 ∷ beyond)),
     )
   where
     no_colon : (x : ℕ) → is_section_byte x ≡ true → not (eqb x 58) ≡ true
     no_colon x h = grind (arith, nat_tests)
 
-pub heading-rest : (back behind rest : List ℕ) → back ≡ codes ":" ++ behind → back ≡ codes ":" ++ rest → rest ≡ behind
-heading-rest back behind rest e f = let same : codes ":" ++ behind ≡ codes ":" ++ rest = sym e ∙ f in cc
+pub heading-rest : (back beyond rest : List ℕ) → back ≡ codes ":" ++ beyond → back ≡ codes ":" ++ rest → rest ≡ beyond
+heading-rest back beyond rest e f = let same : codes ":" ++ beyond ≡ codes ":" ++ rest = sym e ∙ f in cc
 
 -- the bytes of a section give it back
 pub section-of : (s : Section) (front : List ℕ) (read : Result Section NameFault) → IsSection s → front ≡ section_bytes s.base s.places
@@ -420,15 +420,15 @@ pub differ_from_test : (b : Bool) (n k : ℕ) → b ≡ eqb n k → b ≡ false 
 differ_from_test b n k e t = let same : eqb n k ≡ false = sym e ∙ t in grind (arith, nat_tests)
 
 -- the parts of a text
--- the lines behind the heading of a pattern's text
-abbrev pub lines_behind : Plan → List ℕ
-lines_behind p = pre_lines p.initiator p.responder ++ message_lines Initiator p.messages
+-- the lines after the heading of a pattern's text
+abbrev pub lines_after : Plan → List ℕ
+lines_after p = pre_lines p.initiator p.responder ++ message_lines Initiator p.messages
 
-pub spelled-parts : (text : List ℕ) (p : Plan) → Spells text p → text ≡ (section_bytes p.base p.places ++ codes ":") ++ 10 ∷ lines_behind p
+pub spelled-parts : (text : List ℕ) (p : Plan) → Spells text p → text ≡ (section_bytes p.base p.places ++ codes ":") ++ 10 ∷ lines_after p
 spelled-parts text p h =
     let heading : List ℕ = section_bytes p.base p.places ++ codes ":" in
     h.spelled ∙ append_assoc (line heading) (pre_lines p.initiator p.responder) (message_lines Initiator p.messages)
-    ∙ append_assoc heading (10 ∷ []) (lines_behind p)
+    ∙ append_assoc heading (10 ∷ []) (lines_after p)
 
 pub pattern-section : (p : Plan) → IsPattern p → IsSection (record { base = p.base; places = p.places })
 pattern-section p h = record { base = h.base; places = h.places }

@@ -6,7 +6,7 @@ use Rattle.std.proofs.lemmas.Bool.Decides.{nat_tests}
 use Rattle.std.proofs.lemmas.List.{take-append-drop, take_min, length-take, drop_at}
 use Rattle.noise_names.specs.declared.faults.NameFault.{NameFault}
 use Rattle.noise_names.specs.declared.faults.NameFault.TheVariants.{Base, Modifier, ModifierOrder}
-use Rattle.noise_names.specs.Names.{Section, IsSection, is_base_byte, is_upper, is_base, base_front, behind_base, modifier, pieces_of, is_modifier, digit_of}
+use Rattle.noise_names.specs.Names.{Section, IsSection, is_base_byte, is_upper, is_base, base_front, after_base, modifier, pieces_of, is_modifier, digit_of}
 use Rattle.noise_names.specs.Names.{rises, are_places, section_bytes}
 use Rattle.noise_names.specs.Sections.{numbers_in, modifiers_read, unless_section_fault, section_in, section_read}
 use Rattle.std.proofs.lemmas.List.Splits.{join_with_byte-slice_split}
@@ -16,7 +16,7 @@ both : (x y : Bool) → x && y ≡ true → (x ≡ true) × (y ≡ true)
 both true y h = (refl, h)
 both false y h = absurd (cc)
 
--- a front, and what is behind it
+-- a front, and what is after it
 pub take-front : (test : ℕ → Bool) (bytes : List ℕ) → take (length (take_while test bytes)) bytes ≡ take_while test bytes
 take-front test bytes = ap (λ (n : ℕ). take n bytes) (length-take (prefix_len test bytes) bytes) ∙ take_min (prefix_len test bytes) bytes
 
@@ -74,7 +74,7 @@ modifiers_begin (n ∷ m ∷ ns) base h = front_is is_base_byte base 112 (115 �
 places_are_numbers : (ns : List ℕ) → are_places ns ≡ true → are_numbers ns ≡ true
 places_are_numbers ns h = (both (rises ns) (are_numbers ns) h).1
 
--- the result behind modifiers that are read
+-- the result after modifiers that are read
 modifiers_ok : {A : Type 0} (m o : Bool) (xs ns : List ℕ) (result : Result A NameFault) → cond m (Err Modifier) (cond o (Err ModifierOrder) (Ok xs)) ≡ Ok ns
     → (cond m (Err Modifier) (cond o (Err ModifierOrder) result) ≡ result) × (xs ≡ ns)
 modifiers_ok true o xs ns result e = absurd (cc)
@@ -88,41 +88,41 @@ modifiers_err false true xs fault result e = cc
 modifiers_err false false xs fault result e = absurd (cc)
 
 -- a section whose parts are read
-pub section_ok : (section base modifiers ns : List ℕ) → base ≡ base_front section → modifiers ≡ behind_base section → is_base base ≡ true
+pub section_ok : (section base modifiers ns : List ℕ) → base ≡ base_front section → modifiers ≡ after_base section → is_base base ≡ true
     → modifiers_read modifiers ≡ Ok ns → section_read section ≡ Ok (record { base = base; places = ns })
 section_ok section base modifiers ns e f h read =
     let base_is : is_base (base_front section) ≡ true = ap is_base (sym e) ∙ h in
-    let read_behind : modifiers_read (behind_base section) ≡ Ok ns = ap modifiers_read (sym f) ∙ read in
-    let parts = modifiers_ok (not (list_all is_modifier (pieces_of (behind_base section)))) (not (rises (map digit_of (pieces_of (behind_base section)))))
-    (numbers_in (behind_base section)) ns (Ok (section_in section)) read_behind in
-    rw base_is (parts.0 ∙ same (base_front section) base (numbers_in (behind_base section)) ns (sym e) parts.1)
+    let read_after : modifiers_read (after_base section) ≡ Ok ns = ap modifiers_read (sym f) ∙ read in
+    let parts = modifiers_ok (not (list_all is_modifier (pieces_of (after_base section)))) (not (rises (map digit_of (pieces_of (after_base section)))))
+    (numbers_in (after_base section)) ns (Ok (section_in section)) read_after in
+    rw base_is (parts.0 ∙ same (base_front section) base (numbers_in (after_base section)) ns (sym e) parts.1)
   where
     same : (a b : List ℕ) (xs ys : List ℕ) → a ≡ b → xs ≡ ys
         → (let s : Result Section NameFault = Ok (record { base = a; places = xs }) in
         let t : Result Section NameFault = Ok (record { base = b; places = ys }) in s ≡ t)
     same a b xs ys p q = rw (p, q) refl
 
-pub section_err : (section base modifiers : List ℕ) (fault : NameFault) → base ≡ base_front section → modifiers ≡ behind_base section → is_base base ≡ true
+pub section_err : (section base modifiers : List ℕ) (fault : NameFault) → base ≡ base_front section → modifiers ≡ after_base section → is_base base ≡ true
     → modifiers_read modifiers ≡ Err fault → section_read section ≡ Err fault
 section_err section base modifiers fault e f h read =
     let base_is : is_base (base_front section) ≡ true = ap is_base (sym e) ∙ h in
-    let read_behind : modifiers_read (behind_base section) ≡ Err fault = ap modifiers_read (sym f) ∙ read in
-    rw base_is (modifiers_err (not (list_all is_modifier (pieces_of (behind_base section)))) (not (rises (map digit_of (pieces_of (behind_base section)))))
-    (numbers_in (behind_base section)) fault (Ok (section_in section)) read_behind)
+    let read_after : modifiers_read (after_base section) ≡ Err fault = ap modifiers_read (sym f) ∙ read in
+    rw base_is (modifiers_err (not (list_all is_modifier (pieces_of (after_base section)))) (not (rises (map digit_of (pieces_of (after_base section)))))
+    (numbers_in (after_base section)) fault (Ok (section_in section)) read_after)
 
 -- what a section without a fault is
 abbrev pub KeepsSection : List ℕ → Type 0
 KeepsSection section =
-    (is_base (base_front section) ≡ true) × (list_all is_modifier (pieces_of (behind_base section)) ≡ true)
-    × (rises (map digit_of (pieces_of (behind_base section))) ≡ true)
+    (is_base (base_front section) ≡ true) × (list_all is_modifier (pieces_of (after_base section)) ≡ true)
+    × (rises (map digit_of (pieces_of (after_base section))) ≡ true)
 
 pub kept_section : (section : List ℕ) → KeepsSection section
     → IsSection (section_in section) × (section ≡ section_bytes (section_in section).base (section_in section).places)
 kept_section section h =
-    let all = all_modifiers (pieces_of (behind_base section)) h.1 in
-    let numbers : List ℕ = numbers_in (behind_base section) in
+    let all = all_modifiers (pieces_of (after_base section)) h.1 in
+    let numbers : List ℕ = numbers_in (after_base section) in
     let rising : rises numbers ≡ true = sym (digits_rise numbers) ∙ ap (λ (ps : List (List ℕ)). rises (map digit_of ps)) (sym all.0) ∙ h.2 in
-    let joined : behind_base section ≡ join_with_byte 43 (map modifier numbers) = sym (join-pieces (behind_base section)) ∙ ap (join_with_byte 43) all.0 in (
+    let joined : after_base section ≡ join_with_byte 43 (map modifier numbers) = sym (join-pieces (after_base section)) ∙ ap (join_with_byte 43) all.0 in (
       record { base = h.0; places = places_rise numbers all.1 ∙ rising },
       front_split is_base_byte section ∙ ap (λ (bs : List ℕ). base_front section ++ bs) joined,
     )
@@ -145,23 +145,23 @@ not_false false e = absurd (cc)
 pub unless_section_ok : {A : Type 0} (section : List ℕ) (result : Result A NameFault) (x : A) → unless_section_fault section result ≡ Ok x
     → KeepsSection section × (result ≡ Ok x)
 unless_section_ok section result x e =
-    let h = unless_ok (not (is_base (base_front section))) (not (list_all is_modifier (pieces_of (behind_base section))))
-    (not (rises (map digit_of (pieces_of (behind_base section))))) result x e in
+    let h = unless_ok (not (is_base (base_front section))) (not (list_all is_modifier (pieces_of (after_base section))))
+    (not (rises (map digit_of (pieces_of (after_base section))))) result x e in
     ((not_false _ h.0, not_false _ h.1, not_false _ h.2), h.3)
 
 -- the parts of what a section spells
 front_of : (s : Section) → IsSection s → base_front (section_bytes s.base s.places) ≡ s.base
 front_of s h = modifiers_begin s.places s.base (base_all s.base h.base)
 
-behind_of : (s : Section) → IsSection s → behind_base (section_bytes s.base s.places) ≡ join_with_byte 43 (map modifier s.places)
-behind_of s h = drop_at s.base (join_with_byte 43 (map modifier s.places)) _ (sym (ap length (front_of s h)))
+after_of : (s : Section) → IsSection s → after_base (section_bytes s.base s.places) ≡ join_with_byte 43 (map modifier s.places)
+after_of s h = drop_at s.base (join_with_byte 43 (map modifier s.places)) _ (sym (ap length (front_of s h)))
 
 -- what spells a section has no fault, and gives the section
 pub section_keeps : {A : Type 0} (s : Section) (result : Result A NameFault) → IsSection s
     → unless_section_fault (section_bytes s.base s.places) result ≡ result
 section_keeps s result h =
     let numbers : are_numbers s.places ≡ true = places_are_numbers s.places h.places in
-    let pieces : pieces_of (behind_base (section_bytes s.base s.places)) ≡ map modifier s.places = ap pieces_of (behind_of s h)
+    let pieces : pieces_of (after_base (section_bytes s.base s.places)) ≡ map modifier s.places = ap pieces_of (after_of s h)
     ∙ pieces_of-modifiers s.places numbers in
     let rising : rises s.places ≡ true = (both (rises s.places) (are_numbers s.places) h.places).0 in
     rw (pieces, are_modifiers s.places numbers, digits_rise s.places, rising, front_of s h, h.base) refl
@@ -169,7 +169,7 @@ section_keeps s result h =
 pub section_in-spelled : (s : Section) → IsSection s → section_in (section_bytes s.base s.places) ≡ s
 section_in-spelled s h =
     let numbers : are_numbers s.places ≡ true = places_are_numbers s.places h.places in
-    let pieces : pieces_of (behind_base (section_bytes s.base s.places)) ≡ map modifier s.places = ap pieces_of (behind_of s h)
+    let pieces : pieces_of (after_base (section_bytes s.base s.places)) ≡ map modifier s.places = ap pieces_of (after_of s h)
     ∙ pieces_of-modifiers s.places numbers in
     rw (pieces, same_numbers s.places, front_of s h) refl
 
@@ -180,11 +180,11 @@ section_read-every s h = section_keeps s (Ok (section_in (section_bytes s.base s
 pub one_section : (s t : Section) → IsSection s → IsSection t → section_bytes s.base s.places ≡ section_bytes t.base t.places → s ≡ t
 one_section s t h k e = sym (section_in-spelled s h) ∙ ap section_in e ∙ section_in-spelled t k
 
--- the rest of a reading behind a section
+-- the rest of a reading after a section
 pub unless_section_err : {A : Type 0} (section : List ℕ) (fault : NameFault) (result : Result A NameFault) → section_read section ≡ Err fault
     → unless_section_fault section result ≡ Err fault
 unless_section_err section fault result e =
-    at (is_base (base_front section)) (list_all is_modifier (pieces_of (behind_base section))) (rises (map digit_of (pieces_of (behind_base section)))) e where
+    at (is_base (base_front section)) (list_all is_modifier (pieces_of (after_base section))) (rises (map digit_of (pieces_of (after_base section)))) e where
       at : (b m o : Bool) → cond (not b) (Err Base) (cond (not m) (Err Modifier) (cond (not o) (Err ModifierOrder) (Ok (section_in section)))) ≡ Err fault
           → cond (not b) (Err Base) (cond (not m) (Err Modifier) (cond (not o) (Err ModifierOrder) result)) ≡ Err fault
       at false m o f = cc
@@ -195,7 +195,7 @@ unless_section_err section fault result e =
 pub unless_section_kept : {A : Type 0} (section : List ℕ) (s : Section) (result : Result A NameFault) → section_read section ≡ Ok s
     → (unless_section_fault section result ≡ result) × (section_in section ≡ s)
 unless_section_kept section s result e =
-    at (is_base (base_front section)) (list_all is_modifier (pieces_of (behind_base section))) (rises (map digit_of (pieces_of (behind_base section)))) e where
+    at (is_base (base_front section)) (list_all is_modifier (pieces_of (after_base section))) (rises (map digit_of (pieces_of (after_base section)))) e where
       at : (b m o : Bool) → cond (not b) (Err Base) (cond (not m) (Err Modifier) (cond (not o) (Err ModifierOrder) (Ok (section_in section)))) ≡ Ok s
           → (cond (not b) (Err Base) (cond (not m) (Err Modifier) (cond (not o) (Err ModifierOrder) result)) ≡ result) × (section_in section ≡ s)
       at false m o f = absurd (cc)

@@ -93,7 +93,7 @@ few-message places n ts is few =
     le_from_test : (m n : ℕ) → leb m n ≡ true → m ≤ n
     le_from_test m n t = grind (arith, nat_tests)
 
--- a message behind the first has at most one psk token
+-- a message after the first has at most one psk token
 few-later : (places : List ℕ) (n : ℕ) (role : Role) (ms : List (List Token)) → 2 ≤ n → list_all has_few_tokens ms ≡ true → HavePsksAt places n ms
     → length (message_lines role ms) ≤ 41 * length ms
 few-later places n role [] later few psks = omega arith
@@ -128,7 +128,7 @@ few-lines places role (m ∷ ms) few psks =
       length-append (token_line role m) (message_lines (other role) ms),
     )
 
--- pre-messages and the line behind them
+-- pre-messages and the line after them
 pre-words : (ts : List Token) → is_pre_message ts ≡ true → length (more_words ts) ≤ 6
 pre-words [] h = omega arith
 pre-words (E ∷ []) h = omega arith
@@ -140,9 +140,9 @@ few-pre : (role : Role) (ts : List Token) → is_pre_message ts ≡ true → len
 few-pre role [] h = omega arith
 few-pre role (t ∷ ts) h = omega (arith, few-line role (t ∷ ts), pre-words (t ∷ ts) h)
 
-few-behind : (i r : List Token) → is_pre_message i ≡ true → is_pre_message r ≡ true
+few-after : (i r : List Token) → is_pre_message i ≡ true → is_pre_message r ≡ true
     → length ((pre_line Initiator i ++ pre_line Responder r) ++ codes "  ...\n") ≤ 26
-few-behind i r hi hr =
+few-after i r hi hr =
     omega (
       arith,
       few-pre Initiator i hi,
@@ -153,8 +153,8 @@ few-behind i r hi hr =
 
 few-pre_lines : (i r : List Token) → is_pre_message i ≡ true → is_pre_message r ≡ true → length (pre_lines i r) ≤ 26
 few-pre_lines [] [] hi hr = omega arith
-few-pre_lines [] (u ∷ us) hi hr = few-behind [] (u ∷ us) hi hr
-few-pre_lines (t ∷ ts) r hi hr = few-behind (t ∷ ts) r hi hr
+few-pre_lines [] (u ∷ us) hi hr = few-after [] (u ∷ us) hi hr
+few-pre_lines (t ∷ ts) r hi hr = few-after (t ∷ ts) r hi hr
 
 pub few-text : (p : Plan) → IsPattern p → length (text_of p) ≤ 413
 few-text p h =

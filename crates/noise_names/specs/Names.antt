@@ -48,7 +48,7 @@ pub record IsSection (s : Section) : Type 0 where
 abbrev pub modifier : ℕ → List ℕ
 modifier n = codes "psk" ++ (48 + n) ∷ []
 
--- the base, the first modifier, and each further one behind a + (8.1)
+-- the base, the first modifier, and each further one after a + (8.1)
 abbrev pub section_bytes : List ℕ → List ℕ → List ℕ
 section_bytes base places = base ++ join_with_byte 43 (map modifier places)
 
@@ -69,7 +69,7 @@ pub record Names (bytes : List ℕ) (s : Section) : Type 0 where
   pub is_section : IsSection s
   pub spelled : bytes ≡ name_bytes s
 
--- the pattern section of a name, which ends at the next _ behind the prefix
+-- the pattern section of a name, which ends at the next _ after the prefix
 abbrev pub section_part : List ℕ → List ℕ
 section_part bytes = take_while (λ b. not (b == 95)) (drop 6 bytes)
 
@@ -77,21 +77,21 @@ section_part bytes = take_while (λ b. not (b == 95)) (drop 6 bytes)
 abbrev pub base_front : List ℕ → List ℕ
 base_front section = take_while is_base_byte section
 
-abbrev pub behind_base : List ℕ → List ℕ
-behind_base section = drop (length (base_front section)) section
+abbrev pub after_base : List ℕ → List ℕ
+after_base section = drop (length (base_front section)) section
 
 abbrev pub base_part : List ℕ → List ℕ
 base_part bytes = base_front (section_part bytes)
 
 abbrev pub modifiers_part : List ℕ → List ℕ
-modifiers_part bytes = behind_base (section_part bytes)
+modifiers_part bytes = after_base (section_part bytes)
 
 -- the pieces of that between the +, none where it is empty
 abbrev pub pieces_of : List ℕ → List (List ℕ)
 pieces_of [] = []
 pieces_of (b ∷ bs) = slice_split (λ c. c == 43) (b ∷ bs)
 
--- the byte behind psk
+-- the byte after psk
 abbrev pub digit_of : List ℕ → ℕ
 digit_of piece = slice_index piece 3
 
@@ -100,7 +100,7 @@ abbrev pub is_modifier : List ℕ → Bool
 is_modifier piece =
     starts_with nat_eq piece (codes "psk") && (length piece == 4) && nat_le 48 (digit_of piece) && nat_le (digit_of piece) 56
 
--- what is behind the pattern section
+-- what is after the pattern section
 abbrev pub algorithm_part : List ℕ → List ℕ
 algorithm_part bytes = drop (6 + length (section_part bytes)) bytes
 

@@ -3,14 +3,14 @@ use Rattle.std.specs.Prelude.{ℕ, ◌-◌, nat_lt, not, List, length, map, take
 use Rattle.std.specs.List.{list_all}
 use Rattle.noise_names.specs.declared.faults.NameFault.{NameFault}
 use Rattle.noise_names.specs.declared.faults.NameFault.TheVariants.{Length, Prefix, Base, Modifier, ModifierOrder, Algorithm}
-use Rattle.noise_names.specs.Names.{Section, is_base, base_front, behind_base, pieces_of, is_modifier, digit_of, rises, prefix, suffix, section_part}
+use Rattle.noise_names.specs.Names.{Section, is_base, base_front, after_base, pieces_of, is_modifier, digit_of, rises, prefix, suffix, section_part}
 use Rattle.noise_names.specs.Names.{algorithm_part}
 
 -- the number of a modifier
 abbrev pub number_in : List ℕ → ℕ
 number_in piece = digit_of piece - 48
 
--- the numbers of the modifiers behind a base
+-- the numbers of the modifiers after a base
 abbrev pub numbers_in : List ℕ → List ℕ
 numbers_in modifiers = map number_in (pieces_of modifiers)
 
@@ -26,11 +26,11 @@ modifiers_read modifiers = unless_modifier_fault modifiers (Ok (numbers_in modif
 -- the result, unless the section has a fault
 abbrev pub unless_section_fault : {A : Type 0} → List ℕ → Result A NameFault → Result A NameFault
 unless_section_fault section result =
-    if not (is_base (base_front section)) then Err Base else unless_modifier_fault (behind_base section) result
+    if not (is_base (base_front section)) then Err Base else unless_modifier_fault (after_base section) result
 
 -- the parts of a section
 abbrev pub section_in : List ℕ → Section
-section_in section = record { base = base_front section; places = numbers_in (behind_base section) }
+section_in section = record { base = base_front section; places = numbers_in (after_base section) }
 
 abbrev pub section_read : List ℕ → Result Section NameFault
 section_read section = unless_section_fault section (Ok (section_in section))

@@ -15,7 +15,7 @@ pub enum NameFault {
     /// letters and digits that is no base: a base has 1 to 8 of them, the first a letter.
     #[error("base")]
     Base,
-    /// Something stands behind the base, and one of its pieces, cut at each `+`, is not `psk` and a digit from 0 to 8.
+    /// Something stands after the base, and one of its pieces, cut at each `+`, is not `psk` and a digit from 0 to 8.
     #[error("modifier")]
     Modifier,
     /// The digits of the modifiers do not rise strictly.
@@ -75,7 +75,7 @@ pub struct TextFault {
 pub struct RuleFault {
     /// The lowest rule that is broken there, 1 to 5.
     pub rule: u8,
-    /// The message, counted from 1. The transport behind the last message counts as one message more.
+    /// The message, counted from 1. The transport after the last message counts as one message more.
     pub message: u8,
     /// The token of the message, counted from 0. Its payload counts as the token after the last. The initiator's transport
     /// is token 0, the responder's 1.

@@ -106,10 +106,10 @@ fn read_name(bytes: &[u8]) -> Result<ProtocolName, NameFault>
     if bytes.len() > 255 {
         return Err(NameFault::Length);
     }
-    let Some(behind) = bytes.strip_prefix(PREFIX) else {
+    let Some(after) = bytes.strip_prefix(PREFIX) else {
         return Err(NameFault::Prefix);
     };
-    let (section, algorithm) = behind.split_at(section_len(behind));
+    let (section, algorithm) = after.split_at(section_len(after));
     let name = parse_section(section)?;
     if !is_algorithm(algorithm) {
         return Err(NameFault::Algorithm);

@@ -50,7 +50,7 @@ fn is_base(base: &[u8]) -> bool
     }
 }
 
-// The psk places of modifiers that stand behind a base, or the first of the faults Modifier and ModifierOrder.
+// The psk places of modifiers that stand after a base, or the first of the faults Modifier and ModifierOrder.
 fn parse_modifiers(modifiers: &[u8]) -> Result<PskPlaces, NameFault>
     ensures { result ≡ modifiers_read modifiers.now }
 {
@@ -61,7 +61,7 @@ fn parse_modifiers(modifiers: &[u8]) -> Result<PskPlaces, NameFault>
     let mut too_many = false;
     let mut rest = modifiers;
     loop {
-        let Some((number, behind)) = first_modifier(rest) else {
+        let Some((number, after)) = first_modifier(rest) else {
             return Err(NameFault::Modifier);
         };
         if numbers.is_full() {
@@ -69,10 +69,10 @@ fn parse_modifiers(modifiers: &[u8]) -> Result<PskPlaces, NameFault>
         } else {
             numbers.push(number);
         }
-        if behind.is_empty() {
+        if after.is_empty() {
             break;
         }
-        let Some(more) = behind.strip_prefix(b"+") else {
+        let Some(more) = after.strip_prefix(b"+") else {
             return Err(NameFault::Modifier);
         };
         rest = more;
@@ -83,14 +83,14 @@ fn parse_modifiers(modifiers: &[u8]) -> Result<PskPlaces, NameFault>
     PskPlaces::new(&numbers).ok_or(NameFault::ModifierOrder)
 }
 
-// The modifier at the front, and what stands behind it.
+// The modifier at the front, and what stands after it.
 fn first_modifier(modifiers: &[u8]) -> Option<(u8, &[u8])>
     ensures some { IfSome result (λ r. (r.0 ≤ 8) × (modifiers.now ≡ modifier r.0 ++ r.1.now)) }
-    ensures none { IfNone result ((n : ℕ) (behind : List ℕ) → n ≤ 8 → modifiers.now ≡ modifier n ++ behind → ⊥) }
+    ensures none { IfNone result ((n : ℕ) (after : List ℕ) → n ≤ 8 → modifiers.now ≡ modifier n ++ after → ⊥) }
 {
-    let (digit, behind) = modifiers.strip_prefix(b"psk")?.split_first()?;
+    let (digit, after) = modifiers.strip_prefix(b"psk")?.split_first()?;
     if *digit < b'0' || *digit > b'8' {
         return None;
     }
-    Some((*digit - b'0', behind))
+    Some((*digit - b'0', after))
 }

@@ -25,7 +25,7 @@ impl Pattern {
         }
     }
 
-    /// Appends the pattern's text: its heading, its pre-messages and its messages, each line with a line feed behind it.
+    /// Appends the pattern's text: its heading, its pre-messages and its messages, each line with a line feed after it.
     /// It appends at most 413 bytes. Without memory for them `out` stays as it was.
     pub fn write_text(&self, out: &mut Vec<u8>) -> Result<(), AllocError>
         ensures written { OnOk result (out.new.items ≡ out.old.items ++ text_of self.now) }

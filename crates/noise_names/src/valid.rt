@@ -88,7 +88,7 @@ impl ValidPattern {
         seen.overhead(self.pattern.has_psk(), party, &messages[index])
     }
 
-    /// Whether there is a cipher key behind the pre-messages and so many messages (Noise, 5.2 and 9.2).
+    /// Whether there is a cipher key after the pre-messages and so many messages (Noise, 5.2 and 9.2).
     pub fn has_key(&self, passed: u8) -> bool
         requires { passed ≤ length self.now.messages }
         ensures { result ≡ has_key self.now (first_places self.now passed) }

@@ -13,7 +13,7 @@ use Rattle.noise_aead.specs.Sealed.{length-sealed}
 use Rattle.noise_state.specs.History.{History}
 use Rattle.noise_handshake.specs.View.{View, Accepts, Listens}
 use Rattle.noise_handshake.specs.Writing.{Writes}
-use Rattle.noise_handshake.specs.Party.{behind_own, behind_message}
+use Rattle.noise_handshake.specs.Party.{after_own, after_message}
 use Rattle.noise_handshake.specs.Counterparts.{Counterparts}
 use Rattle.noise_session.specs.declared.faults.SendFault.{SendFault}
 use Rattle.noise_session.specs.declared.faults.SendFault.TheVariants as fault
@@ -90,12 +90,12 @@ IsTaken x w payload f = (y : EndView) × Takes w f (length f) (Payload payload) 
 module _ (accepts : (v w : View) (payload message : List ℕ) (xs : List (List ℕ)) → IsValid v.pattern → Counterparts v w → Writes v payload xs message
     → Accepts w message xs payload)
     (next : (v w : View) (payload message : List ℕ) (xs : List (List ℕ)) → IsValid v.pattern → Counterparts v w → Writes v payload xs message
-    → Counterparts (behind_own v xs payload) (behind_message w xs payload)) where
+    → Counterparts (after_own v xs payload) (after_message w xs payload)) where
   handshake-taken : (v w : EndView) (payload message : List ℕ) (xs : List (List ℕ)) → IsValid v.party.pattern → EndCounterparts v w
-      → Writes v.party payload xs message → IsTaken (record v { party = behind_own v.party xs payload }) w payload (frame message)
+      → Writes v.party payload xs message → IsTaken (record v { party = after_own v.party xs payload }) w payload (frame message)
   handshake-taken v w payload message xs valid c writes =
       let a : Accepts w.party message xs payload = accepts v.party w.party payload message xs valid c.parties writes in
-      let y : EndView = record w { party = behind_message w.party xs payload; held = [] } in
+      let y : EndView = record w { party = after_message w.party xs payload; held = [] } in
       let all : w.held ++ frame message ≡ frame message ++ [] = ap (λ (h : List ℕ). h ++ frame message) c.held_there ∙ sym (append-nil (frame message)) in (
         y,
         judges w y (frame message) message [] (length (frame message)) (Payload payload) (listens-now w a.listens) all a.fits (omega arith)
@@ -162,7 +162,7 @@ module _ (accepts : (v w : View) (payload message : List ℕ) (xs : List (List �
   sent-taken v w x payload f r e valid c (refuses _ _ why _) = absurd (not-ok why f e)
   sent-taken v w x payload f r e valid c (lacks_answer _ _ token _ _) = absurd (not-ok (fault.Agreement token) f e)
   sent-taken v w x payload f r e valid c (sends_handshake _ _ message xs due writes) =
-      subst (IsTaken (record v { party = behind_own v.party xs payload }) w payload) (ok-same (frame message) f (Ok (frame message)) refl e)
+      subst (IsTaken (record v { party = after_own v.party xs payload }) w payload) (ok-same (frame message) f (Ok (frame message)) refl e)
       (handshake-taken v w payload message xs valid c writes)
   sent-taken v w x payload f r e valid c (sends_transport _ _ due opens) =
       let m : List ℕ = packet v.party.history v.party.role v.interval v.sent payload in

@@ -14,7 +14,7 @@ use Rattle.noise_session.specs.Taking.{Judges, Takes}
 use Rattle.noise_session.specs.Taking.Judges.{accepted, refused, opened, dropped, exhausted}
 use Rattle.noise_session.specs.Taking.Takes.{idles, waits, judges}
 
--- the view with a piece behind what it holds
+-- the view with a piece after what it holds
 abbrev holding : EndView → List ℕ → EndView
 holding v a = record v { held = v.held ++ a }
 
@@ -54,19 +54,19 @@ judged-held v y a m s (opened _ _ p opens low is) = opened v m p opens low is
 judged-held v y a m s (dropped _ _ opens low never) = dropped v m opens low never
 judged-held v y a m s (exhausted _ _ opens last) = exhausted v m opens last
 
-behind : (v y : EndView) (a b : List ℕ) (n : ℕ) (s : Told) → idle_step (progress_of v) ≡ None → Takes (holding v a) b n s y
+after : (v y : EndView) (a b : List ℕ) (n : ℕ) (s : Told) → idle_step (progress_of v) ≡ None → Takes (holding v a) b n s y
     → Takes v (a ++ b) (length a + n) s y
-behind v y a b n s listens (idles _ _ _ idle) = cc
-behind v y a b n s listens (waits _ _ still partial) =
+after v y a b n s listens (idles _ _ _ idle) = cc
+after v y a b n s listens (waits _ _ still partial) =
     subst (λ (k : ℕ). Takes v (a ++ b) k More (record v { held = (v.held ++ a) ++ b })) (length-append a b)
     (subst (λ (h : List ℕ). Takes v (a ++ b) (length (a ++ b)) More (record v { held = h })) (sym (append_assoc v.held a b))
     (waits v (a ++ b) listens (subst (λ (h : List ℕ). IsPartial h) (append_assoc v.held a b) partial)))
-behind v y a b n s listens (judges _ _ _ message rest _ _ still is short count j) =
+after v y a b n s listens (judges _ _ _ message rest _ _ still is short count j) =
     judges v y (a ++ b) message rest (length a + n) s listens (sym (append_assoc v.held a b) ∙ is) short (omega (arith, length-append a b))
     (judged-held v y a message s j)
 
--- what comes of a second part, behind a first that wasn't a whole frame, comes of both in one piece
+-- what comes of a second part, after a first that wasn't a whole frame, comes of both in one piece
 pub takes-joined : (v x y : EndView) (a b : List ℕ) (n : ℕ) (s : Told) → Takes v a (length a) More x → Takes x b n s y → Takes v (a ++ b) (length a + n) s y
 takes-joined v x y a b n s first second =
     let held = waited v x a (length a) More refl first in
-    behind v y a b n s held.0 (subst (λ (u : EndView). Takes u b n s y) held.2 second)
+    after v y a b n s held.0 (subst (λ (u : EndView). Takes u b n s y) held.2 second)

@@ -19,15 +19,15 @@ use Rattle.noise_session.specs.Windows.{is_among, is_old, window_fault, Recalls}
 use Rattle.noise_session.specs.Datagrams.{HeldDatagrams, DatagramView, Pictures, nonce_named, accepting, datagram_fault}
 
 -- ---- bytes
-take-behind : (p q : List ℕ) (n : ℕ) → length p ≡ 8 → take (8 + n) (p ++ q) ≡ p ++ take n q
-take-behind p q n long =
+take-after : (p q : List ℕ) (n : ℕ) → length p ≡ 8 → take (8 + n) (p ++ q) ≡ p ++ take n q
+take-after p q n long =
     take-add 8 n (p ++ q)
     ∙ ap (λ (xs : List ℕ). xs ++ take n (drop 8 (p ++ q))) (take_at p q 8 long)
     ∙ ap (λ (xs : List ℕ). p ++ take n xs) (drop_at p q 8 long)
 
 pub sealed-front : (p q message : List ℕ) (n m : ℕ) → p ≡ to_be_bytes w64 m → take n q ≡ message → take (8 + n) (p ++ q) ≡ to_be_bytes w64 m ++ message
 sealed-front p q message n m is made =
-    take-behind p q n (ap length is)
+    take-after p q n (ap length is)
     ∙ ap (λ (xs : List ℕ). xs ++ take n q) is
     ∙ ap (λ (xs : List ℕ). to_be_bytes w64 m ++ xs) made
 
@@ -38,20 +38,20 @@ sealed-rest p q out n m is rest =
     ∙ rest
     ∙ drop-drop n 8 out
 
--- what was written behind the nonce
-pub behind-nonce : (bytes written : List ℕ) → 8 ≤ length bytes → drop 8 (put_mid 8 (length bytes - 8) bytes written) ≡ written
-behind-nonce bytes written long =
+-- what was written after the nonce
+pub after-nonce : (bytes written : List ℕ) → 8 ≤ length bytes → drop 8 (put_mid 8 (length bytes - 8) bytes written) ≡ written
+after-nonce bytes written long =
     let post = drop (length bytes - 8) (drop 8 bytes) in
     let none : length post ≡ 0 = omega (arith, length-drop (length bytes - 8) (drop 8 bytes), length-drop 8 bytes) in
     drop_at (take 8 bytes) (written ++ post) 8 (length-take-le 8 bytes long)
     ∙ ap (λ (p : List ℕ). written ++ p) (nil_from_length post none)
     ∙ append-nil written
 
-pub rest-behind-nonce : (bytes written : List ℕ) (n : ℕ) → 8 ≤ length bytes → drop n written ≡ drop n (drop 8 bytes)
+pub rest-after-nonce : (bytes written : List ℕ) (n : ℕ) → 8 ≤ length bytes → drop n written ≡ drop n (drop 8 bytes)
     → drop (8 + n) (put_mid 8 (length bytes - 8) bytes written) ≡ drop (8 + n) bytes
-rest-behind-nonce bytes written n long rest =
+rest-after-nonce bytes written n long rest =
     sym (drop-drop n 8 (put_mid 8 (length bytes - 8) bytes written))
-    ∙ ap (drop n) (behind-nonce bytes written long)
+    ∙ ap (drop n) (after-nonce bytes written long)
     ∙ rest
     ∙ drop-drop n 8 bytes
 
@@ -86,7 +86,7 @@ pub young-here : (d : HeldDatagrams) (v : DatagramView) (bytes : List ℕ) (n : 
 young-here d v bytes n p none same =
     ap (λ (w : ℕ). is_old w v.accepted n) p.width ∙ ap (λ (m : ℕ). is_old v.width v.accepted m) same ∙ (young v bytes none).0
 
--- ---- views behind a call
+-- ---- views after a call
 pub pictures-sealed : (d : HeldDatagrams) (v : DatagramView) (key : Option (List ℕ)) (nonce : ℕ) → Pictures d v → key ≡ d.send_key → nonce ≡ d.send_nonce + 1
     → Pictures (record d { send_key = key; send_nonce = nonce }) (record v { sent = v.sent + 1 })
 pictures-sealed d v key nonce p same more = record {

@@ -15,7 +15,7 @@ length-short xs short = grind (arith, nat_tests)
 length-long : (xs : List ℕ) → 2 ≤ length xs → frame_length xs ≡ 2 + big_number 2 xs
 length-long xs long = grind (arith, nat_tests)
 
--- nothing that comes behind the first two bytes changes it
+-- nothing that comes after the first two bytes changes it
 length-same : (xs ys : List ℕ) → 2 ≤ length xs → 2 ≤ length ys → take 2 xs ≡ take 2 ys → frame_length xs ≡ frame_length ys
 length-same xs ys long other same =
     length-long xs long
@@ -145,7 +145,7 @@ still-part old mid piece is less =
     subst (λ (xs : List ℕ). IsPartial xs) (sym is)
     (part-by (nat_lt (length old) 2) old piece refl (subst (λ (xs : List ℕ). length xs < frame_length old) is less))
 
--- those that are asked for behind the length make it whole
+-- those that are asked for after the length make it whole
 pub then-whole : (old mid new piece : List ℕ) → length mid ≡ frame_length old → new ≡ mid ++ piece → length new ≡ frame_length mid → IsWhole new
 then-whole old mid new piece two is all =
     let least = two-least old in

@@ -5,7 +5,7 @@ use Rattle.noise_names.specs.Tokens.{other}
 use Rattle.noise_state.specs.History.{History}
 use Rattle.noise_handshake.specs.declared.faults.Cause.{Cause}
 use Rattle.noise_handshake.specs.View.{View, Accepts, Refuses}
-use Rattle.noise_handshake.specs.Party.{behind_message}
+use Rattle.noise_handshake.specs.Party.{after_message}
 use Rattle.noise_session.specs.Frames.{IsPartial}
 use Rattle.noise_session.specs.Transport.{packet}
 use Rattle.noise_session.specs.Steps.{Told}
@@ -26,8 +26,8 @@ module _ (accepted-one : (v : View) (message : List ℕ) (xs ys : List (List ℕ
   judged-once v x y m s t (accepted _ _ p xs a) (accepted _ _ q ys b) =
       let one = accepted-one v.party m xs ys p q a b in (
         ap Payload one.1,
-        ap (λ (zs : List (List ℕ)). record v { party = behind_message v.party zs p; held = [] }) one.0
-            ∙ ap (λ (r : List ℕ). record v { party = behind_message v.party ys r; held = [] }) one.1,
+        ap (λ (zs : List (List ℕ)). record v { party = after_message v.party zs p; held = [] }) one.0
+            ∙ ap (λ (r : List ℕ). record v { party = after_message v.party ys r; held = [] }) one.1,
       )
   judged-once v x y m s t (accepted _ _ p xs a) (refused _ _ k c b) = absurd (apart v.party m xs p k c a b)
   judged-once v x y m s t (accepted _ _ p xs a) (opened _ _ q opens low is) =

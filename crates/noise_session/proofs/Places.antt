@@ -10,7 +10,7 @@ use Rattle.noise_session.specs.inner.Outcomes.{tells, StandsIn}
 use Rattle.noise_session.specs.Steps.Told.{Payload}
 use Rattle.std.specs.Prelude.{slice_range}
 
--- a part of what stands behind the first two bytes
+-- a part of what stands after the first two bytes
 slice_on : (d m post rest : List ℕ) (len from to : ℕ) → 2 ≤ length d → from ≤ to → to ≤ length m → length m + 2 ≤ len
     → slice_range (take len (take 2 d ++ (m ++ post) ++ rest)) (from + 2) (to + 2) ≡ slice_range m from to
 slice_on d m post rest len from to two order within long =
@@ -22,40 +22,40 @@ slice-drop xs from to =
     let place : 2 + from ≡ from + 2 = omega arith in
     ap (take (to - from)) (drop-drop from 2 xs ∙ ap (λ (k : ℕ). drop k xs) place) ∙ ap (λ (k : ℕ). take k (drop (from + 2) xs)) count
 
-slice_behind : (d m post rest : List ℕ) (len from to : ℕ) → 2 ≤ length d → from ≤ to → to ≤ length m → length m + 2 ≤ len
+slice_after : (d m post rest : List ℕ) (len from to : ℕ) → 2 ≤ length d → from ≤ to → to ≤ length m → length m + 2 ≤ len
     → slice_range (drop 2 (take len (take 2 d ++ (m ++ post) ++ rest))) from to ≡ slice_range m from to
-slice_behind d m post rest len from to two order within long =
+slice_after d m post rest len from to two order within long =
     slice-drop (take len (take 2 d ++ (m ++ post) ++ rest)) from to ∙ slice_on d m post rest len from to two order within long
 
 -- a step by the places of its payload there
-pub tells-behind : (d m post rest : List ℕ) (len : ℕ) (o : Outcome) → 2 ≤ length d → StandsIn m o → length m + 2 ≤ len
+pub tells-after : (d m post rest : List ℕ) (len : ℕ) (o : Outcome) → 2 ≤ length d → StandsIn m o → length m + 2 ≤ len
     → tells (drop 2 (take len (take 2 d ++ (m ++ post) ++ rest))) o ≡ tells m o
-tells-behind d m post rest len outcome.Ended two place long = refl
-tells-behind d m post rest len outcome.YourTurn two place long = refl
-tells-behind d m post rest len outcome.Silent two place long = refl
-tells-behind d m post rest len outcome.More two place long = refl
-tells-behind d m post rest len (outcome.Payload from to) two place long = ap Payload (slice_behind d m post rest len from to two place.0 place.1 long)
-tells-behind d m post rest len (outcome.Dropped cause) two place long = refl
-tells-behind d m post rest len (outcome.Refused token cause) two place long = refl
-tells-behind d m post rest len outcome.Exhausted two place long = refl
+tells-after d m post rest len outcome.Ended two place long = refl
+tells-after d m post rest len outcome.YourTurn two place long = refl
+tells-after d m post rest len outcome.Silent two place long = refl
+tells-after d m post rest len outcome.More two place long = refl
+tells-after d m post rest len (outcome.Payload from to) two place long = ap Payload (slice_after d m post rest len from to two place.0 place.1 long)
+tells-after d m post rest len (outcome.Dropped cause) two place long = refl
+tells-after d m post rest len (outcome.Refused token cause) two place long = refl
+tells-after d m post rest len outcome.Exhausted two place long = refl
 
--- what stands behind the first k of the first n
+-- what stands after the first k of the first n
 pub drop-front : (xs : List ℕ) (k n : ℕ) → take (n - k) (drop k xs) ≡ drop k (take n xs)
 drop-front xs k n = same_lists _ _ (search (rules, places)) (λ j e h. grind (arith, places))
 
--- what stands behind the first two bytes of a buffer, all of which was written
-behind_two : (out written : List ℕ) → 2 ≤ length out → drop 2 (put_mid 2 (length out - 2) out written) ≡ written
-behind_two out written two =
+-- what stands after the first two bytes of a buffer, all of which was written
+after_two : (out written : List ℕ) → 2 ≤ length out → drop 2 (put_mid 2 (length out - 2) out written) ≡ written
+after_two out written two =
     let post = drop (length out - 2) (drop 2 out) in
     let none : length post ≡ 0 = omega (arith, length-drop (length out - 2) (drop 2 out), length-drop 2 out) in
     drop_at (take 2 out) (written ++ post) 2 (length-take-le 2 out two)
     ∙ (ap (λ (p : List ℕ). written ++ p) (nil_from_length post none) ∙ append-nil written)
 
--- A message of n bytes was written behind the first two, and its length over them.
+-- A message of n bytes was written after the first two, and its length over them.
 module _ (n : ℕ) (out written new : List ℕ) (two : 2 ≤ length out)
     (is : new ≡ (n / 256 % 256) ∷ (n % 256) ∷ drop 2 (put_mid 2 (length out - 2) out written)) where
   over_two : new ≡ (n / 256 % 256) ∷ (n % 256) ∷ written
-  over_two = is ∙ ap (λ (xs : List ℕ). (n / 256 % 256) ∷ (n % 256) ∷ xs) (behind_two out written two)
+  over_two = is ∙ ap (λ (xs : List ℕ). (n / 256 % 256) ∷ (n % 256) ∷ xs) (after_two out written two)
 
   pub written_rest : drop n written ≡ drop n (take (length out - 2) (drop 2 out)) → drop (2 + n) new ≡ drop (2 + n) out
   written_rest rest =
@@ -67,18 +67,18 @@ module _ (n : ℕ) (out written new : List ℕ) (two : 2 ≤ length out)
       let two_more : 2 + n ≡ suc (suc n) = omega arith in
       ap (take (2 + n)) over_two ∙ rw (two_more, length-take-le n written within) refl
 
--- what is left behind the first bytes of a buffer holds a message
-pub room-behind : (out : List ℕ) (m from : ℕ) → 2 + m ≤ length out → from ≤ 2 → m ≤ length (take (length out - from) (drop from out))
-room-behind out m from room low =
+-- what is left after the first bytes of a buffer holds a message
+pub room-after : (out : List ℕ) (m from : ℕ) → 2 + m ≤ length out → from ≤ 2 → m ≤ length (take (length out - from) (drop from out))
+room-after out m from room low =
     let rest : take (length out - from) (drop from out) ≡ drop from out = take_rest out from in
     omega (arith, ap length rest, length-drop from out)
 
--- what is written behind the first two bytes leaves them there
+-- what is written after the first two bytes leaves them there
 pub two-left : (out written : List ℕ) → 2 ≤ length out → 2 ≤ length (put_mid 2 (length out - 2) out written)
 two-left out written two =
     omega (arith, length-append (take 2 out) (written ++ drop (length out - 2) (drop 2 out)), length-take-le 2 out two)
 
--- the part of a buffer that is handed out, behind its first two bytes
+-- the part of a buffer that is handed out, after its first two bytes
 pub handed-out : (xs lent : List ℕ) (from to : ℕ) → lent ≡ xs → slice_range (drop 2 xs) from to ≡ take (2 + to - (2 + from)) (drop (2 + from) lent)
 handed-out xs lent from to is =
     let count : to - from ≡ 2 + to - (2 + from) = omega arith in

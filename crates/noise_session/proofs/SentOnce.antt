@@ -2,13 +2,13 @@
 use Rattle.std.proofs.Common.{◌≡◌, ℕ, List, length, Option, Some, Result, Ok, Err, refl, ap, arith}
 use Rattle.noise_handshake.specs.View.{View}
 use Rattle.noise_handshake.specs.Writing.{Writes, Lacks}
-use Rattle.noise_handshake.specs.Party.{behind_own}
+use Rattle.noise_handshake.specs.Party.{after_own}
 use Rattle.noise_session.specs.declared.faults.SendFault.{SendFault}
 use Rattle.noise_session.specs.declared.faults.SendFault.TheVariants as fault
 use Rattle.noise_session.specs.Frames.{frame}
 use Rattle.noise_session.specs.Progress.{refusal}
 use Rattle.noise_session.specs.Ends.{EndView, progress_of}
-use Rattle.noise_session.specs.Sending.{Sends, behind_fault}
+use Rattle.noise_session.specs.Sending.{Sends, after_fault}
 use Rattle.noise_session.proofs.Views.{open-passed}
 use Rattle.noise_session.specs.Sending.Sends.{refuses, lacks_answer, sends_handshake, sends_transport}
 
@@ -20,7 +20,7 @@ module _ (written-one : (v : View) (payload m n : List ℕ) (xs ys : List (List 
 
   pub sends-once : (v x y : EndView) (payload : List ℕ) (r s : Result (List ℕ) SendFault) → Sends v payload r x → Sends v payload s y → (r ≡ s) × (x ≡ y)
   sends-once v x y payload r s (refuses _ _ a e) (refuses _ _ b f) =
-      let one = refused-one (refusal (progress_of v) (length payload)) a b e f in (ap (λ (w : SendFault). Err w) one, ap (behind_fault v) one)
+      let one = refused-one (refusal (progress_of v) (length payload)) a b e f in (ap (λ (w : SendFault). Err w) one, ap (after_fault v) one)
   sends-once v x y payload r s (refuses _ _ a e) (lacks_answer _ _ k f lacks) = cc
   sends-once v x y payload r s (refuses _ _ a e) (sends_handshake _ _ m xs f writes) = cc
   sends-once v x y payload r s (refuses _ _ a e) (sends_transport _ _ f opens) = cc
@@ -36,7 +36,7 @@ module _ (written-one : (v : View) (payload m n : List ℕ) (xs ys : List (List 
   sends-once v x y payload r s (sends_handshake _ _ m xs e writes) (lacks_answer _ _ k f lacks) = absurd (apart v.party payload m xs k writes lacks)
   sends-once v x y payload r s (sends_handshake _ _ m xs e writes) (sends_handshake _ _ n ys f other) =
       let one = written-one v.party payload m n xs ys writes other in
-      (ap (λ (bytes : List ℕ). Ok (frame bytes)) one.1, ap (λ (zs : List (List ℕ)). record v { party = behind_own v.party zs payload }) one.0)
+      (ap (λ (bytes : List ℕ). Ok (frame bytes)) one.1, ap (λ (zs : List (List ℕ)). record v { party = after_own v.party zs payload }) one.0)
   sends-once v x y payload r s (sends_handshake _ _ m xs e writes) (sends_transport _ _ f opens) =
       let more = writes.speaks.more in
       let all = open-passed v opens in

@@ -1,4 +1,4 @@
--- What a transport stands for, by its two halves; and the bytes behind a message.
+-- What a transport stands for, by its two halves; and the bytes after a message.
 use Rattle.std.proofs.Common.{◌≡◌, ◌≤◌, ℕ, ◌+◌, ◌∙◌, ◌++◌, List, length, drop, Result, Ok, Err, refl, sym, ap, subst}
 use Rattle.std.specs.Prelude.{IfOk}
 use Rattle.std.proofs.lemmas.List.{drop_at, drop-drop}
@@ -20,7 +20,7 @@ receiver-stands t h v s role one_way interval key nonce = record {
   nonce = nonce ∙ s.receive_nonce;
 }
 
--- the transport behind a message that its half has sealed
+-- the transport after a message that its half has sealed
 pub transport-sealed : (t : HeldTransport) (h : HeldHalf) (v : TransportView) → TransportStands t v → SenderStands h (record v { sent = v.sent + 1 })
     → TransportStands (record t { role = h.role; one_way = h.one_way; interval = h.interval; send_key = h.key; send_nonce = h.nonce })
     (record v { sent = v.sent + 1 })
@@ -36,7 +36,7 @@ transport-sealed t h v s k = record {
   receive_nonce = s.receive_nonce;
 }
 
--- the transport behind a message that its half has opened
+-- the transport after a message that its half has opened
 pub transport-opened : (t : HeldTransport) (h : HeldHalf) (v : TransportView) → TransportStands t v → ReceiverStands h (record v { received = v.received + 1 })
     → TransportStands (record t { receive_key = h.key; receive_nonce = h.nonce }) (record v { received = v.received + 1 })
 transport-opened t h v s k = record {
@@ -55,12 +55,12 @@ transport-opened t h v s k = record {
 pub same-fault : (t : HeldTransport) (h : HeldHalf) → h.role ≡ t.role → h.one_way ≡ t.one_way → h.nonce ≡ t.receive_nonce → receiver_fault h ≡ open_fault t
 same-fault t h role one_way nonce = rw (role, one_way, nonce) refl
 
--- what is behind the message, where the payload was copied to the front
-pub behind-copy : (r : Result ℕ SendFault) (payload copied out new : List ℕ) → copied ≡ payload
+-- what is after the message, where the payload was copied to the front
+pub after-copy : (r : Result ℕ SendFault) (payload copied out new : List ℕ) → copied ≡ payload
     → IfOk r (λ n. drop n new ≡ drop n (copied ++ drop (length payload) out)) → IfOk r (λ n. (n ≡ length payload + 16) × (n ≤ length new))
     → IfOk r (λ n. drop n new ≡ drop n out)
-behind-copy (Err fault) payload copied out new same rest len = tt
-behind-copy (Ok n) payload copied out new same rest len =
+after-copy (Err fault) payload copied out new same rest len = tt
+after-copy (Ok n) payload copied out new same rest len =
     let m : ℕ = length payload in
     let all = copied ++ drop m out in
     let is : drop (m + 16) all ≡ drop (m + 16) out =

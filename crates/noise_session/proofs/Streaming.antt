@@ -39,15 +39,15 @@ pub appended_none : (a : Option (List ℕ)) → Appends a a []
 appended_none None = tt
 appended_none (Some xs) = sym (append-nil xs)
 
--- the first bytes of a buffer, behind one more read into a part of it
+-- the first bytes of a buffer, after one more read into a part of it
 pub filled_part : (at room n : ℕ) (old read : List ℕ) → at ≤ length old → n ≤ length read
     → take at old ++ take n read ≡ take (at + n) (put_mid at room old read)
 filled_part at room n old read within fits =
     let post = post_of at room old in
     let new = put_mid at room old read in
     let front : take at new ≡ take at old = take-put_mid_below _ _ _ _ _ (omega arith) within in
-    let behind : drop at new ≡ read ++ post = drop_at (take at old) (read ++ post) at (length-take-le at old within) in
-    let part : take n (drop at new) ≡ take n read = ap (take n) behind ∙ take-append-le n read post fits in
+    let after : drop at new ≡ read ++ post = drop_at (take at old) (read ++ post) at (length-take-le at old within) in
+    let part : take n (drop at new) ≡ take n read = ap (take n) after ∙ take-append-le n read post fits in
     sym (take-add at n new ∙ (ap (λ (l : List ℕ). l ++ take n (drop at new)) front ∙ ap (λ (l : List ℕ). take at old ++ l) part))
 
 -- into the whole rest of it
@@ -55,7 +55,7 @@ pub filled_more : (at n : ℕ) (old read : List ℕ) → at ≤ length old → n
     → take at old ++ take n read ≡ take (at + n) (put_mid at (length old - at) old read)
 filled_more at n old read within fits = filled_part at (length old - at) n old read within fits
 
--- the first bytes of a text, behind one more write of its rest
+-- the first bytes of a text, after one more write of its rest
 pub taken_more : (at n : ℕ) (bytes : List ℕ) → take at bytes ++ take n (take (length bytes - at) (drop at bytes)) ≡ take (at + n) bytes
 taken_more at n bytes =
     ap (λ (l : List ℕ). take at bytes ++ take n l) (take_rest bytes at) ∙ sym (take-add at n bytes)

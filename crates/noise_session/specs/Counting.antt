@@ -14,12 +14,12 @@ failures_of c = c.failures
 abbrev pub one_more : ℕ → ℕ
 one_more failures = (failures + 1) % 2 ^ 64
 
--- the count behind a call
-abbrev pub behind_call : {T E : Type 0} → ℕ → Result T E → ℕ
-behind_call failures (Ok x) = failures
-behind_call failures (Err e) = one_more failures
+-- the count after a call
+abbrev pub after_call : {T E : Type 0} → ℕ → Result T E → ℕ
+after_call failures (Ok x) = failures
+after_call failures (Err e) = one_more failures
 
--- the count behind a write of these bytes: one that takes none of some has failed, too
-abbrev pub behind_writing : {E : Type 0} → ℕ → Result ℕ E → List ℕ → ℕ
-behind_writing failures (Ok n) bytes = if (n == 0) && nat_lt 0 (length bytes) then one_more failures else failures
-behind_writing failures (Err e) bytes = one_more failures
+-- the count after a write of these bytes: one that takes none of some has failed, too
+abbrev pub after_writing : {E : Type 0} → ℕ → Result ℕ E → List ℕ → ℕ
+after_writing failures (Ok n) bytes = if (n == 0) && nat_lt 0 (length bytes) then one_more failures else failures
+after_writing failures (Err e) bytes = one_more failures

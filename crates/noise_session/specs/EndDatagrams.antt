@@ -18,8 +18,8 @@ abbrev pub is_datagram_ready : {K : Type 0} → HeldEnd K → Bool
 is_datagram_ready e = is_untouched (progress e) && (length e.held == 0)
 
 -- the datagrams of the party of a transport
-abbrev pub datagrams_behind : TransportView → Window → DatagramView
-datagrams_behind v window = record {
+abbrev pub datagrams_after : TransportView → Window → DatagramView
+datagrams_after v window = record {
   role = v.role;
   one_way = v.one_way;
   history = v.history;

@@ -1,8 +1,8 @@
--- How messages travel in a stream (Noise 3 and 13): each behind its length.
+-- How messages travel in a stream (Noise 3 and 13): each after its length.
 use Rattle.std.specs.Prelude.{◌≡◌, ℕ, ◌+◌, ◌<◌, List, ◌++◌, length, if◌then◌else◌, nat_lt}
 use Rattle.byteorder.specs.Endian.{big_bytes, big_number}
 
--- a message behind its length, in 2 bytes, the highest first
+-- a message after its length, in 2 bytes, the highest first
 abbrev pub frame : List ℕ → List ℕ
 frame message = big_bytes 2 (length message) ++ message
 

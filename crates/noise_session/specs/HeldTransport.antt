@@ -66,7 +66,7 @@ pub record TransportStands (t : HeldTransport) (v : TransportView) : Type 0 wher
   pub receive_key : t.receive_key ≡ Some (transport_key v.history (other v.role) v.interval v.received)
   pub receive_nonce : t.receive_nonce ≡ v.received
 
--- The key of the message at this nonce, behind that of the message before: a new one where the nonce is a multiple of the interval
+-- The key of the message at this nonce, after that of the message before: a new one where the nonce is a multiple of the interval
 -- (11.3). An interval of 0 means never.
 abbrev pub renewed_key : ℕ → ℕ → Option (List ℕ) → Option (List ℕ)
 renewed_key interval nonce key = if not (interval == 0) && (nonce % interval == 0) then option_map rekeyed key else key

@@ -29,7 +29,7 @@ is_end (Err CutShort) = true
 is_end (Err Input) = false
 
 -- how many calls of the reader have failed then
-abbrev pub behind_receiving : {T : Type 0} → ℕ → Result T ReceiveFault → ℕ
-behind_receiving failures (Ok x) = failures
-behind_receiving failures (Err CutShort) = failures
-behind_receiving failures (Err Input) = one_more failures
+abbrev pub after_receiving : {T : Type 0} → ℕ → Result T ReceiveFault → ℕ
+after_receiving failures (Ok x) = failures
+after_receiving failures (Err CutShort) = failures
+after_receiving failures (Err Input) = one_more failures

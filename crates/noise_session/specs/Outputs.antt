@@ -15,6 +15,6 @@ pub data Puts : EndView → List ℕ → Result ℕ SendFault → List ℕ → E
   refused : (v next : EndView) (payload : List ℕ) (why : SendFault) → Sends v payload (Err why) next → Puts v payload (Err why) [] next
 
 -- how many calls of the writer have failed then
-abbrev pub behind_output : ℕ → Result ℕ SendFault → ℕ
-behind_output failures (Err (fault.Output written)) = one_more failures
-behind_output failures _ = failures
+abbrev pub after_output : ℕ → Result ℕ SendFault → ℕ
+after_output failures (Err (fault.Output written)) = one_more failures
+after_output failures _ = failures

@@ -4,7 +4,7 @@ use Rattle.noise_names.specs.Tokens.{other}
 use Rattle.noise_handshake.specs.declared.faults.Cause.{Cause}
 use Rattle.noise_handshake.specs.declared.faults.Cause.TheVariants.{Short, Tag}
 use Rattle.noise_handshake.specs.View.{Accepts, Refuses}
-use Rattle.noise_handshake.specs.Party.{behind_message}
+use Rattle.noise_handshake.specs.Party.{after_message}
 use Rattle.noise_session.specs.Frames.{frame, IsPartial}
 use Rattle.noise_session.specs.Transport.{packet, last_nonce}
 use Rattle.noise_session.specs.Steps.{Told}
@@ -15,7 +15,7 @@ use Rattle.noise_session.specs.Ends.{EndView, progress_of, closed}
 -- A whole message comes to an end that listens. A refused handshake message ends the session; a refused transport message is dropped.
 pub data Judges : EndView → List ℕ → Told → EndView → Type 0 where
   accepted : (v : EndView) (message payload : List ℕ) (xs : List (List ℕ)) → Accepts v.party message xs payload
-      → Judges v message (Payload payload) (record v { party = behind_message v.party xs payload; held = [] })
+      → Judges v message (Payload payload) (record v { party = after_message v.party xs payload; held = [] })
   refused : (v : EndView) (message : List ℕ) (token : ℕ) (cause : Cause) → Refuses v.party message token cause
       → Judges v message (Refused token cause) (closed v)
   opened : (v : EndView) (message payload : List ℕ) → IsTrue (is_open (progress_of v)) → v.received ≢ last_nonce

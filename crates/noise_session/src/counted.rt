@@ -4,12 +4,12 @@
 ghost use Rattle.std.specs.Prelude.{◌≡◌};
 ghost use Rattle.std.specs.Io.{ReadsAtMost, WritesAtMost};
 ghost use Rattle.std.specs.Io.KnownBytes.{Keeps, ReadConsumes, WriteAppends};
-ghost use Rattle.noise_session.specs.Counting.{inner_of, failures_of, behind_call, behind_writing};
+ghost use Rattle.noise_session.specs.Counting.{inner_of, failures_of, after_call, after_writing};
 
 use std::io::{self, Read, Write};
 
 /// A reader or writer with a count of its failed reads and writes: those that answered an error, an interruption too, and
-/// each write that took none of some bytes. A flush isn't counted. The count begins again at 0 behind 2^64 - 1.
+/// each write that took none of some bytes. A flush isn't counted. The count begins again at 0 after 2^64 - 1.
 #[derive(Debug, Drop)]
 pub struct Counted<T> {
     inner: T,
@@ -47,7 +47,7 @@ impl<R: Read> Read for Counted<R> {
     fn read(&mut self, buf: &mut [u8]) -> io::Result<usize>
         ensures bound { ReadsAtMost result buf.new }
         ensures bytes { ReadConsumes (R.remaining (inner_of self.old)) (R.remaining (inner_of self.new)) result buf.new }
-        ensures failures { failures_of self.new ≡ behind_call (failures_of self.old) result }
+        ensures failures { failures_of self.new ≡ after_call (failures_of self.old) result }
     {
         let result = self.inner.read(buf);
         if result.is_err() {
@@ -63,7 +63,7 @@ impl<W: Write> Write for Counted<W> {
     fn write(&mut self, buf: &[u8]) -> io::Result<usize>
         ensures bound { WritesAtMost result buf.now }
         ensures bytes { WriteAppends (W.contents (inner_of self.old)) (W.contents (inner_of self.new)) result buf.now }
-        ensures failures { failures_of self.new ≡ behind_writing (failures_of self.old) result buf.now }
+        ensures failures { failures_of self.new ≡ after_writing (failures_of self.old) result buf.now }
     {
         let result = self.inner.write(buf);
         let failed = match &result {

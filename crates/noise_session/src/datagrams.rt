@@ -9,7 +9,7 @@ ghost use Rattle.noise_handshake.specs.View.{View};
 ghost use Rattle.noise_handshake.specs.Opening.{Opens as HandshakeOpens};
 ghost use Rattle.noise_session.specs.Transport.{last_nonce};
 ghost use Rattle.noise_session.specs.HeldTransport.{TransportView, TransportStands};
-ghost use Rattle.noise_session.specs.EndDatagrams.{datagrams_behind};
+ghost use Rattle.noise_session.specs.EndDatagrams.{datagrams_after};
 ghost use Rattle.noise_session.specs.Parts.{datagrams_in};
 ghost use Rattle.noise_session.specs.Datagrams.{DatagramView, Pictures, Opens, datagram, datagrams_of, nonce_named, accepting, unsealed, datagram_fault};
 
@@ -67,24 +67,24 @@ impl Model for Datagrams {
 }
 
 impl Datagrams {
-    /// The datagrams behind a handshake, with a window of 64 nonces: none is sealed or opened yet.
+    /// The datagrams after a handshake, with a window of 64 nonces: none is sealed or opened yet.
     pub fn new(opened: Opened) -> Datagrams
         ensures { (v : View) → HandshakeOpens opened v → Pictures result (datagrams_of v Window.W64) }
     {
         Datagrams::with_window(opened, Window::W64)
     }
 
-    /// The datagrams behind a handshake, with this window: none is sealed or opened yet.
+    /// The datagrams after a handshake, with this window: none is sealed or opened yet.
     pub fn with_window(opened: Opened, window: Window) -> Datagrams
         ensures { (v : View) → HandshakeOpens opened v → Pictures result (datagrams_of v window) }
     {
-        Datagrams::behind(Transport::new(opened, 0), window)
+        Datagrams::after(Transport::new(opened, 0), window)
     }
 
     // The datagrams of a transport that has sealed and opened nothing.
-    pub(crate) fn behind(transport: Transport, window: Window) -> Datagrams
+    pub(crate) fn after(transport: Transport, window: Window) -> Datagrams
         requires { (transport.send_nonce ≡ 0) × (transport.receive_nonce ≡ 0) }
-        ensures { (v : TransportView) → TransportStands transport v → Pictures result (datagrams_behind v window) }
+        ensures { (v : TransportView) → TransportStands transport v → Pictures result (datagrams_after v window) }
     {
         let role = transport.role();
         let one_way = transport.one_way();
@@ -192,7 +192,7 @@ impl Datagrams {
     }
 
     /// Opens a datagram in place, and tells how many of its bytes from the ninth on are then the payload. The 8 of the nonce in
-    /// front of them and the 16 of the tag behind them stay as they are.
+    /// front of them and the 16 of the tag after them stay as they are.
     ///
     /// At an `Err` its bytes are unchanged.
     pub fn open_within(&mut self, datagram: &mut [u8]) -> Result<usize, DatagramFault>

@@ -3,7 +3,7 @@
 
 ghost use Rattle.std.specs.Prelude.{◌≡◌, ◌<◌, length, take, MatchResult};
 ghost use Rattle.std.specs.Io.KnownBytes.{Appends};
-ghost use Rattle.noise_session.specs.Counting.{inner_of, failures_of, behind_call};
+ghost use Rattle.noise_session.specs.Counting.{inner_of, failures_of, after_call};
 
 use crate::Counted;
 use std::io::Write;
@@ -13,7 +13,7 @@ pub(crate) fn write_out<W: Write>(out: &mut Counted<W>, bytes: &[u8]) -> Result<
     ensures written { MatchResult result
         (λ _. Appends (W.contents (inner_of out.old)) (W.contents (inner_of out.new)) bytes.now)
         (λ n. (n < length bytes.now) × Appends (W.contents (inner_of out.old)) (W.contents (inner_of out.new)) (take n bytes.now)) }
-    ensures failures { failures_of out.new ≡ behind_call (failures_of out.old) result }
+    ensures failures { failures_of out.new ≡ after_call (failures_of out.old) result }
 {
     let mut at = 0;
     while at < bytes.len() {

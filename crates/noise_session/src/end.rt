@@ -28,7 +28,7 @@ use std::marker::Model;
 
 /// One end of a session: it takes the bytes of the other end's frames, and writes its own.
 ///
-/// A frame is a message behind its length in 2 big-endian bytes (Noise, 3 and 13), handshake messages too: at most 65537
+/// A frame is a message after its length in 2 big-endian bytes (Noise, 3 and 13), handshake messages too: at most 65537
 /// bytes. The end opens by itself once the last handshake message has passed; the handshake with its keys is gone then.
 #[derive(Drop)]
 pub struct End<K: Keys> {
@@ -65,9 +65,9 @@ impl<K: Keys> End<K> {
     ghost use Rattle.noise_session.specs.declared.phase.Phase.TheVariants as phases;
     ghost use Rattle.noise_session.specs.inner.Phases.{is_due};
     ghost use Rattle.noise_session.specs.Taking.{Takes};
-    ghost use Rattle.noise_session.specs.Sending.{Sends, behind_fault};
-    ghost use Rattle.noise_session.specs.Inputs.{Receives, is_end, behind_receiving};
-    ghost use Rattle.noise_session.specs.Outputs.{Puts, behind_output};
+    ghost use Rattle.noise_session.specs.Sending.{Sends, after_fault};
+    ghost use Rattle.noise_session.specs.Inputs.{Receives, is_end, after_receiving};
+    ghost use Rattle.noise_session.specs.Outputs.{Puts, after_output};
     ghost use Rattle.noise_session.specs.Datagrams.{Pictures, datagrams_of};
     ghost use Rattle.noise_session.specs.EndDatagrams.{is_datagram_ready};
 
@@ -79,7 +79,7 @@ impl<K: Keys> End<K> {
         requires { handshake.ended ≡ false }
         ensures { (v : View) → Stands K.public_of K.agreement handshake v → IfOk result (λ end. EndStands K.public_of K.agreement end (end_of v interval)) }
     {
-        End::begin(alloc, Phase::behind(handshake, interval))
+        End::begin(alloc, Phase::after(handshake, interval))
     }
 
     /// An end of a session that is open with this transport.
@@ -146,7 +146,7 @@ impl<K: Keys> End<K> {
 
     /// Takes bytes of at most one frame, and tells how many and what they came to.
     ///
-    /// Only the bytes that it holds, with the piece behind them, count: where a frame is cut into pieces makes no difference.
+    /// Only the bytes that it holds, with the piece after them, count: where a frame is cut into pieces makes no difference.
     pub fn take<'a>(&'a mut self, piece: &[u8]) -> (usize, Step<'a>)
         ensures count { result.0 ≤ length piece.now }
         ensures* takes { sem 𝓛 (follows_so (the_row K.row K.Keys) (the_row K.row K.Keys) self.entry.ghost_name none (λ _ _. ⊤)
@@ -181,7 +181,7 @@ impl<K: Keys> End<K> {
     ) -> Result<Option<Step<'_>>, ReceiveFault>
         ensures unread { IsSome (idle_step (progress self.old)) → from.new ≡ from.old }
         ensures end { is_end result ≡ true → IsAtEnd (R.remaining (inner_of from.new)) }
-        ensures failures { failures_of from.new ≡ behind_receiving (failures_of from.old) result }
+        ensures failures { failures_of from.new ≡ after_receiving (failures_of from.old) result }
         ensures* receives { sem 𝓛 (follows_so (the_row K.row K.Keys) (the_row K.row K.Keys) self.entry.ghost_name none (λ _ _. ⊤)
             (λ n. (v : EndView) → EndStands K.public_of K.agreement self.old v
             → (bytes : List ℕ) × (next : EndView) × Receives v bytes (told_of result) next
@@ -225,7 +225,7 @@ impl<K: Keys> End<K> {
         ensures ok { (v : EndView) → EndStands K.public_of K.agreement self.old v → IfOk result (λ n.
             (next : EndView) × Sends v payload.now (Ok (take n out.new)) next × EndStands K.public_of K.agreement self.new next) }
         ensures err { (v : EndView) → EndStands K.public_of K.agreement self.old v → IfErr result (λ fault.
-            Sends v payload.now (Err fault) (behind_fault v fault) × EndStands K.public_of K.agreement self.new (behind_fault v fault)) }
+            Sends v payload.now (Err fault) (after_fault v fault) × EndStands K.public_of K.agreement self.new (after_fault v fault)) }
     {
         send(&mut self.phase, &mut self.incoming, payload, out)
     }
@@ -239,7 +239,7 @@ impl<K: Keys> End<K> {
         payload: &[u8],
         out: &mut Counted<W>,
     ) -> Result<usize, SendFault>
-        ensures failures { failures_of out.new ≡ behind_output (failures_of out.old) result }
+        ensures failures { failures_of out.new ≡ after_output (failures_of out.old) result }
         ensures puts { (v : EndView) → EndStands K.public_of K.agreement self.old v → (bytes : List ℕ) × (next : EndView) × Puts v payload.now result bytes next
             × Appends (W.contents (inner_of out.old)) (W.contents (inner_of out.new)) bytes × EndStands K.public_of K.agreement self.new next }
     {
@@ -281,7 +281,7 @@ impl<K: Keys> End<K> {
     {
         let phase = self.phase;
         match phase {
-            Phase::Open(transport) => Datagrams::behind(transport, window),
+            Phase::Open(transport) => Datagrams::after(transport, window),
             _ => unreachable!(),
         }
     }

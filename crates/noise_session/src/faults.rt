@@ -16,7 +16,7 @@ pub enum SendFault {
     OneWay,
     /// The sending nonce is 2^64 - 1, which no message has. The session has ended.
     Exhausted,
-    /// A write to the output failed behind so many first bytes of the frame. The session has ended.
+    /// A write to the output failed after so many first bytes of the frame. The session has ended.
     Output { written: usize },
 }
 

@@ -4,7 +4,7 @@
 ghost use Rattle.std.specs.Prelude.{◌≡◌, ◌≤◌, ◌↔◌, length, take};
 ghost use Rattle.std.specs.Io.KnownBytes.{Consumes, IsAtEnd};
 ghost use Rattle.noise_session.specs.Counting.{inner_of, failures_of};
-ghost use Rattle.noise_session.specs.inner.Filling.{behind_filling};
+ghost use Rattle.noise_session.specs.inner.Filling.{after_filling};
 ghost use Rattle.noise_session.specs.declared.filling.Filling.TheVariants.{Filled, End};
 
 use crate::Counted;
@@ -24,7 +24,7 @@ pub(crate) fn fill_from<R: Read>(from: &mut Counted<R>, buffer: &mut [u8]) -> (u
     ensures filled { (result.1 ≡ Filled) ↔ (result.0 ≡ length buffer.new) }
     ensures bytes { Consumes (R.remaining (inner_of from.old)) (R.remaining (inner_of from.new)) (take result.0 buffer.new) }
     ensures end { result.1 ≡ End → IsAtEnd (R.remaining (inner_of from.new)) }
-    ensures failures { failures_of from.new ≡ behind_filling (failures_of from.old) result.1 }
+    ensures failures { failures_of from.new ≡ after_filling (failures_of from.old) result.1 }
 {
     let mut at = 0;
     while at < buffer.len() {

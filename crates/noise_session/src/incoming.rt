@@ -6,7 +6,7 @@ ghost use Rattle.noise_session.specs.Frames.{IsPartial, IsWhole, frame_length};
 ghost use Rattle.byteorder.specs.Endian.{big_bytes};
 ghost use Rattle.std.specs.Io.KnownBytes.{Consumes, IsAtEnd};
 ghost use Rattle.noise_session.specs.Counting.{inner_of, failures_of};
-ghost use Rattle.noise_session.specs.inner.Filling.{Leaves, behind_filling};
+ghost use Rattle.noise_session.specs.inner.Filling.{Leaves, after_filling};
 ghost use Rattle.noise_session.specs.declared.filling.Filling.TheVariants.{Filled, End};
 
 use crate::Counted;
@@ -99,7 +99,7 @@ impl Incoming {
         let count = piece.len().min(self.whole - self.held);
         let end = self.held + count;
         put(&mut self.buffer, self.held, &piece[..count]);
-        self.whole = whole_behind(&self.buffer, self.whole, end);
+        self.whole = whole_after(&self.buffer, self.whole, end);
         self.held = end;
         count
     }
@@ -111,11 +111,11 @@ impl Incoming {
         ensures filled { (result ≡ Filled) ↔ (length (bytes_of self.new) ≡ frame_length (bytes_of self.old)) }
         ensures within { length (bytes_of self.new) ≤ frame_length (bytes_of self.old) }
         ensures end { result ≡ End → IsAtEnd (R.remaining (inner_of from.new)) }
-        ensures failures { failures_of from.new ≡ behind_filling (failures_of from.old) result }
+        ensures failures { failures_of from.new ≡ after_filling (failures_of from.old) result }
     {
         let (count, filling) = read_into(from, &mut self.buffer, self.held, self.whole);
         let end = self.held + count;
-        self.whole = whole_behind(&self.buffer, self.whole, end);
+        self.whole = whole_after(&self.buffer, self.whole, end);
         self.held = end;
         filling
     }
@@ -126,7 +126,7 @@ impl Incoming {
             × (bytes_of self.new ≡ bytes_of self.old ++ piece) }
         ensures leaves { Leaves result (bytes_of self.new) }
         ensures end { result ≡ End → IsAtEnd (R.remaining (inner_of from.new)) }
-        ensures failures { failures_of from.new ≡ behind_filling (failures_of from.old) result }
+        ensures failures { failures_of from.new ≡ after_filling (failures_of from.old) result }
     {
         match self.read_up(from) {
             Filling::Filled => self.read_up(from),
@@ -165,7 +165,7 @@ fn read_into<R: Read>(
     ensures bytes { (piece : List ℕ) × Consumes (R.remaining (inner_of from.old)) (R.remaining (inner_of from.new)) piece
         × (length piece ≡ result.0) × (take (start + result.0) buffer.new.items ≡ take start buffer.old.items ++ piece) }
     ensures end { result.1 ≡ End → IsAtEnd (R.remaining (inner_of from.new)) }
-    ensures failures { failures_of from.new ≡ behind_filling (failures_of from.old) result.1 }
+    ensures failures { failures_of from.new ≡ after_filling (failures_of from.old) result.1 }
 {
     fill_from(from, &mut buffer[start..end])
 }
@@ -181,7 +181,7 @@ fn put(buffer: &mut Vec<u8>, from: usize, bytes: &[u8])
 }
 
 // How long a frame is of which so many bytes have come: what was known, but where its length is whole just now.
-fn whole_behind(buffer: &[u8], known: usize, end: usize) -> usize
+fn whole_after(buffer: &[u8], known: usize, end: usize) -> usize
     requires { 2 ≤ length buffer.now }
     ensures read { end ≡ 2 → (result ≡ frame_length (take 2 buffer.now)) × (result ≤ 65537) × (take 2 buffer.now ≡ big_bytes 2 (result - 2)) }
     ensures kept { end ≢ 2 → result ≡ known }

@@ -15,7 +15,7 @@ ghost use Rattle.noise_session.specs.declared.faults.SendFault.{SendFault};
 use crate::packets::packet_same;
 use noise_handshake::{Keys, accepted_once, refused_once, written_is_accepted, written_once};
 
-/// A piece comes to one thing at an end: so many bytes, one step, and one view behind it.
+/// A piece comes to one thing at an end: so many bytes, one step, and one view after it.
 pub fn taken_once()
     ensures { (v x y : EndView) (piece : List ℕ) (m n : ℕ) (s t : Told) → Takes v piece m s x → Takes v piece n t y → (m ≡ n) × (s ≡ t) × (x ≡ y) }
 {
@@ -34,12 +34,12 @@ pub fn accepted_exactly()
     packet_same();
 }
 
-/// Where a piece is cut makes no difference: what comes of its second part, behind a first that wasn't a whole frame, comes of both in one piece.
+/// Where a piece is cut makes no difference: what comes of its second part, after a first that wasn't a whole frame, comes of both in one piece.
 pub fn cuts_alike()
     ensures { (v x y : EndView) (a b : List ℕ) (n : ℕ) (s : Told) → Takes v a (length a) More x → Takes x b n s y → Takes v (a ++ b) (length a + n) s y }
 {}
 
-/// A payload comes to one thing at an end: one frame or one fault, and one view behind it.
+/// A payload comes to one thing at an end: one frame or one fault, and one view after it.
 pub fn sent_once()
     ensures { (v x y : EndView) (payload : List ℕ) (r s : Result (List ℕ) SendFault) → Sends v payload r x → Sends v payload s y → (r ≡ s) × (x ≡ y) }
 {
@@ -47,7 +47,7 @@ pub fn sent_once()
 }
 
 /// What one of two ends of a session writes the other one takes: between ends that have come equally far, in a valid pattern, each frame that is
-/// written of a payload is taken whole, as that payload, and behind it they have come equally far again, in the handshake and once open.
+/// written of a payload is taken whole, as that payload, and after it they have come equally far again, in the handshake and once open.
 pub fn written_is_taken()
     ensures { (v w x : EndView) (payload frame : List ℕ) → IsValid v.party.pattern → EndCounterparts v w → Sends v payload (Ok frame) x
         → (y : EndView) × Takes w frame (length frame) (Payload payload) y × EndCounterparts x y }

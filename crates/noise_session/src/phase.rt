@@ -35,8 +35,8 @@ impl<K: Keys> Phase<K> {
     ghost use Rattle.noise_session.specs.inner.Phases.{IsHandshake, GoesOnAs, is_due, over_in};
     ghost use Rattle.noise_session.specs.inner.Outcomes.{tells, StandsIn};
 
-    // The phase behind messages of a handshake: its transport, once all of them have passed.
-    pub(crate) fn behind(handshake: Handshake<K>, interval: u64) -> Phase<K>
+    // The phase after messages of a handshake: its transport, once all of them have passed.
+    pub(crate) fn after(handshake: Handshake<K>, interval: u64) -> Phase<K>
         requires { handshake.ended ≡ false }
         ensures due { IsTrue (is_due result) }
         ensures going { is_over result ≡ false }
@@ -52,7 +52,7 @@ impl<K: Keys> Phase<K> {
         }
     }
 
-    // Goes on behind a message of its handshake.
+    // Goes on after a message of its handshake.
     pub(crate) fn settle(&mut self)
         requires { IsHandshake self.old }
         ensures due { IsTrue (is_due self.new) }
@@ -64,7 +64,7 @@ impl<K: Keys> Phase<K> {
             Phase::Handshaking {
                 handshake,
                 interval,
-            } => *self = Phase::behind(handshake, interval),
+            } => *self = Phase::after(handshake, interval),
             _ => unreachable!(),
         }
     }

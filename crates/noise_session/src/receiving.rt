@@ -7,7 +7,7 @@ ghost use Rattle.noise_session.specs.Counting.{inner_of, failures_of};
 ghost use Rattle.noise_session.specs.Ends.{EndView, EndStands, progress_in, is_over};
 ghost use Rattle.noise_session.specs.Frames.{IsPartial};
 ghost use Rattle.noise_session.specs.inner.Incoming.{bytes_of};
-ghost use Rattle.noise_session.specs.Inputs.{Receives, is_end, behind_receiving};
+ghost use Rattle.noise_session.specs.Inputs.{Receives, is_end, after_receiving};
 ghost use Rattle.noise_session.specs.inner.Outcomes.{received, StandsIn};
 ghost use Rattle.noise_session.specs.inner.Phases.{is_due};
 ghost use Rattle.noise_session.specs.Progress.{idle_step};
@@ -36,7 +36,7 @@ pub(crate) fn receive_from<K: Keys, R: Read>(
     ensures place { IfOk result (λ o. IfSome o (λ outcome. StandsIn (drop 2 incoming.new.buffer.items) outcome)) }
     ensures unread { IsSome (idle_step (progress_in phase.old)) → from.new ≡ from.old }
     ensures end { is_end result ≡ true → IsAtEnd (R.remaining (inner_of from.new)) }
-    ensures failures { failures_of from.new ≡ behind_receiving (failures_of from.old) result }
+    ensures failures { failures_of from.new ≡ after_receiving (failures_of from.old) result }
     ensures receives { (v : EndView) → EndStands K.public_of K.agreement (record { phase = phase.old; held = bytes_of incoming.old }) v
         → (bytes : List ℕ) × (next : EndView) × Receives v bytes (received (drop 2 incoming.new.buffer.items) result) next
         × Consumes (R.remaining (inner_of from.old)) (R.remaining (inner_of from.new)) bytes

@@ -6,10 +6,10 @@ ghost use Rattle.std.specs.Option.{ForSome};
 ghost use Rattle.noise_session.specs.Ends.{EndView, EndStands, PhaseStands, progress_in, is_over};
 ghost use Rattle.noise_session.specs.Frames.{IsPartial, frame};
 ghost use Rattle.noise_session.specs.inner.Incoming.{bytes_of};
-ghost use Rattle.noise_session.specs.Outputs.{behind_output};
+ghost use Rattle.noise_session.specs.Outputs.{after_output};
 ghost use Rattle.noise_session.specs.inner.Phases.{is_due};
 ghost use Rattle.noise_session.specs.Progress.{refusal, message_length, frame_len_of};
-ghost use Rattle.noise_session.specs.Sending.{Sends, behind_fault};
+ghost use Rattle.noise_session.specs.Sending.{Sends, after_fault};
 ghost use Rattle.noise_session.specs.Faults.{ends};
 
 use crate::SendFault;
@@ -33,11 +33,11 @@ fn write_message<K: Keys>(
     ensures refused { MatchOption (refusal (progress_in phase.old) (length payload.now)) ⊤ (λ fault. (result ≡ Err fault) × (out.new ≡ out.old)) }
     ensures going { IfOk result (λ _. is_over phase.new ≡ false) }
     ensures kept { IfErr result (λ fault. ends fault ≡ false → phase.new ≡ phase.old) }
-    ensures inner { IfErr result (λ fault. (failures : ℕ) → behind_output failures (Err fault) ≡ failures) }
+    ensures inner { IfErr result (λ fault. (failures : ℕ) → after_output failures (Err fault) ≡ failures) }
     ensures ok { (v : EndView) → PhaseStands K.public_of K.agreement phase.old v → IfOk result (λ n.
         (next : EndView) × Sends v payload.now (Ok (frame (take n out.new))) next × PhaseStands K.public_of K.agreement phase.new next × (next.held ≡ v.held)) }
     ensures err { (v : EndView) → PhaseStands K.public_of K.agreement phase.old v → IfErr result (λ fault.
-        Sends v payload.now (Err fault) (behind_fault v fault) × PhaseStands K.public_of K.agreement phase.new (behind_fault v fault)) }
+        Sends v payload.now (Err fault) (after_fault v fault) × PhaseStands K.public_of K.agreement phase.new (after_fault v fault)) }
 {
     match phase {
         Phase::Handshaking { handshake, .. } => match handshake.write(payload, out) {
@@ -81,11 +81,11 @@ fn write_frame<K: Keys>(
     ensures refused { MatchOption (refusal (progress_in phase.old) (length payload.now)) ⊤ (λ fault. (result ≡ Err fault) × (out.new ≡ out.old)) }
     ensures going { IfOk result (λ _. is_over phase.new ≡ false) }
     ensures kept { IfErr result (λ fault. ends fault ≡ false → phase.new ≡ phase.old) }
-    ensures inner { IfErr result (λ fault. (failures : ℕ) → behind_output failures (Err fault) ≡ failures) }
+    ensures inner { IfErr result (λ fault. (failures : ℕ) → after_output failures (Err fault) ≡ failures) }
     ensures ok { (v : EndView) → PhaseStands K.public_of K.agreement phase.old v → IfOk result (λ n.
         (next : EndView) × Sends v payload.now (Ok (take n out.new)) next × PhaseStands K.public_of K.agreement phase.new next × (next.held ≡ v.held)) }
     ensures err { (v : EndView) → PhaseStands K.public_of K.agreement phase.old v → IfErr result (λ fault.
-        Sends v payload.now (Err fault) (behind_fault v fault) × PhaseStands K.public_of K.agreement phase.new (behind_fault v fault)) }
+        Sends v payload.now (Err fault) (after_fault v fault) × PhaseStands K.public_of K.agreement phase.new (after_fault v fault)) }
 {
     let start = out.len().min(2);
     let len = write_message(phase, payload, &mut out[start..])?;
@@ -110,13 +110,13 @@ pub(crate) fn send<K: Keys>(
     ensures len { IfOk result (λ n. (frame_len_of (progress_in phase.old) (length payload.now) ≡ Some n) × (n ≤ length out.new)) }
     ensures rest { IfOk result (λ n. drop n out.new ≡ drop n out.old) }
     ensures refused { MatchOption (refusal (progress_in phase.old) (length payload.now)) ⊤ (λ fault. (result ≡ Err fault) × (out.new ≡ out.old)) }
-    ensures inner { IfErr result (λ fault. (failures : ℕ) → behind_output failures (Err fault) ≡ failures) }
+    ensures inner { IfErr result (λ fault. (failures : ℕ) → after_output failures (Err fault) ≡ failures) }
     ensures ok { (v : EndView) → EndStands K.public_of K.agreement (record { phase = phase.old; held = bytes_of incoming.old }) v → IfOk result (λ n.
         (next : EndView) × Sends v payload.now (Ok (take n out.new)) next
         × EndStands K.public_of K.agreement (record { phase = phase.new; held = bytes_of incoming.new }) next) }
     ensures err { (v : EndView) → EndStands K.public_of K.agreement (record { phase = phase.old; held = bytes_of incoming.old }) v → IfErr result (λ fault.
-        Sends v payload.now (Err fault) (behind_fault v fault)
-        × EndStands K.public_of K.agreement (record { phase = phase.new; held = bytes_of incoming.new }) (behind_fault v fault)) }
+        Sends v payload.now (Err fault) (after_fault v fault)
+        × EndStands K.public_of K.agreement (record { phase = phase.new; held = bytes_of incoming.new }) (after_fault v fault)) }
 {
     match write_frame(phase, payload, out) {
         Ok(len) => Ok(len),

@@ -18,7 +18,7 @@ pub enum Step<'a> {
     Payload(&'a [u8]),
     /// A transport frame was refused, and the session goes on as before it; the bytes up to its end were taken.
     Dropped(Cause),
-    /// A handshake frame was refused, at this token, counted from 0, or at the payload behind the last. The session has
+    /// A handshake frame was refused, at this token, counted from 0, or at the payload after the last. The session has
     /// ended; the bytes up to the frame's end were taken.
     Refused { token: u8, cause: Cause },
     /// A transport frame came at nonce 2^64 - 1, which no message has. The session has ended; the bytes up to the frame's

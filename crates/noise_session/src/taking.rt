@@ -16,7 +16,7 @@ use crate::phase::Phase;
 use crate::reading::read_message;
 use noise_handshake::Keys;
 
-// Reads the message of a whole frame. Nothing is held behind it.
+// Reads the message of a whole frame. Nothing is held after it.
 pub(crate) fn judge<K: Keys>(phase: &mut Phase<K>, incoming: &mut Incoming) -> Outcome
     requires due { IsTrue (is_due phase.old) }
     requires listens { idle_step (progress_in phase.old) ≡ None }

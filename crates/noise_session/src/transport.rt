@@ -56,7 +56,7 @@ impl Model for Transport {
 }
 
 impl Transport {
-    /// The transport behind a handshake, at nonces 0.
+    /// The transport after a handshake, at nonces 0.
     pub fn new(opened: Opened, interval: u64) -> Transport
         ensures parts { (result.role ≡ opened.role) × (result.one_way ≡ opened.one_way) × (result.hash ≡ opened.hash)
             × (result.remote_static ≡ opened.remote_static) × (result.interval ≡ interval) × (result.send_nonce ≡ 0) × (result.receive_nonce ≡ 0) }
@@ -240,7 +240,7 @@ impl Transport {
         self.sender.seal_in_place(buffer, payload_len)
     }
 
-    /// Opens a message in place, and tells how many first bytes of it are then the payload. The 16 of the tag behind them stay
+    /// Opens a message in place, and tells how many first bytes of it are then the payload. The 16 of the tag after them stay
     /// as they are.
     ///
     /// The message has at most 65535 bytes. At an `Err` its bytes are unchanged.

@@ -116,7 +116,7 @@ fn place(window: Window, block: u64) -> usize
     (block % (window.width() / WORD_BITS + 1)) as usize
 }
 
-// Clears the words of the blocks behind `top` up to `block`: each word once at most.
+// Clears the words of the blocks after `top` up to `block`: each word once at most.
 fn clear(window: Window, words: &mut [u64; MOST_WORDS], top: u64, block: u64)
     requires { top ≤ block }
     ensures fresh { (b : ℕ) → top < b → b ≤ block → block < b + words_of window → slice_index words.new (b % words_of window) ≡ 0 }

@@ -4,12 +4,12 @@ use Rattle.sha2.specs.Sha256.{sha256}
 use Rattle.noise_kdf.specs.Hkdf.{first_output, second_output, third_output}
 use Rattle.noise_aead.specs.Sealing.{sealed, nonce_of, rekeyed}
 
--- one step of a handshake's key schedule
+-- one step of a handshake's key schedule, by the name that the standard gives it (Noise 5.2)
 pub data Entry : Type 0 where
-  Mix : (text : List ℕ) → Entry  -- MixHash of a text that travels in the clear, or isn't sent
-  Part : (piece : List ℕ) → Entry  -- MixHash of an encrypted or plain piece of a message
-  Key : (input : List ℕ) → Entry  -- MixKey
-  KeyHash : (input : List ℕ) → Entry  -- MixKeyAndHash
+  MixHash : (text : List ℕ) → Entry  -- of a text that travels in the clear, or isn't sent
+  Ciphertext : (piece : List ℕ) → Entry  -- EncryptAndHash, DecryptAndHash: of what they make or take; a plain text without a key
+  MixKey : (input : List ℕ) → Entry
+  MixKeyAndHash : (input : List ℕ) → Entry
 
 pub record History : Type 0 where
   pub name : List ℕ
@@ -21,32 +21,32 @@ start_value name = if nat_le (length name) 32 then name ++ replicate (32 - lengt
 
 abbrev pub chaining_key_of : List ℕ → List Entry → List ℕ
 chaining_key_of name [] = start_value name
-chaining_key_of name (Mix text ∷ older) = chaining_key_of name older
-chaining_key_of name (Part piece ∷ older) = chaining_key_of name older
-chaining_key_of name (Key input ∷ older) = first_output (chaining_key_of name older) input
-chaining_key_of name (KeyHash input ∷ older) = first_output (chaining_key_of name older) input
+chaining_key_of name (MixHash text ∷ older) = chaining_key_of name older
+chaining_key_of name (Ciphertext piece ∷ older) = chaining_key_of name older
+chaining_key_of name (MixKey input ∷ older) = first_output (chaining_key_of name older) input
+chaining_key_of name (MixKeyAndHash input ∷ older) = first_output (chaining_key_of name older) input
 
 abbrev pub hash_of : List ℕ → List Entry → List ℕ
 hash_of name [] = start_value name
-hash_of name (Mix text ∷ older) = sha256 (hash_of name older ++ text)
-hash_of name (Part piece ∷ older) = sha256 (hash_of name older ++ piece)
-hash_of name (Key input ∷ older) = hash_of name older
-hash_of name (KeyHash input ∷ older) = sha256 (hash_of name older ++ second_output (chaining_key_of name older) input)
+hash_of name (MixHash text ∷ older) = sha256 (hash_of name older ++ text)
+hash_of name (Ciphertext piece ∷ older) = sha256 (hash_of name older ++ piece)
+hash_of name (MixKey input ∷ older) = hash_of name older
+hash_of name (MixKeyAndHash input ∷ older) = sha256 (hash_of name older ++ second_output (chaining_key_of name older) input)
 
 abbrev pub cipher_key_of : List ℕ → List Entry → Option (List ℕ)
 cipher_key_of name [] = None
-cipher_key_of name (Mix text ∷ older) = cipher_key_of name older
-cipher_key_of name (Part piece ∷ older) = cipher_key_of name older
-cipher_key_of name (Key input ∷ older) = Some (second_output (chaining_key_of name older) input)
-cipher_key_of name (KeyHash input ∷ older) = Some (third_output (chaining_key_of name older) input)
+cipher_key_of name (MixHash text ∷ older) = cipher_key_of name older
+cipher_key_of name (Ciphertext piece ∷ older) = cipher_key_of name older
+cipher_key_of name (MixKey input ∷ older) = Some (second_output (chaining_key_of name older) input)
+cipher_key_of name (MixKeyAndHash input ∷ older) = Some (third_output (chaining_key_of name older) input)
 
--- how many pieces stand behind the newest key
+-- how many pieces stand after the newest key
 abbrev pub nonce_count : List Entry → ℕ
 nonce_count [] = 0
-nonce_count (Mix text ∷ older) = nonce_count older
-nonce_count (Part piece ∷ older) = nonce_count older + 1
-nonce_count (Key input ∷ older) = 0
-nonce_count (KeyHash input ∷ older) = 0
+nonce_count (MixHash text ∷ older) = nonce_count older
+nonce_count (Ciphertext piece ∷ older) = nonce_count older + 1
+nonce_count (MixKey input ∷ older) = 0
+nonce_count (MixKeyAndHash input ∷ older) = 0
 
 abbrev pub chaining_key : History → List ℕ
 chaining_key r = chaining_key_of r.name r.entries
@@ -69,7 +69,7 @@ abbrev pub piece_under : Option (List ℕ) → ℕ → List ℕ → List ℕ →
 piece_under None n ad plain = plain
 piece_under (Some key) n ad plain = sealed key (nonce_of n) ad plain
 
--- how a text travels behind a history: under its key, nonce and hash
+-- how a text travels after a history: under its key, nonce and hash
 abbrev pub piece : History → List ℕ → List ℕ
 piece r plain = piece_under (cipher_key r) (nonce r) (hash r) plain
 

@@ -10,7 +10,7 @@ use Rattle.noise_aead.specs.Sealing.{nonce_of}
 use Rattle.noise_aead.specs.Sealed.{length-sealed, sealed-same}
 use Rattle.noise_kdf.specs.Hkdf.{second_output}
 use Rattle.noise_state.specs.Cipher.{sealed_len}
-use Rattle.noise_state.specs.History.{History, Entry, Mix, Part, Key, KeyHash, start_value, chaining_key_of, hash_of, cipher_key, nonce, hash}
+use Rattle.noise_state.specs.History.{History, Entry, MixHash, Ciphertext, MixKey, MixKeyAndHash, start_value, chaining_key_of, hash_of, cipher_key, nonce, hash}
 use Rattle.noise_state.specs.History.{piece_under, piece}
 
 pub length-piece_under : (k : Option (List ℕ)) (n : ℕ) (ad x : List ℕ) → length (piece_under k n ad x) ≡ sealed_len (is_some k) (length x)
@@ -40,10 +40,10 @@ length-start_value name = padded (nat_le (length name) 32) name refl
 
 length-hash_of : (name : List ℕ) (es : List Entry) → length (hash_of name es) ≡ 32
 length-hash_of name [] = length-start_value name
-length-hash_of name (Mix text ∷ older) = length-sha256 (hash_of name older ++ text)
-length-hash_of name (Part part ∷ older) = length-sha256 (hash_of name older ++ part)
-length-hash_of name (Key input ∷ older) = length-hash_of name older
-length-hash_of name (KeyHash input ∷ older) = length-sha256 (hash_of name older ++ second_output (chaining_key_of name older) input)
+length-hash_of name (MixHash text ∷ older) = length-sha256 (hash_of name older ++ text)
+length-hash_of name (Ciphertext part ∷ older) = length-sha256 (hash_of name older ++ part)
+length-hash_of name (MixKey input ∷ older) = length-hash_of name older
+length-hash_of name (MixKeyAndHash input ∷ older) = length-sha256 (hash_of name older ++ second_output (chaining_key_of name older) input)
 
 -- a hash has 32 bytes
 pub length-hash : (r : History) → length (hash r) ≡ 32

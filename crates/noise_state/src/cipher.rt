@@ -223,7 +223,7 @@ impl CipherState {
     }
 }
 
-// Seals the first `len` bytes in place, with the tag behind them.
+// Seals the first `len` bytes in place, with the tag after them.
 fn seal(key: &[u8; 32], counter: u64, ad: &[u8], buf: &mut [u8], len: usize)
     requires ad_fits { length ad.now ≤ 65535 }
     requires text { len ≤ 65535 }

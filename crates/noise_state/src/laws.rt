@@ -10,7 +10,7 @@ pub fn length_of_piece()
         → length (piece r text) ≡ sealed_len (is_some (cipher_key r)) (length text) }
 {}
 
-/// Two texts with one piece behind one history are equal.
+/// Two texts with one piece after one history are equal.
 pub fn piece_same()
     ensures { (r : History) (text other : List ℕ) → piece r text ≡ piece r other → text ≡ other }
 {}

@@ -3,7 +3,7 @@
 ghost use Rattle.std.specs.Prelude.{◌≡◌, ◌≤◌, ◌<◌, ◌-◌, ◌+◌, ◌^◌, ◌++◌, ◌↔◌, ℕ, List, [], length, take, drop, is_some, true, false, IsOk, IsSome};
 ghost use Rattle.std.specs.Prelude.{IfOk, IfErr, OnOk, OnErr, Some};
 ghost use Rattle.sha2.specs.Sha256.{sha256};
-ghost use Rattle.noise_state.specs.History.{History, Mix, Part, Key, KeyHash, and_then, piece, piece_under, cipher_key, nonce, hash, start_value};
+ghost use Rattle.noise_state.specs.History.{History, MixHash, Ciphertext, MixKey, MixKeyAndHash, and_then, piece, piece_under, cipher_key, nonce, hash, start_value};
 ghost use Rattle.noise_state.specs.History.{initiator_key, responder_key};
 
 use crate::cipher::{CipherFault, CipherState};
@@ -12,7 +12,7 @@ use sha2::{Digest, Sha256};
 
 const HASH_LEN: usize = 32;
 
-// The first hash: a name of at most 32 bytes with zeros behind it, the digest of a longer one.
+// The first hash: a name of at most 32 bytes with zeros after it, the digest of a longer one.
 fn first_hash(name: &[u8]) -> [u8; 32]
     ensures { result ≡ start_value name.now }
 {
@@ -127,7 +127,7 @@ impl SymmetricState {
     /// Mixes a key input, as a DH answer, into the chaining key, and takes a new key (MixKey).
     pub fn mix_key(&mut self, input: &[u8; 32])
         ensures stands { (r : History) → StateStands self.old r
-            → StateStands self.new (and_then r (Key input.now)) }
+            → StateStands self.new (and_then r (MixKey input.now)) }
         ensures key { keyed self.new ≡ true }
         ensures nonce { nonce_now self.new ≡ 0 }
     {
@@ -139,7 +139,7 @@ impl SymmetricState {
     /// Mixes a text into the hash (MixHash).
     pub fn mix_hash(&mut self, text: &[u8])
         ensures stands { (r : History) → StateStands self.old r
-            → StateStands self.new (and_then r (Mix text.now)) }
+            → StateStands self.new (and_then r (MixHash text.now)) }
         ensures key { keyed self.new ≡ keyed self.old }
         ensures nonce { nonce_now self.new ≡ nonce_now self.old }
     {
@@ -150,7 +150,7 @@ impl SymmetricState {
     /// new key (MixKeyAndHash).
     pub fn mix_key_and_hash(&mut self, input: &[u8; 32])
         ensures stands { (r : History) → StateStands self.old r
-            → StateStands self.new (and_then r (KeyHash input.now)) }
+            → StateStands self.new (and_then r (MixKeyAndHash input.now)) }
         ensures key { keyed self.new ≡ true }
         ensures nonce { nonce_now self.new ≡ 0 }
     {
@@ -177,7 +177,7 @@ impl SymmetricState {
             (n ≡ sealed_len (keyed self.old) len) × (n ≤ length buf.new)) }
         ensures ok { (r : History) → StateStands self.old r → IfOk result (λ n.
             (take n buf.new ≡ piece r (take len buf.old))
-            × StateStands self.new (and_then r (Part (piece r (take len buf.old))))) }
+            × StateStands self.new (and_then r (Ciphertext (piece r (take len buf.old))))) }
         ensures beyond { IfOk result (λ n. drop n buf.new ≡ drop n buf.old) }
         ensures unchanged { OnErr result (buf.new ≡ buf.old) }
         ensures same { OnErr result (self.new ≡ self.old) }
@@ -206,7 +206,7 @@ impl SymmetricState {
             DecryptRefused (keyed self.old) (nonce_now self.old) (length buf.old) fault) }
         ensures text { IfOk result (λ n. sealed_len (keyed self.old) n ≡ length buf.old) }
         ensures ok { (r : History) → StateStands self.old r → IfOk result (λ n.
-            (buf.old ≡ piece r (take n buf.new)) × StateStands self.new (and_then r (Part buf.old))) }
+            (buf.old ≡ piece r (take n buf.new)) × StateStands self.new (and_then r (Ciphertext buf.old))) }
         ensures beyond { IfOk result (λ n. drop n buf.new ≡ drop n buf.old) }
         ensures unchanged { OnErr result (buf.new ≡ buf.old) }
         ensures same { OnErr result (self.new ≡ self.old) }

@@ -146,12 +146,12 @@ one-run once datagrams f g xs ys same a b =
     subst (λ (z : Sides). Run z (events_of f.events.items) b.notes b.last) (sym start)
     (subst (λ (z : List Event). Run (facing_in g b.plan) z b.notes b.last) (sym same.events) b.run) in
     let one = once (facing_in f a.plan) a.last b.last (events_of f.events.items) a.notes b.notes a.run run in
-    let behind : a.behind ≡ b.behind =
-    last-once datagrams (datagrams_in f.version) (datagrams_in g.version) a.last a.behind b.behind same.datagrams a.are_last
-    (subst (λ (z : Sides). AreLast (datagrams_in g.version) z b.behind) (sym one.1) b.are_last) in
+    let after : a.after ≡ b.after =
+    last-once datagrams (datagrams_in f.version) (datagrams_in g.version) a.last a.after b.after same.datagrams a.are_last
+    (subst (λ (z : Sides). AreLast (datagrams_in g.version) z b.after) (sym one.1) b.are_last) in
     a.lines_are
-    ∙ ap₂ (λ (ns : List (Role × Note)) (d : Sides). map (note_line d) ns ++ a.behind) one.0 one.1
-    ∙ ap (λ (z : List (List ℕ)). map (note_line b.last) b.notes ++ z) behind
+    ∙ ap₂ (λ (ns : List (Role × Note)) (d : Sides). map (note_line d) ns ++ a.after) one.0 one.1
+    ∙ ap (λ (z : List (List ℕ)). map (note_line b.last) b.notes ++ z) after
     ∙ sym b.lines_are
 
 -- ---- a run of a file is one of each file that says the same
@@ -192,7 +192,7 @@ run-moves f g xs same a = record {
   last = a.last;
   run = subst (λ (z : Sides). Run z (events_of g.events.items) a.notes a.last) (facing-same f g a.plan same)
       (subst (λ (z : List Event). Run (facing_in f a.plan) z a.notes a.last) same.events a.run);
-  behind = a.behind;
-  are_last = last-moves (datagrams_in f.version) (datagrams_in g.version) a.last a.behind same.datagrams a.are_last;
+  after = a.after;
+  are_last = last-moves (datagrams_in f.version) (datagrams_in g.version) a.last a.after same.datagrams a.are_last;
   lines_are = a.lines_are;
 }

@@ -181,41 +181,41 @@ pub no-converted : (known : Option (List ℕ)) (file : VectorFile) (outcome : Ou
 no-converted known file outcome why r one (inl memory) = inl (ap status_of memory)
 no-converted known file outcome why r one (inr (is, long)) = inr (too-long known file outcome why r one is long)
 
--- ---- what is told behind a run
+-- ---- what is told after a run
 
-unmet-behind : (bytes : List ℕ) (before middle after : Option (List ℕ)) (why : Fault) → (IsOfLines why → after ≡ middle)
+unmet-after : (bytes : List ℕ) (before middle after : Option (List ℕ)) (why : Fault) → (IsOfLines why → after ≡ middle)
     → IsUnmet bytes before middle why → IsUnmet bytes before after why
-unmet-behind bytes before middle after (fault.Unmet n) same h = rw (same tt) h
-unmet-behind bytes before middle after (fault.Rule f) same h = absurd h
-unmet-behind bytes before middle after (fault.Place f) same h = absurd h
-unmet-behind bytes before middle after (fault.Setup role f) same h = absurd h
-unmet-behind bytes before middle after (fault.Name f) same h = absurd h
-unmet-behind bytes before middle after fault.UnknownPattern same h = absurd h
-unmet-behind bytes before middle after (fault.Text f) same h = absurd h
-unmet-behind bytes before middle after (fault.Line n kind) same h = absurd h
-unmet-behind bytes before middle after fault.TooLong same h = absurd h
-unmet-behind bytes before middle after fault.Unreadable same h = absurd h
-unmet-behind bytes before middle after fault.Unwritable same h = absurd h
-unmet-behind bytes before middle after fault.Memory same h = absurd h
+unmet-after bytes before middle after (fault.Unmet n) same h = rw (same tt) h
+unmet-after bytes before middle after (fault.Rule f) same h = absurd h
+unmet-after bytes before middle after (fault.Place f) same h = absurd h
+unmet-after bytes before middle after (fault.Setup role f) same h = absurd h
+unmet-after bytes before middle after (fault.Name f) same h = absurd h
+unmet-after bytes before middle after fault.UnknownPattern same h = absurd h
+unmet-after bytes before middle after (fault.Text f) same h = absurd h
+unmet-after bytes before middle after (fault.Line n kind) same h = absurd h
+unmet-after bytes before middle after fault.TooLong same h = absurd h
+unmet-after bytes before middle after fault.Unreadable same h = absurd h
+unmet-after bytes before middle after fault.Unwritable same h = absurd h
+unmet-after bytes before middle after fault.Memory same h = absurd h
 
-either-behind : (P : Type 0) (bytes : List ℕ) (before middle after : Option (List ℕ)) (why : Fault) → (IsOfLines why → after ≡ middle)
+either-after : (P : Type 0) (bytes : List ℕ) (before middle after : Option (List ℕ)) (why : Fault) → (IsOfLines why → after ≡ middle)
     → P ⊎ IsUnmet bytes before middle why → P ⊎ IsUnmet bytes before after why
-either-behind P bytes before middle after why same (inl p) = inl p
-either-behind P bytes before middle after why same (inr h) = inr (unmet-behind bytes before middle after why same h)
+either-after P bytes before middle after why same (inl p) = inl p
+either-after P bytes before middle after why same (inr h) = inr (unmet-after bytes before middle after why same h)
 
 -- a fault stays what it is where the output is as it was
-fault-behind : (chosen : Chosen) (known before middle after : Option (List ℕ)) (why : Fault) → (IsOfLines why → after ≡ middle)
+fault-after : (chosen : Chosen) (known before middle after : Option (List ℕ)) (why : Fault) → (IsOfLines why → after ≡ middle)
     → IsFault chosen known before middle why → IsFault chosen known before after why
-fault-behind order.List known before middle after why same h = h
-fault-behind (order.Show name) known before middle after why same h = h
-fault-behind (order.Check path) known before middle after why same h = h
-fault-behind (order.Talk path) None before middle after why same h = h
-fault-behind (order.Talk path) (Some bytes) before middle after why same h = either-behind _ bytes before middle after why same h
-fault-behind (order.Replay path) None before middle after why same h = h
-fault-behind (order.Replay path) (Some bytes) before middle after why same h = either-behind _ bytes before middle after why same h
-fault-behind (order.Convert path) known before middle after why same h = h
+fault-after order.List known before middle after why same h = h
+fault-after (order.Show name) known before middle after why same h = h
+fault-after (order.Check path) known before middle after why same h = h
+fault-after (order.Talk path) None before middle after why same h = h
+fault-after (order.Talk path) (Some bytes) before middle after why same h = either-after _ bytes before middle after why same h
+fault-after (order.Replay path) None before middle after why same h = h
+fault-after (order.Replay path) (Some bytes) before middle after why same h = either-after _ bytes before middle after why same h
+fault-after (order.Convert path) known before middle after why same h = h
 
--- behind lines the output is left as it is
+-- after lines the output is left as it is
 lines-left : {O E : Type 0} (why : Fault) (out after : O) (err err_after : E) → IsOfLines why → LeavesOther why out after err err_after → after ≡ out
 lines-left (fault.Unmet n) out after err err_after lines h = h
 lines-left (fault.Rule f) out after err err_after lines h = absurd lines
@@ -230,7 +230,7 @@ lines-left fault.Unreadable out after err err_after lines h = absurd lines
 lines-left fault.Unwritable out after err err_after lines h = absurd lines
 lines-left fault.Memory out after err err_after lines h = absurd lines
 
--- behind lines no rule is told
+-- after lines no rule is told
 lines-tell : (why : Fault) (before after : Option (List ℕ)) → IsOfLines why → TellsRule why before after
 lines-tell (fault.Unmet n) before after lines = tt
 lines-tell (fault.Rule f) before after lines = absurd lines
@@ -264,7 +264,7 @@ told-fault contents chosen known old middle new err err_new why result (inr h) (
     inr (
       why,
       sym is,
-      fault-behind chosen known (contents old) (contents middle) (contents new) why
+      fault-after chosen known (contents old) (contents middle) (contents new) why
           (λ l. ap contents (lines-left why middle new err err_new l leaves)) h,
       inl lines,
       lines-tell why (contents old) (contents new) lines,
@@ -273,7 +273,7 @@ told-fault {O = O} contents chosen known old middle new err err_new why result (
     inr (
       why,
       sym is,
-      fault-behind chosen known (contents old) (contents middle) (contents new) why
+      fault-after chosen known (contents old) (contents middle) (contents new) why
           (λ l. ap contents (lines-left why middle new err err_new l leaves)) h,
       inr (subst (λ (o : O). LeavesOther why o new err err_new) same leaves),
       subst (λ (o : O). TellsRule why (contents o) (contents new)) same tells,

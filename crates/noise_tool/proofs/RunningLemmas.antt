@@ -1,4 +1,4 @@
--- The lines behind those of the events.
+-- The lines after those of the events.
 use Rattle.std.proofs.Common.{◌≡◌, ◌∙◌, ap, ap₂, sym, refl, subst, ◌&&◌, ◌==◌, Bool, true, false, ℕ, List, [], ◌∷◌, ◌++◌, Option, Some, None, Result, Ok, Err, OnOk, length, map, codes, append_assoc}
 use Rattle.noise_names.specs.declared.token.Role.{Role}
 use Rattle.noise_session.specs.EndDatagrams.{is_datagram_ready, is_untouched}
@@ -44,27 +44,27 @@ not-ready duel d one other h = at (is_ready d.initiator.view) (is_ready d.respon
 
 -- ---- the lines
 
-pub behind-without : {E : Type 0} (given : Option FileDatagrams) (d : Sides) (r : Result Unit E) (old new : List (List ℕ)) → given ≡ None
+pub after-without : {E : Type 0} (given : Option FileDatagrams) (d : Sides) (r : Result Unit E) (old new : List (List ℕ)) → given ≡ None
     → OnOk r (new ≡ old ++ state_lines d) → OnOk r ((x : List (List ℕ)) × AreLast given d x × (new ≡ old ++ x))
-behind-without given d r old new none h =
+after-without given d r old new none h =
     on_ok r _ _ (λ e. (state_lines d, subst (λ (o : Option FileDatagrams). AreLast o d (state_lines d)) (sym none) (without d), e)) h
 
-pub behind-unready : {E : Type 0} (given : Option FileDatagrams) (over : FileDatagrams) (d : Sides) (r : Result Unit E) (old one new : List (List ℕ))
+pub after-unready : {E : Type 0} (given : Option FileDatagrams) (over : FileDatagrams) (d : Sides) (r : Result Unit E) (old one new : List (List ℕ))
     → given ≡ Some over → are_ready d ≡ false → one ≡ old ++ codes "no-datagrams" ∷ [] → OnOk r (new ≡ one ++ state_lines d)
     → OnOk r ((x : List (List ℕ)) × AreLast given d x × (new ≡ old ++ x))
-behind-unready given over d r old one new some not_ready first h =
+after-unready given over d r old one new some not_ready first h =
     on_ok r _ _ (λ e. (
       codes "no-datagrams" ∷ state_lines d,
       subst (λ (o : Option FileDatagrams). AreLast o d (codes "no-datagrams" ∷ state_lines d)) (sym some) (unready over d not_ready),
       e ∙ ap (λ (t : List (List ℕ)). t ++ state_lines d) first ∙ append_assoc old (codes "no-datagrams" ∷ []) (state_lines d),
     )) h
 
-pub behind-ready : {E : Type 0} (given : Option FileDatagrams) (over : FileDatagrams) (d : Sides) (notes : List (Role × DatagramNote))
+pub after-ready : {E : Type 0} (given : Option FileDatagrams) (over : FileDatagrams) (d : Sides) (notes : List (Role × DatagramNote))
     (last : DatagramSides) (r : Result Unit E) (old one two new : List (List ℕ)) → given ≡ Some over → are_ready d ≡ true
     → DatagramRun (gone_over d over.window) (datagram_events_of over.events.items) notes last
     → one ≡ old ++ window_words over.window ∷ [] → two ≡ one ++ map datagram_line notes → OnOk r (new ≡ two ++ datagram_state_lines last)
     → OnOk r ((x : List (List ℕ)) × AreLast given d x × (new ≡ old ++ x))
-behind-ready given over d notes last r old one two new some are run first more h =
+after-ready given over d notes last r old one two new some are run first more h =
     let lines : List (List ℕ) = window_words over.window ∷ (map datagram_line notes ++ datagram_state_lines last) in
     on_ok r _ _ (λ e. (
       lines,

@@ -48,7 +48,7 @@ pub record HasConverted (text : List ℕ) (before after : Option (List ℕ)) : T
   pub short : length (converted_text file lines) ≤ 4194304
   pub printed : Appends before after (converted_text file lines)
 
--- of the file's bytes, and of the output's before and after, each where they are known: the text of the command stands behind what was there before
+-- of the file's bytes, and of the output's before and after, each where they are known: the text of the command stands after what was there before
 abbrev pub IsDone : Chosen → Option (List ℕ) → Option (List ℕ) → Option (List ℕ) → Type 0
 IsDone Listing file before after = Appends before after list_text
 IsDone (Show name) file before after = (p : Plan) × NamesPattern (string_bytes name) p × Appends before after (show_text p)
@@ -125,7 +125,7 @@ LeavesFile Listing before after = after ≡ before
 LeavesFile (Show name) before after = after ≡ before
 LeavesFile _ before after = ⊤
 
--- behind this fault alone the output has the lines of a run
+-- after this fault alone the output has the lines of a run
 abbrev pub IsOfLines : Fault → Type 0
 IsOfLines (Unmet number) = ⊤
 IsOfLines fault = ⊥

@@ -63,7 +63,7 @@ note_words s role (Left step n) = codes "left" ∷ role_word role ∷ idle_word 
 note_words s role (Missing n) = codes "missing" ∷ role_word role ∷ decimal n ∷ []
 note_words s role (Held n) = codes "held" ∷ role_word role ∷ decimal n ∷ []
 
--- the line of a note, behind which these two sides stand
+-- the line of a note, after which these two sides stand
 abbrev pub note_line : Sides → Role × Note → List ℕ
 note_line d (role, note) = line_of (note_words (side d role) role note)
 

@@ -49,7 +49,7 @@ are_ready d = is_ready d.initiator.view && is_ready d.responder.view
 abbrev pub gone_over : Sides → Window → DatagramSides
 gone_over d window = meeting (datagrams_of d.initiator.view.party window) (datagrams_of d.responder.view.party window)
 
--- The lines behind those of the events: where both ends stand; or, where the file has datagrams, that both have gone over, what came of each event
+-- The lines after those of the events: where both ends stand; or, where the file has datagrams, that both have gone over, what came of each event
 -- there, and where both stand then; or that they can't, and the datagrams' events aren't run.
 pub data AreLast : Option FileDatagrams → Sides → List (List ℕ) → Type 0 where
   without : (d : Sides) → AreLast None d (state_lines d)
@@ -76,9 +76,9 @@ pub record IsRunOf (file : VectorFile) (lines : List (List ℕ)) : Type 0 where
   pub notes : List (Role × Note)
   pub last : Sides
   pub run : Run (facing_in file plan) (events_of file.events.items) notes last
-  pub behind : List (List ℕ)
-  pub are_last : AreLast (datagrams_in file.version) last behind
-  pub lines_are : lines ≡ map (note_line last) notes ++ behind
+  pub after : List (List ℕ)
+  pub are_last : AreLast (datagrams_in file.version) last after
+  pub lines_are : lines ≡ map (note_line last) notes ++ after
 
 -- nothing is expected, or these lines
 abbrev pub IsMet : List (List ℕ) → List (List ℕ) → Type 0

@@ -97,7 +97,7 @@ fn frame_at(report: &Report, role: Role, number: usize) -> &[u8]
     }
 }
 
-/// Why this role wrote nothing, behind this word.
+/// Why this role wrote nothing, after this word.
 pub fn fault_line(
     alloc: Global,
     word: &str,

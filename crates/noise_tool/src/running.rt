@@ -112,9 +112,9 @@ fn close(
     mut lines: Vec<Vec<u8>>,
     version: Version,
 ) -> Result<Outcome, AllocError>
-    ensures behind { (d : Sides) → DuelStands public_of agreement_of public_of agreement_of duel d
-        → IfOk result (λ outcome. (behind : List (List ℕ)) × AreLast (datagrams_in version) d behind
-        × (bytes_of outcome.lines.items ≡ bytes_of lines.items ++ behind)) }
+    ensures after { (d : Sides) → DuelStands public_of agreement_of public_of agreement_of duel d
+        → IfOk result (λ outcome. (after : List (List ℕ)) × AreLast (datagrams_in version) d after
+        × (bytes_of outcome.lines.items ≡ bytes_of lines.items ++ after)) }
     ensures printed { AreExpected lines.items → IfOk result (λ outcome. AreExpected outcome.lines.items) }
     ensures expected { IfOk result (λ outcome. bytes_of outcome.expected.items ≡ expected_in version) }
 {
@@ -134,15 +134,15 @@ fn split_version(alloc: Global, version: Version) -> (Option<FileDatagrams>, Vec
     }
 }
 
-// Appends the lines behind those of the events: of datagrams, where there are some, and where both ends stand.
+// Appends the lines after those of the events: of datagrams, where there are some, and where both ends stand.
 fn go_over(
     alloc: Global,
     duel: Duel<FileKeys, FileKeys>,
     datagrams: Option<FileDatagrams>,
     lines: &mut Vec<Vec<u8>>,
 ) -> Result<(), AllocError>
-    ensures behind { (d : Sides) → DuelStands public_of agreement_of public_of agreement_of duel d
-        → OnOk result ((behind : List (List ℕ)) × AreLast datagrams d behind × (bytes_of lines.new.items ≡ bytes_of lines.old.items ++ behind)) }
+    ensures after { (d : Sides) → DuelStands public_of agreement_of public_of agreement_of duel d
+        → OnOk result ((after : List (List ℕ)) × AreLast datagrams d after × (bytes_of lines.new.items ≡ bytes_of lines.old.items ++ after)) }
     ensures printed { AreExpected lines.old.items → OnOk result (AreExpected lines.new.items) }
 {
     end_is_told::<FileKeys>();

@@ -17,7 +17,7 @@ use Rattle.noise_events.specs.declared.event.Event.{Event}
 use Rattle.noise_events.specs.declared.event.Event.TheVariants as event
 use Rattle.noise_vectors.specs.HexWord.{hex_of}
 use Rattle.noise_vectors.specs.VectorFile.{IsAllowedVersion, IsDatagramEvent, IsExpected}
-use Rattle.noise_vectors.specs.VectorText.{BehindDatagrams, BehindEvents, datagram_event_words, datagram_kind_word, event_words, expect_words}
+use Rattle.noise_vectors.specs.VectorText.{AfterDatagrams, AfterEvents, datagram_event_words, datagram_kind_word, event_words, expect_words}
 use Rattle.noise_vectors.specs.VectorText.{datagrams_text, is_second, line, lines_of, role_word, version_text, window_words}
 use Rattle.noise_vectors.specs.Words.{lacks}
 use Rattle.noise_vectors.specs.declared.vector.Additions.{Additions}
@@ -33,29 +33,29 @@ use Rattle.noise_vectors.proofs.WordLemmas.{lacks-decimal}
 
 -- ---- what stands next
 
--- the line of an event isn't behind the events
-pub event-stands : (e : Event) (behind : List ℕ) → ¬ BehindEvents (line (event_words e) behind)
-event-stands (event.Say role payload cuts) behind (inl none) = absurd (cc none)
-event-stands (event.Say role payload cuts) behind (inr (inl begun)) = absurd (cc begun)
-event-stands (event.Say role payload cuts) behind (inr (inr begun)) = absurd (cc begun)
-event-stands (event.Write role payload) behind (inl none) = absurd (cc none)
-event-stands (event.Write role payload) behind (inr (inl begun)) = absurd (cc begun)
-event-stands (event.Write role payload) behind (inr (inr begun)) = absurd (cc begun)
-event-stands (event.Deliver role number cuts) behind (inl none) = absurd (cc none)
-event-stands (event.Deliver role number cuts) behind (inr (inl begun)) = absurd (cc begun)
-event-stands (event.Deliver role number cuts) behind (inr (inr begun)) = absurd (cc begun)
-event-stands (event.Raw role bytes) behind (inl none) = absurd (cc none)
-event-stands (event.Raw role bytes) behind (inr (inl begun)) = absurd (cc begun)
-event-stands (event.Raw role bytes) behind (inr (inr begun)) = absurd (cc begun)
+-- the line of an event isn't after the events
+pub event-stands : (e : Event) (after : List ℕ) → ¬ AfterEvents (line (event_words e) after)
+event-stands (event.Say role payload cuts) after (inl none) = absurd (cc none)
+event-stands (event.Say role payload cuts) after (inr (inl begun)) = absurd (cc begun)
+event-stands (event.Say role payload cuts) after (inr (inr begun)) = absurd (cc begun)
+event-stands (event.Write role payload) after (inl none) = absurd (cc none)
+event-stands (event.Write role payload) after (inr (inl begun)) = absurd (cc begun)
+event-stands (event.Write role payload) after (inr (inr begun)) = absurd (cc begun)
+event-stands (event.Deliver role number cuts) after (inl none) = absurd (cc none)
+event-stands (event.Deliver role number cuts) after (inr (inl begun)) = absurd (cc begun)
+event-stands (event.Deliver role number cuts) after (inr (inr begun)) = absurd (cc begun)
+event-stands (event.Raw role bytes) after (inl none) = absurd (cc none)
+event-stands (event.Raw role bytes) after (inr (inl begun)) = absurd (cc begun)
+event-stands (event.Raw role bytes) after (inr (inr begun)) = absurd (cc begun)
 
--- nor is that of one of the datagrams' behind them
-pub datagram_event-stands : (e : DatagramEvent) (behind : List ℕ) → ¬ BehindDatagrams (line (datagram_event_words e) behind)
-datagram_event-stands (Seal role payload) behind (inl none) = absurd (cc none)
-datagram_event-stands (Seal role payload) behind (inr begun) = absurd (cc begun)
-datagram_event-stands (Open role number) behind (inl none) = absurd (cc none)
-datagram_event-stands (Open role number) behind (inr begun) = absurd (cc begun)
-datagram_event-stands (Raw role bytes) behind (inl none) = absurd (cc none)
-datagram_event-stands (Raw role bytes) behind (inr begun) = absurd (cc begun)
+-- nor is that of one of the datagrams' after them
+pub datagram_event-stands : (e : DatagramEvent) (after : List ℕ) → ¬ AfterDatagrams (line (datagram_event_words e) after)
+datagram_event-stands (Seal role payload) after (inl none) = absurd (cc none)
+datagram_event-stands (Seal role payload) after (inr begun) = absurd (cc begun)
+datagram_event-stands (Open role number) after (inl none) = absurd (cc none)
+datagram_event-stands (Open role number) after (inr begun) = absurd (cc begun)
+datagram_event-stands (Raw role bytes) after (inl none) = absurd (cc none)
+datagram_event-stands (Raw role bytes) after (inr begun) = absurd (cc begun)
 
 -- ---- the parts of an event's words
 
@@ -69,7 +69,7 @@ datagram_role_of (Seal role payload) = role
 datagram_role_of (Open role number) = role
 datagram_role_of (Raw role bytes) = role
 
--- what stands behind the role
+-- what stands after the role
 abbrev pub datagram_operand_of : DatagramEvent → List ℕ
 datagram_operand_of (Seal role payload) = hex_of payload.items
 datagram_operand_of (Open role number) = decimal number
@@ -137,16 +137,16 @@ expect-begun (b ∷ bs) h =
     let other : nat_eq 100 b ≡ false = grind (arith, nat_tests) in
     rw other refl
 
-behind-begun : (rest : List ℕ) → BehindDatagrams rest → starts_with nat_eq rest (codes "datagrams ") ≡ false
-behind-begun rest (inl none) = rw none refl
-behind-begun rest (inr begun) = expect-begun rest begun
+after-begun : (rest : List ℕ) → AfterDatagrams rest → starts_with nat_eq rest (codes "datagrams ") ≡ false
+after-begun rest (inl none) = rw none refl
+after-begun rest (inr begun) = expect-begun rest begun
 
 -- where their first line stands next, there are datagrams
-pub over-stands : (over : Option FileDatagrams) (left rest : List ℕ) → starts_with nat_eq left (codes "datagrams ") ≡ true → BehindDatagrams rest
+pub over-stands : (over : Option FileDatagrams) (left rest : List ℕ) → starts_with nat_eq left (codes "datagrams ") ≡ true → AfterDatagrams rest
     → left ≡ datagrams_text over rest → (d : FileDatagrams) × (over ≡ Some d)
-over-stands (Some d) left rest begun behind e = (d, refl)
-over-stands None left rest begun behind e =
-    absurd (true≢false (sym begun ∙ ap (λ (t : List ℕ). starts_with nat_eq t (codes "datagrams ")) e ∙ behind-begun rest behind))
+over-stands (Some d) left rest begun after e = (d, refl)
+over-stands None left rest begun after e =
+    absurd (true≢false (sym begun ∙ ap (λ (t : List ℕ). starts_with nat_eq t (codes "datagrams ")) e ∙ after-begun rest after))
 
 pub second-has : (version : Version) → is_second version ≡ true → (a : Additions) × (version ≡ Two a)
 second-has One e = absurd (cc e)
@@ -162,18 +162,18 @@ no-second SayOnly version h e = absurd (cc e)
 no-second Any version h e = absurd (cc e)
 no-second VersionOne version h e = ap is_second h
 
-pub expected-behind : (expected : List (Vec ℕ Global)) → BehindDatagrams (lines_of expect_words expected [])
-expected-behind [] = inl refl
-expected-behind (w ∷ ws) = inr refl
+pub expected-after : (expected : List (Vec ℕ Global)) → AfterDatagrams (lines_of expect_words expected [])
+expected-after [] = inl refl
+expected-after (w ∷ ws) = inr refl
 
-expected-end : (expected : List (Vec ℕ Global)) → BehindEvents (lines_of expect_words expected [])
+expected-end : (expected : List (Vec ℕ Global)) → AfterEvents (lines_of expect_words expected [])
 expected-end [] = inl refl
 expected-end (w ∷ ws) = inr (inr refl)
 
-additions-end : (over : Option FileDatagrams) (expected : List (Vec ℕ Global)) → BehindEvents (datagrams_text over (lines_of expect_words expected []))
+additions-end : (over : Option FileDatagrams) (expected : List (Vec ℕ Global)) → AfterEvents (datagrams_text over (lines_of expect_words expected []))
 additions-end None expected = expected-end expected
 additions-end (Some d) expected = inr (inl refl)
 
-pub version-behind : (version : Version) → BehindEvents (version_text version)
-version-behind One = inl refl
-version-behind (Two a) = additions-end a.datagrams a.expected.items
+pub version-after : (version : Version) → AfterEvents (version_text version)
+version-after One = inl refl
+version-after (Two a) = additions-end a.datagrams a.expected.items

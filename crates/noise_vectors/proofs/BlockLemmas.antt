@@ -28,10 +28,10 @@ lines_of-append : (xs ys : List (List ℕ)) (rest : List ℕ) → lines_of itsel
 lines_of-append [] ys rest = refl
 lines_of-append (x ∷ xs) ys rest = ap (λ (t : List ℕ). line x t) (lines_of-append xs ys rest)
 
-lines_of-behind : (xs : List (List ℕ)) (rest behind : List ℕ) → lines_of itself xs rest ++ behind ≡ lines_of itself xs (rest ++ behind)
-lines_of-behind [] rest behind = refl
-lines_of-behind (x ∷ xs) rest behind =
-    append_assoc x (10 ∷ lines_of itself xs rest) behind ∙ ap (λ (t : List ℕ). line x t) (lines_of-behind xs rest behind)
+lines_of-after : (xs : List (List ℕ)) (rest after : List ℕ) → lines_of itself xs rest ++ after ≡ lines_of itself xs (rest ++ after)
+lines_of-after [] rest after = refl
+lines_of-after (x ∷ xs) rest after =
+    append_assoc x (10 ∷ lines_of itself xs rest) after ∙ ap (λ (t : List ℕ). line x t) (lines_of-after xs rest after)
 
 -- the text is that of lines which aren't the block's last one
 pub record Lined (text : List ℕ) : Type 0 where
@@ -45,11 +45,11 @@ lined-none = record { before = []; inner = All-nil IsInner; lines_are = refl }
 lined-one : (text : List ℕ) → IsInner text → Lined (text ++ 10 ∷ [])
 lined-one text h = record { before = text ∷ []; inner = All-cons IsInner text [] h (All-nil IsInner); lines_are = refl }
 
-lined-append : (front behind : List ℕ) → Lined front → Lined behind → Lined (front ++ behind)
-lined-append front behind f b = record {
+lined-append : (front after : List ℕ) → Lined front → Lined after → Lined (front ++ after)
+lined-append front after f b = record {
   before = f.before ++ b.before;
   inner = All-append IsInner f.before b.before f.inner b.inner;
-  lines_are = ap (λ (t : List ℕ). t ++ behind) f.lines_are ∙ lines_of-behind f.before [] behind
+  lines_are = ap (λ (t : List ℕ). t ++ after) f.lines_are ∙ lines_of-after f.before [] after
       ∙ ap (λ (t : List ℕ). lines_of itself f.before t) b.lines_are ∙ sym (lines_of-append f.before b.before []);
 }
 
@@ -129,12 +129,12 @@ lined-pattern p h =
     (lined-pre_lines p.initiator p.responder))
     (lined-message_lines Initiator p.messages)
 
--- and with `end` behind it
+-- and with `end` after it
 pub block-lines : (p : Plan) (h : IsPattern p) (rest start : List ℕ) → start ≡ pattern_text p ++ line (codes "end") rest
     → start ≡ lines_of itself (lined-pattern p h).before (line (codes "end") rest)
 block-lines p h rest start e =
     let l = lined-pattern p h in
-    e ∙ ap (λ (t : List ℕ). t ++ line (codes "end") rest) l.lines_are ∙ lines_of-behind l.before [] (line (codes "end") rest)
+    e ∙ ap (λ (t : List ℕ). t ++ line (codes "end") rest) l.lines_are ∙ lines_of-after l.before [] (line (codes "end") rest)
 
 -- ---- the lines before `end`, as they are read
 
@@ -150,8 +150,8 @@ Left-start rest before left h e = record { others = before; inner = h; left_is =
 
 -- what the next line is
 abbrev pub IsNext : List ℕ → List ℕ → List ℕ → Bool → Type 0
-IsNext left text behind is_ended =
-    (words more : List ℕ) → lacks 10 words ≡ true → left ≡ line words more → (text ≡ words) × (behind ≡ more) × (is_ended ≡ true)
+IsNext left text after is_ended =
+    (words more : List ℕ) → lacks 10 words ≡ true → left ≡ line words more → (text ≡ words) × (after ≡ more) × (is_ended ≡ true)
 
 abbrev pub NoNext : List ℕ → Type 0
 NoNext left = (words more : List ℕ) → lacks 10 words ≡ true → ¬ (left ≡ line words more)
@@ -166,42 +166,42 @@ pub Left-next : (rest left : List ℕ) → Left rest left → ¬ (NoNext left)
 Left-next rest left l none = next-of rest left l.others l.inner l.left_is none
 
 -- `end` is the last one
-last-of : (rest left text behind : List ℕ) (is_ended : Bool) (others : List (List ℕ)) → All IsInner others
-    → left ≡ lines_of itself others (line (codes "end") rest) → IsNext left text behind is_ended → text ≡ codes "end"
-    → (left ≡ line (codes "end") rest) × (behind ≡ rest) × (is_ended ≡ true)
-last-of rest left text behind is_ended [] inner e next is =
+last-of : (rest left text after : List ℕ) (is_ended : Bool) (others : List (List ℕ)) → All IsInner others
+    → left ≡ lines_of itself others (line (codes "end") rest) → IsNext left text after is_ended → text ≡ codes "end"
+    → (left ≡ line (codes "end") rest) × (after ≡ rest) × (is_ended ≡ true)
+last-of rest left text after is_ended [] inner e next is =
     let n = next (codes "end") rest refl e in
     (e, n.1, n.2)
-last-of rest left text behind is_ended (x ∷ xs) inner e next is =
+last-of rest left text after is_ended (x ∷ xs) inner e next is =
     let first = All-head IsInner x xs inner in
     let n = next x (lines_of itself xs (line (codes "end") rest)) first.0 e in
     absurd (first.1 (sym n.0 ∙ is))
 
-pub Left-last : (rest left text behind : List ℕ) (is_ended : Bool) → Left rest left → IsNext left text behind is_ended → text ≡ codes "end"
-    → (left ≡ line (codes "end") rest) × (behind ≡ rest) × (is_ended ≡ true)
-Left-last rest left text behind is_ended l next is = last-of rest left text behind is_ended l.others l.inner l.left_is next is
+pub Left-last : (rest left text after : List ℕ) (is_ended : Bool) → Left rest left → IsNext left text after is_ended → text ≡ codes "end"
+    → (left ≡ line (codes "end") rest) × (after ≡ rest) × (is_ended ≡ true)
+Left-last rest left text after is_ended l next is = last-of rest left text after is_ended l.others l.inner l.left_is next is
 
--- behind any other line the further ones are left
-step-of : (rest left text behind : List ℕ) (is_ended : Bool) (others : List (List ℕ)) → All IsInner others
-    → left ≡ lines_of itself others (line (codes "end") rest) → IsNext left text behind is_ended → ¬ (text ≡ codes "end")
-    → Left rest behind × (is_ended ≡ true)
-step-of rest left text behind is_ended [] inner e next is =
+-- after any other line the further ones are left
+step-of : (rest left text after : List ℕ) (is_ended : Bool) (others : List (List ℕ)) → All IsInner others
+    → left ≡ lines_of itself others (line (codes "end") rest) → IsNext left text after is_ended → ¬ (text ≡ codes "end")
+    → Left rest after × (is_ended ≡ true)
+step-of rest left text after is_ended [] inner e next is =
     let n = next (codes "end") rest refl e in
     absurd (is n.0)
-step-of rest left text behind is_ended (x ∷ xs) inner e next is =
+step-of rest left text after is_ended (x ∷ xs) inner e next is =
     let n = next x (lines_of itself xs (line (codes "end") rest)) (All-head IsInner x xs inner).0 e in
     (record { others = xs; inner = All-tail IsInner x xs inner; left_is = n.1 }, n.2)
 
-pub Left-step : (rest left text behind : List ℕ) (is_ended : Bool) → Left rest left → IsNext left text behind is_ended → ¬ (text ≡ codes "end")
-    → Left rest behind × (is_ended ≡ true)
-Left-step rest left text behind is_ended l next is = step-of rest left text behind is_ended l.others l.inner l.left_is next is
+pub Left-step : (rest left text after : List ℕ) (is_ended : Bool) → Left rest left → IsNext left text after is_ended → ¬ (text ≡ codes "end")
+    → Left rest after × (is_ended ≡ true)
+Left-step rest left text after is_ended l next is = step-of rest left text after is_ended l.others l.inner l.left_is next is
 
 -- what stands before the rest's last line is the text of the lines before it
 pub front-is : (text left rest : List ℕ) (before : List (List ℕ)) → text ≡ lines_of itself before (line (codes "end") rest)
     → left ≡ line (codes "end") rest → take (length text - length left) text ≡ lines_of itself before []
 front-is text left rest before e is =
     let whole : text ≡ lines_of itself before [] ++ left =
-    e ∙ sym (lines_of-behind before [] (line (codes "end") rest)) ∙ ap (λ (t : List ℕ). lines_of itself before [] ++ t) (sym is) in
+    e ∙ sym (lines_of-after before [] (line (codes "end") rest)) ∙ ap (λ (t : List ℕ). lines_of itself before [] ++ t) (sym is) in
     let len : length text ≡ length (lines_of itself before []) + length left = ap length whole ∙ length-append (lines_of itself before []) left in
     let n : length text - length left ≡ length (lines_of itself before []) = omega arith in
     let front : take (length (lines_of itself before [])) text ≡ lines_of itself before [] =

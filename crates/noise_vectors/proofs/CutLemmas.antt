@@ -13,7 +13,7 @@ use Rattle.noise_vectors.specs.VectorText.{lengths_word}
 use Rattle.noise_vectors.specs.Words.{lacks}
 use Rattle.noise_vectors.proofs.WordLemmas.{lacks-decimal, not_lacks}
 
--- the numbers, each with a comma (44) behind it
+-- the numbers, each with a comma (44) after it
 abbrev pub before : List ℕ → List ℕ
 before [] = []
 before (n ∷ ns) = decimal n ++ 44 ∷ before ns
@@ -37,7 +37,7 @@ lengths_word-push : (ns : List ℕ) (n : ℕ) → lengths_word (ns ++ n ∷ []) 
 lengths_word-push [] n = refl
 lengths_word-push (m ∷ ns) n = refl
 
--- the last number has no comma behind it
+-- the last number has no comma after it
 pub lengths_word-last : (ns : List ℕ) (n : ℕ) → lengths_word (ns ++ n ∷ []) ≡ before ns ++ decimal n
 lengths_word-last ns n = lengths_word-push ns n ∙ join-before ns n
 

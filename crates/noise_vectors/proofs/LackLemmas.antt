@@ -25,11 +25,11 @@ all_weaker test other (x ∷ xs) each h =
     let more = all_weaker test other xs each parts.1 in
     rw (each x parts.0, more) refl
 
-pub lacks-append : (byte : ℕ) (front behind : List ℕ) → lacks byte front ≡ true → lacks byte behind ≡ true → lacks byte (front ++ behind) ≡ true
-lacks-append byte [] behind h g = g
-lacks-append byte (b ∷ bs) behind h g =
+pub lacks-append : (byte : ℕ) (front after : List ℕ) → lacks byte front ≡ true → lacks byte after ≡ true → lacks byte (front ++ after) ≡ true
+lacks-append byte [] after h g = g
+lacks-append byte (b ∷ bs) after h g =
     let parts = and_parts (not (b == byte)) (lacks byte bs) h in
-    let more = lacks-append byte bs behind parts.1 g in
+    let more = lacks-append byte bs after parts.1 g in
     rw (parts.0, more) refl
 
 abbrev is_digit : ℕ → Type 0

@@ -13,21 +13,21 @@ lines_of-push words [] x rest = refl
 lines_of-push words (y ∷ ys) x rest = ap (λ (t : List ℕ). line (words y) t) (lines_of-push words ys x rest)
 
 -- one line more is read
-pub lines_of-more : {A : Type 0} (words : A → List ℕ) (start rest text behind : List ℕ) (xs : List A) (x : A)
-    → start ≡ lines_of words xs rest → rest ≡ line text behind → text ≡ words x → start ≡ lines_of words (xs ++ x ∷ []) behind
-lines_of-more words start rest text behind xs x before next is =
-    before ∙ ap (λ (t : List ℕ). lines_of words xs t) (next ∙ ap (λ (t : List ℕ). line t behind) is) ∙ lines_of-push words xs x behind
+pub lines_of-more : {A : Type 0} (words : A → List ℕ) (start rest text after : List ℕ) (xs : List A) (x : A)
+    → start ≡ lines_of words xs rest → rest ≡ line text after → text ≡ words x → start ≡ lines_of words (xs ++ x ∷ []) after
+lines_of-more words start rest text after xs x before next is =
+    before ∙ ap (λ (t : List ℕ). lines_of words xs t) (next ∙ ap (λ (t : List ℕ). line t after) is) ∙ lines_of-push words xs x after
 
 -- what is left is the text's end
 abbrev pub Ends : List ℕ → List ℕ → Type 0
 Ends text rest = (before : List ℕ) × (text ≡ before ++ rest)
 
 -- that lasts where a line is read
-pub Ends-behind : (text rest read behind : List ℕ) → Ends text rest → rest ≡ line read behind → Ends text behind
-Ends-behind text rest read behind (before, e) next = (
+pub Ends-after : (text rest read after : List ℕ) → Ends text rest → rest ≡ line read after → Ends text after
+Ends-after text rest read after (before, e) next = (
   before ++ (read ++ 10 ∷ []),
-  e ∙ ap (λ (t : List ℕ). before ++ t) (next ∙ sym (append_assoc read (10 ∷ []) behind))
-      ∙ sym (append_assoc before (read ++ 10 ∷ []) behind),
+  e ∙ ap (λ (t : List ℕ). before ++ t) (next ∙ sym (append_assoc read (10 ∷ []) after))
+      ∙ sym (append_assoc before (read ++ 10 ∷ []) after),
 )
 
 pub Ends-length : (text rest : List ℕ) → Ends text rest → length rest ≤ length text
@@ -46,7 +46,7 @@ Ends-whole text rest (before, e) =
 
 -- ---- what is still to be read
 
--- of at most so many lines this many are read, those of the others are left, and the text behind them
+-- of at most so many lines this many are read, those of the others are left, and the text after them
 pub record LinesLeft {A : Type 0} (words : A → List ℕ) (Good : A → Type 0) (most done : ℕ) (left rest : List ℕ) : Type 0 where
   pub others : List A
   pub left_is : left ≡ lines_of words others rest
@@ -79,7 +79,7 @@ first-of words Good most done left rest (x ∷ xs) e good few some = record {
   few = few;
 }
 
--- one is left where the text behind them isn't reached
+-- one is left where the text after them isn't reached
 pub LinesLeft-first : {A : Type 0} {words : A → List ℕ} {Good : A → Type 0} {most done : ℕ} {left rest : List ℕ}
     → LinesLeft words Good most done left rest → ¬ (left ≡ rest) → FirstLine words Good most done left rest
 LinesLeft-first l some = first-of _ _ _ _ _ _ l.others l.left_is l.good l.few some
@@ -90,26 +90,26 @@ pub FirstLine-room : {A : Type 0} {words : A → List ℕ} {Good : A → Type 0}
 FirstLine-room f = omega (arith, f.few)
 
 -- where it is read, the others are left
-pub FirstLine-step : {A : Type 0} {words : A → List ℕ} {Good : A → Type 0} {most done more : ℕ} {left behind rest : List ℕ}
-    → (f : FirstLine words Good most done left rest) → more ≡ done + 1 → behind ≡ lines_of words f.others rest
-    → LinesLeft words Good most more behind rest
+pub FirstLine-step : {A : Type 0} {words : A → List ℕ} {Good : A → Type 0} {most done more : ℕ} {left after rest : List ℕ}
+    → (f : FirstLine words Good most done left rest) → more ≡ done + 1 → after ≡ lines_of words f.others rest
+    → LinesLeft words Good most more after rest
 FirstLine-step f one e = record { others = f.others; left_is = e; good = f.good; few = omega (arith, f.few, one) }
 
 end-of : {A : Type 0} (words : A → List ℕ) (left rest : List ℕ) (others : List A)
-    → left ≡ lines_of words others rest → ((x : A) (behind : List ℕ) → ¬ (left ≡ line (words x) behind)) → left ≡ rest
+    → left ≡ lines_of words others rest → ((x : A) (after : List ℕ) → ¬ (left ≡ line (words x) after)) → left ≡ rest
 end-of words left rest [] e none = e
 end-of words left rest (x ∷ xs) e none = absurd (none x (lines_of words xs rest) e)
 
 -- without such a line all are read
 pub LinesLeft-end : {A : Type 0} {words : A → List ℕ} {Good : A → Type 0} {most done : ℕ} {left rest : List ℕ}
-    → LinesLeft words Good most done left rest → ((x : A) (behind : List ℕ) → ¬ (left ≡ line (words x) behind)) → left ≡ rest
+    → LinesLeft words Good most done left rest → ((x : A) (after : List ℕ) → ¬ (left ≡ line (words x) after)) → left ≡ rest
 LinesLeft-end l none = end-of _ _ _ l.others l.left_is none
 
 -- a text that begins so is none that doesn't
 pub not_begun : (front left rest : List ℕ) → starts_with nat_eq left front ≡ true → starts_with nat_eq rest front ≡ false → ¬ (left ≡ rest)
 not_begun front left rest begun other e = true≢false (sym begun ∙ ap (λ (t : List ℕ). starts_with nat_eq t front) e ∙ other)
 
--- one is left where the text begins as they do, and what stands behind them doesn't
+-- one is left where the text begins as they do, and what stands after them doesn't
 pub LinesLeft-begun : {A : Type 0} {words : A → List ℕ} {Good : A → Type 0} {most done : ℕ} {left rest : List ℕ}
     → LinesLeft words Good most done left rest → (front : List ℕ) → starts_with nat_eq left front ≡ true → starts_with nat_eq rest front ≡ false
     → FirstLine words Good most done left rest

@@ -14,9 +14,9 @@ use Rattle.noise_vectors.specs.declared.file_keys.FileKeys.{FileKeys}
 use Rattle.noise_vectors.specs.declared.file_keys.FileKeys.TheVariants.{Xor, Table}
 use Rattle.noise_vectors.proofs.LackLemmas.{lacks-append, lacks-encode_lower, lacks-key_word, own_word-plain, role_word-plain}
 
--- what stands behind a front
-pub behind-front : (text front behind rest : List ℕ) → text ≡ front ++ behind → text ≡ front ++ rest → behind ≡ rest
-behind-front text front behind rest split is = append_cancel_left front behind rest (sym split ∙ is)
+-- what stands after a front
+pub after-front : (text front after rest : List ℕ) → text ≡ front ++ after → text ≡ front ++ rest → after ≡ rest
+after-front text front after rest split is = append_cancel_left front after rest (sym split ∙ is)
 
 -- two keys have no line feed (10)
 lacks-key_words : (e s : Option (List ℕ)) → IfSome e IsKey → IfSome s IsKey → lacks 10 (key_words e s) ≡ true
@@ -38,14 +38,14 @@ lacks-answer_words entry h =
 
 -- what a split at the first space (32) gives
 abbrev pub Splits : List ℕ → List ℕ → List ℕ → Type 0
-Splits text first behind = (b h : List ℕ) → lacks 32 b ≡ true → text ≡ b ++ 32 ∷ h → (first ≡ b) × (behind ≡ h)
+Splits text first after = (b h : List ℕ) → lacks 32 b ≡ true → text ≡ b ++ 32 ∷ h → (first ≡ b) × (after ≡ h)
 
--- the keys behind the name of the key pair
+-- the keys after the name of the key pair
 pub answer-keys : (line front rest own keys : List ℕ) (entry : TableEntry) → front ≡ codes "answer " → line ≡ front ++ rest → Splits rest own keys
     → line ≡ answer_words entry → keys ≡ encode_lower entry.remote ++ 32 ∷ encode_lower entry.answer
 answer-keys line front rest own keys entry front_is split every e =
     let whole : line ≡ codes "answer " ++ rest = split ∙ ap (λ (t : List ℕ). t ++ rest) front_is in
-    let rest_is = behind-front line (codes "answer ") rest
+    let rest_is = after-front line (codes "answer ") rest
     (own_word entry.own ++ 32 ∷ (encode_lower entry.remote ++ 32 ∷ encode_lower entry.answer)) whole e in
     (every (own_word entry.own) (encode_lower entry.remote ++ 32 ∷ encode_lower entry.answer) (own_word-plain entry.own).1 rest_is).1
 
@@ -55,18 +55,18 @@ begins text = starts_with nat_eq text (codes "answer ")
 
 -- ---- a party's line
 
--- what stands behind the role
+-- what stands after the role
 abbrev pub words_of : FileKeys → List ℕ
 words_of (Xor keys) = codes "xor " ++ key_words keys.e keys.s
 words_of (Table keys) = codes "table " ++ key_words keys.e keys.s
 
--- what stands behind the line
-abbrev pub behind_of : FileKeys → List ℕ → List ℕ
-behind_of (Xor keys) rest = rest
-behind_of (Table keys) rest = lines_of answer_words keys.entries rest
+-- what stands after the line
+abbrev pub after_of : FileKeys → List ℕ → List ℕ
+after_of (Xor keys) rest = rest
+after_of (Table keys) rest = lines_of answer_words keys.entries rest
 
 pub party_text-line : (role : Role) (keys : FileKeys) (rest : List ℕ)
-    → party_text role keys rest ≡ line (role_word role ++ 32 ∷ words_of keys) (behind_of keys rest)
+    → party_text role keys rest ≡ line (role_word role ++ 32 ∷ words_of keys) (after_of keys rest)
 party_text-line role (Xor keys) rest = refl
 party_text-line role (Table keys) rest = refl
 
@@ -79,19 +79,19 @@ lacks-party role keys h = lacks-append 10 (role_word role) (32 ∷ words_of keys
 
 -- what reading the next line of a text gives
 abbrev pub ReadsLine : List ℕ → List ℕ → List ℕ → Bool → Type 0
-ReadsLine text read behind is_ended = (w b : List ℕ) → lacks 10 w ≡ true → text ≡ line w b → (read ≡ w) × (behind ≡ b) × (is_ended ≡ true)
+ReadsLine text read after is_ended = (w b : List ℕ) → lacks 10 w ≡ true → text ≡ line w b → (read ≡ w) × (after ≡ b) × (is_ended ≡ true)
 
 -- the next line is the party's
-pub party-read : (role : Role) (keys : FileKeys) (text rest read behind : List ℕ) (is_ended : Bool) → AreKeys keys → text ≡ party_text role keys rest
-    → ReadsLine text read behind is_ended → (read ≡ role_word role ++ 32 ∷ words_of keys) × (behind ≡ behind_of keys rest) × (is_ended ≡ true)
-party-read role keys text rest read behind is_ended h e every =
-    every (role_word role ++ 32 ∷ words_of keys) (behind_of keys rest) (lacks-party role keys h) (e ∙ party_text-line role keys rest)
+pub party-read : (role : Role) (keys : FileKeys) (text rest read after : List ℕ) (is_ended : Bool) → AreKeys keys → text ≡ party_text role keys rest
+    → ReadsLine text read after is_ended → (read ≡ role_word role ++ 32 ∷ words_of keys) × (after ≡ after_of keys rest) × (is_ended ≡ true)
+party-read role keys text rest read after is_ended h e every =
+    every (role_word role ++ 32 ∷ words_of keys) (after_of keys rest) (lacks-party role keys h) (e ∙ party_text-line role keys rest)
 
 -- the party's keys are those of a table
 pub record IsTable (keys : FileKeys) (words : List ℕ) : Type 0 where
   pub table : Tables.Table
   pub words_are : words ≡ codes "table " ++ key_words table.e table.s
-  pub behind_is : (rest : List ℕ) → behind_of keys rest ≡ lines_of answer_words table.entries rest
+  pub after_is : (rest : List ℕ) → after_of keys rest ≡ lines_of answer_words table.entries rest
   pub e : IfSome table.e IsKey
   pub s : IfSome table.s IsKey
   pub few : length table.entries ≤ 8
@@ -106,7 +106,7 @@ not-xor (Xor keys) words front h is xor none =
 not-xor (Table keys) words front h is xor none = record {
   table = keys;
   words_are = is;
-  behind_is = λ rest. refl;
+  after_is = λ rest. refl;
   e = h.0;
   s = h.1;
   few = h.2;
@@ -118,11 +118,11 @@ other-heads x y xs ys less e =
     let same : x ≡ y = ap (λ (t : List ℕ). get_or t 0 0) e in
     omega arith
 
--- behind words of xor no answers stand
-pub xor-behind : (keys : FileKeys) (words front : List ℕ) (e s : Option (List ℕ)) (rest : List ℕ) → words ≡ words_of keys → front ≡ codes "xor "
-    → words ≡ front ++ key_words e s → behind_of keys rest ≡ rest
-xor-behind (Xor keys) words front e s rest is xor text = refl
-xor-behind (Table keys) words front e s rest is xor text =
+-- after words of xor no answers stand
+pub xor-after : (keys : FileKeys) (words front : List ℕ) (e s : Option (List ℕ)) (rest : List ℕ) → words ≡ words_of keys → front ≡ codes "xor "
+    → words ≡ front ++ key_words e s → after_of keys rest ≡ rest
+xor-after (Xor keys) words front e s rest is xor text = refl
+xor-after (Table keys) words front e s rest is xor text =
     let same : codes "table " ++ key_words keys.e keys.s ≡ codes "xor " ++ key_words e s =
     sym is ∙ text ∙ ap (λ (t : List ℕ). t ++ key_words e s) xor in
     absurd (other-heads 116 120 (codes "able " ++ key_words keys.e keys.s) (codes "or " ++ key_words e s) (lit< tt) same)

@@ -32,7 +32,7 @@ use Rattle.noise_vectors.proofs.WordLemmas.{lacks-decimal}
 
 -- ---- lists of lines
 
--- Good lines of one kind, behind which no such line stands, are those of one list, as far as it is seen.
+-- Good lines of one kind, after which no such line stands, are those of one list, as far as it is seen.
 pub lines-one : {A B : Type 0} (words : A → List ℕ) (Good : A → Type 0) (view : A → B) (begins : List ℕ → Bool)
     → ((x : A) → Good x → lacks 10 (words x) ≡ true) → ((x : A) (rest : List ℕ) → begins (line (words x) rest) ≡ true)
     → ((x y : A) → Good x → Good y → words x ≡ words y → view x ≡ view y)
@@ -86,10 +86,10 @@ begins_answer text = get_or text 0 0 == 97
 
 answer-one : (a b : TableEntry) → IsEntry a → IsEntry b → answer_words a ≡ answer_words b → a ≡ b
 answer-one a b h k e =
-    let behind = append_cancel_left (codes "answer ") (own_word a.own ++ 32 ∷ (encode_lower a.remote ++ 32 ∷ encode_lower a.answer))
+    let after = append_cancel_left (codes "answer ") (own_word a.own ++ 32 ∷ (encode_lower a.remote ++ 32 ∷ encode_lower a.answer))
     (own_word b.own ++ 32 ∷ (encode_lower b.remote ++ 32 ∷ encode_lower b.answer)) e in
     let owns = parted-one 32 (own_word a.own) (own_word b.own) (encode_lower a.remote ++ 32 ∷ encode_lower a.answer)
-    (encode_lower b.remote ++ 32 ∷ encode_lower b.answer) (own_word-plain a.own).1 (own_word-plain b.own).1 behind in
+    (encode_lower b.remote ++ 32 ∷ encode_lower b.answer) (own_word-plain a.own).1 (own_word-plain b.own).1 after in
     let keys = parted-one 32 (encode_lower a.remote) (encode_lower b.remote) (encode_lower a.answer) (encode_lower b.answer)
     (lacks-encode_lower 32 a.remote (lit< tt) h.0.1) (lacks-encode_lower 32 b.remote (lit< tt) k.0.1) owns.1 in
     let own = own-one a.own b.own owns.0 in
@@ -114,14 +114,14 @@ keys-one e s f t he hs hf ht same =
 
 -- ---- events
 
--- a role, and what stands behind it
+-- a role, and what stands after it
 roles-one : (r s : Role) (x y : List ℕ) → role_word r ++ 32 ∷ x ≡ role_word s ++ 32 ∷ y → (r ≡ s) × (x ≡ y)
 roles-one r s x y e =
     let parts = parted-one 32 (role_word r) (role_word s) x y (role_word-plain r).1 (role_word-plain s).1 e in
     (role-one r s parts.0, parts.1)
 
-behind-front : (front x y : List ℕ) → front ++ x ≡ front ++ y → x ≡ y
-behind-front front x y e = append_cancel_left front x y e
+after-front : (front x y : List ℕ) → front ++ x ≡ front ++ y → x ≡ y
+after-front front x y e = append_cancel_left front x y e
 
 same-number : (m n : ℕ) → m < 2 ^ 32 → n < 2 ^ 32 → decimal m ≡ decimal n → m ≡ n
 same-number m n h k e = decimal_injective m n (omega (arith, h)) (omega (arith, k)) e
@@ -134,23 +134,23 @@ third x y e = ap (λ (t : List ℕ). get_or t 2 0) e
 
 pub event-one : (x y : Event) → IsEvent x → IsEvent y → event_words x ≡ event_words y → (event_of x ≡ event_of y) × (cuts_of x ≡ cuts_of y)
 event-one (Say r p c) (Say s q d) h k e =
-    let roles = roles-one r s (hex_of p.items ++ 32 ∷ lengths_word c) (hex_of q.items ++ 32 ∷ lengths_word d) (behind-front (codes "say ") _ _ e) in
+    let roles = roles-one r s (hex_of p.items ++ 32 ∷ lengths_word c) (hex_of q.items ++ 32 ∷ lengths_word d) (after-front (codes "say ") _ _ e) in
     let parts = parted-one 32 (hex_of p.items) (hex_of q.items) (lengths_word c) (lengths_word d)
     (lacks-hex_of 32 p.items (lit< tt) h.0.1) (lacks-hex_of 32 q.items (lit< tt) k.0.1) roles.1 in
     let payload = hex-one p.items q.items h.0.1 k.0.1 parts.0 in
     (cc (roles.0, payload), lengths-one c d h.1.0 k.1.0 parts.1)
 event-one (Write r p) (Write s q) h k e =
-    let roles = roles-one r s (hex_of p.items) (hex_of q.items) (behind-front (codes "write ") _ _ e) in
+    let roles = roles-one r s (hex_of p.items) (hex_of q.items) (after-front (codes "write ") _ _ e) in
     let payload = hex-one p.items q.items h.1 k.1 roles.1 in
     (cc (roles.0, payload), refl)
 event-one (Deliver r m c) (Deliver s n d) h k e =
-    let roles = roles-one r s (decimal m ++ 32 ∷ lengths_word c) (decimal n ++ 32 ∷ lengths_word d) (behind-front (codes "deliver ") _ _ e) in
+    let roles = roles-one r s (decimal m ++ 32 ∷ lengths_word c) (decimal n ++ 32 ∷ lengths_word d) (after-front (codes "deliver ") _ _ e) in
     let parts = parted-one 32 (decimal m) (decimal n) (lengths_word c) (lengths_word d) (number-plain 32 m (lit< tt) h.0) (number-plain 32 n (lit< tt) k.0)
     roles.1 in
     let number = same-number m n h.0 k.0 parts.0 in
     (cc (roles.0, number), lengths-one c d h.1.0 k.1.0 parts.1)
 event-one (Raw r p) (Raw s q) h k e =
-    let roles = roles-one r s (hex_of p.items) (hex_of q.items) (behind-front (codes "raw ") _ _ e) in
+    let roles = roles-one r s (hex_of p.items) (hex_of q.items) (after-front (codes "raw ") _ _ e) in
     let bytes = hex-one p.items q.items h.1 k.1 roles.1 in
     (cc (roles.0, bytes), refl)
 event-one x y h k e = absurd (numbers-apart _ _ (third (event_words x) (event_words y) e) refl)
@@ -179,15 +179,15 @@ events-one xs ys u v h k hu hv e =
 datagram-one : (x y : DatagramEvent) → IsDatagramEvent x → IsDatagramEvent y → datagram_event_words x ≡ datagram_event_words y
     → datagram_event_of x ≡ datagram_event_of y
 datagram-one (datagram.Seal r p) (datagram.Seal s q) h k e =
-    let roles = roles-one r s (hex_of p.items) (hex_of q.items) (behind-front (codes "seal ") _ _ e) in
+    let roles = roles-one r s (hex_of p.items) (hex_of q.items) (after-front (codes "seal ") _ _ e) in
     let payload = hex-one p.items q.items h.1 k.1 roles.1 in
     cc (roles.0, payload)
 datagram-one (datagram.Open r m) (datagram.Open s n) h k e =
-    let roles = roles-one r s (decimal m) (decimal n) (behind-front (codes "open ") _ _ e) in
+    let roles = roles-one r s (decimal m) (decimal n) (after-front (codes "open ") _ _ e) in
     let number = same-number m n h k roles.1 in
     cc (roles.0, number)
 datagram-one (datagram.Raw r p) (datagram.Raw s q) h k e =
-    let roles = roles-one r s (hex_of p.items) (hex_of q.items) (behind-front (codes "foreign ") _ _ e) in
+    let roles = roles-one r s (hex_of p.items) (hex_of q.items) (after-front (codes "foreign ") _ _ e) in
     let bytes = hex-one p.items q.items h.1 k.1 roles.1 in
     cc (roles.0, bytes)
 datagram-one x y h k e = absurd (numbers-apart _ _ (first-byte (datagram_event_words x) (datagram_event_words y) e) refl)
@@ -201,15 +201,15 @@ datagram-begins (datagram.Seal r p) rest = refl
 datagram-begins (datagram.Open r n) rest = refl
 datagram-begins (datagram.Raw r p) rest = refl
 
-behind-role : (front : List ℕ) (role : Role) (operands : List ℕ) → lacks 10 front ≡ true → lacks 10 operands ≡ true
+after-role : (front : List ℕ) (role : Role) (operands : List ℕ) → lacks 10 front ≡ true → lacks 10 operands ≡ true
     → lacks 10 (front ++ (role_word role ++ 32 ∷ operands)) ≡ true
-behind-role front role operands f o =
+after-role front role operands f o =
     lacks-append 10 front (role_word role ++ 32 ∷ operands) f (lacks-append 10 (role_word role) (32 ∷ operands) (role_word-plain role).0 o)
 
 datagram-plain : (x : DatagramEvent) → IsDatagramEvent x → lacks 10 (datagram_event_words x) ≡ true
-datagram-plain (datagram.Seal r p) h = behind-role (codes "seal ") r (hex_of p.items) refl (lacks-hex_of 10 p.items (lit< tt) h.1)
-datagram-plain (datagram.Open r n) h = behind-role (codes "open ") r (decimal n) refl (number-plain 10 n (lit< tt) h)
-datagram-plain (datagram.Raw r p) h = behind-role (codes "foreign ") r (hex_of p.items) refl (lacks-hex_of 10 p.items (lit< tt) h.1)
+datagram-plain (datagram.Seal r p) h = after-role (codes "seal ") r (hex_of p.items) refl (lacks-hex_of 10 p.items (lit< tt) h.1)
+datagram-plain (datagram.Open r n) h = after-role (codes "open ") r (decimal n) refl (number-plain 10 n (lit< tt) h)
+datagram-plain (datagram.Raw r p) h = after-role (codes "foreign ") r (hex_of p.items) refl (lacks-hex_of 10 p.items (lit< tt) h.1)
 
 pub datagrams-one : (xs ys : List DatagramEvent) (u v : List ℕ) → All IsDatagramEvent xs → All IsDatagramEvent ys → begins_datagram u ≡ false
     → begins_datagram v ≡ false → lines_of datagram_event_words xs u ≡ lines_of datagram_event_words ys v
@@ -240,7 +240,7 @@ abbrev pub begins_expect : List ℕ → Bool
 begins_expect text = get_or text 0 0 == 101
 
 expect-one : (a b : Vec ℕ Global) → IsExpectedLine a → IsExpectedLine b → expect_words a ≡ expect_words b → a.items ≡ b.items
-expect-one a b h k e = behind-front (codes "expect ") a.items b.items e
+expect-one a b h k e = after-front (codes "expect ") a.items b.items e
 
 pub expected-one : (xs bs : List (Vec ℕ Global)) → All (λ words. IsExpected words.items) xs → All (λ words. IsExpected words.items) bs
     → lines_of expect_words xs [] ≡ lines_of expect_words bs [] → map (λ l. l.items) xs ≡ map (λ l. l.items) bs

@@ -32,7 +32,7 @@ use Rattle.noise_vectors.specs.declared.vector.VectorFile.{VectorFile}
 use Rattle.noise_vectors.specs.declared.vector.Version.{Version}
 use Rattle.noise_vectors.specs.declared.vector.Version.TheVariants.{One, Two}
 use Rattle.noise_vectors.proofs.BlockLemmas.{block-lines, lined-pattern}
-use Rattle.noise_vectors.proofs.PartyLemmas.{behind_of, lacks-party, party_text-line, words_of}
+use Rattle.noise_vectors.proofs.PartyLemmas.{after_of, lacks-party, party_text-line, words_of}
 use Rattle.noise_vectors.proofs.ReadingLemmas.{interval-plain, prologue-plain, protocol-plain}
 use Rattle.noise_vectors.proofs.UniqueLines.{answers-one, begins_answer, begins_datagram, begins_event, begins_psk, datagrams-one}
 use Rattle.noise_vectors.proofs.UniqueLines.{events-one, expected-one, keys-one}
@@ -91,32 +91,32 @@ blocks-one once name (Some p) (Some q) u v h k e =
 first-apart : (x y : List ℕ) → x ≡ y → (get_or x 0 0 == get_or y 0 0) ≡ false → ⊥
 first-apart x y e differ = numbers-apart (get_or x 0 0) (get_or y 0 0) (first-byte x y e) differ
 
--- of the same words both are keys of one kind, and what stands behind the answers is one
-keys-behind : (a b : FileKeys) (u v : List ℕ) → AreKeys a → AreKeys b → begins_answer u ≡ false → begins_answer v ≡ false
-    → words_of a ≡ words_of b → behind_of a u ≡ behind_of b v → (a ≡ b) × (u ≡ v)
-keys-behind (Xor a) (Xor b) u v h k hu hv e behind =
+-- of the same words both are keys of one kind, and what stands after the answers is one
+keys-after : (a b : FileKeys) (u v : List ℕ) → AreKeys a → AreKeys b → begins_answer u ≡ false → begins_answer v ≡ false
+    → words_of a ≡ words_of b → after_of a u ≡ after_of b v → (a ≡ b) × (u ≡ v)
+keys-after (Xor a) (Xor b) u v h k hu hv e after =
     let keys = append_cancel_left (codes "xor ") (key_words a.e a.s) (key_words b.e b.s) e in
     let parts = keys-one a.e a.s b.e b.s h.0 h.1 k.0 k.1 keys in
-    (ap (λ (x : _). Xor (record a { e = x })) parts.0 ∙ ap (λ (x : _). Xor (record b { s = x })) parts.1, behind)
-keys-behind (Table a) (Table b) u v h k hu hv e behind =
+    (ap (λ (x : _). Xor (record a { e = x })) parts.0 ∙ ap (λ (x : _). Xor (record b { s = x })) parts.1, after)
+keys-after (Table a) (Table b) u v h k hu hv e after =
     let keys = append_cancel_left (codes "table ") (key_words a.e a.s) (key_words b.e b.s) e in
     let parts = keys-one a.e a.s b.e b.s h.0 h.1 k.0 k.1 keys in
-    let answers = answers-one a.entries b.entries u v h.3 k.3 hu hv behind in (
+    let answers = answers-one a.entries b.entries u v h.3 k.3 hu hv after in (
       ap (λ (x : _). Table (record a { e = x })) parts.0 ∙ ap (λ (x : _). Table (record a { e = b.e; s = x })) parts.1
           ∙ ap (λ (x : _). Table (record b { entries = x })) answers.0,
       answers.1,
     )
-keys-behind a b u v h k hu hv e behind = absurd (first-apart (words_of a) (words_of b) e refl)
+keys-after a b u v h k hu hv e after = absurd (first-apart (words_of a) (words_of b) e refl)
 
 party-one : (role : Role) (a b : FileKeys) (u v : List ℕ) → AreKeys a → AreKeys b → begins_answer u ≡ false → begins_answer v ≡ false
     → party_text role a u ≡ party_text role b v → (a ≡ b) × (u ≡ v)
 party-one role a b u v h k hu hv e =
     let lines = sym (party_text-line role a u) ∙ e ∙ party_text-line role b v in
-    let parts = parted-one 10 (role_word role ++ 32 ∷ words_of a) (role_word role ++ 32 ∷ words_of b) (behind_of a u) (behind_of b v)
+    let parts = parted-one 10 (role_word role ++ 32 ∷ words_of a) (role_word role ++ 32 ∷ words_of b) (after_of a u) (after_of b v)
     (lacks-party role a h) (lacks-party role b k) lines in
     let front = append_cancel_left (role_word role) (32 ∷ words_of a) (32 ∷ words_of b) parts.0 in
     let words : words_of a ≡ words_of b = cc (front) in
-    keys-behind a b u v h k hu hv words parts.1
+    keys-after a b u v h k hu hv words parts.1
 
 -- ---- how the rest begins
 
@@ -202,52 +202,52 @@ version-one a b h k n e = absurd (numbers-apart (number_of a) (number_of b) n re
 
 -- ---- whole files
 
-abbrev behind_responder : VectorFile → List ℕ
-behind_responder f = lines_of event_words f.events.items (version_text f.version)
+abbrev after_responder : VectorFile → List ℕ
+after_responder f = lines_of event_words f.events.items (version_text f.version)
 
-abbrev behind_initiator : VectorFile → List ℕ
-behind_initiator f = party_text Responder f.responder (behind_responder f)
+abbrev after_initiator : VectorFile → List ℕ
+after_initiator f = party_text Responder f.responder (after_responder f)
 
-abbrev behind_psks : VectorFile → List ℕ
-behind_psks f = party_text Initiator f.initiator (behind_initiator f)
+abbrev after_psks : VectorFile → List ℕ
+after_psks f = party_text Initiator f.initiator (after_initiator f)
 
-abbrev behind_interval : VectorFile → List ℕ
-behind_interval f = lines_of psk_words f.psks.items (behind_psks f)
+abbrev after_interval : VectorFile → List ℕ
+after_interval f = lines_of psk_words f.psks.items (after_psks f)
 
-abbrev behind_prologue : VectorFile → List ℕ
-behind_prologue f = line (codes "interval " ++ decimal f.interval) (behind_interval f)
+abbrev after_prologue : VectorFile → List ℕ
+after_prologue f = line (codes "interval " ++ decimal f.interval) (after_interval f)
 
-abbrev behind_block : VectorFile → List ℕ
-behind_block f = line (codes "prologue " ++ hex_of f.prologue.items) (behind_prologue f)
+abbrev after_block : VectorFile → List ℕ
+after_block f = line (codes "prologue " ++ hex_of f.prologue.items) (after_prologue f)
 
-abbrev behind_protocol : VectorFile → List ℕ
-behind_protocol f = block_text f.block (behind_block f)
+abbrev after_protocol : VectorFile → List ℕ
+after_protocol f = block_text f.block (after_block f)
 
-abbrev behind_header : VectorFile → List ℕ
-behind_header f = line (codes "protocol " ++ name_bytes f.protocol) (behind_protocol f)
+abbrev after_header : VectorFile → List ℕ
+after_header f = line (codes "protocol " ++ name_bytes f.protocol) (after_protocol f)
 
 -- the first lines
 record Heads (f g : VectorFile) : Type 0 where
   number : number_of f.version ≡ number_of g.version
   protocol : f.protocol ≡ g.protocol
   block : f.block ≡ g.block
-  behind : behind_block f ≡ behind_block g
+  after : after_block f ≡ after_block g
 
 heads-one : PatternsOnce → (f g : VectorFile) → IsVectorFile f → IsVectorFile g → text_of f ≡ text_of g → Heads f g
 heads-one once f g h k e =
-    let header = parted-one 10 (header_words (is_second f.version)) (header_words (is_second g.version)) (behind_header f) (behind_header g) (header-plain f.version)
+    let header = parted-one 10 (header_words (is_second f.version)) (header_words (is_second g.version)) (after_header f) (after_header g) (header-plain f.version)
     (header-plain g.version) e in
-    let names = parted-one 10 (codes "protocol " ++ name_bytes f.protocol) (codes "protocol " ++ name_bytes g.protocol) (behind_protocol f)
-    (behind_protocol g) (protocol-plain f.protocol h.protocol) (protocol-plain g.protocol k.protocol) header.1 in
+    let names = parted-one 10 (codes "protocol " ++ name_bytes f.protocol) (codes "protocol " ++ name_bytes g.protocol) (after_protocol f)
+    (after_protocol g) (protocol-plain f.protocol h.protocol) (protocol-plain g.protocol k.protocol) header.1 in
     let protocol = name-one f.protocol g.protocol h.protocol k.protocol
     (append_cancel_left (codes "protocol ") (name_bytes f.protocol) (name_bytes g.protocol) names.0) in
     let own : IsOwn f.protocol g.block = subst (λ (n : Section). IsOwn n g.block) (sym protocol) k.own in
-    let blocks = blocks-one once f.protocol f.block g.block (behind_block f) (behind_block g) h.own own names.1 in
+    let blocks = blocks-one once f.protocol f.block g.block (after_block f) (after_block g) h.own own names.1 in
     record {
       number = header-one f.version g.version header.0;
       protocol = protocol;
       block = blocks.0;
-      behind = blocks.1;
+      after = blocks.1;
     }
 
 -- the lines between those and the parties
@@ -255,29 +255,29 @@ record Middles (f g : VectorFile) : Type 0 where
   prologue : f.prologue.items ≡ g.prologue.items
   interval : f.interval ≡ g.interval
   psks : f.psks.items ≡ g.psks.items
-  behind : behind_psks f ≡ behind_psks g
+  after : after_psks f ≡ after_psks g
 
-middles-one : (f g : VectorFile) → IsVectorFile f → IsVectorFile g → behind_block f ≡ behind_block g → Middles f g
+middles-one : (f g : VectorFile) → IsVectorFile f → IsVectorFile g → after_block f ≡ after_block g → Middles f g
 middles-one f g h k e =
-    let first = parted-one 10 (codes "prologue " ++ hex_of f.prologue.items) (codes "prologue " ++ hex_of g.prologue.items) (behind_prologue f)
-    (behind_prologue g) (prologue-plain f.prologue.items h.prologue) (prologue-plain g.prologue.items k.prologue) e in
+    let first = parted-one 10 (codes "prologue " ++ hex_of f.prologue.items) (codes "prologue " ++ hex_of g.prologue.items) (after_prologue f)
+    (after_prologue g) (prologue-plain f.prologue.items h.prologue) (prologue-plain g.prologue.items k.prologue) e in
     let prologue = hex-one f.prologue.items g.prologue.items h.prologue.1 k.prologue.1
     (append_cancel_left (codes "prologue ") (hex_of f.prologue.items) (hex_of g.prologue.items) first.0) in
-    let second = parted-one 10 (codes "interval " ++ decimal f.interval) (codes "interval " ++ decimal g.interval) (behind_interval f)
-    (behind_interval g) (interval-plain f.interval h.interval) (interval-plain g.interval k.interval) first.1 in
+    let second = parted-one 10 (codes "interval " ++ decimal f.interval) (codes "interval " ++ decimal g.interval) (after_interval f)
+    (after_interval g) (interval-plain f.interval h.interval) (interval-plain g.interval k.interval) first.1 in
     let interval = decimal_injective f.interval g.interval h.interval k.interval
     (append_cancel_left (codes "interval ") (decimal f.interval) (decimal g.interval) second.0) in
-    let psks = psks-one f.psks.items g.psks.items (behind_psks f) (behind_psks g) h.psks.1 k.psks.1
-    (initiator-no_psk f.initiator (behind_initiator f)) (initiator-no_psk g.initiator (behind_initiator g)) second.1 in
-    record { prologue = prologue; interval = interval; psks = psks.0; behind = psks.1 }
+    let psks = psks-one f.psks.items g.psks.items (after_psks f) (after_psks g) h.psks.1 k.psks.1
+    (initiator-no_psk f.initiator (after_initiator f)) (initiator-no_psk g.initiator (after_initiator g)) second.1 in
+    record { prologue = prologue; interval = interval; psks = psks.0; after = psks.1 }
 
 pub texts-one : PatternsOnce → VectorTextsAreUnique
 texts-one once f g h k e =
     let heads = heads-one once f g h k e in
-    let middles = middles-one f g h k heads.behind in
-    let initiators = party-one Initiator f.initiator g.initiator (behind_initiator f) (behind_initiator g) h.initiator k.initiator
-    (responder-no_answer f.responder (behind_responder f)) (responder-no_answer g.responder (behind_responder g)) middles.behind in
-    let responders = party-one Responder f.responder g.responder (behind_responder f) (behind_responder g) h.responder k.responder
+    let middles = middles-one f g h k heads.after in
+    let initiators = party-one Initiator f.initiator g.initiator (after_initiator f) (after_initiator g) h.initiator k.initiator
+    (responder-no_answer f.responder (after_responder f)) (responder-no_answer g.responder (after_responder g)) middles.after in
+    let responders = party-one Responder f.responder g.responder (after_responder f) (after_responder g) h.responder k.responder
     (events-no_answer f.events.items f.version) (events-no_answer g.events.items g.version) initiators.1 in
     let events = events-one f.events.items g.events.items (version_text f.version) (version_text g.version) h.events k.events
     (version-no_event f.version) (version-no_event g.version) responders.1 in

@@ -100,8 +100,8 @@ lacks-comma n h = lacks-decimal 44 n (lit< tt) (omega arith)
 number-one : (m n : ℕ) → m < 65536 → n < 65536 → decimal m ≡ decimal n → m ≡ n
 number-one m n h k e = decimal_injective m n (omega arith) (omega arith) e
 
-no-comma : (n : ℕ) (front behind : List ℕ) → n < 65536 → ¬ (decimal n ≡ front ++ 44 ∷ behind)
-no-comma n front behind h e = not_lacks 44 front behind (subst (λ (t : List ℕ). lacks 44 t ≡ true) e (lacks-comma n h))
+no-comma : (n : ℕ) (front after : List ℕ) → n < 65536 → ¬ (decimal n ≡ front ++ 44 ∷ after)
+no-comma n front after h e = not_lacks 44 front after (subst (λ (t : List ℕ). lacks 44 t ≡ true) e (lacks-comma n h))
 
 numbers-one : (m n : ℕ) (ms ns : List ℕ) → m < 65536 → n < 65536 → All (λ n. n < 65536) ms → All (λ n. n < 65536) ns
     → lengths_word (m ∷ ms) ≡ lengths_word (n ∷ ns) → m ∷ ms ≡ n ∷ ns
@@ -218,8 +218,8 @@ places-one (m ∷ a ∷ ms) (n ∷ b ∷ ns) e =
 -- no protocol name is that of two sections
 pub name-one : (s t : Section) → IsSection s → IsSection t → name_bytes s ≡ name_bytes t → s ≡ t
 name-one s t h k e =
-    let behind = append_cancel_left prefix (section_bytes s.base s.places ++ suffix) (section_bytes t.base t.places ++ suffix) e in
-    let sections = append_cancel_right (section_bytes s.base s.places) (section_bytes t.base t.places) suffix behind in
+    let after = append_cancel_left prefix (section_bytes s.base s.places ++ suffix) (section_bytes t.base t.places ++ suffix) e in
+    let sections = append_cancel_right (section_bytes s.base s.places) (section_bytes t.base t.places) suffix after in
     let parts = bases-one s.base t.base (joined s.places) (joined t.places) (base-bytes s.base h.base) (base-bytes t.base k.base)
     (joined-first s.places) (joined-first t.places) sections in
     let places = places-one s.places t.places parts.1 in

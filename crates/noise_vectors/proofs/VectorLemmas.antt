@@ -18,31 +18,31 @@ use Rattle.noise_vectors.specs.declared.vector.VectorFile.{VectorFile}
 use Rattle.noise_vectors.specs.declared.vector.Version.{Version}
 use Rattle.noise_vectors.specs.declared.vector.Version.TheVariants.{One, Two}
 
--- ---- what stands behind each part of the text
+-- ---- what stands after each part of the text
 
-abbrev pub behind_responder : VectorFile → List ℕ
-behind_responder file = lines_of event_words file.events.items (version_text file.version)
+abbrev pub after_responder : VectorFile → List ℕ
+after_responder file = lines_of event_words file.events.items (version_text file.version)
 
-abbrev pub behind_initiator : VectorFile → List ℕ
-behind_initiator file = party_text Responder file.responder (behind_responder file)
+abbrev pub after_initiator : VectorFile → List ℕ
+after_initiator file = party_text Responder file.responder (after_responder file)
 
-abbrev pub behind_psks : VectorFile → List ℕ
-behind_psks file = party_text Initiator file.initiator (behind_initiator file)
+abbrev pub after_psks : VectorFile → List ℕ
+after_psks file = party_text Initiator file.initiator (after_initiator file)
 
-abbrev pub behind_interval : VectorFile → List ℕ
-behind_interval file = lines_of psk_words file.psks.items (behind_psks file)
+abbrev pub after_interval : VectorFile → List ℕ
+after_interval file = lines_of psk_words file.psks.items (after_psks file)
 
-abbrev pub behind_prologue : VectorFile → List ℕ
-behind_prologue file = line (codes "interval " ++ decimal file.interval) (behind_interval file)
+abbrev pub after_prologue : VectorFile → List ℕ
+after_prologue file = line (codes "interval " ++ decimal file.interval) (after_interval file)
 
-abbrev pub behind_block : VectorFile → List ℕ
-behind_block file = line (codes "prologue " ++ hex_of file.prologue.items) (behind_prologue file)
+abbrev pub after_block : VectorFile → List ℕ
+after_block file = line (codes "prologue " ++ hex_of file.prologue.items) (after_prologue file)
 
-abbrev pub behind_protocol : VectorFile → List ℕ
-behind_protocol file = block_text file.block (behind_block file)
+abbrev pub after_protocol : VectorFile → List ℕ
+after_protocol file = block_text file.block (after_block file)
 
-abbrev pub behind_header : VectorFile → List ℕ
-behind_header file = line (codes "protocol " ++ name_bytes file.protocol) (behind_protocol file)
+abbrev pub after_header : VectorFile → List ℕ
+after_header file = line (codes "protocol " ++ name_bytes file.protocol) (after_protocol file)
 
 -- ---- how the rest begins
 
@@ -75,16 +75,16 @@ events-no_answer (Write role payload ∷ events) version = refl
 events-no_answer (Deliver role number cuts ∷ events) version = refl
 events-no_answer (Raw role bytes ∷ events) version = refl
 
--- no psk line stands behind the psk lines
-pub psks-end : (file : VectorFile) → starts_with nat_eq (behind_psks file) (codes "psk ") ≡ false
-psks-end file = initiator-no_psk file.initiator (behind_initiator file)
+-- no psk line stands after the psk lines
+pub psks-end : (file : VectorFile) → starts_with nat_eq (after_psks file) (codes "psk ") ≡ false
+psks-end file = initiator-no_psk file.initiator (after_initiator file)
 
--- no answer stands behind the initiator's lines
-pub initiator-ends : (file : VectorFile) → starts_with nat_eq (behind_initiator file) (codes "answer ") ≡ false
-initiator-ends file = responder-no_answer file.responder (behind_responder file)
+-- no answer stands after the initiator's lines
+pub initiator-ends : (file : VectorFile) → starts_with nat_eq (after_initiator file) (codes "answer ") ≡ false
+initiator-ends file = responder-no_answer file.responder (after_responder file)
 
--- nor behind the responder's
-pub responder-ends : (file : VectorFile) → starts_with nat_eq (behind_responder file) (codes "answer ") ≡ false
+-- nor after the responder's
+pub responder-ends : (file : VectorFile) → starts_with nat_eq (after_responder file) (codes "answer ") ≡ false
 responder-ends file = events-no_answer file.events.items file.version
 
 -- ---- the pattern

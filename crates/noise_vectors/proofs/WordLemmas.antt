@@ -15,50 +15,50 @@ use Rattle.noise_vectors.specs.Words.{lacks}
 
 -- ---- the first place of a byte
 
-first_len : (byte : ℕ) (before behind : List ℕ) → lacks byte before ≡ true
-    → prefix_len (λ b. not (b == byte)) (before ++ byte ∷ behind) ≡ length before
-first_len byte [] behind h = rw (eq-eqb byte byte refl) refl
-first_len byte (b ∷ bs) behind h =
+first_len : (byte : ℕ) (before after : List ℕ) → lacks byte before ≡ true
+    → prefix_len (λ b. not (b == byte)) (before ++ byte ∷ after) ≡ length before
+first_len byte [] after h = rw (eq-eqb byte byte refl) refl
+first_len byte (b ∷ bs) after h =
     let parts = and_parts (not (b == byte)) (lacks byte bs) h in
-    let more = first_len byte bs behind parts.1 in
+    let more = first_len byte bs after parts.1 in
     rw parts.0 (omega (arith, more))
 
--- it stands behind what lacks it
-pub position-first : (byte : ℕ) (before behind : List ℕ) → lacks byte before ≡ true
-    → position (λ b. b == byte) (before ++ byte ∷ behind) ≡ Some (length before)
-position-first byte before behind h =
-    let len = first_len byte before behind h in
-    let long = length-append before (byte ∷ behind) in
-    let small : length before < length (before ++ byte ∷ behind) = omega (arith, long) in
-    rw (len, lt-ltb (length before) (length (before ++ byte ∷ behind)) small) refl
+-- it stands after what lacks it
+pub position-first : (byte : ℕ) (before after : List ℕ) → lacks byte before ≡ true
+    → position (λ b. b == byte) (before ++ byte ∷ after) ≡ Some (length before)
+position-first byte before after h =
+    let len = first_len byte before after h in
+    let long = length-append before (byte ∷ after) in
+    let small : length before < length (before ++ byte ∷ after) = omega (arith, long) in
+    rw (len, lt-ltb (length before) (length (before ++ byte ∷ after)) small) refl
 
-pub place-first : (byte : ℕ) (text before behind : List ℕ) (place : ℕ) → Some place ≡ position (λ b. b == byte) text
-    → lacks byte before ≡ true → text ≡ before ++ byte ∷ behind → place ≡ length before
-place-first byte text before behind place found h e =
-    let same = found ∙ ap (position (λ b. b == byte)) e ∙ position-first byte before behind h in
+pub place-first : (byte : ℕ) (text before after : List ℕ) (place : ℕ) → Some place ≡ position (λ b. b == byte) text
+    → lacks byte before ≡ true → text ≡ before ++ byte ∷ after → place ≡ length before
+place-first byte text before after place found h e =
+    let same = found ∙ ap (position (λ b. b == byte)) e ∙ position-first byte before after h in
     cc (same)
 
-pub no-place : (byte : ℕ) (text before behind : List ℕ) → None ≡ position (λ b. b == byte) text
-    → lacks byte before ≡ true → ¬ (text ≡ before ++ byte ∷ behind)
-no-place byte text before behind none h e =
-    let same = none ∙ ap (position (λ b. b == byte)) e ∙ position-first byte before behind h in
+pub no-place : (byte : ℕ) (text before after : List ℕ) → None ≡ position (λ b. b == byte) text
+    → lacks byte before ≡ true → ¬ (text ≡ before ++ byte ∷ after)
+no-place byte text before after none h e =
+    let same = none ∙ ap (position (λ b. b == byte)) e ∙ position-first byte before after h in
     cc (same)
 
--- what stands before that place and behind it
-pub parted : (byte : ℕ) (text before behind : List ℕ) (place : ℕ) → text ≡ before ++ byte ∷ behind → place ≡ length before
-    → (take place text ≡ before) × (take (length text - (place + 1)) (drop (place + 1) text) ≡ behind)
-parted byte text before behind place e at =
-    let len : length text ≡ length before + length (byte ∷ behind) = ap length e ∙ length-append before (byte ∷ behind) in
-    let front : take (length before) text ≡ before = ap (take (length before)) e ∙ take-append_seam before (byte ∷ behind) in
-    let whole : text ≡ (before ++ byte ∷ []) ++ behind = e ∙ sym (append_assoc before (byte ∷ []) behind) in
+-- what stands before that place and after it
+pub parted : (byte : ℕ) (text before after : List ℕ) (place : ℕ) → text ≡ before ++ byte ∷ after → place ≡ length before
+    → (take place text ≡ before) × (take (length text - (place + 1)) (drop (place + 1) text) ≡ after)
+parted byte text before after place e at =
+    let len : length text ≡ length before + length (byte ∷ after) = ap length e ∙ length-append before (byte ∷ after) in
+    let front : take (length before) text ≡ before = ap (take (length before)) e ∙ take-append_seam before (byte ∷ after) in
+    let whole : text ≡ (before ++ byte ∷ []) ++ after = e ∙ sym (append_assoc before (byte ∷ []) after) in
     let one : length (before ++ byte ∷ []) ≡ length before + 1 = length-append before (byte ∷ []) in
     let next : place + 1 ≡ length (before ++ byte ∷ []) = omega arith in
-    let rest : drop (length (before ++ byte ∷ [])) text ≡ behind =
-    ap (drop (length (before ++ byte ∷ []))) whole ∙ drop-append_seam (before ++ byte ∷ []) behind in
-    let left : length text - length (before ++ byte ∷ []) ≡ length behind = omega arith in
-    (rw at front, rw (next, left, rest) (take-length behind))
+    let rest : drop (length (before ++ byte ∷ [])) text ≡ after =
+    ap (drop (length (before ++ byte ∷ []))) whole ∙ drop-append_seam (before ++ byte ∷ []) after in
+    let left : length text - length (before ++ byte ∷ []) ≡ length after = omega arith in
+    (rw at front, rw (next, left, rest) (take-length after))
 
--- the text is what stands before it, the byte, and what stands behind it
+-- the text is what stands before it, the byte, and what stands after it
 pub parts-at : (byte : ℕ) (text : List ℕ) (place : ℕ) → Some place ≡ position (λ b. b == byte) text
     → text ≡ take place text ++ byte ∷ take (length text - (place + 1)) (drop (place + 1) text)
 parts-at byte text place found =
@@ -73,14 +73,14 @@ parts-at byte text place found =
     ∙ ap (λ (t : List ℕ). take place text ++ t) (first ∙ ap (λ (b : ℕ). b ∷ drop (place + 1) text) is))
 
 -- a text with the byte doesn't lack it
-pub not_lacks : (byte : ℕ) (before behind : List ℕ) → ¬ (lacks byte (before ++ byte ∷ behind) ≡ true)
-not_lacks byte [] behind h =
-    let parts = and_parts (not (byte == byte)) (lacks byte behind) h in
+pub not_lacks : (byte : ℕ) (before after : List ℕ) → ¬ (lacks byte (before ++ byte ∷ after) ≡ true)
+not_lacks byte [] after h =
+    let parts = and_parts (not (byte == byte)) (lacks byte after) h in
     let same = eq-eqb byte byte refl in
     cc (rw same at parts.0)
-not_lacks byte (b ∷ bs) behind h =
-    let parts = and_parts (not (b == byte)) (lacks byte (bs ++ byte ∷ behind)) h in
-    not_lacks byte bs behind parts.1
+not_lacks byte (b ∷ bs) after h =
+    let parts = and_parts (not (b == byte)) (lacks byte (bs ++ byte ∷ after)) h in
+    not_lacks byte bs after parts.1
 
 -- ---- decimal numbers
 

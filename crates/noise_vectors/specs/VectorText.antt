@@ -30,11 +30,11 @@ use Rattle.noise_vectors.specs.declared.words.DatagramKind.TheVariants as of_dat
 use Rattle.noise_vectors.specs.declared.words.EventKind.{EventKind}
 use Rattle.noise_vectors.specs.declared.words.EventKind.TheVariants as kinds
 
--- a line with its LF (10), and the text behind it
+-- a line with its LF (10), and the text after it
 abbrev pub line : List ℕ → List ℕ → List ℕ
 line text rest = text ++ 10 ∷ rest
 
--- a line for each, with these words, and the text behind them
+-- a line for each, with these words, and the text after them
 abbrev pub lines_of : {A : Type 0} → (A → List ℕ) → List A → List ℕ → List ℕ
 lines_of words [] rest = rest
 lines_of words (x ∷ xs) rest = line (words x) (lines_of words xs rest)
@@ -67,7 +67,7 @@ abbrev pub lengths_word : List ℕ → List ℕ
 lengths_word [] = codes "-"
 lengths_word (n ∷ ns) = join_with_byte 44 (map decimal (n ∷ ns))
 
--- the pattern's text and the line behind it, where the file spells one
+-- the pattern's text and the line after it, where the file spells one
 abbrev pub block_text : Option Plan → List ℕ → List ℕ
 block_text None rest = rest
 block_text (Some pattern) rest = PatternText.text_of pattern ++ line (codes "end") rest
@@ -95,7 +95,7 @@ datagram_kind_word of_datagrams.Seal = codes "seal"
 datagram_kind_word of_datagrams.Open = codes "open"
 datagram_kind_word of_datagrams.Foreign = codes "foreign"
 
--- an event behind `datagrams`; bytes from anywhere are `foreign`
+-- an event after `datagrams`; bytes from anywhere are `foreign`
 abbrev pub datagram_event_words : DatagramEvent → List ℕ
 datagram_event_words (datagram.Seal role payload) = codes "seal " ++ (role_word role ++ 32 ∷ hex_of payload.items)
 datagram_event_words (datagram.Open role number) = codes "open " ++ (role_word role ++ 32 ∷ decimal number)
@@ -125,12 +125,12 @@ is_second (Two additions) = true
 abbrev pub header_words : Bool → List ℕ
 header_words second = if second then codes "vector 2" else codes "vector 1"
 
--- what only the version has, behind the events
+-- what only the version has, after the events
 abbrev pub version_text : Version → List ℕ
 version_text One = []
 version_text (Two additions) = datagrams_text additions.datagrams (lines_of expect_words additions.expected.items [])
 
--- the lines of both versions behind the header, and the text behind them
+-- the lines of both versions after the header, and the text after them
 abbrev pub text_body : VectorFile → List ℕ → List ℕ
 text_body file rest =
     line (codes "protocol " ++ name_bytes file.protocol)
@@ -145,10 +145,10 @@ text_body file rest =
 abbrev pub text_of : VectorFile → List ℕ
 text_of file = line (header_words (is_second file.version)) (text_body file (version_text file.version))
 
--- what may stand behind the lines of the events: nothing, the datagrams, or what is expected
-abbrev pub BehindEvents : List ℕ → Type 0
-BehindEvents rest = (rest ≡ []) ⊎ IsTrue (starts_with nat_eq rest (codes "datagrams ")) ⊎ IsTrue (starts_with nat_eq rest (codes "expect "))
+-- what may stand after the lines of the events: nothing, the datagrams, or what is expected
+abbrev pub AfterEvents : List ℕ → Type 0
+AfterEvents rest = (rest ≡ []) ⊎ IsTrue (starts_with nat_eq rest (codes "datagrams ")) ⊎ IsTrue (starts_with nat_eq rest (codes "expect "))
 
--- what may stand behind the lines of the datagrams
-abbrev pub BehindDatagrams : List ℕ → Type 0
-BehindDatagrams rest = (rest ≡ []) ⊎ IsTrue (starts_with nat_eq rest (codes "expect "))
+-- what may stand after the lines of the datagrams
+abbrev pub AfterDatagrams : List ℕ → Type 0
+AfterDatagrams rest = (rest ≡ []) ⊎ IsTrue (starts_with nat_eq rest (codes "expect "))

@@ -1,10 +1,10 @@
-//! What version 2 adds, behind the events.
+//! What version 2 adds, after the events.
 
 ghost use Rattle.std.specs.Prelude.{◌≡◌, ℕ, List, Option, Some, None, Bool, false, IfErr, IfOk, IfSome, MatchOption, MatchResult};
 ghost use Rattle.std.specs.List.{All};
 ghost use Rattle.noise_events.specs.declared.window.Window.{Window};
 ghost use Rattle.noise_vectors.specs.VectorFile.{IsAllowedVersion, IsDatagramEvent, IsVersion};
-ghost use Rattle.noise_vectors.specs.VectorText.{BehindDatagrams, datagrams_text, is_second, version_text, window_words};
+ghost use Rattle.noise_vectors.specs.VectorText.{AfterDatagrams, datagrams_text, is_second, version_text, window_words};
 ghost use Rattle.noise_vectors.specs.declared.faults.VectorFault.TheVariants.{Memory};
 ghost use Rattle.noise_vectors.specs.declared.vector.AllowedEvents.TheVariants.{SayOnly, VersionOne};
 ghost use Rattle.noise_vectors.specs.declared.vector.FileDatagrams.{FileDatagrams};
@@ -19,7 +19,7 @@ use crate::words::read_number;
 use noise_events::Window;
 use std::alloc::Global;
 
-/// The version, of which the header says whether it is the second, with all that stands behind the events.
+/// The version, of which the header says whether it is the second, with all that stands after the events.
 pub(crate) fn read_version(
     alloc: Global,
     lines: &mut Lines<'_>,
@@ -60,7 +60,7 @@ fn read_datagrams(
     ensures right { IfOk result (λ found. IfSome found (λ over. All IsDatagramEvent over.events.items)) }
     ensures allowed { IfOk result (λ found. allowed ≡ SayOnly → found ≡ None) }
     ensures every { (over : Option FileDatagrams) (rest : List ℕ) → IfSome over (λ over. All IsDatagramEvent over.events.items)
-        → (allowed ≡ SayOnly → over ≡ None) → BehindDatagrams rest → lines.old.rest.now ≡ datagrams_text over rest
+        → (allowed ≡ SayOnly → over ≡ None) → AfterDatagrams rest → lines.old.rest.now ≡ datagrams_text over rest
         → MatchResult result (λ found. lines.new.rest.now ≡ rest) (λ fault. fault ≡ Memory) }
 {
     if !lines.rest.starts_with(b"datagrams ".as_slice()) {

@@ -72,14 +72,14 @@ fn pattern_of(text: &[u8], protocol: &ProtocolName) -> Result<Pattern, usize>
 // Whether the first line is the pattern section of this name, which stands between its first two `_`, and a colon.
 fn has_heading(text: &[u8], protocol: &ProtocolName) -> bool {
     let name = protocol.write();
-    let Some((_, behind)) = split_once(&name, b'_') else {
+    let Some((_, after)) = split_once(&name, b'_') else {
         return false;
     };
-    let Some((section, _)) = split_once(behind, b'_') else {
+    let Some((section, _)) = split_once(after, b'_') else {
         return false;
     };
     match text.strip_prefix(section) {
-        Some(behind) => behind.starts_with(b":\n".as_slice()),
+        Some(after) => after.starts_with(b":\n".as_slice()),
         None => false,
     }
 }

@@ -1,11 +1,11 @@
-//! The lines of events behind `datagrams`.
+//! The lines of events after `datagrams`.
 
 ghost use Rattle.std.specs.Prelude.{◌≡◌, ◌∷◌, ◌++◌, ◌↔◌, ℕ, List, IfOk, IfSome, IsSome, IsTrue, MatchOption, MatchResult};
 ghost use Rattle.std.specs.List.{All};
 ghost use Rattle.noise_names.specs.declared.token.Role.{Role};
 ghost use Rattle.noise_events.specs.declared.datagram_event.DatagramEvent.{DatagramEvent};
 ghost use Rattle.noise_vectors.specs.VectorFile.{IsDatagramEvent};
-ghost use Rattle.noise_vectors.specs.VectorText.{BehindDatagrams, datagram_event_words, datagram_kind_word, lines_of, role_word};
+ghost use Rattle.noise_vectors.specs.VectorText.{AfterDatagrams, datagram_event_words, datagram_kind_word, lines_of, role_word};
 ghost use Rattle.noise_vectors.specs.declared.faults.VectorFault.TheVariants.{Memory};
 ghost use Rattle.noise_vectors.specs.declared.words.DatagramKind.{DatagramKind};
 
@@ -25,12 +25,12 @@ pub(crate) fn read_datagram_events(
 ) -> Result<Vec<DatagramEvent>, VectorFault>
     ensures text { IfOk result (λ events. lines.old.rest.now ≡ lines_of datagram_event_words events.items lines.new.rest.now) }
     ensures right { IfOk result (λ events. All IsDatagramEvent events.items) }
-    ensures every { (events : List DatagramEvent) (rest : List ℕ) → All IsDatagramEvent events → BehindDatagrams rest
+    ensures every { (events : List DatagramEvent) (rest : List ℕ) → All IsDatagramEvent events → AfterDatagrams rest
         → lines.old.rest.now ≡ lines_of datagram_event_words events rest
         → MatchResult result (λ read. lines.new.rest.now ≡ rest) (λ fault. fault ≡ Memory) }
 {
     let mut events = Vec::new(alloc);
-    while !is_behind_datagrams(lines.rest) {
+    while !is_after_datagrams(lines.rest) {
         let line = lines.next()?;
         let Some(event) = read_datagram_event(alloc, line)? else {
             return Err(lines.fault(LineKind::Event));
@@ -44,8 +44,8 @@ pub(crate) fn read_datagram_events(
 }
 
 // Whether no event of a datagram stands next.
-fn is_behind_datagrams(rest: &[u8]) -> bool
-    ensures { IsTrue result ↔ BehindDatagrams rest.now }
+fn is_after_datagrams(rest: &[u8]) -> bool
+    ensures { IsTrue result ↔ AfterDatagrams rest.now }
 {
     rest.is_empty() || rest.starts_with(b"expect ".as_slice())
 }
@@ -76,7 +76,7 @@ fn read_datagram_event(alloc: Global, text: &[u8]) -> Result<Option<DatagramEven
     }
 }
 
-// The kind of event, its role, and what stands behind them.
+// The kind of event, its role, and what stands after them.
 fn split_datagram_event(text: &[u8]) -> Option<(DatagramKind, Role, &[u8])>
     ensures text { IfSome result (λ parts. text.now ≡ datagram_kind_word parts.0 ++ 32 ∷ (role_word parts.1 ++ 32 ∷ parts.2.now)) }
     ensures every { (kind : DatagramKind) (role : Role) (operand : List ℕ)

@@ -7,7 +7,7 @@ ghost use Rattle.noise_events.specs.declared.event.Event.{Event};
 ghost use Rattle.noise_vectors.specs.Cuts.{AreCuts};
 ghost use Rattle.noise_vectors.specs.HexWord.{hex_of};
 ghost use Rattle.noise_vectors.specs.VectorFile.{IsAllowed, IsEvent, IsShort};
-ghost use Rattle.noise_vectors.specs.VectorText.{BehindEvents, event_words, kind_word, lengths_word, lines_of, role_word};
+ghost use Rattle.noise_vectors.specs.VectorText.{AfterEvents, event_words, kind_word, lengths_word, lines_of, role_word};
 ghost use Rattle.noise_vectors.specs.declared.words.EventKind.{EventKind};
 ghost use Rattle.noise_vectors.specs.declared.faults.VectorFault.TheVariants.{Memory};
 
@@ -30,12 +30,12 @@ pub(crate) fn read_events(
     ensures text { IfOk result (λ events. lines.old.rest.now ≡ lines_of event_words events.items lines.new.rest.now) }
     ensures right { IfOk result (λ events. All IsEvent events.items) }
     ensures allowed { IfOk result (λ events. All (IsAllowed allowed) events.items) }
-    ensures every { (events : List Event) (rest : List ℕ) → All IsEvent events → All (IsAllowed allowed) events → BehindEvents rest
+    ensures every { (events : List Event) (rest : List ℕ) → All IsEvent events → All (IsAllowed allowed) events → AfterEvents rest
         → lines.old.rest.now ≡ lines_of event_words events rest
         → MatchResult result (λ read. lines.new.rest.now ≡ rest) (λ fault. fault ≡ Memory) }
 {
     let mut events = Vec::new(alloc);
-    while !is_behind_events(lines.rest) {
+    while !is_after_events(lines.rest) {
         let line = lines.next()?;
         let Some(event) = read_event(alloc, line, allowed)? else {
             return Err(lines.fault(LineKind::Event));
@@ -49,8 +49,8 @@ pub(crate) fn read_events(
 }
 
 // Whether no event stands next.
-fn is_behind_events(rest: &[u8]) -> bool
-    ensures { IsTrue result ↔ BehindEvents rest.now }
+fn is_after_events(rest: &[u8]) -> bool
+    ensures { IsTrue result ↔ AfterEvents rest.now }
 {
     rest.is_empty()
         || rest.starts_with(b"datagrams ".as_slice())
@@ -93,7 +93,7 @@ fn read_event(
     }
 }
 
-// The kind of event, its role, and what stands behind them.
+// The kind of event, its role, and what stands after them.
 fn split_event(text: &[u8]) -> Option<(EventKind, Role, &[u8])>
     ensures text { IfSome result (λ parts. text.now ≡ kind_word parts.0 ++ 32 ∷ (role_word parts.1 ++ 32 ∷ parts.2.now)) }
     ensures every { (kind : EventKind) (role : Role) (operands : List ℕ) → text.now ≡ kind_word kind ++ 32 ∷ (role_word role ++ 32 ∷ operands)

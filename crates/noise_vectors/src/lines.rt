@@ -14,7 +14,7 @@ pub(crate) struct Lines<'a> {
     pub rest: &'a [u8],
     /// The number of the line that was read last, 0 before the first.
     pub number: usize,
-    /// Whether that line has an LF behind it.
+    /// Whether that line has an LF after it.
     pub is_ended: bool,
 }
 
@@ -33,8 +33,8 @@ impl<'a> Lines<'a> {
     /// The next line without its LF, or the fault that there is none.
     pub fn next(&mut self) -> Result<&'a [u8], VectorFault>
         ensures ended { IfOk result (λ text. IsTrue self.new.is_ended → self.old.rest.now ≡ line text.now self.new.rest.now) }
-        ensures every { (words behind : List ℕ) → IsTrue (lacks 10 words) → self.old.rest.now ≡ line words behind
-            → MatchResult result (λ text. (text.now ≡ words) × (self.new.rest.now ≡ behind) × IsTrue self.new.is_ended) (λ fault. ⊥) }
+        ensures every { (words after : List ℕ) → IsTrue (lacks 10 words) → self.old.rest.now ≡ line words after
+            → MatchResult result (λ text. (text.now ≡ words) × (self.new.rest.now ≡ after) × IsTrue self.new.is_ended) (λ fault. ⊥) }
         ensures shorter { IfOk result (λ text. length self.new.rest.now < length self.old.rest.now) }
         ensures missing { IfErr result (λ fault. (self.old.rest.now ≡ []) × (fault ≡ VectorFault.Line self.new.number LineKind.Ending)) }
     {
@@ -44,9 +44,9 @@ impl<'a> Lines<'a> {
         }
         let rest = self.rest;
         match split_once(rest, b'\n') {
-            Some((line, behind)) => {
+            Some((line, after)) => {
                 self.is_ended = true;
-                self.rest = behind;
+                self.rest = after;
                 Ok(line)
             }
             None => {
@@ -71,7 +71,7 @@ impl<'a> Lines<'a> {
         VectorFault::Line(self.number, kind)
     }
 
-    /// The fault that the line that was read last has no LF behind it, if it hasn't.
+    /// The fault that the line that was read last has no LF after it, if it hasn't.
     pub fn end(&self) -> Result<(), VectorFault>
         ensures ended { IsOk result ↔ IsTrue self.now.is_ended }
         ensures fault { IfErr result (λ fault. fault ≡ VectorFault.Line self.now.number LineKind.Ending) }

@@ -15,7 +15,7 @@ use crate::words::{read_key, read_optional_key, read_own, read_role, split_once}
 use noise_keys::{Own, TableKeys, XorKeys};
 use noise_names::Role;
 
-/// The line of a party's keys, and behind a table's line its answers.
+/// The line of a party's keys, and after a table's line its answers.
 pub(crate) fn read_party(lines: &mut Lines<'_>, role: Role) -> Result<FileKeys, VectorFault>
     ensures text { IfOk result (λ keys. lines.old.rest.now ≡ party_text role keys lines.new.rest.now) }
     ensures right { IfOk result AreKeys }
@@ -24,7 +24,7 @@ pub(crate) fn read_party(lines: &mut Lines<'_>, role: Role) -> Result<FileKeys, 
         → IsOk result × (lines.new.rest.now ≡ rest) }
 {
     let line = lines.next()?;
-    let Some(words) = behind_role(line, role) else {
+    let Some(words) = after_role(line, role) else {
         return Err(lines.fault(LineKind::Keys));
     };
     if let Some((e, s)) = keys_of(words, b"xor ".as_slice()) {
@@ -38,8 +38,8 @@ pub(crate) fn read_party(lines: &mut Lines<'_>, role: Role) -> Result<FileKeys, 
     Ok(FileKeys::Table(read_table(lines, e, s)?))
 }
 
-// What stands behind the word of this role and a space.
-fn behind_role(line: &[u8], role: Role) -> Option<&[u8]>
+// What stands after the word of this role and a space.
+fn after_role(line: &[u8], role: Role) -> Option<&[u8]>
     ensures text { IfSome result (λ words. line.now ≡ role_word role ++ 32 ∷ words.now) }
     ensures every { (words : List ℕ) → line.now ≡ role_word role ++ 32 ∷ words
         → MatchOption result (Unit {0} → ⊥) (λ found. found.now ≡ words) }
@@ -51,7 +51,7 @@ fn behind_role(line: &[u8], role: Role) -> Option<&[u8]>
     Some(words)
 }
 
-// The two keys behind this front.
+// The two keys after this front.
 fn keys_of(words: &[u8], front: &[u8]) -> Option<(Option<[u8; 32]>, Option<[u8; 32]>)>
     ensures text { IfSome result (λ keys. words.now ≡ front.now ++ key_words keys.0 keys.1) }
     ensures right { IfSome result (λ keys. IfSome keys.0 IsKey × IfSome keys.1 IsKey) }

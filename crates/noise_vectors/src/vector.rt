@@ -26,7 +26,7 @@ pub struct VectorFile {
     pub ghost short: { vec_len prologue ≤ 65535 },
 }
 
-/// The version of a vector file, and what only that version has, which stands behind the events.
+/// The version of a vector file, and what only that version has, which stands after the events.
 #[derive(Drop)]
 pub enum Version {
     One,
@@ -36,7 +36,7 @@ pub enum Version {
 /// What version 2 adds.
 #[derive(Drop)]
 pub struct Additions {
-    /// Where both ends go over to datagrams behind the events.
+    /// Where both ends go over to datagrams after the events.
     pub datagrams: Option<FileDatagrams>,
     /// The lines of output that are expected, each without its LF; none where nothing is expected.
     pub expected: Vec<Vec<u8>>,

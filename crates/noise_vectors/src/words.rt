@@ -27,7 +27,7 @@ pub(crate) enum EventKind {
     Raw,
 }
 
-/// The kinds of events behind `datagrams`.
+/// The kinds of events after `datagrams`.
 #[derive(Clone, Copy)]
 pub(crate) enum DatagramKind {
     Seal,
@@ -35,11 +35,11 @@ pub(crate) enum DatagramKind {
     Foreign,
 }
 
-/// What stands before the first such byte, and what stands behind it.
+/// What stands before the first such byte, and what stands after it.
 pub(crate) fn split_once(text: &[u8], separator: u8) -> Option<(&[u8], &[u8])>
     ensures parts { IfSome result (λ parts. text.now ≡ parts.0.now ++ separator ∷ parts.1.now) }
-    ensures every { (before behind : List ℕ) → IsTrue (lacks separator before) → text.now ≡ before ++ separator ∷ behind
-        → MatchOption result (Unit {0} → ⊥) (λ parts. (parts.0.now ≡ before) × (parts.1.now ≡ behind)) }
+    ensures every { (before after : List ℕ) → IsTrue (lacks separator before) → text.now ≡ before ++ separator ∷ after
+        → MatchOption result (Unit {0} → ⊥) (λ parts. (parts.0.now ≡ before) × (parts.1.now ≡ after)) }
 {
     let place = place_of(text, separator)?;
     Some((&text[..place], &text[place + 1..]))

@@ -24,28 +24,28 @@ is_known role e s S = true
 is_known role e s Psk = true
 is_known role e s dh = remote_known role e s dh
 
--- whether an ephemeral key of the other party is known behind a token of that party, and a static one
-abbrev pub e_behind : Bool → Token → Bool
-e_behind e E = true
-e_behind e _ = e
+-- whether an ephemeral key of the other party is known after a token of that party, and a static one
+abbrev pub e_after : Bool → Token → Bool
+e_after e E = true
+e_after e _ = e
 
-abbrev pub s_behind : Bool → Token → Bool
-s_behind s S = true
-s_behind s _ = s
+abbrev pub s_after : Bool → Token → Bool
+s_after s S = true
+s_after s _ = s
 
--- behind its tokens
-abbrev pub e_behind_tokens : Bool → List Token → Bool
-e_behind_tokens e [] = e
-e_behind_tokens e (t ∷ ts) = e_behind_tokens (e_behind e t) ts
+-- after its tokens
+abbrev pub e_after_tokens : Bool → List Token → Bool
+e_after_tokens e [] = e
+e_after_tokens e (t ∷ ts) = e_after_tokens (e_after e t) ts
 
-abbrev pub s_behind_tokens : Bool → List Token → Bool
-s_behind_tokens s [] = s
-s_behind_tokens s (t ∷ ts) = s_behind_tokens (s_behind s t) ts
+abbrev pub s_after_tokens : Bool → List Token → Bool
+s_after_tokens s [] = s
+s_after_tokens s (t ∷ ts) = s_after_tokens (s_after s t) ts
 
 -- each DH among the other party's tokens finds its remote key
 abbrev pub are_known : Role → Bool → Bool → List Token → Bool
 are_known role e s [] = true
-are_known role e s (t ∷ ts) = is_known role e s t && are_known role (e_behind e t) (s_behind s t) ts
+are_known role e s (t ∷ ts) = is_known role e s t && are_known role (e_after e t) (s_after s t) ts
 
 -- A key of the other party is known exactly if its token stands in its pre-message or in a message that has passed.
 pub record KnowsRemote {K : Type 0} (h : Held K) : Type 0 where

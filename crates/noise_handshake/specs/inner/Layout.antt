@@ -6,7 +6,7 @@ use Rattle.noise_names.specs.Plan.{Plan, has_psk}
 use Rattle.noise_names.specs.Overhead.{has_key}
 use Rattle.noise_handshake.specs.declared.layout.PlacedToken.{PlacedToken}
 use Rattle.noise_handshake.specs.declared.layout.MessageLayout.{MessageLayout}
-use Rattle.noise_handshake.specs.Length.{keyed_behind, token_width, added_width}
+use Rattle.noise_handshake.specs.Length.{keyed_after, token_width, added_width}
 use Rattle.noise_handshake.specs.Passed.{passed_places}
 use Rattle.noise_handshake.specs.View.{tokens_at}
 
@@ -15,17 +15,17 @@ abbrev pub placed_from : Bool → Bool → ℕ → List Token → List PlacedTok
 placed_from psks keyed place [] = []
 placed_from psks keyed place (t ∷ ts) =
     record { token = t; place = place; width = token_width keyed t }
-    ∷ placed_from psks (keyed_behind psks keyed t) (place + token_width keyed t) ts
+    ∷ placed_from psks (keyed_after psks keyed t) (place + token_width keyed t) ts
 
 abbrev pub tokens_of : List PlacedToken → List Token
 tokens_of [] = []
 tokens_of (p ∷ ps) = p.token ∷ tokens_of ps
 
--- These tokens stand one behind another from this place on, each as wide as it travels, where there is a key before the first or not.
+-- These tokens stand one after another from this place on, each as wide as it travels, where there is a key before the first or not.
 abbrev pub ArePlaced : Bool → Bool → ℕ → List PlacedToken → Type 0
 ArePlaced psks keyed place [] = Unit {0}
 ArePlaced psks keyed place (p ∷ ps) =
-    (p.place ≡ place) × (p.width ≡ token_width keyed p.token) × ArePlaced psks (keyed_behind psks keyed p.token) (place + p.width) ps
+    (p.place ≡ place) × (p.width ≡ token_width keyed p.token) × ArePlaced psks (keyed_after psks keyed p.token) (place + p.width) ps
 
 -- The layout of a message of these tokens, where there is a key before it or not.
 pub record IsLaid (psks keyed : Bool) (ts : List Token) (laid : MessageLayout) : Type 0 where

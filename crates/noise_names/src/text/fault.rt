@@ -9,11 +9,11 @@ use arrayvec::ArrayVec;
 // The first fault of a text that spells no pattern: its lines are judged in order, and after them the whole. Where each line
 // is right, and the modifiers too, only the base is left to be wrong: it is that of another fundamental pattern.
 pub(crate) fn first_fault(text: &[u8]) -> TextFault {
-    let Some((name, behind)) = read_heading(text) else {
+    let Some((name, after)) = read_heading(text) else {
         return fault(1, TextFaultKind::Heading);
     };
-    let Some(lines) = behind.strip_prefix(b"\n") else {
-        return match behind {
+    let Some(lines) = after.strip_prefix(b"\n") else {
+        return match after {
             [] => fault(1, TextFaultKind::Ending),
             _ => fault(1, TextFaultKind::Heading),
         };
@@ -29,7 +29,7 @@ pub(crate) fn first_fault(text: &[u8]) -> TextFault {
         if !line.ended {
             return fault(number, TextFaultKind::Ending);
         }
-        rest = line.behind;
+        rest = line.after;
         number = number.saturating_add(1);
     }
     judged.fault_of_whole(number)
@@ -39,30 +39,30 @@ fn fault(line: usize, kind: TextFaultKind) -> TextFault {
     TextFault { line, kind }
 }
 
-// A line without its line feed, whether it has one, and what stands behind it.
+// A line without its line feed, whether it has one, and what stands after it.
 #[derive(Clone, Copy)]
 struct Line<'a> {
     bytes: &'a [u8],
     ended: bool,
-    behind: &'a [u8],
+    after: &'a [u8],
 }
 
 fn first_line(text: &[u8]) -> Line<'_>
     requires { 0 < length text.now }
-    ensures { length result.behind.now < length text.now }
+    ensures { length result.after.now < length text.now }
 {
     let len = text.iter().take_while(|b| **b != b'\n').count();
-    let (bytes, behind) = text.split_at(len);
-    match behind.split_first() {
-        Some((_, behind)) => Line {
+    let (bytes, after) = text.split_at(len);
+    match after.split_first() {
+        Some((_, after)) => Line {
             bytes,
             ended: true,
-            behind,
+            after,
         },
         None => Line {
             bytes,
             ended: false,
-            behind,
+            after,
         },
     }
 }
@@ -79,7 +79,7 @@ fn has_dots(text: &[u8]) -> bool {
         if is_dots(line.bytes) {
             return true;
         }
-        rest = line.behind;
+        rest = line.after;
     }
     false
 }
@@ -106,7 +106,7 @@ impl Judged<'_> {
         }
     }
 
-    // What is wrong in a line behind the heading.
+    // What is wrong in a line after the heading.
     fn judge(&mut self, bytes: &[u8]) -> Option<TextFaultKind> {
         if is_dots(bytes) {
             return self.judge_dots();
@@ -169,7 +169,7 @@ impl Judged<'_> {
         }
     }
 
-    // What is wrong behind the last line, whose number is one less.
+    // What is wrong after the last line, whose number is one less.
     fn fault_of_whole(&self, number: usize) -> TextFault {
         if self.messages == 0 {
             return fault(number, TextFaultKind::Ending);
@@ -199,12 +199,12 @@ impl Words {
         };
         let mut left = list;
         loop {
-            let (token, behind) = first_word(left)?;
+            let (token, after) = first_word(left)?;
             words.add(token);
-            if behind.is_empty() {
+            if after.is_empty() {
                 return Some(words);
             }
-            left = behind.strip_prefix(b", ")?;
+            left = after.strip_prefix(b", ")?;
         }
     }
 

@@ -26,8 +26,8 @@ pub(crate) fn read(text: &[u8]) -> Option<Pattern>
     ensures spelled { IfSome result (λ pattern. Spells text.now pattern) }
     ensures every { (pattern : Plan) → Spells text.now pattern → result ≡ Some pattern }
 {
-    let (name, behind) = read_heading(text)?;
-    let lines = behind.strip_prefix(b"\n")?;
+    let (name, after) = read_heading(text)?;
+    let lines = after.strip_prefix(b"\n")?;
     let plain = read_plain(name.base(), lines)?;
     match Pattern::with_psks(&plain, name.places()) {
         Ok(pattern) => {
@@ -41,16 +41,16 @@ pub(crate) fn read(text: &[u8]) -> Option<Pattern>
     }
 }
 
-// The name that a heading gives, and what stands behind its colon.
+// The name that a heading gives, and what stands after its colon.
 pub(super) fn read_heading(text: &[u8]) -> Option<(ProtocolName, &[u8])>
     ensures section { IfSome result (λ r. IsSection r.0) }
-    ensures every { (s : Section) (behind : List ℕ) → IsSection s → text.now ≡ (section_bytes s.base s.places ++ codes ":") ++ behind
-        → MatchOption result (Unit {0} → ⊥) (λ r. (r.0 ≡ s) × (r.1.now ≡ behind)) }
+    ensures every { (s : Section) (after : List ℕ) → IsSection s → text.now ≡ (section_bytes s.base s.places ++ codes ":") ++ after
+        → MatchOption result (Unit {0} → ⊥) (λ r. (r.0 ≡ s) × (r.1.now ≡ after)) }
 {
     let (section, colon) = text.split_at(section_len(text));
-    let behind = colon.strip_prefix(b":")?;
+    let after = colon.strip_prefix(b":")?;
     match parse_section(section) {
-        Ok(name) => Some((name, behind)),
+        Ok(name) => Some((name, after)),
         Err(_) => None,
     }
 }
@@ -105,21 +105,21 @@ pub(super) fn is_pre_message(tokens: &[Token]) -> bool
     matches!(tokens, [] | [Token::E] | [Token::S] | [Token::E, Token::S])
 }
 
-// The pre-messages, empty where no line ends them, and the lines behind them.
+// The pre-messages, empty where no line ends them, and the lines after them.
 fn read_pre_messages(lines: &[u8]) -> (ArrayVec<Token, 8>, ArrayVec<Token, 8>, &[u8])
     ensures { (i : List Token) (r : List Token) (ms : List (List Token)) → IsTrue (is_pre_message i) → IsTrue (is_pre_message r)
         → IsTrue (list_all has_few_tokens ms) → lines.now ≡ pre_lines i r ++ message_lines Initiator ms
         → (result.0.items ≡ i) × (result.1.items ≡ r) × (result.2.now ≡ message_lines Initiator ms) }
 {
-    let (initiator, behind) = read_pre_message(Role::Initiator, lines);
-    let (responder, behind) = read_pre_message(Role::Responder, behind);
-    match behind.strip_prefix(b"  ...\n") {
+    let (initiator, after) = read_pre_message(Role::Initiator, lines);
+    let (responder, after) = read_pre_message(Role::Responder, after);
+    match after.strip_prefix(b"  ...\n") {
         Some(messages) => (initiator, responder, messages),
         None => (ArrayVec::new(), ArrayVec::new(), lines),
     }
 }
 
-// The tokens of the party's line, none if this is no such line, and the lines behind it.
+// The tokens of the party's line, none if this is no such line, and the lines after it.
 fn read_pre_message(role: Role, lines: &[u8]) -> (ArrayVec<Token, 8>, &[u8])
     ensures there { (t : Token) (ts : List Token) (more : List ℕ) → length (own_tokens (t ∷ ts)) ≤ 8 → lines.now ≡ token_line role (t ∷ ts) ++ more
         → (result.0.items ≡ own_tokens (t ∷ ts)) × (result.1.now ≡ more) }
@@ -142,18 +142,18 @@ fn read_messages(lines: &[u8]) -> ArrayVec<Message, 8>
     let mut messages = ArrayVec::new();
     let mut role = Role::Initiator;
     let mut left = lines;
-    while let Some((tokens, behind)) = read_line(role, left) {
+    while let Some((tokens, after)) = read_line(role, left) {
         if tokens.is_empty() || messages.is_full() {
             return messages;
         }
         messages.push(Message::of(tokens.as_slice()));
         role = role.other();
-        left = behind;
+        left = after;
     }
     messages
 }
 
-// The tokens other than psk of the party's line, and the lines behind it.
+// The tokens other than psk of the party's line, and the lines after it.
 fn read_line(role: Role, lines: &[u8]) -> Option<(ArrayVec<Token, 8>, &[u8])>
     ensures plain { IfSome result (λ r. list_any is_psk r.0.items ≡ false) }
     ensures shorter { IfSome result (λ r. length r.1.now < length lines.now) }
@@ -165,11 +165,11 @@ fn read_line(role: Role, lines: &[u8]) -> Option<(ArrayVec<Token, 8>, &[u8])>
     if party != role {
         return None;
     }
-    let (tokens, behind) = read_words(list);
-    Some((tokens, behind.strip_prefix(b"\n")?))
+    let (tokens, after) = read_words(list);
+    Some((tokens, after.strip_prefix(b"\n")?))
 }
 
-// The party whose arrow stands at the front of a line, and the list behind the arrow.
+// The party whose arrow stands at the front of a line, and the list after the arrow.
 pub(super) fn read_arrow(line: &[u8]) -> Option<(Role, &[u8])>
     ensures front { IfSome result (λ r. line.now ≡ codes "  " ++ (arrow_of r.0 ++ (codes " " ++ r.1.now))) }
     ensures shorter { IfSome result (λ r. length r.1.now < length line.now) }
@@ -182,7 +182,7 @@ pub(super) fn read_arrow(line: &[u8]) -> Option<(Role, &[u8])>
     Some((Role::Responder, list))
 }
 
-// The tokens other than psk of a list, at most 8, and what stands behind the list.
+// The tokens other than psk of a list, at most 8, and what stands after the list.
 fn read_words(list: &[u8]) -> (ArrayVec<Token, 8>, &[u8])
     ensures plain { list_any is_psk result.0.items ≡ false }
     ensures shorter { length result.1.now ≤ length list.now }
@@ -191,10 +191,10 @@ fn read_words(list: &[u8]) -> (ArrayVec<Token, 8>, &[u8])
 {
     let mut tokens = ArrayVec::new();
     let mut left = list;
-    while let Some((token, behind)) = first_word(left) {
+    while let Some((token, after)) = first_word(left) {
         keep(&mut tokens, token);
-        let Some(more) = behind.strip_prefix(b", ") else {
-            return (tokens, behind);
+        let Some(more) = after.strip_prefix(b", ") else {
+            return (tokens, after);
         };
         left = more;
     }
@@ -214,14 +214,14 @@ fn keep(tokens: &mut ArrayVec<Token, 8>, token: Token)
     }
 }
 
-// The token whose word stands in front, and what stands behind that.
+// The token whose word stands in front, and what stands after that.
 pub(super) fn first_word(list: &[u8]) -> Option<(Token, &[u8])>
     ensures shorter { IfSome result (λ r. length r.1.now ≤ length list.now) }
     ensures every { (t : Token) (b : ℕ) (more : List ℕ) → is_lower b ≡ false → list.now ≡ word_of t ++ b ∷ more
         → MatchOption result (Unit {0} → ⊥) (λ r. (r.0 ≡ t) × (r.1.now ≡ b ∷ more)) }
 {
-    let (word, behind) = list.split_at(word_len(list));
-    Some((Token::named(word)?, behind))
+    let (word, after) = list.split_at(word_len(list));
+    Some((Token::named(word)?, after))
 }
 
 // How many lower-case letters stand in front.

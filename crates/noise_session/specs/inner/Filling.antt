@@ -5,14 +5,14 @@ use Rattle.noise_session.specs.declared.filling.Filling.TheVariants.{Filled, End
 use Rattle.noise_session.specs.Counting.{one_more}
 use Rattle.noise_session.specs.Frames.{IsPartial, IsWhole}
 
--- what is held of a frame behind a reading of its missing bytes
+-- what is held of a frame after a reading of its missing bytes
 abbrev pub Leaves : Filling → List ℕ → Type 0
 Leaves Filled bytes = IsWhole bytes
 Leaves End bytes = IsPartial bytes
 Leaves Failed bytes = IsPartial bytes
 
 -- how many calls of the reader have failed then
-abbrev pub behind_filling : ℕ → Filling → ℕ
-behind_filling failures Failed = one_more failures
-behind_filling failures Filled = failures
-behind_filling failures End = failures
+abbrev pub after_filling : ℕ → Filling → ℕ
+after_filling failures Failed = one_more failures
+after_filling failures Filled = failures
+after_filling failures End = failures

@@ -8,7 +8,7 @@ use std::alloc::Global;
 use std::io::{Error, ErrorKind, Read, Result, Write};
 use std::process::Abort;
 
-// Gives a frame, a byte a read. Behind so many bytes it fails once and then goes on, or it has come to its end.
+// Gives a frame, a byte a read. After so many bytes it fails once and then goes on, or it has come to its end.
 #[derive(Drop)]
 struct Reader {
     frame: [u8; 36],
@@ -35,7 +35,7 @@ impl Read for Reader {
     }
 }
 
-// Takes a byte a write. Behind so many bytes it fails once and then goes on, or it takes none. A flush fails in place of that write.
+// Takes a byte a write. After so many bytes it fails once and then goes on, or it takes none. A flush fails in place of that write.
 #[derive(Drop)]
 struct Writer {
     taken: [u8; 36],
@@ -88,7 +88,7 @@ fn failing_writer(left: usize, failure: Option<ErrorKind>) -> Counted<Writer> {
     })
 }
 
-// A read that fails so at this place leaves the bytes before it, and the next call goes on behind them.
+// A read that fails so at this place leaves the bytes before it, and the next call goes on after them.
 fn goes_on(rt: &impl Abort, alloc: Global, place: usize, kind: ErrorKind) {
     let mut responder = end(rt, alloc, Role::Responder, &[]);
     let mut from = failing_reader(place, Some(kind));
@@ -102,7 +102,7 @@ fn goes_on(rt: &impl Abort, alloc: Global, place: usize, kind: ErrorKind) {
 }
 
 #[test]
-fn goes_on_behind_a_failed_read(rt: HostRuntime) {
+fn goes_on_after_a_failed_read(rt: HostRuntime) {
     for place in 0..36 {
         goes_on(&rt, rt.alloc(), place, ErrorKind::Other);
         goes_on(&rt, rt.alloc(), place, ErrorKind::Interrupted);

@@ -233,7 +233,7 @@ fn a_session_opens(rt: HostRuntime) -> Result<(), Fail> {
 }
 
 #[test]
-fn a_datagram_is_a_message_behind_its_nonce(rt: HostRuntime) {
+fn a_datagram_is_a_message_after_its_nonce(rt: HostRuntime) {
     let (first, second) = opened(&rt);
     let mut message = [0; 21];
     assert!(rt; seal_hello(&mut Transport::new(first, 0), &mut message) == Ok(21));

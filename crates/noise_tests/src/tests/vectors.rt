@@ -110,7 +110,7 @@ const OWN: [&str; 14] = [
     "say responder - -",
 ];
 
-// Without a heading or messages it is told where they had to stand. Behind a line of xor keys no answer may stand.
+// Without a heading or messages it is told where they had to stand. After a line of xor keys no answer may stand.
 const WRONG_IN_OWN: [(&str, usize, LineKind); 8] = [
     ("NK2:", 3, LineKind::Pattern),
     ("NK1", 3, LineKind::Pattern),
@@ -139,7 +139,7 @@ const SECOND: [&str; 13] = [
     "expect initiator: ~",
 ];
 
-// Without `datagrams` no datagram is an event, and behind it nothing else is. A line is told as one of what is expected only behind the first such line.
+// Without `datagrams` no datagram is an event, and after it nothing else is. A line is told as one of what is expected only after the first such line.
 const WRONG_IN_SECOND: [(&str, usize, LineKind); 33] = [
     ("vector 3", 1, LineKind::Header),
     ("seal initiator -", 8, LineKind::Event),
@@ -267,7 +267,7 @@ fn push_lines(rt: &impl Abort, text: &mut String, lines: &[&str]) {
     }
 }
 
-// The lines in front of that of this number, and behind them this text.
+// The lines in front of that of this number, and after them this text.
 fn text_to(rt: &impl Abort, alloc: Global, lines: &[&str], number: usize, last: &str) -> String {
     let mut text = String::new(alloc);
     let before = number.saturating_sub(1);

@@ -2,7 +2,7 @@ use Rattle.std.proofs.Common.{◌≡◌, ℕ, List, refl, ap, sym, subst, ◌∙
 use Rattle.noise_handshake.specs.declared.faults.Cause.TheVariants.{Short, Tag, Agreement}
 use Rattle.noise_handshake.specs.declared.faults.ReadFault.{ReadFault}
 use Rattle.noise_handshake.specs.declared.faults.ReadFault.TheVariants as read
-use Rattle.noise_handshake.specs.Asking.{LeavesUnread, behind_asked}
+use Rattle.noise_handshake.specs.Asking.{LeavesUnread, after_asked}
 use Rattle.noise_handshake.specs.Held.{Held, ended_as}
 use Rattle.noise_keys.specs.Table.{Table}
 use Rattle.noise_handshake.specs.declared.faults.Unread.{Unread}
@@ -10,7 +10,7 @@ use Rattle.noise_handshake.specs.Party.{Stands, Declines}
 use Rattle.noise_handshake.specs.View.{View, Refuses}
 use Rattle.noise_c.specs.Codes.{read_code, token_in}
 use Rattle.noise_c.specs.Kept.{public_in, agreement_in, held_in}
-use Rattle.noise_c.proofs.Keeps.{secrets-left, ended-kept, refused-leaves, usable-behind, was-declined, opened, was-read, stands-for}
+use Rattle.noise_c.proofs.Keeps.{secrets-left, ended-kept, refused-leaves, usable-after, was-declined, opened, was-read, stands-for}
 use Rattle.noise_c.proofs.handshakes.noise_read.Goals as goal
 
 pub returns-in-Ok-clause-accepted : goal.returns-in-Ok-clause-accepted
@@ -39,7 +39,7 @@ returns-in-Ok-clause-usable c e =
     (c.in-Ok.ensures.state.role ∙ ap (λ (z : Held Table). z.role) c.in-Some.ensures.same)
     (secrets-left c.args.kept.now c.in-Some.handshake h2 c.in-Ok.ensures.state.taken _ (c.in-Some.ensures.usable.0 refl).secrets
     c.in-Some.ensures.count c.in-Some.ensures.same c.in-Ok.ensures.state.secrets c.secrets.ensures.same) in
-    usable-behind c.args.kept.now c.keep.new.kept c.in-Some.handshake h2 (c.in-Some.ensures.usable.0 refl) c.keep.ensures.mark c.keep.ensures.text_len c.keep.ensures.answers
+    usable-after c.args.kept.now c.keep.new.kept c.in-Some.handshake h2 (c.in-Some.ensures.usable.0 refl) c.keep.ensures.mark c.keep.ensures.text_len c.keep.ensures.answers
     (omega (arith, c.keep.ensures.secrets, c.secrets.ensures.few)) c.keep.ensures.text c.in-Some.ensures.named c.in-Ok.ensures.state.pattern
     c.progress.ensures.valid same c.progress.ensures.whole
 
@@ -56,7 +56,7 @@ returns-in-Refused-clause-declined c low high p v k =
     let same : held_in h2.pattern new ≡ h2 = ended-kept old new h h2 refl c.in-Some.ensures.same over in
     let stays : h2.pattern ≡ h.pattern = ap (λ (z : Held Table). z.pattern) over in
     let s = opened old new h h2 p v c.in-Some.ensures.one c.in-Some.ensures.same stays refl same k in
-    let r = subst (λ (z : Unread). LeavesUnread v c.args.message.now z × Stands public_in agreement_in h2 (behind_asked v z))
+    let r = subst (λ (z : Unread). LeavesUnread v c.args.message.now z × Stands public_in agreement_in h2 (after_asked v z))
     c.in-Err-Declined.field-0-is (c.in-Err-Declined.ensures.reads v s) in
     was-declined old new h h2 p v c.in-Some.ensures.one c.in-Some.ensures.same stays refl same k
     c.args.message.now c.in-Err-Declined.fault c.read_code-code.result.0 c.read_code-code.result.1

@@ -12,7 +12,7 @@ use Rattle.noise_handshake.specs.Writing.{Lacks}
 use Rattle.noise_c.specs.Codes.{write_code}
 use Rattle.noise_names.specs.Plan.{Plan}
 use Rattle.noise_c.specs.Kept.{held_in}
-use Rattle.noise_c.proofs.Keeps.{secrets-left, opened, usable-behind, was-written, stands-for}
+use Rattle.noise_c.proofs.Keeps.{secrets-left, opened, usable-after, was-written, stands-for}
 use Rattle.noise_c.proofs.writing.noise_write.Goals.{in-Some-message_len+else-needed-out+in_default-wants_to_write, in_default-message_len}
 use Rattle.noise_c.proofs.writing.noise_write.Goals as goal
 
@@ -42,7 +42,7 @@ returns-in-Ok-clause-stays c e =
     (c.in-Ok.ensures.state.role ∙ ap (λ (z : Held Table). z.role) c.in-Some.ensures.same)
     (secrets-left c.args.kept.now c.in-Some.handshake h2 c.in-Ok.ensures.state.taken _ (c.in-Some.ensures.usable.0 refl).secrets
     c.in-Some.ensures.count c.in-Some.ensures.same c.in-Ok.ensures.state.secrets c.secrets.ensures.same) in
-    usable-behind c.args.kept.now c.keep.new.kept c.in-Some.handshake h2 (c.in-Some.ensures.usable.0 refl) c.keep.ensures.mark c.keep.ensures.text_len c.keep.ensures.answers
+    usable-after c.args.kept.now c.keep.new.kept c.in-Some.handshake h2 (c.in-Some.ensures.usable.0 refl) c.keep.ensures.mark c.keep.ensures.text_len c.keep.ensures.answers
     (omega (arith, c.keep.ensures.secrets, c.secrets.ensures.few)) c.keep.ensures.text c.in-Some.ensures.named c.in-Ok.ensures.state.pattern
     c.progress.ensures.valid same c.progress.ensures.whole
 

@@ -4,7 +4,7 @@ use Rattle.noise_names.specs.declared.token.Token.{Token}
 use Rattle.noise_state.specs.Standing.{StateStands, keyed}
 use Rattle.noise_state.specs.History.{cipher_key}
 use Rattle.noise_handshake.specs.declared.layout.PlacedToken.{PlacedToken}
-use Rattle.noise_handshake.specs.Line.{token_piece, behind_token, behind_front}
+use Rattle.noise_handshake.specs.Line.{token_piece, after_token, after_front}
 use Rattle.noise_handshake.specs.View.{Reader, Leads, cause_of}
 use Rattle.noise_handshake.specs.inner.Layout.{tokens_of, ArePlaced}
 use Rattle.noise_handshake.specs.inner.Listening.{Fails}
@@ -130,19 +130,19 @@ returns-in-Ok-read_tokens-clause-read g t c r place s within are =
     let goes : drop (place + first.width) m ≡ drop n rest = ap (λ (k : ℕ). drop (place + k) m) (sym wide) ∙ sym (drop-drop n place m) in
     let more : ℕ = c.in-Ok-read_tokens.more in
     let known2 = c.read_token.new.known in
-    let others : List (List ℕ) = c.secrets_behind-others.result.now in
-    let i = c.in-Ok-read_tokens.ensures.read (behind_token psks r token d.0) (place + first.width) d.3 next placed in
-    let leads : Leads v known2 others (behind_token psks r token d.0) later i.0 (drop (place + first.width) m) (drop more (drop (place + first.width) m)) =
-    subst (λ (z : List ℕ). Leads v known2 others (behind_token psks r token d.0) later i.0 (drop (place + first.width) m) z)
+    let others : List (List ℕ) = c.secrets_after-others.result.now in
+    let i = c.in-Ok-read_tokens.ensures.read (after_token psks r token d.0) (place + first.width) d.3 next placed in
+    let leads : Leads v known2 others (after_token psks r token d.0) later i.0 (drop (place + first.width) m) (drop more (drop (place + first.width) m)) =
+    subst (λ (z : List ℕ). Leads v known2 others (after_token psks r token d.0) later i.0 (drop (place + first.width) m) z)
     (sym (drop-drop more (place + first.width) m)) i.1 in
     let whole = led v c.args.known.now known2 c.args.secrets.now others r (tokens_of c.args.placed.now) later token d.0 rest (drop (place + first.width) m) n
-    split d.1 spelled d.4 c.secrets_behind-others.ensures goes i.0 more leads in (
+    split d.1 spelled d.4 c.secrets_after-others.ensures goes i.0 more leads in (
       d.0 ∷ i.0,
       subst (λ (z : List ℕ). Leads v c.args.known.now c.args.secrets.now r (tokens_of c.args.placed.now) (d.0 ∷ i.0) rest z)
           (drop-drop (n + more) place m) whole,
-      subst (λ (us : List Token). StateStands c.read_tokens.new.state (behind_front psks r us (d.0 ∷ i.0))) (sym split) i.2,
+      subst (λ (us : List Token). StateStands c.read_tokens.new.state (after_front psks r us (d.0 ∷ i.0))) (sym split) i.2,
       learned-on v c.args.known.now known2 c.args.secrets.now others r (tokens_of c.args.placed.now) later token d.0 rest (drop (place + first.width) m) n
-          split d.1 spelled d.4 c.secrets_behind-others.ensures goes i.0 c.read_tokens.new.known i.3,
+          split d.1 spelled d.4 c.secrets_after-others.ensures goes i.0 c.read_tokens.new.known i.3,
     )
 
 pub returns-in-Err-read_tokens-clause-read : goal.returns-in-Err-read_tokens-clause-read
@@ -168,10 +168,10 @@ returns-in-Err-read_tokens-clause-read g t c r place s within are =
     let d = c.in-Ok.ensures.read r s in
     let spelled : rest ≡ token_piece r token d.0 ++ drop n rest = subst (λ (z : List ℕ). z ≡ token_piece r token d.0 ++ drop n z) here d.2 in
     let goes : drop (place + first.width) m ≡ drop n rest = ap (λ (k : ℕ). drop (place + k) m) (sym wide) ∙ sym (drop-drop n place m) in
-    let i = c.in-Err-read_tokens.ensures.read (behind_token psks r token d.0) (place + first.width) d.3 next placed in
-    stopped-later v c.args.known.now c.read_token.new.known c.args.secrets.now c.secrets_behind-others.result.now r
+    let i = c.in-Err-read_tokens.ensures.read (after_token psks r token d.0) (place + first.width) d.3 next placed in
+    stopped-later v c.args.known.now c.read_token.new.known c.args.secrets.now c.secrets_after-others.result.now r
     (tokens_of c.args.placed.now) later token d.0
-    rest (drop (place + first.width) m) n split d.1 spelled d.4 c.secrets_behind-others.ensures goes
+    rest (drop (place + first.width) m) n split d.1 spelled d.4 c.secrets_after-others.ensures goes
     c.in-Err-read_tokens.k c.in-Err-read_tokens.cause c.read_tokens.new.known c.in-Err-read_tokens.ensures.stop i
 
 pub returns-in_default-clause-read : goal.returns-in_default-clause-read

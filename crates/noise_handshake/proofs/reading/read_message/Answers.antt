@@ -5,8 +5,8 @@ use Rattle.std.proofs.lemmas.Slice.{take-put_mid_below}
 use borrow.Rule.Slice.PartMut.{put_mid}
 use Rattle.noise_state.specs.Standing.{StateStands, keyed}
 use Rattle.noise_state.specs.Standing.{nonce_now-is}
-use Rattle.noise_state.specs.History.{History, Part, and_then, piece, nonce}
-use Rattle.noise_handshake.specs.Line.{behind_front}
+use Rattle.noise_state.specs.History.{History, Ciphertext, and_then, piece, nonce}
+use Rattle.noise_handshake.specs.Line.{after_front}
 use Rattle.noise_names.specs.declared.token.Token.{Token}
 use Rattle.noise_handshake.specs.View.{Reader, Leads}
 use Rattle.noise_handshake.specs.inner.Listening.{StopsKnowing}
@@ -44,15 +44,15 @@ returns-in-Ok-decrypt_and_hash-clause-read g c r s =
     let none : 0 + n ≡ n = omega arith in
     let i1 : Leads v c.args.known.now c.args.secrets.now r (tokens_of c.args.placed.now) start.0 m (drop n m) =
     subst (λ (k : ℕ). Leads v c.args.known.now c.args.secrets.now r (tokens_of c.args.placed.now) start.0 m (drop k m)) none start.1 in
-    let behind : History = behind_front c.args.means.now.psks r (tokens_of c.args.placed.now) start.0 in
-    let d = c.in-Ok-decrypt_and_hash.ensures.ok behind start.2 in
+    let after : History = after_front c.args.means.now.psks r (tokens_of c.args.placed.now) start.0 in
+    let d = c.in-Ok-decrypt_and_hash.ensures.ok after start.2 in
     let goes : take (length m - n) (drop n m) ≡ drop n m = take_all (length m - n) (drop n m) (omega (arith, length-drop n m)) in
     let q : payload ≡ take len new = written-at m new _ n len (omega (arith, c.in-Ok.ensures.within))
     (omega (arith, sealed_len-tag (keyed c.read_tokens.new.state) len, c.in-Ok-decrypt_and_hash.ensures.text)) in
-    let e : take (length m - n) (drop n m) ≡ piece behind payload = d.0 ∙ ap (piece behind) (sym q) in (
+    let e : take (length m - n) (drop n m) ≡ piece after payload = d.0 ∙ ap (piece after) (sym q) in (
       start.0,
       reads-whole v c.args.known.now c.args.secrets.now r (tokens_of c.args.placed.now) m start.0 (drop n m) payload i1 (sym goes ∙ e),
-      subst (λ (k : List ℕ). StateStands c.decrypt_and_hash.new.self (and_then behind (Part k))) e d.1,
+      subst (λ (k : List ℕ). StateStands c.decrypt_and_hash.new.self (and_then after (Ciphertext k))) e d.1,
       start.3,
     )
 
@@ -68,15 +68,15 @@ returns-in-Err-Short-clause-read g c r s =
     let none : 0 + n ≡ n = omega arith in
     let i1 : Leads v c.args.known.now c.args.secrets.now r (tokens_of c.args.placed.now) start.0 m (drop n m) =
     subst (λ (k : ℕ). Leads v c.args.known.now c.args.secrets.now r (tokens_of c.args.placed.now) start.0 m (drop k m)) none start.1 in
-    let behind : History = behind_front c.args.means.now.psks r (tokens_of c.args.placed.now) start.0 in
-    let nonces : nonce behind < 2 ^ 64 - 1 = omega (arith, nonce_now-is c.read_tokens.new.state behind start.2, c.read_tokens.ensures.nonce) in
+    let after : History = after_front c.args.means.now.psks r (tokens_of c.args.placed.now) start.0 in
+    let nonces : nonce after < 2 ^ 64 - 1 = omega (arith, nonce_now-is c.read_tokens.new.state after start.2, c.read_tokens.ensures.nonce) in
     let fits : length (take (length m - n) (drop n m)) ≤ 65535 = omega (arith, length-drop n m, length-take (length m - n) (drop n m)) in
     let goes : take (length m - n) (drop n m) ≡ drop n m = take_all (length m - n) (drop n m) (omega (arith, length-drop n m)) in
     let ts : List Token = tokens_of c.args.placed.now in
     subst (λ (k : ℕ). StopsKnowing v c.args.known.now c.args.secrets.now r ts m k c.end_cause.result c.read_tokens.new.known)
     (length-tokens_of c.args.placed.now)
     (knows-last v c.args.known.now c.read_tokens.new.known c.args.secrets.now r ts m start.0 (drop n m) c.end_cause.result i1
-    (λ payload e. let told = (c.in-Err-Short.ensures.accepts behind start.2).1 (nonces, fits, (payload, goes ∙ e)) in cc)
+    (λ payload e. let told = (c.in-Err-Short.ensures.accepts after start.2).1 (nonces, fits, (payload, goes ∙ e)) in cc)
     (c.end_cause.ensures ∙ ap (λ (k : ℕ). if nat_lt k 16 then Short else Tag) (sym (length-drop n m))) start.3)
 
 pub returns-in-Err-clause-read : goal.returns-in-Err-clause-read

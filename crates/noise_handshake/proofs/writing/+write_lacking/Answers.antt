@@ -12,8 +12,8 @@ returns-in-Some g t c =
       own = g.K.Keys.public_of c.args.means.now.keys.now;
       agree = g.K.Keys.agreement c.args.means.now.keys.now;
     } in
-    asked-later w c.args.known.now c.args.secrets.now c.secrets_behind-others.result.now (tokens_of c.args.placed.now) (tokens_of c.in_ok-first.later.now)
-    c.in_ok-first.first.now.token _ (ap tokens_of c.in_ok-first.ensures.cases.0) c.secrets_behind-others.ensures c.in-Some.ensures.text
+    asked-later w c.args.known.now c.args.secrets.now c.secrets_after-others.result.now (tokens_of c.args.placed.now) (tokens_of c.in_ok-first.later.now)
+    c.in_ok-first.first.now.token _ (ap tokens_of c.in_ok-first.ensures.cases.0) c.secrets_after-others.ensures c.in-Some.ensures.text
     c.write_lacking.result c.write_lacking.ensures
 
 pub returns-in-None : goal.returns-in-None

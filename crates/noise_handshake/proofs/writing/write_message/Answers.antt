@@ -1,9 +1,9 @@
 use Rattle.noise_state.specs.Standing.{keyed}
 use Rattle.std.proofs.Common.{ℕ, ◌+◌, ◌-◌, ◌≤◌, List, ◌++◌, length, take, drop, ap, ◌∙◌, arith, length-take, length-drop}
-use Rattle.noise_handshake.specs.Line.{front, behind_front}
+use Rattle.noise_handshake.specs.Line.{front, after_front}
 use Rattle.noise_handshake.specs.inner.Layout.{tokens_of}
 use Rattle.noise_handshake.proofs.Giving.{widths-last}
-use Rattle.noise_handshake.proofs.Written.{joined, rest-behind}
+use Rattle.noise_handshake.proofs.Written.{joined, rest-after}
 use Rattle.noise_handshake.proofs.writing.write_message.Goals as goal
 
 pub returns-clause-rest : goal.returns-clause-rest
@@ -18,7 +18,7 @@ returns-clause-rest g c =
     c.requires.room c.in-Ok.ensures.width c.in-Ok.ensures.keyed c.write_part.ensures.width in
     let fits : n ≤ length first = omega (arith, both) in
     let long : k ≤ length second = omega (arith, both, length-take (length first - n) (drop n first), length-drop n first) in
-    rest-behind first second n k fits long c.args.out.now c.in-Ok.ensures.rest c.write_part.ensures.rest
+    rest-after first second n k fits long c.args.out.now c.in-Ok.ensures.rest c.write_part.ensures.rest
 
 pub returns-clause-written : goal.returns-clause-written
 returns-clause-written g c r s =
@@ -33,7 +33,7 @@ returns-clause-written g c r s =
     let fits : n ≤ length first = omega (arith, both) in
     let long : k ≤ length second = omega (arith, both, length-take (length first - n) (drop n first), length-drop n first) in
     let a = c.in-Ok.ensures.written r s in
-    let b = c.write_part.ensures.written (behind_front c.args.means.now.psks r (tokens_of c.args.placed.now) a.0) a.3 in (
+    let b = c.write_part.ensures.written (after_front c.args.means.now.psks r (tokens_of c.args.placed.now) a.0) a.3 in (
       a.0,
       a.1,
       joined first second n k fits long (drop (length first - n) (drop n first))

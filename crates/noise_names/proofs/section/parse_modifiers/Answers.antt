@@ -9,7 +9,7 @@ use Rattle.arrayvec.specs.ArrayVec.{ArrayVec}
 use Rattle.noise_names.specs.declared.faults.NameFault.TheVariants.{ModifierOrder}
 use Rattle.noise_names.specs.Names.{modifier, are_places}
 use Rattle.noise_names.specs.Sections.{modifiers_read}
-use Rattle.noise_names.proofs.Modifiers.{fronts, fronts-push, join-push, are_numbers, are_numbers-push, refused_at, refused_behind, modifiers_read-all}
+use Rattle.noise_names.proofs.Modifiers.{fronts, fronts-push, join-push, are_numbers, are_numbers-push, refused_at, refused_after, modifiers_read-all}
 use Rattle.noise_names.proofs.Modifiers.{too_many_places}
 use Rattle.noise_names.proofs.section.parse_modifiers.Goals as goal
 use Rattle.noise_names.proofs.section.parse_modifiers.Goals.{then-is_full, else-is_full}
@@ -25,11 +25,11 @@ is_nil : (xs : List ℕ) → eqb (length xs) 0 ≡ true → xs ≡ []
 is_nil [] e = refl
 is_nil (x ∷ xs) e = let none : length (x ∷ xs) ≡ 0 = same_from_test (length (x ∷ xs)) 0 e in absurd (omega arith)
 
-no_plus : (behind more : List ℕ) → pointwise eqb (take 1 behind) (43 ∷ []) ≡ false → behind ≡ 43 ∷ more → ⊥
-no_plus behind more h e = let t : pointwise eqb (take 1 (43 ∷ more)) (43 ∷ []) ≡ false =
+no_plus : (beyond more : List ℕ) → pointwise eqb (take 1 beyond) (43 ∷ []) ≡ false → beyond ≡ 43 ∷ more → ⊥
+no_plus beyond more h e = let t : pointwise eqb (take 1 (43 ∷ more)) (43 ∷ []) ≡ false =
     subst (λ (bs : List ℕ). pointwise eqb (take 1 bs) (43 ∷ []) ≡ false) e h in cc
 
-plus : (behind more : List ℕ) → pointwise eqb (take 1 behind) (43 ∷ []) ≡ true → more ≡ drop 1 behind → behind ≡ 43 ∷ more
+plus : (beyond more : List ℕ) → pointwise eqb (take 1 beyond) (43 ∷ []) ≡ true → more ≡ drop 1 beyond → beyond ≡ 43 ∷ more
 plus [] more h e = absurd (cc)
 plus (b ∷ bs) more h e = let b_is : b ≡ 43 = same_from_test b 43 (first (eqb b 43) h) in cc where
   first : (x : Bool) → x && true ≡ true → x ≡ true
@@ -37,17 +37,17 @@ plus (b ∷ bs) more h e = let b_is : b ≡ 43 = same_from_test b 43 (first (eqb
   first false h = h
 
 -- one modifier more is read
-read_more : (modifiers done rest behind more : List ℕ) (n : ℕ) → modifiers ≡ fronts done ++ rest → rest ≡ modifier n ++ behind → behind ≡ 43 ∷ more
+read_more : (modifiers done rest beyond more : List ℕ) (n : ℕ) → modifiers ≡ fronts done ++ rest → rest ≡ modifier n ++ beyond → beyond ≡ 43 ∷ more
     → modifiers ≡ fronts (done ++ n ∷ []) ++ more
-read_more modifiers done rest behind more n e f g =
+read_more modifiers done rest beyond more n e f g =
     let here : rest ≡ (modifier n ++ 43 ∷ []) ++ more = f ∙ ap (λ (bs : List ℕ). modifier n ++ bs) g in
     e ∙ ap (λ (bs : List ℕ). fronts done ++ bs) here ∙ sym (append_assoc (fronts done) (modifier n ++ 43 ∷ []) more)
     ∙ ap (λ (bs : List ℕ). bs ++ more) (sym (fronts-push done n))
 
 -- the last modifier is read
-read_last : (modifiers done rest behind : List ℕ) (n : ℕ) → modifiers ≡ fronts done ++ rest → rest ≡ modifier n ++ behind → behind ≡ []
+read_last : (modifiers done rest beyond : List ℕ) (n : ℕ) → modifiers ≡ fronts done ++ rest → rest ≡ modifier n ++ beyond → beyond ≡ []
     → modifiers ≡ join_with_byte 43 (map modifier (done ++ n ∷ []))
-read_last modifiers done rest behind n e f g =
+read_last modifiers done rest beyond n e f g =
     e ∙ ap (λ (bs : List ℕ). fronts done ++ bs) (f ∙ ap (λ (bs : List ℕ). modifier n ++ bs) g) ∙ sym (join-push done n)
 
 -- what is kept of the numbers
@@ -79,17 +79,17 @@ returns-in_default c =
 
 pub returns-in_default-strip_prefix : goal.returns-in_default-strip_prefix
 returns-in_default-strip_prefix c =
-    rw (refused_behind c.args.modifiers.now c.loop-number.rest.now c.loop-number.invariant.0 c.in-Some.behind.now c.in-Some.number c.loop-number.invariant.1
-    (not_empty c.args.modifiers.now (sym c.if-is_empty.ensures)) c.in-Some.ensures.some.1 (not_empty c.in-Some.behind.now (sym c.if-is_empty-2.ensures))
-    (λ more e. no_plus c.in-Some.behind.now more c.in_default-strip_prefix.ensures.cases e))
+    rw (refused_after c.args.modifiers.now c.loop-number.rest.now c.loop-number.invariant.0 c.in-Some.beyond.now c.in-Some.number c.loop-number.invariant.1
+    (not_empty c.args.modifiers.now (sym c.if-is_empty.ensures)) c.in-Some.ensures.some.1 (not_empty c.in-Some.beyond.now (sym c.if-is_empty-2.ensures))
+    (λ more e. no_plus c.in-Some.beyond.now more c.in_default-strip_prefix.ensures.cases e))
     refl
 
 pub loop-number-preserved : goal.loop-number-preserved
 loop-number-preserved c = (
   c.loop-number.invariant.0 ++ c.in-Some.number ∷ [],
-  read_more c.args.modifiers.now c.loop-number.invariant.0 c.loop-number.rest.now c.in-Some.behind.now c.in-Some-strip_prefix.more.now c.in-Some.number
+  read_more c.args.modifiers.now c.loop-number.invariant.0 c.loop-number.rest.now c.in-Some.beyond.now c.in-Some-strip_prefix.more.now c.in-Some.number
       c.loop-number.invariant.1 c.in-Some.ensures.some.1
-      (plus c.in-Some.behind.now c.in-Some-strip_prefix.more.now c.in-Some-strip_prefix.ensures.cases.0 c.in-Some-strip_prefix.ensures.cases.1),
+      (plus c.in-Some.beyond.now c.in-Some-strip_prefix.more.now c.in-Some-strip_prefix.ensures.cases.0 c.in-Some-strip_prefix.ensures.cases.1),
   are_numbers-push c.loop-number.invariant.0 c.in-Some.number c.loop-number.invariant.2 c.in-Some.ensures.some.0,
   elim c.if-is_full.branch [
     | then-is_full w ↦ kept_full c.loop-number.too_many c.if-is_full.too_many c.loop-number.invariant.0 c.loop-number.numbers.items
@@ -105,8 +105,8 @@ pub returns-then-too_many : goal.returns-then-too_many
 returns-then-too_many c =
     let done : List ℕ = c.loop-number.invariant.0 ++ c.in-Some.number ∷ [] in
     let read : c.args.modifiers.now ≡ join_with_byte 43 (map modifier done) =
-    read_last c.args.modifiers.now c.loop-number.invariant.0 c.loop-number.rest.now c.in-Some.behind.now c.in-Some.number c.loop-number.invariant.1
-    c.in-Some.ensures.some.1 (is_nil c.in-Some.behind.now (sym c.if-is_empty-2.ensures)) in
+    read_last c.args.modifiers.now c.loop-number.invariant.0 c.loop-number.rest.now c.in-Some.beyond.now c.in-Some.number c.loop-number.invariant.1
+    c.in-Some.ensures.some.1 (is_nil c.in-Some.beyond.now (sym c.if-is_empty-2.ensures)) in
     let numbers : are_numbers done ≡ true = are_numbers-push c.loop-number.invariant.0 c.in-Some.number c.loop-number.invariant.2 c.in-Some.ensures.some.0 in
     let kept : Kept c.if-is_full.too_many done c.if-is_full.numbers.items = elim c.if-is_full.branch [
       | then-is_full w ↦ kept_full c.loop-number.too_many c.if-is_full.too_many c.loop-number.invariant.0 c.loop-number.numbers.items
@@ -123,8 +123,8 @@ pub returns : goal.returns
 returns c =
     let done : List ℕ = c.loop-number.invariant.0 ++ c.in-Some.number ∷ [] in
     let read : c.args.modifiers.now ≡ join_with_byte 43 (map modifier done) =
-    read_last c.args.modifiers.now c.loop-number.invariant.0 c.loop-number.rest.now c.in-Some.behind.now c.in-Some.number c.loop-number.invariant.1
-    c.in-Some.ensures.some.1 (is_nil c.in-Some.behind.now (sym c.if-is_empty-2.ensures)) in
+    read_last c.args.modifiers.now c.loop-number.invariant.0 c.loop-number.rest.now c.in-Some.beyond.now c.in-Some.number c.loop-number.invariant.1
+    c.in-Some.ensures.some.1 (is_nil c.in-Some.beyond.now (sym c.if-is_empty-2.ensures)) in
     let numbers : are_numbers done ≡ true = are_numbers-push c.loop-number.invariant.0 c.in-Some.number c.loop-number.invariant.2 c.in-Some.ensures.some.0 in
     let kept : Kept c.if-is_full.too_many done c.if-is_full.numbers.items = elim c.if-is_full.branch [
       | then-is_full w ↦ kept_full c.loop-number.too_many c.if-is_full.too_many c.loop-number.invariant.0 c.loop-number.numbers.items

@@ -1,13 +1,13 @@
 use Rattle.std.proofs.Common.{◌≡◌, ℕ, List, length, take, drop, ap, sym, ◌∙◌, Ok}
 use Rattle.std.proofs.lemmas.Result.{err_from_is_err_and}
-use Rattle.noise_names.specs.Names.{Section, is_base_byte, base_front, behind_base}
+use Rattle.noise_names.specs.Names.{Section, is_base_byte, base_front, after_base}
 use Rattle.noise_names.proofs.Sections.{take-front, section_ok, section_err}
 use Rattle.noise_names.proofs.section.parse_section.Goals as goal
 
 base_is : (section base : List ℕ) (n : ℕ) → n ≡ length (base_front section) → base ≡ take n section → base ≡ base_front section
 base_is section base n e f = f ∙ ap (λ (k : ℕ). take k section) e ∙ take-front is_base_byte section
 
-modifiers_are : (section modifiers : List ℕ) (n : ℕ) → n ≡ length (base_front section) → modifiers ≡ drop n section → modifiers ≡ behind_base section
+modifiers_are : (section modifiers : List ℕ) (n : ℕ) → n ≡ length (base_front section) → modifiers ≡ drop n section → modifiers ≡ after_base section
 modifiers_are section modifiers n e f = f ∙ ap (λ (k : ℕ). drop k section) e
 
 pub returns-in_err-places : goal.returns-in_err-places

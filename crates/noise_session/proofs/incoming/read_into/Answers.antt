@@ -4,7 +4,7 @@ use Rattle.std.proofs.lemmas.Grind.{common_steps}
 use Rattle.noise_session.proofs.Growing.{front-read}
 use Rattle.noise_session.proofs.incoming.read_into.Goals as goal
 
--- the front of a buffer behind a reading into a part of it
+-- the front of a buffer after a reading into a part of it
 front-of : (items old read post rest : List ℕ) (at n len : ℕ) → old ≡ items → at + n ≤ len → at ≤ length old → n ≤ length read
     → take (at + n) (take len ((take at old ++ (read ++ post)) ++ rest)) ≡ take at items ++ take n read
 front-of items old read post rest at n len is long within fits =

@@ -1,6 +1,6 @@
 use Rattle.std.proofs.Common.{◌+◌, [], None, Some, refl, sym, subst}
 use Rattle.std.specs.Prelude.{slice_range}
-use Rattle.noise_handshake.specs.Party.{behind_message}
+use Rattle.noise_handshake.specs.Party.{after_message}
 use Rattle.noise_session.specs.declared.phase.Phase.{Phase}
 use Rattle.noise_session.specs.HeldTransport.{HeldTransport, TransportStands}
 use Rattle.noise_session.specs.Ends.{EndView, PhaseStands, HandshakeStands, OpenStands, OverStands, transport_in, closed}
@@ -15,7 +15,7 @@ returns-in-Ok-clause-judges g c v s =
     subst (λ (p : Phase g.row.K.Denot). PhaseStands g.K.Keys.public_of g.K.Keys.agreement p v) c.in-Handshaking.is s in
     let r = c.in-Ok.ensures.reads v.party h.party in
     let payload = slice_range c.read_within.new.message c.in-Ok.from c.in-Ok.to in
-    let next : EndView = record v { party = behind_message v.party r.0 payload; held = [] } in
+    let next : EndView = record v { party = after_message v.party r.0 payload; held = [] } in
     (next, accepted v c.args.message.now payload r.0 r.1, c.settle.ensures.stands next (r.2, h.interval, h.sent, h.received), refl)
 
 pub returns-in-Err-Refused-clause-judges : goal.returns-in-Err-Refused-clause-judges

@@ -4,7 +4,7 @@ use borrow.Rule.Slice.PartMut.{put_mid}
 use Rattle.noise_session.specs.Progress.{Progress, refusal, message_length, length_unless, frame_len_of}
 use Rattle.noise_session.specs.Ends.{progress_in}
 use Rattle.noise_session.specs.Sending.{Sends}
-use Rattle.noise_session.proofs.Places.{written_frame, written_rest, room-behind, two-left}
+use Rattle.noise_session.proofs.Places.{written_frame, written_rest, room-after, two-left}
 use Rattle.noise_session.proofs.sending.write_frame.Goals as goal
 
 -- a frame that is due fits
@@ -15,7 +15,7 @@ pub write_message-requires-clause-room : goal.write_message-requires-clause-room
 write_message-requires-clause-room g c = λ due.
     let n = length c.args.payload.now in
     let out = c.args.out.now in
-    room-behind out (message_length (progress_in c.args.phase.now) n) c.min-start.result
+    room-after out (message_length (progress_in c.args.phase.now) n) c.min-start.result
     (due-fits (progress_in c.args.phase.now) n (length out) c.requires.room due) (omega arith)
 
 pub write_u16-requires : goal.write_u16-requires

@@ -1,5 +1,5 @@
 use Rattle.std.proofs.Common.{◌≡◌, ℕ, ◌+◌, List, [], length, take, None, Some, Ok, IsTrue, refl, sym, ◌∙◌, ap, subst}
-use Rattle.noise_handshake.specs.Party.{behind_own}
+use Rattle.noise_handshake.specs.Party.{after_own}
 use Rattle.noise_session.specs.declared.faults.SendFault.TheVariants as fault
 use Rattle.noise_session.specs.declared.phase.Phase.{Phase}
 use Rattle.noise_session.specs.declared.phase.Phase.TheVariants as phase
@@ -25,7 +25,7 @@ returns-in-Ok-clause-ok g c v s =
     ap (λ (p : Progress). refusal p n)
     (sym (phase-progress g.K.Keys.public_of g.K.Keys.agreement (phase.Handshaking c.in-Handshaking.handshake c.in-Handshaking.interval) v h))
     ∙ ok-due c.in-Handshaking.handshake n c.args.out.now c.write.new.out c.in-Ok.len c.in-Ok.ensures.fault in
-    let next : EndView = record v { party = behind_own v.party w.0 c.args.payload.now } in (
+    let next : EndView = record v { party = after_own v.party w.0 c.args.payload.now } in (
       next,
       sends_handshake v c.args.payload.now (take c.in-Ok.len c.write.new.out) w.0 due w.1,
       c.settle.ensures.stands next (w.2, h.interval, h.sent, h.received),

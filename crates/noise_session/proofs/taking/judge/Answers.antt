@@ -3,7 +3,7 @@ use Rattle.noise_session.specs.inner.Incoming.{bytes_of}
 use Rattle.noise_session.specs.Steps.{Told}
 use Rattle.noise_session.specs.Taking.{Judges}
 use Rattle.noise_session.specs.inner.Outcomes.{tells}
-use Rattle.noise_session.proofs.Places.{tells-behind, drop-front}
+use Rattle.noise_session.proofs.Places.{tells-after, drop-front}
 use Rattle.noise_session.proofs.taking.judge.Goals as goal
 
 pub returns-clause-judges : goal.returns-clause-judges
@@ -15,7 +15,7 @@ returns-clause-judges g c v s =
     let room = c.clear-end.new.self.room in (
       r.0,
       subst (λ (t : Told). Judges v (drop 2 (bytes_of c.args.incoming.now)) t r.0)
-          (sym (tells-behind c.deref_mut.result.now c.read_message.new.message _ _ _ c.read_message.result (omega arith) c.read_message.ensures.place
+          (sym (tells-after c.deref_mut.result.now c.read_message.new.message _ _ _ c.read_message.result (omega arith) c.read_message.ensures.place
           (omega arith)))
           (subst (λ (m : List ℕ). Judges v m (tells c.read_message.new.message c.read_message.result) r.0) message r.1),
       r.2,

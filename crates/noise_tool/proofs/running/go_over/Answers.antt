@@ -4,16 +4,16 @@ use Rattle.noise_session.specs.EndDatagrams.{is_datagram_ready}
 use Rattle.noise_vectors.specs.Expectations.{bytes_of}
 use Rattle.noise_vectors.specs.VectorText.{window_words}
 use Rattle.noise_tool.proofs.PrintedLemmas.{bytes-push, expected-push}
-use Rattle.noise_tool.proofs.RunningLemmas.{behind-ready, behind-unready, behind-without, both-ready, not-ready}
+use Rattle.noise_tool.proofs.RunningLemmas.{after-ready, after-unready, after-without, both-ready, not-ready}
 use Rattle.noise_tool.proofs.running.go_over.Goals as goal
 
-pub returns-in_default-clause-behind : goal.returns-in_default-clause-behind
-returns-in_default-clause-behind c = λ d stands.
+pub returns-in_default-clause-after : goal.returns-in_default-clause-after
+returns-in_default-clause-after c = λ d stands.
     let none : c.args.datagrams ≡ None = search rules in
-    behind-without c.args.datagrams d c.push_state_lines.result (bytes_of c.args.lines.now.items) _ none (c.push_state_lines.ensures.lines d stands)
+    after-without c.args.datagrams d c.push_state_lines.result (bytes_of c.args.lines.now.items) _ none (c.push_state_lines.ensures.lines d stands)
 
-pub returns-in-Ok-clause-behind : goal.returns-in-Ok-clause-behind
-returns-in-Ok-clause-behind c = λ d stands.
+pub returns-in-Ok-clause-after : goal.returns-in-Ok-clause-after
+returns-in-Ok-clause-after c = λ d stands.
     let some : c.args.datagrams ≡ Some c.in-Some.over = search rules in
     let both : (is_datagram_ready c.args.duel.initiator ≡ true) × (is_datagram_ready c.args.duel.responder ≡ true) = search rules in
     let yes = both-ready c.args.duel d (c.end_is_told.ensures c.args.duel.initiator d.initiator.view stands.initiator)
@@ -26,7 +26,7 @@ returns-in-Ok-clause-behind c = λ d stands.
     let first : bytes_of c.push.new.self.items ≡ bytes_of c.args.lines.now.items ++ window_words c.in-Some.over.window ∷ [] =
     ap bytes_of c.in_ok-push-in-Ok.ensures.items ∙ bytes-push c.args.lines.now.items c.into_bytes.result
     ∙ ap (λ (t : List ℕ). bytes_of c.args.lines.now.items ++ t ∷ []) line_is in
-    behind-ready c.args.datagrams c.in-Some.over d _ ran.last c.push_datagram_states.result (bytes_of c.args.lines.now.items) _ _ _ some yes
+    after-ready c.args.datagrams c.in-Some.over d _ ran.last c.push_datagram_states.result (bytes_of c.args.lines.now.items) _ _ _ some yes
     (rw (← c.deref.ensures.value) ran.run) first c.in_ok-push_datagram_lines-in-Ok.ensures.lines (c.push_datagram_states.ensures.lines ran.last ran.pictures)
 
 pub returns-in-Ok-clause-printed : goal.returns-in-Ok-clause-printed
@@ -34,8 +34,8 @@ returns-in-Ok-clause-printed c = λ before.
     c.push_datagram_states.ensures.printed (c.in_ok-push_datagram_lines-in-Ok.ensures.printed
     (expected-push _ _ _ c.in_ok-push-in-Ok.ensures.items c.into_bytes.ensures.printed before))
 
-pub returns-clause-behind : goal.returns-clause-behind
-returns-clause-behind c = λ d stands.
+pub returns-clause-after : goal.returns-clause-after
+returns-clause-after c = λ d stands.
     let some : c.args.datagrams ≡ Some c.in-Some.over = search rules in
     let not_both : ¬ ((is_datagram_ready c.args.duel.initiator ≡ true) × (is_datagram_ready c.args.duel.responder ≡ true)) = λ both. search rules in
     let no = not-ready c.args.duel d (c.end_is_told.ensures c.args.duel.initiator d.initiator.view stands.initiator)
@@ -44,7 +44,7 @@ returns-clause-behind c = λ d stands.
     ap bytes_of c.in_ok-push-in-Err.ensures.items ∙ bytes-push c.args.lines.now.items c.into_bytes-in-Err.result
     ∙ ap (λ (t : List ℕ). bytes_of c.args.lines.now.items ++ t ∷ []) (c.into_bytes-in-Err.ensures.text ∙ c.in_ok-new-in-Err.ensures) in
     let same : c.in-Err.duel ≡ c.args.duel = search rules in
-    behind-unready c.args.datagrams c.in-Some.over d c.push_state_lines-in-Err.result (bytes_of c.args.lines.now.items) _ _ some no first
+    after-unready c.args.datagrams c.in-Some.over d c.push_state_lines-in-Err.result (bytes_of c.args.lines.now.items) _ _ some no first
     (c.push_state_lines-in-Err.ensures.lines d (rw same stands))
 
 pub returns-clause-printed : goal.returns-clause-printed

@@ -11,7 +11,7 @@ returns-clause-lines c =
     let ends = c.in_ok-duel.ensures.ends in
     let start = facing_in c.args.file ends.plan in
     let ran = c.in_ok-duel-2.ensures.ran start.initiator.view start.responder.view ends.stands in
-    let closed = c.in_ok-close.ensures.behind ran.last ran.stands in
+    let closed = c.in_ok-close.ensures.after ran.last ran.stands in
     record {
       plan = ends.plan;
       pattern = ends.pattern;
@@ -20,7 +20,7 @@ returns-clause-lines c =
       notes = ran.notes;
       last = ran.last;
       run = subst (λ (es : List Act). Run start es ran.notes ran.last) (ap events_of (c.deref.ensures.value ∙ ap (λ events. events.items) c.in_ok-duel.ensures.events)) ran.run;
-      behind = closed.0;
+      after = closed.0;
       are_last = subst (λ (o : Option FileDatagrams). AreLast o ran.last closed.0) (ap datagrams_in c.in_ok-duel.ensures.version) closed.1;
       lines_are = closed.2 ∙ ap (λ (t : List (List ℕ)). t ++ closed.0) ran.lines_are;
     }

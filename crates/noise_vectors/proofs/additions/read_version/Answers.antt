@@ -2,7 +2,7 @@ use Rattle.std.proofs.Common.{rules, ◌≡◌, ◌∙◌, ap, subst, true, []}
 use Rattle.std.proofs.lemmas.Result.{err_from_is_err_and}
 use Rattle.noise_vectors.specs.VectorFile.{IsAllowedVersion, IsVersion}
 use Rattle.noise_vectors.specs.VectorText.{expect_words, lines_of, version_text}
-use Rattle.noise_vectors.proofs.AdditionLemmas.{expected-behind, no-datagrams, second-has}
+use Rattle.noise_vectors.proofs.AdditionLemmas.{expected-after, no-datagrams, second-has}
 use Rattle.noise_vectors.proofs.additions.read_version.Goals as goal
 
 pub returns-in_err-datagrams-clause-every : goal.returns-in_err-datagrams-clause-every
@@ -14,7 +14,7 @@ returns-in_err-datagrams-clause-every c =
     let h = subst IsVersion is right in
     let none = no-datagrams c.args.allowed a (subst (IsAllowedVersion c.args.allowed) is allowed) in
     rw (p.1, p.2) (c.in_err-datagrams.ensures.every a.datagrams (lines_of expect_words a.expected.items []) h.0 none
-    (expected-behind a.expected.items) (e ∙ ap version_text is))
+    (expected-after a.expected.items) (e ∙ ap version_text is))
 
 pub returns-in_err-expected-clause-every : goal.returns-in_err-expected-clause-every
 returns-in_err-expected-clause-every c =
@@ -25,5 +25,5 @@ returns-in_err-expected-clause-every c =
     let h = subst IsVersion is right in
     let none = no-datagrams c.args.allowed a (subst (IsAllowedVersion c.args.allowed) is allowed) in
     let read = c.in_ok-datagrams.ensures.every a.datagrams (lines_of expect_words a.expected.items []) h.0 none
-    (expected-behind a.expected.items) (e ∙ ap version_text is) in
+    (expected-after a.expected.items) (e ∙ ap version_text is) in
     rw (p.1, p.2) (c.in_err-expected.ensures.every a.expected.items h.1 read)

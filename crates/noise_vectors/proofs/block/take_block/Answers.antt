@@ -3,7 +3,7 @@ use Rattle.std.specs.Prelude.{IsTrue}
 use Rattle.std.proofs.lemmas.Slice.Eq.{bytes_eq-Decides}
 use Rattle.noise_vectors.specs.VectorText.{line}
 use Rattle.noise_vectors.proofs.BlockLemmas.{front-is, Left-last, Left-next, Left-start, Left-step}
-use Rattle.noise_vectors.proofs.LineLemmas.{Ends-behind, Ends-whole}
+use Rattle.noise_vectors.proofs.LineLemmas.{Ends-after, Ends-whole}
 use Rattle.noise_vectors.proofs.block.take_block.Goals as goal
 
 pub loop-lines-init : goal.loop-lines-init
@@ -49,7 +49,7 @@ loop-lines-preserved c =
     let word : c.as_slice.result.now ≡ codes "end" = c.as_slice.ensures in
     let other : ¬ (c.in_ok-next.field-0.now ≡ codes "end") =
     λ e. let yes = (bytes_eq-Decides c.in_ok-next.field-0.now c.as_slice.result.now).1 (e ∙ sym word) in cc (c.eq.ensures, yes) in (
-      Ends-behind c.args.lines.now.rest.now c.loop-lines.lines.rest.now c.in_ok-next.field-0.now c.next.new.self.rest.now
+      Ends-after c.args.lines.now.rest.now c.loop-lines.lines.rest.now c.in_ok-next.field-0.now c.next.new.self.rest.now
           c.loop-lines.invariant.0 (c.in_ok-next.ensures.ended ended),
       λ before rest h e.
           let l = Left-step rest c.loop-lines.lines.rest.now c.in_ok-next.field-0.now c.next.new.self.rest.now c.next.new.self.is_ended

@@ -4,7 +4,7 @@ use Rattle.std.specs.List.{All}
 use Rattle.std.proofs.lemmas.List.Elements.{All-nil, All-push}
 use Rattle.noise_events.specs.declared.datagram_event.DatagramEvent.{DatagramEvent}
 use Rattle.noise_vectors.specs.VectorFile.{IsDatagramEvent}
-use Rattle.noise_vectors.specs.VectorText.{BehindDatagrams, datagram_event_words, line, lines_of}
+use Rattle.noise_vectors.specs.VectorText.{AfterDatagrams, datagram_event_words, line, lines_of}
 use Rattle.noise_vectors.proofs.AdditionLemmas.{datagram_event-stands, datagram_event_words-line}
 use Rattle.noise_vectors.proofs.LineLemmas.{lines_of-more, FirstLine-step, LinesLeft-end, LinesLeft-first, LinesLeft-start}
 use Rattle.noise_vectors.proofs.datagram_events.read_datagram_events.Goals as goal
@@ -20,7 +20,7 @@ loop-alloc-init c = (
 pub returns-in_default-clause-every : goal.returns-in_default-clause-every
 returns-in_default-clause-every c = λ events rest right over e.
     let some : ¬ (c.loop-alloc.lines.rest.now ≡ rest) =
-    λ same. let yes = c.is_behind_datagrams.ensures.1 (subst BehindDatagrams (sym same) over) in cc (yes) in
+    λ same. let yes = c.is_after_datagrams.ensures.1 (subst AfterDatagrams (sym same) over) in cc (yes) in
     let f = LinesLeft-first (c.loop-alloc.invariant.2 events rest right over e) some in
     let read = c.in_ok-line.ensures.every (datagram_event_words f.next) (lines_of datagram_event_words f.others rest)
     (datagram_event_words-line f.next f.next_good) f.left_is in
@@ -30,7 +30,7 @@ returns-in_default-clause-every c = λ events rest right over e.
 pub returns-in_err-end-clause-every : goal.returns-in_err-end-clause-every
 returns-in_err-end-clause-every c = λ events rest right over e.
     let some : ¬ (c.loop-alloc.lines.rest.now ≡ rest) =
-    λ same. let yes = c.is_behind_datagrams.ensures.1 (subst BehindDatagrams (sym same) over) in cc (yes) in
+    λ same. let yes = c.is_after_datagrams.ensures.1 (subst AfterDatagrams (sym same) over) in cc (yes) in
     let f = LinesLeft-first (c.loop-alloc.invariant.2 events rest right over e) some in
     let read = c.in_ok-line.ensures.every (datagram_event_words f.next) (lines_of datagram_event_words f.others rest)
     (datagram_event_words-line f.next f.next_good) f.left_is in
@@ -51,7 +51,7 @@ loop-alloc-preserved c =
           (All-push IsDatagramEvent c.loop-alloc.events.items c.in-Some.event c.loop-alloc.invariant.1 is_event),
       λ events rest right over e.
           let some : ¬ (c.loop-alloc.lines.rest.now ≡ rest) =
-          λ same. let yes = c.is_behind_datagrams.ensures.1 (subst BehindDatagrams (sym same) over) in cc (yes) in
+          λ same. let yes = c.is_after_datagrams.ensures.1 (subst AfterDatagrams (sym same) over) in cc (yes) in
           let f = LinesLeft-first (c.loop-alloc.invariant.2 events rest right over e) some in
           let read = c.in_ok-line.ensures.every (datagram_event_words f.next) (lines_of datagram_event_words f.others rest)
           (datagram_event_words-line f.next f.next_good) f.left_is in
@@ -60,7 +60,7 @@ loop-alloc-preserved c =
 
 pub returns-clause-every : goal.returns-clause-every
 returns-clause-every c = λ events rest right over e.
-    let behind : BehindDatagrams c.loop-alloc.lines.rest.now = search rules in
+    let after : AfterDatagrams c.loop-alloc.lines.rest.now = search rules in
     let none : (event : DatagramEvent) (text : List ℕ) → ¬ (c.loop-alloc.lines.rest.now ≡ line (datagram_event_words event) text) =
-    λ event text same. datagram_event-stands event text (subst BehindDatagrams same behind) in
+    λ event text same. datagram_event-stands event text (subst AfterDatagrams same after) in
     LinesLeft-end (c.loop-alloc.invariant.2 events rest right over e) none

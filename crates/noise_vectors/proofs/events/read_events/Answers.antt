@@ -4,7 +4,7 @@ use Rattle.std.specs.List.{All}
 use Rattle.std.proofs.lemmas.List.Elements.{All-nil, All-push}
 use Rattle.noise_events.specs.declared.event.Event.{Event}
 use Rattle.noise_vectors.specs.VectorFile.{IsAllowed, IsEvent}
-use Rattle.noise_vectors.specs.VectorText.{BehindEvents, event_words, line, lines_of}
+use Rattle.noise_vectors.specs.VectorText.{AfterEvents, event_words, line, lines_of}
 use Rattle.noise_vectors.proofs.AdditionLemmas.{event-stands}
 use Rattle.noise_vectors.proofs.EventLemmas.{all-right, event_words-line, IsRight}
 use Rattle.noise_vectors.proofs.LineLemmas.{lines_of-more, FirstLine-step, LinesLeft-end, LinesLeft-first, LinesLeft-start}
@@ -21,7 +21,7 @@ loop-alloc-init c = (
 
 pub returns-in_default-clause-every : goal.returns-in_default-clause-every
 returns-in_default-clause-every c = λ events rest right allowed over e.
-    let some : ¬ (c.loop-alloc.lines.rest.now ≡ rest) = λ same. let yes = c.is_behind_events.ensures.1 (subst BehindEvents (sym same) over) in cc (yes) in
+    let some : ¬ (c.loop-alloc.lines.rest.now ≡ rest) = λ same. let yes = c.is_after_events.ensures.1 (subst AfterEvents (sym same) over) in cc (yes) in
     let f = LinesLeft-first (c.loop-alloc.invariant.3 events rest right allowed over e) some in
     let read = c.in_ok-line.ensures.every (event_words f.next) (lines_of event_words f.others rest) (event_words-line f.next f.next_good.0) f.left_is in
     let found : IsSome c.in_ok-event.field-0 = c.in_ok-event.ensures.every f.next f.next_good.0 f.next_good.1 read.0 in
@@ -29,7 +29,7 @@ returns-in_default-clause-every c = λ events rest right allowed over e.
 
 pub returns-in_err-end-clause-every : goal.returns-in_err-end-clause-every
 returns-in_err-end-clause-every c = λ events rest right allowed over e.
-    let some : ¬ (c.loop-alloc.lines.rest.now ≡ rest) = λ same. let yes = c.is_behind_events.ensures.1 (subst BehindEvents (sym same) over) in cc (yes) in
+    let some : ¬ (c.loop-alloc.lines.rest.now ≡ rest) = λ same. let yes = c.is_after_events.ensures.1 (subst AfterEvents (sym same) over) in cc (yes) in
     let f = LinesLeft-first (c.loop-alloc.invariant.3 events rest right allowed over e) some in
     let read = c.in_ok-line.ensures.every (event_words f.next) (lines_of event_words f.others rest) (event_words-line f.next f.next_good.0) f.left_is in
     let bad = c.in_err-end.ensures.ended.1 read.2 in
@@ -51,7 +51,7 @@ loop-alloc-preserved c =
       subst (λ (events : List Event). All IsEvent events) (sym pushed)
           (All-push IsEvent c.loop-alloc.events.items c.in-Some.event c.loop-alloc.invariant.2 is_event),
       λ events rest right allowed over e.
-          let some : ¬ (c.loop-alloc.lines.rest.now ≡ rest) = λ same. let yes = c.is_behind_events.ensures.1 (subst BehindEvents (sym same) over) in cc (yes) in
+          let some : ¬ (c.loop-alloc.lines.rest.now ≡ rest) = λ same. let yes = c.is_after_events.ensures.1 (subst AfterEvents (sym same) over) in cc (yes) in
           let f = LinesLeft-first (c.loop-alloc.invariant.3 events rest right allowed over e) some in
           let read = c.in_ok-line.ensures.every (event_words f.next) (lines_of event_words f.others rest) (event_words-line f.next f.next_good.0) f.left_is in
           FirstLine-step f len read.1,
@@ -59,7 +59,7 @@ loop-alloc-preserved c =
 
 pub returns-clause-every : goal.returns-clause-every
 returns-clause-every c = λ events rest right allowed over e.
-    let behind : BehindEvents c.loop-alloc.lines.rest.now = search rules in
+    let after : AfterEvents c.loop-alloc.lines.rest.now = search rules in
     let none : (event : Event) (text : List ℕ) → ¬ (c.loop-alloc.lines.rest.now ≡ line (event_words event) text) =
-    λ event text same. event-stands event text (subst BehindEvents same behind) in
+    λ event text same. event-stands event text (subst AfterEvents same after) in
     LinesLeft-end (c.loop-alloc.invariant.3 events rest right allowed over e) none

@@ -2,7 +2,7 @@ use Rattle.std.proofs.Common.{◌≡◌, ℕ, List, length, vec_len}
 use Rattle.std.specs.List.{All}
 use Rattle.noise_events.specs.declared.event.Event.{Event}
 use Rattle.noise_vectors.specs.VectorFile.{IsAllowed, IsEvent}
-use Rattle.noise_vectors.specs.VectorText.{BehindEvents, event_words, lines_of}
+use Rattle.noise_vectors.specs.VectorText.{AfterEvents, event_words, lines_of}
 use Rattle.noise_vectors.proofs.EventLemmas.{IsRight}
 use Rattle.noise_vectors.proofs.LineLemmas.{LinesLeft}
 use Rattle.noise_vectors.proofs.events.read_events.Given as goal
@@ -12,7 +12,7 @@ invariant-loop-alloc l =
     (l.fn.lines.rest.now ≡ lines_of event_words l.events.items l.lines.rest.now)
     × All (IsAllowed l.allowed) l.events.items
     × All IsEvent l.events.items
-    × ((events : List Event) (rest : List ℕ) → All IsEvent events → All (IsAllowed l.allowed) events → BehindEvents rest
+    × ((events : List Event) (rest : List ℕ) → All IsEvent events → All (IsAllowed l.allowed) events → AfterEvents rest
     → l.fn.lines.rest.now ≡ lines_of event_words events rest → LinesLeft event_words (IsRight l.allowed) (length events) (vec_len l.events) l.lines.rest.now rest)
 
 abbrev pub decreases-loop-alloc : goal.decreases-loop-alloc

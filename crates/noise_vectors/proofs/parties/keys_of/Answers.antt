@@ -3,7 +3,7 @@ use Rattle.std.proofs.lemmas.Bool.Decides.{Decides-eqb}
 use Rattle.std.proofs.lemmas.Slice.Eq.{strip_prefix_is}
 use Rattle.noise_vectors.specs.VectorText.{key_word, key_words}
 use Rattle.noise_vectors.proofs.LackLemmas.{lacks-key_word}
-use Rattle.noise_vectors.proofs.PartyLemmas.{behind-front}
+use Rattle.noise_vectors.proofs.PartyLemmas.{after-front}
 use Rattle.noise_vectors.proofs.parties.keys_of.Goals as goal
 
 pub returns-in_err-strip_prefix-clause-every : goal.returns-in_err-strip_prefix-clause-every
@@ -15,14 +15,14 @@ pub returns-in_err-e-clause-every : goal.returns-in_err-e-clause-every
 returns-in_err-e-clause-every c =
     let split = strip_prefix_is Decides-eqb c.args.words.now c.args.front.now (Some c.in_ok-strip_prefix.field-0) c.in_ok-strip_prefix.ensures.cases in
     λ e s he hs is.
-    let keys = behind-front c.args.words.now c.args.front.now c.in_ok-strip_prefix.field-0.now (key_words e s) split is in
+    let keys = after-front c.args.words.now c.args.front.now c.in_ok-strip_prefix.field-0.now (key_words e s) split is in
     absurd (c.in_err-e.ensures.every (key_word e) (key_word s) (lacks-key_word 32 e (lit< tt) he) keys tt)
 
 pub returns-in_err-read_optional_key-clause-every : goal.returns-in_err-read_optional_key-clause-every
 returns-in_err-read_optional_key-clause-every c =
     let split = strip_prefix_is Decides-eqb c.args.words.now c.args.front.now (Some c.in_ok-strip_prefix.field-0) c.in_ok-strip_prefix.ensures.cases in
     λ e s he hs is.
-    let keys = behind-front c.args.words.now c.args.front.now c.in_ok-strip_prefix.field-0.now (key_words e s) split is in
+    let keys = after-front c.args.words.now c.args.front.now c.in_ok-strip_prefix.field-0.now (key_words e s) split is in
     let words = c.in_ok-e.ensures.every (key_word e) (key_word s) (lacks-key_word 32 e (lit< tt) he) keys in
     let none = c.in_err-read_optional_key.ensures.every e he words.0 in
     absurd (cc (none))
@@ -31,7 +31,7 @@ pub returns-in_err-read_optional_key-2-clause-every : goal.returns-in_err-read_o
 returns-in_err-read_optional_key-2-clause-every c =
     let split = strip_prefix_is Decides-eqb c.args.words.now c.args.front.now (Some c.in_ok-strip_prefix.field-0) c.in_ok-strip_prefix.ensures.cases in
     λ e s he hs is.
-    let keys = behind-front c.args.words.now c.args.front.now c.in_ok-strip_prefix.field-0.now (key_words e s) split is in
+    let keys = after-front c.args.words.now c.args.front.now c.in_ok-strip_prefix.field-0.now (key_words e s) split is in
     let words = c.in_ok-e.ensures.every (key_word e) (key_word s) (lacks-key_word 32 e (lit< tt) he) keys in
     let none = c.in_err-read_optional_key-2.ensures.every s hs words.1 in
     absurd (cc (none))

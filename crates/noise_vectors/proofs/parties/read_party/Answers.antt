@@ -1,6 +1,6 @@
 use Rattle.std.proofs.Common.{◌≡◌, ◌∙◌, ap, sym, refl, ℕ, List, ◌++◌, codes}
 use Rattle.noise_vectors.specs.VectorText.{key_words}
-use Rattle.noise_vectors.proofs.PartyLemmas.{not-xor, party-read, words_of, xor-behind}
+use Rattle.noise_vectors.proofs.PartyLemmas.{not-xor, party-read, words_of, xor-after}
 use Rattle.noise_vectors.proofs.parties.read_party.Goals as goal
 
 pub returns-in_default-clause-every : goal.returns-in_default-clause-every
@@ -24,7 +24,7 @@ returns-in-Some-keys_of-clause-every c =
     h is c.in_ok-line.ensures.every in
     let words = c.in-Some.ensures.every (words_of keys) read.0 in (
       refl,
-      read.1 ∙ xor-behind keys c.in-Some.words.now c.as_slice.result.now c.in-Some-keys_of.e c.in-Some-keys_of.s rest words front
+      read.1 ∙ xor-after keys c.in-Some.words.now c.as_slice.result.now c.in-Some-keys_of.e c.in-Some-keys_of.s rest words front
           c.in-Some-keys_of.ensures.text,
     )
 
@@ -56,7 +56,7 @@ returns-in_err-read_table-clause-every c =
     h is c.in_ok-line.ensures.every in
     let words = c.in-Some.ensures.every (words_of keys) read.0 in
     let t = not-xor keys c.in-Some.words.now c.as_slice.result.now h words front c.in_default-keys_of.ensures.every in
-    let bad = c.in_err-read_table.ensures.every t.table.entries rest t.few t.entries_are other (read.1 ∙ t.behind_is rest) in
+    let bad = c.in_err-read_table.ensures.every t.table.entries rest t.few t.entries_are other (read.1 ∙ t.after_is rest) in
     let no = bad.0 in
     absurd (cc (no))
 
@@ -68,5 +68,5 @@ returns-clause-every c =
     h is c.in_ok-line.ensures.every in
     let words = c.in-Some.ensures.every (words_of keys) read.0 in
     let t = not-xor keys c.in-Some.words.now c.as_slice.result.now h words front c.in_default-keys_of.ensures.every in
-    let done = c.in_ok-read_table.ensures.every t.table.entries rest t.few t.entries_are other (read.1 ∙ t.behind_is rest) in
+    let done = c.in_ok-read_table.ensures.every t.table.entries rest t.few t.entries_are other (read.1 ∙ t.after_is rest) in
     (refl, done.1)

@@ -65,6 +65,6 @@ loop-lines-preserved c =
 pub returns-clause-every : goal.returns-clause-every
 returns-clause-every c =
     let over : begins c.loop-lines.lines.rest.now ≡ false = search rules in
-    let none : (entry : TableEntry) (behind : List ℕ) → ¬ (c.loop-lines.lines.rest.now ≡ line (answer_words entry) behind) =
-    λ entry behind e. true≢false (sym (ap begins e) ∙ over) in
+    let none : (entry : TableEntry) (after : List ℕ) → ¬ (c.loop-lines.lines.rest.now ≡ line (answer_words entry) after) =
+    λ entry after e. true≢false (sym (ap begins e) ∙ over) in
     λ entries rest few are other is. (refl, LinesLeft-end (c.loop-lines.invariant.every entries rest few are other is) none)

@@ -72,6 +72,6 @@ loop-lines-preserved c =
 pub returns-clause-every : goal.returns-clause-every
 returns-clause-every c =
     let over : starts_with nat_eq c.loop-lines.lines.rest.now (codes "psk ") ≡ false = search rules in
-    let none : (psk behind : List ℕ) → ¬ (c.loop-lines.lines.rest.now ≡ line (psk_words psk) behind) =
-    λ psk behind e. true≢false (sym (ap (λ (t : List ℕ). starts_with nat_eq t (codes "psk ")) e) ∙ over) in
+    let none : (psk after : List ℕ) → ¬ (c.loop-lines.lines.rest.now ≡ line (psk_words psk) after) =
+    λ psk after e. true≢false (sym (ap (λ (t : List ℕ). starts_with nat_eq t (codes "psk ")) e) ∙ over) in
     λ psks rest h other e. (refl, LinesLeft-end (c.loop-lines.invariant.2 psks rest h other e) none)

@@ -2,13 +2,13 @@ use Rattle.noise_vectors.proofs.WordLemmas.{no-place, parted, parts-at, place-fi
 use Rattle.noise_vectors.proofs.words.split_once.Goals as goal
 
 pub returns-in_err-place-clause-every : goal.returns-in_err-place-clause-every
-returns-in_err-place-clause-every c = λ before behind h e.
-    absurd (no-place c.args.separator c.args.text.now before behind c.in_err-place.ensures h e)
+returns-in_err-place-clause-every c = λ before after h e.
+    absurd (no-place c.args.separator c.args.text.now before after c.in_err-place.ensures h e)
 
 pub returns-clause-every : goal.returns-clause-every
-returns-clause-every c = λ before behind h e.
-    parted c.args.separator c.args.text.now before behind c.in_ok-place.place e
-    (place-first c.args.separator c.args.text.now before behind c.in_ok-place.place c.in_ok-place.ensures h e)
+returns-clause-every c = λ before after h e.
+    parted c.args.separator c.args.text.now before after c.in_ok-place.place e
+    (place-first c.args.separator c.args.text.now before after c.in_ok-place.place c.in_ok-place.ensures h e)
 
 pub returns-clause-parts : goal.returns-clause-parts
 returns-clause-parts c = parts-at c.args.separator c.args.text.now c.in_ok-place.place c.in_ok-place.ensures

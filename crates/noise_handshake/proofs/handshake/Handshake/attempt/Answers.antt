@@ -2,7 +2,7 @@ use Rattle.std.proofs.Common.{◌≡◌, ◌<◌, ◌≤◌, ℕ, ◌+◌, List,
 use Rattle.std.specs.Prelude.{Bool, None, count_by, true, is_some}
 use Rattle.noise_names.specs.Overhead.{has_key}
 use Rattle.noise_handshake.specs.declared.remote.Remote.{Remote}
-use Rattle.noise_handshake.specs.Length.{keyed_behind_tokens}
+use Rattle.noise_handshake.specs.Length.{keyed_after_tokens}
 use Rattle.noise_handshake.specs.Held.{Held, read_fault}
 use Rattle.noise_handshake.specs.View.{tokens_at, tokens_now, learned}
 use Rattle.noise_handshake.specs.inner.Known.{are_known}
@@ -10,7 +10,7 @@ use Rattle.noise_handshake.proofs.Advancing.{advanced, unended-read}
 use Rattle.noise_handshake.specs.Held.{Advances}
 use Rattle.noise_handshake.proofs.Knowing.{reading-known, knows-read}
 use Rattle.noise_handshake.proofs.Layouts.{length-tokens_of, tokens-laid, places-laid}
-use Rattle.noise_handshake.proofs.Standing.{due, reads-turn, tokens-are, listening, listens, behind, accepted, refused}
+use Rattle.noise_handshake.proofs.Standing.{due, reads-turn, tokens-are, listening, listens, beyond, accepted, refused}
 use Rattle.noise_state.specs.Standing.{StateStands, keyed, nonce_now}
 use Rattle.noise_state.specs.declared.symmetric.SymmetricState.{SymmetricState}
 use Rattle.noise_names.specs.declared.token.Token.{Token}
@@ -23,7 +23,7 @@ use Rattle.noise_handshake.specs.Party.{Stands}
 use Rattle.noise_handshake.specs.inner.Layout.{tokens_of, IsLaid, LaysNext}
 use Rattle.noise_handshake.specs.inner.Counting.{CountsUses}
 use Rattle.noise_handshake.proofs.Counting.{most-any}
-use Rattle.noise_handshake.proofs.Keeping.{enough, counts, key-behind, sound-behind}
+use Rattle.noise_handshake.proofs.Keeping.{enough, counts, key-after, sound-after}
 use Rattle.noise_handshake.proofs.Wanted.{wants}
 use Rattle.noise_handshake.proofs.Views.{items-from}
 use Rattle.noise_handshake.proofs.handshake.Handshake.attempt.Goals as goal
@@ -175,10 +175,10 @@ lay_next-self-inside-requires-clause-key g c =
     let placed : List PlacedToken = c.deref-2.result.now in
     let ts : List Token = tokens_of placed in
     let e : ts ≡ tokens_at a.pattern.messages a.passed = tokens-laid a.pattern a.passed found laid placed c.deref-2.ensures.0 in
-    let key : keyed c.read_message.new.state ≡ keyed_behind_tokens (has_psk a.pattern) (keyed a.state) ts =
-    c.in-Ok.ensures.key ∙ ap (λ (z : SymmetricState). keyed_behind_tokens a.psks (keyed z) ts) c.for_trial-state.ensures
-    ∙ ap (λ (b : Bool). keyed_behind_tokens b (keyed a.state) ts) i.0 in
-    c.has_key.ensures.key ∙ key-behind P h i.2 ts e less c.read_message.new.state (a.passed + 1) refl key
+    let key : keyed c.read_message.new.state ≡ keyed_after_tokens (has_psk a.pattern) (keyed a.state) ts =
+    c.in-Ok.ensures.key ∙ ap (λ (z : SymmetricState). keyed_after_tokens a.psks (keyed z) ts) c.for_trial-state.ensures
+    ∙ ap (λ (b : Bool). keyed_after_tokens b (keyed a.state) ts) i.0 in
+    c.has_key.ensures.key ∙ key-after P h i.2 ts e less c.read_message.new.state (a.passed + 1) refl key
     ∙ ap (λ (z : Plan). has_key z (passed_places z (a.passed + 1))) (sym c.pattern-plan.ensures.same)
 
 pub invariant_of-self : goal.invariant_of-self
@@ -205,16 +205,16 @@ invariant_of-self g c =
     let e : ts ≡ tokens_at a.pattern.messages a.passed = tokens-laid a.pattern a.passed found laid placed c.deref-2.ensures.0 in
     let n : found.secrets ≡ count_by is_psk ts = laid.secrets ∙ ap (λ (us : List Token). count_by is_psk us) (sym e) in
     let few : length ts ≤ 10 = omega (arith, length-tokens_of placed, c.deref-2.ensures.1) in
-    let key : keyed c.read_message.new.state ≡ keyed_behind_tokens (has_psk a.pattern) (keyed a.state) ts =
-    c.in-Ok.ensures.key ∙ ap (λ (z : SymmetricState). keyed_behind_tokens a.psks (keyed z) ts) c.for_trial-state.ensures
-    ∙ ap (λ (b : Bool). keyed_behind_tokens b (keyed a.state) ts) i.0 in
+    let key : keyed c.read_message.new.state ≡ keyed_after_tokens (has_psk a.pattern) (keyed a.state) ts =
+    c.in-Ok.ensures.key ∙ ap (λ (z : SymmetricState). keyed_after_tokens a.psks (keyed z) ts) c.for_trial-state.ensures
+    ∙ ap (λ (b : Bool). keyed_after_tokens b (keyed a.state) ts) i.0 in
     let uses : CountsUses c.read_message.new.state = c.read_message.ensures.uses
     (subst (λ (z : SymmetricState). CountsUses z) (sym c.for_trial-state.ensures) (counts P h i.2 ts e less)) in
     let counted : nonce_now c.read_message.new.state ≤ nonce_now a.state + length ts + 1 =
     subst (λ (z : SymmetricState). nonce_now c.read_message.new.state ≤ nonce_now z + length ts + 1) c.for_trial-state.ensures c.read_message.ensures.nonce in (
       i.0,
       omega (arith, enough P h i.2 ts e less, length-drop a.used a.secrets.items, n, i.1),
-      sound-behind P h i.2 ts e less c.read_message.new.known c.read_message.new.state (drop (a.used + found.secrets) a.secrets.items) (a.passed + 1) refl
+      sound-after P h i.2 ts e less c.read_message.new.known c.read_message.new.state (drop (a.used + found.secrets) a.secrets.items) (a.passed + 1) refl
           (ap (λ (k : ℕ). drop (a.used + k) a.secrets.items) n ∙ sym (drop-drop (count_by is_psk ts) a.used a.secrets.items)) key counted few uses,
       knows-read h i.3 less c.read_message.new.known c.read_message.new.state (drop (a.used + found.secrets) a.secrets.items) ts
           (reads-turn h none) e c.in-Ok.ensures.e c.in-Ok.ensures.s,
@@ -255,7 +255,7 @@ returns-in-Ok-clause-reads g c v s =
     let q = c.in-Ok.ensures.read v.history trial in (
       q.0,
       accepted v a.role a.psks (A a.keys) _ a.remote ts l c.args.message.now q.0 _ c.requires.fits q.1,
-      behind P A h v s0 a.psks ts q.0 _ c.read_message.new.state c.read_message.new.known (drop (a.used + found.secrets) a.secrets.items)
+      beyond P A h v s0 a.psks ts q.0 _ c.read_message.new.state c.read_message.new.known (drop (a.used + found.secrets) a.secrets.items)
           (a.passed + 1) i.0 here
           (ap (λ (k : ℕ). drop (a.used + k) a.secrets.items) n ∙ sym (drop-drop (count_by is_psk ts) a.used a.secrets.items)) refl q.2
           (q.3 ∙ ap (λ (z : Remote). learned z ts q.0) s0.remote),

@@ -2,7 +2,7 @@ use Rattle.std.proofs.Common.{◌≡◌, ◌<◌, ◌≤◌, ℕ, ◌+◌, List,
 use Rattle.std.specs.Prelude.{Bool, None, Some, count_by, true, is_some}
 use Rattle.std.specs.List.{list_all}
 use Rattle.noise_names.specs.Overhead.{has_key, overhead_of}
-use Rattle.noise_handshake.specs.Length.{keyed_behind_tokens, added_width}
+use Rattle.noise_handshake.specs.Length.{keyed_after_tokens, added_width}
 use Rattle.noise_handshake.specs.Held.{Held, write_fault, length_now, message_len_of}
 use Rattle.noise_handshake.specs.View.{tokens_at, tokens_now}
 use Rattle.noise_handshake.specs.inner.Known.{is_known}
@@ -25,7 +25,7 @@ use Rattle.noise_handshake.specs.Party.{Stands}
 use Rattle.noise_handshake.specs.inner.Layout.{tokens_of, IsLaid, LaysNext}
 use Rattle.noise_handshake.specs.inner.Counting.{CountsUses}
 use Rattle.noise_handshake.proofs.Counting.{most-any}
-use Rattle.noise_handshake.proofs.Keeping.{enough, counts, key-behind, sound-behind}
+use Rattle.noise_handshake.proofs.Keeping.{enough, counts, key-after, sound-after}
 use Rattle.noise_handshake.proofs.Views.{items-from}
 use Rattle.noise_handshake.proofs.handshake.Handshake.write.Goals as goal
 
@@ -255,10 +255,10 @@ lay_next-self-inside-requires-clause-key g c =
     let placed : List PlacedToken = c.deref-2.result.now in
     let ts : List Token = tokens_of placed in
     let e : ts ≡ tokens_at a.pattern.messages a.passed = tokens-laid a.pattern a.passed found laid placed c.deref-2.ensures.0 in
-    let key : keyed c.write_message.new.state ≡ keyed_behind_tokens (has_psk a.pattern) (keyed a.state) ts =
-    c.in-Ok.ensures.keyed ∙ ap (λ (z : SymmetricState). keyed_behind_tokens a.psks (keyed z) ts) c.for_trial-state.ensures
-    ∙ ap (λ (b : Bool). keyed_behind_tokens b (keyed a.state) ts) i.0 in
-    c.has_key.ensures.key ∙ key-behind P h i.2 ts e less c.write_message.new.state (a.passed + 1) refl key
+    let key : keyed c.write_message.new.state ≡ keyed_after_tokens (has_psk a.pattern) (keyed a.state) ts =
+    c.in-Ok.ensures.keyed ∙ ap (λ (z : SymmetricState). keyed_after_tokens a.psks (keyed z) ts) c.for_trial-state.ensures
+    ∙ ap (λ (b : Bool). keyed_after_tokens b (keyed a.state) ts) i.0 in
+    c.has_key.ensures.key ∙ key-after P h i.2 ts e less c.write_message.new.state (a.passed + 1) refl key
     ∙ ap (λ (z : Plan). has_key z (passed_places z (a.passed + 1))) (sym c.pattern-plan.ensures.same)
 
 pub invariant_of-self : goal.invariant_of-self
@@ -287,9 +287,9 @@ invariant_of-self g c =
     let e : ts ≡ tokens_at a.pattern.messages a.passed = tokens-laid a.pattern a.passed found laid placed c.deref-2.ensures.0 in
     let n : found.secrets ≡ count_by is_psk ts = laid.secrets ∙ ap (λ (us : List Token). count_by is_psk us) (sym e) in
     let few : length ts ≤ 10 = omega (arith, length-tokens_of placed, c.deref-2.ensures.1) in
-    let key : keyed c.write_message.new.state ≡ keyed_behind_tokens (has_psk a.pattern) (keyed a.state) ts =
-    c.in-Ok.ensures.keyed ∙ ap (λ (z : SymmetricState). keyed_behind_tokens a.psks (keyed z) ts) c.for_trial-state.ensures
-    ∙ ap (λ (b : Bool). keyed_behind_tokens b (keyed a.state) ts) i.0 in
+    let key : keyed c.write_message.new.state ≡ keyed_after_tokens (has_psk a.pattern) (keyed a.state) ts =
+    c.in-Ok.ensures.keyed ∙ ap (λ (z : SymmetricState). keyed_after_tokens a.psks (keyed z) ts) c.for_trial-state.ensures
+    ∙ ap (λ (b : Bool). keyed_after_tokens b (keyed a.state) ts) i.0 in
     let uses : CountsUses c.write_message.new.state = c.write_message.ensures.uses
     (subst (λ (z : SymmetricState). CountsUses z) (sym c.for_trial-state.ensures) (counts P h i.2 ts e less)) in
     let counted : nonce_now c.write_message.new.state ≤ nonce_now a.state + length ts + 1 =
@@ -297,7 +297,7 @@ invariant_of-self g c =
     c.write_message.ensures.used in (
       i.0,
       omega (arith, enough P h i.2 ts e less, length-drop a.used a.secrets.items, n, i.1),
-      sound-behind P h i.2 ts e less a.remote c.write_message.new.state (drop (a.used + found.secrets) a.secrets.items) (a.passed + 1) refl
+      sound-after P h i.2 ts e less a.remote c.write_message.new.state (drop (a.used + found.secrets) a.secrets.items) (a.passed + 1) refl
           (ap (λ (k : ℕ). drop (a.used + k) a.secrets.items) n ∙ sym (drop-drop (count_by is_psk ts) a.used a.secrets.items)) key counted few uses,
       knows-wrote h i.3 less c.write_message.new.state (drop (a.used + found.secrets) a.secrets.items) (writes-turn P h i.2 len none),
       subst (λ (z : Plan). LaysNext z (a.passed + 1) c.lay_next-self-inside.result) c.pattern-plan.ensures.same c.lay_next-self-inside.ensures,

@@ -4,22 +4,22 @@ use Rattle.noise_names.specs.Facts.{section_bytes-all}
 use Rattle.noise_names.proofs.Reading.{heading-parts, heading-rest, section-of, stripped, not-stripped, ok-same, ok-not-err}
 use Rattle.noise_names.proofs.text.read.read_heading.Goals as goal
 
-pub returns-in_err-behind-clause-every : goal.returns-in_err-behind-clause-every
-returns-in_err-behind-clause-every c = λ s behind h e.
-    let parts = heading-parts c.args.text.now (section_bytes s.base s.places) behind _ _ _ (section_bytes-all s h) e c.section_len.ensures
+pub returns-in_err-after-clause-every : goal.returns-in_err-after-clause-every
+returns-in_err-after-clause-every c = λ s after h e.
+    let parts = heading-parts c.args.text.now (section_bytes s.base s.places) after _ _ _ (section_bytes-all s h) e c.section_len.ensures
     c.split_at.ensures.front c.split_at.ensures.back in
-    absurd (not-stripped _ (codes ":") c.in_err-behind.ensures.cases behind parts.1)
+    absurd (not-stripped _ (codes ":") c.in_err-after.ensures.cases after parts.1)
 
 pub returns-in-Ok-clause-every : goal.returns-in-Ok-clause-every
-returns-in-Ok-clause-every c = λ s behind h e.
-    let parts = heading-parts c.args.text.now (section_bytes s.base s.places) behind _ _ _ (section_bytes-all s h) e c.section_len.ensures
+returns-in-Ok-clause-every c = λ s after h e.
+    let parts = heading-parts c.args.text.now (section_bytes s.base s.places) after _ _ _ (section_bytes-all s h) e c.section_len.ensures
     c.split_at.ensures.front c.split_at.ensures.back in (
       ok-same c.parse_section.result c.in-Ok.name s c.in-Ok.is (section-of s _ _ h parts.0 c.parse_section.ensures),
-      heading-rest _ _ _ parts.1 (stripped _ (codes ":") c.in_ok-behind.behind c.in_ok-behind.ensures.cases),
+      heading-rest _ _ _ parts.1 (stripped _ (codes ":") c.in_ok-after.after c.in_ok-after.ensures.cases),
     )
 
 pub returns-in-Err-clause-every : goal.returns-in-Err-clause-every
-returns-in-Err-clause-every c = λ s behind h e.
-    let parts = heading-parts c.args.text.now (section_bytes s.base s.places) behind _ _ _ (section_bytes-all s h) e c.section_len.ensures
+returns-in-Err-clause-every c = λ s after h e.
+    let parts = heading-parts c.args.text.now (section_bytes s.base s.places) after _ _ _ (section_bytes-all s h) e c.section_len.ensures
     c.split_at.ensures.front c.split_at.ensures.back in
     absurd (ok-not-err c.parse_section.result c.in-Err.field-0 s c.in-Err.is (section-of s _ _ h parts.0 c.parse_section.ensures))

@@ -9,7 +9,7 @@ use Rattle.noise_session.specs.contracts.datagrams.Datagrams.{the_view}
 use Rattle.noise_session.specs.Datagrams.{HeldDatagrams, Pictures, nonce_named, datagram_fault}
 use Rattle.noise_session.specs.Datagrams.Opens.{opened, refused, forged}
 use Rattle.noise_session.proofs.Unopened.{not_ok}
-use Rattle.noise_session.proofs.DatagramViews.{behind-nonce, rest-behind-nonce, piece-packet, young-here, pictures-opened}
+use Rattle.noise_session.proofs.DatagramViews.{after-nonce, rest-after-nonce, piece-packet, young-here, pictures-opened}
 use Rattle.noise_session.proofs.datagrams.Datagrams.open_within.Goals as goal
 
 pub returns-in-Some-clause-opens : goal.returns-in-Some-clause-opens
@@ -21,7 +21,7 @@ returns-in-Ok-clause-beyond c =
     let least : 24 ≤ length d = c.in_default.ensures.bounds.0 in
     let long : 8 ≤ length d = omega arith in (
       take-put_mid_below 8 (length d - 8) d c.decrypt.new.buf 8 (omega arith) long,
-      rest-behind-nonce d c.decrypt.new.buf c.in-Ok.len long (c.in-Ok.ensures.beyond ∙ ap (drop c.in-Ok.len) (take_rest d 8)),
+      rest-after-nonce d c.decrypt.new.buf c.in-Ok.len long (c.in-Ok.ensures.beyond ∙ ap (drop c.in-Ok.len) (take_rest d 8)),
     )
 
 pub returns-in-Ok-clause-opens : goal.returns-in-Ok-clause-opens
@@ -35,7 +35,7 @@ returns-in-Ok-clause-opens c v h =
     let long : 8 ≤ length d = omega arith in
     let out = put_mid 8 (length d - 8) d c.decrypt.new.buf in
     let front : take c.in-Ok.len c.decrypt.new.buf ≡ take c.in-Ok.len (drop 8 out) =
-    ap (take c.in-Ok.len) (sym (behind-nonce d c.decrypt.new.buf long)) in
+    ap (take c.in-Ok.len) (sym (after-nonce d c.decrypt.new.buf long)) in
     let piece = piece-packet (key_in c.set_nonce.new.self) (nonce_in c.set_nonce.new.self) (nonce_named d) v.history (other v.role)
     (take c.in-Ok.len c.decrypt.new.buf) keyed (c.set_nonce.ensures.nonce ∙ named) in (
       opened v d (take c.in-Ok.len (drop 8 out)) none

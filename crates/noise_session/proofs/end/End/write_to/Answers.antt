@@ -3,7 +3,7 @@ use Rattle.std.proofs.lemmas.List.{length-take-le, take-take, take-append-le}
 use Rattle.std.specs.Io.KnownBytes.{Appends}
 use Rattle.noise_session.specs.declared.faults.SendFault.{SendFault}
 use Rattle.noise_session.specs.Ends.{EndStands, PhaseStands, closed}
-use Rattle.noise_session.specs.Sending.{behind_fault}
+use Rattle.noise_session.specs.Sending.{after_fault}
 use Rattle.noise_session.specs.Outputs.{Puts}
 use Rattle.noise_session.specs.Outputs.Puts.{whole, broken, refused}
 use Rattle.noise_session.proofs.Streaming.{appended_none}
@@ -21,9 +21,9 @@ returns-in_err-len-clause-puts g c v s =
     let fault = c.in_err-len.field-0.0 in
     let same : c.from_residual.result ≡ Err fault = search rules in (
       [],
-      behind_fault v fault,
-      subst (λ (r : Result ℕ SendFault). Puts v c.args.payload.now r [] (behind_fault v fault)) (sym same)
-          (refused v (behind_fault v fault) c.args.payload.now fault e.0),
+      after_fault v fault,
+      subst (λ (r : Result ℕ SendFault). Puts v c.args.payload.now r [] (after_fault v fault)) (sym same)
+          (refused v (after_fault v fault) c.args.payload.now fault e.0),
       appended_none _,
       e.1,
     )

@@ -12,7 +12,7 @@ invariant_of-self c =
     let ys = c.put.new.buffer.items in
     let h = self.held in
     let n = c.min-count.result in
-    let u = c.whole_behind-self.result in
+    let u = c.whole_after-self.result in
     let p = take n c.args.piece.now in
     let low : self.whole ≤ 65537 = self.most in
     let within : h ≤ self.whole = self.within in
@@ -21,15 +21,15 @@ invariant_of-self c =
     let joined : take (h + n) ys ≡ take h xs ++ p = subst (λ (k : ℕ). take (h + k) ys ≡ take h xs ++ p) came c.put.ensures.front in
     let read : h + n ≡ 2 → (u ≡ frame_length (take 2 ys)) × (u ≤ 65537) × (take 2 ys ≡ big_bytes 2 (u - 2)) =
     subst (λ (b : List ℕ). h + n ≡ 2 → (u ≡ frame_length (take 2 b)) × (u ≤ 65537) × (take 2 b ≡ big_bytes 2 (u - 2))) c.deref.ensures.value
-    c.whole_behind-self.ensures.read in
+    c.whole_after-self.ensures.read in
     let fits : h + n ≤ self.whole = omega arith in
     let room : h + n ≤ length xs = omega arith in
     let same : length ys ≡ length xs = c.put.ensures.room in
     record {
       room = same ∙ all;
       fixed = c.put.ensures.fixed ∙ self.fixed;
-      most = grown-most xs ys p h n self.whole u joined came room same self.known fits low self.spelled read c.whole_behind-self.ensures.kept;
-      within = grown-within xs ys p h n self.whole u joined came room same self.known fits low self.spelled read c.whole_behind-self.ensures.kept;
-      known = grown-known xs ys p h n self.whole u joined came room same self.known fits low self.spelled read c.whole_behind-self.ensures.kept;
-      spelled = grown-spelled xs ys p h n self.whole u joined came room same self.known fits low self.spelled read c.whole_behind-self.ensures.kept;
+      most = grown-most xs ys p h n self.whole u joined came room same self.known fits low self.spelled read c.whole_after-self.ensures.kept;
+      within = grown-within xs ys p h n self.whole u joined came room same self.known fits low self.spelled read c.whole_after-self.ensures.kept;
+      known = grown-known xs ys p h n self.whole u joined came room same self.known fits low self.spelled read c.whole_after-self.ensures.kept;
+      spelled = grown-spelled xs ys p h n self.whole u joined came room same self.known fits low self.spelled read c.whole_after-self.ensures.kept;
     }

@@ -11,7 +11,7 @@ invariant_of-self g c =
     let ys = c.read_into-count.new.buffer.items in
     let h = self.held in
     let n = c.read_into-count.result.0 in
-    let u = c.whole_behind-self.result in
+    let u = c.whole_after-self.result in
     let r = c.read_into-count.ensures.bytes in
     let p = r.0 in
     let low : self.whole ≤ 65537 = self.most in
@@ -19,7 +19,7 @@ invariant_of-self g c =
     let all : length xs ≡ 65537 = self.room in
     let read : h + n ≡ 2 → (u ≡ frame_length (take 2 ys)) × (u ≤ 65537) × (take 2 ys ≡ big_bytes 2 (u - 2)) =
     subst (λ (b : List ℕ). h + n ≡ 2 → (u ≡ frame_length (take 2 b)) × (u ≤ 65537) × (take 2 b ≡ big_bytes 2 (u - 2))) c.deref.ensures.value
-    c.whole_behind-self.ensures.read in
+    c.whole_after-self.ensures.read in
     let came : n ≤ self.whole - h = c.read_into-count.ensures.within in
     let fits : h + n ≤ self.whole = omega arith in
     let room : h + n ≤ length xs = omega arith in
@@ -27,8 +27,8 @@ invariant_of-self g c =
     record {
       room = same ∙ all;
       fixed = c.read_into-count.ensures.fixed ∙ self.fixed;
-      most = grown-most xs ys p h n self.whole u r.3 r.2 room same self.known fits low self.spelled read c.whole_behind-self.ensures.kept;
-      within = grown-within xs ys p h n self.whole u r.3 r.2 room same self.known fits low self.spelled read c.whole_behind-self.ensures.kept;
-      known = grown-known xs ys p h n self.whole u r.3 r.2 room same self.known fits low self.spelled read c.whole_behind-self.ensures.kept;
-      spelled = grown-spelled xs ys p h n self.whole u r.3 r.2 room same self.known fits low self.spelled read c.whole_behind-self.ensures.kept;
+      most = grown-most xs ys p h n self.whole u r.3 r.2 room same self.known fits low self.spelled read c.whole_after-self.ensures.kept;
+      within = grown-within xs ys p h n self.whole u r.3 r.2 room same self.known fits low self.spelled read c.whole_after-self.ensures.kept;
+      known = grown-known xs ys p h n self.whole u r.3 r.2 room same self.known fits low self.spelled read c.whole_after-self.ensures.kept;
+      spelled = grown-spelled xs ys p h n self.whole u r.3 r.2 room same self.known fits low self.spelled read c.whole_after-self.ensures.kept;
     }
