@@ -79,17 +79,17 @@ returns-in_default c =
 
 pub returns-in_default-strip_prefix : goal.returns-in_default-strip_prefix
 returns-in_default-strip_prefix c =
-    rw (refused_after c.args.modifiers.now c.loop-number.rest.now c.loop-number.invariant.0 c.in-Some.beyond.now c.in-Some.number c.loop-number.invariant.1
-    (not_empty c.args.modifiers.now (sym c.if-is_empty.ensures)) c.in-Some.ensures.some.1 (not_empty c.in-Some.beyond.now (sym c.if-is_empty-2.ensures))
-    (λ more e. no_plus c.in-Some.beyond.now more c.in_default-strip_prefix.ensures.cases e))
+    rw (refused_after c.args.modifiers.now c.loop-number.rest.now c.loop-number.invariant.0 c.in-Some.after.now c.in-Some.number c.loop-number.invariant.1
+    (not_empty c.args.modifiers.now (sym c.if-is_empty.ensures)) c.in-Some.ensures.some.1 (not_empty c.in-Some.after.now (sym c.if-is_empty-2.ensures))
+    (λ more e. no_plus c.in-Some.after.now more c.in_default-strip_prefix.ensures.cases e))
     refl
 
 pub loop-number-preserved : goal.loop-number-preserved
 loop-number-preserved c = (
   c.loop-number.invariant.0 ++ c.in-Some.number ∷ [],
-  read_more c.args.modifiers.now c.loop-number.invariant.0 c.loop-number.rest.now c.in-Some.beyond.now c.in-Some-strip_prefix.more.now c.in-Some.number
+  read_more c.args.modifiers.now c.loop-number.invariant.0 c.loop-number.rest.now c.in-Some.after.now c.in-Some-strip_prefix.more.now c.in-Some.number
       c.loop-number.invariant.1 c.in-Some.ensures.some.1
-      (plus c.in-Some.beyond.now c.in-Some-strip_prefix.more.now c.in-Some-strip_prefix.ensures.cases.0 c.in-Some-strip_prefix.ensures.cases.1),
+      (plus c.in-Some.after.now c.in-Some-strip_prefix.more.now c.in-Some-strip_prefix.ensures.cases.0 c.in-Some-strip_prefix.ensures.cases.1),
   are_numbers-push c.loop-number.invariant.0 c.in-Some.number c.loop-number.invariant.2 c.in-Some.ensures.some.0,
   elim c.if-is_full.branch [
     | then-is_full w ↦ kept_full c.loop-number.too_many c.if-is_full.too_many c.loop-number.invariant.0 c.loop-number.numbers.items
@@ -105,8 +105,8 @@ pub returns-then-too_many : goal.returns-then-too_many
 returns-then-too_many c =
     let done : List ℕ = c.loop-number.invariant.0 ++ c.in-Some.number ∷ [] in
     let read : c.args.modifiers.now ≡ join_with_byte 43 (map modifier done) =
-    read_last c.args.modifiers.now c.loop-number.invariant.0 c.loop-number.rest.now c.in-Some.beyond.now c.in-Some.number c.loop-number.invariant.1
-    c.in-Some.ensures.some.1 (is_nil c.in-Some.beyond.now (sym c.if-is_empty-2.ensures)) in
+    read_last c.args.modifiers.now c.loop-number.invariant.0 c.loop-number.rest.now c.in-Some.after.now c.in-Some.number c.loop-number.invariant.1
+    c.in-Some.ensures.some.1 (is_nil c.in-Some.after.now (sym c.if-is_empty-2.ensures)) in
     let numbers : are_numbers done ≡ true = are_numbers-push c.loop-number.invariant.0 c.in-Some.number c.loop-number.invariant.2 c.in-Some.ensures.some.0 in
     let kept : Kept c.if-is_full.too_many done c.if-is_full.numbers.items = elim c.if-is_full.branch [
       | then-is_full w ↦ kept_full c.loop-number.too_many c.if-is_full.too_many c.loop-number.invariant.0 c.loop-number.numbers.items
@@ -123,8 +123,8 @@ pub returns : goal.returns
 returns c =
     let done : List ℕ = c.loop-number.invariant.0 ++ c.in-Some.number ∷ [] in
     let read : c.args.modifiers.now ≡ join_with_byte 43 (map modifier done) =
-    read_last c.args.modifiers.now c.loop-number.invariant.0 c.loop-number.rest.now c.in-Some.beyond.now c.in-Some.number c.loop-number.invariant.1
-    c.in-Some.ensures.some.1 (is_nil c.in-Some.beyond.now (sym c.if-is_empty-2.ensures)) in
+    read_last c.args.modifiers.now c.loop-number.invariant.0 c.loop-number.rest.now c.in-Some.after.now c.in-Some.number c.loop-number.invariant.1
+    c.in-Some.ensures.some.1 (is_nil c.in-Some.after.now (sym c.if-is_empty-2.ensures)) in
     let numbers : are_numbers done ≡ true = are_numbers-push c.loop-number.invariant.0 c.in-Some.number c.loop-number.invariant.2 c.in-Some.ensures.some.0 in
     let kept : Kept c.if-is_full.too_many done c.if-is_full.numbers.items = elim c.if-is_full.branch [
       | then-is_full w ↦ kept_full c.loop-number.too_many c.if-is_full.too_many c.loop-number.invariant.0 c.loop-number.numbers.items

@@ -10,7 +10,7 @@ use Rattle.noise_handshake.proofs.Advancing.{advanced, unended-read}
 use Rattle.noise_handshake.specs.Held.{Advances}
 use Rattle.noise_handshake.proofs.Knowing.{reading-known, knows-read}
 use Rattle.noise_handshake.proofs.Layouts.{length-tokens_of, tokens-laid, places-laid}
-use Rattle.noise_handshake.proofs.Standing.{due, reads-turn, tokens-are, listening, listens, beyond, accepted, refused}
+use Rattle.noise_handshake.proofs.Standing.{due, reads-turn, tokens-are, listening, listens, after, accepted, refused}
 use Rattle.noise_state.specs.Standing.{StateStands, keyed, nonce_now}
 use Rattle.noise_state.specs.declared.symmetric.SymmetricState.{SymmetricState}
 use Rattle.noise_names.specs.declared.token.Token.{Token}
@@ -255,7 +255,7 @@ returns-in-Ok-clause-reads g c v s =
     let q = c.in-Ok.ensures.read v.history trial in (
       q.0,
       accepted v a.role a.psks (A a.keys) _ a.remote ts l c.args.message.now q.0 _ c.requires.fits q.1,
-      beyond P A h v s0 a.psks ts q.0 _ c.read_message.new.state c.read_message.new.known (drop (a.used + found.secrets) a.secrets.items)
+      after P A h v s0 a.psks ts q.0 _ c.read_message.new.state c.read_message.new.known (drop (a.used + found.secrets) a.secrets.items)
           (a.passed + 1) i.0 here
           (ap (λ (k : ℕ). drop (a.used + k) a.secrets.items) n ∙ sym (drop-drop (count_by is_psk ts) a.used a.secrets.items)) refl q.2
           (q.3 ∙ ap (λ (z : Remote). learned z ts q.0) s0.remote),
@@ -312,7 +312,7 @@ returns-in-Ok-clause-state g c =
       state = a.state;
     } in
     let none : read_fault h ≡ None = ap (λ (z : Held g.row.K.Denot). read_fault z) c.self.view_is ∙ c.requires.due in
-    let after : Held g.row.K.Denot = record {
+    let advanced_to : Held g.row.K.Denot = record {
       pattern = a.pattern;
       role = a.role;
       keys = a.keys;
@@ -322,5 +322,5 @@ returns-in-Ok-clause-state g c =
       ended = a.ended;
       state = c.read_message.new.state;
     } in
-    subst (λ (z : Held g.row.K.Denot). Advances z after) c.self.view_is
-    (advanced h after a.secrets.items a.used a.next.secrets refl refl refl refl (unended-read h none) refl refl)
+    subst (λ (z : Held g.row.K.Denot). Advances z advanced_to) c.self.view_is
+    (advanced h advanced_to a.secrets.items a.used a.next.secrets refl refl refl refl (unended-read h none) refl refl)
