@@ -16,5 +16,6 @@ pub mod Counterparts
 pub mod Ringing
 pub mod Rings
 pub mod DatagramViews
+pub mod DatagramSplitting
 pub mod DatagramLaws
 pub mod Exactly

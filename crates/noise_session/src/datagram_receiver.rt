@@ -135,7 +135,7 @@ impl DatagramReceiver {
     }
 
     /// Opens a datagram in place, and tells how many of its bytes from the ninth on are then the payload. The 8 of the nonce in
-    /// front of them and the 16 of the tag behind them stay as they are.
+    /// front of them and the 16 of the tag after them stay as they are.
     ///
     /// At an `Err` its bytes are unchanged.
     pub fn open_within(&mut self, datagram: &mut [u8]) -> Result<usize, DatagramFault>

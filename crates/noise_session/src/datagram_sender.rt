@@ -1,10 +1,11 @@
 //! The sending half of datagrams (Noise, 11.4).
 #![tactic(auto)]
 
-ghost use Rattle.std.specs.Prelude.{◌≡◌, ◌≤◌, ◌+◌, ◌++◌, [], length, take, drop, None, Err, IsOk, IsSome, IfOk, OnOk, OnErr, MatchOption};
+ghost use Rattle.std.specs.Prelude.{◌≡◌, ◌≢◌, ◌≤◌, ◌+◌, ◌++◌, [], length, take, drop, None, Err, IsOk, IsSome, IfOk, OnOk, OnErr, MatchOption};
 ghost use Rattle.std.specs.Int.{w64, to_be_bytes};
 ghost use Rattle.noise_state.specs.Cipher.{key_in, nonce_in};
 ghost use Rattle.noise_state.specs.History.{piece_under};
+ghost use Rattle.noise_session.specs.Transport.{last_nonce};
 ghost use Rattle.noise_session.specs.Datagrams.{DatagramView, datagram, unsealed};
 ghost use Rattle.noise_session.specs.DatagramHalves.{SenderPictures};
 ghost use Rattle.noise_session.specs.Parts.{datagram_sender_in};
@@ -165,23 +166,27 @@ impl DatagramSender {
         if let Some(fault) = self.refusal(payload_len) {
             return Err(fault);
         }
+        let nonce = self.cipher.nonce();
         let (front, message) = buffer.split_at_mut(NONCE_LEN);
-        front.copy_from_slice(&self.cipher.nonce().to_be_bytes());
-        match self.cipher.encrypt(&[], message, payload_len) {
-            Ok(len) => Ok(NONCE_LEN + len),
-            Err(_) => unreachable!(),
-        }
+        front.copy_from_slice(&nonce.to_be_bytes());
+        Ok(NONCE_LEN + encrypt(&mut self.cipher, message, payload_len))
     }
+}
 
-    pub(crate) fn role(&self) -> Role
-        ensures { result ≡ self.now.role }
-    {
-        self.role
-    }
-
-    pub(crate) fn one_way(&self) -> bool
-        ensures { result ≡ self.now.one_way }
-    {
-        self.one_way
+// Encrypts the payload in the first `payload_len` bytes of `message` in place, and tells how many bytes it has with its tag.
+fn encrypt(cipher: &mut CipherState, message: &mut [u8], payload_len: usize) -> usize
+    requires keyed { IsSome (key_in cipher.old) }
+    requires left { nonce_in cipher.old ≢ last_nonce }
+    requires short { payload_len ≤ 65519 }
+    requires room { payload_len + 16 ≤ length message.old }
+    ensures len { (result ≡ payload_len + 16) × (result ≤ length message.new) }
+    ensures sealed { take result message.new ≡ piece_under (key_in cipher.old) (nonce_in cipher.old) [] (take payload_len message.old) }
+    ensures rest { drop result message.new ≡ drop result message.old }
+    ensures key { key_in cipher.new ≡ key_in cipher.old }
+    ensures counted { nonce_in cipher.new ≡ nonce_in cipher.old + 1 }
+{
+    match cipher.encrypt(&[], message, payload_len) {
+        Ok(len) => len,
+        Err(_) => unreachable!(),
     }
 }
