@@ -84,7 +84,9 @@
    - One thread at a time uses a kept struct. Several threads may use different structs at once: the library has no other state. For a thread that
      sends and one that receives, split the transport or the datagrams: each half is a struct of its own, and needs no lock.
    - Never use a copy of a kept struct beside the original. Both would seal with the same nonce and key, which reveals what was sealed.
-     You may move a struct. You may read or open a message on a copy and then discard the copy.
+     You may move a struct. You may read or open a message on a copy and then discard the copy. Two copies of a noise_transport or a
+     noise_datagrams may be used like its halves if, from then on, one only seals and the other only opens: each call uses and changes only the
+     state of its own direction.
    - Each handshake has a new ephemeral key pair. A pair that was used before makes the same keys again.
    - X25519 may give all zeros. If you want such a key refused (Noise, 12.1), don't pass it to noise_answer, and end the handshake.
    - No call compares the other party's static key with the one that you expect. noise_remote_static returns it; compare it yourself.

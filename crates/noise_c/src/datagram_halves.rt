@@ -13,8 +13,10 @@ ghost use Rattle.noise_c.specs.declared.transport_codes.TheConstants.{EXHAUSTED,
 
 use crate::codes::{OK, ROOM, STRUCT};
 use crate::kept::NoiseTold;
-use crate::kept_datagram_halves::{NoiseDatagramReceiver, NoiseDatagramSender};
-use crate::kept_datagram_halves::{datagram_receiver_of, datagram_sender_of, kept_datagram_receiver, kept_datagram_sender};
+use crate::kept_datagram_halves::{
+    NoiseDatagramReceiver, NoiseDatagramSender, datagram_receiver_of, datagram_sender_of,
+    kept_datagram_receiver, kept_datagram_sender,
+};
 use crate::transport_codes::{datagram_code, seal_code};
 
 // The bytes of a nonce, which come first.

@@ -9,8 +9,9 @@ ghost use Rattle.noise_c.specs.KeptDatagramHalves.{is_datagram_sender, datagram_
 ghost use Rattle.noise_c.specs.declared.codes.TheConstants.{OK, STRUCT};
 
 use crate::codes::{OK, STRUCT};
-use crate::kept_datagram_halves::{NoiseDatagramReceiver, NoiseDatagramSender};
-use crate::kept_datagram_halves::{kept_datagram_receiver, kept_datagram_sender};
+use crate::kept_datagram_halves::{
+    NoiseDatagramReceiver, NoiseDatagramSender, kept_datagram_receiver, kept_datagram_sender,
+};
 use crate::kept_datagrams::{NoiseDatagrams, datagrams_of, no_datagrams};
 
 /// How many bytes the sending half of datagrams takes in the caller's memory.
