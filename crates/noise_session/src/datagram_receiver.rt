@@ -65,7 +65,12 @@ impl Model for DatagramReceiver {
 
 impl DatagramReceiver {
     // The half that opens with this cipher state.
-    pub(crate) fn new(role: Role, one_way: bool, cipher: CipherState, recent: Ring) -> DatagramReceiver
+    pub(crate) fn new(
+        role: Role,
+        one_way: bool,
+        cipher: CipherState,
+        recent: Ring,
+    ) -> DatagramReceiver
         requires keyed { IsSome (key_in cipher) }
         requires ring { is_ring recent ≡ true }
         ensures { result ≡ record { role = role; one_way = one_way; key = key_in cipher; recent = recent } }

@@ -15,8 +15,9 @@ ghost use Rattle.noise_session.specs.Datagrams.{DatagramView, Pictures, Opens, d
 ghost use Rattle.noise_session.specs.DatagramHalves.{SenderPictures, ReceiverPictures, datagram_sending_half, datagram_receiving_half};
 
 use crate::window::Ring;
-use crate::{DatagramFault, DatagramParts, DatagramReceiver, DatagramSender};
-use crate::{SendFault, Transport, Window};
+use crate::{
+    DatagramFault, DatagramParts, DatagramReceiver, DatagramSender, SendFault, Transport, Window,
+};
 use noise_handshake::Opened;
 use noise_state::CipherState;
 use std::marker::Model;
