@@ -3,7 +3,8 @@
    WHAT THE LIBRARY DOES. It runs a handshake pattern message by message. After the handshake it seals (encrypts) and opens (decrypts) transport
    messages or datagrams. It does no curve arithmetic, draws no random bytes, opens no socket and allocates no memory. The caller supplies public
    keys, computes X25519 when a call asks for it, and keeps the state in structs, the kept structs: noise_handshake, noise_transport and
-   noise_datagrams; and noise_sender and noise_receiver, into which a transport can be split.
+   noise_datagrams; and the halves into which the last two can be split, noise_sender and noise_receiver, noise_datagram_sender and
+   noise_datagram_receiver.
 
    THE ORDER OF CALLS
 
@@ -15,6 +16,8 @@
          noise_datagrams_seal, _open              as often as needed
        noise_transport_split                    for a thread that sends and one that receives, each with a struct of its own
          noise_sender_seal, noise_receiver_open   as often as needed
+       noise_datagrams_split                    the same for datagrams
+         noise_datagram_sender_seal, noise_datagram_receiver_open
 
    noise_stage says whose turn it is. noise_finish returns NOISE_NOT_DONE as long as messages are due.
 
@@ -76,14 +79,14 @@
    - A pointer that has a count may be NULL if the count is 0, as in `NULL, 0` or as the data() of an empty vector (see the end of this header).
      No other pointer may be NULL. Each pointer leads to as many bytes as its count or its type says.
    - The bytes at a pointer that isn't const overlap those of no other pointer of the call. So noise_write can't write a message over its payload.
-     noise_read, the _open calls and noise_transport_seal_in_place work in place, in one buffer.
+     noise_read, the _open calls and the _seal_in_place calls work in place, in one buffer.
    - The address of a kept struct is a multiple of 8, as its declaration here ensures.
    - One thread at a time uses a kept struct. Several threads may use different structs at once: the library has no other state. For a thread that
-     sends and one that receives, split the transport: each half is a struct of its own, and needs no lock.
+     sends and one that receives, split the transport or the datagrams: each half is a struct of its own, and needs no lock.
    - Never use a copy of a kept struct beside the original. Both would seal with the same nonce and key, which reveals what was sealed.
-     You may move a struct. You may read or open a message on a copy and then discard the copy. And two threads may each have a copy of a
-     noise_datagrams (or of a noise_transport, in place of its halves) if, from then on, one copy only seals and the other only opens: each call
-     uses and changes only the state of its own direction. Overwrite both copies at the end.
+     You may move a struct. You may read or open a message on a copy and then discard the copy. Two copies of a noise_transport or a
+     noise_datagrams may be used like its halves if, from then on, one only seals and the other only opens: each call uses and changes only the
+     state of its own direction.
    - Each handshake has a new ephemeral key pair. A pair that was used before makes the same keys again.
    - X25519 may give all zeros. If you want such a key refused (Noise, 12.1), don't pass it to noise_answer, and end the handshake.
    - No call compares the other party's static key with the one that you expect. noise_remote_static returns it; compare it yourself.
@@ -180,9 +183,11 @@ typedef struct { NOISE_ALIGNED unsigned char kept[1472]; } noise_handshake;
 typedef struct { NOISE_ALIGNED unsigned char kept[160]; } noise_transport;
 typedef struct { NOISE_ALIGNED unsigned char kept[296]; } noise_datagrams;
 
-/* The halves of a transport: one seals, the other opens. */
+/* The halves of a transport, and those of datagrams: one seals, the other opens. */
 typedef struct { NOISE_ALIGNED unsigned char kept[56]; } noise_sender;
 typedef struct { NOISE_ALIGNED unsigned char kept[56]; } noise_receiver;
+typedef struct { NOISE_ALIGNED unsigned char kept[48]; } noise_datagram_sender;
+typedef struct { NOISE_ALIGNED unsigned char kept[192]; } noise_datagram_receiver;
 
 /* A public key, or none if present is 0. */
 typedef struct {
@@ -358,6 +363,12 @@ uint32_t noise_finish_datagrams(const noise_handshake *h, uint32_t window, noise
    The codes are those of noise_transport_seal: ROOM if out has fewer bytes than the datagram. */
 uint32_t noise_datagrams_seal(noise_datagrams *d, const uint8_t *payload, size_t payload_len, uint8_t *out, size_t out_len, noise_told *told);
 
+/* Seals a payload as noise_datagrams_seal does, in one buffer: the payload is the payload_len bytes of buffer from the ninth on (buffer + 8), and
+   the datagram replaces it.
+   OK: the datagram is the first told->len bytes of buffer, 24 more than the payload; the bytes after it are unchanged. The other codes are those
+   of noise_datagrams_seal: ROOM if buffer has fewer bytes than the datagram. */
+uint32_t noise_datagrams_seal_in_place(noise_datagrams *d, uint8_t *buffer, size_t buffer_len, size_t payload_len, noise_told *told);
+
 /* Opens a datagram of the other party, in place.
    OK: the payload is now the told->len bytes of datagram from told->from on; no other datagram with this nonce will be opened · STRUCT · ONE_WAY ·
    SHORT: it has fewer than 24 bytes · TOO_LONG: more than 65543 · RESERVED · OLD · REPEATED · TAG. At any code but OK *d and datagram are
@@ -370,6 +381,21 @@ uint32_t noise_datagrams_nonce(const noise_datagrams *d, uint64_t *send);
 /* Return the handshake hash and the other party's static public key, as noise_hash and noise_remote_static do. OK · STRUCT. */
 uint32_t noise_datagrams_hash(const noise_datagrams *d, uint8_t hash[32]);
 uint32_t noise_datagrams_remote_static(const noise_datagrams *d, noise_key *key);
+
+/* Splits the state for datagrams into the half that seals and the half that opens, for two threads. Ask for the hash and the other party's static
+   key before.
+   OK: *sender and *receiver may have held anything before; *d is now all zeros, and each call with it returns STRUCT · STRUCT: all is unchanged. */
+uint32_t noise_datagrams_split(noise_datagrams *d, noise_datagram_sender *sender, noise_datagram_receiver *receiver);
+
+/* Return the size of a noise_datagram_sender and of a noise_datagram_receiver, in bytes. */
+size_t noise_datagram_sender_size(void);
+size_t noise_datagram_receiver_size(void);
+
+/* Seals and opens as noise_datagrams_seal and noise_datagrams_open do, with the same codes. In a one-way pattern (N, K, X)
+   noise_datagram_sender_seal of the responder and noise_datagram_receiver_open of the initiator return ONE_WAY. */
+uint32_t noise_datagram_sender_seal(noise_datagram_sender *s, const uint8_t *payload, size_t payload_len, uint8_t *out, size_t out_len,
+    noise_told *told);
+uint32_t noise_datagram_receiver_open(noise_datagram_receiver *r, uint8_t *datagram, size_t datagram_len, noise_told *told);
 
 /* CODES IN WORDS */
 
@@ -484,6 +510,23 @@ static inline uint32_t noise_datagrams_open_inline(noise_datagrams *d, uint8_t *
     return noise_datagrams_open(d, datagram || datagram_len ? datagram : &nothing, datagram_len, told);
 }
 
+static inline uint32_t noise_datagrams_seal_in_place_inline(noise_datagrams *d, uint8_t *buffer, size_t buffer_len, size_t payload_len,
+    noise_told *told) {
+    uint8_t nothing = 0;
+    return noise_datagrams_seal_in_place(d, buffer || buffer_len ? buffer : &nothing, buffer_len, payload_len, told);
+}
+
+static inline uint32_t noise_datagram_sender_seal_inline(noise_datagram_sender *s, const uint8_t *payload, size_t payload_len, uint8_t *out,
+    size_t out_len, noise_told *told) {
+    uint8_t nothing[2] = {0, 0};
+    return noise_datagram_sender_seal(s, payload || payload_len ? payload : nothing, payload_len, out || out_len ? out : nothing + 1, out_len, told);
+}
+
+static inline uint32_t noise_datagram_receiver_open_inline(noise_datagram_receiver *r, uint8_t *datagram, size_t datagram_len, noise_told *told) {
+    uint8_t nothing = 0;
+    return noise_datagram_receiver_open(r, datagram || datagram_len ? datagram : &nothing, datagram_len, told);
+}
+
 #define noise_start(h, pattern, pattern_len, prologue, prologue_len, setup) \
     noise_start_inline(h, pattern, pattern_len, prologue, prologue_len, setup)
 #define noise_write(h, payload, payload_len, out, out_len, told) noise_write_inline(h, payload, payload_len, out, out_len, told)
@@ -497,6 +540,11 @@ static inline uint32_t noise_datagrams_open_inline(noise_datagrams *d, uint8_t *
 #define noise_receiver_open(r, message, message_len, told) noise_receiver_open_inline(r, message, message_len, told)
 #define noise_datagrams_seal(d, payload, payload_len, out, out_len, told) noise_datagrams_seal_inline(d, payload, payload_len, out, out_len, told)
 #define noise_datagrams_open(d, datagram, datagram_len, told) noise_datagrams_open_inline(d, datagram, datagram_len, told)
+#define noise_datagrams_seal_in_place(d, buffer, buffer_len, payload_len, told) \
+    noise_datagrams_seal_in_place_inline(d, buffer, buffer_len, payload_len, told)
+#define noise_datagram_sender_seal(s, payload, payload_len, out, out_len, told) \
+    noise_datagram_sender_seal_inline(s, payload, payload_len, out, out_len, told)
+#define noise_datagram_receiver_open(r, datagram, datagram_len, told) noise_datagram_receiver_open_inline(r, datagram, datagram_len, told)
 
 #ifdef __cplusplus
 }

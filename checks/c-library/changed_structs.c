@@ -15,6 +15,10 @@ typedef struct {
 static noise_handshake *h;
 static noise_transport *t;
 static noise_datagrams *d;
+static noise_sender *ts;
+static noise_receiver *tr;
+static noise_datagram_sender *ds;
+static noise_datagram_receiver *dr;
 static noise_told *told;
 static noise_stage_told *stage;
 static noise_key *key;
@@ -29,6 +33,10 @@ static void make_places(void) {
     h = (noise_handshake *)place_at_edge(sizeof *h);
     t = (noise_transport *)place_at_edge(sizeof *t);
     d = (noise_datagrams *)place_at_edge(sizeof *d);
+    ts = (noise_sender *)place_at_edge(sizeof *ts);
+    tr = (noise_receiver *)place_at_edge(sizeof *tr);
+    ds = (noise_datagram_sender *)place_at_edge(sizeof *ds);
+    dr = (noise_datagram_receiver *)place_at_edge(sizeof *dr);
     told = (noise_told *)place_at_edge(sizeof *told);
     stage = (noise_stage_told *)place_at_edge(sizeof *stage);
     key = (noise_key *)place_at_edge(sizeof *key);
@@ -57,32 +65,81 @@ static void must_be(uint32_t code, uint64_t codes) {
     MUST(is_in(code, codes | CODE(NOISE_OK)));
 }
 
-// Seals and opens with a transport or datagrams, whatever stands in them.
+static const uint64_t seal_faults = CODE(NOISE_STRUCT) | CODE(NOISE_ONE_WAY) | CODE(NOISE_EXHAUSTED);
+static const uint64_t open_faults = CODE(NOISE_STRUCT) | CODE(NOISE_ONE_WAY) | CODE(NOISE_EXHAUSTED) | CODE(NOISE_TAG);
+static const uint64_t datagram_faults =
+    CODE(NOISE_STRUCT) | CODE(NOISE_ONE_WAY) | CODE(NOISE_RESERVED) | CODE(NOISE_OLD) | CODE(NOISE_REPEATED) | CODE(NOISE_TAG);
+
+// Seals and opens with the halves of a transport or of datagrams, whatever stands in them.
+static void use_halves(const noise_sender *sender, const noise_receiver *receiver, const uint8_t *message) {
+    *ts = *sender;
+    *tr = *receiver;
+    uint32_t code = noise_sender_seal(ts, bytes_of(1, 0, 24), 24, bytes_of(0, 0, 40), 40, told);
+    must_be(code, seal_faults);
+    if (code == NOISE_OK) MUST(told->len == 40);
+    code = noise_receiver_open(tr, bytes_of(2, message, 40), 40, told);
+    must_be(code, open_faults);
+    if (code == NOISE_OK) MUST(told->len == 24 && told->from == 0);
+}
+
+static void use_datagram_halves(const noise_datagram_sender *sender, const noise_datagram_receiver *receiver, const uint8_t *datagram) {
+    *ds = *sender;
+    *dr = *receiver;
+    uint32_t code = noise_datagram_sender_seal(ds, bytes_of(1, 0, 24), 24, bytes_of(0, 0, 48), 48, told);
+    must_be(code, seal_faults);
+    if (code == NOISE_OK) MUST(told->len == 48);
+    code = noise_datagram_receiver_open(dr, bytes_of(2, datagram, 48), 48, told);
+    must_be(code, datagram_faults);
+    if (code == NOISE_OK) MUST(told->len == 24 && told->from == 8);
+}
+
+// Seals and opens with a transport or datagrams, whatever stands in them, and with their halves.
 static void use_transport(const noise_transport *of, const uint8_t *right) {
     uint8_t *out = bytes_of(0, 0, 40), *text = bytes_of(1, 0, 24);
     *t = *of;
     uint32_t code = noise_transport_seal(t, text, 24, out, 40, told);
-    must_be(code, CODE(NOISE_STRUCT) | CODE(NOISE_ONE_WAY) | CODE(NOISE_EXHAUSTED));
+    must_be(code, seal_faults);
+    if (code == NOISE_OK) MUST(told->len == 40);
+    code = noise_transport_seal_in_place(t, bytes_of(0, 0, 40), 40, 24, told);
+    must_be(code, seal_faults);
     if (code == NOISE_OK) MUST(told->len == 40);
     code = noise_transport_open(t, bytes_of(2, right, 40), 40, told);
-    must_be(code, CODE(NOISE_STRUCT) | CODE(NOISE_ONE_WAY) | CODE(NOISE_EXHAUSTED) | CODE(NOISE_TAG));
+    must_be(code, open_faults);
     if (code == NOISE_OK) MUST(told->len == 24 && told->from <= 16);
     must_be(noise_transport_nonces(t, send, receive), CODE(NOISE_STRUCT));
     must_be(noise_transport_hash(t, hash), CODE(NOISE_STRUCT));
     must_be(noise_transport_remote_static(t, key), CODE(NOISE_STRUCT));
+    *t = *of;
+    code = noise_transport_split(t, ts, tr);
+    must_be(code, CODE(NOISE_STRUCT));
+    if (code != NOISE_OK) return;
+    noise_sender sender = *ts;
+    noise_receiver receiver = *tr;
+    use_halves(&sender, &receiver, right);
 }
 
 static void use_datagrams(const noise_datagrams *of, const uint8_t *datagram) {
     uint8_t *out = bytes_of(0, 0, 48), *text = bytes_of(1, 0, 24);
     *d = *of;
     uint32_t code = noise_datagrams_seal(d, text, 24, out, 48, told);
-    must_be(code, CODE(NOISE_STRUCT) | CODE(NOISE_ONE_WAY) | CODE(NOISE_EXHAUSTED));
+    must_be(code, seal_faults);
     if (code == NOISE_OK) MUST(told->len == 48);
-    const uint64_t faults = CODE(NOISE_STRUCT) | CODE(NOISE_ONE_WAY) | CODE(NOISE_RESERVED) | CODE(NOISE_OLD) | CODE(NOISE_REPEATED) | CODE(NOISE_TAG);
+    code = noise_datagrams_seal_in_place(d, bytes_of(0, 0, 48), 48, 24, told);
+    must_be(code, seal_faults);
+    if (code == NOISE_OK) MUST(told->len == 48);
     code = noise_datagrams_open(d, bytes_of(2, datagram, 48), 48, told);
-    must_be(code, faults);
+    must_be(code, datagram_faults);
     if (code == NOISE_OK) MUST(told->len == 24 && told->from == 8);
     must_be(noise_datagrams_nonce(d, send), CODE(NOISE_STRUCT));
+    must_be(noise_datagrams_hash(d, hash), CODE(NOISE_STRUCT));
+    must_be(noise_datagrams_remote_static(d, key), CODE(NOISE_STRUCT));
+    *d = *of;
+    code = noise_datagrams_split(d, ds, dr);
+    must_be(code, CODE(NOISE_STRUCT));
+    if (code != NOISE_OK) return;
+    noise_datagram_sender sender = *ds;
+    noise_datagram_receiver receiver = *dr;
+    use_datagram_halves(&sender, &receiver, datagram);
 }
 
 static void read_with(const snapshot *s) {
@@ -220,6 +277,37 @@ static unsigned run_of(const plan *p, snapshot *at) {
     return count;
 }
 
+// The halves of these, with each byte changed, with random bytes, and of random bytes alone.
+static void try_halves(noise_transport whole, noise_datagrams datagrams, const uint8_t *message, const uint8_t *datagram) {
+    noise_sender sender, other_sender;
+    noise_receiver receiver, other_receiver;
+    noise_datagram_sender datagram_sender, other_datagram_sender;
+    noise_datagram_receiver datagram_receiver, other_datagram_receiver;
+    MUST(noise_transport_split(&whole, &sender, &receiver) == NOISE_OK);
+    MUST(noise_datagrams_split(&datagrams, &datagram_sender, &datagram_receiver) == NOISE_OK);
+    for (size_t i = 0; i < sizeof datagram_receiver; i++)
+        for (size_t v = 0; v < sizeof values; v++) {
+            other_sender = sender, other_receiver = receiver;
+            other_datagram_sender = datagram_sender, other_datagram_receiver = datagram_receiver;
+            other_sender.kept[i % sizeof sender] = other_receiver.kept[i % sizeof receiver] = values[v];
+            other_datagram_sender.kept[i % sizeof datagram_sender] = other_datagram_receiver.kept[i] = values[v];
+            use_halves(&other_sender, &other_receiver, message);
+            use_datagram_halves(&other_datagram_sender, &other_datagram_receiver, datagram);
+        }
+    for (unsigned round = 0; round < RANDOM_ROUNDS; round++) {
+        other_datagram_receiver = datagram_receiver;
+        for (unsigned n = random_number() % 9; n; n--)
+            other_datagram_receiver.kept[random_number() % sizeof other_datagram_receiver] = (uint8_t)random_number();
+        use_datagram_halves(&datagram_sender, &other_datagram_receiver, datagram);
+        fill_randomly(other_sender.kept, sizeof other_sender);
+        fill_randomly(other_receiver.kept, sizeof other_receiver);
+        fill_randomly(other_datagram_sender.kept, sizeof other_datagram_sender);
+        fill_randomly(other_datagram_receiver.kept, sizeof other_datagram_receiver);
+        use_halves(&other_sender, &other_receiver, message);
+        use_datagram_halves(&other_datagram_sender, &other_datagram_receiver, datagram);
+    }
+}
+
 static void try_transports(const plan *p) {
     end ends[2] = {begin(p, 0), begin(p, 1)};
     noise_transport right, other_right;
@@ -255,6 +343,7 @@ static void try_transports(const plan *p) {
         use_transport(&changed, message);
         use_datagrams(&other, datagram);
     }
+    try_halves(right, mine, message, datagram);
 }
 
 // A name and a pattern text with each byte changed, cut at each length, and setups of random bytes.

@@ -8,6 +8,8 @@ static void check_declared_sizes(void) {
     MUST(noise_datagrams_size() == sizeof(noise_datagrams));
     MUST(noise_sender_size() == sizeof(noise_sender));
     MUST(noise_receiver_size() == sizeof(noise_receiver));
+    MUST(noise_datagram_sender_size() == sizeof(noise_datagram_sender));
+    MUST(noise_datagram_receiver_size() == sizeof(noise_datagram_receiver));
 }
 
 int main(int count, char **words) {
@@ -21,6 +23,7 @@ int main(int count, char **words) {
     check_transport();
     check_datagrams();
     check_halves();
+    check_datagram_halves();
     check_changed_structs();
     puts("c-library: all codes, bytes and places were right");
     return 0;

@@ -72,6 +72,7 @@ void check_refusals(void);
 void check_transport(void);
 void check_datagrams(void);
 void check_halves(void);
+void check_datagram_halves(void);
 void check_changed_structs(void);
 
 #endif

@@ -120,6 +120,41 @@ static uint32_t seal_datagrams(void *kept, const uint8_t *bytes, size_t len, uin
     return noise_datagrams_seal((noise_datagrams *)kept, bytes, len, out, out_len, told);
 }
 
+static uint32_t seal_with_sender(void *kept, const uint8_t *bytes, size_t len, uint8_t *out, size_t out_len, noise_told *told) {
+    return noise_sender_seal((noise_sender *)kept, bytes, len, out, out_len, told);
+}
+
+static uint32_t seal_with_datagram_sender(void *kept, const uint8_t *bytes, size_t len, uint8_t *out, size_t out_len, noise_told *told) {
+    return noise_datagram_sender_seal((noise_datagram_sender *)kept, bytes, len, out, out_len, told);
+}
+
+// Puts the payload into the buffer from `from` on, as far as there is room, and at a refusal the filling again: call_writing compares that.
+static void put_payload(uint8_t *out, size_t out_len, size_t from, const uint8_t *bytes, size_t len) {
+    size_t room = out_len > from ? out_len - from : 0, some = len < room ? len : room;
+    if (some) memcpy(out + from, bytes, some);
+}
+
+static void take_payload(uint8_t *out, size_t out_len, size_t from, const uint8_t *bytes, size_t len) {
+    size_t room = out_len > from ? out_len - from : 0, some = len < room ? len : room;
+    if (!some) return;
+    MUST(!memcmp(out + from, bytes, some));
+    memset(out + from, 0x5e, some);
+}
+
+static uint32_t seal_in_place(void *kept, const uint8_t *bytes, size_t len, uint8_t *out, size_t out_len, noise_told *told) {
+    put_payload(out, out_len, 0, bytes, len);
+    uint32_t code = noise_transport_seal_in_place((noise_transport *)kept, out, out_len, len, told);
+    if (code != NOISE_OK) take_payload(out, out_len, 0, bytes, len);
+    return code;
+}
+
+static uint32_t seal_datagram_in_place(void *kept, const uint8_t *bytes, size_t len, uint8_t *out, size_t out_len, noise_told *told) {
+    put_payload(out, out_len, 8, bytes, len);
+    uint32_t code = noise_datagrams_seal_in_place((noise_datagrams *)kept, out, out_len, len, told);
+    if (code != NOISE_OK) take_payload(out, out_len, 8, bytes, len);
+    return code;
+}
+
 static uint32_t read_handshake(void *kept, uint8_t *bytes, size_t len, noise_told *told) {
     return noise_read((noise_handshake *)kept, bytes, len, told);
 }
@@ -130,6 +165,14 @@ static uint32_t open_transport(void *kept, uint8_t *bytes, size_t len, noise_tol
 
 static uint32_t open_datagrams(void *kept, uint8_t *bytes, size_t len, noise_told *told) {
     return noise_datagrams_open((noise_datagrams *)kept, bytes, len, told);
+}
+
+static uint32_t open_with_receiver(void *kept, uint8_t *bytes, size_t len, noise_told *told) {
+    return noise_receiver_open((noise_receiver *)kept, bytes, len, told);
+}
+
+static uint32_t open_with_datagram_receiver(void *kept, uint8_t *bytes, size_t len, noise_told *told) {
+    return noise_datagram_receiver_open((noise_datagram_receiver *)kept, bytes, len, told);
 }
 
 // A refused call of a transport or of datagrams tells nothing beside its code.
@@ -234,6 +277,39 @@ static void ask_transport(const noise_transport *t) {
 
 static void ask_datagrams(const noise_datagrams *d) {
     ASK(d, noise_datagrams, 8, begun, noise_datagrams_nonce(k, o));
+    ASK(d, noise_datagrams, 32, begun, noise_datagrams_hash(k, o));
+    ASK(d, noise_datagrams, sizeof(noise_key), begun, noise_datagrams_remote_static(k, o));
+}
+
+// What a split has left: at OK a struct of zeros and two halves, else all as it was.
+static void must_be_split(uint32_t code, const void *old, size_t size, const void *sender, size_t sender_size, const void *receiver, size_t receiver_size) {
+    static const uint8_t zeros[sizeof(noise_datagrams)];
+    memset(before, 0x5e, sizeof(noise_datagrams));
+    MUST(!memcmp(kept_place.at, code == NOISE_OK ? (const void *)zeros : old, size));
+    if (code == NOISE_OK) return;
+    MUST(!memcmp(sender, before, sender_size) && !memcmp(receiver, before, receiver_size));
+}
+
+static uint32_t split_transport(const noise_transport *t, noise_sender *sender, noise_receiver *receiver) {
+    noise_transport *there = put(&kept_place, t, sizeof *t, false);
+    noise_sender *sender_there = put(&first_place, NULL, sizeof *sender, false);
+    noise_receiver *receiver_there = put(&out_place, NULL, sizeof *receiver, false);
+    uint32_t code = counted(noise_transport_split(there, sender_there, receiver_there), begun);
+    must_be_split(code, t, sizeof *t, sender_there, sizeof *sender, receiver_there, sizeof *receiver);
+    *sender = *sender_there;
+    *receiver = *receiver_there;
+    return code;
+}
+
+static uint32_t split_datagrams(const noise_datagrams *d, noise_datagram_sender *sender, noise_datagram_receiver *receiver) {
+    noise_datagrams *there = put(&kept_place, d, sizeof *d, false);
+    noise_datagram_sender *sender_there = put(&first_place, NULL, sizeof *sender, false);
+    noise_datagram_receiver *receiver_there = put(&out_place, NULL, sizeof *receiver, false);
+    uint32_t code = counted(noise_datagrams_split(there, sender_there, receiver_there), begun);
+    must_be_split(code, d, sizeof *d, sender_there, sizeof *sender, receiver_there, sizeof *receiver);
+    *sender = *sender_there;
+    *receiver = *receiver_there;
+    return code;
 }
 
 // All calls on a copy whose bytes may be changed, with bytes of any kind.
@@ -256,8 +332,15 @@ static void disturb_transport(const noise_transport *t) {
     noise_told told;
     if (!one_in(3)) change_bytes(copy.kept, sizeof copy);
     ask_transport(&copy);
-    call_writing(seal_transport, &copy, sizeof copy, seal_codes, random_len(), random_len(), &told);
+    call_writing(one_in(2) ? seal_transport : seal_in_place, &copy, sizeof copy, seal_codes, random_len(), random_len(), &told);
     call_opening(open_transport, &copy, sizeof copy, open_codes, payload, random_len(), &told);
+    noise_sender sender;
+    noise_receiver receiver;
+    if (split_transport(one_in(2) ? t : &copy, &sender, &receiver) != NOISE_OK) return;
+    if (!one_in(3)) change_bytes(sender.kept, sizeof sender);
+    if (!one_in(3)) change_bytes(receiver.kept, sizeof receiver);
+    call_writing(seal_with_sender, &sender, sizeof sender, seal_codes, random_len(), random_len(), &told);
+    call_opening(open_with_receiver, &receiver, sizeof receiver, open_codes, payload, random_len(), &told);
 }
 
 static void disturb_datagrams(const noise_datagrams *d) {
@@ -265,8 +348,15 @@ static void disturb_datagrams(const noise_datagrams *d) {
     noise_told told;
     if (!one_in(3)) change_bytes(copy.kept, sizeof copy);
     ask_datagrams(&copy);
-    call_writing(seal_datagrams, &copy, sizeof copy, seal_codes, random_len(), random_len(), &told);
+    call_writing(one_in(2) ? seal_datagrams : seal_datagram_in_place, &copy, sizeof copy, seal_codes, random_len(), random_len(), &told);
     call_opening(open_datagrams, &copy, sizeof copy, datagram_codes, payload, random_len(), &told);
+    noise_datagram_sender sender;
+    noise_datagram_receiver receiver;
+    if (split_datagrams(one_in(2) ? d : &copy, &sender, &receiver) != NOISE_OK) return;
+    if (!one_in(3)) change_bytes(sender.kept, sizeof sender);
+    if (!one_in(3)) change_bytes(receiver.kept, sizeof receiver);
+    call_writing(seal_with_datagram_sender, &sender, sizeof sender, seal_codes, random_len(), random_len(), &told);
+    call_opening(open_with_datagram_receiver, &receiver, sizeof receiver, datagram_codes, payload, random_len(), &told);
 }
 
 static uint32_t start_there(noise_handshake *h, const void *pattern, size_t len, size_t prologue_len, const noise_setup *setup) {
@@ -336,22 +426,69 @@ static void shake_hands(const plan *p, noise_handshake h[2]) {
     }
 }
 
+// An end of a stream or of a network: whole, or split into its halves.
+typedef struct {
+    bool is_split;
+    noise_transport t;
+    noise_sender sender;
+    noise_receiver receiver;
+} stream_end;
+
+typedef struct {
+    bool is_split;
+    noise_datagrams d;
+    noise_datagram_sender sender;
+    noise_datagram_receiver receiver;
+} network_end;
+
+static void split_stream(stream_end *e) {
+    e->is_split = true;
+    MUST(split_transport(&e->t, &e->sender, &e->receiver) == NOISE_OK);
+}
+
+static void split_network(network_end *e) {
+    e->is_split = true;
+    MUST(split_datagrams(&e->d, &e->sender, &e->receiver) == NOISE_OK);
+}
+
+static uint32_t seal_in_stream(stream_end *e, size_t len, size_t room, noise_told *told) {
+    if (e->is_split) return call_writing(seal_with_sender, &e->sender, sizeof e->sender, seal_codes, len, room, told);
+    return call_writing(one_in(2) ? seal_transport : seal_in_place, &e->t, sizeof e->t, seal_codes, len, room, told);
+}
+
+static uint32_t open_in_stream(stream_end *e, size_t len, noise_told *told) {
+    if (e->is_split) return call_opening(open_with_receiver, &e->receiver, sizeof e->receiver, open_codes, message, len, told);
+    return call_opening(open_transport, &e->t, sizeof e->t, open_codes, message, len, told);
+}
+
+static uint32_t seal_in_network(network_end *e, size_t len, size_t room, noise_told *told) {
+    if (e->is_split) return call_writing(seal_with_datagram_sender, &e->sender, sizeof e->sender, seal_codes, len, room, told);
+    return call_writing(one_in(2) ? seal_datagrams : seal_datagram_in_place, &e->d, sizeof e->d, seal_codes, len, room, told);
+}
+
+static uint32_t open_in_network(network_end *e, size_t len, noise_told *told) {
+    if (e->is_split) return call_opening(open_with_datagram_receiver, &e->receiver, sizeof e->receiver, datagram_codes, message, len, told);
+    return call_opening(open_datagrams, &e->d, sizeof e->d, datagram_codes, message, len, told);
+}
+
 static void use_stream(const plan *p, const noise_handshake h[2]) {
-    noise_transport t[2];
+    stream_end ends[2] = {{.is_split = false}, {.is_split = false}};
     noise_told told;
     uint64_t interval = below(5);
-    for (unsigned role = 0; role < 2; role++) MUST(noise_finish(&h[role], interval, &t[role]) == NOISE_OK);
+    for (unsigned role = 0; role < 2; role++) MUST(noise_finish(&h[role], interval, &ends[role].t) == NOISE_OK);
     for (size_t n = below(12); n; n--) {
         unsigned sender = p->one_way ? 0 : (unsigned)below(2);
         size_t len = random_len() % (NOISE_MAX_MESSAGE - NOISE_TAG_LEN + 1), sealed = len + NOISE_TAG_LEN;
-        disturb_transport(&t[below(2)]);
-        MUST(call_writing(seal_transport, &t[sender], sizeof *t, seal_codes, len, below(sealed), &told) == NOISE_ROOM);
-        MUST(call_writing(seal_transport, &t[sender], sizeof *t, seal_codes, len, sealed, &told) == NOISE_OK && told.len == sealed);
+        stream_end *any = &ends[below(2)];
+        if (!any->is_split) disturb_transport(&any->t);
+        if (!any->is_split && one_in(3)) split_stream(any);
+        MUST(seal_in_stream(&ends[sender], len, below(sealed), &told) == NOISE_ROOM);
+        MUST(seal_in_stream(&ends[sender], len, sealed, &told) == NOISE_OK && told.len == sealed);
         size_t at = below(sealed);
         message[at] ^= 0x40;
-        MUST(call_opening(open_transport, &t[!sender], sizeof *t, open_codes, message, sealed, &told) == NOISE_TAG);
+        MUST(open_in_stream(&ends[!sender], sealed, &told) == NOISE_TAG);
         message[at] ^= 0x40;
-        MUST(call_opening(open_transport, &t[!sender], sizeof *t, open_codes, message, sealed, &told) == NOISE_OK);
+        MUST(open_in_stream(&ends[!sender], sealed, &told) == NOISE_OK);
         MUST(told.len == len && !memcmp(message + told.from, payload, len));
     }
 }
@@ -362,18 +499,19 @@ static uint32_t wanted_of(const bool *opened, size_t greatest, bool is_any, size
     return opened[nonce] ? NOISE_REPEATED : NOISE_OK;
 }
 
-static void open_in_any_order(noise_datagrams *d, size_t count, size_t window) {
+static void open_in_any_order(network_end *e, size_t count, size_t window) {
     bool opened[MOST_DATAGRAMS] = {false}, is_any = false;
     size_t greatest = 0;
     noise_told told;
     for (size_t n = 2 * count; n; n--) {
         size_t nonce = below(count), len = datagram_lens[nonce];
+        if (!e->is_split && one_in(20)) split_network(e);
         uint32_t wanted = wanted_of(opened, greatest, is_any, nonce, window);
         memcpy(message, datagrams[nonce], len);
         message[8 + below(len - 8)] ^= 0x11;
-        MUST(call_opening(open_datagrams, d, sizeof *d, datagram_codes, message, len, &told) == (wanted == NOISE_OK ? NOISE_TAG : wanted));
+        MUST(open_in_network(e, len, &told) == (wanted == NOISE_OK ? NOISE_TAG : wanted));
         memcpy(message, datagrams[nonce], len);
-        MUST(call_opening(open_datagrams, d, sizeof *d, datagram_codes, message, len, &told) == wanted);
+        MUST(open_in_network(e, len, &told) == wanted);
         if (wanted != NOISE_OK) continue;
         MUST(told.len == len - NOISE_DATAGRAM_OVERHEAD && !memcmp(message + told.from, payload, told.len));
         opened[nonce] = is_any = true;
@@ -382,22 +520,24 @@ static void open_in_any_order(noise_datagrams *d, size_t count, size_t window) {
 }
 
 static void use_network(const plan *p, const noise_handshake h[2]) {
-    noise_datagrams d[2];
+    network_end ends[2] = {{.is_split = false}, {.is_split = false}};
     noise_told told;
     uint32_t window = (uint32_t[]){64, 256, 1024}[below(3)];
     unsigned sender = p->one_way ? 0 : (unsigned)below(2);
-    for (unsigned role = 0; role < 2; role++) MUST(noise_finish_datagrams(&h[role], window, &d[role]) == NOISE_OK);
+    for (unsigned role = 0; role < 2; role++) MUST(noise_finish_datagrams(&h[role], window, &ends[role].d) == NOISE_OK);
     size_t count = 1 + below(one_in(2) ? MOST_DATAGRAMS : 10);
     for (size_t i = 0; i < count; i++) {
         size_t len = below(300);
         datagram_lens[i] = len + NOISE_DATAGRAM_OVERHEAD;
-        MUST(call_writing(seal_datagrams, &d[sender], sizeof *d, seal_codes, len, datagram_lens[i] + below(9), &told) == NOISE_OK);
+        if (!ends[sender].is_split && one_in(20)) split_network(&ends[sender]);
+        MUST(seal_in_network(&ends[sender], len, datagram_lens[i] + below(9), &told) == NOISE_OK);
         MUST(told.len == datagram_lens[i]);
         memcpy(datagrams[i], message, told.len);
     }
-    disturb_datagrams(&d[below(2)]);
-    open_in_any_order(&d[!sender], count, window);
-    disturb_datagrams(&d[!sender]);
+    for (unsigned role = 0; role < 2; role++)
+        if (!ends[role].is_split) disturb_datagrams(&ends[role].d);
+    open_in_any_order(&ends[!sender], count, window);
+    if (!ends[!sender].is_split) disturb_datagrams(&ends[!sender].d);
 }
 
 static void try_round(void) {

@@ -86,6 +86,9 @@ static void check_datagram_calls(end ends[2]) {
     a.code = noise_datagrams_seal(&a.kept.d, NULL, 0, NULL, 0, &a.told);
     b.code = noise_datagrams_seal(&b.kept.d, &empty, 0, &empty, 0, &b.told);
     must_be_same(&a, &b, NOISE_ROOM);
+    a.code = noise_datagrams_seal_in_place(&a.kept.d, NULL, 0, 0, &a.told);
+    b.code = noise_datagrams_seal_in_place(&b.kept.d, &empty, 0, 0, &b.told);
+    must_be_same(&a, &b, NOISE_ROOM);
     a.code = noise_datagrams_open(&a.kept.d, NULL, 0, &a.told);
     b.code = noise_datagrams_open(&b.kept.d, &empty, 0, &b.told);
     must_be_same(&a, &b, NOISE_SHORT);

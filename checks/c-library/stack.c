@@ -17,6 +17,10 @@ static plan p;
 static end ends[2];
 static noise_transport t[2];
 static noise_datagrams d[2];
+static noise_sender senders[2];
+static noise_receiver receivers[2];
+static noise_datagram_sender datagram_senders[2];
+static noise_datagram_receiver datagram_receivers[2];
 static noise_told told;
 static uint8_t payload[NOISE_MAX_MESSAGE], message[LONGEST];
 static const uint8_t *pattern;
@@ -36,6 +40,15 @@ static void do_seal(void) { code = noise_transport_seal(&t[role], payload, len, 
 static void do_open(void) { code = noise_transport_open(&t[role], message, len, &told); }
 static void do_seal_datagram(void) { code = noise_datagrams_seal(&d[role], payload, len, message, room, &told); }
 static void do_open_datagram(void) { code = noise_datagrams_open(&d[role], message, len, &told); }
+
+static void do_seal_in_place(void) { code = noise_transport_seal_in_place(&t[role], message, room, len, &told); }
+static void do_seal_datagram_in_place(void) { code = noise_datagrams_seal_in_place(&d[role], message, room, len, &told); }
+static void do_split(void) { code = noise_transport_split(&t[role], &senders[role], &receivers[role]); }
+static void do_split_datagrams(void) { code = noise_datagrams_split(&d[role], &datagram_senders[role], &datagram_receivers[role]); }
+static void do_send(void) { code = noise_sender_seal(&senders[role], payload, len, message, room, &told); }
+static void do_receive(void) { code = noise_receiver_open(&receivers[role], message, len, &told); }
+static void do_send_datagram(void) { code = noise_datagram_sender_seal(&datagram_senders[role], payload, len, message, room, &told); }
+static void do_receive_datagram(void) { code = noise_datagram_receiver_open(&datagram_receivers[role], message, len, &told); }
 
 static void do_ask(void) {
     noise_stage_told stage;
@@ -119,6 +132,17 @@ static void measure_all(void) {
     for (size_t i = 0; i < sizeof lens / sizeof *lens; i++) {
         pass_sealed("noise_transport_seal", do_seal, "noise_transport_open", do_open, lens[i]);
         pass_sealed("noise_datagrams_seal", do_seal_datagram, "noise_datagrams_open", do_open_datagram, lens[i]);
+        pass_sealed("noise_transport_seal_in_place", do_seal_in_place, "noise_transport_open", do_open, lens[i]);
+        pass_sealed("noise_datagrams_seal_in_place", do_seal_datagram_in_place, "noise_datagrams_open", do_open_datagram, lens[i]);
+    }
+    for (role = 0; role < 2; role++) {
+        measure("noise_transport_split", do_split);
+        measure("noise_datagrams_split", do_split_datagrams);
+        MUST(code == NOISE_OK);
+    }
+    for (size_t i = 0; i < sizeof lens / sizeof *lens; i++) {
+        pass_sealed("noise_sender_seal", do_send, "noise_receiver_open", do_receive, lens[i]);
+        pass_sealed("noise_datagram_sender_seal", do_send_datagram, "noise_datagram_receiver_open", do_receive_datagram, lens[i]);
     }
 }
 

@@ -52,3 +52,5 @@ pub(crate) const SIZE_OF_TRANSPORT: usize = 160;
 pub(crate) const SIZE_OF_DATAGRAMS: usize = 296;
 pub(crate) const SIZE_OF_SENDER: usize = 56;
 pub(crate) const SIZE_OF_RECEIVER: usize = 56;
+pub(crate) const SIZE_OF_DATAGRAM_SENDER: usize = 48;
+pub(crate) const SIZE_OF_DATAGRAM_RECEIVER: usize = 192;

@@ -3,6 +3,7 @@ use Rattle.std.specs.Prelude.{ℕ, ◌==◌, ◌+◌, nat_lt, not, ◌||◌, ◌
 use Rattle.noise_events.specs.declared.window.Window.{Window}
 use Rattle.noise_events.specs.declared.window.Window.TheVariants.{W64, W256, W1024}
 use Rattle.noise_session.specs.Datagrams.{HeldDatagrams, unsealed}
+use Rattle.noise_session.specs.Windows.{is_ring}
 use Rattle.noise_c.specs.declared.kept_datagrams.NoiseDatagrams.{NoiseDatagrams}
 use Rattle.noise_c.specs.declared.marks.TheConstants.{DATAGRAMS}
 use Rattle.noise_c.specs.KeptTransport.{is_party, party_in}
@@ -15,10 +16,6 @@ is_window width = (width == 64) || (width == 256) || (width == 1024)
 abbrev pub window_in : ℕ → Window
 window_in width = if width == 64 then W64 else if width == 256 then W256 else W1024
 
--- A call has left this: its mark is that of datagrams of this layout. Memory of zeros stands for none.
-abbrev pub is_datagrams : NoiseDatagrams → Bool
-is_datagrams k = (k.mark == DATAGRAMS) && is_party k.party && is_window k.window
-
 -- the datagrams
 abbrev pub datagrams_kept_in : NoiseDatagrams → HeldDatagrams
 datagrams_kept_in k = record {
@@ -29,6 +26,11 @@ datagrams_kept_in k = record {
   receive_key = Some k.receive_key;
   recent = record { window = window_in k.window; greatest = k.greatest; words = k.words };
 }
+
+-- A call has left this: its mark is that of datagrams of this layout, it is of one of the two parties, and some opened nonces have its window and
+-- words. Memory of zeros stands for none.
+abbrev pub is_datagrams : NoiseDatagrams → Bool
+is_datagrams k = (k.mark == DATAGRAMS) && is_party k.party && is_window k.window && is_ring (datagrams_kept_in k).recent
 
 -- the number that sealing tells, by the lengths of the payload and of what there is room for
 abbrev pub datagrams_seal_code : NoiseDatagrams → ℕ → ℕ → ℕ

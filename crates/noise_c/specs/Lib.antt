@@ -5,3 +5,4 @@ pub mod TransportCodes
 pub mod KeptTransport
 pub mod KeptDatagrams
 pub mod KeptHalves
+pub mod KeptDatagramHalves

@@ -118,6 +118,48 @@ pub extern "C" fn noise_datagrams_seal(
     }
 }
 
+/// Seals the payload that is in `payload_len` bytes of `buffer`, from the ninth byte on, in place, and tells how many bytes the datagram
+/// has: the first of `buffer`, 24 more than the payload (Noise, 11.4).
+///
+/// The codes are those of `noise_datagrams_seal`: ROOM where `buffer` has fewer than 24 bytes more than the payload.
+#[unsafe(no_mangle)]
+pub extern "C" fn noise_datagrams_seal_in_place(
+    kept: &mut NoiseDatagrams,
+    buffer: &mut [u8],
+    payload_len: usize,
+    told: &mut NoiseTold,
+) -> u32
+    ensures code { result ≡ datagrams_seal_code kept.old payload_len (length buffer.old) }
+    ensures place { result ≡ OK → told.new ≡ record told.old { from = 0; len = payload_len + 24 } }
+    ensures seals { result ≡ OK → (v : DatagramView) → Pictures (datagrams_kept_in kept.old) v
+        → (take (payload_len + 24) buffer.new ≡ datagram v.history v.role v.sent (take payload_len (drop 8 buffer.old)))
+        × Pictures (datagrams_kept_in kept.new) (record v { sent = v.sent + 1 }) }
+    ensures rest { drop (payload_len + 24) buffer.new ≡ drop (payload_len + 24) buffer.old }
+    ensures counted { result ≡ OK → datagrams_kept_in kept.new ≡ record (datagrams_kept_in kept.old) { send_nonce = kept.old.send_nonce + 1 } }
+    ensures tells { result ≡ OK → (kept.new.hash ≡ kept.old.hash) × (kept.new.remote_static ≡ kept.old.remote_static) }
+    ensures known { result ≡ OK → is_datagrams kept.new ≡ true }
+    ensures unchanged { OK < result → (kept.new ≡ kept.old) × (buffer.new ≡ buffer.old) × (told.new ≡ told.old) }
+    ensures codes { (result ≡ OK) ⊎ (result ≡ TOO_LONG) ⊎ (result ≡ EXHAUSTED) ⊎ (result ≡ ROOM) ⊎ (result ≡ ONE_WAY) ⊎ (result ≡ STRUCT) }
+{
+    let Some(mut datagrams) = datagrams_of(kept) else {
+        return STRUCT;
+    };
+    if buffer.len() < OVERHEAD || buffer.len() - OVERHEAD < payload_len {
+        return ROOM;
+    }
+    match datagrams.seal_in_place(buffer, payload_len) {
+        Ok(len) => {
+            told.from = 0;
+            told.len = len;
+            let hash = kept.hash;
+            let remote_static = kept.remote_static;
+            *kept = kept_datagrams(datagrams, hash, remote_static);
+            OK
+        }
+        Err(fault) => seal_code(fault),
+    }
+}
+
 /// Opens a datagram in place, and tells where its payload stands: from the ninth byte on. The 8 of the nonce in front of it and the 16 of
 /// the tag after it stay as they are. At any answer but OK its bytes and what is kept are unchanged.
 ///

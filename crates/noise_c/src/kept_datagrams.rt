@@ -1,16 +1,18 @@
 //! What C keeps of datagrams, and from it to datagrams and back.
 #![tactic(auto)]
 
-ghost use Rattle.std.specs.Prelude.{◌≡◌, IfSome, is_some, true};
+ghost use Rattle.std.specs.Prelude.{◌≡◌, IfSome, is_some, true, false};
 ghost use Rattle.noise_c.specs.KeptDatagrams.{is_window, window_in, is_datagrams, datagrams_kept_in};
 
+use crate::held::kept_key;
 use crate::kept::NoiseKey;
 use crate::kept_transport::{party_of, role_named};
 use crate::marks::DATAGRAMS;
 use noise_session::{DatagramParts, Datagrams, Window};
 
 /// Datagrams of one party: of the initiator where `party` is 1, of the responder where it is 2. The window has 64, 256 or 1024
-/// nonces. At any other numbers or mark there are none. `include/noise.h` declares the same as aligned bytes.
+/// nonces, and its words are those that some opened nonces leave. At any other numbers, words or mark there are none.
+/// `include/noise.h` declares the same as aligned bytes.
 #[repr(C)]
 #[derive(Clone, Copy)]
 pub struct NoiseDatagrams {
@@ -40,7 +42,7 @@ pub(crate) fn window_named(width: u32) -> Option<Window>
     }
 }
 
-fn width_of(window: Window) -> u32
+pub(crate) fn width_of(window: Window) -> u32
     ensures known { is_window result ≡ true }
     ensures same { window_in result ≡ window }
 {
@@ -64,7 +66,7 @@ pub(crate) fn datagrams_of(kept: &NoiseDatagrams) -> Option<Datagrams>
     let send_key = kept.send_key;
     let receive_key = kept.receive_key;
     let words = kept.words;
-    Some(Datagrams::from_parts(DatagramParts {
+    Datagrams::from_parts(DatagramParts {
         role,
         one_way: kept.one_way != 0,
         send_key,
@@ -73,7 +75,7 @@ pub(crate) fn datagrams_of(kept: &NoiseDatagrams) -> Option<Datagrams>
         window,
         greatest: kept.greatest,
         words,
-    }))
+    })
 }
 
 // How C keeps datagrams, with the hash of their handshake and the other party's static key.
@@ -102,5 +104,24 @@ pub(crate) fn kept_datagrams(
         receive_key,
         greatest: parts.greatest,
         words,
+    }
+}
+
+// Memory of zeros, which is no datagrams.
+pub(crate) fn no_datagrams() -> NoiseDatagrams
+    ensures { is_datagrams result ≡ false }
+{
+    NoiseDatagrams {
+        mark: 0,
+        party: 0,
+        one_way: 0,
+        hash: [0; 32],
+        remote_static: kept_key(None),
+        window: 0,
+        send_key: [0; 32],
+        send_nonce: 0,
+        receive_key: [0; 32],
+        greatest: 0,
+        words: [0; 17],
     }
 }

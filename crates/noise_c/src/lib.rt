@@ -5,12 +5,15 @@
 mod asking;
 mod checking;
 mod codes;
+mod datagram_halves;
+mod datagram_splitting;
 mod datagrams;
 mod finishing;
 mod halves;
 mod handshakes;
 mod held;
 mod kept;
+mod kept_datagram_halves;
 mod kept_datagrams;
 mod kept_halves;
 mod kept_keys;

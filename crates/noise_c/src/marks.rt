@@ -13,3 +13,7 @@ pub(crate) const SENDER: u32 = 0x4e6f_0301;
 pub(crate) const RECEIVER: u32 = 0x4e6f_0401;
 
 pub(crate) const DATAGRAMS: u32 = 0x4e6f_0501;
+
+pub(crate) const DATAGRAM_SENDER: u32 = 0x4e6f_0601;
+
+pub(crate) const DATAGRAM_RECEIVER: u32 = 0x4e6f_0701;

@@ -16,7 +16,8 @@ use Rattle.noise_session.specs.declared.window.Ring.{Ring}
 use Rattle.noise_session.specs.Transport.{split_key, packet, last_nonce}
 use Rattle.noise_events.specs.Windows.{width_of}
 use Rattle.noise_session.specs.Windows.{is_among, is_old, window_fault, Recalls}
-use Rattle.noise_session.specs.Datagrams.{HeldDatagrams, DatagramView, Pictures, nonce_named, accepting, datagram_fault}
+use Rattle.noise_session.specs.Datagrams.{DatagramView, nonce_named, accepting, datagram_fault}
+use Rattle.noise_session.specs.DatagramHalves.{HeldDatagramSender, HeldDatagramReceiver, SenderPictures, ReceiverPictures}
 
 -- ---- bytes
 take-after : (p q : List ℕ) (n : ℕ) → length p ≡ 8 → take (8 + n) (p ++ q) ≡ p ++ take n q
@@ -81,33 +82,28 @@ young v bytes e =
     let f = no-fault (is_old v.width v.accepted n) fault.Old seen d.1 in
     (f.0, (no-fault (is_among v.accepted n) fault.Repeated None f.1).0)
 
-pub young-here : (d : HeldDatagrams) (v : DatagramView) (bytes : List ℕ) (n : ℕ) → Pictures d v → datagram_fault v bytes ≡ None → n ≡ nonce_named bytes
-    → is_old (width_of d.recent.window) v.accepted n ≡ false
-young-here d v bytes n p none same =
+pub young-here : (h : HeldDatagramReceiver) (v : DatagramView) (bytes : List ℕ) (n : ℕ) → ReceiverPictures h v → datagram_fault v bytes ≡ None
+    → n ≡ nonce_named bytes → is_old (width_of h.recent.window) v.accepted n ≡ false
+young-here h v bytes n p none same =
     ap (λ (w : ℕ). is_old w v.accepted n) p.width ∙ ap (λ (m : ℕ). is_old v.width v.accepted m) same ∙ (young v bytes none).0
 
 -- ---- views after a call
-pub pictures-sealed : (d : HeldDatagrams) (v : DatagramView) (key : Option (List ℕ)) (nonce : ℕ) → Pictures d v → key ≡ d.send_key → nonce ≡ d.send_nonce + 1
-    → Pictures (record d { send_key = key; send_nonce = nonce }) (record v { sent = v.sent + 1 })
-pictures-sealed d v key nonce p same more = record {
+pub half-sealed : (h : HeldDatagramSender) (v : DatagramView) (key : Option (List ℕ)) (nonce : ℕ) → SenderPictures h v → key ≡ h.key → nonce ≡ h.nonce + 1
+    → SenderPictures (record h { key = key; nonce = nonce }) (record v { sent = v.sent + 1 })
+half-sealed h v key nonce p same more = record {
   role = p.role;
   one_way = p.one_way;
-  send_key = same ∙ p.send_key;
-  send_nonce = more ∙ ap (λ (n : ℕ). n + 1) p.send_nonce;
-  receive_key = p.receive_key;
-  width = p.width;
-  recent = p.recent;
+  key = same ∙ p.key;
+  nonce = more ∙ ap (λ (n : ℕ). n + 1) p.nonce;
 }
 
-pub pictures-opened : (d : HeldDatagrams) (v : DatagramView) (key : Option (List ℕ)) (recent : Ring) (n m : ℕ) → Pictures d v → key ≡ d.receive_key
-    → recent.window ≡ d.recent.window → n ≡ m → Recalls recent (n ∷ v.accepted)
-    → Pictures (record d { receive_key = key; recent = recent }) (accepting v m)
-pictures-opened d v key recent n m p same window named recalls = record {
+pub half-opened : (h : HeldDatagramReceiver) (v : DatagramView) (key : Option (List ℕ)) (recent : Ring) (n m : ℕ) → ReceiverPictures h v → key ≡ h.key
+    → recent.window ≡ h.recent.window → n ≡ m → Recalls recent (n ∷ v.accepted)
+    → ReceiverPictures (record h { key = key; recent = recent }) (accepting v m)
+half-opened h v key recent n m p same window named recalls = record {
   role = p.role;
   one_way = p.one_way;
-  send_key = p.send_key;
-  send_nonce = p.send_nonce;
-  receive_key = same ∙ p.receive_key;
+  key = same ∙ p.key;
   width = ap width_of window ∙ p.width;
   recent = subst (λ (k : ℕ). Recalls recent (k ∷ v.accepted)) named recalls;
 }

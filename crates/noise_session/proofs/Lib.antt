@@ -14,6 +14,8 @@ pub mod Cutting
 pub mod SentOnce
 pub mod Counterparts
 pub mod Ringing
+pub mod Rings
 pub mod DatagramViews
+pub mod DatagramSplitting
 pub mod DatagramLaws
 pub mod Exactly

@@ -53,7 +53,7 @@ words-some W256 = (omega arith, omega arith)
 words-some W1024 = (omega arith, omega arith)
 
 -- the blocks that the window touches have a word each
-touched : (window : Window) (n g : ℕ) → g < n + width_of window → g / 64 < n / 64 + words_of window
+pub touched : (window : Window) (n g : ℕ) → g < n + width_of window → g / 64 < n / 64 + words_of window
 touched W64 n g near = omega arith
 touched W256 n g near = omega arith
 touched W1024 n g near = omega arith

@@ -15,6 +15,7 @@ pub mod Inputs
 pub mod inner
 pub mod Windows
 pub mod Datagrams
+pub mod DatagramHalves
 pub mod EndDatagrams
 pub mod Parts
 pub mod Exactly

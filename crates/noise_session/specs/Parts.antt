@@ -3,9 +3,12 @@ use Rattle.std.specs.Prelude.{Some}
 use Rattle.noise_session.specs.declared.parts.TransportParts.{TransportParts}
 use Rattle.noise_session.specs.declared.parts.HalfParts.{HalfParts}
 use Rattle.noise_session.specs.declared.parts.DatagramParts.{DatagramParts}
+use Rattle.noise_session.specs.declared.parts.DatagramSenderParts.{DatagramSenderParts}
+use Rattle.noise_session.specs.declared.parts.DatagramReceiverParts.{DatagramReceiverParts}
 use Rattle.noise_session.specs.Halves.{HeldHalf}
 use Rattle.noise_session.specs.HeldTransport.{HeldTransport}
 use Rattle.noise_session.specs.Datagrams.{HeldDatagrams}
+use Rattle.noise_session.specs.DatagramHalves.{HeldDatagramSender, HeldDatagramReceiver}
 
 -- what these parts hold
 abbrev pub transport_in : TransportParts → HeldTransport
@@ -31,5 +34,16 @@ datagrams_in p = record {
   send_key = Some p.send_key;
   send_nonce = p.send_nonce;
   receive_key = Some p.receive_key;
+  recent = record { window = p.window; greatest = p.greatest; words = p.words };
+}
+
+abbrev pub datagram_sender_in : DatagramSenderParts → HeldDatagramSender
+datagram_sender_in p = record { role = p.role; one_way = p.one_way; key = Some p.key; nonce = p.nonce }
+
+abbrev pub datagram_receiver_in : DatagramReceiverParts → HeldDatagramReceiver
+datagram_receiver_in p = record {
+  role = p.role;
+  one_way = p.one_way;
+  key = Some p.key;
   recent = record { window = p.window; greatest = p.greatest; words = p.words };
 }

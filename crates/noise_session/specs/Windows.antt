@@ -1,12 +1,14 @@
 -- Windows over the nonces of datagrams, and which of these were accepted (Noise 11.4).
-use Rattle.std.specs.Prelude.{◌≡◌, ◌≤◌, ◌<◌, ◌+◌, ◌/◌, ◌%◌, ◌==◌, ◌||◌, ℕ, List, [], ◌∷◌, Bool, true, false, nat_le, slice_index}
+use Rattle.std.specs.Prelude.{◌≡◌, ◌≤◌, ◌<◌, ◌+◌, ◌/◌, ◌%◌, ◌^◌, ◌==◌, ◌&&◌, ◌||◌, ℕ, List, [], ◌∷◌, Bool, true, false, nat_le, nat_lt, slice_index, drop, min}
 use Rattle.std.specs.Prelude.{Option, Some, None, if◌then◌else◌}
 use Rattle.std.specs.Int.{bit_at}
+use Rattle.std.specs.List.{list_all}
 use Rattle.noise_events.specs.declared.window.Window.{Window}
 use Rattle.noise_events.specs.Windows.{width_of}
 use Rattle.noise_session.specs.declared.window.Ring.{Ring}
 use Rattle.noise_session.specs.declared.datagram_fault.DatagramFault.{DatagramFault}
 use Rattle.noise_session.specs.declared.datagram_fault.DatagramFault.TheVariants as fault
+use Rattle.noise_session.specs.Transport.{last_nonce}
 
 -- how many words a ring uses: one more than the width has
 abbrev pub words_of : Window → ℕ
@@ -40,3 +42,21 @@ pub record Recalls (r : Ring) (accepted : List ℕ) : Type 0 where
   pub greatest : (n : ℕ) → is_among accepted n ≡ true → n ≤ r.greatest
   pub reached : 0 < r.greatest → is_among accepted r.greatest ≡ true
   pub bits : (n : ℕ) → n / 64 ≤ r.greatest / 64 → r.greatest / 64 < n / 64 + words_of r.window → (bit_of r n == 1) ≡ is_among accepted n
+
+-- ---- rings that some accepted nonces have
+
+-- the word of the greatest nonce's block
+abbrev pub top_word : Ring → ℕ
+top_word r = slice_index r.words (r.greatest / 64 % words_of r.window)
+
+-- The highest bit of that word is the greatest nonce's. Where the greatest is 0 it may be that none was accepted: then there is no bit.
+abbrev pub ends_at_greatest : Ring → Bool
+ends_at_greatest r = (top_word r / 2 ^ (r.greatest % 64) == 1) || ((r.greatest == 0) && (top_word r == 0))
+
+-- how many words have had a block: one for each up to the greatest nonce's, and no more than the ring uses
+abbrev pub begun_words : Ring → ℕ
+begun_words r = min (words_of r.window) (r.greatest / 64 + 1)
+
+-- Some accepted nonces have this ring: the greatest isn't the nonce that no message has, its bit is there, and none above it.
+abbrev pub is_ring : Ring → Bool
+is_ring r = nat_lt r.greatest last_nonce && ends_at_greatest r && list_all (λ word. word == 0) (drop (begun_words r) r.words)

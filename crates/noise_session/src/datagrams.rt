@@ -1,37 +1,29 @@
 //! Datagrams of one party (Noise, 11.4).
 #![tactic(auto)]
 
-ghost use Rattle.std.specs.Prelude.{◌≡◌, ◌≢◌, ◌≤◌, ◌+◌, ℕ, List, [], length, take, drop};
-ghost use Rattle.std.specs.Prelude.{Option, Some, None, Ok, Err, IsOk, IsSome, IfOk, IfErr, IfNone, OnOk, OnErr, MatchOption, MatchResult};
-ghost use Rattle.noise_state.specs.Cipher.{key_in, nonce_in};
+ghost use Rattle.std.specs.Prelude.{◌≡◌, ◌≤◌, ◌+◌, ◌++◌, [], length, take, drop, is_some, true};
+ghost use Rattle.std.specs.Prelude.{None, Ok, Err, IsOk, IfOk, IfSome, OnOk, OnErr, MatchOption, MatchResult};
+ghost use Rattle.std.specs.Int.{w64, to_be_bytes};
 ghost use Rattle.noise_state.specs.History.{piece_under};
 ghost use Rattle.noise_handshake.specs.View.{View};
 ghost use Rattle.noise_handshake.specs.Opening.{Opens as HandshakeOpens};
-ghost use Rattle.noise_session.specs.Transport.{last_nonce};
 ghost use Rattle.noise_session.specs.HeldTransport.{TransportView, TransportStands};
 ghost use Rattle.noise_session.specs.EndDatagrams.{datagrams_after};
+ghost use Rattle.noise_session.specs.Windows.{is_ring};
 ghost use Rattle.noise_session.specs.Parts.{datagrams_in};
-ghost use Rattle.noise_session.specs.Datagrams.{DatagramView, Pictures, Opens, datagram, datagrams_of, nonce_named, accepting, unsealed, datagram_fault};
+ghost use Rattle.noise_session.specs.Datagrams.{DatagramView, Pictures, Opens, datagram, datagrams_of, nonce_named, accepting, unsealed};
+ghost use Rattle.noise_session.specs.DatagramHalves.{SenderPictures, ReceiverPictures, datagram_sending_half, datagram_receiving_half};
 
-use crate::parts::key_and_nonce;
 use crate::window::Ring;
-use crate::{DatagramFault, DatagramParts, SendFault, Transport, Window};
+use crate::{
+    DatagramFault, DatagramParts, DatagramReceiver, DatagramSender, SendFault, Transport, Window,
+};
 use noise_handshake::Opened;
-use noise_names::Role;
 use noise_state::CipherState;
 use std::marker::Model;
 
-// The bytes of a nonce, which stand in front.
+// The bytes of a nonce, which come first.
 const NONCE_LEN: usize = 8;
-
-// Those of a nonce and a tag.
-const OVERHEAD: usize = 24;
-
-// The longest datagram in bytes: a nonce and the longest message (Noise, 3).
-const DATAGRAM_MAX: usize = 65543;
-
-// The nonce that no message has (Noise, 5.1).
-const LAST_NONCE: u64 = u64::MAX;
 
 /// The transport of one party over a network that loses, reorders and repeats: it seals this party's payloads as datagrams and
 /// opens those of the other, each nonce at most once.
@@ -40,30 +32,30 @@ const LAST_NONCE: u64 = u64::MAX;
 /// The keys are never renewed. No call takes memory, and a fault changes nothing.
 #[derive(Drop)]
 pub struct Datagrams {
-    role: Role,
-    one_way: bool,
-    sending: CipherState,
-    receiving: CipherState,
-    recent: Ring, // of the nonces that were opened
+    sender: DatagramSender,
+    receiver: DatagramReceiver,
 }
 
 impl Model for Datagrams {
-    ghost use Rattle.std.specs.Prelude.{IsSome};
-    ghost use Rattle.noise_state.specs.Cipher.{key_in, nonce_in};
+    ghost use Rattle.std.specs.Prelude.{◌≡◌};
     ghost use Rattle.noise_session.specs.Datagrams.{HeldDatagrams};
 
     ghost Value = { HeldDatagrams };
 
     ghost view = { λ d. record {
-      role = d.role;
-      one_way = d.one_way;
-      send_key = key_in d.sending;
-      send_nonce = nonce_in d.sending;
-      receive_key = key_in d.receiving;
-      recent = d.recent;
+      role = d.sender.role;
+      one_way = d.sender.one_way;
+      send_key = d.sender.key;
+      send_nonce = d.sender.nonce;
+      receive_key = d.receiver.key;
+      recent = d.receiver.recent;
     } };
 
-    ghost invariant = { λ d. IsSome (key_in d.sending) × IsSome (key_in d.receiving) };
+    // Both halves are of one party.
+    ghost invariant = { λ d. record {
+      role : d.receiver.role ≡ d.sender.role;
+      one_way : d.receiver.one_way ≡ d.sender.one_way;
+    } };
 }
 
 impl Datagrams {
@@ -90,54 +82,65 @@ impl Datagrams {
         let one_way = transport.one_way();
         let (sending, receiving) = transport.into_ciphers();
         Datagrams {
-            role,
-            one_way,
-            sending,
-            receiving,
-            recent: Ring::new(window),
+            sender: DatagramSender::new(role, one_way, sending),
+            receiver: DatagramReceiver::new(role, one_way, receiving, Ring::new(window)),
         }
     }
 
     /// What they hold, for a caller that keeps it itself until the next datagram.
     pub fn into_parts(self) -> DatagramParts
-        ensures { datagrams_in result ≡ self }
+        ensures same { datagrams_in result ≡ self }
+        ensures whole { is_ring (datagrams_in result).recent ≡ true }
     {
-        let (send_key, send_nonce) = key_and_nonce(self.sending);
-        let (receive_key, _) = key_and_nonce(self.receiving);
-        let (window, greatest, words) = self.recent.into_parts();
+        let sender = self.sender.into_parts();
+        let receiver = self.receiver.into_parts();
+        let send_key = sender.key;
+        let receive_key = receiver.key;
+        let words = receiver.words;
         DatagramParts {
-            role: self.role,
-            one_way: self.one_way,
+            role: sender.role,
+            one_way: sender.one_way,
             send_key,
-            send_nonce,
+            send_nonce: sender.nonce,
             receive_key,
-            window,
-            greatest,
+            window: receiver.window,
+            greatest: receiver.greatest,
             words,
         }
     }
 
-    /// The datagrams that hold these parts: they stand for what those stood for that were taken apart.
+    /// The datagrams that hold these parts: they stand for what those stood for that were taken apart. None where no opened nonces
+    /// leave the window's words so: the greatest nonce has its bit, and none above it has one.
     ///
     /// Datagrams that were taken apart are put together once: two of them would seal at the same nonce.
-    pub fn from_parts(parts: DatagramParts) -> Datagrams
-        ensures { result ≡ datagrams_in parts }
+    pub fn from_parts(parts: DatagramParts) -> Option<Datagrams>
+        ensures whole { is_some result ≡ is_ring (datagrams_in parts).recent }
+        ensures same { IfSome result (λ datagrams. datagrams ≡ datagrams_in parts) }
     {
         let words = parts.words;
-        Datagrams {
-            role: parts.role,
-            one_way: parts.one_way,
-            sending: CipherState::from_parts(Some(parts.send_key), parts.send_nonce),
-            receiving: CipherState::from_parts(Some(parts.receive_key), 0),
-            recent: Ring::from_parts(parts.window, parts.greatest, words),
-        }
+        let recent = Ring::from_parts(parts.window, parts.greatest, words)?;
+        let sending = CipherState::from_parts(Some(parts.send_key), parts.send_nonce);
+        let receiving = CipherState::from_parts(Some(parts.receive_key), 0);
+        Some(Datagrams {
+            sender: DatagramSender::new(parts.role, parts.one_way, sending),
+            receiver: DatagramReceiver::new(parts.role, parts.one_way, receiving, recent),
+        })
+    }
+
+    /// The half that seals and the half that opens, as for two threads. Each does what these datagrams do in its direction.
+    pub fn split(self) -> (DatagramSender, DatagramReceiver)
+        ensures sender { result.0 ≡ datagram_sending_half self }
+        ensures receiver { result.1 ≡ datagram_receiving_half self }
+        ensures stands { (v : DatagramView) → Pictures self v → SenderPictures result.0 v × ReceiverPictures result.1 v }
+    {
+        (self.sender, self.receiver)
     }
 
     /// The nonce of the next datagram that is sealed.
     pub fn send_nonce(&self) -> u64
         ensures { result ≡ self.now.send_nonce }
     {
-        self.sending.nonce()
+        self.sender.nonce()
     }
 
     /// Seals a payload into the first bytes of `out`, 24 more than it has, and tells how many.
@@ -152,43 +155,37 @@ impl Datagrams {
         ensures rest { IfOk result (λ n. drop n out.new ≡ drop n out.old) }
         ensures counted { OnOk result (self.new ≡ record self.old { send_nonce = self.old.send_nonce + 1 }) }
         ensures unchanged { OnErr result ((self.new ≡ self.old) × (out.new ≡ out.old)) }
+        ensures sealed { IfOk result (λ n.
+            take n out.new ≡ to_be_bytes w64 self.old.send_nonce ++ piece_under self.old.send_key self.old.send_nonce [] payload.now) }
         ensures seals { (v : DatagramView) → Pictures self.old v → IfOk result (λ n.
             (take n out.new ≡ datagram v.history v.role v.sent payload.now) × Pictures self.new (record v { sent = v.sent + 1 })) }
     {
-        if self.one_way && self.role == Role::Responder {
-            return Err(SendFault::OneWay);
-        }
-        if payload.len() > DATAGRAM_MAX - OVERHEAD {
-            return Err(SendFault::TooLong);
-        }
-        let nonce = self.sending.nonce();
-        if nonce == LAST_NONCE {
-            return Err(SendFault::Exhausted);
-        }
-        let (front, message) = out.split_at_mut(NONCE_LEN);
-        front.copy_from_slice(&nonce.to_be_bytes());
-        Ok(NONCE_LEN + encrypt_into(&mut self.sending, payload, message))
+        self.sender.seal(payload, out)
     }
 
-    // Why such bytes aren't opened, whatever message they have.
-    fn refusal(&self, datagram: &[u8]) -> Option<DatagramFault>
-        ensures bounds { IfNone result ((24 ≤ length datagram.now) × (length datagram.now ≤ 65543) × (nonce_named datagram.now ≢ last_nonce)) }
-        ensures told { (v : DatagramView) → Pictures self.now v → result ≡ datagram_fault v datagram.now }
+    /// Seals the payload that is in `payload_len` bytes of `buffer`, from the ninth byte on, in place: the datagram is in the first
+    /// bytes, 24 more, and it tells how many.
+    ///
+    /// `buffer` holds them where the payload has at most 65519 bytes. The faults are those of `seal`.
+    pub fn seal_in_place(
+        &mut self,
+        buffer: &mut [u8],
+        payload_len: usize,
+    ) -> Result<usize, SendFault>
+        requires { unsealed self.old.role self.old.one_way self.old.send_nonce payload_len ≡ None → payload_len + 24 ≤ length buffer.old }
+        ensures fault { MatchOption (unsealed self.old.role self.old.one_way self.old.send_nonce payload_len)
+            (IsOk result) (λ fault. result ≡ Err fault) }
+        ensures len { IfOk result (λ n. (n ≡ payload_len + 24) × (n ≤ length buffer.new)) }
+        ensures rest { IfOk result (λ n. drop n buffer.new ≡ drop n buffer.old) }
+        ensures counted { OnOk result (self.new ≡ record self.old { send_nonce = self.old.send_nonce + 1 }) }
+        ensures unchanged { OnErr result ((self.new ≡ self.old) × (buffer.new ≡ buffer.old)) }
+        ensures sealed { IfOk result (λ n.
+            take n buffer.new ≡ to_be_bytes w64 self.old.send_nonce ++ piece_under self.old.send_key self.old.send_nonce [] (take payload_len (drop 8 buffer.old))) }
+        ensures seals { (v : DatagramView) → Pictures self.old v → IfOk result (λ n.
+            (take n buffer.new ≡ datagram v.history v.role v.sent (take payload_len (drop 8 buffer.old)))
+            × Pictures self.new (record v { sent = v.sent + 1 })) }
     {
-        if self.one_way && self.role == Role::Initiator {
-            return Some(DatagramFault::OneWay);
-        }
-        if datagram.len() < OVERHEAD {
-            return Some(DatagramFault::Short);
-        }
-        if datagram.len() > DATAGRAM_MAX {
-            return Some(DatagramFault::TooLong);
-        }
-        let nonce = nonce_of(datagram);
-        if nonce == LAST_NONCE {
-            return Some(DatagramFault::Reserved);
-        }
-        self.recent.refusal(nonce)
+        self.sender.seal_in_place(buffer, payload_len)
     }
 
     /// Opens a datagram in place, and tells how many of its bytes from the ninth on are then the payload. The 8 of the nonce in
@@ -205,18 +202,7 @@ impl Datagrams {
             × Pictures self.new (accepting v (nonce_named datagram.old)))
             (λ fault. Opens v datagram.old (Err fault) v) }
     {
-        if let Some(fault) = self.refusal(datagram) {
-            return Err(fault);
-        }
-        let nonce = nonce_of(datagram);
-        self.receiving.set_nonce(nonce);
-        match self.receiving.decrypt(&[], &mut datagram[NONCE_LEN..]) {
-            Ok(len) => {
-                self.recent.insert(nonce);
-                Ok(len)
-            }
-            Err(_) => Err(DatagramFault::Tag),
-        }
+        self.receiver.open_within(datagram)
     }
 
     /// Opens a datagram in place, and gives its payload, a part of the datagram's own bytes.
@@ -235,33 +221,4 @@ impl Datagrams {
         let len = self.open_within(datagram)?;
         Ok(&mut datagram[NONCE_LEN..NONCE_LEN + len])
     }
-}
-
-// Encrypts the payload into the first bytes of `out`, and tells how many: with its tag.
-fn encrypt_into(cipher: &mut CipherState, payload: &[u8], out: &mut [u8]) -> usize
-    requires keyed { IsSome (key_in cipher.old) }
-    requires left { nonce_in cipher.old ≢ last_nonce }
-    requires short { length payload.now ≤ 65519 }
-    requires room { length payload.now + 16 ≤ length out.old }
-    ensures len { (result ≡ length payload.now + 16) × (result ≤ length out.new) }
-    ensures sealed { take result out.new ≡ piece_under (key_in cipher.old) (nonce_in cipher.old) [] payload.now }
-    ensures rest { drop result out.new ≡ drop result out.old }
-    ensures key { key_in cipher.new ≡ key_in cipher.old }
-    ensures counted { nonce_in cipher.new ≡ nonce_in cipher.old + 1 }
-{
-    out[..payload.len()].copy_from_slice(payload);
-    match cipher.encrypt(&[], out, payload.len()) {
-        Ok(len) => len,
-        Err(_) => unreachable!(),
-    }
-}
-
-// The nonce that a datagram names.
-fn nonce_of(datagram: &[u8]) -> u64
-    requires { 8 ≤ length datagram.now }
-    ensures { result ≡ nonce_named datagram.now }
-{
-    let mut bytes = [0; NONCE_LEN];
-    bytes.copy_from_slice(&datagram[..NONCE_LEN]);
-    u64::from_be_bytes(bytes)
 }

@@ -4,6 +4,8 @@
 mod counted;
 mod datagram_fault;
 mod datagram_laws;
+mod datagram_receiver;
+mod datagram_sender;
 mod datagrams;
 mod draining;
 mod end;
@@ -30,6 +32,8 @@ mod window;
 pub use counted::Counted;
 pub use datagram_fault::DatagramFault;
 pub use datagram_laws::{opened_once, sealed_is_opened};
+pub use datagram_receiver::DatagramReceiver;
+pub use datagram_sender::DatagramSender;
 pub use datagrams::Datagrams;
 pub use end::End;
 pub use faults::{OpenFault, ReceiveFault, SendFault};
@@ -38,7 +42,9 @@ pub use laws::{
 };
 pub use noise_events::Window;
 pub use packets::{packet_is_due, packet_same};
-pub use parts::{DatagramParts, HalfParts, TransportParts};
+pub use parts::{
+    DatagramParts, DatagramReceiverParts, DatagramSenderParts, HalfParts, TransportParts,
+};
 pub use receiver::Receiver;
 pub use sender::Sender;
 pub use stage::Stage;

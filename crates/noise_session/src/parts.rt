@@ -54,6 +54,30 @@ pub struct DatagramParts {
     pub words: [u64; 17],
 }
 
+/// What the sending half of datagrams holds between two of them.
+#[derive(Drop)]
+pub struct DatagramSenderParts {
+    pub role: Role,
+    /// Whether only the initiator writes (Noise, 7.4).
+    pub one_way: bool,
+    pub key: [u8; 32],
+    pub nonce: u64,
+}
+
+/// What the receiving half of datagrams holds between two of them.
+#[derive(Drop)]
+pub struct DatagramReceiverParts {
+    pub role: Role,
+    /// Whether only the initiator writes (Noise, 7.4).
+    pub one_way: bool,
+    pub key: [u8; 32],
+    pub window: Window,
+    /// The greatest nonce that was opened, 0 where there is none.
+    pub greatest: u64,
+    /// A bit for each nonce near it.
+    pub words: [u64; 17],
+}
+
 // The key and the nonce of a cipher state.
 pub(crate) fn key_and_nonce(cipher: CipherState) -> ([u8; 32], u64)
     requires { IsSome (key_in cipher) }

@@ -1,14 +1,20 @@
 //! Which datagrams were accepted before: a ring of bits over their nonces (Noise, 11.4).
 #![tactic(auto)]
 
-ghost use Rattle.std.specs.Prelude.{◌≡◌, ◌≤◌, ◌<◌, ◌+◌, ◌/◌, ◌%◌, ◌*◌, ℕ, List, [], ◌∷◌, length, slice_index, false};
+ghost use Rattle.std.specs.Prelude.{◌≡◌, ◌≤◌, ◌<◌, ◌+◌, ◌/◌, ◌%◌, ◌*◌, ◌==◌, ℕ, List, [], ◌∷◌, length, drop, min, slice_index, false, true};
+ghost use Rattle.std.specs.Prelude.{IfNone, IfSome, is_some};
+ghost use Rattle.std.specs.List.{list_all};
 ghost use Rattle.noise_events.specs.Windows.{width_of};
-ghost use Rattle.noise_session.specs.Windows.{words_of, is_among, is_old, window_fault, Recalls};
+ghost use Rattle.noise_session.specs.Transport.{last_nonce};
+ghost use Rattle.noise_session.specs.Windows.{words_of, is_among, is_old, window_fault, Recalls, ends_at_greatest, begun_words, is_ring};
 
 use crate::DatagramFault;
 use noise_events::Window;
 
 const WORD_BITS: u64 = 64;
+
+// The nonce that no message has (Noise, 5.1).
+const LAST_NONCE: u64 = u64::MAX;
 
 // The words of the widest window: a word more than the width takes.
 const MOST_WORDS: usize = 17;
@@ -29,6 +35,7 @@ impl Ring {
     pub(crate) fn new(window: Window) -> Ring
         ensures window { result.window ≡ window }
         ensures none { Recalls result [] }
+        ensures ring { is_ring result ≡ true }
     {
         Ring {
             window,
@@ -49,19 +56,52 @@ impl Ring {
         (window, greatest, words)
     }
 
-    pub(crate) fn from_parts(window: Window, greatest: u64, words: [u64; MOST_WORDS]) -> Ring
-        ensures { result ≡ record { window = window; greatest = greatest; words = words } }
+    // The ring of these parts, if some accepted nonces have it.
+    pub(crate) fn from_parts(
+        window: Window,
+        greatest: u64,
+        words: [u64; MOST_WORDS],
+    ) -> Option<Ring>
+        ensures known { is_some result ≡ is_ring (record { window = window; greatest = greatest; words = words }) }
+        ensures same { IfSome result (λ ring. ring ≡ record { window = window; greatest = greatest; words = words }) }
     {
-        Ring {
+        let ring = Ring {
             window,
             greatest,
             words,
-        }
+        };
+        if ring.is_ring() { Some(ring) } else { None }
+    }
+
+    // Whether some accepted nonces have it.
+    fn is_ring(&self) -> bool
+        ensures { result ≡ is_ring self.now }
+    {
+        self.greatest < LAST_NONCE
+            && self.ends_at_greatest()
+            && are_zeros(&self.words[self.begun_words()..])
+    }
+
+    // Whether the greatest nonce's bit is the highest of its word, or there is no bit and no greatest nonce.
+    fn ends_at_greatest(&self) -> bool
+        ensures { result ≡ ends_at_greatest self.now }
+    {
+        let word = self.words[place(self.window, self.greatest / WORD_BITS)];
+        word >> (self.greatest % WORD_BITS) == 1 || (self.greatest == 0 && word == 0)
+    }
+
+    // How many words have had a block.
+    fn begun_words(&self) -> usize
+        ensures value { result ≡ begun_words self.now }
+        ensures within { result ≤ 17 }
+    {
+        words_of(self.window).min(self.greatest / WORD_BITS + 1) as usize
     }
 
     // Why no datagram of this nonce is opened.
     pub(crate) fn refusal(&self, nonce: u64) -> Option<DatagramFault>
-        ensures { (accepted : List ℕ) → Recalls self.now accepted → result ≡ window_fault (width_of self.now.window) accepted nonce }
+        ensures young { IfNone result (self.now.greatest < nonce + width_of self.now.window) }
+        ensures told { (accepted : List ℕ) → Recalls self.now accepted → result ≡ window_fault (width_of self.now.window) accepted nonce }
     {
         if self.is_old(nonce) {
             Some(DatagramFault::Old)
@@ -74,7 +114,8 @@ impl Ring {
 
     // Whether some accepted nonce is at least the width above this one.
     fn is_old(&self, nonce: u64) -> bool
-        ensures { (accepted : List ℕ) → Recalls self.now accepted → result ≡ is_old (width_of self.now.window) accepted nonce }
+        ensures young { result ≡ false → self.now.greatest < nonce + width_of self.now.window }
+        ensures told { (accepted : List ℕ) → Recalls self.now accepted → result ≡ is_old (width_of self.now.window) accepted nonce }
     {
         self.greatest.saturating_sub(nonce) >= self.window.width()
     }
@@ -93,6 +134,7 @@ impl Ring {
         ensures window { self.new.window ≡ self.old.window }
         ensures more { (accepted : List ℕ) → Recalls self.old accepted → is_old (width_of self.old.window) accepted nonce ≡ false
             → Recalls self.new (nonce ∷ accepted) }
+        ensures ring { is_ring self.old ≡ true → self.old.greatest < nonce + width_of self.old.window → nonce < last_nonce → is_ring self.new ≡ true }
     {
         let block = nonce / WORD_BITS;
         if nonce > self.greatest {
@@ -108,12 +150,26 @@ impl Ring {
     }
 }
 
+// How many words the ring of a window uses.
+fn words_of(window: Window) -> u64
+    ensures value { result ≡ words_of window }
+    ensures within { (0 < result) × (result ≤ 17) }
+{
+    window.width() / WORD_BITS + 1
+}
+
+fn are_zeros(words: &[u64]) -> bool
+    ensures { result ≡ list_all (λ word. word == 0) words.now }
+{
+    words.iter().all(|word| *word == 0)
+}
+
 // Where the word of a block stands.
 fn place(window: Window, block: u64) -> usize
     ensures value { result ≡ block % words_of window }
     ensures within { result < 17 }
 {
-    (block % (window.width() / WORD_BITS + 1)) as usize
+    (block % words_of(window)) as usize
 }
 
 // Clears the words of the blocks after `top` up to `block`: each word once at most.
@@ -121,8 +177,9 @@ fn clear(window: Window, words: &mut [u64; MOST_WORDS], top: u64, block: u64)
     requires { top ≤ block }
     ensures fresh { (b : ℕ) → top < b → b ≤ block → block < b + words_of window → slice_index words.new (b % words_of window) ≡ 0 }
     ensures kept { (b : ℕ) → b ≤ top → block < b + words_of window → slice_index words.new (b % words_of window) ≡ slice_index words.old (b % words_of window) }
+    ensures beyond { drop (min (words_of window) (block + 1)) words.new ≡ drop (min (words_of window) (block + 1)) words.old }
 {
-    let count = (block - top).min(window.width() / WORD_BITS + 1);
+    let count = (block - top).min(words_of(window));
     for back in 0..count {
         words[place(window, block - back)] = 0;
     }

@@ -1,4 +1,4 @@
-use Rattle.std.proofs.Common.{◌≡◌, ℕ, ◌+◌, ◌<◌, ◌≤◌, ◌%◌, length, slice_index}
+use Rattle.std.proofs.Common.{◌≡◌, ℕ, ◌+◌, ◌<◌, ◌≤◌, ◌%◌, length, drop, min, slice_index}
 use Rattle.noise_session.specs.Windows.{words_of}
 use Rattle.noise_session.proofs.window.clear.Given as goal
 
@@ -8,4 +8,5 @@ invariant-loop-back l = record {
   fresh : (b : ℕ) → b ≤ l.block → l.block < b + words_of l.window → l.block < b + l.back → slice_index l.words (b % words_of l.window) ≡ 0;
   kept : (b : ℕ) → b + l.back ≤ l.block → l.block < b + words_of l.window
       → slice_index l.words (b % words_of l.window) ≡ slice_index l.initial.words (b % words_of l.window);
+  beyond : drop (min (words_of l.window) (l.block + 1)) l.words ≡ drop (min (words_of l.window) (l.block + 1)) l.initial.words;
 }

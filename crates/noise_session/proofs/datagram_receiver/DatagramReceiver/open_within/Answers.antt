@@ -5,12 +5,13 @@ use borrow.Rule.Slice.PartMut.{put_mid}
 use Rattle.noise_names.specs.Tokens.{other}
 use Rattle.noise_state.specs.Cipher.{key_in, nonce_in}
 use Rattle.noise_session.specs.Transport.{split_key, packet, last_nonce}
-use Rattle.noise_session.specs.contracts.datagrams.Datagrams.{the_view}
-use Rattle.noise_session.specs.Datagrams.{HeldDatagrams, Pictures, nonce_named, datagram_fault}
+use Rattle.noise_session.specs.contracts.datagram_receiver.DatagramReceiver.{the_view}
+use Rattle.noise_session.specs.Datagrams.{nonce_named, datagram_fault}
+use Rattle.noise_session.specs.DatagramHalves.{HeldDatagramReceiver, ReceiverPictures}
 use Rattle.noise_session.specs.Datagrams.Opens.{opened, refused, forged}
 use Rattle.noise_session.proofs.Unopened.{not_ok}
-use Rattle.noise_session.proofs.DatagramViews.{after-nonce, rest-after-nonce, piece-packet, young-here, pictures-opened}
-use Rattle.noise_session.proofs.datagrams.Datagrams.open_within.Goals as goal
+use Rattle.noise_session.proofs.DatagramViews.{after-nonce, rest-after-nonce, piece-packet, young-here, half-opened}
+use Rattle.noise_session.proofs.datagram_receiver.DatagramReceiver.open_within.Goals as goal
 
 pub returns-in-Some-clause-opens : goal.returns-in-Some-clause-opens
 returns-in-Some-clause-opens c v h = refused v c.args.datagram.now c.in-Some.fault (sym (c.in-Some.ensures.told v h))
@@ -27,10 +28,10 @@ returns-in-Ok-clause-beyond c =
 pub returns-in-Ok-clause-opens : goal.returns-in-Ok-clause-opens
 returns-in-Ok-clause-opens c v h =
     let d = c.args.datagram.now in
-    let here = subst (λ (t : HeldDatagrams). Pictures t v) (sym c.self.view_is) h in
+    let here = subst (λ (h : HeldDatagramReceiver). ReceiverPictures h v) (sym c.self.view_is) h in
     let none : datagram_fault v d ≡ None = cc (c.in_default.ensures.told v h) in
     let named : c.nonce_of-nonce.result ≡ nonce_named d = c.nonce_of-nonce.ensures in
-    let keyed : key_in c.set_nonce.new.self ≡ Some (split_key v.history (other v.role)) = c.set_nonce.ensures.key ∙ here.receive_key in
+    let keyed : key_in c.set_nonce.new.self ≡ Some (split_key v.history (other v.role)) = c.set_nonce.ensures.key ∙ here.key in
     let least : 24 ≤ length d = c.in_default.ensures.bounds.0 in
     let long : 8 ≤ length d = omega arith in
     let out = put_mid 8 (length d - 8) d c.decrypt.new.buf in
@@ -43,7 +44,7 @@ returns-in-Ok-clause-opens c v h =
           ∙ c.in-Ok.ensures.opened
           ∙ piece
           ∙ ap (packet v.history (other v.role) 0 (nonce_named d)) front),
-      pictures-opened (the_view c.self.inside) v (key_in c.decrypt.new.self) c.insert.new.self c.nonce_of-nonce.result (nonce_named d) here
+      half-opened (the_view c.self.inside) v (key_in c.decrypt.new.self) c.insert.new.self c.nonce_of-nonce.result (nonce_named d) here
           (c.decrypt.ensures.key ∙ c.set_nonce.ensures.key) c.insert.ensures.window named
           (c.insert.ensures.more v.accepted here.recent (young-here (the_view c.self.inside) v d c.nonce_of-nonce.result here none named)),
     )
@@ -51,10 +52,10 @@ returns-in-Ok-clause-opens c v h =
 pub returns-in-Err-clause-opens : goal.returns-in-Err-clause-opens
 returns-in-Err-clause-opens c v h =
     let d = c.args.datagram.now in
-    let here = subst (λ (t : HeldDatagrams). Pictures t v) (sym c.self.view_is) h in
+    let here = subst (λ (h : HeldDatagramReceiver). ReceiverPictures h v) (sym c.self.view_is) h in
     let none : datagram_fault v d ≡ None = cc (c.in_default.ensures.told v h) in
     let named : c.nonce_of-nonce.result ≡ nonce_named d = c.nonce_of-nonce.ensures in
-    let keyed : key_in c.set_nonce.new.self ≡ Some (split_key v.history (other v.role)) = c.set_nonce.ensures.key ∙ here.receive_key in
+    let keyed : key_in c.set_nonce.new.self ≡ Some (split_key v.history (other v.role)) = c.set_nonce.ensures.key ∙ here.key in
     let least : 24 ≤ length d = c.in_default.ensures.bounds.0 in
     let most : length d ≤ 65543 = c.in_default.ensures.bounds.1 in
     let apart : c.nonce_of-nonce.result ≢ last_nonce = λ same. c.in_default.ensures.bounds.2 (sym named ∙ same) in

@@ -1,0 +1,196 @@
+//! The receiving half of datagrams (Noise, 11.4).
+#![tactic(auto)]
+
+ghost use Rattle.std.specs.Prelude.{◌≡◌, ◌≢◌, ◌≤◌, ◌<◌, ◌+◌, length, take, drop, is_some, true, Ok, Err, IsSome, IfSome, IfOk, IfNone, OnErr, MatchResult};
+ghost use Rattle.noise_state.specs.Cipher.{key_in};
+ghost use Rattle.noise_events.specs.Windows.{width_of};
+ghost use Rattle.noise_session.specs.Transport.{last_nonce};
+ghost use Rattle.noise_session.specs.Windows.{is_ring};
+ghost use Rattle.noise_session.specs.Datagrams.{DatagramView, Opens, nonce_named, accepting, datagram_fault};
+ghost use Rattle.noise_session.specs.DatagramHalves.{ReceiverPictures};
+ghost use Rattle.noise_session.specs.Parts.{datagram_receiver_in};
+
+use crate::parts::key_and_nonce;
+use crate::window::Ring;
+use crate::{DatagramFault, DatagramReceiverParts};
+use noise_names::Role;
+use noise_state::CipherState;
+use std::marker::Model;
+
+// The bytes of a nonce, which come first.
+const NONCE_LEN: usize = 8;
+
+// Those of a nonce and a tag.
+const OVERHEAD: usize = 24;
+
+// The longest datagram in bytes: a nonce and the longest message (Noise, 3).
+const DATAGRAM_MAX: usize = 65543;
+
+// The nonce that no message has (Noise, 5.1).
+const LAST_NONCE: u64 = u64::MAX;
+
+/// The receiving half of datagrams: it opens those of the other party, each nonce at most once, as the whole `Datagrams` does.
+///
+/// `Datagrams::split` makes it, for a thread of its own. That of the initiator of a one-way session answers OneWay to every
+/// datagram. No call takes memory, and a fault changes nothing.
+#[derive(Drop)]
+pub struct DatagramReceiver {
+    role: Role,
+    one_way: bool,
+    cipher: CipherState,
+    recent: Ring, // of the nonces that were opened
+}
+
+impl Model for DatagramReceiver {
+    ghost use Rattle.std.specs.Prelude.{◌≡◌, IsSome, true};
+    ghost use Rattle.noise_state.specs.Cipher.{key_in};
+    ghost use Rattle.noise_session.specs.Windows.{is_ring};
+    ghost use Rattle.noise_session.specs.DatagramHalves.{HeldDatagramReceiver};
+
+    ghost Value = { HeldDatagramReceiver };
+
+    ghost view = { λ r. record {
+      role = r.role;
+      one_way = r.one_way;
+      key = key_in r.cipher;
+      recent = r.recent;
+    } };
+
+    // Some accepted nonces have the ring.
+    ghost invariant = { λ r. record {
+      key : IsSome (key_in r.cipher);
+      ring : is_ring r.recent ≡ true;
+    } };
+}
+
+impl DatagramReceiver {
+    // The half that opens with this cipher state.
+    pub(crate) fn new(
+        role: Role,
+        one_way: bool,
+        cipher: CipherState,
+        recent: Ring,
+    ) -> DatagramReceiver
+        requires keyed { IsSome (key_in cipher) }
+        requires ring { is_ring recent ≡ true }
+        ensures { result ≡ record { role = role; one_way = one_way; key = key_in cipher; recent = recent } }
+    {
+        DatagramReceiver {
+            role,
+            one_way,
+            cipher,
+            recent,
+        }
+    }
+
+    /// What it holds, for a caller that keeps it itself until the next datagram.
+    pub fn into_parts(self) -> DatagramReceiverParts
+        ensures same { datagram_receiver_in result ≡ self }
+        ensures whole { is_ring (datagram_receiver_in result).recent ≡ true }
+    {
+        let (key, _) = key_and_nonce(self.cipher);
+        let (window, greatest, words) = self.recent.into_parts();
+        DatagramReceiverParts {
+            role: self.role,
+            one_way: self.one_way,
+            key,
+            window,
+            greatest,
+            words,
+        }
+    }
+
+    /// The receiving half that holds these parts: none where no opened nonces leave them, as parts with a bit above the greatest nonce.
+    ///
+    /// Every half that was taken apart comes back. A key doesn't show of which half it is.
+    pub fn from_parts(parts: DatagramReceiverParts) -> Option<DatagramReceiver>
+        ensures whole { is_some result ≡ is_ring (datagram_receiver_in parts).recent }
+        ensures same { IfSome result (λ receiver. receiver ≡ datagram_receiver_in parts) }
+    {
+        let words = parts.words;
+        let recent = Ring::from_parts(parts.window, parts.greatest, words)?;
+        Some(DatagramReceiver {
+            role: parts.role,
+            one_way: parts.one_way,
+            cipher: CipherState::from_parts(Some(parts.key), 0),
+            recent,
+        })
+    }
+
+    // Why such bytes aren't opened, whatever message they have.
+    fn refusal(&self, datagram: &[u8]) -> Option<DatagramFault>
+        ensures bounds { IfNone result ((24 ≤ length datagram.now) × (length datagram.now ≤ 65543) × (nonce_named datagram.now ≢ last_nonce)) }
+        ensures young { IfNone result (self.now.recent.greatest < nonce_named datagram.now + width_of self.now.recent.window) }
+        ensures told { (v : DatagramView) → ReceiverPictures self.now v → result ≡ datagram_fault v datagram.now }
+    {
+        if self.one_way && self.role == Role::Initiator {
+            return Some(DatagramFault::OneWay);
+        }
+        if datagram.len() < OVERHEAD {
+            return Some(DatagramFault::Short);
+        }
+        if datagram.len() > DATAGRAM_MAX {
+            return Some(DatagramFault::TooLong);
+        }
+        let nonce = nonce_of(datagram);
+        if nonce == LAST_NONCE {
+            return Some(DatagramFault::Reserved);
+        }
+        self.recent.refusal(nonce)
+    }
+
+    /// Opens a datagram in place, and tells how many of its bytes from the ninth on are then the payload. The 8 of the nonce in
+    /// front of them and the 16 of the tag after them stay as they are.
+    ///
+    /// At an `Err` its bytes are unchanged.
+    pub fn open_within(&mut self, datagram: &mut [u8]) -> Result<usize, DatagramFault>
+        ensures len { IfOk result (λ n. n + 24 ≡ length datagram.new) }
+        ensures beyond { IfOk result (λ n. (take 8 datagram.new ≡ take 8 datagram.old) × (drop (8 + n) datagram.new ≡ drop (8 + n) datagram.old)) }
+        ensures same { self.new ≡ record self.old { recent = self.new.recent } }
+        ensures unchanged { OnErr result ((self.new ≡ self.old) × (datagram.new ≡ datagram.old)) }
+        ensures opens { (v : DatagramView) → ReceiverPictures self.old v → MatchResult result
+            (λ n. Opens v datagram.old (Ok (take n (drop 8 datagram.new))) (accepting v (nonce_named datagram.old))
+            × ReceiverPictures self.new (accepting v (nonce_named datagram.old)))
+            (λ fault. Opens v datagram.old (Err fault) v) }
+    {
+        if let Some(fault) = self.refusal(datagram) {
+            return Err(fault);
+        }
+        let nonce = nonce_of(datagram);
+        self.cipher.set_nonce(nonce);
+        match self.cipher.decrypt(&[], &mut datagram[NONCE_LEN..]) {
+            Ok(len) => {
+                self.recent.insert(nonce);
+                Ok(len)
+            }
+            Err(_) => Err(DatagramFault::Tag),
+        }
+    }
+
+    /// Opens a datagram in place, and gives its payload, a part of the datagram's own bytes.
+    ///
+    /// At an `Err` its bytes are unchanged.
+    pub fn open<'a>(&mut self, datagram: &'a mut [u8]) -> Result<&'a mut [u8], DatagramFault>
+        ensures part { IfOk result (λ payload.
+            (payload.ref_ptr ≡ (datagram.entry.ref_ptr.0, datagram.entry.ref_ptr.1 + 8)) × (length payload.now + 24 ≡ length datagram.old)) }
+        ensures same { self.new ≡ record self.old { recent = self.new.recent } }
+        ensures unchanged { OnErr result (self.new ≡ self.old) }
+        ensures opens { (v : DatagramView) → ReceiverPictures self.old v → MatchResult result
+            (λ payload. Opens v datagram.old (Ok payload.now) (accepting v (nonce_named datagram.old))
+            × ReceiverPictures self.new (accepting v (nonce_named datagram.old)))
+            (λ fault. Opens v datagram.old (Err fault) v) }
+    {
+        let len = self.open_within(datagram)?;
+        Ok(&mut datagram[NONCE_LEN..NONCE_LEN + len])
+    }
+}
+
+// The nonce that a datagram names.
+fn nonce_of(datagram: &[u8]) -> u64
+    requires { 8 ≤ length datagram.now }
+    ensures { result ≡ nonce_named datagram.now }
+{
+    let mut bytes = [0; NONCE_LEN];
+    bytes.copy_from_slice(&datagram[..NONCE_LEN]);
+    u64::from_be_bytes(bytes)
+}
