@@ -1,6 +1,9 @@
 -- A prefix of what a command prints.
 use Rattle.std.proofs.Common.{◌≡◌, ◌∙◌, refl, sym, ap, subst, ◌⊎◌, inl, inr, ◌≤◌, ℕ, List, [], ◌∷◌, ◌++◌, Option, Some, None, Ok, String, length, string_bytes}
+use Rattle.std.specs.Global.{Global}
 use Rattle.std.specs.Prelude.{IfSome}
+use Rattle.std.specs.Io.KnownBytes.{Keeps}
+use Rattle.std.proofs.KnownBytes.{Appends-kept}
 use Rattle.noise_names.specs.Plan.{Plan}
 use Rattle.noise_names.specs.Text.{Spells}
 use Rattle.noise_names.specs.Validity.{IsValid}
@@ -26,21 +29,7 @@ use Rattle.noise_vectors.specs.declared.vector.Version.TheVariants.{One}
 use Rattle.noise_words.specs.declared.orders.Chosen.{Chosen}
 use Rattle.noise_words.specs.declared.orders.Chosen.TheVariants as order
 
--- ---- what each command prints
-
-pub list-prefix : (file a b : Option (List ℕ)) (text : List ℕ) → text ≡ list_text → AppendsPrefix a b text → PrintsPrefix order.List file a b
-list-prefix file a b text is p = (text, inl is, p)
-
-pub show-prefix : (name : String) (file a b : Option (List ℕ)) (bytes text : List ℕ) → bytes ≡ string_bytes name
-    → (p : Plan) × NamesPattern bytes p × (text ≡ show_text p) → AppendsPrefix a b text → PrintsPrefix (order.Show name) file a b
-show-prefix name file a b bytes text same (p, names, is) grown =
-    (text, inl (p, subst (λ (t : List ℕ). NamesPattern t p) same names, is), grown)
-
-pub check-prefix : (path : String) (file a b : Option (List ℕ)) (bytes text : List ℕ) → IfSome file (λ known. bytes ≡ known)
-    → (p : Plan) × Spells bytes p × IsValid p × (text ≡ check_text p) → AppendsPrefix a b text → PrintsPrefix (order.Check path) file a b
-check-prefix path None a b bytes text same h grown = (text, inl tt, grown)
-check-prefix path (Some known) a b bytes text same (p, spells, valid, is) grown =
-    (text, inl (p, subst (λ (t : List ℕ). Spells t p) same spells, valid, is), grown)
+-- ---- a run
 
 -- the run of a right file, whether its lines are those expected or not
 run-text : (bytes : List ℕ) (file : VectorFile) (outcome : Outcome) → Ran (Some bytes) file outcome → (expected : List (List ℕ))
@@ -73,14 +62,14 @@ run-prefix None file outcome a b r grown = (lines_text (bytes_of outcome.lines.i
 run-prefix (Some bytes) file outcome a b r grown =
     (lines_text (bytes_of outcome.lines.items), run-text bytes file outcome r (expected_in file.version) refl, grown)
 
-pub talk-prefix : {O : Type 0} (path : String) (known a b : Option (List ℕ)) (old new : O) → (new ≡ old) ⊎ PrintsRunPrefix known a b
+pub talk-prefix : {O : Type 0} (path : String Global) (known a b : Option (List ℕ)) (old new : O) → (new ≡ old) ⊎ PrintsRunPrefix known a b
     → (new ≡ old) ⊎ PrintsPrefix (order.Talk path) known a b
 talk-prefix path known a b old new (inl same) = inl same
 talk-prefix path None a b old new (inr (text, h, grown)) = inr (text, inl tt, grown)
 talk-prefix path (Some bytes) a b old new (inr (text, inl met, grown)) = inr (text, inl met, grown)
 talk-prefix path (Some bytes) a b old new (inr (text, inr (n, unmet), grown)) = inr (text, inr (fault.Unmet n, inr unmet), grown)
 
-pub replay-prefix : {O : Type 0} (path : String) (known a b : Option (List ℕ)) (old new : O) → (new ≡ old) ⊎ PrintsRunPrefix known a b
+pub replay-prefix : {O : Type 0} (path : String Global) (known a b : Option (List ℕ)) (old new : O) → (new ≡ old) ⊎ PrintsRunPrefix known a b
     → (new ≡ old) ⊎ PrintsPrefix (order.Replay path) known a b
 replay-prefix path known a b old new (inl same) = inl same
 replay-prefix path None a b old new (inr (text, h, grown)) = inr (text, inl tt, grown)
@@ -93,11 +82,6 @@ pub converted-prefix : (known : Option (List ℕ)) (file : VectorFile) (outcome 
     → PrintsConvertedPrefix known a b
 converted-prefix known file outcome a b converted r one meets is short grown =
     (converted, has-converted known file outcome (Some []) (Some converted) converted (Ok tt) r one meets is short refl, grown)
-
-pub convert-prefix : {O : Type 0} (path : String) (known a b : Option (List ℕ)) (old new : O) → (new ≡ old) ⊎ PrintsConvertedPrefix known a b
-    → (new ≡ old) ⊎ PrintsPrefix (order.Convert path) known a b
-convert-prefix path known a b old new (inl same) = inl same
-convert-prefix path known a b old new (inr (text, h, grown)) = inr (text, inl h, grown)
 
 -- ---- what is told
 
@@ -150,11 +134,11 @@ told-rule {O = O} contents chosen known old middle new f h unwritten grown =
     let same : middle ≡ old = rule-first f (middle ≡ old) unwritten in
     let is = rule-is f (IsFault chosen known (contents old) (contents middle) (fault.Rule f)) h in (
       text,
-      inr (fault.Rule f, rule-anywhere chosen known _ _ (Some []) (Some text) f is, refl),
+      inr (fault.Rule f, (rule-anywhere chosen known _ _ (Some []) (Some text) f is, refl)),
       subst (λ (o : O). AppendsPrefix (contents o) (contents new) text) same grown,
     )
 
--- behind a run, and what is told then
+-- after a run, and what is told then
 pub told-prefix : {O : Type 0} (contents : O → Option (List ℕ)) (chosen : Chosen) (known : Option (List ℕ)) (old middle new : O) (why : Fault)
     → (middle ≡ old) ⊎ PrintsPrefix chosen known (contents old) (contents middle)
     → (status_of why ≡ 3) ⊎ IsFault chosen known (contents old) (contents middle) why
@@ -177,3 +161,11 @@ pub told-itself : (why : Fault) (result : ℕ) (a b : Option (List ℕ))
 told-itself why result a b (told, inl is, status, grown) = inr (subst (λ (f : Fault). AppendsPrefix a b (error_text f)) is grown)
 told-itself why result a b (told, inr (inl is), status, grown) = inl (sym status ∙ ap status_of is)
 told-itself why result a b (told, inr (inr is), status, grown) = inl (sym status ∙ ap status_of is)
+
+pub told-outside : (why : Fault) (result : ℕ) (a b : Option (List ℕ))
+    → (told : Fault) × IsToldOf why told × (status_of told ≡ result) × AppendsPrefix a b (error_text told) → result ≡ 3
+    → (f : Fault) × (status_of f ≡ 3) × AppendsPrefix a b (error_text f)
+told-outside why result a b (told, of, status, grown) three = (told, status ∙ three, grown)
+
+pub prefix-kept : (a b c : Option (List ℕ)) (text : List ℕ) → AppendsPrefix a b text → Keeps b c → AppendsPrefix a c text
+prefix-kept a b c text p q = record { prefix = p.prefix; rest = p.rest; begins = p.begins; appended = Appends-kept a b c p.prefix p.appended q }

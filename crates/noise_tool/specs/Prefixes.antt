@@ -1,5 +1,5 @@
 -- What is on the output however a command ends: a prefix of a text that it prints with status 0 or 1.
-use Rattle.std.specs.Prelude.{⊥, ◌⊎◌, ℕ, List, [], Option, Some, IfSome}
+use Rattle.std.specs.Prelude.{◌⊎◌, ℕ, List, [], Option, Some, IfSome}
 use Rattle.noise_lines.specs.Prefixes.{AppendsPrefix}
 use Rattle.noise_lines.specs.Told.{TellsRule}
 use Rattle.noise_lines.specs.declared.faults.Fault.{Fault}
