@@ -1,4 +1,5 @@
 pub mod ConvertingLemmas
 pub mod InputLemmas
 pub mod OutputLemmas
+pub mod PrefixLemmas
 pub mod PrintedWordLemmas

@@ -1,18 +1,21 @@
 -- Lines of the output, one after the other.
-use Rattle.std.proofs.Common.{◌≡◌, ℕ, zero, suc, ◌+◌, List, [], ◌∷◌, ◌++◌, ◌<◌, ◌≤◌, ◌∙◌, ap, ap₂, sym, refl, subst, Vec, Option, get_or, take, length, add-one, arith}
+use Rattle.std.proofs.Common.{◌≡◌, ℕ, zero, suc, ◌+◌, List, [], ◌∷◌, ◌++◌, ◌<◌, ◌≤◌, ◌∙◌, ap, ap₂, sym, refl, subst, Vec, Option, get_or, take, drop, length, append_assoc, add-one, arith}
 use Rattle.std.specs.Prelude.{flat_map, slice_get, Some, None}
 use Rattle.std.specs.Global.{Global}
 use Rattle.std.specs.List.{range_with_len}
 use Rattle.std.specs.Io.KnownBytes.{Appends}
 use Rattle.std.proofs.KnownBytes.{Appends-trans}
 use Rattle.std.proofs.Math.Seq.{take-suc}
-use Rattle.std.proofs.lemmas.List.{flat_map_more, take_all}
+use Rattle.std.proofs.lemmas.Grind.{flat_map-append}
+use Rattle.std.proofs.lemmas.List.{flat_map_more, take-append-drop, take_all}
 use Rattle.std.proofs.lemmas.List.Folds.{flat_map-map}
 use Rattle.std.proofs.lemmas.Option.{slice_get_read, slice_get_within, get_or_from_slice_get}
 use Rattle.noise_names.specs.Fundamental.{fundamentals}
 use Rattle.noise_names.specs.Text.{line}
 use Rattle.noise_vectors.specs.Expectations.{bytes_of}
 use Rattle.noise_lines.specs.Lines.{lines_text}
+use Rattle.noise_lines.specs.Prefixes.{AppendsPrefix}
+use Rattle.noise_lines.proofs.PrefixLemmas.{prefix-after}
 
 pub fundamentals-count : length fundamentals ≡ 15
 unfolding fundamentals
@@ -77,3 +80,36 @@ lines-written lines items i a b same all written =
     subst (λ (t : List ℕ). Appends a b t)
     (ap (λ (ls : List (Vec ℕ Global)). flat_map written_line ls) (take_all i lines past)
     ∙ sym (flat_map-map line (λ (l : Vec ℕ Global). l.items) lines)) written
+
+-- the text of all lines, by the one at a place
+at-line : (lines items : List (Vec ℕ Global)) (i : ℕ) (x : Vec ℕ Global) → items ≡ lines → i < length items → x ≡ get_or items i x
+    → lines_text (bytes_of lines) ≡ flat_map written_line (take i lines) ++ (x.items ++ 10 ∷ flat_map written_line (drop (i + 1) lines))
+at-line lines items i x same less is =
+    let before = flat_map written_line (take i lines) in
+    let after = flat_map written_line (drop (i + 1) lines) in
+    flat_map-map line (λ (l : Vec ℕ Global). l.items) lines
+    ∙ ap (λ (ls : List (Vec ℕ Global)). flat_map written_line ls) (sym (take-append-drop (i + 1) lines))
+    ∙ flat_map-append written_line (take (i + 1) lines) (drop (i + 1) lines)
+    ∙ ap (λ (t : List ℕ). t ++ after) (sym (elements-more written_line lines i x (at-place lines items i x same less is)))
+    ∙ append_assoc before (written_line x) after
+    ∙ ap (λ (t : List ℕ). before ++ t) (append_assoc x.items (10 ∷ []) after)
+
+-- a write was refused within a line
+pub line-cut : (lines items : List (Vec ℕ Global)) (i : ℕ) (x : Vec ℕ Global) (text : List ℕ) (a b c : Option (List ℕ))
+    → items ≡ lines → i < length items → x ≡ get_or items i x → text ≡ x.items
+    → Appends a b (flat_map written_line (take i lines)) → AppendsPrefix b c text → AppendsPrefix a c (lines_text (bytes_of lines))
+line-cut lines items i x text a b c same less is text_is before now =
+    let after = flat_map written_line (drop (i + 1) lines) in
+    prefix-after a b c (flat_map written_line (take i lines)) text (10 ∷ after) (lines_text (bytes_of lines)) before now
+    (at-line lines items i x same less is ∙ ap (λ (t : List ℕ). flat_map written_line (take i lines) ++ (t ++ 10 ∷ after)) (sym text_is))
+
+-- or before its LF
+pub feed-cut : (lines items : List (Vec ℕ Global)) (i : ℕ) (x : Vec ℕ Global) (text feed : List ℕ) (a b c e : Option (List ℕ))
+    → items ≡ lines → i < length items → x ≡ get_or items i x → text ≡ x.items → feed ≡ 10 ∷ []
+    → Appends a b (flat_map written_line (take i lines)) → Appends b c text → AppendsPrefix c e feed → AppendsPrefix a e (lines_text (bytes_of lines))
+feed-cut lines items i x text feed a b c e same less is text_is feed_is before now last =
+    let after = flat_map written_line (drop (i + 1) lines) in
+    let first = flat_map written_line (take i lines) in
+    prefix-after a c e (first ++ text) feed after (lines_text (bytes_of lines)) (Appends-trans a b c first text before now) last
+    (at-line lines items i x same less is ∙ sym (append_assoc first x.items (10 ∷ after))
+    ∙ ap₂ (λ (t u : List ℕ). (first ++ t) ++ (u ++ after)) (sym text_is) (sym feed_is))

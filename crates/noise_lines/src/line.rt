@@ -1,9 +1,10 @@
 //! Lines of output.
 
-ghost use Rattle.std.specs.Prelude.{◌≡◌, ◌++◌, ◌∷◌, [], IfErr, IfOk, IsTrue, OnOk, decimal};
+ghost use Rattle.std.specs.Prelude.{◌≡◌, ◌⊎◌, ◌++◌, ◌∷◌, [], IfErr, IfOk, IsTrue, OnOk, decimal};
 ghost use Rattle.std.specs.Io.KnownBytes.{Appends};
-ghost use Rattle.noise_lines.specs.Faults.{status_of};
+ghost use Rattle.noise_lines.specs.Prefixes.{AppendsPrefix};
 ghost use Rattle.noise_lines.specs.PrintedWords.{is_printed};
+ghost use Rattle.noise_lines.specs.declared.faults.Fault.TheVariants.{Memory, Unwritable};
 ghost use Rattle.noise_vectors.specs.HexWord.{hex_of};
 ghost use Rattle.noise_vectors.specs.VectorFile.{IsExpected};
 ghost use Rattle.noise_vectors.specs.VectorText as text;
@@ -71,10 +72,11 @@ impl Line {
         self.text
     }
 
-    /// Writes the line, with an LF after it.
+    /// Writes the line, with an LF after it. Where a write is refused, a prefix of that was written; without memory, nothing.
     pub fn write<W: Write>(self, out: &mut W) -> Result<(), Fault>
         ensures written { OnOk result (Appends (W.contents out.old) (W.contents out.new) (self.text.items ++ 10 ∷ [])) }
-        ensures fault { IfErr result (λ fault. status_of fault ≡ 3) }
+        ensures prefix { AppendsPrefix (W.contents out.old) (W.contents out.new) (self.text.items ++ 10 ∷ []) }
+        ensures fault { IfErr result (λ fault. ((fault ≡ Memory) × (out.new ≡ out.old)) ⊎ (fault ≡ Unwritable)) }
     {
         let Line { mut text, .. } = self;
         text.push(b'\n').map_err(AllocError::from)?;

@@ -1,15 +1,17 @@
 //! The texts of faults.
 
-ghost use Rattle.std.specs.Prelude.{◌≡◌, ◌⊎◌, ◌∷◌, [], decimal, codes, IfErr, IfOk, IsTrue, OnOk};
+ghost use Rattle.std.specs.Prelude.{◌≡◌, ◌⊎◌, ◌∷◌, [], decimal, codes, IfOk, IsTrue, MatchResult, OnOk};
 ghost use Rattle.std.specs.List.{join_with_byte};
 ghost use Rattle.noise_lines.specs.Faults.{status_of};
-ghost use Rattle.noise_lines.specs.Told.{LeavesOther};
+ghost use Rattle.noise_lines.specs.Prefixes.{AppendsPrefix};
+ghost use Rattle.noise_lines.specs.Told.{IsToldOf, LeavesOther, LeavesOutput, error_text};
 ghost use Rattle.noise_lines.specs.PrintedWords.{is_printed};
 ghost use Rattle.noise_lines.specs.Told as told;
+ghost use Rattle.noise_lines.specs.declared.faults.Fault.TheVariants.{Memory, Unwritable};
 
 use crate::faults::Fault;
 use crate::line::{Line, role_word};
-use crate::output::flush;
+use crate::output::{flush, write};
 use noise_keys::SetupFault;
 use noise_names::{NameFault, TextFaultKind};
 use noise_vectors::LineKind;
@@ -17,16 +19,20 @@ use std::alloc::{AllocError, Global};
 use std::io::Write;
 
 /// Writes what the fault is, a broken rule to `out` and any other to `err`, and gives the exit status. Where memory for the text or a
-/// write to `out` is refused, that is the fault; a refused write to `err` changes nothing.
+/// write to `out` is refused, that is the fault, and it is written to `err`. A refused write to `err` leaves the status; a prefix of the line was
+/// written.
 pub fn tell<O: Write, E: Write>(alloc: Global, fault: Fault, out: &mut O, err: &mut E) -> u8
     ensures status { (result ≡ status_of fault) ⊎ (result ≡ 3) }
     ensures other { (result ≡ 3) ⊎ LeavesOther fault out.old out.new err.old err.new }
     ensures rule { (result ≡ 3) ⊎ told.TellsRule fault (O.contents out.old) (O.contents out.new) }
+    ensures output { LeavesOutput O.contents fault out.old out.new }
+    ensures told { (told : Fault) × IsToldOf fault told × (status_of told ≡ result)
+        × AppendsPrefix (E.contents err.old) (E.contents err.new) (error_text told) }
 {
     match write_fault(alloc, fault, out, err) {
         Ok(()) => fault.status(),
         Err(other) => {
-            let _ = err.write_all(last_text(other));
+            let _ = write(last_text(other), err);
             other.status()
         }
     }
@@ -40,7 +46,9 @@ fn write_fault<O: Write, E: Write>(
 ) -> Result<(), Fault>
     ensures other { OnOk result (LeavesOther fault out.old out.new err.old err.new) }
     ensures rule { OnOk result (told.TellsRule fault (O.contents out.old) (O.contents out.new)) }
-    ensures fault { IfErr result (λ other. status_of other ≡ 3) }
+    ensures output { LeavesOutput O.contents fault out.old out.new }
+    ensures told { MatchResult result (λ _. AppendsPrefix (E.contents err.old) (E.contents err.new) (error_text fault))
+        (λ other. ((other ≡ Memory) ⊎ (other ≡ Unwritable)) × (err.new ≡ err.old)) }
 {
     let line = fault_line(alloc, fault)?;
     if let Fault::Rule(_) = fault {
@@ -54,7 +62,9 @@ fn write_fault<O: Write, E: Write>(
 }
 
 // A text that takes no memory.
-fn last_text(fault: Fault) -> &'static [u8] {
+fn last_text(fault: Fault) -> &'static [u8]
+    ensures { (fault ≡ Memory) ⊎ (fault ≡ Unwritable) → result.now ≡ error_text fault }
+{
     match fault {
         Fault::Unwritable => b"cannot write\n",
         _ => b"out of memory\n",

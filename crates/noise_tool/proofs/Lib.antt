@@ -1,7 +1,9 @@
 pub mod ConversionLemmas
 pub mod EndLemmas
 pub mod OneRunLemmas
+pub mod MetLemmas
 pub mod PerformingLemmas
+pub mod PrefixLemmas
 pub mod Shortness
 pub mod PrintedLemmas
 pub mod RunningLemmas

@@ -246,21 +246,23 @@ lines-tell fault.Unwritable before after lines = tt
 lines-tell fault.Memory before after lines = tt
 
 -- a fault that is told: what holds of the run and of the telling holds of both
-pub told-fault : {O E : Type 0} (contents : O → Option (List ℕ)) (chosen : Chosen) (known : Option (List ℕ)) (old middle new : O) (err err_new : E)
+pub told-fault : {O E : Type 0} (contents : O → Option (List ℕ)) (Told : Fault → Type 0) (chosen : Chosen) (known : Option (List ℕ)) (old middle new : O) (err err_new : E)
     (why : Fault) (result : ℕ)
     → (status_of why ≡ 3) ⊎ IsFault chosen known (contents old) (contents middle) why
     → (status_of why ≡ 3) ⊎ IsOfLines why ⊎ (middle ≡ old)
     → (result ≡ status_of why) ⊎ (result ≡ 3)
     → (result ≡ 3) ⊎ LeavesOther why middle new err err_new
     → (result ≡ 3) ⊎ TellsRule why (contents middle) (contents new)
+    → (result ≡ 3) ⊎ Told why
     → (result ≡ 3) ⊎ ((f : Fault) × (status_of f ≡ result) × IsFault chosen known (contents old) (contents new) f
-    × (IsOfLines f ⊎ LeavesOther f old new err err_new) × TellsRule f (contents old) (contents new))
-told-fault contents chosen known old middle new err err_new why result h unwritten (inr three) other tells = inl three
-told-fault contents chosen known old middle new err err_new why result (inl outside) unwritten (inl is) other tells = inl (is ∙ outside)
-told-fault contents chosen known old middle new err err_new why result (inr h) unwritten (inl is) (inl three) tells = inl three
-told-fault contents chosen known old middle new err err_new why result (inr h) unwritten (inl is) (inr leaves) (inl three) = inl three
-told-fault contents chosen known old middle new err err_new why result (inr h) (inl outside) (inl is) (inr leaves) (inr tells) = inl (is ∙ outside)
-told-fault contents chosen known old middle new err err_new why result (inr h) (inr (inl lines)) (inl is) (inr leaves) (inr tells) =
+    × (IsOfLines f ⊎ LeavesOther f old new err err_new) × TellsRule f (contents old) (contents new) × Told f)
+told-fault contents Told chosen known old middle new err err_new why result h unwritten (inr three) other tells told = inl three
+told-fault contents Told chosen known old middle new err err_new why result (inl outside) unwritten (inl is) other tells told = inl (is ∙ outside)
+told-fault contents Told chosen known old middle new err err_new why result (inr h) unwritten (inl is) (inl three) tells told = inl three
+told-fault contents Told chosen known old middle new err err_new why result (inr h) unwritten (inl is) (inr leaves) (inl three) told = inl three
+told-fault contents Told chosen known old middle new err err_new why result (inr h) (inl outside) (inl is) (inr leaves) (inr tells) told = inl (is ∙ outside)
+told-fault contents Told chosen known old middle new err err_new why result (inr h) (inr unwritten) (inl is) (inr leaves) (inr tells) (inl three) = inl three
+told-fault contents Told chosen known old middle new err err_new why result (inr h) (inr (inl lines)) (inl is) (inr leaves) (inr tells) (inr told) =
     inr (
       why,
       sym is,
@@ -268,8 +270,9 @@ told-fault contents chosen known old middle new err err_new why result (inr h) (
           (λ l. ap contents (lines-left why middle new err err_new l leaves)) h,
       inl lines,
       lines-tell why (contents old) (contents new) lines,
+      told,
     )
-told-fault {O = O} contents chosen known old middle new err err_new why result (inr h) (inr (inr same)) (inl is) (inr leaves) (inr tells) =
+told-fault {O = O} contents Told chosen known old middle new err err_new why result (inr h) (inr (inr same)) (inl is) (inr leaves) (inr tells) (inr told) =
     inr (
       why,
       sym is,
@@ -277,6 +280,7 @@ told-fault {O = O} contents chosen known old middle new err err_new why result (
           (λ l. ap contents (lines-left why middle new err err_new l leaves)) h,
       inr (subst (λ (o : O). LeavesOther why o new err err_new) same leaves),
       subst (λ (o : O). TellsRule why (contents o) (contents new)) same tells,
+      told,
     )
 
 -- at status 2 the output is as it was

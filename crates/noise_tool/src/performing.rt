@@ -7,8 +7,10 @@ ghost use Rattle.noise_vectors.specs.Expectations.{bytes_of};
 ghost use Rattle.noise_vectors.specs.declared.vector.AllowedEvents.TheVariants.{VersionOne};
 ghost use Rattle.noise_tool.specs.Performing.{HasConverted, HasRun, IsDone, IsFault, IsOfLines, IsRunFault, IsTooLongConverted, IsUnlike, IsUnmet};
 ghost use Rattle.noise_tool.specs.Performing.{IsShort, LeavesFile, ReadsShort};
+ghost use Rattle.noise_tool.specs.Prefixes.{PrintsConvertedPrefix, PrintsPrefix, PrintsRunPrefix};
 ghost use Rattle.noise_lines.specs.Lines.{lines_text};
-ghost use Rattle.noise_lines.specs.Told.{LeavesOther, TellsRule};
+ghost use Rattle.noise_lines.specs.Prefixes.{AppendsPrefix};
+ghost use Rattle.noise_lines.specs.Told.{LeavesOther, TellsRule, error_text};
 ghost use Rattle.noise_tool.specs.Running.{IsMet};
 ghost use Rattle.noise_lines.specs.declared.faults.Fault.{Fault};
 
@@ -24,7 +26,8 @@ use std::io::{Read, Write};
 /// fewer messages than a psk place needs, the ends of a vector file can't be made, or the lines of its run aren't those that it expects; 2 where
 /// the name is none, is of no fundamental pattern, or the file isn't a pattern text or a vector file, or what it is converted to is too long; 3
 /// where the file can't be read, the output can't be written, or memory runs out. A refused write to `err` leaves the status. `list` and `show`
-/// read no byte of `file`.
+/// read no byte of `file`. At each status what comes to the output is a prefix of a text that is right for status 0 or 1, and what comes to `err` is
+/// a prefix of the line of the fault.
 pub fn perform<R: Read, O: Write, E: Write>(
     alloc: Global,
     chosen: &Chosen,
@@ -37,7 +40,11 @@ pub fn perform<R: Read, O: Write, E: Write>(
     ensures fault { 1 ≤ result → (result ≡ 3) ⊎ ((fault : Fault) × (status_of fault ≡ result)
         × IsFault chosen.now (R.remaining file.old) (O.contents out.old) (O.contents out.new) fault
         × (IsOfLines fault ⊎ LeavesOther fault out.old out.new err.old err.new)
-        × TellsRule fault (O.contents out.old) (O.contents out.new)) }
+        × TellsRule fault (O.contents out.old) (O.contents out.new)
+        × AppendsPrefix (E.contents err.old) (E.contents err.new) (error_text fault)) }
+    ensures outside { result ≡ 3 → (fault : Fault) × (status_of fault ≡ 3)
+        × AppendsPrefix (E.contents err.old) (E.contents err.new) (error_text fault) }
+    ensures prefix { (out.new ≡ out.old) ⊎ PrintsPrefix chosen.now (R.remaining file.old) (O.contents out.old) (O.contents out.new) }
     ensures long { (2 ≤ result) ⊎ ReadsShort chosen.now (R.remaining file.old) }
     ensures unwritten { result ≡ 2 → out.new ≡ out.old }
     ensures quiet { result ≡ 0 → err.new ≡ err.old }
@@ -61,6 +68,7 @@ fn run<R: Read, O: Write>(
     ensures long { MatchResult result (λ _. ReadsShort chosen.now (R.remaining file.old))
         (λ fault. (2 ≤ status_of fault) ⊎ ReadsShort chosen.now (R.remaining file.old)) }
     ensures unwritten { IfErr result (λ fault. (status_of fault ≡ 3) ⊎ IsOfLines fault ⊎ (out.new ≡ out.old)) }
+    ensures prefix { (out.new ≡ out.old) ⊎ PrintsPrefix chosen.now (R.remaining file.old) (O.contents out.old) (O.contents out.new) }
     ensures unread { LeavesFile chosen.now file.old file.new }
 {
     match chosen {
@@ -88,6 +96,7 @@ fn run_file<R: Read, O: Write>(
         ⊎ IfSome (R.remaining file.old) (λ text. IsRunFault allowed text fault ⊎ IsUnmet text (O.contents out.old) (O.contents out.new) fault)) }
     ensures long { MatchResult result (λ _. IsShort (R.remaining file.old)) (λ fault. (2 ≤ status_of fault) ⊎ IsShort (R.remaining file.old)) }
     ensures unwritten { IfErr result (λ fault. (status_of fault ≡ 3) ⊎ IsOfLines fault ⊎ (out.new ≡ out.old)) }
+    ensures prefix { (out.new ≡ out.old) ⊎ PrintsRunPrefix (R.remaining file.old) (O.contents out.old) (O.contents out.new) }
 {
     let text = read_file(alloc, file)?;
     let vector = read_vector(alloc, &text, allowed)?;
@@ -100,6 +109,7 @@ fn print_outcome<O: Write>(outcome: &Outcome, out: &mut O) -> Result<(), Fault>
     ensures printed { OnOk result (Appends (O.contents out.old) (O.contents out.new) (lines_text (bytes_of outcome.now.lines.items))) }
     ensures met { OnOk result (IsMet (bytes_of outcome.now.expected.items) (bytes_of outcome.now.lines.items)) }
     ensures fault { IfErr result (λ fault. (status_of fault ≡ 3) ⊎ IsUnlike outcome.now (O.contents out.old) (O.contents out.new) fault) }
+    ensures prefix { AppendsPrefix (O.contents out.old) (O.contents out.new) (lines_text (bytes_of outcome.now.lines.items)) }
 {
     write_lines(&outcome.lines, out)?;
     flush(out)?;
@@ -119,6 +129,7 @@ fn convert_file<R: Read, O: Write>(alloc: Global, file: &mut R, out: &mut O) -> 
         ⊎ IfSome (R.remaining file.old) (λ text. IsRunFault VersionOne text fault ⊎ IsTooLongConverted text fault)) }
     ensures long { MatchResult result (λ _. IsShort (R.remaining file.old)) (λ fault. (2 ≤ status_of fault) ⊎ IsShort (R.remaining file.old)) }
     ensures unwritten { IfErr result (λ fault. (status_of fault ≡ 3) ⊎ (out.new ≡ out.old)) }
+    ensures prefix { (out.new ≡ out.old) ⊎ PrintsConvertedPrefix (R.remaining file.old) (O.contents out.old) (O.contents out.new) }
 {
     let text = read_file(alloc, file)?;
     let vector = read_vector(alloc, &text, AllowedEvents::VersionOne)?;
@@ -131,6 +142,7 @@ fn convert_file<R: Read, O: Write>(alloc: Global, file: &mut R, out: &mut O) -> 
 fn print<O: Write>(text: &[u8], out: &mut O) -> Result<(), Fault>
     ensures printed { OnOk result (Appends (O.contents out.old) (O.contents out.new) text.now) }
     ensures fault { IfErr result (λ fault. status_of fault ≡ 3) }
+    ensures prefix { AppendsPrefix (O.contents out.old) (O.contents out.new) text.now }
 {
     write(text, out)?;
     flush(out)

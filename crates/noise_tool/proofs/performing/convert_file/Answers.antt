@@ -3,6 +3,7 @@ use Rattle.std.proofs.lemmas.Result.{err_from_is_err_and}
 use Rattle.noise_vectors.specs.declared.vector.AllowedEvents.TheVariants.{VersionOne}
 use Rattle.noise_vectors.specs.declared.vector.Version.TheVariants.{One}
 use Rattle.noise_tool.proofs.PerformingLemmas.{Ran, convert-fault, has-converted, no-converted, no-start}
+use Rattle.noise_tool.proofs.PrefixLemmas.{converted-prefix}
 use Rattle.noise_tool.specs.Performing.{IsShort}
 use Rattle.noise_tool.proofs.Shortness.{short-of, stays-short, unread-at}
 use Rattle.noise_tool.proofs.performing.convert_file.Goals as goal
@@ -77,3 +78,23 @@ returns-in_err-converted-clause-long g c =
 pub returns-clause-long : goal.returns-clause-long
 returns-clause-long g c =
     stays-short (IsShort (g.R.Read.remaining c.args.file.now)) c.print.result (short-of (g.R.Read.remaining c.args.file.now) c.in_ok-text.text.items c.in_ok-text.ensures.bytes (omega (arith, c.in_ok-text.text.ok.0, c.in_ok-text.ensures.bound)))
+
+pub returns-clause-prefix : goal.returns-clause-prefix
+returns-clause-prefix g c =
+    let one : c.in_ok-vector.vector.version ≡ One = c.in_ok-vector.ensures.allowed.1 in
+    let spelled = sym c.deref.ensures.value ∙ c.in_ok-vector.ensures.text in
+    let ran : Ran (g.R.Read.remaining c.args.file.now) c.in_ok-vector.vector c.in_ok-outcome.outcome = record {
+      text = c.in_ok-text.text.items;
+      bytes = c.in_ok-text.ensures.bytes;
+      right = c.in_ok-vector.ensures.right;
+      spelled = spelled;
+      run = c.in_ok-outcome.ensures.lines;
+      expected = c.in_ok-outcome.ensures.expected;
+    } in
+    let lines : c.deref-3.result.now ≡ c.in_ok-outcome.outcome.lines.items = search rules in
+    let text : c.deref-4.result.now ≡ c.in_ok-converted.converted.items = search rules in
+    let meets = c.conversions_meet_themselves.ensures c.in_ok-vector.vector c.in_ok-outcome.outcome.lines c.in_ok-vector.ensures.right one
+    c.in_ok-outcome.ensures.printed c.in_ok-outcome.ensures.lines in
+    inr (converted-prefix (g.R.Read.remaining c.args.file.now) c.in_ok-vector.vector c.in_ok-outcome.outcome _ _ c.deref-4.result.now ran one meets
+    (text ∙ rw (← lines) (c.in_ok-converted.ensures.converted c.in_ok-vector.vector one (c.deref-2.ensures.value ∙ spelled)))
+    (rw text c.in_ok-converted.ensures.short) c.print.ensures.prefix)

@@ -1,6 +1,7 @@
 use Rattle.std.proofs.Common.{arith, inl, ◌∙◌, sym, inr}
 use Rattle.std.proofs.lemmas.Result.{err_from_is_err_and}
 use Rattle.noise_tool.proofs.PerformingLemmas.{Ran, has-run, no-run, no-start}
+use Rattle.noise_tool.proofs.PrefixLemmas.{run-prefix}
 use Rattle.noise_tool.specs.Performing.{IsShort}
 use Rattle.noise_tool.proofs.Shortness.{short-of, stays-short, unread-at}
 use Rattle.noise_tool.proofs.performing.run_file.Goals as goal
@@ -54,3 +55,15 @@ returns-in_err-outcome-clause-long g c =
 pub returns-clause-long : goal.returns-clause-long
 returns-clause-long g c =
     stays-short (IsShort (g.R.Read.remaining c.args.file.now)) c.print_outcome.result (short-of (g.R.Read.remaining c.args.file.now) c.in_ok-text.text.items c.in_ok-text.ensures.bytes (omega (arith, c.in_ok-text.text.ok.0, c.in_ok-text.ensures.bound)))
+
+pub returns-clause-prefix : goal.returns-clause-prefix
+returns-clause-prefix g c =
+    let ran : Ran (g.R.Read.remaining c.args.file.now) c.in_ok-vector.vector c.in_ok-outcome.outcome = record {
+      text = c.in_ok-text.text.items;
+      bytes = c.in_ok-text.ensures.bytes;
+      right = c.in_ok-vector.ensures.right;
+      spelled = sym c.deref.ensures.value ∙ c.in_ok-vector.ensures.text;
+      run = c.in_ok-outcome.ensures.lines;
+      expected = c.in_ok-outcome.ensures.expected;
+    } in
+    inr (run-prefix (g.R.Read.remaining c.args.file.now) c.in_ok-vector.vector c.in_ok-outcome.outcome _ _ ran c.print_outcome.ensures.prefix)

@@ -1,0 +1,6 @@
+use Rattle.std.specs.Io.KnownBytes.{Keeps}
+use Rattle.noise_lines.proofs.output.write_some.Given as goal
+
+-- nothing is written
+abbrev pub invariant-loop : goal.invariant-loop
+invariant-loop g l = Keeps (g.O.Write.contents l.fn.out) (g.O.Write.contents l.out)

@@ -1,0 +1,171 @@
+-- A prefix of what a command prints.
+use Rattle.std.proofs.Common.{◌≡◌, ◌∙◌, refl, sym, ap, subst, ◌⊎◌, inl, inr, ◌≤◌, ℕ, List, [], ◌∷◌, ◌++◌, Option, Some, None, Ok, String, length, string_bytes}
+use Rattle.std.specs.Global.{Global}
+use Rattle.std.specs.Prelude.{IfSome}
+use Rattle.std.specs.Io.KnownBytes.{Keeps}
+use Rattle.std.proofs.KnownBytes.{Appends-kept}
+use Rattle.noise_names.specs.Plan.{Plan}
+use Rattle.noise_names.specs.Text.{Spells}
+use Rattle.noise_names.specs.Validity.{IsValid}
+use Rattle.noise_names.specs.declared.faults.RuleFault.{RuleFault}
+use Rattle.noise_lines.specs.Converted.{converted_text}
+use Rattle.noise_lines.specs.Faults.{status_of}
+use Rattle.noise_lines.specs.Lines.{lines_text}
+use Rattle.noise_lines.specs.Output.{NamesPattern, check_text, list_text, show_text}
+use Rattle.noise_lines.specs.Prefixes.{AppendsPrefix}
+use Rattle.noise_lines.specs.Told.{IsToldOf, LeavesOutput, error_text, fault_line}
+use Rattle.noise_lines.specs.declared.faults.Fault.{Fault}
+use Rattle.noise_lines.specs.declared.faults.Fault.TheVariants as fault
+use Rattle.noise_tool.specs.Conversion.{MeetsItself}
+use Rattle.noise_tool.specs.Performing.{IsFault, IsOfLines}
+use Rattle.noise_tool.specs.Prefixes.{PrintsConvertedPrefix, PrintsPrefix, PrintsRun, PrintsRunPrefix}
+use Rattle.noise_tool.specs.Running.{expected_in}
+use Rattle.noise_tool.specs.declared.running.Outcome.{Outcome}
+use Rattle.noise_tool.proofs.MetLemmas.{met-or-unmet}
+use Rattle.noise_tool.proofs.PerformingLemmas.{Ran, has-converted, has-run}
+use Rattle.noise_vectors.specs.Expectations.{IsFirstUnmet, bytes_of}
+use Rattle.noise_vectors.specs.declared.vector.VectorFile.{VectorFile}
+use Rattle.noise_vectors.specs.declared.vector.Version.TheVariants.{One}
+use Rattle.noise_words.specs.declared.orders.Chosen.{Chosen}
+use Rattle.noise_words.specs.declared.orders.Chosen.TheVariants as order
+
+-- ---- a run
+
+-- the run of a right file, whether its lines are those expected or not
+run-text : (bytes : List ℕ) (file : VectorFile) (outcome : Outcome) → Ran (Some bytes) file outcome → (expected : List (List ℕ))
+    → expected_in file.version ≡ expected → PrintsRun bytes (lines_text (bytes_of outcome.lines.items))
+run-text bytes file outcome r [] is =
+    inl (has-run (Some bytes) file outcome (Some []) (Some (lines_text (bytes_of outcome.lines.items))) (Ok tt) r refl (inl (r.expected ∙ is)))
+run-text bytes file outcome r (e ∷ es) is = of-two (met-or-unmet (bytes_of outcome.lines.items) (expected_in file.version))
+  where
+    of-two : (bytes_of outcome.lines.items ≡ expected_in file.version) ⊎ ((n : ℕ) × IsFirstUnmet (bytes_of outcome.lines.items) (expected_in file.version) n)
+        → PrintsRun bytes (lines_text (bytes_of outcome.lines.items))
+    of-two (inl same) =
+        inl (has-run (Some bytes) file outcome (Some []) (Some (lines_text (bytes_of outcome.lines.items))) (Ok tt) r refl (inr (same ∙ sym r.expected)))
+    of-two (inr (n, unmet)) = inr (
+      n,
+      record {
+        file = file;
+        right = r.right;
+        text_is = sym r.bytes ∙ r.spelled;
+        lines = bytes_of outcome.lines.items;
+        run = r.run;
+        printed = refl;
+        some = λ none. let bad = sym is ∙ none in cc bad;
+        unmet = unmet;
+      },
+    )
+
+pub run-prefix : (known : Option (List ℕ)) (file : VectorFile) (outcome : Outcome) (a b : Option (List ℕ)) → Ran known file outcome
+    → AppendsPrefix a b (lines_text (bytes_of outcome.lines.items)) → PrintsRunPrefix known a b
+run-prefix None file outcome a b r grown = (lines_text (bytes_of outcome.lines.items), tt, grown)
+run-prefix (Some bytes) file outcome a b r grown =
+    (lines_text (bytes_of outcome.lines.items), run-text bytes file outcome r (expected_in file.version) refl, grown)
+
+pub talk-prefix : {O : Type 0} (path : String Global) (known a b : Option (List ℕ)) (old new : O) → (new ≡ old) ⊎ PrintsRunPrefix known a b
+    → (new ≡ old) ⊎ PrintsPrefix (order.Talk path) known a b
+talk-prefix path known a b old new (inl same) = inl same
+talk-prefix path None a b old new (inr (text, h, grown)) = inr (text, inl tt, grown)
+talk-prefix path (Some bytes) a b old new (inr (text, inl met, grown)) = inr (text, inl met, grown)
+talk-prefix path (Some bytes) a b old new (inr (text, inr (n, unmet), grown)) = inr (text, inr (fault.Unmet n, inr unmet), grown)
+
+pub replay-prefix : {O : Type 0} (path : String Global) (known a b : Option (List ℕ)) (old new : O) → (new ≡ old) ⊎ PrintsRunPrefix known a b
+    → (new ≡ old) ⊎ PrintsPrefix (order.Replay path) known a b
+replay-prefix path known a b old new (inl same) = inl same
+replay-prefix path None a b old new (inr (text, h, grown)) = inr (text, inl tt, grown)
+replay-prefix path (Some bytes) a b old new (inr (text, inl met, grown)) = inr (text, inl met, grown)
+replay-prefix path (Some bytes) a b old new (inr (text, inr (n, unmet), grown)) = inr (text, inr (fault.Unmet n, inr unmet), grown)
+
+pub converted-prefix : (known : Option (List ℕ)) (file : VectorFile) (outcome : Outcome) (a b : Option (List ℕ)) (converted : List ℕ)
+    → Ran known file outcome → file.version ≡ One → MeetsItself file (bytes_of outcome.lines.items)
+    → converted ≡ converted_text file (bytes_of outcome.lines.items) → length converted ≤ 4194304 → AppendsPrefix a b converted
+    → PrintsConvertedPrefix known a b
+converted-prefix known file outcome a b converted r one meets is short grown =
+    (converted, has-converted known file outcome (Some []) (Some converted) converted (Ok tt) r one meets is short refl, grown)
+
+-- ---- what is told
+
+-- nothing comes to the output, or a prefix of the line of a broken rule
+left-or-rule : {O : Type 0} (contents : O → Option (List ℕ)) (why : Fault) (middle new : O) → LeavesOutput contents why middle new
+    → (new ≡ middle) ⊎ ((f : RuleFault) × (why ≡ fault.Rule f) × AppendsPrefix (contents middle) (contents new) (fault_line (fault.Rule f) ++ 10 ∷ []))
+left-or-rule contents (fault.Rule f) middle new h = inr (f, refl, h)
+left-or-rule contents (fault.Place f) middle new h = inl h
+left-or-rule contents (fault.Setup role f) middle new h = inl h
+left-or-rule contents (fault.Name f) middle new h = inl h
+left-or-rule contents fault.UnknownPattern middle new h = inl h
+left-or-rule contents (fault.Text f) middle new h = inl h
+left-or-rule contents (fault.Line n kind) middle new h = inl h
+left-or-rule contents (fault.Unmet n) middle new h = inl h
+left-or-rule contents fault.TooLong middle new h = inl h
+left-or-rule contents fault.Unreadable middle new h = inl h
+left-or-rule contents fault.Unwritable middle new h = inl h
+left-or-rule contents fault.Memory middle new h = inl h
+
+-- a broken rule is a fault whatever the output holds
+rule-anywhere : (chosen : Chosen) (known a b c e : Option (List ℕ)) (f : RuleFault) → IsFault chosen known a b (fault.Rule f)
+    → IsFault chosen known c e (fault.Rule f)
+rule-anywhere order.List known a b c e f h = h
+rule-anywhere (order.Show name) known a b c e f h = h
+rule-anywhere (order.Check path) known a b c e f h = h
+rule-anywhere (order.Talk path) None a b c e f h = tt
+rule-anywhere (order.Talk path) (Some bytes) a b c e f (inl h) = inl h
+rule-anywhere (order.Talk path) (Some bytes) a b c e f (inr h) = absurd h
+rule-anywhere (order.Replay path) None a b c e f h = tt
+rule-anywhere (order.Replay path) (Some bytes) a b c e f (inl h) = inl h
+rule-anywhere (order.Replay path) (Some bytes) a b c e f (inr h) = absurd h
+rule-anywhere (order.Convert path) known a b c e f h = h
+
+rule-is : (f : RuleFault) (P : Type 0) → (status_of (fault.Rule f) ≡ 3) ⊎ P → P
+rule-is f P (inl three) = absurd (cc three)
+rule-is f P (inr p) = p
+
+rule-first : (f : RuleFault) (P : Type 0) → (status_of (fault.Rule f) ≡ 3) ⊎ IsOfLines (fault.Rule f) ⊎ P → P
+rule-first f P (inl three) = absurd (cc three)
+rule-first f P (inr (inl lines)) = absurd lines
+rule-first f P (inr (inr p)) = p
+
+told-rule : {O : Type 0} (contents : O → Option (List ℕ)) (chosen : Chosen) (known : Option (List ℕ)) (old middle new : O) (f : RuleFault)
+    → (status_of (fault.Rule f) ≡ 3) ⊎ IsFault chosen known (contents old) (contents middle) (fault.Rule f)
+    → (status_of (fault.Rule f) ≡ 3) ⊎ IsOfLines (fault.Rule f) ⊎ (middle ≡ old)
+    → AppendsPrefix (contents middle) (contents new) (fault_line (fault.Rule f) ++ 10 ∷ [])
+    → PrintsPrefix chosen known (contents old) (contents new)
+told-rule {O = O} contents chosen known old middle new f h unwritten grown =
+    let text : List ℕ = fault_line (fault.Rule f) ++ 10 ∷ [] in
+    let same : middle ≡ old = rule-first f (middle ≡ old) unwritten in
+    let is = rule-is f (IsFault chosen known (contents old) (contents middle) (fault.Rule f)) h in (
+      text,
+      inr (fault.Rule f, (rule-anywhere chosen known _ _ (Some []) (Some text) f is, refl)),
+      subst (λ (o : O). AppendsPrefix (contents o) (contents new) text) same grown,
+    )
+
+-- after a run, and what is told then
+pub told-prefix : {O : Type 0} (contents : O → Option (List ℕ)) (chosen : Chosen) (known : Option (List ℕ)) (old middle new : O) (why : Fault)
+    → (middle ≡ old) ⊎ PrintsPrefix chosen known (contents old) (contents middle)
+    → (status_of why ≡ 3) ⊎ IsFault chosen known (contents old) (contents middle) why
+    → (status_of why ≡ 3) ⊎ IsOfLines why ⊎ (middle ≡ old)
+    → LeavesOutput contents why middle new
+    → (new ≡ old) ⊎ PrintsPrefix chosen known (contents old) (contents new)
+told-prefix {O = O} contents chosen known old middle new why run h unwritten left = of-two (left-or-rule contents why middle new left)
+  where
+    of-two : (new ≡ middle) ⊎ ((f : RuleFault) × (why ≡ fault.Rule f) × AppendsPrefix (contents middle) (contents new) (fault_line (fault.Rule f) ++ 10 ∷ []))
+        → (new ≡ old) ⊎ PrintsPrefix chosen known (contents old) (contents new)
+    of-two (inl same) = subst (λ (o : O). (o ≡ old) ⊎ PrintsPrefix chosen known (contents old) (contents o)) (sym same) run
+    of-two (inr (f, is, grown)) = inr (told-rule contents chosen known old middle new f
+        (subst (λ (w : Fault). (status_of w ≡ 3) ⊎ IsFault chosen known (contents old) (contents middle) w) is h)
+        (subst (λ (w : Fault). (status_of w ≡ 3) ⊎ IsOfLines w ⊎ (middle ≡ old)) is unwritten) grown)
+
+-- but for status 3 the fault itself is told
+pub told-itself : (why : Fault) (result : ℕ) (a b : Option (List ℕ))
+    → (told : Fault) × IsToldOf why told × (status_of told ≡ result) × AppendsPrefix a b (error_text told)
+    → (result ≡ 3) ⊎ AppendsPrefix a b (error_text why)
+told-itself why result a b (told, inl is, status, grown) = inr (subst (λ (f : Fault). AppendsPrefix a b (error_text f)) is grown)
+told-itself why result a b (told, inr (inl is), status, grown) = inl (sym status ∙ ap status_of is)
+told-itself why result a b (told, inr (inr is), status, grown) = inl (sym status ∙ ap status_of is)
+
+pub told-outside : (why : Fault) (result : ℕ) (a b : Option (List ℕ))
+    → (told : Fault) × IsToldOf why told × (status_of told ≡ result) × AppendsPrefix a b (error_text told) → result ≡ 3
+    → (f : Fault) × (status_of f ≡ 3) × AppendsPrefix a b (error_text f)
+told-outside why result a b (told, of, status, grown) three = (told, status ∙ three, grown)
+
+pub prefix-kept : (a b c : Option (List ℕ)) (text : List ℕ) → AppendsPrefix a b text → Keeps b c → AppendsPrefix a c text
+prefix-kept a b c text p q = record { prefix = p.prefix; rest = p.rest; begins = p.begins; appended = Appends-kept a b c p.prefix p.appended q }

@@ -1,0 +1,8 @@
+use Rattle.noise_tool.proofs.PrefixLemmas.{replay-prefix, talk-prefix}
+use Rattle.noise_tool.proofs.performing.run.Goals as goal
+
+pub returns-in-Talk-clause-prefix : goal.returns-in-Talk-clause-prefix
+returns-in-Talk-clause-prefix g c = rw c.in-Talk.is (talk-prefix c.in-Talk.field-0 _ _ _ _ _ c.run_file.ensures.prefix)
+
+pub returns-in-Replay-clause-prefix : goal.returns-in-Replay-clause-prefix
+returns-in-Replay-clause-prefix g c = rw c.in-Replay.is (replay-prefix c.in-Replay.field-0 _ _ _ _ _ c.run_file-in-Replay.ensures.prefix)
