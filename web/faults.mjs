@@ -67,7 +67,7 @@ export function explain(text, verdict) {
     return { title: `Rule ${verdict.rule} is broken at ${placeOf(lines, verdict)}`, says, mend, span: spanOfRule(lines, verdict) };
   }
   const n = Math.min(verdict.line, lines.length) - 1;
-  const [says, mend] = FORMS[verdict.code];
+  const [says, mend] = verdict.code === 31 && lines[n].line.trim() === '' ? ['The line is empty.', 'Leave it out.'] : FORMS[verdict.code];
   return { title: `Line ${verdict.line}: ${verdict.name.slice(6).toLowerCase().replace('_', ' ')}`, says, mend, span: spanInLine(lines, n, verdict.code) };
 }
 

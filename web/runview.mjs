@@ -116,7 +116,7 @@ export function showWindows(box, run) {
     const count = [...opened].filter((n) => n >= first).length;
     const label = top < 0
       ? `The ${role} has opened no datagram; its window has ${window} nonces.`
-      : `The ${role}’s window: nonces ${first} to ${top}, of which ${count} are opened; older ones are refused.`;
+      : `The ${role}’s window: nonces ${first} to ${top}, of which ${count} ${count === 1 ? 'is' : 'are'} opened; older ones are refused.`;
     grid.setAttribute('aria-hidden', 'true');
     box.append(element('div', '', element('p', '', label), grid));
   }

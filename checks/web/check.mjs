@@ -82,6 +82,7 @@ async function faults() {
     ['MINE:\n  <- s\n  -> s\n  ...\n  -> e, es\n', '  -> s', 'Line 3'],
     ['MINE:\n  -> e\n  <- e, e, e, e, e, e, e, e, e\n', '  <- e, e, e, e, e, e, e, e, e', 'Line 3'],
     ['MINE:\n', 'MINE:', 'Line 2: ending'],
+    ['MINE:\n  -> e\n\n', ' ', 'Line 3: arrow'],
   ];
   for (const [text, marked, title] of cases) {
     await type('text', text);
