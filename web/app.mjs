@@ -40,7 +40,9 @@ function showPicture() {
 function showCode() {
   if (!late) return;
   for (const button of at('languages').children) button.setAttribute('aria-pressed', String(button.textContent === language));
-  if (plan) at('code').textContent = late.program(language, plan, setup);
+  at('save-program').disabled = !plan;
+  at('code').classList.toggle('stale', !plan);
+  if (plan) at('code').textContent = late.program(language, plan, setup).text;
 }
 
 function showRun() {
@@ -61,7 +63,7 @@ function showRun() {
   late.showWindows(at('windows'), run);
 }
 
-/** Does one thing at a time with the run, and shows what came of it. */
+/** Does one thing at a time with the run, and shows the outcome. */
 async function act(work) {
   if (busy) return;
   busy = true;
@@ -82,7 +84,7 @@ function endRun() {
   at('log').replaceChildren();
 }
 
-/** Behind each change of the set-up: a run of another set-up is over. */
+/** After each change of the set-up: a run of another set-up is over. */
 function changed() {
   // Browsers refuse an address that changes at each key.
   clearTimeout(addressing);
@@ -121,6 +123,7 @@ function wire() {
   at('payload').addEventListener('keydown', ({ key }) => { if (key === 'Enter' && run?.next) act(() => run.write(run.next, payload())); });
   at('save-vector').addEventListener('click', () => { const { name, text } = run.vectorFile(); save(name, 'text/plain', text); });
   at('save-pattern').addEventListener('click', () => save(`${plan?.base ?? 'mine'}.pattern`, 'text/plain', setup.text));
+  at('save-program').addEventListener('click', () => { const { name, text } = late.program(language, plan, setup); save(name, 'text/plain', text); });
   at('save-picture').addEventListener('click', () => save(`${plan?.base ?? 'pattern'}.svg`, 'image/svg+xml', at('picture').innerHTML));
   at('copy-link').addEventListener('click', async () => {
     try {
@@ -162,5 +165,6 @@ try {
   globalThis.noisePage = { get vectorFile() { return run?.vectorFile().text; }, get lines() { return run?.lines; }, firstVerdict };
 } catch (error) {
   at('verdict').className = 'bad';
-  at('verdict').replaceChildren(element('p', 'title', error.code === -3 ? 'This browser can’t run the library.' : 'The library couldn’t be loaded.'), element('p', '', error.message));
+  const title = error.code === -3 ? 'This browser can’t run the library.' : 'The library couldn’t be loaded.';
+  at('verdict').replaceChildren(element('p', 'title', title), element('p', '', error.message));
 }

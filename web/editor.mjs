@@ -1,4 +1,4 @@
-// The text of the pattern: judged at each change, its first fault marked, psk places set by a click.
+// The text of the pattern: it is checked at each change, its first fault is marked, and a click sets psk places.
 import { checkPattern } from '../bindings/js/check.mjs';
 import { layout, linesOf } from '../bindings/js/layout.mjs';
 import { DEFERRED, FUNDAMENTAL, textOf } from '../bindings/js/patterns.mjs';
@@ -43,7 +43,7 @@ export class Editor {
   #pick = document.getElementById('pick');
   #places = document.getElementById('places');
 
-  /** `changed(text, verdict)` is called behind each change. */
+  /** `changed(text, verdict)` is called after each change. */
   constructor(changed) {
     this.changed = changed;
     const group = (label, bases) => {
@@ -56,7 +56,7 @@ export class Editor {
     for (let place = 0; place <= 8; place += 1) {
       const box = element('input');
       Object.assign(box, { type: 'checkbox', value: place });
-      box.setAttribute('aria-label', place === 0 ? 'psk in front of message 1' : `psk at the end of message ${place}`);
+      box.setAttribute('aria-label', place === 0 ? 'psk before message 1' : `psk at the end of message ${place}`);
       box.addEventListener('change', () => this.set(togglePsk(whole(this.#text.value), place)));
       this.#places.append(element('label', '', box, String(place)));
     }
@@ -91,11 +91,14 @@ export class Editor {
   }
 
   #tell(text, verdict, says) {
-    const line = (cls, text) => element('p', cls, text);
+    const line = (cls, words) => element('p', cls, words);
     this.#verdict.className = verdict.valid ? 'good' : 'bad';
     this.#verdict.replaceChildren(...(verdict.valid
-      ? [line('title', `Valid: ${verdict.messages} ${verdict.messages === 1 ? 'message' : 'messages'}.`), line('mend', 'None of the five rules is broken. A valid pattern need not be a secure one.'),
-        line('mend', `Beyond their payloads the messages have ${layout(text).messages.map(({ length }) => length).join(', ')} bytes.`)]
+      ? [
+        line('title', `Valid: ${verdict.messages} ${verdict.messages === 1 ? 'message' : 'messages'}.`),
+        line('mend', 'None of the five rules is broken. A valid pattern isn’t necessarily a secure one.'),
+        line('mend', `Without their payloads the messages have ${layout(text).messages.map(({ length }) => length).join(', ')} bytes.`),
+      ]
       : [line('title', `${says.title}.`), line('', says.says), line('mend', says.mend)]));
   }
 

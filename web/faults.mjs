@@ -1,28 +1,31 @@
-// What a refusal means, in a sentence, and what would mend it. That a text is refused, and which rule is broken where, comes from the proved check;
-// so do line and kind of a malformed text, of which no contract speaks. Where in that line the part stands is this page's own reading.
+// What a refusal means, in a sentence, and how to correct it. The proved check says that a text is refused, and which rule is broken where. It also gives
+// the line and the kind of a malformed text, but no contract covers these two. The place in that line is this page's own reading.
 import { linesOf } from '../bindings/js/layout.mjs';
 
 const RULES = {
   1: ['This DH needs a public key that its party doesn’t have yet.', 'Send the missing e or s in an earlier place, or name it before “...”.'],
   2: ['This party has sent this key already.', 'Leave the second one out.'],
-  3: ['This DH stands twice, and adds nothing the second time.', 'Leave the second one out.'],
-  4: ['Something is encrypted after a DH of this party’s static key, but the DH of its ephemeral key with the same key of the other party hasn’t been done.', 'Put that DH (ee for se or es, es or se for ss) in front of this one.'],
-  5: ['Something is encrypted after a psk by a party that has sent no e: the same key and nonce could come again.', 'Let this party send an e in front of it.'],
+  3: ['This DH occurs twice, and adds nothing the second time.', 'Leave the second one out.'],
+  4: [
+    'Something is encrypted after a DH of this party’s static key, but the DH of its ephemeral key with the same key of the other party hasn’t been done.',
+    'Put that DH (ee for se or es, es or se for ss) before this one.',
+  ],
+  5: ['Something is encrypted after a psk by a party that has sent no e: the same key and nonce could come again.', 'Let this party send an e before it.'],
 };
 const FORMS = {
   30: ['The first line has to be a name of 1 to 8 upper-case letters and digits, then psk places such as psk0 or psk0+psk2, then a colon.', 'For example: MINE:'],
   31: ['The line has to begin with two spaces, an arrow (-> or <-) and one space.', 'For example: two spaces, then “-> e”.'],
   32: ['This isn’t a token.', 'The tokens are e, s, ee, es, se, ss and psk, with a comma and a space between two.'],
-  33: ['Before “...” a line has e, s or “e, s”, the initiator’s first, and “...” stands once behind them.', 'Move this line, or leave it out.'],
+  33: ['Before “...” a line has e, s or “e, s”, the initiator’s first, and “...” comes once, after them.', 'Move this line, or leave it out.'],
   34: ['It is the other party’s turn.', 'Turn the arrow around: the initiator (->) begins, and then they alternate.'],
-  35: ['The psk tokens aren’t where the heading says.', 'psk0 is in front of message 1, pskN at the end of message N: set the places below the text.'],
+  35: ['The psk tokens aren’t where the heading says.', 'psk0 is before message 1, pskN at the end of message N: set the places by the boxes above the text.'],
   36: ['This name belongs to a fundamental pattern, and the text is another one.', 'Give it a name of its own.'],
   37: ['Too much: a pattern has at most 8 messages, and each from 1 to 8 tokens besides psk.', 'Leave some out.'],
-  38: ['A message is lacking.', 'Add a line such as “  -> e”.'],
+  38: ['There is no message.', 'Add a line such as “  -> e”.'],
 };
 const WORDS = new Set(['e', 's', 'ee', 'es', 'se', 'ss', 'psk']);
 
-/** Where a line of the text stands. */
+/** The place of a line in the text. */
 function span(lines, n, from = 0, to = lines[n].line.length) {
   const start = lines.slice(0, n).reduce((sum, { line }) => sum + line.length + 1, 0);
   return [start + from, start + Math.max(to, from)];
@@ -38,7 +41,7 @@ function spanInLine(lines, n, code) {
   return span(lines, n);
 }
 
-/** Where a broken rule stands: the token, or for a payload the message's last token, or for the transport the last message's. */
+/** The place of a broken rule: the token, or for a payload the message's last token, or for the transport the last message's. */
 function spanOfRule(lines, { message, token }) {
   const dots = lines.findIndex(({ line }) => line === '  ...');
   const first = dots < 0 ? 1 : dots + 1;
@@ -56,7 +59,7 @@ function placeOf(lines, { message, token }) {
   return token < tokens.length ? `message ${message}, token ${token + 1} (${tokens[token].name})` : `the payload of message ${message}`;
 }
 
-/** What a verdict says: a title, a sentence, what would mend it, and where in the text it stands, as two offsets. */
+/** What a verdict says: a title, a sentence, how to correct it, and its place in the text as two offsets. */
 export function explain(text, verdict) {
   const lines = linesOf(text);
   if (verdict.rule) {
@@ -64,7 +67,7 @@ export function explain(text, verdict) {
     return { title: `Rule ${verdict.rule} is broken at ${placeOf(lines, verdict)}`, says, mend, span: spanOfRule(lines, verdict) };
   }
   const n = Math.min(verdict.line, lines.length) - 1;
-  const [says, mend] = FORMS[verdict.code];
+  const [says, mend] = verdict.code === 31 && lines[n].line.trim() === '' ? ['The line is empty.', 'Leave it out.'] : FORMS[verdict.code];
   return { title: `Line ${verdict.line}: ${verdict.name.slice(6).toLowerCase().replace('_', ' ')}`, says, mend, span: spanInLine(lines, n, verdict.code) };
 }
 
@@ -79,6 +82,6 @@ export const CAUSES = {
   17: 'the last nonce has been used',
   22: 'the pattern is one-way',
   26: 'its nonce is 2⁶⁴ − 1, which none has',
-  27: 'it is too far behind the greatest opened nonce',
+  27: 'its nonce is below the window',
   28: 'a datagram of its nonce was opened',
 };

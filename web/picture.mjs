@@ -1,9 +1,13 @@
 // The picture of a handshake, as SVG, and the same in words. The page's own reading of the standard (bindings/js/layout.mjs) is drawn, and not proved.
 const STYLE = `
   .bg{fill:#fff}.ink{fill:#1c2330}.dim{fill:#596275}.line{stroke:#596275;stroke-width:1.5;fill:none}.life{stroke:#c4cad6;stroke-width:1.5}
-  .e{fill:#8fb8f0}.s{fill:#f2b872}.sealed{fill:#7fc8a9}.tag{fill:#b9a3e3}.payload{fill:#e6e9ef;stroke:#596275;stroke-dasharray:3 2}.payload.sealed{fill:#cfeadf;stroke-dasharray:none}
+  .e{fill:#8fb8f0}.s{fill:#f2b872}.sealed{fill:#7fc8a9}.tag{fill:#b9a3e3}
+  .payload{fill:#e6e9ef;stroke:#596275;stroke-dasharray:3 2}.payload.sealed{fill:#cfeadf;stroke-dasharray:none}
   .dh{fill:none;stroke:#596275}.on{fill:#141a24}text{font:13px system-ui,sans-serif}.small{font-size:11.5px}.bold{font-weight:600}
-  @media (prefers-color-scheme:dark){.bg{fill:#171c25}.ink{fill:#e7ebf2}.dim{fill:#a3adbf}.line,.dh{stroke:#a3adbf}.life{stroke:#3b4454}.payload{fill:#2a3140;stroke:#a3adbf}.payload.sealed{fill:#24483b}}
+  @media (prefers-color-scheme:dark){
+    .bg{fill:#171c25}.ink{fill:#e7ebf2}.dim{fill:#a3adbf}.line,.dh{stroke:#a3adbf}.life{stroke:#3b4454}
+    .payload{fill:#2a3140;stroke:#a3adbf}.payload.sealed{fill:#24483b}
+  }
 `;
 const escape = (s) => String(s).replace(/[&<>"]/g, (c) => ({ '&': '&amp;', '<': '&lt;', '>': '&gt;', '"': '&quot;' })[c]);
 const text = (x, y, cls, value, more = '') => `<text x="${x.toFixed(1)}" y="${y.toFixed(1)}" class="${cls}" ${more}>${escape(value)}</text>`;
@@ -77,11 +81,15 @@ export function picture(plan, width) {
   const bytes = (pieces) => pieces.reduce((sum, { length }) => sum + length, 0);
   const scale = Math.min(2.4, ...plan.messages.map(({ pieces }) => (right - left - 20 - fixed(pieces)) / Math.max(bytes(pieces), 1)));
   let y = 52;
-  let body = text(left, 26, 'ink bold', 'Initiator', `text-anchor="${narrow ? 'start' : 'middle'}"`) + text(right, 26, 'ink bold', 'Responder', `text-anchor="${narrow ? 'end' : 'middle'}"`);
-  const column = (lines, role, at, cls) => lines.map((line, n) => text(role === 'initiator' ? 8 : width - 8, at + n * 15, cls, line, role === 'initiator' ? '' : 'text-anchor="end"')).join('');
+  let body = text(left, 26, 'ink bold', 'Initiator', `text-anchor="${narrow ? 'start' : 'middle'}"`)
+    + text(right, 26, 'ink bold', 'Responder', `text-anchor="${narrow ? 'end' : 'middle'}"`);
+  const column = (lines, role, at) => {
+    const [x, anchor] = role === 'initiator' ? [8, ''] : [width - 8, 'text-anchor="end"'];
+    return (lines.length ? lines : ['no key of the other']).map((line, n) => text(x, at + n * 15, 'dim small', line, anchor)).join('');
+  };
   const knows = (known, at) => {
     const rows = ['initiator', 'responder'].map((role) => wrap(known[role], narrow ? Math.floor(width / 15) : 19));
-    body += column(rows[0].length ? rows[0] : ['no key of the other'], 'initiator', at, 'dim small') + column(rows[1].length ? rows[1] : ['no key of the other'], 'responder', at, 'dim small');
+    body += column(rows[0], 'initiator', at) + column(rows[1], 'responder', at);
     return Math.max(rows[0].length, rows[1].length, 1) * 15;
   };
   const first = knows(plan.atFirst, y);
@@ -93,7 +101,9 @@ export function picture(plan, width) {
     body += text(middle, y + 10, 'ink', `${arrowOf(from)} message ${n + 1}: ${length} bytes + payload`, 'text-anchor="middle"');
     body += `<path class="line" marker-end="url(#head)" d="M${x1} ${y + 20}H${x2}"/>`;
     body += bar(pieces, middle - widthOf(pieces, scale) / 2, y + 30, scale);
-    body += text(middle, y + 74, 'dim small', `${narrow ? 'hash:' : 'the hash covers'} name, prologue, ${plan.before.initiator.length + plan.before.responder.length && !narrow ? 'known keys, ' : ''}${n === 0 ? 'message 1' : `messages 1 to ${n + 1}`}`, 'text-anchor="middle"');
+    const keys = plan.before.initiator.length + plan.before.responder.length && !narrow ? 'known keys, ' : '';
+    const covered = `name, prologue, ${keys}${n === 0 ? 'message 1' : `messages 1 to ${n + 1}`}`;
+    body += text(middle, y + 74, 'dim small', `${narrow ? 'hash:' : 'the hash covers'} ${covered}`, 'text-anchor="middle"');
     const height = knows(known, narrow ? y + 92 : y + 40);
     y += narrow ? 92 + height + 14 : Math.max(94, 40 + height + 14);
   });

@@ -1,4 +1,4 @@
-// The run as it is shown: each message with its bytes by piece, what came of it, and the buttons that deliver it.
+// The run as it is shown: each message with its bytes by piece, its outcome, and the buttons that deliver it.
 import { CAUSES } from './faults.mjs';
 import { OTHER } from './run.mjs';
 import { element } from './element.mjs';
@@ -14,8 +14,8 @@ function piecesOf(run, { number, message, isDatagram }) {
   }
   const { pieces, length } = run.plan.messages[number];
   const rest = message.length - length;
-  return pieces.map((piece) => ({ ...piece, length: piece.kind === 'payload' ? rest : piece.length, kind: (piece.sealed && { s: 'sealed', payload: 'text' }[piece.kind]) || piece.kind }))
-    .filter(({ length: size }) => size > 0);
+  const kindOf = ({ kind, sealed }) => (sealed && { s: 'sealed', payload: 'text' }[kind]) || kind;
+  return pieces.map((piece) => ({ ...piece, length: piece.kind === 'payload' ? rest : piece.length, kind: kindOf(piece) })).filter(({ length: size }) => size > 0);
 }
 
 const TITLES = { e: 'ephemeral key', s: 'static key', sealed: 'static key, sealed', tag: 'tag', payload: 'payload', nonce: 'nonce', text: 'payload, sealed' };
@@ -113,7 +113,10 @@ export function showWindows(box, run) {
     const first = Math.max(0, top - window + 1);
     const grid = element('div', 'window');
     for (let n = first; n < first + window; n += 1) grid.append(element('i', n === top ? 'top' : opened.has(n) ? 'opened' : ''));
-    const label = top < 0 ? `The ${role} has opened no datagram; its window has ${window} nonces.` : `The ${role}’s window: nonces ${first} to ${top}, of which ${[...opened].filter((n) => n >= first).length} are opened; older ones are refused.`;
+    const count = [...opened].filter((n) => n >= first).length;
+    const label = top < 0
+      ? `The ${role} has opened no datagram; its window has ${window} nonces.`
+      : `The ${role}’s window: nonces ${first} to ${top}, of which ${count} ${count === 1 ? 'is' : 'are'} opened; older ones are refused.`;
     grid.setAttribute('aria-hidden', 'true');
     box.append(element('div', '', element('p', '', label), grid));
   }

@@ -1,4 +1,4 @@
 // Compiles the library while the page's other scripts come.
 import { load } from '../bindings/js/module.mjs';
 
-load().catch(() => {});    // app.mjs tells why it couldn't be
+load().catch(() => {});    // app.mjs reports the error

@@ -2,7 +2,7 @@
 
 package noise
 
-// What a call of the library answers, as an error.
+// The codes of the library, as errors.
 const (
 	ErrName             Code = 1
 	ErrPattern          Code = 2

@@ -5,37 +5,37 @@ import (
 	"strings"
 )
 
-// Config is what a party starts from. It may serve for many connections, and isn't changed.
+// Config is what a party starts from. It may serve for many connections at once, and isn't changed.
 type Config struct {
-	// Pattern is a protocol name, as Noise_XX_25519_ChaChaPoly_SHA256; the name of a pattern alone, as XXpsk3; or a pattern text of one's own,
+	// Pattern is a protocol name, as Noise_XX_25519_ChaChaPoly_SHA256; the name of a pattern alone, as XXpsk3; or the text of your own pattern,
 	// whose last byte is a line feed. "" is XX.
 	Pattern string
-	// Prologue is what the parties have agreed on before, at most 65535 bytes: the same at both.
+	// Prologue is what the parties have agreed on before, at most 65535 bytes: the same bytes at both.
 	Prologue []byte
-	// Static is this party's static key pair, where the pattern has one.
+	// Static is this party's static key pair, if the pattern has one.
 	Static DH
-	// PeerStatic is the other party's static key. Where the pattern needs it beforehand it is handed in; where the handshake tells it, it is
-	// compared. nil where it isn't known.
+	// PeerStatic is the other party's static key, 32 bytes; nil if it isn't known. If the pattern needs the key beforehand, the handshake starts
+	// with it. If a message of the handshake has the key, the two are compared, and ErrPeerKey ends the handshake.
 	PeerStatic []byte
-	// VerifyPeer is asked about the other party's static key as soon as that is known, before anything else is read or written. An error of
-	// it ends the handshake. It isn't asked where the handshake tells no key.
+	// VerifyPeer is called with the other party's static key as soon as that is known, before anything else is read or written. An error ends the
+	// handshake. It isn't called in a handshake without such a key.
 	VerifyPeer func(key [KeyLen]byte) error
-	// InsecureAcceptAnyKey lets a party talk to anybody: where neither VerifyPeer nor PeerStatic nor PSKs say who may be at the other end.
+	// InsecureAcceptAnyKey lets a party talk to anybody, if neither VerifyPeer nor PeerStatic nor PSKs say who may be the other party.
 	InsecureAcceptAnyKey bool
 	// PSKs has one secret of 32 bytes for each psk token of the pattern, in their order.
 	PSKs [][]byte
-	// PSKFor is asked, in the place of PSKs, for the secrets that are shared with the owner of a static key. That key has to be known before
-	// the first message that has a psk token.
+	// PSKFor, in place of PSKs, returns the secrets that this party shares with the owner of a static key. That key has to be known before the first
+	// message that has a psk token.
 	PSKFor func(key [KeyLen]byte) ([][]byte, error)
-	// Interval is the count of messages after which each direction renews its key; 0 is never. The same at both parties.
+	// Interval is the number of messages after which each direction renews its key; 0 is never. The same at both parties.
 	Interval uint64
-	// Payloads are those of the handshake: Payloads[i] goes with message i of the pattern, from 0 on, if this party writes that.
+	// Payloads are those of the handshake: Payloads[i] goes with message i of the pattern, from 0 on, if this party writes that message.
 	Payloads [][]byte
 }
 
 const suite = "_25519_ChaChaPoly_SHA256"
 
-// pattern is what the library is told.
+// pattern returns the name or the text that the library gets.
 func (c *Config) pattern() string {
 	switch {
 	case c.Pattern == "":
@@ -47,7 +47,7 @@ func (c *Config) pattern() string {
 	}
 }
 
-// protocolName is the name that the handshake has.
+// protocolName returns the name of the handshake's protocol.
 func (c *Config) protocolName() string {
 	pattern := c.pattern()
 	if heading := strings.Index(pattern, ":\n"); heading >= 0 {
@@ -56,114 +56,36 @@ func (c *Config) protocolName() string {
 	return pattern
 }
 
-// shape is what a Config has to be compared with: how this party learns the other's static key, and where psk tokens stand.
-type shape struct {
-	known    bool // the other's static key is in its pre-message
-	told     int  // the message, from 0 on, that tells it; -1: none
-	firstPSK int  // the message, from 0 on, that has the first psk token; -1: none
-	psks     int  // how many psk tokens there are
-	oneWay   bool
-}
-
-// shapeOf reads a pattern that the library takes.
-func shapeOf(pattern string, initiator bool) shape {
-	if !strings.HasSuffix(pattern, "\n") {
-		return namedShape(pattern, initiator)
-	}
-	s := shape{told: -1, firstPSK: -1}
-	arrow, message, pre := "<- ", 0, strings.Contains(pattern, "\n  ...\n")
-	if !initiator {
-		arrow = "-> "
-	}
-	for _, line := range strings.Split(pattern, "\n")[1:] {
-		line = strings.TrimSpace(line)
-		switch {
-		case line == "":
-			continue
-		case line == "...":
-			pre = false
-			continue
-		}
-		for _, token := range strings.Split(line[strings.Index(line, " ")+1:], ", ") {
-			switch {
-			case token == "psk":
-				s.psks++
-				if s.firstPSK < 0 {
-					s.firstPSK = message
-				}
-			case token == "s" && strings.HasPrefix(line, arrow) && pre:
-				s.known = true
-			case token == "s" && strings.HasPrefix(line, arrow):
-				s.told = message
-			}
-		}
-		if !pre {
-			message++
-		}
-	}
-	s.oneWay = message == 1
-	return s
-}
-
-// namedShape reads a protocol name: the letters of a fundamental pattern say how each party's static key is told (the framework's section 7.5).
-func namedShape(name string, initiator bool) shape {
-	s := shape{told: -1, firstPSK: -1}
-	name = strings.TrimPrefix(name, "Noise_")
-	name, _, _ = strings.Cut(name, "_")
-	base := strings.TrimRight(strings.SplitN(name, "psk", 2)[0], "+")
-	if places := strings.SplitN(name, "psk", 3); len(places) > 1 && places[1] != "" {
-		if s.firstPSK = int(places[1][0] - '0'); s.firstPSK > 0 {
-			s.firstPSK--
-		}
-	}
-	s.psks = strings.Count(name, "psk")
-	s.oneWay = len(base) == 1
-	letter := byte('K') // the responder's static key of a one-way pattern
-	switch {
-	case !initiator && base != "":
-		letter = base[0]
-	case len(base) > 1:
-		letter = base[1]
-	}
-	switch {
-	case letter == 'K':
-		s.known = true
-	case letter == 'X' && initiator:
-		s.told = 1
-	case letter == 'X' && len(base) > 1:
-		s.told = 2
-	case letter == 'I' || letter == 'X':
-		s.told = 0
-	}
-	return s
-}
-
 var (
-	errNil        = errors.New("a Config is due, and this is nil")
+	errNil        = errors.New("the Config is nil")
 	errTwo        = errors.New("set either PSKs or PSKFor")
-	errNoKey      = errors.New("the pattern tells this party no static key of the other")
+	errNoKey      = errors.New("the other party has no static key in this pattern")
 	errPSKTooLate = errors.New("the other party's static key isn't known before the first message with a psk token")
+	errEarly      = errors.New("the pattern has an ephemeral key before \"...\", which this package doesn't support")
 )
 
-// check compares a Config whose pattern the library takes with the pattern's shape.
-func (c *Config) check(s shape) error {
-	tellsKey := s.known || s.told >= 0
+// check compares a Config with its pattern, which the library accepts.
+func (c *Config) check(p *pattern, initiator bool) error {
+	known, learns := p.knows(initiator), p.learns(initiator)
+	hasKey := known || learns >= 0
 	switch {
+	case p.early:
+		return &ConfigError{"Pattern", errEarly}
 	case c.PeerStatic != nil && len(c.PeerStatic) != KeyLen:
 		return &ConfigError{"PeerStatic", errKeyLen}
-	case c.PeerStatic != nil && !tellsKey:
+	case c.PeerStatic != nil && !hasKey:
 		return &ConfigError{"PeerStatic", ErrRemoteUnexpected}
-	case c.PeerStatic == nil && s.known:
+	case c.PeerStatic == nil && known:
 		return &ConfigError{"PeerStatic", ErrRemoteMissing}
-	case c.VerifyPeer != nil && !tellsKey && !c.InsecureAcceptAnyKey:
+	case c.VerifyPeer != nil && !hasKey && !c.InsecureAcceptAnyKey:
 		return &ConfigError{"VerifyPeer", errNoKey}
 	case len(c.PSKs) > MaxPsks:
 		return &ConfigError{"PSKs", ErrPskCount}
 	case c.PSKFor != nil && c.PSKs != nil:
 		return &ConfigError{"PSKFor", errTwo}
-	case c.PSKFor != nil && s.firstPSK < 0:
+	case c.PSKFor != nil && p.firstPSK < 0:
 		return &ConfigError{"PSKFor", ErrPskCount}
-	case c.PSKFor != nil && !s.known && (s.told < 0 || s.told >= s.firstPSK):
+	case c.PSKFor != nil && !known && (learns < 0 || learns >= p.firstPSK):
 		return &ConfigError{"PSKFor", errPSKTooLate}
 	}
 	for _, psk := range c.PSKs {
@@ -177,7 +99,16 @@ func (c *Config) check(s shape) error {
 	return nil
 }
 
-// fieldOf names the field that a code of noise_start speaks of.
+// Check returns the *ConfigError that Client, for the initiator, or Server would return; nil if there is none. It doesn't call VerifyPeer or PSKFor.
+func (c *Config) Check(initiator bool) error {
+	h, err := started(c, initiator, new(KeyPair))
+	if err != nil {
+		return err
+	}
+	return h.Close()
+}
+
+// fieldOf returns the field at fault if noise_start returns this code.
 func fieldOf(code Code) string {
 	switch code {
 	case ErrStaticMissing:

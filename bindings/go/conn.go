@@ -11,8 +11,8 @@ import (
 	"time"
 )
 
-// Conn is a secure channel over another connection. One goroutine may read while another writes. The handshake is passed at the first Read or
-// Write, or by Handshake.
+// Conn is a secure channel over another connection. One goroutine may read while another writes. The first Read or Write runs the handshake, or
+// Handshake does.
 type Conn struct {
 	conn    net.Conn
 	config  Config
@@ -28,7 +28,7 @@ type Conn struct {
 	in     sync.Mutex
 	frames frameReader
 	opener *Receiver
-	rest   []byte // what was opened and isn't read yet
+	rest   []byte // opened, and not read yet
 	inErr  error
 
 	out    sync.Mutex
@@ -41,17 +41,17 @@ type Conn struct {
 // ConnectionState is what a handshake has agreed on.
 type ConnectionState struct {
 	HandshakeComplete bool         // all messages of the handshake have passed
-	ProtocolName      string       // as Noise_XX_25519_ChaChaPoly_SHA256
+	ProtocolName      string       // for example Noise_XX_25519_ChaChaPoly_SHA256
 	Initiator         bool         // this party wrote the first message
-	HandshakeHash     [KeyLen]byte // the same at both parties: for what is bound to the channel (the framework's section 11.2)
-	PeerStatic        []byte       // the other party's static key; nil where the handshake told none
+	HandshakeHash     [KeyLen]byte // the same at both parties: to bind other data to the channel (the framework's 11.2)
+	PeerStatic        []byte       // the other party's static key; nil if the handshake has none
 	Payloads          [][]byte     // those of the messages, from 0 on, that this party has read; nil at its own
 }
 
-// Client is the initiator's end of a channel over conn. It writes nothing yet.
+// Client returns the initiator's end of a channel over conn, and writes nothing yet. A *ConfigError says what is wrong with the Config.
 func Client(conn net.Conn, config *Config) (*Conn, error) { return newConn(conn, config, true) }
 
-// Server is the responder's end of a channel over conn. It writes nothing yet.
+// Server returns the responder's end of a channel over conn, and writes nothing yet. A *ConfigError says what is wrong with the Config.
 func Server(conn net.Conn, config *Config) (*Conn, error) { return newConn(conn, config, false) }
 
 func newConn(conn net.Conn, config *Config, initiator bool) (*Conn, error) {
@@ -59,16 +59,16 @@ func newConn(conn net.Conn, config *Config, initiator bool) (*Conn, error) {
 	if err != nil {
 		return nil, err
 	}
-	c := &Conn{conn: conn, config: *config, oneWay: h.shape.oneWay, isFirst: initiator, handshake: h}
+	c := &Conn{conn: conn, config: *config, oneWay: h.pattern.oneWay(), isFirst: initiator, handshake: h}
 	c.frames.from = conn
 	c.state = ConnectionState{ProtocolName: config.protocolName(), Initiator: initiator}
 	return c, nil
 }
 
-// Handshake passes the handshake, if that wasn't done. Its error is that of each later call.
+// Handshake runs the handshake, if that wasn't done. Each later call returns its error.
 func (c *Conn) Handshake() error { return c.HandshakeContext(context.Background()) }
 
-// HandshakeContext passes the handshake; where the context ends first, the connection is closed.
+// HandshakeContext runs the handshake; if the context ends first, it closes the connection.
 func (c *Conn) HandshakeContext(ctx context.Context) error {
 	if c.handshakeDone.Load() {
 		return nil
@@ -79,7 +79,7 @@ func (c *Conn) HandshakeContext(ctx context.Context) error {
 		return c.handshakeErr
 	}
 	stop := c.closeAtEndOf(ctx)
-	err := c.passHandshake()
+	err := c.runHandshake()
 	if cause := stop(); cause != nil && err != nil {
 		err = cause
 	}
@@ -92,7 +92,7 @@ func (c *Conn) HandshakeContext(ctx context.Context) error {
 	return nil
 }
 
-// closeAtEndOf closes the connection when the context ends, until the function that it gives is called: that one tells why.
+// closeAtEndOf closes the connection when the context ends, until its result is called. That returns the context's error if the context ended.
 func (c *Conn) closeAtEndOf(ctx context.Context) func() error {
 	if ctx.Done() == nil {
 		return func() error { return nil }
@@ -110,7 +110,7 @@ func (c *Conn) closeAtEndOf(ctx context.Context) func() error {
 	return func() error { close(stop); return <-stopped }
 }
 
-func (c *Conn) passHandshake() error {
+func (c *Conn) runHandshake() error {
 	h := c.handshake
 	for index := 0; !h.Done(); index++ {
 		if h.ended != nil {
@@ -164,16 +164,16 @@ func (c *Conn) readHandshake(index int) error {
 	return err
 }
 
-// ConnectionState is what the handshake has agreed on, as far as it has come.
+// ConnectionState returns what the handshake has agreed on so far.
 func (c *Conn) ConnectionState() ConnectionState {
 	c.handshakeMutex.Lock()
 	defer c.handshakeMutex.Unlock()
 	return c.state
 }
 
-// Read reads what the other party has written. io.EOF where that party has said that nothing more comes.
+// Read reads what the other party has written. It returns io.EOF once that party has sent the end of its stream.
 //
-// A message that is refused ends the reading: ErrTag or ErrShort. A deadline that passes doesn't: what has come is kept.
+// A refused message ends the reading with ErrTag or ErrShort. A deadline that passes doesn't: a later Read goes on with what has arrived.
 func (c *Conn) Read(b []byte) (int, error) {
 	if err := c.Handshake(); err != nil {
 		return 0, err
@@ -199,7 +199,7 @@ func (c *Conn) Read(b []byte) (int, error) {
 	return n, nil
 }
 
-// open takes the next message.
+// open opens the next message.
 func (c *Conn) open() error {
 	if c.oneWay && c.isFirst {
 		return ErrOneWay
@@ -245,7 +245,7 @@ func (c *Conn) Write(b []byte) (int, error) {
 	return written, nil
 }
 
-var errEnded = errors.New("noise: written to after CloseWrite")
+var errEnded = errors.New("noise: a Write after CloseWrite")
 
 func (c *Conn) send(payload []byte) error {
 	if c.outErr != nil {
@@ -268,7 +268,7 @@ func (c *Conn) send(payload []byte) error {
 	return nil
 }
 
-// CloseWrite says to the other party that nothing more will come: its Read answers io.EOF. What it writes can still be read.
+// CloseWrite sends the end of this party's stream: the other party's Read returns io.EOF. What that party writes can still be read.
 func (c *Conn) CloseWrite() error {
 	if err := c.Handshake(); err != nil {
 		return err
@@ -289,7 +289,7 @@ func (c *Conn) sendEnd() error {
 	return nil
 }
 
-// Close says that nothing more will come, if it wasn't said and nobody is writing; closes the connection; and overwrites the keys.
+// Close sends the end of the stream, unless it was sent or a Write is running; closes the connection; and overwrites the keys.
 func (c *Conn) Close() error {
 	if c.closed.Swap(true) {
 		return net.ErrClosed
@@ -299,7 +299,7 @@ func (c *Conn) Close() error {
 		c.sendEnd()
 		c.out.Unlock()
 	}
-	err := c.conn.Close() // whoever reads or writes is let go by this
+	err := c.conn.Close() // ends each Read and Write that is running
 	c.handshakeMutex.Lock()
 	defer c.handshakeMutex.Unlock()
 	c.handshake.Close()
@@ -320,22 +320,22 @@ func (c *Conn) Close() error {
 	return err
 }
 
-// LocalAddr is that of the connection below.
+// LocalAddr returns that of the connection below.
 func (c *Conn) LocalAddr() net.Addr { return c.conn.LocalAddr() }
 
-// RemoteAddr is that of the connection below.
+// RemoteAddr returns that of the connection below.
 func (c *Conn) RemoteAddr() net.Addr { return c.conn.RemoteAddr() }
 
 // SetDeadline sets both deadlines of the connection below.
 func (c *Conn) SetDeadline(t time.Time) error { return c.conn.SetDeadline(t) }
 
-// SetReadDeadline sets the deadline of Read. One that has passed leaves the channel usable.
+// SetReadDeadline sets the deadline of Read. After a deadline that has passed the channel is still usable.
 func (c *Conn) SetReadDeadline(t time.Time) error { return c.conn.SetReadDeadline(t) }
 
 // SetWriteDeadline sets the deadline of Write. After one that has passed in a Write nothing more can be written.
 func (c *Conn) SetWriteDeadline(t time.Time) error { return c.conn.SetWriteDeadline(t) }
 
-// NetConn is the connection below. What is read from it or written to it breaks the channel.
+// NetConn returns the connection below. To read from it or write to it breaks the channel.
 func (c *Conn) NetConn() net.Conn { return c.conn }
 
 func isTimeout(err error) bool {
@@ -343,14 +343,14 @@ func isTimeout(err error) bool {
 	return errors.As(err, &t) && t.Timeout()
 }
 
-// frameReader takes frames, and goes on within one where a deadline had passed.
+// frameReader reads frames, and continues within one after a deadline has passed.
 type frameReader struct {
 	from   io.Reader
 	buffer []byte
 	have   int
 }
 
-// next is the next message, which stands until the call after. io.EOF: the connection ended before it; io.ErrUnexpectedEOF: within it.
+// next returns the next message, which is valid until the next call. io.EOF: the connection ended before it; io.ErrUnexpectedEOF: within it.
 func (f *frameReader) next() ([]byte, error) {
 	if err := f.fill(2); err != nil {
 		return nil, err

@@ -5,18 +5,18 @@ import (
 	"net"
 )
 
-// Dialer makes connections, and passes the handshake as the initiator.
+// Dialer connects, and runs the handshake as the initiator.
 type Dialer struct {
-	NetDialer *net.Dialer // nil: one of zeros
+	NetDialer *net.Dialer // nil: the zero Dialer
 	Config    *Config     // of the initiator
 }
 
-// Dial connects, and passes the handshake.
+// Dial connects, and runs the handshake.
 func (d *Dialer) Dial(network, address string) (net.Conn, error) {
 	return d.DialContext(context.Background(), network, address)
 }
 
-// DialContext connects, and passes the handshake; both end with the context.
+// DialContext connects, and runs the handshake; both end with the context.
 func (d *Dialer) DialContext(ctx context.Context, network, address string) (net.Conn, error) {
 	c, err := d.dial(ctx, network, address)
 	if err != nil {
@@ -26,6 +26,9 @@ func (d *Dialer) DialContext(ctx context.Context, network, address string) (net.
 }
 
 func (d *Dialer) dial(ctx context.Context, network, address string) (*Conn, error) {
+	if err := d.Config.Check(true); err != nil {
+		return nil, err
+	}
 	inner := d.NetDialer
 	if inner == nil {
 		inner = new(net.Dialer)
@@ -45,7 +48,7 @@ func (d *Dialer) dial(ctx context.Context, network, address string) (*Conn, erro
 	return c, nil
 }
 
-// Dial connects, and passes the handshake as the initiator.
+// Dial connects, and runs the handshake as the initiator.
 func Dial(network, address string, config *Config) (*Conn, error) {
 	return (&Dialer{Config: config}).dial(context.Background(), network, address)
 }
@@ -55,10 +58,10 @@ type listener struct {
 	config *Config
 }
 
-// Listen listens, and accepts connections as the responder.
+// Listen listens, and accepts connections as the responder. A *ConfigError says what is wrong with the Config.
 func Listen(network, address string, config *Config) (net.Listener, error) {
-	if config == nil {
-		return nil, &ConfigError{"", errNil}
+	if err := config.Check(false); err != nil {
+		return nil, err
 	}
 	inner, err := net.Listen(network, address)
 	if err != nil {
@@ -67,11 +70,10 @@ func Listen(network, address string, config *Config) (net.Listener, error) {
 	return NewListener(inner, config), nil
 }
 
-// NewListener accepts connections of inner as the responder. What Accept gives is a *Conn, whose handshake isn't passed yet: one that hangs holds
-// up nobody else.
+// NewListener accepts connections of inner as the responder. Accept returns a *Conn whose handshake hasn't run yet, so that no peer delays another.
 func NewListener(inner net.Listener, config *Config) net.Listener { return &listener{inner, config} }
 
-// Accept gives a *Conn whose handshake isn't passed yet.
+// Accept returns a *Conn whose handshake hasn't run yet.
 func (l *listener) Accept() (net.Conn, error) {
 	conn, err := l.Listener.Accept()
 	if err != nil {

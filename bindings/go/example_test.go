@@ -2,19 +2,30 @@ package noise_test
 
 import (
 	"bytes"
+	"context"
 	"errors"
 	"fmt"
 	"io"
 	"log"
 	"net"
+	"time"
 
 	"example.org/noise"
 )
 
+// must ends an example at an error.
+func must(err error) {
+	if err != nil {
+		log.Fatal(err)
+	}
+}
+
 // A server that accepts one client's key, and a client that knows the server's.
 func Example() {
-	serverKey, _ := noise.GenerateKeyPair()
-	clientKey, _ := noise.GenerateKeyPair()
+	serverKey, err := noise.GenerateKeyPair()
+	must(err)
+	clientKey, err := noise.GenerateKeyPair()
+	must(err)
 	serverPublic, clientPublic := serverKey.Public(), clientKey.Public()
 
 	listener, err := noise.Listen("tcp", "127.0.0.1:0", &noise.Config{
@@ -26,15 +37,11 @@ func Example() {
 			return nil
 		},
 	})
-	if err != nil {
-		log.Fatal(err)
-	}
+	must(err)
 	defer listener.Close()
 	go func() {
 		conn, err := listener.Accept()
-		if err != nil {
-			log.Fatal(err)
-		}
+		must(err)
 		defer conn.Close()
 		io.Copy(conn, conn) // an echo
 	}()
@@ -42,44 +49,176 @@ func Example() {
 	conn, err := noise.Dial("tcp", listener.Addr().String(), &noise.Config{
 		Pattern: "IK", Prologue: []byte("chat 1"), Static: clientKey, PeerStatic: serverPublic[:],
 	})
-	if err != nil {
-		log.Fatal(err)
-	}
+	must(err)
 	defer conn.Close()
 	fmt.Fprint(conn, "hello")
-	conn.CloseWrite()
+	must(conn.CloseWrite())
 	answer, err := io.ReadAll(conn)
 	fmt.Println(string(answer), err)
 	// Output: hello <nil>
 }
 
-// Datagrams over UDP. The handshake's messages went another way.
-func ExampleDatagrams() {
-	key, _ := noise.GenerateKeyPair()
+// Both ends over any net.Conn, here a pipe, with a secret that both parties have.
+func ExampleClient() {
+	here, there := net.Pipe()
+	config := &noise.Config{Pattern: "NNpsk0", PSKs: [][]byte{bytes.Repeat([]byte{7}, noise.KeyLen)}}
+	go func() {
+		conn, err := noise.Server(there, config)
+		must(err)
+		io.WriteString(conn, "hello")
+		conn.Close()
+	}()
+	conn, err := noise.Client(here, config)
+	must(err)
+	text, err := io.ReadAll(conn)
+	state := conn.ConnectionState()
+	fmt.Println(string(text), err, state.HandshakeComplete, state.ProtocolName)
+	// Output: hello <nil> true Noise_NNpsk0_25519_ChaChaPoly_SHA256
+}
+
+// A dialer with a deadline for the connection and the handshake together.
+func ExampleDialer() {
+	listener, err := net.Listen("tcp", "127.0.0.1:0") // it accepts nothing, so the handshake doesn't end
+	must(err)
+	defer listener.Close()
+	ctx, cancel := context.WithTimeout(context.Background(), 50*time.Millisecond)
+	defer cancel()
+	dialer := noise.Dialer{Config: &noise.Config{Pattern: "NN", InsecureAcceptAnyKey: true}}
+	_, err = dialer.DialContext(ctx, "tcp", listener.Addr().String())
+	fmt.Println(errors.Is(err, context.DeadlineExceeded))
+	// Output: true
+}
+
+// What is wrong with a Config is found before a byte is sent.
+func ExampleConfig_Check() {
+	fmt.Println((&noise.Config{Pattern: "IK"}).Check(true))
+	key, err := noise.GenerateKeyPair()
+	must(err)
+	err = (&noise.Config{Static: key}).Check(false)
+	var fault *noise.ConfigError
+	fmt.Println(errors.As(err, &fault), fault.Field, errors.Is(err, noise.ErrUnauthenticated))
+	// Output:
+	// noise: Config.PeerStatic: noise: the pattern needs the other party's static key beforehand
+	// true VerifyPeer true
+}
+
+// Each client has a secret of its own: the server looks it up by the client's static key.
+func ExampleConfig_pSKFor() {
+	serverKey, err := noise.GenerateKeyPair()
+	must(err)
+	clientKey, err := noise.GenerateKeyPair()
+	must(err)
+	serverPublic, clientPublic := serverKey.Public(), clientKey.Public()
+	secrets := map[[noise.KeyLen]byte][]byte{clientPublic: bytes.Repeat([]byte{7}, noise.KeyLen)}
+	here, there := net.Pipe()
+	go func() {
+		conn, err := noise.Server(there, &noise.Config{
+			Pattern: "IKpsk2", Static: serverKey,
+			PSKFor: func(key [noise.KeyLen]byte) ([][]byte, error) {
+				secret, ok := secrets[key]
+				if !ok {
+					return nil, errors.New("not on the list")
+				}
+				return [][]byte{secret}, nil
+			},
+		})
+		must(err)
+		io.WriteString(conn, "hello")
+		conn.Close()
+	}()
+	conn, err := noise.Client(here, &noise.Config{
+		Pattern: "IKpsk2", Static: clientKey, PeerStatic: serverPublic[:], PSKs: [][]byte{secrets[clientPublic]},
+	})
+	must(err)
+	text, err := io.ReadAll(conn)
+	fmt.Println(string(text), err)
+	// Output: hello <nil>
+}
+
+// Message by message, for a program that moves the messages itself.
+func ExampleHandshakeState() {
+	key, err := noise.GenerateKeyPair()
+	must(err)
 	public := key.Public()
-	a, _ := noise.NewHandshakeState(&noise.Config{Pattern: "NK", PeerStatic: public[:]}, true)
-	b, _ := noise.NewHandshakeState(&noise.Config{Pattern: "NK", Static: key, InsecureAcceptAnyKey: true}, false)
-	first, _ := a.WriteMessage(nil, nil)
-	b.ReadMessage(nil, first)
-	second, _ := b.WriteMessage(nil, nil)
-	a.ReadMessage(nil, second)
-	sending, _ := a.Datagrams(64)
-	receiving, _ := b.Datagrams(64)
+	client, err := noise.NewHandshakeState(&noise.Config{Pattern: "NK", PeerStatic: public[:]}, true)
+	must(err)
+	server, err := noise.NewHandshakeState(&noise.Config{Pattern: "NK", Static: key, InsecureAcceptAnyKey: true}, false)
+	must(err)
+	first, err := client.WriteMessage(nil, nil)
+	must(err)
+	_, err = server.ReadMessage(nil, first)
+	must(err)
+	second, err := server.WriteMessage(nil, []byte("welcome"))
+	must(err)
+	payload, err := client.ReadMessage(nil, second)
+	fmt.Println(string(payload), err, client.HandshakeHash() == server.HandshakeHash())
+
+	sender, _, err := client.Split()
+	must(err)
+	_, receiver, err := server.Split()
+	must(err)
+	message, err := sender.Seal(nil, []byte("hello"))
+	must(err)
+	message[0] ^= 1
+	_, err = receiver.Open(nil, message)
+	fmt.Println(errors.Is(err, noise.ErrTag))
+	message[0] ^= 1
+	payload, err = receiver.Open(message[:0], message) // in place
+	fmt.Println(string(payload), err)
+	// Output:
+	// welcome <nil> true
+	// true
+	// hello <nil>
+}
+
+// A refused message of a handshake: where, and why.
+func ExampleHandshakeError() {
+	config := &noise.Config{Pattern: "NN", InsecureAcceptAnyKey: true}
+	server, err := noise.NewHandshakeState(config, false)
+	must(err)
+	_, err = server.ReadMessage(nil, make([]byte, 31))
+	var fault *noise.HandshakeError
+	fmt.Println(errors.As(err, &fault), fault.Message, fault.Token, errors.Is(err, noise.ErrShort))
+	_, err = server.ReadMessage(nil, make([]byte, 32))
+	fmt.Println(errors.Is(err, noise.ErrEnded))
+	// Output:
+	// true 0 0 true
+	// true
+}
+
+// Datagrams over UDP. The messages of the handshake went another way.
+func ExampleDatagrams() {
+	config := &noise.Config{Pattern: "NN", InsecureAcceptAnyKey: true}
+	a, err := noise.NewHandshakeState(config, true)
+	must(err)
+	b, err := noise.NewHandshakeState(config, false)
+	must(err)
+	first, err := a.WriteMessage(nil, nil)
+	must(err)
+	_, err = b.ReadMessage(nil, first)
+	must(err)
+	second, err := b.WriteMessage(nil, nil)
+	must(err)
+	_, err = a.ReadMessage(nil, second)
+	must(err)
+	sending, err := a.Datagrams(64)
+	must(err)
+	receiving, err := b.Datagrams(64)
+	must(err)
 
 	server, err := net.ListenPacket("udp", "127.0.0.1:0")
-	if err != nil {
-		log.Fatal(err)
-	}
+	must(err)
 	defer server.Close()
 	client, err := net.ListenPacket("udp", "127.0.0.1:0")
-	if err != nil {
-		log.Fatal(err)
-	}
+	must(err)
 	defer client.Close()
-	datagram, _ := sending.Seal(nil, []byte("a position"))
-	client.WriteTo(datagram, server.LocalAddr())
+	datagram, err := sending.Seal(nil, []byte("a position"))
+	must(err)
+	_, err = client.WriteTo(datagram, server.LocalAddr())
+	must(err)
 	room := make([]byte, noise.MaxDatagram)
-	n, _, _ := server.ReadFrom(room)
+	n, _, err := server.ReadFrom(room)
+	must(err)
 	payload, err := receiving.Open(nil, room[:n])
 	fmt.Println(string(payload), err)
 	_, err = receiving.Open(nil, room[:n])
@@ -87,4 +226,32 @@ func ExampleDatagrams() {
 	// Output:
 	// a position <nil>
 	// true
+}
+
+// A key in a device, which answers with results of X25519 alone.
+func ExampleDH() {
+	inDevice, err := noise.GenerateKeyPair()
+	must(err)
+	var key noise.DH = device{inDevice}
+	other, err := noise.GenerateKeyPair()
+	must(err)
+	one, err := key.Agree(other.Public())
+	must(err)
+	two, err := other.Agree(key.Public())
+	fmt.Println(one == two, err)
+	// Output: true <nil>
+}
+
+type device struct{ *noise.KeyPair }
+
+// A key pair is kept as its secret key.
+func ExampleNewKeyPair() {
+	key, err := noise.GenerateKeyPair()
+	must(err)
+	secret := key.Secret()
+	again, err := noise.NewKeyPair(secret[:])
+	must(err)
+	fmt.Println(again.Public() == key.Public())
+	key.Wipe()
+	// Output: true
 }

@@ -8,27 +8,49 @@ import (
 	"crypto/subtle"
 )
 
-// HandshakeState runs a handshake message by message. It is used by one goroutine at a time.
+// HandshakeState runs a handshake message by message. One goroutine at a time may use it.
 //
-// The parties write in turn, the initiator first. Where no more messages are due, Split or Datagrams uses it up. A refused message, and a peer
-// that isn't accepted, end it: each later call answers ErrEnded.
+// The parties write in turn, the initiator first. After the last message, Split or Datagrams uses it up. A refused message, or another party that isn't
+// accepted, ends it: each later call returns ErrEnded.
 type HandshakeState struct {
 	memory    *handshakeMemory
 	config    Config
-	shape     shape
+	pattern   *pattern
 	initiator bool
 	ephemeral *KeyPair
 	ended     error
-	passed    []passedMessage // as long as PSKFor hasn't been asked
-	waits     bool            // for PSKFor to be asked
+	next      int        // the message that is due, from 0 on
+	remote    remoteKeys // those that are known
+	passed    []passedMessage
+	waits     bool // for PSKFor to be called
 }
 
+// passedMessage is a message that passed before PSKFor was called.
 type passedMessage struct {
 	written          bool
 	payload, message []byte
 }
 
-// NewHandshakeState begins a handshake with a new ephemeral key pair. What is wrong with the Config is told by a *ConfigError.
+// remoteKeys are the public keys of the other party, as far as they are known.
+type remoteKeys struct {
+	e, s       [KeyLen]byte
+	hasE, hasS bool
+}
+
+// with returns the keys with those that a message has in clear.
+func (k remoteKeys) with(m *message, received []byte) remoteKeys {
+	if at, ok := m.at["e"]; ok && len(received) >= at+KeyLen {
+		k.hasE = true
+		copy(k.e[:], received[at:])
+	}
+	if at, ok := m.at["s"]; ok && len(received) >= at+KeyLen {
+		k.hasS = true
+		copy(k.s[:], received[at:])
+	}
+	return k
+}
+
+// NewHandshakeState starts a handshake with a new ephemeral key pair. A *ConfigError says what is wrong with the Config.
 func NewHandshakeState(config *Config, initiator bool) (*HandshakeState, error) {
 	ephemeral, err := GenerateKeyPair()
 	if err != nil {
@@ -38,20 +60,32 @@ func NewHandshakeState(config *Config, initiator bool) (*HandshakeState, error) 
 }
 
 func newHandshakeState(config *Config, initiator bool, ephemeral *KeyPair) (*HandshakeState, error) {
+	h, err := started(config, initiator, ephemeral)
+	if err == nil && h.remote.hasS {
+		err = h.judge()
+	}
+	if err != nil {
+		return nil, err
+	}
+	return h, nil
+}
+
+// started returns a handshake in which VerifyPeer and PSKFor haven't been called.
+func started(config *Config, initiator bool, ephemeral *KeyPair) (*HandshakeState, error) {
 	if config == nil {
 		return nil, &ConfigError{"", errNil}
 	}
-	h := &HandshakeState{config: *config, shape: shapeOf(config.pattern(), initiator), initiator: initiator, ephemeral: ephemeral}
-	if !h.isTaken() {
-		return nil, &ConfigError{"Pattern", h.patternFault()}
-	}
-	if err := h.config.check(h.shape); err != nil {
+	h := &HandshakeState{config: *config, pattern: patternOf(config.pattern()), initiator: initiator, ephemeral: ephemeral}
+	if err := h.config.check(h.pattern, initiator); err != nil {
+		if code := h.patternFault(); code != 0 {
+			err = &ConfigError{"Pattern", code}
+		}
 		return nil, err
 	}
 	psks := config.PSKs
 	if config.PSKFor != nil {
 		h.waits = true
-		psks = make([][]byte, h.shape.psks)
+		psks = make([][]byte, h.pattern.psks)
 		for i := range psks {
 			psks[i] = make([]byte, KeyLen)
 		}
@@ -59,24 +93,22 @@ func newHandshakeState(config *Config, initiator bool, ephemeral *KeyPair) (*Han
 	if code := h.start(psks); code != 0 {
 		return nil, &ConfigError{fieldOf(code), code}
 	}
-	if h.shape.known {
-		if err := h.judge(); err != nil {
-			return nil, err
-		}
+	if h.pattern.knows(initiator) {
+		h.remote.hasS = true
+		copy(h.remote.s[:], config.PeerStatic)
 	}
 	return h, nil
 }
 
-// isTaken tells whether the library takes the pattern: with keys that may not fit.
-func (h *HandshakeState) isTaken() bool {
-	code := h.patternFault()
-	return code != ErrName && code != ErrPattern
-}
-
+// patternFault returns the library's code for a pattern that it doesn't accept, else 0.
 func (h *HandshakeState) patternFault() Code {
 	var setup C.noise_setup
 	memory, pattern := new(handshakeMemory), []byte(h.config.pattern())
-	return Code(C.noise_start(&memory.kept, place(pattern), C.size_t(len(pattern)), place(nil), 0, &setup))
+	code := Code(C.noise_start(&memory.kept, place(pattern), C.size_t(len(pattern)), place(nil), 0, &setup))
+	if code == ErrName || code == ErrPattern {
+		return code
+	}
+	return 0
 }
 
 func setKey(at *C.noise_key, key []byte) {
@@ -84,7 +116,7 @@ func setKey(at *C.noise_key, key []byte) {
 	copy(bytesOf(&at.bytes[0], KeyLen), key)
 }
 
-// start begins with these secrets.
+// start starts the handshake with these secrets.
 func (h *HandshakeState) start(psks [][]byte) Code {
 	setup := new(C.noise_setup)
 	if !h.initiator {
@@ -96,7 +128,7 @@ func (h *HandshakeState) start(psks [][]byte) Code {
 		static := h.config.Static.Public()
 		setKey(&setup.s, static[:])
 	}
-	if h.shape.known && h.config.PeerStatic != nil {
+	if h.pattern.knows(h.initiator) {
 		setKey(&setup.remote_s, h.config.PeerStatic)
 	}
 	setup.psk_count = C.uint8_t(len(psks))
@@ -108,12 +140,12 @@ func (h *HandshakeState) start(psks [][]byte) Code {
 	if h.memory != nil {
 		h.memory.wipe()
 	}
-	h.memory = new(handshakeMemory)
+	h.memory, h.next = new(handshakeMemory), 0
 	pattern, prologue := []byte(h.config.pattern()), h.config.Prologue
 	return Code(C.noise_start(&h.memory.kept, place(pattern), C.size_t(len(pattern)), place(prologue), C.size_t(len(prologue)), setup))
 }
 
-// stage tells how many messages have passed, how many the pattern has, and whether this party writes the next.
+// stage returns how many messages have passed, how many the pattern has, and whether this party writes the next.
 func (h *HandshakeState) stage() (passed, messages int, writes bool) {
 	if h.memory == nil {
 		return 0, 0, false
@@ -125,32 +157,32 @@ func (h *HandshakeState) stage() (passed, messages int, writes bool) {
 	return int(stage.passed), int(stage.messages), stage.writes_next != 0
 }
 
-// Done tells whether all messages have passed.
+// Done reports whether all messages have passed.
 func (h *HandshakeState) Done() bool {
 	passed, messages, _ := h.stage()
 	return h.ended == nil && passed == messages
 }
 
-// WritesNext tells whether the next message is this party's to write.
+// WritesNext reports whether this party writes the next message.
 func (h *HandshakeState) WritesNext() bool {
 	passed, messages, writes := h.stage()
 	return h.ended == nil && writes && passed < messages
 }
 
-// MessageIndex is the count of the messages that have passed.
+// MessageIndex returns the number of the messages that have passed.
 func (h *HandshakeState) MessageIndex() int {
 	passed, _, _ := h.stage()
 	return passed
 }
 
-// end ends the handshake: keys and answers are overwritten.
+// end ends the handshake, and overwrites keys and X25519 results.
 func (h *HandshakeState) end(token int, cause error) error {
 	fault := &HandshakeError{h.MessageIndex(), token, cause}
 	h.Close()
 	return fault
 }
 
-// Close overwrites what the handshake keeps. Later calls answer ErrEnded.
+// Close overwrites what the handshake keeps. Later calls return ErrEnded.
 func (h *HandshakeState) Close() error {
 	if h.memory != nil {
 		h.memory.wipe()
@@ -163,29 +195,56 @@ func (h *HandshakeState) Close() error {
 	return nil
 }
 
-// answered makes a call of the library, and hands in the answers of X25519 that it asks for.
-func (h *HandshakeState) answered(call func() C.uint32_t) (Code, error) {
-	m := h.memory
-	for {
-		code := call()
-		if code != C.NOISE_WANTED {
-			return Code(code), nil
+// supply passes the X25519 result for one of this party's key pairs and a public key of the other party to the library.
+func (h *HandshakeState) supply(ofStatic bool, remote [KeyLen]byte) error {
+	var own DH = h.ephemeral
+	of := C.uint8_t(0)
+	if ofStatic {
+		own, of = h.config.Static, 1
+	}
+	result, err := own.Agree(remote)
+	if err != nil {
+		return err
+	}
+	if result == ([KeyLen]byte{}) {
+		return ErrLowOrder
+	}
+	code := C.noise_answer(&h.memory.kept, of, place(remote[:]), place(result[:]))
+	wipe(result[:])
+	return asError(uint32(code))
+}
+
+// prepare passes those results of X25519 that message m needs and whose keys are known, so that the library doesn't ask for them one by one. Of a
+// message that is read, it leaves out what comes after an encrypted static key: the library checks the tag of that key first.
+func (h *HandshakeState) prepare(m *message, keys *remoteKeys, tokens []string) error {
+	for _, token := range tokens {
+		if len(token) != 2 {
+			continue
 		}
-		var own DH = h.ephemeral
-		if m.told.of_static != 0 {
-			own = h.config.Static
+		own, other := token[index(!h.initiator)], token[index(h.initiator)]
+		var err error
+		switch {
+		case other == 'e' && keys.hasE:
+			err = h.supply(own == 's', keys.e)
+		case other == 's' && keys.hasS:
+			err = h.supply(own == 's', keys.s)
 		}
-		answer, err := own.Agree(keyIn(&m.told.remote[0]))
 		if err != nil {
-			return 0, err
+			return err
 		}
-		if answer == ([KeyLen]byte{}) {
-			return 0, ErrLowOrder
-		}
-		code = C.noise_answer(&m.kept, m.told.of_static, &m.told.remote[0], place(answer[:]))
-		wipe(answer[:])
-		if code != C.NOISE_OK {
+	}
+	return nil
+}
+
+// called makes a call of the library, and supplies the results of X25519 that it asks for.
+func (h *HandshakeState) called(call func() C.uint32_t) (Code, error) {
+	told := &h.memory.told
+	for {
+		if code := call(); code != C.NOISE_WANTED {
 			return Code(code), nil
+		}
+		if err := h.supply(told.of_static != 0, keyIn(&told.remote[0])); err != nil {
+			return 0, err
 		}
 	}
 }
@@ -207,14 +266,20 @@ func (h *HandshakeState) WriteMessage(dst, payload []byte) ([]byte, error) {
 
 func (h *HandshakeState) write(dst, payload []byte) ([]byte, error) {
 	m, size := h.memory, C.size_t(0)
-	if code := C.noise_message_len(&m.kept, C.size_t(len(payload)), &size); code == C.NOISE_STRUCT {
+	switch code := C.noise_message_len(&m.kept, C.size_t(len(payload)), &size); {
+	case code == C.NOISE_STRUCT:
 		return nil, h.end(-1, ErrStruct)
+	case code == C.NOISE_OK:
+		message := &h.pattern.messages[h.next]
+		if err := h.prepare(message, &h.remote, message.tokens); err != nil {
+			return nil, h.end(-1, err)
+		}
 	}
 	whole, room := grown(dst, int(size))
 	if overlap(room, payload) {
 		payload = append([]byte(nil), payload...)
 	}
-	code, err := h.answered(func() C.uint32_t {
+	code, err := h.called(func() C.uint32_t {
 		return C.noise_write(&m.kept, place(payload), C.size_t(len(payload)), place(room), C.size_t(len(room)), &m.told)
 	})
 	switch {
@@ -225,11 +290,12 @@ func (h *HandshakeState) write(dst, payload []byte) ([]byte, error) {
 	case code != 0:
 		return nil, code
 	}
+	h.next++
 	return whole[:len(dst)+int(m.told.len)], nil
 }
 
-// ReadMessage reads the message that is due, and appends its payload to dst. What is wrong with it is told by a *HandshakeError, and ends the
-// handshake; ErrNotYourTurn and ErrDone leave it as it was.
+// ReadMessage reads the message that is due, and appends its payload to dst. A *HandshakeError says what is wrong with the message, and the handshake has
+// ended; ErrNotYourTurn and ErrDone leave it as it was.
 func (h *HandshakeState) ReadMessage(dst, message []byte) ([]byte, error) {
 	if h.ended != nil {
 		return dst, h.ended
@@ -250,7 +316,10 @@ func (h *HandshakeState) ReadMessage(dst, message []byte) ([]byte, error) {
 	if h.waits {
 		h.passed = append(h.passed, passedMessage{false, nil, append([]byte(nil), message...)})
 	}
-	if passed == h.shape.told {
+	if passed == h.pattern.learns(h.initiator) {
+		if h.remote.s, h.remote.hasS = h.PeerStatic(); !h.remote.hasS {
+			return dst, h.end(-1, ErrStruct)
+		}
 		if err := h.judge(); err != nil {
 			return dst, err
 		}
@@ -258,9 +327,14 @@ func (h *HandshakeState) ReadMessage(dst, message []byte) ([]byte, error) {
 	return append(dst, payload...), nil
 }
 
-func (h *HandshakeState) read(message []byte) ([]byte, error) {
-	m, work := h.memory, append([]byte(nil), message...)
-	code, err := h.answered(func() C.uint32_t {
+func (h *HandshakeState) read(received []byte) ([]byte, error) {
+	m, work := h.memory, append([]byte(nil), received...)
+	message := &h.pattern.messages[h.next]
+	keys := h.remote.with(message, received)
+	if err := h.prepare(message, &keys, message.tokens[:message.sealed]); err != nil {
+		return nil, h.end(-1, err)
+	}
+	code, err := h.called(func() C.uint32_t {
 		return C.noise_read(&m.kept, place(work), C.size_t(len(work)), &m.told)
 	})
 	switch {
@@ -271,12 +345,14 @@ func (h *HandshakeState) read(message []byte) ([]byte, error) {
 	case code != 0:
 		return nil, h.end(-1, code)
 	}
+	h.remote = keys
+	h.next++
 	return work[m.told.from : m.told.from+m.told.len], nil
 }
 
-// judge looks whether the other party's static key, which is known now, is accepted, and asks for the secrets that are shared with its owner.
+// judge decides whether the other party's static key, which is known now, is accepted, and gets the secrets that this party shares with its owner.
 func (h *HandshakeState) judge() error {
-	key, _ := h.PeerStatic()
+	key := h.remote.s
 	if want := h.config.PeerStatic; want != nil && subtle.ConstantTimeCompare(want, key[:]) != 1 {
 		return h.end(-1, ErrPeerKey)
 	}
@@ -298,15 +374,15 @@ func (h *HandshakeState) judge() error {
 	return nil
 }
 
-// startAgain puts the secrets in the place of the zeros that the handshake began with. No message that has passed has mixed a secret: so each is
-// made again as it was, byte for byte, and no other message is ever made of this ephemeral key.
+// startAgain replaces the zeros, with which the handshake began, by the secrets. No message that has passed has mixed in a secret: so each is made again
+// as it was, byte for byte, and no other message is ever made with this ephemeral key.
 func (h *HandshakeState) startAgain(psks [][]byte) error {
 	for _, psk := range psks {
 		if len(psk) != KeyLen {
 			return errKeyLen
 		}
 	}
-	if len(psks) != h.shape.psks {
+	if len(psks) != h.pattern.psks {
 		return ErrPskCount
 	}
 	passed := h.passed
@@ -328,7 +404,7 @@ func (h *HandshakeState) startAgain(psks [][]byte) error {
 	return nil
 }
 
-// PeerStatic is the other party's static key, as far as it is known.
+// PeerStatic returns the other party's static key, and whether it is known.
 func (h *HandshakeState) PeerStatic() (key [KeyLen]byte, known bool) {
 	if h.memory == nil {
 		return key, false
@@ -340,7 +416,7 @@ func (h *HandshakeState) PeerStatic() (key [KeyLen]byte, known bool) {
 	return keyIn(&k.bytes[0]), true
 }
 
-// HandshakeHash is the hash of what has passed so far. Behind the last message it is the same at both parties (the framework's section 11.2).
+// HandshakeHash returns the hash of what has passed so far. After the last message it is the same at both parties (the framework's 11.2).
 func (h *HandshakeState) HandshakeHash() (hash [KeyLen]byte) {
 	if h.memory != nil {
 		C.noise_hash(&h.memory.kept, place(hash[:]))
@@ -348,24 +424,24 @@ func (h *HandshakeState) HandshakeHash() (hash [KeyLen]byte) {
 	return hash
 }
 
-// Split makes of a handshake whose messages have all passed what seals and what opens transport messages. The handshake is used up.
+// Split returns the two directions of the transport, after all messages have passed. The handshake is used up.
 func (h *HandshakeState) Split() (*Sender, *Receiver, error) {
 	if h.ended != nil {
 		return nil, nil, h.ended
 	}
-	s, r := new(Sender), new(Receiver)
-	if code := C.noise_finish(&h.memory.kept, C.uint64_t(h.config.Interval), &s.memory.kept); code != C.NOISE_OK {
+	both, s, r := new(transportMemory), new(Sender), new(Receiver)
+	if code := C.noise_finish(&h.memory.kept, C.uint64_t(h.config.Interval), &both.kept); code != C.NOISE_OK {
 		return nil, nil, Code(code)
 	}
-	// Sealing changes and uses the keys of its direction alone, and so does opening: one copy that only seals and one that only opens are the
-	// transport, and each has a goroutine of its own.
-	r.memory.kept = s.memory.kept
+	if code := C.noise_transport_split(&both.kept, &s.memory.kept, &r.memory.kept); code != C.NOISE_OK {
+		return nil, nil, Code(code)
+	}
 	h.Close()
 	return s, r, nil
 }
 
-// Datagrams makes of a handshake whose messages have all passed what seals and opens datagrams. Window is how much older than the newest one an
-// opened datagram may be: 64, 256 or 1024. The handshake is used up.
+// Datagrams returns the state for datagrams, after all messages have passed. A datagram may arrive after others whose numbers are less than window
+// greater; window is 64, 256 or 1024. The handshake is used up.
 func (h *HandshakeState) Datagrams(window int) (*Datagrams, error) {
 	if h.ended != nil {
 		return nil, h.ended
@@ -377,7 +453,8 @@ func (h *HandshakeState) Datagrams(window int) (*Datagrams, error) {
 	if code := C.noise_finish_datagrams(&h.memory.kept, C.uint32_t(window), &d.sending.kept); code != C.NOISE_OK {
 		return nil, Code(code)
 	}
-	d.receiving.kept = d.sending.kept // as in Split
+	// Each call uses and changes only the state of its own direction: so one copy that only seals and one that only opens need no common lock.
+	d.receiving.kept = d.sending.kept
 	h.Close()
 	return d, nil
 }

@@ -5,20 +5,20 @@ import (
 	"errors"
 )
 
-// DH is the static key pair of a party. It may live in a device: only what X25519 makes of it and another key is asked for.
+// DH is the static key pair of a party. The secret key may be in a device: nothing but the results of X25519 is asked of it.
 type DH interface {
-	// Public is the public key.
+	// Public returns the public key.
 	Public() [KeyLen]byte
-	// Agree is what X25519 makes of the secret key and this public key of the other party.
+	// Agree returns X25519 of the secret key and this public key of the other party. An error ends the handshake, and so do zeros.
 	Agree(remote [KeyLen]byte) ([KeyLen]byte, error)
 }
 
-// KeyPair is a key pair of X25519 in memory.
+// KeyPair is a key pair of X25519 in memory. It is a DH.
 type KeyPair struct {
 	secret, public [KeyLen]byte
 }
 
-var errKeyLen = errors.New("noise: a key has 32 bytes")
+var errKeyLen = errors.New("noise: a key or a secret has 32 bytes")
 
 // GenerateKeyPair draws a new key pair from crypto/rand.
 func GenerateKeyPair() (*KeyPair, error) {
@@ -30,7 +30,7 @@ func GenerateKeyPair() (*KeyPair, error) {
 	return NewKeyPair(secret[:])
 }
 
-// NewKeyPair is the key pair of this secret key, 32 bytes.
+// NewKeyPair returns the key pair of this secret key of 32 bytes.
 func NewKeyPair(secret []byte) (*KeyPair, error) {
 	if len(secret) != KeyLen {
 		return nil, errKeyLen
@@ -45,21 +45,21 @@ func NewKeyPair(secret []byte) (*KeyPair, error) {
 	return k, nil
 }
 
-// Public is the public key.
+// Public returns the public key.
 func (k *KeyPair) Public() [KeyLen]byte { return k.public }
 
-// Secret is the secret key: keep it from others.
+// Secret returns the secret key: keep it from others.
 func (k *KeyPair) Secret() [KeyLen]byte { return k.secret }
 
-// Agree is what X25519 makes of this secret key and a public one. ErrLowOrder where that is zeros.
-func (k *KeyPair) Agree(remote [KeyLen]byte) (answer [KeyLen]byte, err error) {
+// Agree returns X25519 of this secret key and a public one; ErrLowOrder if that is zeros.
+func (k *KeyPair) Agree(remote [KeyLen]byte) (result [KeyLen]byte, err error) {
 	made, err := agree(k.secret[:], remote[:])
 	if err != nil {
-		return answer, ErrLowOrder
+		return result, ErrLowOrder
 	}
-	copy(answer[:], made)
+	copy(result[:], made)
 	wipe(made)
-	return answer, nil
+	return result, nil
 }
 
 // Wipe overwrites the secret key.

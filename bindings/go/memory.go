@@ -5,8 +5,8 @@ import "C"
 
 import "unsafe"
 
-// What the library keeps. The empty array puts each at an address that is a multiple of 8: cgo declares them as bytes. `told` stands beside, so
-// that a call takes no memory.
+// The kept structs of the library. The empty array gives each an address that is a multiple of 8: cgo declares them as bytes. `told` is in the same
+// struct, so that a call allocates no memory.
 type (
 	handshakeMemory struct {
 		_    [0]uint64
@@ -16,6 +16,15 @@ type (
 	transportMemory struct {
 		_    [0]uint64
 		kept C.noise_transport
+	}
+	senderMemory struct {
+		_    [0]uint64
+		kept C.noise_sender
+		told C.noise_told
+	}
+	receiverMemory struct {
+		_    [0]uint64
+		kept C.noise_receiver
 		told C.noise_told
 	}
 	datagramMemory struct {
@@ -26,19 +35,21 @@ type (
 )
 
 func init() {
-	// The library may be linked when the program starts, and be another than that of the header.
-	if C.noise_handshake_size() != sizeOfHandshake || C.noise_transport_size() != sizeOfTransport || C.noise_datagrams_size() != sizeOfDatagrams {
+	// If the library is linked when the program starts, it may be another build than the header's.
+	if C.noise_handshake_size() != sizeOfHandshake || C.noise_transport_size() != sizeOfTransport || C.noise_datagrams_size() != sizeOfDatagrams ||
+		C.noise_sender_size() != sizeOfSender || C.noise_receiver_size() != sizeOfReceiver {
 		panic("noise: the library noise_c isn't the one that this package was made for")
 	}
 }
 
 func (m *handshakeMemory) wipe() { wipe(unsafe.Slice((*byte)(unsafe.Pointer(m)), unsafe.Sizeof(*m))) }
-func (m *transportMemory) wipe() { wipe(unsafe.Slice((*byte)(unsafe.Pointer(m)), unsafe.Sizeof(*m))) }
+func (m *senderMemory) wipe()    { wipe(unsafe.Slice((*byte)(unsafe.Pointer(m)), unsafe.Sizeof(*m))) }
+func (m *receiverMemory) wipe()  { wipe(unsafe.Slice((*byte)(unsafe.Pointer(m)), unsafe.Sizeof(*m))) }
 func (m *datagramMemory) wipe()  { wipe(unsafe.Slice((*byte)(unsafe.Pointer(m)), unsafe.Sizeof(*m))) }
 
 var nothing [1]byte
 
-// place leads to the bytes of a slice, and of an empty one to a byte that nobody reads or writes: the library wants no NULL.
+// place returns the address of a slice's bytes; for an empty slice, of a byte that nobody reads or writes: the library accepts no NULL.
 func place(b []byte) *C.uint8_t {
 	if len(b) == 0 {
 		return (*C.uint8_t)(unsafe.Pointer(&nothing))
@@ -55,7 +66,7 @@ func keyIn(at *C.uint8_t) (key [KeyLen]byte) {
 	return key
 }
 
-// grown is dst with room for n bytes more, and that room.
+// grown returns dst with room for n more bytes, and that room.
 func grown(dst []byte, n int) (whole, room []byte) {
 	if total := len(dst) + n; total <= cap(dst) {
 		whole = dst[:total]
@@ -65,7 +76,7 @@ func grown(dst []byte, n int) (whole, room []byte) {
 	return whole, whole[len(dst):]
 }
 
-// overlap tells whether two slices have a byte in common.
+// overlap reports whether two slices have a byte in common.
 func overlap(a, b []byte) bool {
 	return len(a) > 0 && len(b) > 0 &&
 		uintptr(unsafe.Pointer(&a[0])) <= uintptr(unsafe.Pointer(&b[len(b)-1])) &&

@@ -16,7 +16,7 @@ import (
 	"time"
 )
 
-var fundamental = strings.Fields("N K X NN NK NX KN KK KX XN XK XX IN IK IX")
+var fifteen = strings.Fields("N K X NN NK NX KN KK KX XN XK XX IN IK IX")
 
 // messages is how many messages a fundamental pattern has.
 func messages(base string) int {
@@ -40,19 +40,19 @@ func pair(t testing.TB) *KeyPair {
 
 func key(k DH) []byte { p := k.Public(); return p[:] }
 
-// configs are those of both parties, which know each other's key where the pattern tells it.
+// configs returns those of both parties, which know each other's key if the pattern has it.
 func configs(t testing.TB, pattern string) (client, server *Config) {
 	c, s := pair(t), pair(t)
 	client = &Config{Pattern: pattern, Prologue: []byte("test"), Static: c, InsecureAcceptAnyKey: true}
 	server = &Config{Pattern: pattern, Prologue: []byte("test"), Static: s, InsecureAcceptAnyKey: true}
-	if sh := shapeOf(client.pattern(), true); sh.known || sh.told >= 0 {
+	p := patternOf(client.pattern())
+	if p.knows(true) || p.learns(true) >= 0 {
 		client.PeerStatic = key(s)
 	}
-	sh := shapeOf(server.pattern(), false)
-	if sh.known || sh.told >= 0 {
+	if p.knows(false) || p.learns(false) >= 0 {
 		server.PeerStatic = key(c)
 	}
-	for i := 0; i < sh.psks; i++ {
+	for i := 0; i < p.psks; i++ {
 		psk := bytes.Repeat([]byte{byte(i + 1)}, KeyLen)
 		client.PSKs, server.PSKs = append(client.PSKs, psk), append(server.PSKs, psk)
 	}
@@ -128,7 +128,7 @@ func wants(t testing.TB, err, want error) {
 }
 
 func TestPatterns(t *testing.T) {
-	for _, base := range fundamental {
+	for _, base := range fifteen {
 		for place := -1; place <= messages(base); place++ {
 			pattern := base
 			if place >= 0 {
@@ -233,6 +233,7 @@ func TestConfigFaults(t *testing.T) {
 		{"anybody", &Config{Static: k}, "VerifyPeer", ErrUnauthenticated},
 		{"anybody, without keys", &Config{Pattern: "NN"}, "VerifyPeer", ErrUnauthenticated},
 		{"a verifier that isn't asked", &Config{Pattern: "NN", VerifyPeer: ok}, "VerifyPeer", errNoKey},
+		{"an ephemeral key beforehand", &Config{Pattern: "EARLY:\n  <- e\n  ...\n  -> e, ee\n", InsecureAcceptAnyKey: true}, "Pattern", errEarly},
 		{"a long prologue", &Config{Static: k, VerifyPeer: ok, Prologue: make([]byte, MaxPrologue+1)}, "Prologue", ErrLength},
 	} {
 		a, _ := net.Pipe()
@@ -250,7 +251,7 @@ func TestPeerIsJudged(t *testing.T) {
 		client, server := configs(t, pattern)
 		server.VerifyPeer = func(got [KeyLen]byte) error {
 			if !bytes.Equal(got[:], key(client.Static)) {
-				t.Error("another key is told")
+				t.Error("VerifyPeer gets another key")
 			}
 			return refused
 		}
@@ -375,7 +376,7 @@ func TestEnds(t *testing.T) {
 	wants(t, err, ErrTag)
 	_, err = s.Read(one)
 	wants(t, err, ErrTag)
-	c, s = fresh()
+	_, s = fresh()
 	waiting := make(chan error)
 	go func() { _, err := s.Read(one); waiting <- err }()
 	time.Sleep(10 * time.Millisecond)
@@ -406,7 +407,7 @@ func TestCutInAHandshake(t *testing.T) {
 	}
 }
 
-// TestCutAtEachByte ends the connection behind each byte of a frame: before its first one it is ErrCut, behind its last one too, and
+// TestCutAtEachByte ends the connection after each byte of a frame: before its first one it is ErrCut, after its last one too, and
 // io.ErrUnexpectedEOF between; only an end that was said is io.EOF.
 func TestCutAtEachByte(t *testing.T) {
 	for cut := 0; cut <= 23; cut++ {
@@ -697,7 +698,7 @@ func FuzzServer(f *testing.F) {
 	f.Add([]byte("\x00\x20aaaaaaaaaaaaaaaaaaaaaaaaaaaaaaaa"), uint8(0))
 	f.Add([]byte{0, 0}, uint8(7))
 	f.Fuzz(func(t *testing.T, wire []byte, which uint8) {
-		client, server := configs(t, fundamental[int(which)%len(fundamental)])
+		client, server := configs(t, fifteen[int(which)%len(fifteen)])
 		for _, make := range []func(net.Conn, *Config) (*Conn, error){Client, Server} {
 			config := server
 			if which%2 == 0 {

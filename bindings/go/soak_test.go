@@ -34,7 +34,7 @@ const (
 	faults
 )
 
-// wanted has the errors that the reader may be told.
+// wanted has the errors that the reader may get.
 var wanted = [faults][]error{
 	noFault:     {io.EOF},
 	flipped:     {ErrTag},
@@ -59,7 +59,7 @@ type soaked struct {
 }
 
 // TestSoak runs many channels at once over TCP, with 100 messages each way, through a relay that changes, loses, repeats and exchanges frames, and
-// cuts connections. What is handed out is what was sent, up to the fault; the error is of the fault's kind; and nothing is left behind.
+// cuts connections. What is handed out is what was sent, up to the fault; the error is of the fault's kind; and nothing is left.
 // NOISE_SOAK is the count of channels, NOISE_SEED where the dice begin.
 func TestSoak(t *testing.T) {
 	count, seed := atMost(t, number(t, "NOISE_SOAK", 1000)), int64(number(t, "NOISE_SEED", int(time.Now().UnixNano()&0xffffffff)))
@@ -144,7 +144,7 @@ func joined(t *testing.T, l net.Listener) (net.Conn, net.Conn) {
 	return a, b
 }
 
-// run runs both ends and the relay, and tells what was wrong.
+// run runs both ends and the relay, and returns what was wrong.
 func (it *soaked) run(client, server *Config, ready *sync.WaitGroup) (all []error) {
 	relayed := make(chan bool, 2)
 	go func() { it.relay(it.low[0], it.low[1], true); relayed <- true }()
@@ -231,7 +231,7 @@ func (it *soaked) send(c *Conn, side int) error {
 	return c.conn.(*net.TCPConn).CloseWrite()
 }
 
-// readAll is io.ReadAll with io.EOF told.
+// readAll is io.ReadAll that returns io.EOF too.
 func readAll(c *Conn) (got []byte, err error) {
 	room := make([]byte, 150)
 	for {
@@ -297,7 +297,7 @@ func frameOf(from io.Reader) ([]byte, error) {
 	return frame, err
 }
 
-// strike is what goes on in the place of a frame, and whether the connection is cut behind it.
+// strike returns what goes on in place of a frame, and whether the connection is cut after it.
 func (it *soaked) strike(frame []byte, from io.Reader) (instead []byte, cut bool) {
 	dice := rand.New(rand.NewSource(it.seed))
 	switch it.fault {

@@ -8,20 +8,22 @@ import "sync"
 // Sender seals transport messages. Any goroutine may call it; messages have to arrive in the order in which they were sealed.
 type Sender struct {
 	mutex  sync.Mutex
-	memory transportMemory
+	memory senderMemory
+	sealed uint64
 	closed bool
-	spare  []byte // where the payload stands in the place of the message
+	spare  []byte // a copy of a payload that is where its message goes
 }
 
 // Receiver opens transport messages. Any goroutine may call it.
 type Receiver struct {
 	mutex  sync.Mutex
-	memory transportMemory
+	memory receiverMemory
+	opened uint64
 	closed bool
 }
 
-// Seal appends the next message to dst: 16 bytes longer than the payload, which has at most 65519. It takes no memory if dst has room, unless
-// that room is the payload's.
+// Seal appends the next message to dst: 16 bytes longer than the payload, which has at most 65519. It allocates no memory if dst has room, unless that
+// room overlaps the payload. At an error nothing changes: ErrTooLong, ErrOneWay, ErrExhausted, ErrClosed.
 func (s *Sender) Seal(dst, payload []byte) ([]byte, error) {
 	s.mutex.Lock()
 	defer s.mutex.Unlock()
@@ -36,22 +38,22 @@ func (s *Sender) Seal(dst, payload []byte) ([]byte, error) {
 		s.spare = append(s.spare[:0], payload...)
 		payload = s.spare
 	}
-	code := C.noise_transport_seal(&s.memory.kept, place(payload), C.size_t(len(payload)), place(room), C.size_t(len(room)), &s.memory.told)
+	code := C.noise_sender_seal(&s.memory.kept, place(payload), C.size_t(len(payload)), place(room), C.size_t(len(room)), &s.memory.told)
 	if code != C.NOISE_OK {
 		return dst, Code(code)
 	}
+	s.sealed++
 	return whole, nil
 }
 
-// Nonce is the count of the messages that were sealed.
+// Nonce returns the number of messages that were sealed.
 func (s *Sender) Nonce() uint64 {
 	s.mutex.Lock()
 	defer s.mutex.Unlock()
-	send, _ := s.memory.nonces()
-	return send
+	return s.sealed
 }
 
-// Close overwrites the keys. Later calls answer ErrClosed.
+// Close overwrites the keys. Later calls return ErrClosed.
 func (s *Sender) Close() error {
 	s.mutex.Lock()
 	defer s.mutex.Unlock()
@@ -61,8 +63,8 @@ func (s *Sender) Close() error {
 	return nil
 }
 
-// Open opens the next message, and appends its payload to dst; dst may be message[:0]. It takes no memory if dst has room for the message.
-// ErrTag and ErrShort change nothing; over a stream close at the first.
+// Open opens the next message, and appends its payload to dst; dst may be message[:0]. It allocates no memory if dst has room for the message. At an error
+// nothing changes: ErrTag, ErrShort, ErrLength, ErrOneWay, ErrExhausted, ErrClosed. Over a stream close at the first ErrTag or ErrShort.
 func (r *Receiver) Open(dst, message []byte) ([]byte, error) {
 	r.mutex.Lock()
 	defer r.mutex.Unlock()
@@ -74,34 +76,28 @@ func (r *Receiver) Open(dst, message []byte) ([]byte, error) {
 	}
 	whole, room := grown(dst, len(message))
 	copy(room, message)
-	code := C.noise_transport_open(&r.memory.kept, place(room), C.size_t(len(room)), &r.memory.told)
+	code := C.noise_receiver_open(&r.memory.kept, place(room), C.size_t(len(room)), &r.memory.told)
 	if code != C.NOISE_OK {
 		return dst, Code(code)
 	}
+	r.opened++
 	return whole[:len(dst)+int(r.memory.told.len)], nil
 }
 
-// Nonce is the count of the messages that were opened.
+// Nonce returns the number of messages that were opened.
 func (r *Receiver) Nonce() uint64 {
 	r.mutex.Lock()
 	defer r.mutex.Unlock()
-	_, receive := r.memory.nonces()
-	return receive
+	return r.opened
 }
 
-// Close overwrites the keys. Later calls answer ErrClosed.
+// Close overwrites the keys. Later calls return ErrClosed.
 func (r *Receiver) Close() error {
 	r.mutex.Lock()
 	defer r.mutex.Unlock()
 	r.closed = true
 	r.memory.wipe()
 	return nil
-}
-
-func (m *transportMemory) nonces() (send, receive uint64) {
-	var s, r C.uint64_t
-	C.noise_transport_nonces(&m.kept, &s, &r)
-	return uint64(s), uint64(r)
 }
 
 // Datagrams seals and opens datagrams, which may be lost, repeated and reordered. One goroutine may seal while another opens.
@@ -112,7 +108,7 @@ type Datagrams struct {
 	spare              []byte
 }
 
-// Seal appends a datagram to dst: 24 bytes longer than the payload, which has at most 65519.
+// Seal appends a datagram to dst: 24 bytes longer than the payload, which has at most 65519. The errors are those of Sender.Seal.
 func (d *Datagrams) Seal(dst, payload []byte) ([]byte, error) {
 	d.sealing.Lock()
 	defer d.sealing.Unlock()
@@ -134,8 +130,8 @@ func (d *Datagrams) Seal(dst, payload []byte) ([]byte, error) {
 	return whole, nil
 }
 
-// Open opens a datagram, and appends its payload to dst; dst may be datagram[:0], and the payload then stands at its front. An error changes
-// nothing: drop the datagram, and wait for the next. ErrOld and ErrRepeated are by themselves no sign of an attack.
+// Open opens a datagram, and appends its payload to dst; dst may be datagram[:0]. An error changes nothing: drop the datagram, and wait for the next.
+// ErrOld and ErrRepeated alone are no sign of an attack.
 func (d *Datagrams) Open(dst, datagram []byte) ([]byte, error) {
 	d.opening.Lock()
 	defer d.opening.Unlock()
@@ -156,7 +152,7 @@ func (d *Datagrams) Open(dst, datagram []byte) ([]byte, error) {
 	return whole[:len(dst)+count], nil
 }
 
-// Close overwrites the keys. Later calls answer ErrClosed.
+// Close overwrites the keys. Later calls return ErrClosed.
 func (d *Datagrams) Close() error {
 	d.sealing.Lock()
 	defer d.sealing.Unlock()

@@ -8,7 +8,7 @@ func publicOf(secret []byte) ([]byte, error) {
 	return curve25519.X25519(secret, curve25519.Basepoint)
 }
 
-// agree refuses an answer of zeros.
+// agree fails if the result is zeros.
 func agree(secret, remote []byte) ([]byte, error) {
 	return curve25519.X25519(secret, remote)
 }

@@ -12,7 +12,7 @@ func publicOf(secret []byte) ([]byte, error) {
 	return own.PublicKey().Bytes(), nil
 }
 
-// agree refuses an answer of zeros.
+// agree fails if the result is zeros.
 func agree(secret, remote []byte) ([]byte, error) {
 	own, err := ecdh.X25519().NewPrivateKey(secret)
 	if err != nil {

@@ -1,9 +1,9 @@
-// The judgement of a pattern text.
+// The check of a pattern text.
 import { NoiseError, code, library } from './module.mjs';
 
 const encoder = new TextEncoder();
 
-/** Judges a pattern text: its number of messages, or what is wrong and where. */
+/** Checks a pattern text, and gives its number of messages, or what is wrong and where. */
 export function checkPattern(text) {
   const lib = library();
   const bytes = encoder.encode(text);

@@ -29,8 +29,8 @@ export class Handshake {
   #busy = false;
 
   /**
-   * Judges the set-up at once, and throws what noise_start answers. The ephemeral key pair is drawn at the first message,
-   * unless one is handed in: then it must never have served before.
+   * Checks the set-up at once, and throws what noise_start returns. The ephemeral key pair is drawn at the first message, unless one is passed:
+   * that must never have been used before.
    */
   constructor({ pattern, responder = false, prologue = new Uint8Array(0), staticKey, ephemeralKey, remoteStatic, remoteEphemeral, psks = [] }) {
     if (typeof pattern !== 'string') throw new TypeError('pattern has to be a protocol name or a pattern text');
@@ -93,7 +93,7 @@ export class Handshake {
     }
   }
 
-  /** Makes a call again and again, as long as it wants an answer of X25519. */
+  /** Repeats a call as long as it asks for a result of X25519. */
   async #answered(call) {
     const lib = library();
     for (;;) {
@@ -195,7 +195,7 @@ export class Handshake {
     return end;
   }
 
-  /** Makes the transport, and uses this handshake up. Each direction renews its key behind each `interval` of its messages; 0 is never. */
+  /** Makes the transport, and uses this handshake up. Each direction renews its key after each `interval` of its messages; 0 is never. */
   finish({ interval = 0n } = {}) {
     const messages = BigInt(interval);
     if (messages < 0n || messages >= 1n << 64n) throw new RangeError('interval has to be from 0 to 2^64 - 1');

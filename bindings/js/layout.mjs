@@ -5,7 +5,7 @@ import { asText } from './patterns.mjs';
 const ROLES = { '->': 'initiator', '<-': 'responder' };
 const DH = new Set(['ee', 'es', 'se', 'ss']);
 
-/** The lines of a text, taken apart without judging them. */
+/** The lines of a text, split without a check. */
 export function linesOf(text) {
   return text.replace(/\n$/, '').split('\n').map((line) => {
     const parts = /^( {2}(->|<-) )(.*)$/.exec(line);
@@ -20,7 +20,7 @@ export function linesOf(text) {
   });
 }
 
-/** The pieces of one message, where `keyed` tells whether there is a key in front of it. */
+/** The pieces of one message; `keyed` is whether there is a key before it. */
 function piecesOf(tokens, keyed, hasPsk) {
   const pieces = [];
   const add = (token, kind, length, sealed) => pieces.push({ token, kind, length, sealed });
@@ -41,7 +41,7 @@ function piecesOf(tokens, keyed, hasPsk) {
   return { pieces, keyed };
 }
 
-/** What the parties know of each other, and have mixed in, behind a message. */
+/** What the parties know of each other, and have mixed in, after a message. */
 function knownAfter(known, from, tokens) {
   const other = from === 'initiator' ? 'responder' : 'initiator';
   for (const name of tokens) {

@@ -1,13 +1,13 @@
-// The WebAssembly module: how it is loaded, where its structs stand, and how a code becomes an error.
+// The WebAssembly module: how it is loaded, where its structs are, and how a code becomes an error.
 
-/** The numbers of include/noise.h, and behind them those of this module, which are negative. */
+/** The numbers of include/noise.h, then those of this module, which are negative. */
 const NAMES = {
   1: ['NAME', 'no protocol name of a fundamental pattern with 25519, ChaChaPoly and SHA256, or a psk place beyond its messages'],
   2: ['PATTERN', 'a pattern text that spells no valid pattern: checkPattern says where'],
-  4: ['EPHEMERAL_MISSING', 'the pattern has a token e of this party, and no ephemeral key was handed in'],
-  5: ['STATIC_MISSING', 'the pattern has a token s of this party: hand in staticKey'],
-  6: ['REMOTE_MISSING', "a key of the other party's pre-message is lacking: hand in remoteStatic or remoteEphemeral"],
-  7: ['REMOTE_UNEXPECTED', "a key was handed in that isn't in the other party's pre-message: leave it out"],
+  4: ['EPHEMERAL_MISSING', 'the pattern has a token e of this party, and no ephemeral key was passed'],
+  5: ['STATIC_MISSING', 'the pattern has a token s of this party: pass staticKey'],
+  6: ['REMOTE_MISSING', "a key of the other party's pre-message is missing: pass remoteStatic or remoteEphemeral"],
+  7: ['REMOTE_UNEXPECTED', "a key was passed that isn't in the other party's pre-message: leave it out"],
   8: ['PSK_COUNT', 'not one secret for each psk token'],
   10: ['NOT_YOUR_TURN', 'the other party is to write, or at read this one is'],
   11: ['TOO_LONG', 'the message or datagram would have, or has, more bytes than it may have'],
@@ -19,11 +19,11 @@ const NAMES = {
   17: ['EXHAUSTED', 'no more messages under this key: start anew'],
   18: ['ROOM', 'the place for the message is too short'],
   19: ['NOT_DONE', 'messages of the handshake are still due'],
-  20: ['WANTED', 'an answer of X25519 is lacking'],
-  21: ['FULL', 'it has 8 answers already'],
+  20: ['WANTED', 'the call needs a result of X25519'],
+  21: ['FULL', 'the handshake has 8 results of X25519 already'],
   22: ['ONE_WAY', 'a one-way pattern: the responder seals nothing, and nothing comes to the initiator'],
-  23: ['STRUCT', 'the kept struct is none that a call has left'],
-  24: ['LENGTH', 'more than 65535 bytes were handed in'],
+  23: ['STRUCT', 'the kept struct holds no state that a call could have made'],
+  24: ['LENGTH', 'more than 65535 bytes were passed'],
   25: ['WINDOW', 'a window other than 64, 256 and 1024'],
   26: ['RESERVED', 'the datagram has the nonce 2^64 - 1, which none has: drop it'],
   27: ['OLD', 'the datagram is further below the greatest opened one than the window reaches: drop it'],
@@ -32,7 +32,7 @@ const NAMES = {
   30: ['HEADING', "the first line isn't a base, its modifiers in order, and a colon"],
   31: ['ARROW', "the line doesn't begin with two spaces, an arrow and a space"],
   32: ['TOKEN', 'something between the commas is no token'],
-  33: ['PRE_MESSAGE', 'a line before "..." has other tokens than e, s or "e, s", or stands in the wrong place, or "..." does'],
+  33: ['PRE_MESSAGE', 'a line before "..." has other tokens than e, s or "e, s", or it or "..." is in the wrong place'],
   34: ['TURN', "it is the other party's turn"],
   35: ['PSK_PLACE', "the psk tokens aren't where the heading says"],
   36: ['NAME_TAKEN', 'the base is that of a fundamental pattern, and this is another'],
@@ -44,7 +44,7 @@ const NAMES = {
   '-3': ['NO_MEMORY64', 'this engine runs no WebAssembly with 64-bit memory: take a browser of 2025 or later with memory64, '
     + 'node --experimental-wasm-memory64 where Node lacks it, or the native library (docs/C.md)'],
   '-4': ['NOT_LOADED', 'await load() first'],
-  '-5': ['KEY', "the other party's public key has no answer of X25519, or one of all zeros: close"],
+  '-5': ['KEY', "X25519 fails for the other party's public key, or gives all zeros: close"],
   '-6': ['CLOSED', 'the other party closed the connection, or it broke, in the middle of a frame or of the handshake'],
 };
 
@@ -143,7 +143,7 @@ class Library {
     this.kept[kind].push(place);
   }
 
-  /** What the last call has told. Both numbers of 8 bytes are places in a message, below 2^32. */
+  /** What the last call has returned besides its code. Both numbers of 8 bytes are places in a message, below 2^32. */
   told() {
     const start = Number(this.at.told);
     return {
@@ -154,7 +154,7 @@ class Library {
     };
   }
 
-  /** The other party's public key for which the last call wants an answer. */
+  /** The other party's public key for which the last call needs a result of X25519. */
   wanted() {
     return this.view(this.at.told + 18n, 32).slice();
   }

@@ -1,10 +1,10 @@
 /** What a refused call throws. */
 export class NoiseError extends Error {
-  /** The number of include/noise.h; negative for what only this module tells. */
+  /** The number of include/noise.h; negative for those of this module. */
   code: number;
   /** `NOISE_TAG` and so on. */
   name: string;
-  /** At NOISE_SHORT and NOISE_TAG of `Handshake.read`: the token at which the message was refused, from 0 on; the payload is behind the last. */
+  /** At NOISE_SHORT and NOISE_TAG of `Handshake.read`: the token at which the message was refused, from 0 on; the payload comes after the last. */
   token?: number;
 }
 export const code: Readonly<Record<string, number>>;
@@ -99,7 +99,7 @@ export class Datagrams implements Sealer, Opener {
 
 export interface NoiseSocketOptions extends HandshakeOptions {
   interval?: bigint | number;
-  /** Asked behind the last message; where it answers false, the channel is closed. */
+  /** Called after the last message; unless it returns true, the channel is closed. */
   judge?(remoteStatic: Uint8Array | undefined): boolean | Promise<boolean>;
 }
 /** What is used of a stream of Node, as a socket of TCP. */

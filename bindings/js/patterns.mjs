@@ -23,7 +23,7 @@ const TABLE = {
 export const FUNDAMENTAL = Object.freeze(Object.keys(TABLE).slice(0, 15));
 export const DEFERRED = Object.freeze(Object.keys(TABLE).slice(15));
 
-/** The text of a pattern of the standard, with psk tokens at these places: 0 is in front of the first message, N at the end of message N. */
+/** The text of a pattern of the standard, with psk tokens at these places: 0 is before the first message, N at the end of message N. */
 export function textOf(base, places = []) {
   const [known, ...messages] = TABLE[base].split('|');
   for (const place of places) {

@@ -1,5 +1,4 @@
-// A channel over what moves bytes: a WebSocket, one message a frame, or a pair of WHATWG streams or a stream of Node, each message with its length in
-// front.
+// A channel over what moves bytes: a WebSocket, one message a frame, or a pair of WHATWG streams or a stream of Node, each message after its length.
 import { NoiseError, code } from './module.mjs';
 import { Handshake } from './handshake.mjs';
 
@@ -31,7 +30,7 @@ async function overWebSocket(socket) {
   socket.binaryType = 'arraybuffer';
   const queue = new Queue();
   socket.addEventListener('message', ({ data }) => {
-    // A text frame is no message of Noise: an empty one stands for it, and is refused.
+    // A text frame is no message of Noise: an empty one takes its place, and is refused.
     queue.push(typeof data === 'string' ? new Uint8Array(0) : new Uint8Array(data));
   });
   socket.addEventListener('close', ({ wasClean }) => queue.end(wasClean === false ? new NoiseError(code.CLOSED) : undefined));
@@ -67,7 +66,7 @@ const broken = (cause) => { throw Object.assign(new NoiseError(code.CLOSED), { c
 function overStream({ read, write, close }) {
   let rest = new Uint8Array(0);
 
-  /** So many bytes, or undefined where the stream ends in front of the first. */
+  /** So many bytes, or undefined if the stream ends before the first. */
   async function bytes(count, isFirst) {
     const parts = [rest];
     let held = rest.length;
@@ -122,7 +121,7 @@ export class NoiseSocket {
   /**
    * Passes a handshake, without payloads, over a WebSocket, over `{readable, writable}`, or over a stream of Node. The options are those of
    * Handshake, and `interval`. What a WebSocket got before this call isn't seen.
-   * `judge(remoteStatic)` is asked behind the last message, and has to answer true: else the channel is closed.
+   * `judge(remoteStatic)` is called after the last message, and has to return true: otherwise the channel is closed.
    */
   static async open(carrier, { interval = 0n, judge, ...options }) {
     const handshake = new Handshake(options);

@@ -1,4 +1,4 @@
-// What is behind a handshake: a transport, for a stream, or datagrams, for a network that loses, repeats and reorders.
+// What follows a handshake: a transport, for a stream, or datagrams, for a network that loses, repeats and reorders.
 import { NoiseError, code, library, must } from './module.mjs';
 
 /** What both have: a kept struct, and calls that seal and open. */

@@ -1,4 +1,4 @@
-// Finds the static library: in the folder that NOISE_C_DIR names, in the repository that this crate stands in, or by pkg-config.
+// Finds the static library: in the folder that NOISE_C_DIR names, in the repository that contains this crate, or by pkg-config.
 use std::env;
 use std::path::PathBuf;
 use std::process::Command;

@@ -5,7 +5,7 @@
 
 enum { MOST = 300, SNAPSHOTS = 40, RANDOM_ROUNDS = 1000 };
 
-// What a party had when a call was to be made, with all answers handed in.
+// What a party had when a call was due, with all X25519 results supplied.
 typedef struct {
     noise_handshake h;
     uint8_t message[MOST];
@@ -70,7 +70,7 @@ static const uint64_t open_faults = CODE(NOISE_STRUCT) | CODE(NOISE_ONE_WAY) | C
 static const uint64_t datagram_faults =
     CODE(NOISE_STRUCT) | CODE(NOISE_ONE_WAY) | CODE(NOISE_RESERVED) | CODE(NOISE_OLD) | CODE(NOISE_REPEATED) | CODE(NOISE_TAG);
 
-// Seals and opens with the halves of a transport or of datagrams, whatever stands in them.
+// Seals and opens with the halves of a transport or of datagrams, of any content.
 static void use_halves(const noise_sender *sender, const noise_receiver *receiver, const uint8_t *message) {
     *ts = *sender;
     *tr = *receiver;
@@ -93,7 +93,7 @@ static void use_datagram_halves(const noise_datagram_sender *sender, const noise
     if (code == NOISE_OK) MUST(told->len == 24 && told->from == 8);
 }
 
-// Seals and opens with a transport or datagrams, whatever stands in them, and with their halves.
+// Seals and opens with a transport or datagrams of any content, and with their halves.
 static void use_transport(const noise_transport *of, const uint8_t *right) {
     uint8_t *out = bytes_of(0, 0, 40), *text = bytes_of(1, 0, 24);
     *t = *of;
@@ -357,7 +357,7 @@ static void try_patterns(const plan *p) {
         | CODE(NOISE_REMOTE_MISSING) | CODE(NOISE_REMOTE_UNEXPECTED) | CODE(NOISE_PSK_COUNT);
     static const char others[] = "\n :>-.,ekps0189AZ_\x80\xff";
     for (size_t i = 0; i <= size; i++)
-        for (size_t v = 0; v < sizeof others; v++) {     // the zero behind them is tried too
+        for (size_t v = 0; v < sizeof others; v++) {     // the zero after them is tried too
             *setup = setup_of(p, v & 1);
             memcpy(bytes, pattern, size);
             if (i < size) bytes[i] = (uint8_t)others[v];

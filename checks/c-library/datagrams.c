@@ -125,7 +125,7 @@ static void check_changed(void) {
     open_pair(&p, 64, d, t);
     seal_some(&d[0], 0, 200);
     must_open(&d[1], 100, NOISE_OK);
-    for (unsigned i = 0; i < 40; i++)                    // a changed nonce may also be too far behind
+    for (unsigned i = 0; i < 40; i++)                    // a changed nonce may also be below the window
         for (unsigned bit = 0; bit < 8; bit++) {
             memcpy(before, sealed[90], 40);
             before[i] ^= (uint8_t)(1 << bit);

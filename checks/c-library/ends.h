@@ -35,7 +35,7 @@ typedef struct {
 typedef struct {
     unsigned role;                        // 0 the initiator, 1 the responder
     noise_handshake h;
-    unsigned answers;                     // how many were handed in
+    unsigned answers;                     // how many were supplied
 } end;
 
 enum { PATTERNS = 15 };
@@ -62,7 +62,7 @@ size_t length_of(unsigned number);
 // Passes all messages between the two ends.
 void pass_all(const plan *p, end ends[2]);
 
-// A place for `size` bytes, right behind which no byte may be touched.
+// A place for `size` bytes; no byte after it may be touched.
 uint8_t *place_at_edge(size_t size);
 
 void check_vectors(const char *folder);

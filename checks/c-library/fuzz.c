@@ -1,5 +1,5 @@
-// Calls of the library on random values, as long as it is told: fuzz SECONDS [SEED]. What is handed in as const stands on pages that can't be written,
-// every place ends at a page that can't be touched or begins behind one, and what a refusal leaves is compared byte by byte. Genuine messages have to be
+// Calls of the library on random values, for so many seconds: fuzz SECONDS [SEED]. What a call gets as const is on pages that can't be written,
+// every place ends before a page that can't be touched or begins after one, and what a refusal leaves is compared byte by byte. Genuine messages have to be
 // taken and changed ones refused; of structs with changed bytes each call has to answer one of its codes. The seed is printed: with it the run is the
 // same again, as far as it goes.
 #define _GNU_SOURCE
@@ -175,7 +175,7 @@ static uint32_t open_with_datagram_receiver(void *kept, uint8_t *bytes, size_t l
     return noise_datagram_receiver_open((noise_datagram_receiver *)kept, bytes, len, told);
 }
 
-// A refused call of a transport or of datagrams tells nothing beside its code.
+// A refused call of a transport or of datagrams returns nothing but its code.
 static void must_be_untold(const noise_told *told) {
     for (size_t i = 0; i < sizeof *told; i++) MUST(((const uint8_t *)told)[i] == 0x5e);
 }
@@ -247,7 +247,7 @@ static void change_bytes(uint8_t *bytes, size_t len) {
     for (size_t n = 1 + below(one_in(3) ? 20 : 2); n && len; n--) bytes[below(len)] ^= (uint8_t)(1 + below(255));
 }
 
-// A call that only asks: nothing is changed but, at OK, what it tells.
+// A call that changes no struct: at OK only what it returns.
 #define ASK(kept, kept_type, out_size, codes, call)                                                              \
     do {                                                                                                         \
         const kept_type *k = put(&kept_place, kept, sizeof(kept_type), true);                                    \

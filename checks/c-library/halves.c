@@ -17,7 +17,7 @@ static bool is_zero(const void *at, size_t len) {
     return true;
 }
 
-// Each half makes what the transport makes, and takes what it takes, with renewed keys; a whole transport stands at the other end.
+// Each half seals and opens as the transport does, with renewed keys; the other end is a whole transport.
 static void check_split(uint64_t interval) {
     plan p = plan_of("XX", -1);
     end ends[2];
@@ -136,7 +136,7 @@ static void check_marks(void) {
     MUST(noise_datagrams_nonce(&d, &send) == NOISE_OK && noise_sender_seal(&sender, payload, 5, first, ROOM, &told) == NOISE_OK);
 }
 
-// Datagrams tell the hash and the static key that a transport of their handshake tells, also after some were sealed and opened.
+// Datagrams return the hash and the static key that a transport of their handshake returns, also after some were sealed and opened.
 static void check_datagrams_tell(const char *pattern) {
     plan p = plan_of(pattern, -1);
     end ends[2];

@@ -1,8 +1,8 @@
-// NULL with a count of 0, for every pointer that has a count: each call answers what it answers for an empty place that isn't NULL, tells the same and
+// NULL with a count of 0, for every pointer that has a count: each call returns what it returns for an empty place that isn't NULL, and
 // leaves the same struct.
 #include "ends.h"
 
-// What a call has left: the struct, what it tells, and its code.
+// What a call has left: the struct, and what it returns.
 typedef struct {
     union {
         noise_handshake h;

@@ -168,7 +168,7 @@ static void check_changed_messages(const plan *p) {
         fill(payload, 6, m);
         MUST(write_on(writer, payload, 6, right, sizeof right, &told) == NOISE_OK);
         size_t len = told.len;
-        bool is_tagged = m || p->psks || p->is_known[1]; // there is a key: behind psk, es or ee
+        bool is_tagged = m || p->psks || p->is_known[1]; // there is a key: after psk, es or ee
         try_changed(reader, right, len, is_tagged);
         memcpy(message, right, len);
         MUST(read_on(reader, message, len, &told) == NOISE_OK);

@@ -1,5 +1,5 @@
-// Runs of two ends, each written as a vector file NAME.vector, and beside it what `noise talk` has to print for it (NAME.wanted), told by the
-// library's own answers.
+// Runs of two ends, each written as a vector file NAME.vector, and beside it what `noise talk` has to print for it (NAME.wanted), from what the
+// library returns.
 #include "ends.h"
 #include <inttypes.h>
 

@@ -1,4 +1,4 @@
-// The page by the keyboard alone, and what it tells a screen reader.
+// The page by the keyboard alone, and what a screen reader gets from it.
 import assert from 'node:assert/strict';
 
 const MINE = 'MINE:\n  <- s\n  ...\n  -> e, es\n  <- e, ee\n  -> s, se\n';
@@ -31,7 +31,7 @@ export async function keyboard(browser, open) {
 
 const NAMED = ['button', 'checkbox', 'combobox', 'textbox', 'spinbutton', 'link', 'img'];
 
-/** What Chromium tells a screen reader: a name for each control, the verdict where it changes, and the picture in words. */
+/** What Chromium gives a screen reader: a name for each control, the verdict where it changes, and the picture in words. */
 export async function speech(browser, open) {
   await open();
   await browser.evaluate('document.getElementById("start").click()');

@@ -13,7 +13,8 @@ export class Browser {
   static async start() {
     const browser = new Browser();
     browser.profile = await mkdtemp(join(tmpdir(), 'noise-page-'));
-    const words = ['--headless=new', '--remote-debugging-pipe', '--no-first-run', '--disable-gpu', '--hide-scrollbars', '--force-color-profile=srgb', `--user-data-dir=${browser.profile}`];
+    const words = ['--headless=new', '--remote-debugging-pipe', '--no-first-run', '--disable-gpu', '--hide-scrollbars', '--force-color-profile=srgb'];
+    words.push(`--user-data-dir=${browser.profile}`);
     if (process.getuid() === 0) words.push('--no-sandbox');
     browser.child = spawn('chromium', [...words, 'about:blank'], { stdio: ['ignore', 'ignore', 'ignore', 'pipe', 'pipe'] });
     browser.child.on('error', (error) => browser.#fail(error));

@@ -17,7 +17,8 @@ const quoted = JSON.stringify;
 const run = (work) => browser.evaluate(`(async () => { ${work} })()`);
 const newest = 'document.getElementById("log").firstElementChild';
 const click = (selector) => run(`document.querySelector(${quoted(selector)}).click()`);
-const type = (id, value) => run(`const it = document.getElementById(${quoted(id)}); it.value = ${quoted(value)}; it.dispatchEvent(new Event('input')); it.dispatchEvent(new Event('change'))`);
+const type = (id, value) => run(`const it = document.getElementById(${quoted(id)});
+  it.value = ${quoted(value)}; it.dispatchEvent(new Event('input')); it.dispatchEvent(new Event('change'))`);
 const count = () => browser.evaluate('document.getElementById("log").childElementCount');
 const state = () => browser.evaluate('document.getElementById("state").textContent');
 const save = async (name) => writeFile(join(room, 'files', `${name}.vector`), await browser.evaluate('noisePage.vectorFile'));
@@ -53,7 +54,8 @@ async function allPatterns() {
     assert.match(await state(), /initiator is open .*responder is open/, base);
     assert.match(await browser.evaluate('document.querySelector("#log .hash").textContent'), /^hash at both ends [0-9a-f]{64}$/, base);
     // Each length in the picture is that of the message that the library has written, with a payload of two bytes.
-    const drawn = await browser.evaluate('[...document.querySelectorAll("#picture text")].map((it) => /: (\\d+) bytes \\+ payload/.exec(it.textContent)?.[1]).filter(Boolean).map(Number)');
+    const labels = await browser.evaluate('[...document.querySelectorAll("#picture text")].map((it) => it.textContent)');
+    const drawn = labels.map((label) => /: (\d+) bytes \+ payload/.exec(label)?.[1]).filter(Boolean).map(Number);
     const written = await browser.evaluate('noisePage.lines.filter((it) => it.startsWith("wrote")).map((it) => it.split(" ")[3].length / 2 - 4)');
     assert.deepEqual(drawn, written, base);
     await write('initiator');
@@ -80,6 +82,7 @@ async function faults() {
     ['MINE:\n  <- s\n  -> s\n  ...\n  -> e, es\n', '  -> s', 'Line 3'],
     ['MINE:\n  -> e\n  <- e, e, e, e, e, e, e, e, e\n', '  <- e, e, e, e, e, e, e, e, e', 'Line 3'],
     ['MINE:\n', 'MINE:', 'Line 2: ending'],
+    ['MINE:\n  -> e\n\n', ' ', 'Line 3: arrow'],
   ];
   for (const [text, marked, title] of cases) {
     await type('text', text);
@@ -163,16 +166,18 @@ async function sockets() {
 /** How far the page's parts moved while it loaded, as Chromium counts it. */
 const SHIFT = `new Promise((done) => {
   let sum = 0;
-  new PerformanceObserver((list) => { for (const { value, hadRecentInput } of list.getEntries()) if (!hadRecentInput) sum += value; }).observe({ type: 'layout-shift', buffered: true });
+  const add = (list) => { for (const { value, hadRecentInput } of list.getEntries()) if (!hadRecentInput) sum += value; };
+  new PerformanceObserver(add).observe({ type: 'layout-shift', buffered: true });
   setTimeout(() => done(sum), 200);
 })`;
 
 async function pictures() {
-  for (const [name, width, height, dark] of [['page-wide', 1100, 1010, false], ['page-wide-dark', 1100, 1010, true], ['page-phone', 390, 844, false], ['page-phone-dark', 390, 844, true]]) {
+  const [wide, phone] = [[1100, 1010], [390, 844]];
+  for (const [name, [width, height], dark] of [['page-wide', wide, false], ['page-wide-dark', wide, true], ['page-phone', phone, false], ['page-phone-dark', phone, true]]) {
     await browser.send('Emulation.setDeviceMetricsOverride', { width, height, deviceScaleFactor: 1, mobile: width < 500 });
     await open();
     assert.ok(await browser.evaluate('document.scrollingElement.scrollWidth <= innerWidth'), `${name} is too wide`);
-    assert.equal(await browser.evaluate("document.getElementById(\"write\").offsetHeight"), 0);
+    assert.equal(await browser.evaluate('document.getElementById("write").offsetHeight'), 0);
     assert.ok(await browser.evaluate(SHIFT) < 0.02, `${name} shifts while it loads`);
     if (!name.includes('phone')) await type('pick', 'IK');
     await begin();
@@ -181,7 +186,7 @@ async function pictures() {
     await writeFile(join(room, 'pictures', `${name}.png`), await browser.picture(width, height, dark));
     await run('document.getElementById("run").scrollIntoView()');
     await writeFile(join(room, 'pictures', `${name}-run.png`), await browser.picture(width, height, dark));
-    assert.ok(await browser.evaluate('document.scrollingElement.scrollWidth <= innerWidth'), `${name} is too wide behind a run`);
+    assert.ok(await browser.evaluate('document.scrollingElement.scrollWidth <= innerWidth'), `${name} is too wide after a run`);
     await run('scrollTo(0, 0)');
   }
 }
@@ -199,7 +204,7 @@ try {
   report(await figures(browser, open));
   await pictures();
   assert.deepEqual(browser.said, [], 'the console has to be silent');
-  report('a pattern of one’s own, refusals, transport, datagrams, the link, the keyboard alone, what a screen reader is told: as they should be; the console is silent');
+  report('a pattern of one’s own, refusals, transport, datagrams, the link, the keyboard alone, what a screen reader gets: as they should be; the console is silent');
 } finally {
   await browser.close();
   server.close();

@@ -1,5 +1,5 @@
 // One end over TCP: node echo.mjs PATTERN OWN_SECRET PEER_KEY PSKS ADDRESS. It connects as the initiator, sends 128 KiB, and wants them back; where
-// ADDRESS begins with '@' it listens there, tells where on a line, and sends back what it reads. PSKS are joined by commas, and '-' where there is none.
+// ADDRESS begins with '@' it listens there, prints the address, and sends back what it reads. PSKS are joined by commas, and '-' where there is none.
 import assert from 'node:assert/strict';
 import { once } from 'node:events';
 import { connect, createServer } from 'node:net';

@@ -9,8 +9,14 @@ const TYPING = `const it = document.getElementById('text'); const start = perfor
 // first ones the engine compiles what runs often.
 const RATIO = `const { Handshake, KeyPair, protocolName } = await import('../bindings/js/noise.mjs');
   const name = 'X25519';
-  const pair = async () => { const { privateKey, publicKey } = await crypto.subtle.generateKey({ name }, false, ['deriveBits']); return { privateKey, bytes: await crypto.subtle.exportKey('raw', publicKey) }; };
-  const agree = async (own, other) => new Uint8Array(await crypto.subtle.deriveBits({ name, public: await crypto.subtle.importKey('raw', other.bytes, { name }, true, []) }, own.privateKey, 256));
+  const pair = async () => {
+    const { privateKey, publicKey } = await crypto.subtle.generateKey({ name }, false, ['deriveBits']);
+    return { privateKey, bytes: await crypto.subtle.exportKey('raw', publicKey) };
+  };
+  const agree = async (own, other) => {
+    const key = await crypto.subtle.importKey('raw', other.bytes, { name }, true, []);
+    return new Uint8Array(await crypto.subtle.deriveBits({ name, public: key }, own.privateKey, 256));
+  };
   const pattern = protocolName('XX'); const ends = []; const curve = [];
   for (let n = 0; n < 400; n += 1) {
     const [a, b] = await Promise.all([pair(), pair()]);

@@ -37,13 +37,13 @@ key_pair pair_in(const char *file) {
     return pair;
 }
 
-// The answer that the handshake asks for. OpenSSL refuses one of all zeros.
+// The result that the handshake asks for. OpenSSL refuses zeros.
 static void x25519(const key_pair *own, const uint8_t remote[32], uint8_t answer[32]) {
     size_t len = 32;
     EVP_PKEY *other = EVP_PKEY_new_raw_public_key(EVP_PKEY_X25519, NULL, remote, 32);
     EVP_PKEY_CTX *context = EVP_PKEY_CTX_new(own->secret, NULL);
     if (!other || !context || EVP_PKEY_derive_init(context) != 1 || EVP_PKEY_derive_set_peer(context, other) != 1) die("no X25519");
-    if (EVP_PKEY_derive(context, answer, &len) != 1) die("the other's public key is none to go on with");
+    if (EVP_PKEY_derive(context, answer, &len) != 1) die("X25519 of the other party's public key fails");
     EVP_PKEY_CTX_free(context);
     EVP_PKEY_free(other);
 }
@@ -72,7 +72,7 @@ size_t take_frame(int socket, uint8_t message[NOISE_MAX_MESSAGE]) {
     return len;
 }
 
-// Passes the next message, with no payload. A call that lacks an answer says which one; with it, the same call is made again.
+// Passes the next message, with no payload. A call that needs a result of X25519 says which one; then the same call is repeated.
 static void pass_next(noise_handshake *h, int socket, bool is_ours, const key_pair *ephemeral, const key_pair *own) {
     static uint8_t message[NOISE_MAX_MESSAGE];
     noise_told told;
@@ -101,13 +101,13 @@ void shake_hands(int socket, const char *pattern, bool is_responder, const key_p
     if (noise_start(&h, (const uint8_t *)name, strlen(name), (const uint8_t *)prologue, strlen(prologue), &setup) != NOISE_OK)
         die("no such handshake");
     uint32_t code;
-    while ((code = noise_finish(&h, 1000, t)) == NOISE_NOT_DONE) {  // keys are renewed behind each 1000 messages
+    while ((code = noise_finish(&h, 1000, t)) == NOISE_NOT_DONE) {  // keys are renewed after each 1000 messages
         noise_stage(&h, &stage);
         pass_next(&h, socket, stage.writes_next, &ephemeral, own);
     }
     if (code != NOISE_OK) die("the handshake has ended");
     EVP_PKEY_free(ephemeral.secret);
-    noise_wipe(&h, sizeof h);                            // the answers stand in it
+    noise_wipe(&h, sizeof h);                            // it contains the results of X25519
 }
 
 void send_text(int socket, noise_transport *t, const char *text) {

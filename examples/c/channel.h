@@ -18,15 +18,15 @@ _Noreturn void die(const char *why);
 key_pair draw_pair(void);
 key_pair pair_in(const char *file);
 
-// Frames: a message, with its length in two bytes in front of it. take_frame answers its length.
+// Frames: a message after its length in two bytes. take_frame returns the length.
 void send_frame(int socket, const uint8_t *message, size_t len);
 size_t take_frame(int socket, uint8_t message[NOISE_MAX_MESSAGE]);
 
-// Runs the handshake of a pattern ("XX" or "IK"), and leaves the transport in *t. `remote` is the other's static public key where it has to
+// Runs the handshake of a pattern ("XX" or "IK"), and leaves the transport in *t. `remote` is the other's static public key if it has to
 // be known beforehand, else NULL.
 void shake_hands(int socket, const char *pattern, bool is_responder, const key_pair *own, const uint8_t *remote, noise_transport *t);
 
-// Sends a text, and takes one of at most 65519 bytes; a zero stands behind it.
+// Sends a text, and takes one of at most 65519 bytes; a zero byte follows it.
 void send_text(int socket, noise_transport *t, const char *text);
 void take_text(int socket, noise_transport *t, char text[NOISE_MAX_MESSAGE]);
 

@@ -63,7 +63,7 @@ test('with the module loaded', async (t) => {
     assert.equal(checkPattern(textOf('XX1').replace('XX1', 'XX')).code, code.NAME_TAKEN);
   });
 
-  await t.test('each rule, and each malformed line, is told with its place', () => {
+  await t.test('each rule, and each malformed line, is reported with its place', () => {
     const rule = (lines) => { const { rule: r, message, token } = checkPattern(`MINE:\n${lines.map((line) => `  ${line}\n`).join('')}`); return [r, message, token]; };
     assert.deepEqual(rule(['-> e, es']), [1, 1, 1]);
     assert.deepEqual(rule(['-> e', '<- e, ee', '-> e']), [2, 3, 0]);
@@ -80,7 +80,7 @@ test('with the module loaded', async (t) => {
     assert.deepEqual(fault('MINE:\n  -> e'), ['NOISE_ENDING', 2]);
   });
 
-  await t.test('a set-up is judged at once', () => {
+  await t.test('a set-up is checked at once', () => {
     const start = (options) => () => new Handshake(options);
     assert.throws(start({ pattern: 'Noise_QQ_25519_ChaChaPoly_SHA256' }), refused(code.NAME));
     assert.throws(start({ pattern: 'MINE:\n  -> e, es\n' }), refused(code.PATTERN));
@@ -107,7 +107,7 @@ test('with the module loaded', async (t) => {
     assert.throws(() => it.responder.finish(), refused(code.NOT_DONE));
   });
 
-  await t.test('a public key without an answer ends nothing, and is told', async () => {
+  await t.test('a public key without a result of X25519 ends nothing, and is reported', async () => {
     const it = await parties(protocolName('NN'));
     await it.responder.read(new Uint8Array(32));
     await assert.rejects(it.responder.write(), refused(code.KEY));
@@ -176,8 +176,11 @@ test('with the module loaded', async (t) => {
     await assert.rejects(a.send(text('x')), refused(code.DISPOSED));
   });
 
-  await t.test('the other party is judged, and a closed connection is told', async () => {
-    const pair = () => { const [up, down] = [new TransformStream(), new TransformStream()]; return [{ readable: down.readable, writable: up.writable }, { readable: up.readable, writable: down.writable }]; };
+  await t.test('the other party’s key is checked, and a closed connection is reported', async () => {
+    const pair = () => {
+      const [up, down] = [new TransformStream(), new TransformStream()];
+      return [{ readable: down.readable, writable: up.writable }, { readable: up.readable, writable: down.writable }];
+    };
     const pattern = protocolName('XX');
     const [near, far] = pair();
     const [a, b] = await Promise.allSettled([
@@ -186,13 +189,14 @@ test('with the module loaded', async (t) => {
     ]);
     assert.equal(a.reason.name, 'NOISE_KEY');
     assert.deepEqual([b.status, b.value], ['fulfilled', undefined]);
-    const [cut, other] = pair();
+    const [cut, cutter] = pair();
     await Promise.all([assert.rejects(NoiseSocket.open(cut, { pattern, staticKey: await KeyPair.generate() }), refused(code.CLOSED)),
-      (async () => { const reader = other.readable.getReader(); await reader.read(); await other.writable.getWriter().close(); })()]);
+      (async () => { const reader = cutter.readable.getReader(); await reader.read(); await cutter.writable.getWriter().close(); })()]);
   });
 
   await t.test('a channel over a pair of streams, in pieces of one byte', async () => {
-    const bytewise = () => new TransformStream({ transform(chunk, controller) { for (const byte of chunk) controller.enqueue(Uint8Array.of(byte)); } }, { highWaterMark: 1e6 }, { highWaterMark: 1e6 });
+    const transform = (chunk, controller) => { for (const byte of chunk) controller.enqueue(Uint8Array.of(byte)); };
+    const bytewise = () => new TransformStream({ transform }, { highWaterMark: 1e6 }, { highWaterMark: 1e6 });
     const [up, down] = [bytewise(), bytewise()];
     const [client, server] = [await KeyPair.generate(), await KeyPair.generate()];
     const options = { pattern: protocolName('XX'), interval: 3 };
@@ -210,9 +214,10 @@ test('with the module loaded', async (t) => {
   });
 });
 
-test('an engine without 64-bit memory is told so', async (t) => {
+test('load names what an engine without 64-bit memory lacks', async (t) => {
   const { spawnSync } = await import('node:child_process');
-  const script = `const { load, hasMemory64 } = await import(${JSON.stringify(new URL('../noise.mjs', import.meta.url).href)}); if (hasMemory64()) console.log('has'); else await load().catch((error) => console.log(error.name));`;
+  const script = `const { load, hasMemory64 } = await import(${JSON.stringify(new URL('../noise.mjs', import.meta.url).href)});
+    if (hasMemory64()) console.log('has'); else await load().catch((error) => console.log(error.name));`;
   const said = spawnSync(process.execPath, ['--input-type=module', '-e', script], { encoding: 'utf8', env: { ...process.env, NODE_OPTIONS: '' } }).stdout.trim();
   if (said === 'has') return t.skip('this engine has it');
   assert.equal(said, 'NOISE_NO_MEMORY64');

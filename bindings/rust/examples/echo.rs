@@ -1,5 +1,5 @@
 // One end over TCP: echo PATTERN OWN_SECRET PEER_KEY PSK ADDRESS. It connects as the initiator, sends 128 KiB, and wants them back; where ADDRESS
-// begins with '@' it listens there, tells where on a line, and sends back what it reads. PSK is '-' where there is none.
+// begins with '@' it listens there, prints the address, and sends back what it reads. PSK is '-' if there is none.
 use std::io::{self, Read, Write};
 use std::net::{TcpListener, TcpStream};
 use yulimosar::{Builder, KeyPair, Stream};

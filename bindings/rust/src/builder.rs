@@ -3,6 +3,22 @@ use crate::raw::{self, Key, Setup};
 use crate::{Dh, Ephemeral, Error, Handshake, NoKey};
 
 /// What a handshake starts from.
+///
+#[cfg_attr(feature = "openssl", doc = "```")]
+#[cfg_attr(not(feature = "openssl"), doc = "```ignore")]
+/// # fn main() -> Result<(), yulimosar::Error> {
+/// use yulimosar::{Builder, KeyPair};
+///
+/// let secret = [7; 32]; // shared by both parties
+/// let handshake = Builder::new("XXpsk3")
+///     .prologue(b"chat 1")
+///     .static_key(KeyPair::generate()?)
+///     .psk(&secret)
+///     .interval(1000)
+///     .initiator::<KeyPair>()?;
+/// assert!(handshake.writes_next());
+/// # Ok(()) }
+/// ```
 pub struct Builder<'a, S: Dh = NoKey> {
     pattern: &'a str,
     prologue: &'a [u8],
@@ -14,15 +30,15 @@ pub struct Builder<'a, S: Dh = NoKey> {
 }
 
 impl<'a> Builder<'a, NoKey> {
-    /// A handshake of this pattern: a protocol name, as `Noise_XX_25519_ChaChaPoly_SHA256`; the name of a pattern alone, as `XXpsk3`; or a
-    /// pattern text of one's own, whose last byte is a line feed.
+    /// A handshake of this pattern: a protocol name, as `Noise_XX_25519_ChaChaPoly_SHA256`; the name of a pattern alone, as `XXpsk3`; or the
+    /// text of your own pattern, whose last byte is a line feed.
     pub fn new(pattern: &'a str) -> Self {
         Builder { pattern, prologue: &[], static_key: None, remote_static: None, psks: [None; MAX_PSKS], psk_count: 0, interval: 0 }
     }
 }
 
 impl<'a, S: Dh> Builder<'a, S> {
-    /// What the parties have agreed on before, at most 65535 bytes: the same at both.
+    /// What the parties have agreed on before, at most 65535 bytes: the same bytes at both.
     pub fn prologue(mut self, prologue: &'a [u8]) -> Self {
         self.prologue = prologue;
         self
@@ -34,7 +50,7 @@ impl<'a, S: Dh> Builder<'a, S> {
         Builder { pattern, prologue, static_key: Some(key), remote_static, psks, psk_count, interval }
     }
 
-    /// The other party's static key, where the pattern needs it beforehand, as the responder's in IK.
+    /// The other party's static key, if the pattern needs it beforehand, as the responder's in IK.
     pub fn remote_static(mut self, key: &[u8; 32]) -> Self {
         self.remote_static = Some(*key);
         self
@@ -49,18 +65,18 @@ impl<'a, S: Dh> Builder<'a, S> {
         self
     }
 
-    /// The count of messages after which each direction renews its key; 0, as it is else, is never. The same at both parties.
+    /// The number of messages after which each direction renews its key; 0, the default, is never. The same at both parties.
     pub fn interval(mut self, messages: u64) -> Self {
         self.interval = messages;
         self
     }
 
-    /// Begins as the initiator, which writes the first message, with a new ephemeral key pair.
+    /// Starts as the initiator, which writes the first message, with a new ephemeral key pair.
     pub fn initiator<E: Ephemeral>(self) -> Result<Handshake<S, E>, Error> {
         self.begin(0)
     }
 
-    /// Begins as the responder, with a new ephemeral key pair.
+    /// Starts as the responder, with a new ephemeral key pair.
     pub fn responder<E: Ephemeral>(self) -> Result<Handshake<S, E>, Error> {
         self.begin(1)
     }
@@ -97,7 +113,7 @@ fn start(memory: &mut raw::Handshake, pattern: &str, prologue: &[u8], setup: &Se
     if pattern.ends_with('\n') || pattern.starts_with("Noise_") {
         return memory.start(pattern.as_bytes(), prologue, setup);
     }
-    // A name of more bytes than there is room for is none that the library knows.
+    // The library knows no name that is longer than this.
     let mut name = [0; 128];
     let mut len = 0;
     for part in [b"Noise_", pattern.as_bytes(), SUITE] {

@@ -2,61 +2,70 @@ use crate::header;
 use core::fmt;
 
 /// Why a call did nothing.
+///
+#[cfg_attr(feature = "openssl", doc = "```")]
+#[cfg_attr(not(feature = "openssl"), doc = "```ignore")]
+/// use yulimosar::{Builder, Error, KeyPair};
+///
+/// let error = Builder::new("XX").initiator::<KeyPair>().err().unwrap();
+/// assert_eq!(error, Error::StaticMissing);
+/// assert_eq!(error.to_string(), "the pattern needs a static key of this party: Builder::static_key");
+/// ```
 #[derive(Debug, Clone, Copy, PartialEq, Eq)]
 #[non_exhaustive]
 pub enum Error {
-    /// No protocol name of a fundamental pattern with 25519, ChaChaPoly and SHA256.
+    /// Not the name of a fundamental pattern with 25519, ChaChaPoly and SHA256.
     Name,
-    /// The pattern text spells no valid pattern.
+    /// The pattern text has a fault, or the pattern isn't valid.
     Pattern,
     /// The pattern needs a static key of this party: `Builder::static_key`.
     StaticMissing,
     /// The pattern needs the other party's static key beforehand: `Builder::remote_static`.
     RemoteMissing,
-    /// The pattern has no use for the other party's static key beforehand.
+    /// The other party's static key isn't in a pre-message of the pattern.
     RemoteUnexpected,
-    /// One secret is due for each psk token: `Builder::psk`.
+    /// The number of secrets isn't the number of psk tokens: `Builder::psk`.
     PskCount,
     /// It is the other party's turn.
     NotYourTurn,
-    /// The message would be longer than a message may be, or is.
+    /// The message would be too long, or is.
     TooLong,
     /// All messages of the handshake have passed.
     Done,
-    /// The handshake was ended by a refused message.
+    /// A refused message has ended the handshake.
     Ended,
-    /// The message is too short. In a handshake the token tells where, from 0 on, and the handshake has ended.
+    /// The message is too short. In a handshake the token, from 0 on, is where it was refused, and the handshake has ended.
     Short {
-        /// Of a handshake: the token.
+        /// The token, in a handshake.
         token: Option<u8>,
     },
-    /// A tag is wrong: the parties differ in something, or the message was changed. In a handshake the token tells where, from 0 on, and the
+    /// A tag is wrong: the parties differ in something, or the message was changed. In a handshake the token, from 0 on, is where, and the
     /// handshake has ended.
     Tag {
-        /// Of a handshake: the token.
+        /// The token, in a handshake.
         token: Option<u8>,
     },
-    /// All nonces of this key are used up.
+    /// This key encrypts and decrypts no more messages.
     Exhausted,
-    /// The place for the message is too short.
+    /// The buffer is too short for the message.
     Room,
     /// Messages of the handshake are still due.
     NotDone,
-    /// The pattern is one-way, and this is the other way.
+    /// The pattern is one-way, and this is the other direction.
     OneWay,
-    /// A window has 64, 256 or 1024 nonces.
+    /// The window isn't 64, 256 or 1024.
     Window,
     /// The datagram has the reserved nonce.
     Reserved,
-    /// The datagram is older than the window reaches.
+    /// The datagram is older than the window.
     Old,
-    /// The datagram was opened before.
+    /// A datagram with this nonce was opened before.
     Repeated,
-    /// A key pair couldn't be drawn or read, or has no answer to the other party's public key (Noise, 12.1).
+    /// A key pair couldn't be drawn or read, or X25519 of the other party's public key fails or is zeros (Noise, 12.1).
     KeyPair,
-    /// The program that judges the other party's static key has refused it, or there is none to judge.
+    /// The program refused the other party's static key, or the handshake has none.
     Refused,
-    /// A code that the library doesn't answer to a right call.
+    /// A code that the library doesn't return to this crate.
     Library(u32),
 }
 
@@ -91,27 +100,27 @@ impl Error {
 impl fmt::Display for Error {
     fn fmt(&self, f: &mut fmt::Formatter<'_>) -> fmt::Result {
         let text = match self {
-            Error::Name => "no protocol name of a fundamental pattern with 25519, ChaChaPoly and SHA256",
-            Error::Pattern => "the pattern text spells no valid pattern",
-            Error::StaticMissing => "the pattern needs a static key of this party",
-            Error::RemoteMissing => "the pattern needs the other party's static key beforehand",
-            Error::RemoteUnexpected => "the pattern has no use for the other party's static key beforehand",
-            Error::PskCount => "one secret is due for each psk token of the pattern",
+            Error::Name => "not the name of a fundamental pattern with 25519, ChaChaPoly and SHA256",
+            Error::Pattern => "the pattern text has a fault, or the pattern isn't valid",
+            Error::StaticMissing => "the pattern needs a static key of this party: Builder::static_key",
+            Error::RemoteMissing => "the pattern needs the other party's static key beforehand: Builder::remote_static",
+            Error::RemoteUnexpected => "the other party's static key isn't in a pre-message of the pattern: Builder::remote_static",
+            Error::PskCount => "the number of secrets isn't the number of psk tokens: Builder::psk",
             Error::NotYourTurn => "it is the other party's turn",
-            Error::TooLong => "the message would be longer than a message may be, or is",
+            Error::TooLong => "the message would be too long, or is",
             Error::Done => "all messages of the handshake have passed",
-            Error::Ended => "the handshake was ended by a refused message",
+            Error::Ended => "a refused message has ended the handshake",
             Error::Short { .. } => "the message is too short",
             Error::Tag { .. } => "a tag is wrong: the parties differ in something, or the message was changed",
-            Error::Exhausted => "all nonces of this key are used up",
-            Error::Room => "the place for the message is too short",
+            Error::Exhausted => "this key encrypts and decrypts no more messages",
+            Error::Room => "the buffer is too short for the message",
             Error::NotDone => "messages of the handshake are still due",
-            Error::OneWay => "the pattern is one-way, and this is the other way",
-            Error::Window => "a window has 64, 256 or 1024 nonces",
+            Error::OneWay => "the pattern is one-way, and this is the other direction",
+            Error::Window => "the window isn't 64, 256 or 1024",
             Error::Reserved => "the datagram has the reserved nonce",
-            Error::Old => "the datagram is older than the window reaches",
-            Error::Repeated => "the datagram was opened before",
-            Error::KeyPair => "a key pair couldn't be drawn or read, or has no answer to the other party's public key",
+            Error::Old => "the datagram is older than the window",
+            Error::Repeated => "a datagram with this nonce was opened before",
+            Error::KeyPair => "a key pair couldn't be drawn or read, or X25519 of the other party's public key fails",
             Error::Refused => "the other party's static key isn't accepted",
             Error::Library(code) => return write!(f, "code {code} of the library"),
         };

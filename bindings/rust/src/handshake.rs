@@ -3,6 +3,26 @@ use crate::raw::{self, Told};
 use crate::{Datagrams, Dh, Ephemeral, Error, Transport};
 
 /// A handshake, message by message. The parties write in turn, the initiator first; `finish` or `finish_datagrams` uses it up.
+///
+#[cfg_attr(feature = "openssl", doc = "```")]
+#[cfg_attr(not(feature = "openssl"), doc = "```ignore")]
+/// # fn main() -> Result<(), yulimosar::Error> {
+/// use yulimosar::{Builder, KeyPair};
+///
+/// let server_key = KeyPair::generate()?;
+/// let public = *server_key.public_key();
+/// let mut client = Builder::new("NK").remote_static(&public).initiator::<KeyPair>()?;
+/// let mut server = Builder::new("NK").static_key(server_key).responder::<KeyPair>()?;
+/// let mut message = [0; 100];
+/// let len = client.write(b"", &mut message)?;
+/// server.read(&mut message[..len])?; // a network comes between the two
+/// let len = server.write(b"payload", &mut message)?;
+/// assert_eq!(client.read(&mut message[..len])?, b"payload");
+/// assert!(client.is_done() && server.is_done());
+/// assert_eq!(client.hash(), server.hash());
+/// assert_eq!(client.remote_static(), Some(public));
+/// # Ok(()) }
+/// ```
 pub struct Handshake<S: Dh, E: Ephemeral> {
     memory: raw::Handshake,
     static_key: Option<S>,
@@ -15,7 +35,7 @@ impl<S: Dh, E: Ephemeral> Handshake<S, E> {
         Handshake { memory, static_key, ephemeral, interval }
     }
 
-    /// Writes the next message, with this payload, to the front of `out`, and gives its length. At an error nothing is changed.
+    /// Writes the next message, with this payload, to the start of `out`, and returns its length. At an error nothing is changed.
     pub fn write(&mut self, payload: &[u8], out: &mut [u8]) -> Result<usize, Error> {
         let mut told = Told::default();
         loop {
@@ -27,7 +47,7 @@ impl<S: Dh, E: Ephemeral> Handshake<S, E> {
         }
     }
 
-    /// Reads the message that is due, in place, and gives its payload. `Short` and `Tag` end the handshake; else nothing is changed.
+    /// Reads the message that is due, in place, and returns its payload. `Short` and `Tag` end the handshake; otherwise an error changes nothing.
     pub fn read<'m>(&mut self, message: &'m mut [u8]) -> Result<&'m mut [u8], Error> {
         let mut told = Told::default();
         loop {
@@ -39,22 +59,22 @@ impl<S: Dh, E: Ephemeral> Handshake<S, E> {
         }
     }
 
-    // Hands in the answer of X25519 that is lacking. One of zeros is refused (Noise, 12.1).
+    // Passes the X25519 result that the call needs. Zeros are refused (Noise, 12.1).
     fn answer(&mut self, told: &Told) -> Result<(), Error> {
-        let answer = match &self.static_key {
+        let result = match &self.static_key {
             Some(key) if told.of_static != 0 => key.agree(&told.remote),
             _ => self.ephemeral.agree(&told.remote),
         };
-        let mut answer = answer.filter(|answer| answer != &[0; 32]).ok_or(Error::KeyPair)?;
-        let code = self.memory.answer(told.of_static, &told.remote, &answer);
-        raw::wipe(&mut answer);
+        let mut result = result.filter(|result| result != &[0; 32]).ok_or(Error::KeyPair)?;
+        let code = self.memory.answer(told.of_static, &told.remote, &result);
+        raw::wipe(&mut result);
         match code {
             OK => Ok(()),
             code => Err(Error::of(code, None)),
         }
     }
 
-    /// How many bytes the next message has with a payload of this length; none where no such message is due.
+    /// How many bytes the next message has with a payload of this length; `None` if `write` wouldn't accept it now.
     pub fn message_len(&self, payload_len: usize) -> Option<usize> {
         self.memory.message_len(payload_len)
     }
@@ -70,27 +90,27 @@ impl<S: Dh, E: Ephemeral> Handshake<S, E> {
         stage.ended == 0 && stage.passed == stage.messages
     }
 
-    /// The handshake hash so far. Behind the last message it is the same at both parties (Noise, 11.2).
+    /// The handshake hash so far. After the last message it is the same at both parties (Noise, 11.2).
     pub fn hash(&self) -> [u8; 32] {
         self.memory.hash()
     }
 
-    /// The other party's static key, as far as it is known: judge it before anything is sent that matters.
+    /// The other party's static key, if it is known. Compare it before you send anything that matters.
     pub fn remote_static(&self) -> Option<[u8; 32]> {
         self.memory.remote_static()
     }
 
-    /// Makes the transport of a handshake whose messages have all passed.
+    /// Makes the transport, after all messages have passed.
     pub fn finish(self) -> Result<Transport, Error> {
         let mut memory = raw::Transport::new();
         match self.memory.finish(self.interval, &mut memory) {
-            OK => Ok(Transport::of(memory)),
+            OK => Transport::of(memory),
             code => Err(Error::of(code, None)),
         }
     }
 
-    /// Makes the datagrams of a handshake whose messages have all passed. `window` is how much older than the newest one an opened datagram
-    /// may be: 64, 256 or 1024.
+    /// Makes the state for datagrams, after all messages have passed. A datagram may arrive after others whose numbers are less than `window`
+    /// greater: 64, 256 or 1024.
     pub fn finish_datagrams(self, window: u32) -> Result<Datagrams, Error> {
         let mut memory = raw::Datagrams::new();
         match self.memory.finish_datagrams(window, &mut memory) {

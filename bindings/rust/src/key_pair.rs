@@ -4,6 +4,17 @@ use openssl::derive::Deriver;
 use openssl::pkey::{Id, PKey, Private};
 
 /// A key pair of X25519, by OpenSSL.
+///
+/// ```
+/// # fn main() -> Result<(), yulimosar::Error> {
+/// use yulimosar::{Dh, KeyPair};
+///
+/// let (one, two) = (KeyPair::generate()?, KeyPair::generate()?);
+/// assert_eq!(one.agree(two.public_key()), two.agree(one.public_key()));
+/// let again = KeyPair::from_secret(&one.secret_key()?)?;
+/// assert_eq!(again.public_key(), one.public_key());
+/// # Ok(()) }
+/// ```
 pub struct KeyPair {
     pair: PKey<Private>,
     public: [u8; 32],

@@ -1,12 +1,12 @@
 //! The Noise Protocol Framework, revision 34, with 25519, ChaChaPoly and SHA256, over the static library `noise_c`, whose calls are proved
 //! to do what the framework says.
 //!
-//! [`Builder`] begins a [`Handshake`]; that makes a [`Transport`], for a stream, or [`Datagrams`], for a network that loses and reorders.
-//! [`Stream`] is all of it over anything that reads and writes. X25519 comes by the trait [`Dh`]: from OpenSSL with the feature `openssl`, or
+//! [`Builder`] starts a [`Handshake`], which becomes a [`Transport`], for a stream, or [`Datagrams`], for a network that loses and reorders.
+//! [`Stream`] does all of this over anything that reads and writes. X25519 comes through the trait [`Dh`]: from OpenSSL with the feature `openssl`, or
 //! from any other crate in a few lines.
 //!
-//! No heap is used but in [`Stream`]; without the feature `std` the crate is `no_std`. Keys are overwritten when a value is dropped; what a move
-//! leaves of it on the stack isn't.
+//! Only [`Stream`] uses the heap; without the feature `std` the crate is `no_std`. A value's keys are overwritten when it is dropped; what a move
+//! leaves on the stack isn't.
 //!
 //! ```
 //! # #[cfg(feature = "openssl")] fn main() -> Result<(), Box<dyn std::error::Error>> {
@@ -62,7 +62,7 @@ pub use key_pair::KeyPair;
 pub use stream::{ReadHalf, Stream, WriteHalf};
 pub use transport::{DatagramReceiver, DatagramSender, Datagrams, Receiver, Sender, Transport};
 
-/// The bytes of a key, a secret, an answer of X25519, and a handshake hash.
+/// The bytes of a key, a secret, a result of X25519, and a handshake hash.
 pub const KEY_LEN: usize = header::KEY_LEN;
 /// How much longer a transport message is than its payload, in bytes.
 pub const TAG_LEN: usize = header::TAG_LEN;

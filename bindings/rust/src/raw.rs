@@ -1,15 +1,19 @@
 // What include/noise.h declares, and the calls of it: all `unsafe` of this crate is here.
 //
-// Each call is sound since what the header asks of a caller holds by type. Pointers come of references and slices: none is NULL, each leads to as
-// many bytes as its count says, and one that isn't const comes of `&mut`, so no other pointer leads there. The kept structs are aligned to 8
-// by their declaration. A kept struct that is handed in for change comes of `&mut`: one thread has it. What stands in it is tested by the call.
-use crate::header::{KEY_LEN, MAX_PSKS, OK, SIZE_OF_DATAGRAMS, SIZE_OF_HANDSHAKE, SIZE_OF_TRANSPORT};
+// Each call is sound since the types ensure what the header asks of a caller. Pointers come from references and slices: none is NULL, each leads to as
+// many bytes as its count says, and one that isn't const comes from `&mut`, so no other pointer leads there. The kept structs are aligned to 8
+// by their declaration. A kept struct that a call may change comes from `&mut`: no other thread has it. The call checks its content.
+use crate::header::{KEY_LEN, MAX_PSKS, OK, SIZE_OF_DATAGRAMS, SIZE_OF_HANDSHAKE, SIZE_OF_RECEIVER, SIZE_OF_SENDER, SIZE_OF_TRANSPORT};
 use core::sync::atomic::{compiler_fence, Ordering};
 
 #[repr(C, align(8))]
 pub(crate) struct Handshake([u8; SIZE_OF_HANDSHAKE]);
 #[repr(C, align(8))]
 pub(crate) struct Transport([u8; SIZE_OF_TRANSPORT]);
+#[repr(C, align(8))]
+pub(crate) struct Sender([u8; SIZE_OF_SENDER]);
+#[repr(C, align(8))]
+pub(crate) struct Receiver([u8; SIZE_OF_RECEIVER]);
 #[repr(C, align(8))]
 pub(crate) struct Datagrams([u8; SIZE_OF_DATAGRAMS]);
 
@@ -61,9 +65,9 @@ extern "C" {
     fn noise_stage(h: *const Handshake, told: *mut Stage) -> u32;
     fn noise_finish(h: *const Handshake, interval: u64, t: *mut Transport) -> u32;
     fn noise_finish_datagrams(h: *const Handshake, window: u32, d: *mut Datagrams) -> u32;
-    fn noise_transport_seal(t: *mut Transport, payload: *const u8, payload_len: usize, out: *mut u8, out_len: usize, told: *mut Told) -> u32;
-    fn noise_transport_open(t: *mut Transport, message: *mut u8, message_len: usize, told: *mut Told) -> u32;
-    fn noise_transport_nonces(t: *const Transport, send: *mut u64, receive: *mut u64) -> u32;
+    fn noise_transport_split(t: *mut Transport, sender: *mut Sender, receiver: *mut Receiver) -> u32;
+    fn noise_sender_seal(s: *mut Sender, payload: *const u8, payload_len: usize, out: *mut u8, out_len: usize, told: *mut Told) -> u32;
+    fn noise_receiver_open(r: *mut Receiver, message: *mut u8, message_len: usize, told: *mut Told) -> u32;
     fn noise_datagrams_seal(d: *mut Datagrams, payload: *const u8, payload_len: usize, out: *mut u8, out_len: usize, told: *mut Told) -> u32;
     fn noise_datagrams_open(d: *mut Datagrams, datagram: *mut u8, datagram_len: usize, told: *mut Told) -> u32;
 }
@@ -88,7 +92,7 @@ pub(crate) fn wipe(bytes: &mut [u8]) {
 }
 
 impl Handshake {
-    // Memory in which nothing is begun: each call on it answers STRUCT.
+    // Memory without a handshake: each call on it returns STRUCT.
     pub(crate) const fn new() -> Handshake {
         Handshake([0; SIZE_OF_HANDSHAKE])
     }
@@ -156,27 +160,31 @@ impl Transport {
         Transport([0; SIZE_OF_TRANSPORT])
     }
 
-    // Of the two one only seals, and the other only opens: sealing uses and changes the key and the nonce of its direction alone, and so does
-    // opening, so nothing is sealed twice at one nonce.
-    pub(crate) fn for_other_direction(&self) -> Transport {
-        Transport(self.0)
+    pub(crate) fn split(mut self, sender: &mut Sender, receiver: &mut Receiver) -> u32 {
+        // SAFETY: see above.
+        unsafe { noise_transport_split(&mut self, sender, receiver) }
+    }
+}
+
+impl Sender {
+    pub(crate) const fn new() -> Sender {
+        Sender([0; SIZE_OF_SENDER])
     }
 
     pub(crate) fn seal(&mut self, payload: &[u8], out: &mut [u8], told: &mut Told) -> u32 {
         // SAFETY: see above.
-        unsafe { noise_transport_seal(self, payload.as_ptr(), payload.len(), out.as_mut_ptr(), out.len(), told) }
+        unsafe { noise_sender_seal(self, payload.as_ptr(), payload.len(), out.as_mut_ptr(), out.len(), told) }
+    }
+}
+
+impl Receiver {
+    pub(crate) const fn new() -> Receiver {
+        Receiver([0; SIZE_OF_RECEIVER])
     }
 
     pub(crate) fn open(&mut self, message: &mut [u8], told: &mut Told) -> u32 {
         // SAFETY: see above.
-        unsafe { noise_transport_open(self, message.as_mut_ptr(), message.len(), told) }
-    }
-
-    pub(crate) fn nonces(&self) -> (u64, u64) {
-        let (mut send, mut receive) = (0, 0);
-        // SAFETY: see above.
-        unsafe { noise_transport_nonces(self, &mut send, &mut receive) };
-        (send, receive)
+        unsafe { noise_receiver_open(self, message.as_mut_ptr(), message.len(), told) }
     }
 }
 
@@ -185,7 +193,7 @@ impl Datagrams {
         Datagrams([0; SIZE_OF_DATAGRAMS])
     }
 
-    // As of a transport.
+    // Of the two one only seals, and the other only opens: each call uses and changes only the state of its own direction, so no nonce seals twice.
     pub(crate) fn for_other_direction(&self) -> Datagrams {
         Datagrams(self.0)
     }
@@ -208,6 +216,18 @@ impl Drop for Handshake {
 }
 
 impl Drop for Transport {
+    fn drop(&mut self) {
+        wipe(&mut self.0);
+    }
+}
+
+impl Drop for Sender {
+    fn drop(&mut self) {
+        wipe(&mut self.0);
+    }
+}
+
+impl Drop for Receiver {
     fn drop(&mut self) {
         wipe(&mut self.0);
     }

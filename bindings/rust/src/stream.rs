@@ -3,10 +3,11 @@ use crate::raw::wipe;
 use crate::{Dh, Ephemeral, Error, Handshake, Receiver, Sender};
 use std::io::{self, ErrorKind, Read, Write};
 
-/// A secure channel over anything that reads and writes. Each message has its length in front, in two bytes, the higher first (Noise, 13).
+/// A secure channel over anything that reads and writes. Each message comes after its length in two bytes, the higher first (Noise, 13). The crate's
+/// first page has an example.
 ///
-/// An empty payload says that nothing more will come: `close_write` sends it, and `read` then gives 0. A connection that ends without it is
-/// `ConnectionAborted` between two messages, and `UnexpectedEof` within one.
+/// An empty payload is the end of a party's stream: `close_write` sends it, and `read` at the other party then returns 0. If the connection ends
+/// without it, `read` returns `ConnectionAborted` between two messages, and `UnexpectedEof` within one.
 pub struct Stream<T> {
     below: T,
     reading: Reading,
@@ -30,7 +31,7 @@ pub struct WriteHalf<T> {
 struct Reading {
     receiver: Receiver,
     frames: Frames,
-    rest: (usize, usize), // of the frame: what is opened and isn't read yet
+    rest: (usize, usize), // of the frame: what is opened, and not read yet
     ended: Option<Ended>,
 }
 
@@ -49,7 +50,7 @@ struct Writing {
     broken: bool,
 }
 
-// Takes frames, and goes on within one where the stream had nothing more for a time.
+// Reads frames, and continues within one after the stream had nothing more for a time.
 #[derive(Default)]
 struct Frames {
     buffer: Vec<u8>,
@@ -57,7 +58,7 @@ struct Frames {
 }
 
 impl Frames {
-    // The next message stands in buffer[2..]: its end.
+    // Reads the next message into buffer[2..], and returns its end.
     fn next(&mut self, from: &mut impl Read) -> io::Result<usize> {
         self.fill(from, 2)?;
         let end = 2 + usize::from(u16::from_be_bytes([self.buffer[0], self.buffer[1]]));
@@ -86,9 +87,7 @@ impl Frames {
 impl From<Ended> for io::Error {
     fn from(ended: Ended) -> io::Error {
         match ended {
-            Ended::Said | Ended::Cut => {
-                io::Error::new(ErrorKind::ConnectionAborted, "the connection was cut: the other party didn't say that it was done")
-            }
+            Ended::Said | Ended::Cut => io::Error::new(ErrorKind::ConnectionAborted, "the connection was cut before the end of the stream"),
             Ended::Within => io::Error::new(ErrorKind::UnexpectedEof, "the connection was cut within a message"),
             Ended::Refused(error) => error.into(),
         }
@@ -109,7 +108,7 @@ impl Reading {
         Ok(count)
     }
 
-    // Takes the next message: whether there is one.
+    // Opens the next message: whether there is one.
     fn open(&mut self, below: &mut impl Read) -> io::Result<bool> {
         match self.ended {
             None => {}
@@ -177,8 +176,8 @@ impl Writing {
 }
 
 impl<T: Read + Write> Stream<T> {
-    /// Passes the handshake over `below`, with empty payloads. `accept` is asked about the other party's static key as soon as that is known,
-    /// before anything else is read or written; it isn't asked where the handshake tells none, as by the pattern NN: see `anonymous`.
+    /// Runs the handshake over `below`, with empty payloads. `accept` is called with the other party's static key as soon as that is known, before
+    /// anything else is read or written. A handshake without such a key, as by the pattern NN, is refused: see `anonymous`.
     pub fn new<S: Dh, E: Ephemeral>(below: T, handshake: Handshake<S, E>, accept: impl FnOnce(&[u8; 32]) -> bool) -> io::Result<Stream<T>> {
         let (stream, asked) = Stream::pass(below, handshake, accept)?;
         if asked {
@@ -188,8 +187,7 @@ impl<T: Read + Write> Stream<T> {
         }
     }
 
-    /// Passes a handshake that tells no static key of the other party, or one that nobody judges: by a secret that both have (psk), or with
-    /// anybody.
+    /// Runs a handshake in which the other party has no static key, or one that you don't compare: with a secret that both have (psk), or with anybody.
     pub fn anonymous<S: Dh, E: Ephemeral>(below: T, handshake: Handshake<S, E>) -> io::Result<Stream<T>> {
         Ok(Stream::pass(below, handshake, |_| true)?.0)
     }
@@ -230,22 +228,43 @@ impl<T: Read + Write> Stream<T> {
 }
 
 impl<T> Stream<T> {
-    /// The handshake hash, the same at both ends, for what is bound to the channel (Noise, 11.2).
+    /// The handshake hash, the same at both parties, to bind other data to the channel (Noise, 11.2).
     pub fn hash(&self) -> &[u8; 32] {
         &self.hash
     }
 
-    /// The other party's static key; none where the handshake told none.
+    /// The other party's static key; `None` if the handshake has none.
     pub fn remote_static(&self) -> Option<&[u8; 32]> {
         self.remote_static.as_ref()
     }
 
-    /// The stream below. What is read from it or written to it breaks the channel.
+    /// The stream below. To read from it or write to it breaks the channel.
     pub fn get_ref(&self) -> &T {
         &self.below
     }
 
     /// Two halves, for two threads. `clone` makes the second handle of the stream below: `stream.split(TcpStream::try_clone)`.
+    ///
+    #[cfg_attr(feature = "openssl", doc = "```")]
+    #[cfg_attr(not(feature = "openssl"), doc = "```ignore")]
+    /// # fn main() -> std::io::Result<()> {
+    /// use std::io::{Read, Write};
+    /// use std::os::unix::net::UnixStream;
+    /// use yulimosar::{Builder, KeyPair, Stream};
+    ///
+    /// let (here, there) = UnixStream::pair()?;
+    /// let server = std::thread::spawn(move || Stream::anonymous(there, Builder::new("NN").responder::<KeyPair>()?));
+    /// let client = Stream::anonymous(here, Builder::new("NN").initiator::<KeyPair>()?)?;
+    /// let mut server = server.join().unwrap()?;
+    ///
+    /// let (_reads, mut writes) = client.split(UnixStream::try_clone)?;
+    /// writes.write_all(b"hello")?;
+    /// writes.close_write()?;
+    /// let mut text = String::new();
+    /// server.read_to_string(&mut text)?;
+    /// assert_eq!(text, "hello");
+    /// # Ok(()) }
+    /// ```
     pub fn split(self, clone: impl FnOnce(&T) -> io::Result<T>) -> io::Result<(ReadHalf<T>, WriteHalf<T>)> {
         let second = clone(&self.below)?;
         Ok((ReadHalf { below: self.below, reading: self.reading }, WriteHalf { below: second, writing: self.writing }))
@@ -253,14 +272,14 @@ impl<T> Stream<T> {
 }
 
 impl<T: Write> Stream<T> {
-    /// Says that nothing more will come: `read` at the other end gives 0. What that writes can still be read.
+    /// Sends the end of this party's stream: `read` at the other party returns 0. What that party writes can still be read.
     pub fn close_write(&mut self) -> io::Result<()> {
         self.writing.close(&mut self.below)
     }
 }
 
 impl<T: Write> WriteHalf<T> {
-    /// As of `Stream`.
+    /// Sends the end of this party's stream, as [`Stream::close_write`] does.
     pub fn close_write(&mut self) -> io::Result<()> {
         self.writing.close(&mut self.below)
     }

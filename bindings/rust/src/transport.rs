@@ -2,25 +2,73 @@ use crate::header::OK;
 use crate::raw::{self, Told};
 use crate::Error;
 
-/// What seals transport messages. They have to arrive in the order in which they were sealed.
-pub struct Sender(raw::Transport);
+/// Seals transport messages. They have to arrive in the order in which they were sealed.
+pub struct Sender {
+    memory: raw::Sender,
+    nonce: u64,
+}
 
-/// What opens transport messages, in their order.
-pub struct Receiver(raw::Transport);
+/// Opens transport messages, in their order.
+pub struct Receiver {
+    memory: raw::Receiver,
+    nonce: u64,
+}
 
-/// Both directions of a transport, over a stream.
+/// Both directions of a transport, over a stream, which loses no message and keeps their order.
+///
+#[cfg_attr(feature = "openssl", doc = "```")]
+#[cfg_attr(not(feature = "openssl"), doc = "```ignore")]
+/// # fn main() -> Result<(), yulimosar::Error> {
+/// use yulimosar::{Builder, KeyPair, TAG_LEN};
+///
+/// let mut client = Builder::new("NN").initiator::<KeyPair>()?;
+/// let mut server = Builder::new("NN").responder::<KeyPair>()?;
+/// let mut message = [0; 100];
+/// let len = client.write(b"", &mut message)?;
+/// server.read(&mut message[..len])?;
+/// let len = server.write(b"", &mut message)?;
+/// client.read(&mut message[..len])?;
+///
+/// let (mut sender, _) = client.finish()?.split(); // for two threads
+/// let mut server = server.finish()?;
+/// let len = sender.seal(b"hello", &mut message)?;
+/// assert_eq!(len, 5 + TAG_LEN);
+/// assert_eq!(server.open(&mut message[..len])?, b"hello");
+/// # Ok(()) }
+/// ```
 pub struct Transport {
     sender: Sender,
     receiver: Receiver,
 }
 
-/// What seals datagrams.
+/// Seals datagrams.
 pub struct DatagramSender(raw::Datagrams);
 
-/// What opens datagrams, in any order, each once.
+/// Opens datagrams, in any order, each once.
 pub struct DatagramReceiver(raw::Datagrams);
 
-/// Both directions of a channel over a network that loses, repeats and reorders.
+/// Both directions of a channel over a network that loses, repeats and reorders datagrams.
+///
+#[cfg_attr(feature = "openssl", doc = "```")]
+#[cfg_attr(not(feature = "openssl"), doc = "```ignore")]
+/// # fn main() -> Result<(), yulimosar::Error> {
+/// use yulimosar::{Builder, Error, KeyPair, DATAGRAM_OVERHEAD};
+///
+/// let mut client = Builder::new("NN").initiator::<KeyPair>()?;
+/// let mut server = Builder::new("NN").responder::<KeyPair>()?;
+/// let mut message = [0; 100];
+/// let len = client.write(b"", &mut message)?;
+/// server.read(&mut message[..len])?;
+/// let len = server.write(b"", &mut message)?;
+/// client.read(&mut message[..len])?;
+///
+/// let (mut client, mut server) = (client.finish_datagrams(64)?, server.finish_datagrams(64)?);
+/// let mut datagram = [0; 5 + DATAGRAM_OVERHEAD];
+/// client.seal(b"hello", &mut datagram)?;
+/// assert_eq!(server.open(&mut datagram.clone())?, b"hello");
+/// assert_eq!(server.open(&mut datagram), Err(Error::Repeated));
+/// # Ok(()) }
+/// ```
 pub struct Datagrams {
     sender: DatagramSender,
     receiver: DatagramReceiver,
@@ -42,39 +90,48 @@ impl Sender {
     /// Seals a payload of at most 65519 bytes to the front of `out`: 16 bytes longer. At an error nothing is changed.
     pub fn seal(&mut self, payload: &[u8], out: &mut [u8]) -> Result<usize, Error> {
         let mut told = Told::default();
-        length(self.0.seal(payload, out, &mut told), &told)
+        let len = length(self.memory.seal(payload, out, &mut told), &told)?;
+        self.nonce += 1;
+        Ok(len)
     }
 
     /// How many messages were sealed.
     pub fn nonce(&self) -> u64 {
-        self.0.nonces().0
+        self.nonce
     }
 }
 
 impl Receiver {
-    /// Opens the next message in place, and gives its payload. At an error nothing is changed; over a stream close at the first.
+    /// Opens the next message in place, and returns its payload. At an error nothing is changed; over a stream close at the first.
     pub fn open<'m>(&mut self, message: &'m mut [u8]) -> Result<&'m mut [u8], Error> {
         let mut told = Told::default();
-        place(self.0.open(message, &mut told), &told, message)
+        let payload = place(self.memory.open(message, &mut told), &told, message)?;
+        self.nonce += 1;
+        Ok(payload)
     }
 
     /// How many messages were opened.
     pub fn nonce(&self) -> u64 {
-        self.0.nonces().1
+        self.nonce
     }
 }
 
 impl Transport {
-    pub(crate) fn of(memory: raw::Transport) -> Transport {
-        Transport { receiver: Receiver(memory.for_other_direction()), sender: Sender(memory) }
+    pub(crate) fn of(memory: raw::Transport) -> Result<Transport, Error> {
+        let mut sender = Sender { memory: raw::Sender::new(), nonce: 0 };
+        let mut receiver = Receiver { memory: raw::Receiver::new(), nonce: 0 };
+        match memory.split(&mut sender.memory, &mut receiver.memory) {
+            OK => Ok(Transport { sender, receiver }),
+            code => Err(Error::of(code, None)),
+        }
     }
 
-    /// As of `Sender`.
+    /// Seals a payload as [`Sender::seal`] does.
     pub fn seal(&mut self, payload: &[u8], out: &mut [u8]) -> Result<usize, Error> {
         self.sender.seal(payload, out)
     }
 
-    /// As of `Receiver`.
+    /// Opens the next message as [`Receiver::open`] does.
     pub fn open<'m>(&mut self, message: &'m mut [u8]) -> Result<&'m mut [u8], Error> {
         self.receiver.open(message)
     }
@@ -94,8 +151,8 @@ impl DatagramSender {
 }
 
 impl DatagramReceiver {
-    /// Opens a datagram in place, and gives its payload. At an error nothing is changed: drop the datagram. `Old` and `Repeated` are by
-    /// themselves no sign of an attack.
+    /// Opens a datagram in place, and returns its payload. At an error nothing is changed: drop the datagram. `Old` and `Repeated` alone
+    /// are no sign of an attack.
     pub fn open<'m>(&mut self, datagram: &'m mut [u8]) -> Result<&'m mut [u8], Error> {
         let mut told = Told::default();
         place(self.0.open(datagram, &mut told), &told, datagram)
@@ -107,12 +164,12 @@ impl Datagrams {
         Datagrams { receiver: DatagramReceiver(memory.for_other_direction()), sender: DatagramSender(memory) }
     }
 
-    /// As of `DatagramSender`.
+    /// Seals a payload as [`DatagramSender::seal`] does.
     pub fn seal(&mut self, payload: &[u8], out: &mut [u8]) -> Result<usize, Error> {
         self.sender.seal(payload, out)
     }
 
-    /// As of `DatagramReceiver`.
+    /// Opens a datagram as [`DatagramReceiver::open`] does.
     pub fn open<'m>(&mut self, datagram: &'m mut [u8]) -> Result<&'m mut [u8], Error> {
         self.receiver.open(datagram)
     }

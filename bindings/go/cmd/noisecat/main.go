@@ -1,11 +1,11 @@
 // Noisecat joins standard input and output to a secure channel by the Noise Protocol Framework, as nc does to a plain one.
 //
-//	noisecat keygen > server.key              makes a static key; its public key goes to standard error
+//	noisecat keygen > server.key              makes a static key, and prints its public key on standard error
 //	noisecat -listen :9000 -key server.key -allow KEY,..
 //	noisecat -connect host:9000 -key client.key -peer KEY
 //
-// With port 0 it listens at a free one, and says on standard error where.
-// It ends with status 0 when both ends have said all, and with 1 and a sentence on standard error where anything was wrong.
+// With port 0 it listens at a free port, and prints the address on standard error.
+// The status is 0 if both parties have ended their streams, 1 after a fault, with a sentence on standard error, and 2 after wrong options.
 package main
 
 import (
@@ -39,20 +39,20 @@ func main() {
 	}
 }
 
-// sentence says what an operator has to know of an error.
+// sentence returns what an operator has to know about an error.
 func sentence(err error) string {
 	var handshake *noise.HandshakeError
 	switch {
 	case errors.Is(err, noise.ErrPeerKey) || errors.Is(err, errNotAllowed):
 		return err.Error()
 	case errors.As(err, &handshake) && errors.Is(err, noise.ErrTag):
-		return err.Error() + " (another key, secret, pattern or prologue than the other end has, or a changed message)"
+		return err.Error() + " (the other end has another key, secret, pattern or prologue, or the message was changed)"
 	case errors.Is(err, noise.ErrTag) || errors.Is(err, noise.ErrShort):
 		return "a message was changed on the way: " + err.Error()
 	case errors.Is(err, io.ErrUnexpectedEOF):
 		return "the connection was cut within a message"
 	case errors.Is(err, noise.ErrCut):
-		return "the connection was cut before the other end said that it was done"
+		return "the connection was cut before the other end had sent all"
 	case errors.Is(err, syscall.ECONNRESET) || errors.Is(err, syscall.EPIPE):
 		return "the connection was cut: " + err.Error()
 	}
@@ -65,16 +65,16 @@ func run(words []string) error {
 	}
 	var o options
 	flags := flag.NewFlagSet("noisecat", flag.ContinueOnError)
-	flags.StringVar(&o.listen, "listen", "", "take one connection at this `address`")
+	flags.StringVar(&o.listen, "listen", "", "accept one connection at this `address`")
 	flags.StringVar(&o.connect, "connect", "", "connect to this `address`")
-	flags.StringVar(&o.key, "key", "", "the `file` of the static key, as keygen makes it")
+	flags.StringVar(&o.key, "key", "", "the `file` of the static key, as keygen prints it")
 	flags.StringVar(&o.allow, "allow", "", "accept the other end if it has one of these public `keys` (hex, joined by commas)")
 	flags.StringVar(&o.peer, "peer", "", "the public `key` of the other end (hex)")
 	flags.BoolVar(&o.any, "insecure-any", false, "talk to anybody")
 	flags.StringVar(&o.pattern, "pattern", "XX", "the pattern, as IK or XXpsk3, the whole protocol `name`, or @FILE with a pattern text")
 	flags.StringVar(&o.psk, "psk", "", "the `files` of the secrets, 64 hex digits each, one for each psk token, joined by commas")
-	flags.StringVar(&o.prologue, "prologue", "", "the `text` that both ends have agreed on before")
-	flags.Uint64Var(&o.interval, "interval", 0, "renew keys after this `count` of messages; 0: never")
+	flags.StringVar(&o.prologue, "prologue", "", "the `text` that both ends have agreed on")
+	flags.Uint64Var(&o.interval, "interval", 0, "renew keys after this `number` of messages; 0: never")
 	flags.BoolVar(&o.verbose, "v", false, "show each message, and the handshake hash, on standard error")
 	if err := flags.Parse(words); err != nil {
 		return flag.ErrHelp
@@ -102,7 +102,7 @@ var errNotAllowed = errors.New("the other end's key isn't allowed")
 func bytes32(what, digits string) ([]byte, error) {
 	b, err := hex.DecodeString(strings.TrimSpace(digits))
 	if err != nil || len(b) != noise.KeyLen {
-		return nil, fmt.Errorf("%s: 64 hex digits are due", what)
+		return nil, fmt.Errorf("%s: not 64 hex digits", what)
 	}
 	return b, nil
 }
@@ -145,7 +145,7 @@ func (o *options) config() (*noise.Config, error) {
 	return c, o.setPeer(c)
 }
 
-// setPeer says who may be at the other end.
+// setPeer sets who may be the other end.
 func (o *options) setPeer(c *noise.Config) (err error) {
 	if o.peer != "" {
 		if c.PeerStatic, err = bytes32("-peer", o.peer); err != nil {
@@ -172,7 +172,7 @@ func (o *options) setPeer(c *noise.Config) (err error) {
 	return nil
 }
 
-// meet makes the connection below.
+// meet returns the connection below.
 func (o *options) meet() (net.Conn, error) {
 	if o.connect != "" {
 		return net.Dial("tcp", o.connect)
@@ -191,6 +191,9 @@ func (o *options) meet() (net.Conn, error) {
 func join(o *options) error {
 	config, err := o.config()
 	if err != nil {
+		return err
+	}
+	if err := config.Check(o.connect != ""); err != nil {
 		return err
 	}
 	conn, err := o.meet()
@@ -222,7 +225,7 @@ func join(o *options) error {
 	return carry(c)
 }
 
-// carry moves standard input and output, until both ends have said all.
+// carry moves standard input and output, until both ends have sent all.
 func carry(c *noise.Conn) error {
 	sent := make(chan error, 1)
 	go func() {

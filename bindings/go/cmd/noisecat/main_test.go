@@ -37,7 +37,7 @@ func built(t *testing.T) (string, func(...string) *exec.Cmd) {
 	}
 }
 
-// keyFile makes a key, and gives its public half.
+// keyFile makes a key, and returns its public half.
 func keyFile(t *testing.T, name string, cmd *exec.Cmd) string {
 	t.Helper()
 	var secret, public bytes.Buffer
@@ -51,7 +51,7 @@ func keyFile(t *testing.T, name string, cmd *exec.Cmd) string {
 	return strings.TrimSpace(strings.TrimPrefix(public.String(), "public key: "))
 }
 
-// side is one process: what it reads from standard input, where its output goes, and what it has said on standard error, and how it ended.
+// side is one process: its standard input, where its output goes, what it has written to standard error, and its status.
 type side struct {
 	in     io.Reader
 	out    io.Writer
@@ -59,7 +59,7 @@ type side struct {
 	status int
 }
 
-// run2 runs a server, which takes any free port, and then a client, which is made for that address.
+// run2 runs a server at a free port, and then a client for that address.
 func run2(t *testing.T, server *exec.Cmd, client func(address string) *exec.Cmd, ends *[2]side) {
 	t.Helper()
 	server.Args = append(server.Args, "-listen", "127.0.0.1:0")
@@ -84,7 +84,7 @@ func run2(t *testing.T, server *exec.Cmd, client func(address string) *exec.Cmd,
 	ends[0].status, ends[1].status = server.ProcessState.ExitCode(), cmd.ProcessState.ExitCode()
 }
 
-// pair is the command, the public keys of the files s and c beside it, and a client that wants this key of the server.
+// pair returns the command, the public keys of the files s and c in its folder, and a client that expects this key of the server.
 func pair(t *testing.T) (cat func(...string) *exec.Cmd, server, client string, to func(peer string) func(string) *exec.Cmd) {
 	t.Helper()
 	room, cat := built(t)
@@ -162,7 +162,6 @@ func TestOtherKeys(t *testing.T) {
 		{client, client, "", 1, "another static key"},
 		{client, server, "-prologue=other", 1, "another key, secret, pattern or prologue"},
 		{client, server, "-pattern=IK", 1, "another key, secret, pattern or prologue"},
-		{client, "12", "", 1, "64 hex digits"},
 	} {
 		var ends [2]side
 		run2(t, cat("-key", "s", "-allow", it.allow), func(address string) *exec.Cmd {
@@ -170,14 +169,61 @@ func TestOtherKeys(t *testing.T) {
 			if it.more != "" {
 				cmd.Args = append(cmd.Args, it.more)
 			}
-			if it.words == "64 hex digits" { // the server waits until somebody comes
-				if conn, err := net.Dial("tcp", address); err == nil {
-					conn.Close()
-				}
-			}
 			return cmd
 		}, &ends)
 		refused(t, &ends[it.end], it.words)
+	}
+}
+
+// TestSecrets gives the two ends one file with a secret, and then two files with different ones.
+func TestSecrets(t *testing.T) {
+	room, cat := built(t)
+	secret := func(name string) { keyFile(t, filepath.Join(room, name), cat("keygen")) }
+	secret("one")
+	secret("other")
+	run := func(psk string) (ends [2]side) {
+		ends[1].in = strings.NewReader("hello")
+		came := new(strings.Builder)
+		ends[0].out = came
+		run2(t, cat("-pattern", "NNpsk2", "-psk", "one"), func(address string) *exec.Cmd {
+			return cat("-connect", address, "-pattern", "NNpsk2", "-psk", psk)
+		}, &ends)
+		if got := came.String(); ends[0].status == 0 && got != "hello" || ends[0].status != 0 && got != "" {
+			t.Errorf("the server prints %q", got)
+		}
+		return ends
+	}
+	if ends := run("one"); ends[0].status != 0 || ends[1].status != 0 {
+		t.Error(ends[0].said.String(), ends[1].said.String())
+	}
+	ends := run("other")
+	refused(t, &ends[1], "another key, secret, pattern or prologue")
+	refused(t, &ends[0], "the connection was cut")
+}
+
+// TestOptions looks for faults that are found before anything is sent.
+func TestOptions(t *testing.T) {
+	room, cat := built(t)
+	keyFile(t, filepath.Join(room, "k"), cat("keygen"))
+	if err := os.WriteFile(filepath.Join(room, "short"), []byte("12\n"), 0o600); err != nil {
+		t.Fatal(err)
+	}
+	for words, args := range map[string]string{
+		"-peer: not 64 hex digits":                   "-connect 127.0.0.1:1 -key k -peer 12",
+		"short: not 64 hex digits":                   "-connect 127.0.0.1:1 -pattern NNpsk0 -psk short",
+		"open none: no such file":                    "-listen 127.0.0.1:0 -pattern NNpsk0 -psk none",
+		"Config.PSKs: noise: the number of secrets":  "-listen 127.0.0.1:0 -pattern NNpsk0 -psk k,k",
+		"Config.PSKs: noise: the number of secrets ": "-listen 127.0.0.1:0 -pattern NNpsk0 -insecure-any",
+		"Config.Static: noise: the pattern needs":    "-listen 127.0.0.1:0 -insecure-any",
+		"Config.VerifyPeer":                          "-listen 127.0.0.1:0 -key k",
+		"Config.Pattern: noise: not the name":        "-listen 127.0.0.1:0 -key k -pattern XXpsk7 -insecure-any",
+	} {
+		var end side
+		cmd := cat(strings.Fields(args)...)
+		cmd.Stderr = &end.said
+		cmd.Run()
+		end.status = cmd.ProcessState.ExitCode()
+		refused(t, &end, words)
 	}
 }
 
@@ -187,7 +233,7 @@ func TestFaults(t *testing.T) {
 	for _, it := range []struct {
 		words  string
 		change func(io.Writer, io.Reader)
-	}{{"was changed", flip}, {"cut within a message", cutWithin}, {"cut before the other end said that it was done", cutBetween}} {
+	}{{"was changed", flip}, {"cut within a message", cutWithin}, {"cut before the other end had sent all", cutBetween}} {
 		middle, err := net.Listen("tcp", "127.0.0.1:0")
 		if err != nil {
 			t.Fatal(err)
@@ -228,7 +274,7 @@ func cutBetween(to io.Writer, from io.Reader) {
 	}
 }
 
-// pass takes one connection, and carries what comes to the server, changed, and what the server says back.
+// pass accepts one connection, and carries what it reads to the server, changed, and back what the server writes.
 func pass(middle net.Listener, at string, change func(io.Writer, io.Reader)) {
 	from, err := middle.Accept()
 	if err != nil {

@@ -1,0 +1,136 @@
+// A pattern as a program in C, over include/noise.h and OpenSSL.
+import { lines, octalEscape, quoted } from './text.mjs';
+
+const HELPERS = `typedef struct {
+    EVP_PKEY *secret;
+    uint8_t public[32];
+} key_pair;
+
+static void must(int holds, const char *what) {
+    if (holds) return;
+    fprintf(stderr, "%s\\n", what);
+    exit(1);
+}
+
+static key_pair draw(void) {
+    key_pair pair = {EVP_PKEY_Q_keygen(NULL, NULL, "X25519"), {0}};
+    size_t len = 32;
+    must(pair.secret && EVP_PKEY_get_raw_public_key(pair.secret, pair.public, &len) == 1, "no key pair");
+    return pair;
+}
+
+// OpenSSL fails if the result is all zeros.
+static void x25519(const key_pair *own, const uint8_t remote[32], uint8_t result[32]) {
+    size_t len = 32;
+    EVP_PKEY *other = EVP_PKEY_new_raw_public_key(EVP_PKEY_X25519, NULL, remote, 32);
+    EVP_PKEY_CTX *context = EVP_PKEY_CTX_new(own->secret, NULL);
+    must(other && context && EVP_PKEY_derive_init(context) == 1 && EVP_PKEY_derive_set_peer(context, other) == 1, "no X25519");
+    must(EVP_PKEY_derive(context, result, &len) == 1, "X25519 fails for this public key");
+    EVP_PKEY_CTX_free(context);
+    EVP_PKEY_free(other);
+}
+
+static void set(noise_key *key, const key_pair *pair) {
+    key->present = 1;
+    memcpy(key->bytes, pair->public, 32);
+}
+`;
+
+const STEP = `// Writes the next message, and returns its length; or reads it.
+static size_t step(party *p, int writes, uint8_t message[NOISE_MAX_MESSAGE], size_t len) {
+    noise_told told;
+    uint8_t result[32];
+    uint32_t code;
+    while ((code = writes ? noise_write(&p->handshake, NULL, 0, message, NOISE_MAX_MESSAGE, &told)
+                          : noise_read(&p->handshake, message, len, &told)) == NOISE_WANTED) {
+        x25519(told.of_static ? &p->s : &p->e, told.remote, result);
+        must(noise_answer(&p->handshake, told.of_static, told.remote, result) == NOISE_OK, "noise_answer");
+    }
+    must(code == NOISE_OK, noise_text(code));
+    return writes ? told.len : 0;
+}
+`;
+
+/** A statement for both parties, for one of them, or for none. */
+function forParty(who, statement) {
+  if (who.initiator && who.responder) return `    ${statement}`;
+  if (!who.initiator && !who.responder) return undefined;
+  return `    if (${who.initiator ? '!' : ''}responder) ${statement}`;
+}
+
+function start({ has, knows, knowsEphemeral, psks }) {
+  const usesOther = [knows, knowsEphemeral].some((who) => who.initiator || who.responder);
+  return lines(
+    'static void start(party *p, const party *other, uint8_t responder) {',
+    '    noise_setup setup = {.responder = responder};',
+    !usesOther && '    (void)other;',
+    '    set(&setup.e, &p->e);    // a new key pair for each handshake',
+    forParty(has, 'set(&setup.s, &p->s);'),
+    forParty(knows, 'set(&setup.remote_s, &other->s);'),
+    forParty(knowsEphemeral, 'set(&setup.remote_e, &other->e);'),
+    psks > 0 && ['    setup.psk_count = PSKS;', '    memcpy(setup.psks, psks, sizeof psks);'],
+    '    uint32_t code = noise_start(&p->handshake, (const uint8_t *)pattern, sizeof pattern - 1, (const uint8_t *)prologue, sizeof prologue - 1, &setup);',
+    '    must(code == NOISE_OK, noise_text(code));',
+    '    noise_wipe(&setup, sizeof setup);',
+    '}',
+  );
+}
+
+function main({ psks, isDatagrams, interval, window }) {
+  const [finish, option, seal, open] = isDatagrams
+    ? ['noise_finish_datagrams', window, 'noise_datagrams_seal', 'noise_datagrams_open']
+    : ['noise_finish', interval, 'noise_transport_seal', 'noise_transport_open'];
+  return lines(
+    'int main(void) {',
+    '    static party client, server;',
+    '    static uint8_t message[NOISE_MAX_MESSAGE];',
+    '    noise_stage_told stage;',
+    '    noise_told told;',
+    '    client.e = draw(), client.s = draw(), server.e = draw(), server.s = draw();',
+    psks > 0 && '    must(RAND_bytes(psks[0], sizeof psks) == 1, "no random bytes");',
+    '    start(&client, &server, 0);',
+    '    start(&server, &client, 1);',
+    '    while (noise_stage(&client.handshake, &stage) == NOISE_OK && stage.passed < stage.messages) {',
+    '        party *from = stage.writes_next ? &client : &server, *to = stage.writes_next ? &server : &client;',
+    '        step(to, 0, message, step(from, 1, message, 0));    // a network comes between the two calls',
+    '    }',
+    '    // Compare the other party\'s static key, by noise_remote_static, with the one that you expect.',
+    `    must(${finish}(&client.handshake, ${option}, &client.open) == NOISE_OK, "the client isn't done");`,
+    `    must(${finish}(&server.handshake, ${option}, &server.open) == NOISE_OK, "the server isn't done");`,
+    '    noise_wipe(&client.handshake, sizeof client.handshake);',
+    '    noise_wipe(&server.handshake, sizeof server.handshake);',
+    `    must(${seal}(&client.open, (const uint8_t *)"hello", 5, message, sizeof message, &told) == NOISE_OK, "not sealed");`,
+    `    must(${open}(&server.open, message, told.len, &told) == NOISE_OK, "not opened");`,
+    '    printf("the server reads: %.*s\\n", (int)told.len, (const char *)message + told.from);',
+    '    noise_wipe(&client, sizeof client);',
+    '    noise_wipe(&server, sizeof server);',
+    '    return 0;',
+    '}',
+  );
+}
+
+export function c(facts) {
+  const { section, name, isNamed, prologue, psks, isDatagrams } = facts;
+  const text = isNamed
+    ? [`static const char pattern[] = "Noise_${section}_25519_ChaChaPoly_SHA256";`]
+    : ['static const char pattern[] =', ...facts.lines.map((line, n) => `    "${line}\\n"${n === facts.lines.length - 1 ? ';' : ''}`)];
+  return lines(
+    `// The pattern ${section}: both parties in one program.`,
+    `//     cc -I include ${name}.c libnoise_c.a -lcrypto -o ${name}`,
+    '#include "noise.h"',
+    '#include <openssl/evp.h>',
+    psks > 0 && '#include <openssl/rand.h>',
+    '#include <stdio.h>', '#include <stdlib.h>', '#include <string.h>', '',
+    text,
+    `static const char prologue[] = ${quoted(prologue, octalEscape)};`,
+    psks > 0 && [`enum { PSKS = ${psks} };`, 'static uint8_t psks[PSKS][32];    // in the order of the psk tokens'],
+    '',
+    HELPERS,
+    'typedef struct {',
+    '    key_pair e, s;',
+    '    noise_handshake handshake;',
+    `    ${isDatagrams ? 'noise_datagrams' : 'noise_transport'} open;`,
+    '} party;', '',
+    start(facts), STEP, main(facts).trimEnd(),
+  );
+}
