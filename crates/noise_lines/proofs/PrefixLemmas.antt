@@ -1,19 +1,13 @@
 -- Prefixes of a text that is written piece by piece.
-use Rattle.std.proofs.Common.{◌≡◌, ◌∙◌, ap, sym, refl, ℕ, ◌+◌, ◌-◌, ◌≤◌, List, [], ◌++◌, Option, length, take, drop, append_assoc, append-nil, arith}
-use Rattle.std.specs.Io.KnownBytes.{Appends, Keeps}
-use Rattle.std.proofs.KnownBytes.{Appends-kept, Appends-nil, Appends-trans, Keeps-refl}
+use Rattle.std.proofs.Common.{◌≡◌, ◌∙◌, ap, sym, ℕ, ◌+◌, ◌-◌, List, [], ◌++◌, Option, length, take, drop, append_assoc, append-nil}
+use Rattle.std.specs.Io.KnownBytes.{Appends}
+use Rattle.std.proofs.KnownBytes.{Appends-trans}
 use Rattle.std.proofs.lemmas.List.{take-append-drop, take_rest}
 use Rattle.std.proofs.Math.Seq.{take-add}
 use Rattle.noise_lines.specs.Prefixes.{AppendsPrefix}
 
 pub prefix-whole : (a b : Option (List ℕ)) (text : List ℕ) → Appends a b text → AppendsPrefix a b text
 prefix-whole a b text h = record { prefix = text; rest = []; begins = sym (append-nil text); appended = h }
-
-pub prefix-none : (a : Option (List ℕ)) (text : List ℕ) → AppendsPrefix a a text
-prefix-none a text = record { prefix = []; rest = text; begins = refl; appended = Appends-nil a }
-
-pub prefix-kept : (a b c : Option (List ℕ)) (text : List ℕ) → AppendsPrefix a b text → Keeps b c → AppendsPrefix a c text
-prefix-kept a b c text p q = record { prefix = p.prefix; rest = p.rest; begins = p.begins; appended = Appends-kept a b c p.prefix p.appended q }
 
 -- the first bytes of a text
 pub prefix-taken : (a b : Option (List ℕ)) (at : ℕ) (text : List ℕ) → Appends a b (take at text) → AppendsPrefix a b text

@@ -1,17 +1,10 @@
 -- A prefix of what a command prints.
-use Rattle.std.proofs.Common.{◌≡◌, ◌∙◌, refl, sym, ap, subst, ◌⊎◌, inl, inr, ◌≤◌, ℕ, List, [], ◌∷◌, ◌++◌, Option, Some, None, Ok, String, length, string_bytes}
+use Rattle.std.proofs.Common.{◌≡◌, ◌∙◌, refl, sym, ap, subst, ◌⊎◌, inl, inr, ◌≤◌, ℕ, List, [], ◌∷◌, ◌++◌, Option, Some, None, Ok, String, length}
 use Rattle.std.specs.Global.{Global}
-use Rattle.std.specs.Prelude.{IfSome}
-use Rattle.std.specs.Io.KnownBytes.{Keeps}
-use Rattle.std.proofs.KnownBytes.{Appends-kept}
-use Rattle.noise_names.specs.Plan.{Plan}
-use Rattle.noise_names.specs.Text.{Spells}
-use Rattle.noise_names.specs.Validity.{IsValid}
 use Rattle.noise_names.specs.declared.faults.RuleFault.{RuleFault}
 use Rattle.noise_lines.specs.Converted.{converted_text}
 use Rattle.noise_lines.specs.Faults.{status_of}
 use Rattle.noise_lines.specs.Lines.{lines_text}
-use Rattle.noise_lines.specs.Output.{NamesPattern, check_text, list_text, show_text}
 use Rattle.noise_lines.specs.Prefixes.{AppendsPrefix}
 use Rattle.noise_lines.specs.Told.{IsToldOf, LeavesOutput, error_text, fault_line}
 use Rattle.noise_lines.specs.declared.faults.Fault.{Fault}
@@ -166,6 +159,3 @@ pub told-outside : (why : Fault) (result : ℕ) (a b : Option (List ℕ))
     → (told : Fault) × IsToldOf why told × (status_of told ≡ result) × AppendsPrefix a b (error_text told) → result ≡ 3
     → (f : Fault) × (status_of f ≡ 3) × AppendsPrefix a b (error_text f)
 told-outside why result a b (told, of, status, grown) three = (told, status ∙ three, grown)
-
-pub prefix-kept : (a b c : Option (List ℕ)) (text : List ℕ) → AppendsPrefix a b text → Keeps b c → AppendsPrefix a c text
-prefix-kept a b c text p q = record { prefix = p.prefix; rest = p.rest; begins = p.begins; appended = Appends-kept a b c p.prefix p.appended q }

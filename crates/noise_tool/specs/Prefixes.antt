@@ -7,13 +7,13 @@ use Rattle.noise_lines.specs.declared.faults.Fault.TheVariants.{Rule, Unmet}
 use Rattle.noise_tool.specs.Performing.{HasConverted, HasRun, HasUnmet, IsDone, IsFault}
 use Rattle.noise_words.specs.declared.orders.Chosen.{Chosen}
 
--- the faults of which something is printed: a broken rule its line, lines that aren't those expected, which are the lines of the run
+-- what is printed with a fault: the line of a broken rule, or the lines of a run that aren't those expected; with any other fault nothing
 abbrev pub PrintsFault : Chosen → Option (List ℕ) → Option (List ℕ) → Option (List ℕ) → Fault → Type 0
 PrintsFault chosen file before after (Rule f) = IsFault chosen file before after (Rule f) × TellsRule (Rule f) before after
 PrintsFault chosen file before after (Unmet number) = IsFault chosen file before after (Unmet number)
 PrintsFault chosen file before after fault = ⊥
 
--- on an output that held nothing, status 0 would leave this text, or one of these faults, with status 1
+-- on an output that held nothing this is the whole text: that of status 0, or of one of these faults, with status 1
 abbrev pub PrintsWhole : Chosen → Option (List ℕ) → List ℕ → Type 0
 PrintsWhole chosen file text = IsDone chosen file (Some []) (Some text) ⊎ ((fault : Fault) × PrintsFault chosen file (Some []) (Some text) fault)
 
