@@ -5,3 +5,4 @@ pub mod PerformingLemmas
 pub mod Shortness
 pub mod PrintedLemmas
 pub mod RunningLemmas
+pub mod TestingLemmas

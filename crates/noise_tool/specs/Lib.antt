@@ -5,3 +5,4 @@ pub mod Performing
 pub mod Printed
 pub mod PrintedDatagrams
 pub mod Running
+pub mod Testing
