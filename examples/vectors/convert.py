@@ -6,7 +6,7 @@
 FILE has vectors in one of the two forms that Noise projects share: a JSON object whose `vectors` list has objects with `protocol_name`,
 `init_ephemeral`, `messages` and so on; or blocks of lines such as `handshake=..`, `gen_init_ephemeral=..`, `msg_0_payload=..`. For each vector
 of the names 25519, ChaChaPoly and SHA256 a file of version 2 is written into FOLDER: its keys are the public keys, its DH answers are computed
-by X25519, and its `expect` lines are the vector's messages. `noise replay` on it ends with status 0 exactly if the messages are the same.
+by X25519, and its `expect` lines are the vector's messages. `noise test` on it ends with status 0 exactly if the messages are the same.
 
 What is left out is named on standard output, a line each, with the reason. The status is 0 if at least one file was written.
 

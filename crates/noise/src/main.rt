@@ -1,7 +1,13 @@
 //! The command `noise`: handshake patterns, and two ends of a Noise session that are run on a vector file. Each call is of `noise_tool`.
 #![tactic(auto)]
 
-use noise_tool::{Chosen, Fault, LineFault, chosen, perform, tell};
+ghost use Rattle.std.specs.Prelude.{◌≡◌, IfErr, None};
+ghost use Rattle.noise_lines.specs.Faults.{status_of};
+
+use noise_tool::{
+    Chosen, Fault, FilesByName, LineFault, Order, chosen, perform, read_file, tell, test,
+};
+use std::alloc::Global;
 use std::env;
 use std::fs::File;
 use std::io::{self, BufWriter, ErrorKind, Read};
@@ -11,7 +17,8 @@ fn main(rt: HostRuntime) -> ExitCode {
     let alloc = rt.alloc();
     let status = match words(&rt) {
         Ok(words) => match chosen(alloc, words) {
-            Ok(order) => run(&rt, &order),
+            Ok(Order::Command(command)) => run(&rt, &command),
+            Ok(Order::Test(names)) => run_test(&rt, &names),
             Err(LineFault::Memory) => ends_with(&rt, Fault::Memory),
             Err(LineFault::Line(error)) => print_line_fault(&rt, &error),
         },
@@ -28,32 +35,72 @@ fn words(rt: &HostRuntime) -> io::Result<Vec<String>> {
     Ok(env::args(rt)?.collect(rt.alloc())?)
 }
 
-// Does what the order asks for, on the file that it names, if it names one.
-fn run(rt: &HostRuntime, order: &Chosen) -> u8 {
-    match order {
-        Chosen::List | Chosen::Show(_) => run_on(rt, order, &mut io::empty()),
+// Does what the command asks for, on the file that it names, if it names one.
+fn run(rt: &HostRuntime, command: &Chosen) -> u8 {
+    match command {
+        Chosen::List | Chosen::Show(_) => run_on(rt, command, &mut io::empty()),
         Chosen::Check(name) | Chosen::Talk(name) | Chosen::Replay(name) | Chosen::Convert(name) =>
-            run_on_file(rt, order, name.as_str()),
+            run_on_file(rt, command, name.as_str()),
     }
 }
 
 // Does it on the file of this name: `-` is standard input.
-fn run_on_file(rt: &HostRuntime, order: &Chosen, name: &str) -> u8 {
+fn run_on_file(rt: &HostRuntime, command: &Chosen, name: &str) -> u8 {
     if name == "-" {
-        return run_on(rt, order, &mut rt.stdin());
+        return run_on(rt, command, &mut rt.stdin());
     }
+    match open(rt, name) {
+        Ok(mut file) => run_on(rt, command, &mut file),
+        Err(fault) => ends_with(rt, fault),
+    }
+}
+
+fn open(rt: &HostRuntime, name: &str) -> Result<File, Fault>
+    ensures { IfErr result (λ fault. status_of fault ≡ 3) }
+{
     match File::open(rt, name) {
-        Ok(mut file) => run_on(rt, order, &mut file),
-        Err(error) if error.kind() == ErrorKind::OutOfMemory => ends_with(rt, Fault::Memory),
-        Err(_) => ends_with(rt, Fault::Unreadable),
+        Ok(file) => Ok(file),
+        Err(error) if error.kind() == ErrorKind::OutOfMemory => Err(Fault::Memory),
+        Err(_) => Err(Fault::Unreadable),
     }
 }
 
 // The output goes through a buffer.
-fn run_on<R: Read>(rt: &HostRuntime, order: &Chosen, file: &mut R) -> u8 {
+fn run_on<R: Read>(rt: &HostRuntime, command: &Chosen, file: &mut R) -> u8 {
     match BufWriter::new(rt.alloc(), rt.stdout()) {
-        Ok(mut out) => perform(rt.alloc(), order, file, &mut out, &mut rt.stderr()),
+        Ok(mut out) => perform(rt.alloc(), command, file, &mut out, &mut rt.stderr()),
         Err(_) => ends_with(rt, Fault::Memory),
+    }
+}
+
+// The same for the files of several names.
+fn run_test(rt: &HostRuntime, names: &[String]) -> u8 {
+    match BufWriter::new(rt.alloc(), rt.stdout()) {
+        Ok(mut out) => test(
+            rt.alloc(),
+            names,
+            &Opened { rt },
+            &mut out,
+            &mut rt.stderr(),
+        ),
+        Err(_) => ends_with(rt, Fault::Memory),
+    }
+}
+
+// The files of the system, each opened where it is read: `-` is standard input.
+#[derive(Clone, Copy)]
+struct Opened<'a> {
+    rt: &'a HostRuntime,
+}
+
+impl FilesByName for Opened<'_> {
+    ghost bytes_at = { λ _ _. None };
+
+    fn read(&self, alloc: Global, name: &str) -> Result<Vec<u8>, Fault> {
+        if name == "-" {
+            return read_file(alloc, &mut self.rt.stdin());
+        }
+        read_file(alloc, &mut open(self.rt, name)?)
     }
 }
 

@@ -23,4 +23,4 @@ pub use listing::list;
 pub use named::named_pattern;
 pub use output::{flush, write, write_lines};
 pub use showing::show;
-pub use telling::tell;
+pub use telling::{fault_line, tell};

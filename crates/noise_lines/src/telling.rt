@@ -71,7 +71,8 @@ fn last_text(fault: Fault) -> &'static [u8]
     }
 }
 
-fn fault_line(alloc: Global, fault: Fault) -> Result<Line, AllocError>
+/// The line that says what the fault is.
+pub fn fault_line(alloc: Global, fault: Fault) -> Result<Line, AllocError>
     ensures { IfOk result (λ line. line.text.items ≡ told.fault_line fault) }
 {
     match fault {

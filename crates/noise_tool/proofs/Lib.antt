@@ -7,3 +7,4 @@ pub mod PrefixLemmas
 pub mod Shortness
 pub mod PrintedLemmas
 pub mod RunningLemmas
+pub mod TestingLemmas

@@ -6,3 +6,4 @@ pub mod Prefixes
 pub mod Printed
 pub mod PrintedDatagrams
 pub mod Running
+pub mod Testing

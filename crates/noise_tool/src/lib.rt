@@ -7,9 +7,13 @@ mod laws;
 mod performing;
 mod report;
 mod running;
+mod testing;
+mod verdict;
 
 pub use laws::{conversions_meet_themselves, file_run_once};
-pub use noise_lines::{Fault, tell};
-pub use noise_words::{Chosen, LineFault, chosen};
+pub use noise_lines::{Fault, read_file, tell};
+pub use noise_words::{Chosen, LineFault, Order, chosen};
 pub use performing::perform;
 pub use report::entry_lines;
+pub use testing::{FilesByName, test};
+pub use verdict::{Difference, Verdict};

@@ -38,7 +38,7 @@ pub asked-stated : (words : List Text) → fault_of noise words ≡ [] → asked
 asked-stated words e = ap (λ (kinds : Kinds). asked_without kinds (stated_in (subcommand_of noise words))) e
 
 -- a kind is among those of no empty list
-pub asked_without-among : (k : ErrorKind) (kinds : Kinds) (o : Option (Text × Option Text)) → IsAmong k kinds → asked_without kinds o ≡ None
+pub asked_without-among : (k : ErrorKind) (kinds : Kinds) (o : Option (Text × List Text)) → IsAmong k kinds → asked_without kinds o ≡ None
 asked_without-among k [] o h = absurd h
 asked_without-among k (x ∷ xs) o h = refl
 
@@ -51,12 +51,13 @@ differs x name other = at (bytes_eq x name) refl where
 
 -- no other name states an order
 pub stated_by-unknown : (name : Text) (rows : List Row) → (name ≡ codes "list" → ⊥) → (name ≡ codes "show" → ⊥) → (name ≡ codes "check" → ⊥)
-    → (name ≡ codes "talk" → ⊥) → (name ≡ codes "replay" → ⊥) → (name ≡ codes "convert" → ⊥) → stated_by name rows ≡ None
-stated_by-unknown name rows list show check talk replay convert =
+    → (name ≡ codes "talk" → ⊥) → (name ≡ codes "replay" → ⊥) → (name ≡ codes "convert" → ⊥) → (name ≡ codes "test" → ⊥) → stated_by name rows ≡ None
+stated_by-unknown name rows list show check talk replay convert test =
     let no_list = differs (codes "list") name list in
     let no_show = differs (codes "show") name show in
     let no_check = differs (codes "check") name check in
     let no_talk = differs (codes "talk") name talk in
     let no_replay = differs (codes "replay") name replay in
     let no_convert = differs (codes "convert") name convert in
-    rw (no_list, no_show, no_check, no_talk, no_replay, no_convert) refl
+    let no_test = differs (codes "test") name test in
+    rw (no_list, no_show, no_check, no_talk, no_replay, no_convert, no_test) refl

@@ -2,18 +2,18 @@
 
 ghost use Rattle.std.specs.Prelude.{◌≡◌, ◌≢◌, ◌⊎◌, ◌∷◌, [], IfOk, IfErr, Some, None, codes, fold, true, false, map, option_map, string_bytes};
 ghost use Rattle.clap.specs.Simple.{with_subcommand};
-ghost use Rattle.clap.specs.Words.{app_of, first_of, found_of, kind_of, rows_of, shape_of, subcommand_rows_of};
+ghost use Rattle.clap.specs.Words.{all_of, app_of, first_of, found_of, kind_of, rows_of, rule_of, shape_of, subcommand_rows_of};
 ghost use Rattle.clap.specs.declared.builder.command.Command.TheViews.{out-Command};
-ghost use Rattle.noise_words.specs.CommandLine.{asked, noise, order_of, stated_in, subcommand};
+ghost use Rattle.noise_words.specs.CommandLine.{Nothing, asked, noise, order_of, rules_for, stated_by, stated_in, subcommand, wanted_by, words_of};
 
 use crate::help::{Subcommand, WITH_VALUE};
-use crate::orders::{Chosen, LineFault};
+use crate::orders::{Chosen, LineFault, Order};
 use clap::error::ErrorKind;
 use clap::{Arg, ArgMatches, Command};
 use std::alloc::{AllocError, Global};
 
 /// The command that these words name. The first word is the program's own name.
-pub fn chosen(alloc: Global, words: Vec<String>) -> Result<Chosen, LineFault>
+pub fn chosen(alloc: Global, words: Vec<String>) -> Result<Order, LineFault>
     ensures ok { IfOk result (λ c. asked (map string_bytes words.items) ≡ Some (order_of c)) }
     ensures line { IfErr result (λ fault. (fault ≡ LineFault.Memory) ⊎ (asked (map string_bytes words.items) ≡ None)) }
 {
@@ -26,7 +26,7 @@ fn stated<'a>(
     alloc: Global,
     whole: &mut Command<'a>,
     words: &'a [String],
-) -> Result<Chosen, LineFault>
+) -> Result<Order, LineFault>
     requires { app_of whole.old ≡ noise }
     ensures ok { IfOk result (λ c. asked (map string_bytes words.entry.now) ≡ Some (order_of c)) }
     ensures line { IfErr result (λ fault. (fault ≡ LineFault.Memory) ⊎ (asked (map string_bytes words.entry.now) ≡ None)) }
@@ -52,7 +52,7 @@ fn command<'a>(alloc: Global) -> Result<Command<'a>, AllocError>
 
 // The command itself, with its subcommand that has no value.
 fn with_list<'a>(alloc: Global) -> Result<Command<'a>, AllocError>
-    ensures { IfOk result (λ c. app_of c ≡ record noise { subs = subcommand (codes "list", None) ∷ [] }) }
+    ensures { IfOk result (λ c. app_of c ≡ record noise { subs = subcommand (codes "list", Nothing) ∷ [] }) }
 {
     top(alloc)?.subcommand(Command::new(alloc, "list").about(
         "Print the names of the fundamental patterns",
@@ -77,7 +77,7 @@ fn adding<'a>(
     subcommands: &[Subcommand<'a>],
 ) -> Result<Command<'a>, AllocError>
     ensures { IfOk result (λ c. app_of c
-        ≡ fold (λ app sub. with_subcommand app (subcommand (sub.name.now, Some sub.value.now))) (app_of whole.entry) subcommands.now) }
+        ≡ fold (λ app sub. with_subcommand app (subcommand (sub.name.now, wanted_by sub))) (app_of whole.entry) subcommands.now) }
 {
     let mut whole = whole;
     for named in subcommands {
@@ -88,25 +88,54 @@ fn adding<'a>(
 
 // The command of this name, which has to have a value.
 fn with_value<'a>(alloc: Global, named: &Subcommand<'a>) -> Result<Command<'a>, AllocError>
-    ensures shape { IfOk result (λ c. shape_of c ≡ subcommand (named.now.name.now, Some named.now.value.now)) }
+    ensures shape { IfOk result (λ c. shape_of c ≡ subcommand (named.now.name.now, wanted_by named.now)) }
     ensures local { IfOk result (λ c. (out-Command c).has_globals ≡ false) }
+{
+    Command::new(alloc, named.name)
+        .about(named.about)
+        .after_help(named.example)
+        .arg(value_of(alloc, named))
+}
+
+// The value of this command.
+fn value_of<'a>(alloc: Global, named: &Subcommand<'a>) -> Arg<'a>
+    ensures rule { rule_of result ∷ [] ≡ rules_for (wanted_by named.now) }
+    ensures local { result.global ≡ false }
 {
     let value = Arg::new(alloc, named.value)
         .required(true)
         .help(named.meaning);
-    Command::new(alloc, named.name)
-        .about(named.about)
-        .after_help(named.example)
-        .arg(value)
+    if named.several {
+        value.num_args(1..)
+    } else {
+        value
+    }
 }
 
-// The command that a parse found.
-fn order(alloc: Global, matches: &ArgMatches<'_>) -> Result<Option<Chosen>, AllocError>
+// What a parse found.
+fn order(alloc: Global, matches: &ArgMatches<'_>) -> Result<Option<Order>, AllocError>
     ensures { IfOk result (λ found. option_map order_of found ≡ stated_in (subcommand_rows_of matches.now)) }
 {
     let Some((name, found)) = matches.subcommand() else {
         return Ok(None);
     };
+    if name == "test" {
+        return Ok(values(alloc, found, "FILE")?.map(Order::Test));
+    }
+    match command_order(alloc, name, found)? {
+        Some(command) => Ok(Some(Order::Command(command))),
+        None => Ok(None),
+    }
+}
+
+// The command of this name, with the value that a parse found.
+fn command_order(
+    alloc: Global,
+    name: &str,
+    found: &ArgMatches<'_>,
+) -> Result<Option<Chosen>, AllocError>
+    ensures { (name.now ≡ codes "test" → ⊥) → IfOk result (λ c. option_map words_of c ≡ stated_by name.now (rows_of (found_of found.now))) }
+{
     match name {
         "list" => Ok(Some(Chosen::List)),
         "show" => Ok(value(alloc, found, "NAME")?.map(Chosen::Show)),
@@ -126,6 +155,31 @@ fn value(alloc: Global, matches: &ArgMatches<'_>, id: &str) -> Result<Option<Str
         Some(text) => Ok(Some(String::from_str(alloc, text)?)),
         None => Ok(None),
     }
+}
+
+// The values that a parse found for an argument.
+fn values(
+    alloc: Global,
+    matches: &ArgMatches<'_>,
+    id: &str,
+) -> Result<Option<Vec<String>>, AllocError>
+    ensures { IfOk result (λ found. option_map (λ texts. map string_bytes texts.items) found ≡ all_of id.now (rows_of (found_of matches.now))) }
+{
+    match matches.get_strs(id) {
+        Some(texts) => Ok(Some(strings(alloc, texts)?)),
+        None => Ok(None),
+    }
+}
+
+// A string of each text.
+fn strings(alloc: Global, texts: &[&str]) -> Result<Vec<String>, AllocError>
+    ensures { IfOk result (λ strings. map string_bytes strings.items ≡ map (λ text. text.now) texts.now) }
+{
+    let mut strings = Vec::new(alloc);
+    for text in texts {
+        strings.push(String::from_str(alloc, text)?)?;
+    }
+    Ok(strings)
 }
 
 // Want of memory is told as such, whoever met it.

@@ -7,6 +7,8 @@ pub struct Subcommand<'a> {
     pub name: &'a str,
     /// The name of its value.
     pub value: &'a str,
+    /// Whether it takes more values than one.
+    pub several: bool,
     /// What it does.
     pub about: &'a str,
     /// What its value is.
@@ -16,10 +18,11 @@ pub struct Subcommand<'a> {
 }
 
 /// The subcommands that have a value.
-pub const WITH_VALUE: [Subcommand<'static>; 5] = [
+pub const WITH_VALUE: [Subcommand<'static>; 6] = [
     Subcommand {
         name: "show",
         value: "NAME",
+        several: false,
         about: "Print the pattern of a protocol name, and how many bytes each message adds",
         meaning: "A whole protocol name, as Noise_XXpsk3_25519_ChaChaPoly_SHA256",
         example: "Example: noise show Noise_XX_25519_ChaChaPoly_SHA256",
@@ -27,6 +30,7 @@ pub const WITH_VALUE: [Subcommand<'static>; 5] = [
     Subcommand {
         name: "check",
         value: "FILE",
+        several: false,
         about: "Say whether the pattern in a file is valid, and how many bytes each message adds",
         meaning: "A file with the text of a pattern",
         example: "Example: noise check examples/ikpsk2.pattern",
@@ -34,6 +38,7 @@ pub const WITH_VALUE: [Subcommand<'static>; 5] = [
     Subcommand {
         name: "talk",
         value: "FILE",
+        several: false,
         about: "Run two ends on a vector file and print what each writes and takes",
         meaning: "A vector file whose events are all say; lines that it expects are compared",
         example: "Example: noise talk examples/first-message.vector",
@@ -41,6 +46,7 @@ pub const WITH_VALUE: [Subcommand<'static>; 5] = [
     Subcommand {
         name: "replay",
         value: "FILE",
+        several: false,
         about: "Run two ends on a vector file whose frames may be lost, repeated or foreign",
         meaning: "A vector file with events of all kinds, and datagrams; lines that it expects are compared",
         example: "Example: noise replay examples/each-outcome.vector",
@@ -48,8 +54,17 @@ pub const WITH_VALUE: [Subcommand<'static>; 5] = [
     Subcommand {
         name: "convert",
         value: "FILE",
+        several: false,
         about: "Print a version 1 vector file as one of version 2 that expects what its run prints",
         meaning: "A vector file of version 1",
         example: "Example: noise convert examples/first-message.vector",
+    },
+    Subcommand {
+        name: "test",
+        value: "FILE",
+        several: true,
+        about: "Run vector files and say of each whether its run is what it expects",
+        meaning: "Vector files of version 2 with expect lines",
+        example: "Example: noise test examples/xx.vector examples/ik.vector",
     },
 ];

@@ -6,4 +6,4 @@ mod help;
 mod orders;
 
 pub use command_line::chosen;
-pub use orders::{Chosen, LineFault};
+pub use orders::{Chosen, LineFault, Order};

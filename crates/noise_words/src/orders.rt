@@ -5,7 +5,7 @@ ghost use Rattle.noise_words.specs.declared.orders.LineFault.TheVariants.{Memory
 
 use std::alloc::AllocError;
 
-/// A command with its value.
+/// A command on at most one file, with its value.
 #[derive(Drop, PartialEq, Eq)]
 pub enum Chosen {
     /// Print the base names of the fundamental patterns.
@@ -20,6 +20,15 @@ pub enum Chosen {
     Replay(String),
     /// Print the version 1 vector file of this name as one of version 2 that expects what its run prints.
     Convert(String),
+}
+
+/// What the words of a command line ask for.
+#[derive(Drop)]
+pub enum Order {
+    /// A command on at most one file.
+    Command(Chosen),
+    /// Run the vector files of these names, and compare each run with what its file expects.
+    Test(Vec<String>),
 }
 
 /// Why the words of a command line are no command.

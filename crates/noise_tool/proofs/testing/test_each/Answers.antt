@@ -1,0 +1,29 @@
+use Rattle.std.proofs.Common.{arith, ◌≡◌, ◌∙◌, ◌+◌, ◌++◌, ◌∷◌, [], ap, sym, ℕ, List, map, string_bytes, take}
+use Rattle.std.proofs.lemmas.List.{map_more}
+use Rattle.noise_tool.proofs.TestingLemmas.{failed-more, passed-more}
+use Rattle.noise_tool.proofs.testing.test_each.Goals as goal
+use Rattle.noise_tool.proofs.testing.test_each.Goals.{then-branch, else-branch}
+
+pub loop-name-preserved : goal.loop-name-preserved
+loop-name-preserved g c =
+    let i = c.loop-name.name-index in
+    let names = c.args.names.now in
+    let before : List (List ℕ) = map string_bytes (take i names) in
+    let all : List (List ℕ) = map string_bytes (take (i + 1) names) in
+    let all_is : all ≡ before ++ c.as_str.result.now ∷ [] =
+    map_more string_bytes names i c.name-item.result c.loop-name-test.true
+    ∙ ap (λ (t : List ℕ). before ++ t ∷ []) (ap string_bytes (sym c.name-item.is) ∙ sym c.as_str.ensures.value) in
+    elim c.if-branch.branch [
+      | then-branch w ↦ (
+        omega (arith, w.passed-is, w.failed-is, c.loop-name.invariant.0),
+        rw (w.passed-is, w.failed-is) (passed-more (g.F.FilesByName.bytes_at c.args.files.now) before all c.as_str.result.now _ _ _
+            c.loop-name.passed c.loop-name.failed c.in_ok-test_file.field-0 all_is w.if-branch.true c.loop-name.invariant.1
+            c.in_ok-test_file.ensures.tested),
+      )
+      | else-branch w ↦ (
+        omega (arith, w.passed-is, w.failed-is, c.loop-name.invariant.0),
+        rw (w.passed-is, w.failed-is) (failed-more (g.F.FilesByName.bytes_at c.args.files.now) before all c.as_str.result.now _ _ _
+            c.loop-name.passed c.loop-name.failed c.in_ok-test_file.field-0 all_is w.if-branch.false c.loop-name.invariant.1
+            c.in_ok-test_file.ensures.tested),
+      )
+    ]

@@ -1,0 +1,143 @@
+//! What comes of a vector file that is tested.
+
+ghost use Rattle.std.specs.Prelude.{◌≡◌, ◌<◌, ◌++◌, IfOk, OnOk, slice_get};
+ghost use Rattle.noise_vectors.specs.Expectations.{bytes_of};
+ghost use Rattle.noise_tool.specs.declared.verdict.Verdict.TheVariants.{CannotRun, Differs};
+ghost use Rattle.noise_tool.specs.Testing.{IsJudged, bytes_in, is_met, named_line, shown_line, verdict_text};
+
+use crate::running::Outcome;
+use noise_lines::{Fault, fault_line};
+use noise_vectors::first_unmet;
+use std::alloc::{AllocError, Global};
+
+/// Where the lines of a run first differ from those that its file expects.
+#[derive(Drop)]
+pub struct Difference {
+    /// The number of the line, from 1 on.
+    pub number: usize,
+    /// The line that is expected, without its LF; None where no more are expected.
+    pub expected: Option<Vec<u8>>,
+    /// The line of the run, without its LF; None where the run has no more.
+    pub printed: Option<Vec<u8>>,
+}
+
+/// What comes of a vector file that is tested.
+#[derive(Drop)]
+pub enum Verdict {
+    /// The lines of its run are those that it expects.
+    Met,
+    /// The lines of its run are others.
+    Differs(Difference),
+    /// It can't be read or run.
+    CannotRun(Fault),
+    /// It expects no lines.
+    ExpectsNothing,
+}
+
+impl Verdict {
+    /// Whether the file passes.
+    pub fn is_met(&self) -> bool
+        ensures { result ≡ is_met self.now }
+    {
+        match self {
+            Verdict::Met => true,
+            Verdict::Differs(_) | Verdict::CannotRun(_) | Verdict::ExpectsNothing => false,
+        }
+    }
+}
+
+/// The verdict on a run, by the lines that are expected.
+pub fn judge(outcome: &Outcome) -> Result<Verdict, AllocError>
+    ensures { IfOk result (IsJudged (bytes_of outcome.now.lines.items) (bytes_of outcome.now.expected.items)) }
+{
+    if outcome.expected.is_empty() {
+        return Ok(Verdict::ExpectsNothing);
+    }
+    match first_unmet(&outcome.lines, &outcome.expected) {
+        Some(number) => {
+            let expected = line_at(&outcome.expected, number - 1)?;
+            let printed = line_at(&outcome.lines, number - 1)?;
+            Ok(Verdict::Differs(Difference {
+                number,
+                expected,
+                printed,
+            }))
+        }
+        None => Ok(Verdict::Met),
+    }
+}
+
+// The line at a place, counted from 0, if there is one.
+fn line_at(lines: &[Vec<u8>], place: usize) -> Result<Option<Vec<u8>>, AllocError>
+    ensures { IfOk result (λ line. bytes_in line ≡ slice_get (bytes_of lines.now) place) }
+{
+    match lines.get(place) {
+        Some(line) => Ok(Some(line.clone()?)),
+        None => Ok(None),
+    }
+}
+
+/// What is printed of a file of this name.
+pub fn verdict_lines(alloc: Global, name: &str, verdict: &Verdict) -> Result<Vec<u8>, AllocError>
+    ensures { IfOk result (λ text. text.items ≡ verdict_text name.now verdict.now) }
+{
+    let mut text = Vec::new(alloc);
+    match verdict {
+        Verdict::Met => push_named("ok", name, b"".as_slice(), &mut text)?,
+        Verdict::Differs(difference) => push_difference(alloc, name, difference, &mut text)?,
+        Verdict::CannotRun(fault) => push_fault(alloc, name, *fault, &mut text)?,
+        Verdict::ExpectsNothing => {
+            push_named("fault", name, b": no expect lines".as_slice(), &mut text)?
+        }
+    }
+    Ok(text)
+}
+
+fn push_difference(
+    alloc: Global,
+    name: &str,
+    difference: &Difference,
+    text: &mut Vec<u8>,
+) -> Result<(), AllocError>
+    ensures { OnOk result (text.new.items ≡ text.old.items ++ verdict_text name.now (Differs difference.now)) }
+{
+    let number = difference.number;
+    let rest = format!(in alloc; " at {number}")?;
+    push_named("differs", name, rest.as_bytes(), text)?;
+    push_shown("expected", &difference.expected, text)?;
+    push_shown("printed", &difference.printed, text)
+}
+
+fn push_fault(alloc: Global, name: &str, fault: Fault, text: &mut Vec<u8>) -> Result<(), AllocError>
+    ensures { OnOk result (text.new.items ≡ text.old.items ++ verdict_text name.now (CannotRun fault)) }
+{
+    let mut rest = Vec::new(alloc);
+    rest.extend_from_slice(b": ".as_slice())?;
+    rest.extend_from_slice(&fault_line(alloc, fault)?.into_bytes())?;
+    push_named("fault", name, &rest, text)
+}
+
+// Appends a line of a word, the name, and the rest.
+fn push_named(word: &str, name: &str, rest: &[u8], text: &mut Vec<u8>) -> Result<(), AllocError>
+    ensures { OnOk result (text.new.items ≡ text.old.items ++ named_line word.now name.now rest.now) }
+{
+    text.extend_from_slice(word.as_bytes())?;
+    text.push(b' ')?;
+    text.extend_from_slice(name.as_bytes())?;
+    text.extend_from_slice(rest)?;
+    text.push(b'\n')?;
+    Ok(())
+}
+
+// Appends a line of a word, and the line that it shows, if there is one.
+fn push_shown(word: &str, shown: &Option<Vec<u8>>, text: &mut Vec<u8>) -> Result<(), AllocError>
+    ensures { OnOk result (text.new.items ≡ text.old.items ++ shown_line word.now (bytes_in shown.now)) }
+{
+    text.extend_from_slice(word.as_bytes())?;
+    if let Some(line) = shown {
+        text.push(b' ')?;
+        text.extend_from_slice(line)?;
+    }
+    text.push(b'\n')?;
+    Ok(())
+}
