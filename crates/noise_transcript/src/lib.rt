@@ -1,0 +1,8 @@
+//! What `noise talk` prints of a file whose lines fit: the transcript of the conversation and its payloads, all accepted. No program calls this crate.
+#![tactic(auto)]
+
+mod laws;
+mod talking;
+
+pub use laws::fitting_lines_run;
+pub use talking::talk;
