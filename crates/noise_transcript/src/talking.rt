@@ -20,7 +20,7 @@ use std::io::{Read, Write};
 
 /// Does what `noise talk` does with the vector file of this name, by `perform`, and gives the exit status.
 ///
-/// Where the file's text is that of a vector file whose lines fit, none is refused. At status 0 or 1 the output grew by exactly this: for each line the frame
+/// Of a vector file whose lines fit, at status 0 or 1 the output grew by exactly this: for each line the frame
 /// of its message in the transcript, and its payload as the other end accepted it; and then a line for each end. The status is 0 where these are the lines
 /// that the file expects, or it expects none, and else 1. It is 2 only for a text of more than 4194304 bytes, and 3 where the file can't be read, the
 /// output can't be written, or memory runs out.
