@@ -3,6 +3,8 @@
 
 mod laws;
 mod talking;
+#[cfg(test)]
+mod tests;
 
 pub use laws::fitting_lines_run;
 pub use talking::talk;
