@@ -5,3 +5,4 @@ pub mod Exactly
 pub mod Lines
 pub mod Payloads
 pub mod Setup
+pub mod Turns

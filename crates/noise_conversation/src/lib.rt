@@ -17,7 +17,7 @@ pub use clash::run_apart;
 pub use conversation::converse;
 pub use entries::{entries_agree, keys_meet, payloads_told};
 pub use fault::ConversationFault;
-pub use fitting::lines_fit;
+pub use fitting::{fitting_lines_take_turns, lines_fit};
 pub use laws::{read_exactly, told_exactly};
 pub use network::{hash_is_told, run_events};
 pub use taking::comes_as;

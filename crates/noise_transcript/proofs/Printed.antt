@@ -1,0 +1,118 @@
+-- What is printed of the run of a file whose lines fit, and with which status it ends.
+use Rattle.std.proofs.Common.{◌≡◌, ◌∙◌, refl, ap, sym, subst, ◌⊎◌, inl, inr, ◌<◌, ◌≤◌, ℕ, zero, suc, List, [], length, Option, Some, arith}
+use Rattle.std.specs.Prelude.{◌↔◌, IfSome, slice_get}
+use Rattle.std.specs.Io.KnownBytes.{Appends}
+use Rattle.noise_names.specs.declared.token.Role.{Role}
+use Rattle.noise_names.specs.Plan.{Plan}
+use Rattle.noise_vectors.specs.Expectations.{IsFirstUnmet}
+use Rattle.noise_vectors.specs.SameFile.{VectorTextsAreUnique}
+use Rattle.noise_vectors.specs.VectorFile.{IsVectorFile}
+use Rattle.noise_vectors.specs.VectorText.{text_of}
+use Rattle.noise_vectors.specs.declared.vector.AllowedEvents.TheVariants.{SayOnly}
+use Rattle.noise_vectors.specs.declared.vector.VectorFile.{VectorFile}
+use Rattle.noise_lines.specs.Faults.{status_of}
+use Rattle.noise_lines.specs.Lines.{lines_text}
+use Rattle.noise_lines.specs.declared.faults.Fault.{Fault}
+use Rattle.noise_tool.specs.OneRun.{OneRun}
+use Rattle.noise_tool.specs.Performing.{HasRun, HasUnmet, IsRunFault, IsUnmet}
+use Rattle.noise_tool.specs.Running.{IsMet, IsRunOf, expected_in}
+use Rattle.noise_transcript.specs.Fitting.{HasFittingLines}
+use Rattle.noise_transcript.specs.Talked.{FittingLinesRun, talked_lines}
+use Rattle.noise_transcript.proofs.Refusals.{IsLeft, left-over}
+use Rattle.noise_transcript.proofs.Same.{expected-are, run-alike}
+
+-- a file has one text, and files of one text have one list of lines
+pub record Once : Type 0 where
+  pub runs : FittingLinesRun
+  pub once : OneRun
+  pub unique : VectorTextsAreUnique
+
+-- the lines were printed, and are those that the file expects, or they aren't
+abbrev pub Printed : VectorFile → Plan → List (Role × List ℕ) → Option (List ℕ) → Option (List ℕ) → Type 0
+Printed f p lines before after = Appends before after (lines_text (talked_lines f p lines))
+
+abbrev pub Met : VectorFile → Plan → List (Role × List ℕ) → Type 0
+Met f p lines = IsMet (expected_in f.version) (talked_lines f p lines)
+
+module _ (laws : Once) (f : VectorFile) (p : Plan) (lines : List (Role × List ℕ)) (fits : HasFittingLines f p lines) where
+  lines-of : (g : VectorFile) (printed : List (List ℕ)) → IsVectorFile g → text_of f ≡ text_of g → IsRunOf g printed → printed ≡ talked_lines f p lines
+  lines-of g printed right same run =
+      sym (laws.once f g (talked_lines f p lines) printed (run-alike f g (laws.unique f g fits.right right same)) (laws.runs f p lines fits) run)
+
+  expected-of : (g : VectorFile) → IsVectorFile g → text_of f ≡ text_of g → expected_in g.version ≡ expected_in f.version
+  expected-of g right same =
+      sym (expected-are g.version) ∙ sym ((laws.unique f g fits.right right same).expected) ∙ expected-are f.version
+
+  run-printed : (before after : Option (List ℕ)) → HasRun (text_of f) before after → Printed f p lines before after × Met f p lines
+  run-printed before after h =
+      let same = lines-of h.0 h.3.lines h.1 h.2 h.3.run in
+      let expected = expected-of h.0 h.1 h.2 in (
+        subst (λ (ls : List (List ℕ)). Appends before after (lines_text ls)) same h.3.printed,
+        subst (λ (ls : List (List ℕ)). IsMet (expected_in f.version) ls) same (subst (λ (es : List (List ℕ)). IsMet es h.3.lines) expected h.3.met),
+      )
+
+  never-met : (expected : List (List ℕ)) (printed : List (List ℕ)) (n : ℕ) → ¬ (expected ≡ []) → IsFirstUnmet printed expected n → IsMet expected printed
+      → ⊥
+  never-met expected printed n some unmet (inl none) = some none
+  never-met expected printed n some unmet (inr same) = unmet.differ (ap (λ (ls : List (List ℕ)). slice_get ls unmet.before) same)
+
+  unmet-printed : (before after : Option (List ℕ)) (n : ℕ) → HasUnmet (text_of f) before after n → Printed f p lines before after × ¬ (Met f p lines)
+  unmet-printed before after n h =
+      let same = lines-of h.file h.lines h.right h.text_is h.run in
+      let expected = expected-of h.file h.right h.text_is in (
+        subst (λ (ls : List (List ℕ)). Appends before after (lines_text ls)) same h.printed,
+        λ met. never-met (expected_in h.file.version) h.lines n h.some h.unmet
+            (subst (λ (ls : List (List ℕ)). IsMet (expected_in h.file.version) ls) (sym same)
+            (subst (λ (es : List (List ℕ)). IsMet es (talked_lines f p lines)) (sym expected) met)),
+      )
+
+  -- what an exit status means
+  abbrev pub Outcome : Option (List ℕ) → Option (List ℕ) → ℕ → Type 0
+  Outcome before after status =
+      ((status ≡ 0) × Printed f p lines before after × Met f p lines)
+      ⊎ ((status ≡ 1) × Printed f p lines before after × ¬ (Met f p lines))
+      ⊎ ((status ≡ 2) × (4194304 < length (text_of f)))
+      ⊎ (status ≡ 3)
+
+  of-fault : (before after : Option (List ℕ)) (why : Fault) (status : ℕ) → status_of why ≡ status → IsLeft f before after why → Outcome before after status
+  of-fault before after why status is (inl e) = inr (inr (inr (sym is ∙ ap status_of e)))
+  of-fault before after why status is (inr (inl (e, long))) = inr (inr (inl (sym is ∙ ap status_of e, long)))
+  of-fault before after why status is (inr (inr (n, e, h))) =
+      let both = unmet-printed before after n h in
+      inr (inl (sym is ∙ ap status_of e, both.0, both.1))
+
+  pub outcome : (known before after : Option (List ℕ)) (status : ℕ) → known ≡ Some (text_of f)
+      → (status ≡ 0 → IfSome known (λ text. HasRun text before after))
+      → (1 ≤ status → (status ≡ 3) ⊎ ((why : Fault) × (status_of why ≡ status)
+      × IfSome known (λ text. IsRunFault SayOnly text why ⊎ IsUnmet text before after why)))
+      → Outcome before after status
+  outcome known before after zero is done fault =
+      let both = run-printed before after (subst (λ (o : Option (List ℕ)). IfSome o (λ text. HasRun text before after)) is (done refl)) in
+      inl (refl, both.0, both.1)
+  outcome known before after (suc n) is done fault = go (fault (omega arith))
+    where
+      go : (suc n ≡ 3) ⊎ ((why : Fault) × (status_of why ≡ suc n) × IfSome known (λ text. IsRunFault SayOnly text why ⊎ IsUnmet text before after why))
+          → Outcome before after (suc n)
+      go (inl three) = inr (inr (inr three))
+      go (inr (why, same, h)) =
+          of-fault before after why (suc n) same (left-over laws.unique f p lines before after why fits
+          (subst (λ (o : Option (List ℕ)). IfSome o (λ text. IsRunFault SayOnly text why ⊎ IsUnmet text before after why)) is h))
+
+  -- each of its parts
+  pub printed-at : (before after : Option (List ℕ)) (status : ℕ) → Outcome before after status → status ≤ 1 → Printed f p lines before after
+  printed-at before after status (inl h) low = h.1
+  printed-at before after status (inr (inl h)) low = h.1
+  printed-at before after status (inr (inr (inl h))) low = absurd (omega (arith, h.0, low))
+  printed-at before after status (inr (inr (inr e))) low = absurd (omega (arith, e, low))
+
+  pub met-at : (before after : Option (List ℕ)) (status : ℕ) → Outcome before after status → status ≤ 1 → (status ≡ 0) ↔ Met f p lines
+  met-at before after status (inl h) low = (λ _. h.2, λ _. h.0)
+  met-at before after status (inr (inl h)) low = (λ e. absurd (omega (arith, h.0, e)), λ met. absurd (h.2 met))
+  met-at before after status (inr (inr (inl h))) low = absurd (omega (arith, h.0, low))
+  met-at before after status (inr (inr (inr e))) low = absurd (omega (arith, e, low))
+
+  pub long-at : (before after : Option (List ℕ)) (status : ℕ) → Outcome before after status → status ≡ 2 → 4194304 < length (text_of f)
+  long-at before after status (inl h) two = absurd (omega (arith, h.0, two))
+  long-at before after status (inr (inl h)) two = absurd (omega (arith, h.0, two))
+  long-at before after status (inr (inr (inl h))) two = h.1
+  long-at before after status (inr (inr (inr e))) two = absurd (omega (arith, e, two))

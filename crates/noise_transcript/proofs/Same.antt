@@ -1,0 +1,29 @@
+-- Files that say the same run alike.
+use Rattle.std.proofs.Common.{◌≡◌, ◌∙◌, refl, sym}
+use Rattle.noise_vectors.specs.SameFile.{SaySame, datagrams_of, expected_of, held_datagrams}
+use Rattle.noise_vectors.specs.declared.vector.VectorFile.{VectorFile}
+use Rattle.noise_vectors.specs.declared.vector.Version.{Version}
+use Rattle.noise_vectors.specs.declared.vector.Version.TheVariants.{One, Two}
+use Rattle.noise_tool.specs.OneRun.{RunAlike}
+use Rattle.noise_tool.specs.Running.{datagrams_in, expected_in}
+
+pub datagrams-are : (v : Version) → datagrams_of v ≡ held_datagrams (datagrams_in v)
+datagrams-are One = refl
+datagrams-are (Two additions) = refl
+
+pub expected-are : (v : Version) → expected_of v ≡ expected_in v
+expected-are One = refl
+expected-are (Two additions) = refl
+
+pub run-alike : (f g : VectorFile) → SaySame f g → RunAlike f g
+run-alike f g same = record {
+  protocol = same.protocol;
+  block = same.block;
+  prologue = same.prologue;
+  interval = same.interval;
+  psks = same.psks;
+  initiator = same.initiator;
+  responder = same.responder;
+  events = same.events;
+  datagrams = sym (datagrams-are f.version) ∙ same.datagrams ∙ datagrams-are g.version;
+}

@@ -1,0 +1,68 @@
+-- Keys whose DH is the xor of bytes: those of two parties agree, and have an answer wherever a setup without a fault needs one.
+use Rattle.std.proofs.Common.{◌≡◌, ◌∙◌, refl, ap, sym, ℕ, List, length, Option, Some, None}
+use Rattle.std.specs.Prelude.{true, is_some, IfSome}
+use Rattle.noise_names.specs.declared.token.Role.TheVariants.{Initiator, Responder}
+use Rattle.noise_names.specs.declared.token.Token.{Token}
+use Rattle.noise_names.specs.declared.token.Token.TheVariants.{E, S, Ee, Es, Se, Ss, Psk}
+use Rattle.noise_keys.specs.declared.keys.Own.{Own}
+use Rattle.noise_keys.specs.declared.keys.Own.TheVariants.{Ephemeral, Static}
+use Rattle.noise_keys.specs.Keys.{key_of, xor_answer, xor_answer-commutes}
+use Rattle.noise_handshake.specs.Setup.{public_keys}
+use Rattle.noise_handshake.specs.View.{answered, own_at, remote_at}
+use Rattle.noise_vectors.specs.FileKeys.{agreement_of, public_of}
+use Rattle.noise_vectors.specs.VectorFile.{AreKeys}
+use Rattle.noise_vectors.specs.Words.{IsKey}
+use Rattle.noise_vectors.specs.declared.file_keys.FileKeys.{FileKeys}
+use Rattle.noise_vectors.specs.declared.file_keys.FileKeys.TheVariants.{Xor, Table}
+use Rattle.noise_transcript.specs.Fitting.{IsXor}
+
+-- ---- the keys of a right file have 32 bytes
+
+some-same : (x y : List ℕ) → Some x ≡ Some y → x ≡ y
+some-same x y e = cc
+
+long-in : (o : Option (List ℕ)) → IfSome o IsKey → (k : List ℕ) → o ≡ Some k → length k ≡ 32
+long-in None h k e = absurd (cc)
+long-in (Some x) h k e = ap length (sym (some-same x k e)) ∙ h.0
+
+of-own : (e s : Option (List ℕ)) → IfSome e IsKey → IfSome s IsKey → (x : Own) → IfSome (key_of x e s) IsKey
+of-own e s f g Ephemeral = f
+of-own e s f g Static = g
+
+pub long-keys : (keys : FileKeys) → AreKeys keys → (x : Own) (k : List ℕ) → public_of keys x ≡ Some k → length k ≡ 32
+long-keys (Xor keys) h x k e = long-in (key_of x keys.e keys.s) (of-own keys.e keys.s h.0 h.1 x) k e
+long-keys (Table keys) h x k e = long-in (key_of x keys.e keys.s) (of-own keys.e keys.s h.0 h.1 x) k e
+
+-- ---- they agree
+
+pub keys-agree : (f g : FileKeys) → IsXor f → IsXor g → (x y : Own) (k l : List ℕ) → public_of f x ≡ Some k → public_of g y ≡ Some l
+    → agreement_of f x l ≡ agreement_of g y k
+keys-agree (Xor a) (Xor b) i j x y k l e h = xor_answer-commutes (key_of x a.e a.s) (key_of y b.e b.s) k l e h
+keys-agree (Xor a) (Table b) i j x y k l e h = absurd j
+keys-agree (Table a) g i j x y k l e h = absurd i
+
+-- ---- they have answers
+
+gives : (key : Option (List ℕ)) (l : List ℕ) → is_some key ≡ true → is_some (xor_answer key l) ≡ true
+gives None l h = absurd (cc)
+gives (Some k) l h = refl
+
+answers : (agree : Own → List ℕ → Option (List ℕ)) (x : Own) (l : Option (List ℕ)) → is_some l ≡ true
+    → ((k : List ℕ) → is_some (agree x k) ≡ true) → is_some (answered agree x l) ≡ true
+answers agree x None h f = absurd (cc)
+answers agree x (Some l) h f = f l
+
+pub xor-answers : (keys : FileKeys) → IsXor keys → (x : Own) (l : Option (List ℕ)) → is_some (public_of keys x) ≡ true → is_some l ≡ true
+    → is_some (answered (agreement_of keys) x l) ≡ true
+xor-answers (Xor keys) i x l h k = answers (agreement_of (Xor keys)) x l k (λ m. gives (key_of x keys.e keys.s) m h)
+xor-answers (Table keys) i x l h k = absurd i
+
+-- the responder's key at a DH token
+pub remote-own : (theirs : Own → Option (List ℕ)) (t : Token) → remote_at Initiator (public_keys theirs) t ≡ theirs (own_at Responder t)
+remote-own theirs E = refl
+remote-own theirs S = refl
+remote-own theirs Ee = refl
+remote-own theirs Es = refl
+remote-own theirs Se = refl
+remote-own theirs Ss = refl
+remote-own theirs Psk = refl

@@ -1,0 +1,14 @@
+use Rattle.noise_transcript.proofs.Runs.{fitting-lines-run}
+use Rattle.noise_transcript.proofs.laws.fitting_lines_run.Goals as goal
+
+pub returns : goal.returns
+returns c = fitting-lines-run (record {
+  own = c.setup_is_whole.ensures.own;
+  keys = c.tokens_stand.ensures.keys;
+  parts = c.alike_are_parts.ensures;
+  come = c.lines_come_through.ensures.come;
+  can = c.lines_come_through.ensures.can;
+  stand = c.ends_stand.ensures.stand;
+  frame = c.ends_stand.ensures.frame;
+  turns = c.fitting_lines_take_turns.ensures;
+})

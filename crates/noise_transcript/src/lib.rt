@@ -1,0 +1,10 @@
+//! What `noise talk` prints of a file whose lines fit: the transcript of the conversation and its payloads, all accepted. No program calls this crate.
+#![tactic(auto)]
+
+mod laws;
+mod talking;
+#[cfg(test)]
+mod tests;
+
+pub use laws::fitting_lines_run;
+pub use talking::talk;
