@@ -3,6 +3,7 @@
 
 mod answers;
 mod clash;
+mod clashing;
 mod conversation;
 mod ends;
 mod entries;
@@ -14,6 +15,7 @@ mod taking;
 
 pub use answers::xor_keys_answer;
 pub use clash::run_apart;
+pub use clashing::find_clash;
 pub use conversation::converse;
 pub use entries::{entries_agree, keys_meet, payloads_told};
 pub use fault::ConversationFault;
