@@ -20,12 +20,14 @@ use Rattle.noise_duel.specs.Forgery.{ForgedAt, PrefixOrForged, contents, in_stre
 use Rattle.noise_duel.specs.Invariant.{EndsStand}
 use Rattle.noise_duel.specs.Messages.{HandshakeMessage}
 use Rattle.noise_duel.specs.Networks.{HaveOneHistory, PayloadsAgree, PayloadsCome, SecretsMakeOne}
+use Rattle.noise_duel.specs.Notes.{Note}
 use Rattle.noise_duel.specs.OwnFrames.{EndsFrame, own_messages}
 use Rattle.noise_duel.specs.Reports.{receive_key_in, send_key_in}
 use Rattle.noise_duel.specs.Sides.{Side, TransportMessage}
 use Rattle.noise_conversation.specs.Entries.{turns_of, ForgedFrame, FrontOrForged, EntriesAgree, EntriesCome, KeysMeet, KeysCome}
 use Rattle.noise_conversation.specs.Payloads.{own_payloads, told_to, written_by}
 use Rattle.noise_conversation.proofs.Payloads.{Kept, ends-kept, payloads-are-told}
+use Rattle.noise_conversation.proofs.Places.{placed}
 
 -- ---- lists
 
@@ -101,10 +103,11 @@ frame-after mine sent frames h n bytes e same is =
     by None f g = absurd (cc)
     by (Some m) f g = let same : frame m.message ≡ frame bytes = cc in (m, f, frame-is m.message bytes same)
 
-module _ (r : History) (writer : Role) (interval opening : ℕ) (frames mine own written told : List (List ℕ)) (sent received : List TransportMessage) where
+module _ (r : History) (writer : Role) (interval opening : ℕ) (frames mine own written : List (List ℕ)) (notes : List (Role × Note))
+    (sent received : List TransportMessage) where
   front-or-forged : frames ≡ map frame (mine ++ map (λ (m : TransportMessage). m.message) sent) → opening ≡ length mine → opening ≡ length own
-      → written ≡ own ++ contents sent → told ≡ own ++ contents received → PrefixOrForged r writer interval sent received
-      → FrontOrForged r writer interval opening frames written told
+      → written ≡ own ++ contents sent → told_to (other writer) notes ≡ own ++ contents received → PrefixOrForged r writer interval sent received
+      → FrontOrForged r writer interval opening frames written notes
   front-or-forged f m o w t agree = elim agree [
     | inl front ↦ inl (
       front.0,
@@ -114,27 +117,32 @@ module _ (r : History) (writer : Role) (interval opening : ℕ) (frames mine own
     | inr forged ↦ inr (forged.0 + opening, before forged.0 forged.1, at forged.0 forged.2)
   ]
     where
-      before : (n : ℕ) → take n (contents received) ≡ take n (contents sent) → take (n + opening) told ≡ take (n + opening) written
+      before : (n : ℕ) → take n (contents received) ≡ take n (contents sent) → take (n + opening) (told_to (other writer) notes) ≡ take (n + opening) written
       before n e =
           let same : n + opening ≡ length own + n = omega (arith, o) in
-          ap (λ (k : ℕ). take k told) same ∙ ap (take (length own + n)) t ∙ take-after own (contents received) (contents sent) n e
+          ap (λ (k : ℕ). take k (told_to (other writer) notes)) same ∙ ap (take (length own + n)) t ∙ take-after own (contents received) (contents sent) n e
           ∙ ap (take (length own + n)) (sym w) ∙ ap (λ (k : ℕ). take k written) (sym same)
 
-      at : (n : ℕ) → ForgedAt r writer interval (in_stream sent) (in_stream received) n → ForgedFrame r writer interval opening frames told (n + opening)
+      at : (n : ℕ) → ForgedAt r writer interval (in_stream sent) (in_stream received) n → ForgedFrame r writer interval opening frames notes (n + opening)
       at n forged =
           let same : n + opening ≡ length own + n = omega (arith, o) in
           let turned : n + opening ≡ opening + n = omega arith in
+          let there : slice_get (told_to (other writer) notes) (n + opening) ≡ Some forged.forged.payload =
+          ap (slice_get (told_to (other writer) notes)) same ∙ ap (λ (z : List (List ℕ)). slice_get z (length own + n)) t
+          ∙ get-after own (contents received) n ∙ slice_get-map (λ (z : TransportMessage). z.payload) received n
+          ∙ ap (option_map (λ (z : TransportMessage). z.payload)) forged.came in
+          let p = placed (other writer) notes (n + opening) forged.forged.payload there in
           record {
             payload = forged.forged.payload;
             nonce = n;
             number = turned;
-            entry = ap (slice_get told) same ∙ ap (λ (z : List (List ℕ)). slice_get z (length own + n)) t ∙ get-after own (contents received) n
-                ∙ slice_get-map (λ (z : TransportMessage). z.payload) received n
-                ∙ ap (option_map (λ (z : TransportMessage). z.payload)) forged.came;
+            place = p.0;
+            is_at = p.1;
+            entry = there;
             unwritten = λ e.
-                let there = frame-after mine sent frames opening n (packet r writer interval n forged.forged.payload) f m
+                let sealed = frame-after mine sent frames opening n (packet r writer interval n forged.forged.payload) f m
                 (sym (ap (slice_get frames) turned) ∙ e) in
-                forged.unwritten there.0 there.1 (there.2 ∙ sym forged.packet_at);
+                forged.unwritten sealed.0 sealed.1 (sealed.2 ∙ sym forged.packet_at);
           }
 
 -- ---- both ends
@@ -177,7 +185,7 @@ module _ (framed : EndsFrame) (one : SecretsMakeOne) (come : PayloadsCome) where
           let also : length qs ≡ length p.messages = all-passed p Responder d.responder hashes.hash k.1 hashes.responder in
           record {
             there = front-or-forged d.initiator.view.party.history Initiator interval (turns_of Initiator (length p.messages)) d.initiator.frames
-                (own_messages Initiator 0 ps) (own_payloads Initiator 0 ps) (written_by Initiator events notes) (told_to Responder notes)
+                (own_messages Initiator 0 ps) (own_payloads Initiator 0 ps) (written_by Initiator events notes) notes
                 d.initiator.sent d.responder.received
                 (f.0 ∙ ap (λ (r : Role). map frame (own_messages r 0 ps ++ map (λ (m : TransportMessage). m.message) d.initiator.sent)) k.0.role_is)
                 (own-count Initiator ps (length p.messages) all ∙ sym (own-as-many Initiator 0 ps)) (own-count Initiator ps (length p.messages) all)
@@ -185,7 +193,7 @@ module _ (framed : EndsFrame) (one : SecretsMakeOne) (come : PayloadsCome) where
                 (t.1.told ∙ ap (λ (ms : List HandshakeMessage). own_payloads Initiator 0 ms ++ contents d.responder.received) (sym history.passed))
                 agree.there;
             back = front-or-forged d.initiator.view.party.history Responder interval (turns_of Responder (length p.messages)) d.responder.frames
-                (own_messages Responder 0 qs) (own_payloads Responder 0 qs) (written_by Responder events notes) (told_to Initiator notes)
+                (own_messages Responder 0 qs) (own_payloads Responder 0 qs) (written_by Responder events notes) notes
                 d.responder.sent d.initiator.received
                 (f.1 ∙ ap (λ (r : Role). map frame (own_messages r 0 qs ++ map (λ (m : TransportMessage). m.message) d.responder.sent)) k.1.role_is)
                 (own-count Responder qs (length p.messages) also ∙ sym (own-as-many Responder 0 qs)) (own-count Responder qs (length p.messages) also)

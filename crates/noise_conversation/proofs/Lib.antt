@@ -1,8 +1,10 @@
 pub mod Alike
+pub mod DatagramEntries
 pub mod Fronts
 pub mod Exactly
 pub mod Fit
 pub mod Framed
 pub mod Faults
 pub mod Payloads
+pub mod Places
 pub mod Xor

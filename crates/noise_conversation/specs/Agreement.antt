@@ -1,5 +1,6 @@
 -- What two ends of equal setup agree on over any network.
 use Rattle.std.specs.Prelude.{◌≡◌, ◌⊎◌, ℕ, List, Option, Some}
+use Rattle.noise_names.specs.declared.token.Role.TheVariants.{Initiator, Responder}
 use Rattle.noise_names.specs.Plan.{Plan}
 use Rattle.noise_keys.specs.declared.keys.Own.{Own}
 use Rattle.noise_session.specs.Ends.{hash_in}
@@ -12,6 +13,7 @@ use Rattle.noise_duel.specs.Networks.{HaveOneHash, HaveOneHistory, HistoriesColl
 use Rattle.noise_duel.specs.Reports.{Reports}
 use Rattle.noise_duel.specs.Sides.{Sides}
 use Rattle.noise_conversation.specs.Entries.{EntriesAgree, KeysMeet}
+use Rattle.noise_conversation.specs.Payloads.{IsTold}
 use Rattle.noise_conversation.specs.Setup.{Starts}
 
 module _ {K : Type 0} (public_of : K → Own → Option (List ℕ)) (agreement : K → Own → List ℕ → Option (List ℕ)) where
@@ -19,6 +21,9 @@ module _ {K : Type 0} (public_of : K → Own → Option (List ℕ)) (agreement :
   -- history, and what each accepted is the first of what the other wrote, up to a forged message; or two texts that they hashed collide.
   pub record AgreeOverNetwork (p : Plan) (s : Starts) (interval : ℕ) (events : List Event) (duel : HeldDuel K K) (report : Report) : Type 0 where
     pub reports : Reports public_of agreement public_of agreement (facing p s.initiator s.responder interval interval) events duel report
+    -- what the report tells of each role as written and accepted is what it wrote and accepted in the run, whatever the hashes are
+    pub initiator : IsTold Initiator events (notes_of report.entries.items) reports.last.initiator
+    pub responder : IsTold Responder events (notes_of report.entries.items) reports.last.responder
     pub history : (hash : List ℕ) → hash_in duel.initiator.phase ≡ Some hash → hash_in duel.responder.phase ≡ Some hash
         → HaveOneHistory reports.last ⊎ HistoriesCollide reports.last
     pub payloads : (hash : List ℕ) → hash_in duel.initiator.phase ≡ Some hash → hash_in duel.responder.phase ≡ Some hash

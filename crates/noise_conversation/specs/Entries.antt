@@ -2,18 +2,19 @@
 use Rattle.std.specs.Prelude.{◌≡◌, ◌≢◌, ◌⊎◌, ℕ, zero, suc, ◌+◌, List, ◌++◌, length, take, Option, Some, slice_get, if◌then◌else◌}
 use Rattle.noise_names.specs.declared.token.Role.{Role}
 use Rattle.noise_names.specs.declared.token.Role.TheVariants.{Initiator, Responder}
-use Rattle.noise_names.specs.Tokens.{same_role, turn_from}
+use Rattle.noise_names.specs.Tokens.{other, same_role, turn_from}
 use Rattle.noise_names.specs.Plan.{Plan}
 use Rattle.noise_keys.specs.declared.keys.Own.{Own}
 use Rattle.noise_state.specs.History.{History}
 use Rattle.noise_session.specs.Frames.{frame}
+use Rattle.noise_session.specs.Steps.Told.{Payload}
 use Rattle.noise_session.specs.Transport.{packet}
 use Rattle.noise_events.specs.Events.{Event}
 use Rattle.noise_duel.specs.Conversation.{facing}
 use Rattle.noise_duel.specs.HeldDuel.{HeldDuel, DuelStands}
 use Rattle.noise_duel.specs.Messages.{Start}
 use Rattle.noise_duel.specs.Networks.{HaveOneHash, HistoriesCollide, ShareSecrets}
-use Rattle.noise_duel.specs.Notes.{Note}
+use Rattle.noise_duel.specs.Notes.{Note, Judged}
 use Rattle.noise_duel.specs.Reports.{receive_key_in, send_key_in}
 use Rattle.noise_duel.specs.Runs.{Run}
 use Rattle.noise_duel.specs.Sides.{Sides}
@@ -24,28 +25,35 @@ abbrev pub turns_of : Role → ℕ → ℕ
 turns_of role zero = 0
 turns_of role (suc n) = turns_of role n + (if same_role (turn_from Initiator n) role then 1 else 0)
 
--- A forged frame was accepted: payload number i that a role was told came as a packet at a nonce, which is the number after the handshake messages of
--- the writer, and the writer's frame number i isn't that packet's, or there is none (Noise 5.2, 12.3).
-pub record ForgedFrame (r : History) (writer : Role) (interval opening : ℕ) (frames told : List (List ℕ)) (i : ℕ) : Type 0 where
+-- Entry `place`, counted from 0, tells a role of payload number i that it was told.
+pub record IsPayloadAt (role : Role) (notes : List (Role × Note)) (i place : ℕ) (payload : List ℕ) : Type 0 where
+  pub entry : slice_get notes place ≡ Some (role, Judged (Payload payload))
+  pub before : length (told_to role (take place notes)) ≡ i
+
+-- A forged frame was accepted: payload number i that a role was told, at a place among all entries, came as a packet at a nonce, which is the number after
+-- the handshake messages of the writer, and the writer's frame number i isn't that packet's, or there is none (Noise 5.2, 12.3).
+pub record ForgedFrame (r : History) (writer : Role) (interval opening : ℕ) (frames : List (List ℕ)) (notes : List (Role × Note)) (i : ℕ) : Type 0 where
   pub payload : List ℕ
   pub nonce : ℕ
   pub number : i ≡ opening + nonce
-  pub entry : slice_get told i ≡ Some payload
+  pub place : ℕ
+  pub is_at : IsPayloadAt (other writer) notes i place payload
+  pub entry : slice_get (told_to (other writer) notes) i ≡ Some payload
   pub unwritten : slice_get frames i ≢ Some (frame (packet r writer interval nonce payload))
 
--- what a role was told are the first of the payloads that the other wrote, in order, or the first that isn't came in a forged frame
-abbrev pub FrontOrForged : History → Role → ℕ → ℕ → List (List ℕ) → List (List ℕ) → List (List ℕ) → Type 0
-FrontOrForged r writer interval opening frames written told =
-    ((rest : List (List ℕ)) × (written ≡ told ++ rest))
-    ⊎ ((i : ℕ) × (take i told ≡ take i written) × ForgedFrame r writer interval opening frames told i)
+-- what the other role was told are the first of the payloads that the writer wrote, in order, or the first that isn't came in a forged frame
+abbrev pub FrontOrForged : History → Role → ℕ → ℕ → List (List ℕ) → List (List ℕ) → List (Role × Note) → Type 0
+FrontOrForged r writer interval opening frames written notes =
+    ((rest : List (List ℕ)) × (written ≡ told_to (other writer) notes ++ rest))
+    ⊎ ((i : ℕ) × (take i (told_to (other writer) notes) ≡ take i written) × ForgedFrame r writer interval opening frames notes i)
 
 -- In each direction, over all of the session, the handshake too: the frames are those that the two roles wrote, the history is the one of both.
 pub record EntriesAgree (p : Plan) (r : History) (interval : ℕ) (events : List Event) (notes : List (Role × Note))
     (initiator responder : List (List ℕ)) : Type 0 where
   pub there : FrontOrForged r Initiator interval (turns_of Initiator (length p.messages)) initiator
-      (written_by Initiator events notes) (told_to Responder notes)
+      (written_by Initiator events notes) notes
   pub back : FrontOrForged r Responder interval (turns_of Responder (length p.messages)) responder
-      (written_by Responder events notes) (told_to Initiator notes)
+      (written_by Responder events notes) notes
 
 -- With equal hashes, the same secrets and equal intervals so it is, or two texts that they hashed collide.
 abbrev pub EntriesCome : Type 0

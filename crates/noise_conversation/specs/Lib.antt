@@ -1,8 +1,10 @@
 pub mod Agreement
 pub mod Clash
+pub mod Datagrams
 pub mod Entries
 pub mod Exactly
 pub mod Lines
 pub mod Payloads
 pub mod Setup
+pub mod Taking
 pub mod Turns

@@ -8,7 +8,7 @@ ghost use Rattle.noise_conversation.specs.Setup.{IsFault, fault_of, starts};
 
 use crate::ConversationFault;
 use crate::ends::make_ends;
-use crate::entries::{entries_agree, keys_meet};
+use crate::entries::{entries_agree, keys_meet, payloads_told};
 use noise_duel::{Duel, Event, Report};
 use noise_handshake::{Agreeing, Keys};
 use noise_names::ValidPattern;
@@ -21,6 +21,8 @@ use std::alloc::Global;
 /// Where both ends then tell one hash, they had all of the conversation in common, and what each accepted is the first of what the other wrote, up to a
 /// forged message; or two texts that they hashed collide. So the payloads that the report tells of a role as accepted are the first of those that it tells
 /// of the other as written, or the number of a forged frame is named; and where all of them came, open ends have equal keys for the next message.
+///
+/// Whatever the hashes are, the payloads that the report tells of each role are those of the messages that it wrote and accepted.
 ///
 /// A setup with a fault, or want of memory, is told instead.
 pub fn run_events<K: Agreeing>(
@@ -43,6 +45,7 @@ pub fn run_events<K: Agreeing>(
         alloc, pattern, prologue, initiator, responder, psks, interval,
     )?;
     hash_is_told::<K, K>();
+    payloads_told();
     entries_agree();
     keys_meet::<K, K>();
     let made = duel.run(alloc, events)?;

@@ -25,11 +25,14 @@ returns g c =
     let secrets : HaveSameSecrets p a b = record { psks = refl; keys = alike.keys; initiator = alike.initiator; responder = alike.responder } in
     let last = told.0.last in
     let notes = notes_of c.in_ok-made.made.1.entries.items in
+    let payloads = c.payloads_told.ensures p a b i i (events_of c.args.events.now) notes last told.0.run in
     let hashes = c.hash_is_told.ensures c.in_ok-made.made.0 last in
     record {
       setup = c.in_ok-duel.ensures.setup;
       agrees = record {
         reports = told.0;
+        initiator = payloads.0;
+        responder = payloads.1;
         history = λ hash e f. told.1.one (hashes hash told.0.stands e f) (inr secrets);
         payloads = λ hash e f. told.1.payloads refl (hashes hash told.0.stands e f) (inr secrets);
         entries = λ hash e f.
