@@ -7,6 +7,7 @@ mod duels;
 mod frames;
 mod streams;
 mod support;
+mod taking;
 mod transport;
 mod using;
 mod vectors;

@@ -2,18 +2,24 @@
 
 use super::duels::{Ends, between};
 use super::support::opened;
+use noise_conversation::run_datagrams;
 use noise_duel::{DatagramDuel, DatagramEvent};
 use noise_names::Role;
 use noise_session::{End, Transport, Window};
 use std::alloc::{AllocError, Global};
 use std::process::Abort;
 
-// The datagrams of an open session of NN.
-fn open_nn(rt: &impl Abort, alloc: Global) -> Result<DatagramDuel, AllocError> {
+// Both ends of an open session of NN.
+fn open_ends(rt: &impl Abort, alloc: Global) -> Result<Ends, AllocError> {
     let (first, second) = opened(rt);
     let first = End::from_transport(alloc, Transport::new(first, 0))?;
     let second = End::from_transport(alloc, Transport::new(second, 0))?;
-    let duel: Ends = between(rt, first, second);
+    Ok(between(rt, first, second))
+}
+
+// Their datagrams.
+fn open_nn(rt: &impl Abort, alloc: Global) -> Result<DatagramDuel, AllocError> {
+    let duel = open_ends(rt, alloc)?;
     let went_over = duel.into_datagrams(Window::W64).ok();
     Ok(went_over.expect(rt, "both ends are open"))
 }
@@ -57,8 +63,13 @@ fn events(rt: &impl Abort, alloc: Global) -> Vec<DatagramEvent> {
 fn tells_of_each_datagram(rt: HostRuntime) {
     let alloc = rt.alloc();
     let events = events(&rt, alloc);
-    let duel = open_nn(&rt, alloc).expect(&rt, "memory");
-    let (_, report) = duel.run(alloc, &events).expect(&rt, "memory");
+    let duel = open_ends(&rt, alloc).expect(&rt, "memory");
+    let initiator_ready = duel.initiator().datagram_ready();
+    assert!(rt; initiator_ready);
+    let responder_ready = duel.responder().datagram_ready();
+    assert!(rt; responder_ready);
+    let ran = run_datagrams(alloc, duel, Window::W64, &events);
+    let (_, report) = ran.expect(&rt, "memory");
     let text = format!(in alloc; "{:?}", report.entries).expect(&rt, "memory");
     assert!(rt; text.as_str() == TOLD);
 }

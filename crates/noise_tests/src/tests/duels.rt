@@ -1,6 +1,7 @@
 //! A run of two ends of unequal prologues, which no vector file describes.
 
 use super::support::end;
+use noise_conversation::run_apart;
 use noise_duel::{Cuts, Duel, Event};
 use noise_handshake::XorKeys;
 use noise_names::Role;
@@ -36,7 +37,7 @@ fn refuses_another_prologue(rt: HostRuntime) {
         say(&rt, alloc, Role::Initiator),
         say(&rt, alloc, Role::Responder),
     ];
-    let ran = between(&rt, first, second).run(alloc, &events);
+    let ran = run_apart(alloc, between(&rt, first, second), &events);
     let (_, report) = ran.expect(&rt, "memory");
     let text = format!(in alloc; "{:?}", report.entries).expect(&rt, "memory");
     assert!(rt; text.as_str() == TOLD);

@@ -9,7 +9,7 @@ use std::alloc::Global;
 use std::process::Abort;
 
 /// A party of NN, whose key has one byte throughout.
-fn party(rt: &impl Abort, role: Role, prologue: &[u8]) -> Handshake<XorKeys>
+pub fn party(rt: &impl Abort, role: Role, prologue: &[u8]) -> Handshake<XorKeys>
     ensures { result.ended ≡ false }
 {
     let byte = match role {
