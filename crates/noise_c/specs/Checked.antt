@@ -17,7 +17,7 @@ pub record IsBrokenText (text : List ℕ) : Type 0 where
   pub spelled : Spells text pattern
   pub broken : IsValid pattern → ⊥
 
--- The pattern's first fault was told, and nothing else.
+-- The pattern's first fault was reported, and nothing else.
 pub record TellsRule (p : Plan) (old new : NoisePatternTold) : Type 0 where
   pub fault : first_fault p ≡ Some (record { rule = new.rule; message = new.message; token = new.token })
   pub rest : new ≡ record old { rule = new.rule; message = new.message; token = new.token }

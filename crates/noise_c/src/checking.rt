@@ -12,7 +12,7 @@ use crate::codes::{OK, RULE, text_code};
 use crate::kept::NoisePatternTold;
 use noise_names::Pattern;
 
-// Checks a pattern, and tells how many messages it has, or the first place that breaks a rule.
+// Checks a pattern, and returns how many messages it has, or the first place that breaks a rule.
 fn check(pattern: Pattern, told: &mut NoisePatternTold) -> u32
     ensures valid { result ≡ OK ↔ IsValid pattern }
     ensures messages { result ≡ OK → told.new ≡ record told.old { messages = length pattern.messages } }

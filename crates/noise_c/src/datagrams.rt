@@ -22,7 +22,7 @@ use crate::kept_datagrams::{NoiseDatagrams, datagrams_of, kept_datagrams, window
 use crate::transport_codes::{WINDOW, datagram_code, seal_code};
 use noise_session::Datagrams;
 
-// The bytes of a nonce, which stand in front.
+// The bytes of a nonce, which are at the front.
 const NONCE_LEN: usize = 8;
 
 // Those of a nonce and a tag.
@@ -74,7 +74,7 @@ pub extern "C" fn noise_finish_datagrams(
     }
 }
 
-/// Seals a payload of at most 65519 bytes into the first bytes of `out`, 24 more than it has, and tells how many: the nonce in 8 bytes,
+/// Seals a payload of at most 65519 bytes into the first bytes of `out`, 24 more than it has, and returns how many: the nonce in 8 bytes,
 /// the highest first, and the transport message of that nonce (Noise, 11.4). `out` must not overlap the payload.
 ///
 /// ROOM where `out` has fewer than 24 bytes more than the payload, looked for first; then ONE_WAY, TOO_LONG and EXHAUSTED. These change
@@ -118,7 +118,7 @@ pub extern "C" fn noise_datagrams_seal(
     }
 }
 
-/// Seals the payload that is in `payload_len` bytes of `buffer`, from the ninth byte on, in place, and tells how many bytes the datagram
+/// Seals the payload that is in `payload_len` bytes of `buffer`, from the ninth byte on, in place, and returns how many bytes the datagram
 /// has: the first of `buffer`, 24 more than the payload (Noise, 11.4).
 ///
 /// The codes are those of `noise_datagrams_seal`: ROOM where `buffer` has fewer than 24 bytes more than the payload.
@@ -160,7 +160,7 @@ pub extern "C" fn noise_datagrams_seal_in_place(
     }
 }
 
-/// Opens a datagram in place, and tells where its payload stands: from the ninth byte on. The 8 of the nonce in front of it and the 16 of
+/// Opens a datagram in place, and returns where its payload is: from the ninth byte on. The 8 of the nonce in front of it and the 16 of
 /// the tag after it stay as they are. At any answer but OK its bytes and what is kept are unchanged.
 ///
 /// ONE_WAY, SHORT (fewer than 24 bytes), TOO_LONG (more than 65543), RESERVED (the nonce that no message has: Noise, 5.1), OLD, REPEATED

@@ -67,7 +67,7 @@ pub(crate) fn tell(own: Own, key: [u8; 32], told: &mut NoiseTold)
     told.remote = key;
 }
 
-/// Reads a message in place, and tells where its payload stands. At any answer but OK its bytes are unchanged.
+/// Reads a message in place, and returns where its payload is. At any answer but OK its bytes are unchanged.
 ///
 /// WANTED tells the DH answer that is lacking, and changes nothing: hand it in, and call again. AGREEMENT can only come of memory
 /// that no call has left.

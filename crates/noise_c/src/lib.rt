@@ -1,5 +1,5 @@
 //! Noise for C, Go and Rust: handshakes, transports and datagrams whose memory the caller keeps. No call takes memory, and no key
-//! pair is used: the caller is told which DH answer is wanted, and hands it in.
+//! pair is used: the caller is shown which DH answer is wanted, and hands it in.
 #![tactic(auto)]
 
 mod asking;

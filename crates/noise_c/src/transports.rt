@@ -58,7 +58,7 @@ pub extern "C" fn noise_finish(
     }
 }
 
-/// Seals a payload of at most 65519 bytes into the first bytes of `out`, 16 more than it has, and tells how many (Noise, 5.2). `out` must
+/// Seals a payload of at most 65519 bytes into the first bytes of `out`, 16 more than it has, and returns how many (Noise, 5.2). `out` must
 /// not overlap the payload.
 ///
 /// ROOM where `out` has fewer than 16 bytes more than the payload, looked for first; then ONE_WAY, TOO_LONG and EXHAUSTED. These change
@@ -101,7 +101,7 @@ pub extern "C" fn noise_transport_seal(
     }
 }
 
-/// Seals the payload in the first `payload_len` bytes of `buffer` in place, and tells how many bytes the message has: the first of
+/// Seals the payload in the first `payload_len` bytes of `buffer` in place, and returns how many bytes the message has: the first of
 /// `buffer`, 16 more than the payload (Noise, 5.2).
 ///
 /// The codes are those of `noise_transport_seal`: ROOM where `buffer` has fewer than 16 bytes more than the payload.
@@ -143,7 +143,7 @@ pub extern "C" fn noise_transport_seal_in_place(
     }
 }
 
-/// Opens a message in place, and tells how many first bytes of it are then the payload (Noise, 5.2). The 16 of the tag after them stay
+/// Opens a message in place, and returns how many first bytes of it are then the payload (Noise, 5.2). The 16 of the tag after them stay
 /// as they are. At any answer but OK its bytes and the transport are unchanged.
 ///
 /// LENGTH where it has more than 65535 bytes; then ONE_WAY, EXHAUSTED, SHORT (fewer than the 16 of a tag) and TAG are looked for in this

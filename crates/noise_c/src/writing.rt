@@ -14,7 +14,7 @@ use crate::handshakes::tell;
 use crate::held::{handshake_of, keep};
 use crate::kept::{NoiseHandshake, NoiseTold};
 
-/// Writes a message to the front of `out`, and tells its length, in bytes. At any answer but OK the struct and `out` are unchanged.
+/// Writes a message to the front of `out`, and returns its length, in bytes. At any answer but OK the struct and `out` are unchanged.
 ///
 /// ROOM tells the length that `out` is too short for. WANTED tells the DH answer that is lacking: hand it in, and call again.
 /// AGREEMENT can only come of memory that no call has left, and leaves open what `out` holds.

@@ -1,4 +1,4 @@
--- What is told of a whole message, by what the message is.
+-- What is reported of a whole message, by what the message is.
 use Rattle.std.proofs.Common.{◌≡◌, ◌≢◌, ◌<◌, ℕ, List, length, refl, sym, ◌∙◌, ap, subst, arith, Result, Ok, Err}
 use Rattle.std.specs.Prelude.{Bool, true, false, IsTrue, MatchBool, ◌==◌, nat_lt, if◌then◌else◌}
 use Rattle.std.proofs.lemmas.Bool.Decides.{nat_tests}

@@ -1,4 +1,4 @@
--- Which fault of a setup is told.
+-- Which fault of a setup is reported.
 use Rattle.std.proofs.Common.{◌≡◌, ◌∙◌, refl, ap, sym, Option, Some, None, Result, Ok, Err}
 use Rattle.std.specs.Prelude.{IsOk, MatchOption}
 use Rattle.noise_keys.specs.declared.faults.SetupFault.{SetupFault}
@@ -6,7 +6,7 @@ use Rattle.noise_conversation.specs.declared.fault.ConversationFault.{Conversati
 use Rattle.noise_conversation.specs.declared.fault.ConversationFault.TheVariants.{Setup, Memory}
 use Rattle.noise_conversation.specs.Setup.{IsFault, or_next}
 
--- where something was made there is no fault, and else it is the one that is told
+-- where something was made there is no fault, and else it is the one that is reported
 pub none-found : {T : Type 0} (found : Option SetupFault) (result : Result T SetupFault) (value : T) → result ≡ Ok value
     → MatchOption found (IsOk result) (λ why. result ≡ Err why) → found ≡ None
 none-found None result value is m = refl

@@ -79,7 +79,7 @@ own-count role ps n e =
     let none : 0 + length (own_payloads role 0 ps) ≡ length (own_payloads role 0 ps) = omega arith in
     sym (ap (turns_of role) same) ∙ sym all ∙ none
 
--- ---- what was told of what was written
+-- ---- what was reported of what was written
 
 frame-is : (m n : List ℕ) → frame m ≡ frame n → m ≡ n
 frame-is m n e = ap (drop 2) e

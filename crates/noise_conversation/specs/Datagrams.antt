@@ -33,7 +33,7 @@ pub record OpenedAt (events : List DatagramEvent) (notes : List (Role × Datagra
   pub nonce : nonce_in event ≡ Some n
   pub entry : slice_get notes i ≡ Some (role, Payload payload)
 
--- ---- what is told
+-- ---- what is reported
 
 -- What a role's entries tell is what it sealed and opened in the run: all of it, and nothing else.
 pub record IsToldOfDatagrams (role : Role) (events : List DatagramEvent) (notes : List (Role × DatagramNote)) (s : DatagramSide) : Type 0 where
@@ -62,7 +62,7 @@ pub record ForgedDatagram (r : History) (writer : Role) (events : List DatagramE
   pub message : drop 8 bytes ≡ packet r writer 0 n payload
   pub unsealed : (j : ℕ) → slice_get notes j ≢ Some (writer, Sealed n (datagram r writer n payload))
 
--- In one direction: a nonce is told as opened at one place only, and the payload there is the one that the writer sealed as its datagram of that number,
+-- In one direction: a nonce is reported as opened at one place only, and the payload there is the one that the writer sealed as its datagram of that number,
 -- as an entry tells, or the datagram is forged.
 pub record EntriesArrive (r : History) (writer : Role) (events : List DatagramEvent) (notes : List (Role × DatagramNote)) : Type 0 where
   pub once : (i j n : ℕ) (p q : List ℕ) → OpenedAt events notes i (other writer) n p → OpenedAt events notes j (other writer) n q → i ≡ j

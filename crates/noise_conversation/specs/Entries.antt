@@ -25,12 +25,12 @@ abbrev pub turns_of : Role → ℕ → ℕ
 turns_of role zero = 0
 turns_of role (suc n) = turns_of role n + (if same_role (turn_from Initiator n) role then 1 else 0)
 
--- Entry `place`, counted from 0, tells a role of payload number i that it was told.
+-- Entry `place`, counted from 0, is payload number i that a role received.
 pub record IsPayloadAt (role : Role) (notes : List (Role × Note)) (i place : ℕ) (payload : List ℕ) : Type 0 where
   pub entry : slice_get notes place ≡ Some (role, Judged (Payload payload))
   pub before : length (told_to role (take place notes)) ≡ i
 
--- A forged frame was accepted: payload number i that a role was told, at a place among all entries, came as a packet at a nonce, which is the number after
+-- A forged frame was accepted: payload number i that a role received, at a place among all entries, came as a packet at a nonce, which is the number after
 -- the handshake messages of the writer, and the writer's frame number i isn't that packet's, or there is none (Noise 5.2, 12.3).
 pub record ForgedFrame (r : History) (writer : Role) (interval opening : ℕ) (frames : List (List ℕ)) (notes : List (Role × Note)) (i : ℕ) : Type 0 where
   pub payload : List ℕ
@@ -41,7 +41,7 @@ pub record ForgedFrame (r : History) (writer : Role) (interval opening : ℕ) (f
   pub entry : slice_get (told_to (other writer) notes) i ≡ Some payload
   pub unwritten : slice_get frames i ≢ Some (frame (packet r writer interval nonce payload))
 
--- what the other role was told are the first of the payloads that the writer wrote, in order, or the first that isn't came in a forged frame
+-- what the other role was reported are the first of the payloads that the writer wrote, in order, or the first that isn't came in a forged frame
 abbrev pub FrontOrForged : History → Role → ℕ → ℕ → List (List ℕ) → List (List ℕ) → List (Role × Note) → Type 0
 FrontOrForged r writer interval opening frames written notes =
     ((rest : List (List ℕ)) × (written ≡ told_to (other writer) notes ++ rest))
@@ -61,7 +61,7 @@ EntriesCome = (p : Plan) (a b : Start) (interval : ℕ) (events : List Event) (n
     → Run (facing p a b interval interval) events notes d → HaveOneHash d → ShareSecrets p a b d
     → EntriesAgree p d.initiator.view.party.history interval events notes d.initiator.frames d.responder.frames ⊎ HistoriesCollide d
 
--- Where a role was told as many payloads as the other wrote, it opens the next message by the key that the other writes it by, if both are open.
+-- Where a role received as many payloads as the other wrote, it opens the next message by the key that the other writes it by, if both are open.
 pub record KeysMeet {A B : Type 0} (events : List Event) (notes : List (Role × Note)) (duel : HeldDuel A B) : Type 0 where
   pub there : length (told_to Responder notes) ≡ length (written_by Initiator events notes) → (k l : List ℕ)
       → send_key_in duel.initiator.phase ≡ Some k → receive_key_in duel.responder.phase ≡ Some l → l ≡ k

@@ -1,4 +1,4 @@
--- What is told of a whole message, and what a handshake by itself answers to one: each answer in exactly one case.
+-- What is reported of a whole message, and what a handshake by itself answers to one: each answer in exactly one case.
 use Rattle.std.specs.Prelude.{◌≡◌, ◌≢◌, ◌↔◌, ℕ, List, length, IsTrue, nat_lt, if◌then◌else◌, Result, Ok, Err, MatchResult}
 use Rattle.noise_handshake.specs.declared.faults.Cause.{Cause}
 use Rattle.noise_handshake.specs.declared.faults.Cause.TheVariants.{Short, Tag}
@@ -14,7 +14,7 @@ use Rattle.noise_session.specs.Ends.{EndView, progress_of}
 use Rattle.noise_session.specs.Taking.{Judges}
 use Rattle.noise_session.specs.Exactly.{Encodes}
 
--- An open end that has a nonce left drops the message: it is one of no payload, and the cause is told by its length, since a tag has 16 bytes (Noise 12.3).
+-- An open end that has a nonce left drops the message: it is one of no payload, and the cause is reported by its length, since a tag has 16 bytes (Noise 12.3).
 pub record IsDropped (v : EndView) (message : List ℕ) (cause : Cause) : Type 0 where
   pub opens : IsTrue (is_open (progress_of v))
   pub nonce : v.received ≢ last_nonce
@@ -26,7 +26,7 @@ pub record IsExhausted (v : EndView) : Type 0 where
   pub opens : IsTrue (is_open (progress_of v))
   pub nonce : v.received ≡ last_nonce
 
--- All that is told of a whole message that comes to an end that listens.
+-- All that is reported of a whole message that comes to an end that listens.
 pub record AllToldExactly (v : EndView) (message : List ℕ) (told : Told) : Type 0 where
   pub payload : (payload : List ℕ) → told ≡ Payload payload ↔ Encodes v message payload
   pub refused : (token : ℕ) (cause : Cause) → told ≡ Refused token cause ↔ Refuses v.party message token cause

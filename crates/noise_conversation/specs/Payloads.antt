@@ -23,7 +23,7 @@ abbrev pub payload_told : Note → List (List ℕ)
 payload_told (Judged (Payload bytes)) = bytes ∷ []
 payload_told _ = []
 
--- the payloads that a role was told, in order
+-- the payloads that a role received, in order
 abbrev pub told_to : Role → List (Role × Note) → List (List ℕ)
 told_to role notes = flat_map payload_told (about role notes)
 
@@ -54,7 +54,7 @@ abbrev pub own_payloads : Role → ℕ → List HandshakeMessage → List (List 
 own_payloads role n [] = []
 own_payloads role n (p ∷ ps) = (if same_role (turn_from Initiator n) role then p.payload ∷ [] else []) ++ own_payloads role (n + 1) ps
 
--- A role wrote the payloads of its handshake messages and then of the transport messages that agreement takes as sent; it was told those of the other
+-- A role wrote the payloads of its handshake messages and then of the transport messages that agreement takes as sent; it received those of the other
 -- role's handshake messages and then of the transport messages that agreement takes as received.
 pub record IsTold (role : Role) (events : List Event) (notes : List (Role × Note)) (s : Side) : Type 0 where
   pub written : written_by role events notes ≡ own_payloads role 0 s.passed ++ contents s.sent

@@ -58,7 +58,7 @@ first_fault p a b = or_next (setup_fault p Initiator a.own a.remote (length a.se
 abbrev pub fault_of : Plan → Starts → Option SetupFault
 fault_of p s = first_fault p s.initiator s.responder
 
--- a fault of the setup is told only where it is the one that was found
+-- a fault of the setup is reported only where it is the one that was found
 abbrev pub IsFault : Option SetupFault → ConversationFault → Type 0
 IsFault found (Setup why) = found ≡ Some why
 IsFault found Memory = ⊤

@@ -22,7 +22,7 @@ use std::alloc::Global;
 /// Two new ends of one pattern, with equal prologue, psks and interval and with keys that agree, say these lines to each other: the messages of the
 /// handshake, and then transport messages. Each frame comes to the other end at once, in the pieces of its line.
 ///
-/// All of it is said and heard, as the clauses tell. A setup with a fault, or want of memory, is told instead.
+/// All of it is said and heard, as the clauses tell. A setup with a fault, or lack of memory, is reported instead.
 pub fn converse<K: Agreeing>(
     alloc: Global,
     pattern: ValidPattern,

@@ -32,7 +32,7 @@ use std::alloc::{AllocError, Global};
 /// is the one that it tells of the other as sealed, as its datagram of that number, or the datagram is forged; and no nonce is opened at two places
 /// (Noise, 11.4).
 ///
-/// At Err, for want of memory, the ends are gone.
+/// At Err, for lack of memory, the ends are gone.
 pub fn run_datagrams<A: Keys, B: Keys>(
     alloc: Global,
     duel: Duel<A, B>,
@@ -71,7 +71,7 @@ fn go_over<A: Keys, B: Keys>(duel: Duel<A, B>, window: Window) -> DatagramDuel
 /// What the entries of a run of datagrams say of the two parties of one handshake, which have sealed and opened nothing before it.
 ///
 /// The entries of a role tell of the datagrams that it sealed and of those that it opened: of all of them, and of nothing else. In each direction a nonce
-/// is told as opened at one place only, and the payload there is the one that the other role sealed as its datagram of that number, or the datagram is
+/// is reported as opened at one place only, and the payload there is the one that the other role sealed as its datagram of that number, or the datagram is
 /// forged. Each opens by the key that the other seals by.
 pub fn datagram_entries_agree()
     ensures told { DatagramsAreTold }

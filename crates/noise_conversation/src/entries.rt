@@ -13,7 +13,7 @@ pub fn payloads_told()
     ensures { PayloadsAreTold }
 {}
 
-/// Where two new ends with the same secrets and equal intervals have one hash, the payloads that a role was told are the first of those that the other
+/// Where two new ends with the same secrets and equal intervals have one hash, the payloads that a role received are the first of those that the other
 /// wrote, in order, the handshake's too; or the first that isn't came in a forged frame, whose number is named; or two texts that they hashed collide.
 pub fn entries_agree()
     ensures { EntriesCome }
@@ -22,7 +22,7 @@ pub fn entries_agree()
     ends_agree();
 }
 
-/// Where they are open too, and a role was told as many payloads as the other wrote, it opens the next message by the key that the other writes it by; or
+/// Where they are open too, and a role received as many payloads as the other wrote, it opens the next message by the key that the other writes it by; or
 /// two texts that they hashed collide.
 pub fn keys_meet<A: Keys, B: Keys>()
     ensures { KeysCome A.public_of A.agreement B.public_of B.agreement }

@@ -12,7 +12,7 @@ use std::alloc::AllocError;
 pub enum ConversationFault {
     /// The setup lacks something, or has something that the pattern doesn't ask for: the initiator's fault first.
     Setup(SetupFault),
-    /// Want of memory.
+    /// Lack of memory.
     Memory,
 }
 

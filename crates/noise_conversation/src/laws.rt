@@ -1,4 +1,4 @@
-//! Laws of what is told of a message.
+//! Laws of what is reported of a message.
 #![tactic(auto)]
 
 ghost use Rattle.noise_conversation.specs.Exactly.{ReadExactly, ToldExactly};
@@ -6,7 +6,7 @@ ghost use Rattle.noise_conversation.specs.Exactly.{ReadExactly, ToldExactly};
 use noise_handshake::{accepted_once, refused_once};
 use noise_session::accepted_exactly;
 
-/// All that is told of a whole message that comes to an end that listens: a payload exactly where the message is one of it there, a refusal exactly where
+/// All that is reported of a whole message that comes to an end that listens: a payload exactly where the message is one of it there, a refusal exactly where
 /// the party of a handshake refuses it so, that it is dropped exactly where the open end has a nonce left and the message is one of no payload, and that
 /// the nonces are exhausted exactly where the open end has none left.
 pub fn told_exactly()

@@ -24,7 +24,7 @@ use std::alloc::Global;
 ///
 /// Whatever the hashes are, the payloads that the report tells of each role are those of the messages that it wrote and accepted.
 ///
-/// A setup with a fault, or want of memory, is told instead.
+/// A setup with a fault, or lack of memory, is reported instead.
 pub fn run_events<K: Agreeing>(
     alloc: Global,
     pattern: ValidPattern,

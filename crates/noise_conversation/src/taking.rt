@@ -14,7 +14,7 @@ use crate::laws::told_exactly;
 use noise_handshake::Keys;
 use noise_session::{End, Step};
 
-/// Hands the bytes that end a frame over to an end, and tells whether they come as this payload.
+/// Hands the bytes that end a frame over to an end, and returns whether they come as this payload.
 ///
 /// Where the end listens, that is so exactly if the frame's message is one of the payload there. The end is left as `End::take` leaves it.
 pub fn comes_as<K: Keys>(end: &mut End<K>, bytes: &[u8], payload: &[u8]) -> bool

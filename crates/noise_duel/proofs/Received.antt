@@ -1,4 +1,4 @@
--- Bytes that come to an end piece by piece, and what is told of them.
+-- Bytes that come to an end piece by piece, and what is reported of them.
 use Rattle.std.proofs.Common.{◌≡◌, ℕ, zero, suc, Bool, false, ◌==◌, IfSome, ◌+◌, ◌<◌, ◌≤◌, List, [], ◌∷◌, ◌++◌, length, drop, Option, Some, None, refl, ap, sym, subst, ◌∙◌, arith, append_assoc, append-nil, length-append}
 use Rattle.noise_names.specs.declared.token.Role.{Role}
 use Rattle.noise_keys.specs.declared.keys.Own.{Own}

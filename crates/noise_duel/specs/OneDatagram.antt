@@ -37,7 +37,7 @@ pub record AreKept (sealed : SealedDatagrams) (d : DatagramSides) : Type 0 where
   pub initiator : bytes_of sealed.initiator.items ≡ datagrams_in d.initiator
   pub responder : bytes_of sealed.responder.items ≡ datagrams_in d.responder
 
--- After an event the two are others, and an entry is told.
+-- After an event the two are others, and an entry is reported.
 pub record DatagramHappened (d : DatagramSides) (event : DatagramEvent) (told : Role × DatagramEntry) (duel : HeldDatagramDuel)
     (sealed : SealedDatagrams) : Type 0 where
   pub next : DatagramSides

@@ -19,7 +19,7 @@ module _ {K : Type 0} (public_of : K → Own → Option (List ℕ)) (agreement :
     pub stands : EndStands public_of agreement end next.view
     pub frames_are : bytes_of frames ≡ next.frames
 
-  -- After bytes that came to this side the end is that of another one, and the entries are told of them.
+  -- After bytes that came to this side the end is that of another one, and the entries report them.
   pub record HasReceived (s : Side) (role : Role) (bytes : List ℕ) (end : HeldEnd K) (before after : List (Role × Entry)) : Type 0 where
     pub next : Side
     pub notes : List Note

@@ -17,7 +17,7 @@ const OVERHEAD: usize = 24;
 // The longest payload in bytes.
 const PAYLOAD_MAX: usize = 65519;
 
-/// Seals a payload, keeps the datagram after those that were sealed before, and tells of it.
+/// Seals a payload, keeps the datagram after those that were sealed before, and reports it.
 pub(crate) fn seal(
     alloc: Global,
     datagrams: &mut Datagrams,
@@ -45,7 +45,7 @@ pub(crate) fn seal(
     }
 }
 
-/// Opens a copy of these bytes as one datagram, and tells what came of it.
+/// Opens a copy of these bytes as one datagram, and returns what came of it.
 pub(crate) fn open(
     alloc: Global,
     datagrams: &mut Datagrams,
@@ -60,7 +60,7 @@ pub(crate) fn open(
     }
 }
 
-/// Opens a copy of the datagram of this number, if there is one, and tells what came of it.
+/// Opens a copy of the datagram of this number, if there is one, and returns what came of it.
 pub(crate) fn open_numbered(
     alloc: Global,
     datagrams: &mut Datagrams,

@@ -76,7 +76,7 @@ impl<A: Keys, B: Keys> Duel<A, B> {
         &self.responder
     }
 
-    /// Runs events, one after another, and tells what came of each; frames are counted anew. Nothing stops the run but want of memory, at which the ends
+    /// Runs events, one after another, and returns what came of each; frames are counted anew. Nothing stops the run but lack of memory, at which the ends
     /// are gone.
     ///
     /// Whatever the events are: where two new ends of one pattern have opened with one hash, they have had the same conversation (Noise, 11.2), or two
@@ -102,7 +102,7 @@ impl<A: Keys, B: Keys> Duel<A, B> {
     }
 
     /// Runs a conversation: each line is a payload that its role writes, whose frame comes to the other end at once, in these pieces. A line that isn't
-    /// written, or isn't accepted, is told of, and the next one follows.
+    /// written, or isn't accepted, is reported, and the next one follows.
     ///
     /// Between two new ends with their parts of one key material, lines in turn that fit all come through.
     pub fn converse(

@@ -1,10 +1,10 @@
-//! What a run tells.
+//! What a run reports.
 #![tactic(auto)]
 
 use noise_handshake::Cause;
 use noise_session::SendFault;
 
-/// What is told of an event, one or more of them in order.
+/// What is reported of an event, one or more of them in order.
 #[derive(Debug, Drop, PartialEq, Eq)]
 pub enum Entry {
     /// This role wrote its frame of this number, counted from 0 over those that it wrote in this run.

@@ -18,7 +18,7 @@ use noise_names::Role;
 use noise_session::{End, Step};
 use std::alloc::{AllocError, Global};
 
-/// Hands bytes over to an end in these pieces, until they have ended or the end takes none, and tells what they came to.
+/// Hands bytes over to an end in these pieces, until they have ended or the end takes none, and returns what they came to.
 pub(crate) fn receive<K: Keys>(
     alloc: Global,
     role: Role,
@@ -35,7 +35,7 @@ pub(crate) fn receive<K: Keys>(
     tell_held(role, end.held(), entries)
 }
 
-// Hands bytes over in these pieces, and tells how many are left, and why, where the end takes none of them.
+// Hands bytes over in these pieces, and returns how many are left, and why, where the end takes none of them.
 fn receive_pieces<K: Keys>(
     alloc: Global,
     role: Role,
@@ -60,7 +60,7 @@ fn receive_pieces<K: Keys>(
     Ok(None)
 }
 
-// Hands one piece over, and tells how many of its bytes are left, and why, where the end takes none of them.
+// Hands one piece over, and returns how many of its bytes are left, and why, where the end takes none of them.
 fn receive_piece<K: Keys>(
     alloc: Global,
     role: Role,
@@ -93,7 +93,7 @@ fn holds_part<K: Keys>(end: &End<K>)
     end.held();
 }
 
-// So many bytes, and why an end takes none of them, if that is what it tells.
+// So many bytes, and why an end takes none of them, if that is its answer.
 fn left_at(step: Step<'_>, count: usize) -> Option<(Idle, usize)>
     ensures { result ≡ left_of (told step.entry) count }
 {

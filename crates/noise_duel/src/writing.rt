@@ -11,7 +11,7 @@ use noise_handshake::Keys;
 use noise_session::{End, SendFault};
 use std::alloc::{AllocError, Global};
 
-/// Writes a payload at an end, keeps the frame after those that it wrote before, and tells the frame's number.
+/// Writes a payload at an end, keeps the frame after those that it wrote before, and returns the frame's number.
 pub(crate) fn write<K: Keys>(
     alloc: Global,
     end: &mut End<K>,

@@ -151,7 +151,7 @@ impl<K: Keys> Handshake<K> {
     }
 
     /// A copy of what messages have changed so far, the secrets aside, for a caller that keeps it itself until the next message. It has
-    /// the cipher key with its nonce, and nothing hinders going on both with this handshake and with one that is put together of the copy:
+    /// the cipher key with its nonce, and nothing prevents going on both with this handshake and with one that is put together of the copy:
     /// the two would encrypt at the same nonce. So take it when this handshake is given up.
     pub fn progress(&self) -> Progress
         ensures same { HasProgress self.now result }
@@ -341,7 +341,7 @@ impl<K: Keys> Handshake<K> {
         }
     }
 
-    /// Reads a message in place, and tells from where to where its payload then stands in it, in bytes. The bytes in front of
+    /// Reads a message in place, and returns from where to where its payload then is in it, in bytes. The bytes in front of
     /// the payload and after it stay as they are: an encrypted static key isn't decrypted there.
     ///
     /// The message has at most 65535 bytes. At an `Err` its bytes are unchanged. `Refused` ends the handshake, and the
@@ -389,7 +389,7 @@ impl<K: Keys> Handshake<K> {
         Ok(&mut message[from..to])
     }
 
-    /// Reads a message in place as `read_within` does; but where it would be refused for want of a DH answer, this tells which
+    /// Reads a message in place as `read_within` does; but where it would be refused for want of a DH answer, this returns which
     /// answer is wanted, and changes nothing.
     ///
     /// The message has at most 65535 bytes. At an `Err` its bytes are unchanged. `Declined` with `Refused` ends the handshake, and
@@ -491,7 +491,7 @@ impl<K: Keys> Handshake<K> {
         }
     }
 
-    /// Writes a message to the front of `out`, and tells its length in bytes.
+    /// Writes a message to the front of `out`, and returns its length in bytes.
     ///
     /// Where `message_len` gives a length, `out` holds it. `Agreement` ends the handshake and leaves open what `out`
     /// holds; the other faults change nothing.

@@ -52,7 +52,7 @@ fn keyed_after(psks: bool, keyed: bool, token: Token) -> bool
     }
 }
 
-// Places tokens one after another, and tells where the bytes after them start, and whether there is a key there.
+// Places tokens one after another, and returns where the bytes after them start, and whether there is a key there.
 fn place_tokens(
     tokens: &[Token],
     psks: bool,

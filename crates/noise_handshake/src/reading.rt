@@ -115,7 +115,7 @@ fn read_s(
     }
 }
 
-// Reads one token, and tells how many bytes it took.
+// Reads one token, and returns how many bytes it took.
 fn read_token<K: Keys>(
     state: &mut SymmetricState,
     known: &mut Remote,
@@ -167,7 +167,7 @@ fn bytes_from(message: &[u8], place: u16) -> &[u8]
     &message[place as usize..]
 }
 
-// Reads tokens at their places in a message, and tells how many bytes they took.
+// Reads tokens at their places in a message, and returns how many bytes they took.
 fn read_tokens<K: Keys>(
     state: &mut SymmetricState,
     known: &mut Remote,
@@ -275,7 +275,7 @@ pub(crate) fn read_lacking<K: Keys>(
     }
 }
 
-// Reads a message in place, and tells where its payload stands.
+// Reads a message in place, and returns where its payload is.
 pub(crate) fn read_message<K: Keys>(
     state: &mut SymmetricState,
     known: &mut Remote,

@@ -23,7 +23,7 @@ use crate::{Keys, Own, Remote};
 use noise_names::Token;
 use noise_state::SymmetricState;
 
-// Copies a text to the front of a buffer, and tells how many bytes it takes.
+// Copies a text to the front of a buffer, and returns how many bytes it takes.
 fn put(text: &[u8], out: &mut [u8]) -> usize
     requires { length text.now ≤ length out.old }
     ensures width { result ≡ length text.now }
@@ -42,7 +42,7 @@ fn tag_width(state: &SymmetricState) -> usize
     if state.has_key() { 16 } else { 0 }
 }
 
-// Writes a text to the front of a buffer as it travels from here, and tells in how many bytes.
+// Writes a text to the front of a buffer as it travels from here, and returns in how many bytes.
 fn write_part(state: &mut SymmetricState, text: &[u8], out: &mut [u8]) -> usize
     requires room { length text.now + tag_width (keyed state.old) ≤ length out.old }
     requires most { length text.now + tag_width (keyed state.old) ≤ 65535 }
@@ -77,7 +77,7 @@ fn write_e(state: &mut SymmetricState, psks: bool, key: &[u8; 32], out: &mut [u8
     put(key, out)
 }
 
-// Writes one token, and tells in how many bytes, if it is no DH without an answer.
+// Writes one token, and returns in how many bytes, if it is no DH without an answer.
 fn write_token<K: Keys>(
     state: &mut SymmetricState,
     known: &Remote,
@@ -129,7 +129,7 @@ fn write_token<K: Keys>(
     }
 }
 
-// Writes tokens to the front of a buffer, and tells in how many bytes, or which is the first DH without an answer.
+// Writes tokens to the front of a buffer, and returns in how many bytes, or which is the first DH without an answer.
 fn write_tokens<K: Keys>(
     state: &mut SymmetricState,
     known: &Remote,
@@ -232,7 +232,7 @@ pub(crate) fn write_lacking<K: Keys>(
     }
 }
 
-// Writes a message to the front of a buffer, and tells how long it is, or which token is the first DH without an answer.
+// Writes a message to the front of a buffer, and returns how long it is, or which token is the first DH without an answer.
 // What the buffer and the state hold is open in that case.
 pub(crate) fn write_message<K: Keys>(
     state: &mut SymmetricState,

@@ -1,4 +1,4 @@
--- Keys whose answers stand in a table.
+-- Keys whose answers are in a table.
 use Rattle.std.specs.Prelude.{ℕ, Bool, true, false, ◌&&◌, List, Option, find, nat_eq}
 use Rattle.std.specs.Option.{option_map}
 use Rattle.std.specs.Cmp.Lexicographic.{pointwise}

@@ -1,7 +1,7 @@
 //! Why a handshake can't be made with the keys that it is given.
 #![tactic(auto)]
 
-/// Why a handshake isn't made. Of several the first is told.
+/// Why a handshake isn't made. Of several faults the first is reported.
 #[derive(Clone, Copy, Debug, PartialEq, Eq)]
 pub enum SetupFault {
     /// This party has an `e` in the pattern, and no ephemeral key.

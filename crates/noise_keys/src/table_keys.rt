@@ -1,4 +1,4 @@
-//! A toy whose answers are told beforehand.
+//! A toy whose answers are given in advance.
 #![tactic(auto)]
 
 ghost use Rattle.std.specs.Prelude.{◌≡◌, ◌↔◌, ◌==◌, ◌<◌, [], ◌∷◌, ◌++◌, length, IsErr, OnOk, OnErr};
@@ -37,7 +37,7 @@ impl Entry {
     }
 }
 
-/// Keys for tests and examples, whose DH answers stand in a table. **A toy, not secure at all:** there is no private key
+/// Keys for tests and examples, whose DH answers are in a table. **A toy, not secure at all:** there is no private key
 /// after it, and nothing but its maker sees to it that the answers of two ends are the same.
 ///
 /// It holds at most 8 entries. The answer of a key pair to a remote public key is that of the first entry for the two;

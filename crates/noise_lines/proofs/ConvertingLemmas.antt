@@ -21,7 +21,7 @@ use Rattle.noise_vectors.specs.declared.vector.Version.TheVariants.{One}
 use Rattle.noise_lines.specs.Converted.{converted_text}
 use Rattle.noise_lines.proofs.OutputLemmas.{elements-more}
 
--- ---- what stands after the lines of a text
+-- ---- what follows the lines of a text
 
 line-after : (t a b : List ℕ) → line t (a ++ b) ≡ line t a ++ b
 line-after t a b = sym (append_assoc t (10 ∷ a) b)
@@ -58,7 +58,7 @@ first-text file one = ap (λ (v : Version). line (header_words (is_second v)) (t
 same-after : (a b : List ℕ) → line (codes "vector 1") a ≡ line (codes "vector 1") b → a ≡ b
 same-after a b e = cc e
 
--- the converted text, by what stands after the header of version 1
+-- the converted text, by what follows the header of version 1
 pub converted-is : (file : VectorFile) (lines : List (List ℕ)) (text beyond converted : List ℕ) → file.version ≡ One → text ≡ text_of file
     → text ≡ line (codes "vector 1") beyond → converted ≡ line (codes "vector 2") beyond ++ lines_of expect_line lines []
     → converted ≡ converted_text file lines

@@ -1,4 +1,4 @@
--- The line that is told of a fault, without its LF.
+-- The line that is reported of a fault, without its LF.
 use Rattle.std.specs.Prelude.{◌≡◌, ◌⊎◌, ℕ, List, [], ◌∷◌, ◌++◌, ⊤, Option, codes, decimal}
 use Rattle.std.specs.Io.KnownBytes.{Appends}
 use Rattle.noise_names.specs.declared.faults.NameFault.{NameFault}
@@ -71,12 +71,12 @@ fault_words Memory = codes "out of memory" ∷ []
 abbrev pub fault_line : Fault → List ℕ
 fault_line why = line_of (fault_words why)
 
--- a broken rule is told on the output, after what it held
+-- a broken rule is reported on the output, after what it held
 abbrev pub TellsRule : Fault → Option (List ℕ) → Option (List ℕ) → Type 0
 TellsRule (Rule f) before after = Appends before after (fault_line (Rule f) ++ 10 ∷ [])
 TellsRule fault before after = ⊤
 
--- A broken rule is told on the output and leaves the error output as it was; any other fault is told on the error output and leaves the output as it
+-- A broken rule is reported on the output and leaves the error output as it was; any other fault is reported on the error output and leaves the output as it
 -- was. Both are given before and after.
 abbrev pub LeavesOther : {O E : Type 0} → Fault → O → O → E → E → Type 0
 LeavesOther (Rule fault) out out_after err err_after = err_after ≡ err
@@ -87,11 +87,11 @@ abbrev pub LeavesOutput : {O : Type 0} → (O → Option (List ℕ)) → Fault �
 LeavesOutput contents (Rule f) out out_after = AppendsPrefix (contents out) (contents out_after) (fault_line (Rule f) ++ 10 ∷ [])
 LeavesOutput contents fault out out_after = out_after ≡ out
 
--- what comes to the error output: the fault's line, and nothing of a broken rule, which is told on the output
+-- what comes to the error output: the fault's line, and nothing of a broken rule, which is reported on the output
 abbrev pub error_text : Fault → List ℕ
 error_text (Rule f) = []
 error_text fault = fault_line fault ++ 10 ∷ []
 
--- this fault is told, or what kept it from being told
+-- this fault is reported, or what kept it from being reported
 abbrev pub IsToldOf : Fault → Fault → Type 0
 IsToldOf fault told = (told ≡ fault) ⊎ (told ≡ Memory) ⊎ (told ≡ Unwritable)

@@ -12,7 +12,7 @@ use crate::overheads::push_overheads;
 use noise_names::{Pattern, ValidPattern};
 use std::alloc::{AllocError, Global};
 
-/// The pattern section of the pattern that the text spells, if it is valid, and the overhead of each message. Of a wrong text the first fault is told,
+/// The pattern section of the pattern that the text spells, if it is valid, and the overhead of each message. Of a wrong text the first fault is reported,
 /// and of a pattern that isn't valid the first place that breaks a rule.
 pub fn check(alloc: Global, text: &[u8]) -> Result<Vec<u8>, Fault>
     ensures valid { IfOk result (λ told. (p : Plan) × Spells text.now p × IsValid p × (told.items ≡ check_text p)) }
@@ -43,7 +43,7 @@ fn push_section(pattern: &Pattern, told: &mut Vec<u8>) -> Result<(), AllocError>
 {
     let name = pattern.name().write();
     told.extend_from_slice(b"valid ")?;
-    // What stands between `Noise_` and `_25519_ChaChaPoly_SHA256`.
+    // What is between `Noise_` and `_25519_ChaChaPoly_SHA256`.
     told.extend_from_slice(&name[6..name.len() - 24])?;
     told.push(b'\n')?;
     Ok(())

@@ -148,7 +148,7 @@ fn text_word(kind: TextFaultKind) -> &'static str
     }
 }
 
-// The word that its `Display` writes, of which no clause tells.
+// The word that its `Display` writes, about which no clause says anything.
 fn name_word(fault: NameFault) -> &'static str
     ensures text { result.now ≡ told.name_word fault }
     ensures printed { IsTrue (is_printed result.now) }

@@ -53,7 +53,7 @@ first_word_same t u b c x y hb hc e =
     let named : Some t ≡ Some u = sym (word_named t) ∙ ap token_named word ∙ word_named u in
     (cc, append_cancel_left (word_of u) (b ∷ x) (c ∷ y) (ap (λ (w : List ℕ). w ++ b ∷ x) (sym word) ∙ e))
 
--- what stands after the first word of a list and a line feed
+-- what follows the first word of a list and a line feed
 abbrev after : List Token → List ℕ → List ℕ
 after [] rest = 10 ∷ rest
 after (v ∷ vs) rest = 44 ∷ 32 ∷ (words (v ∷ vs) ++ 10 ∷ rest)

@@ -1,4 +1,4 @@
--- A protocol name is read exactly if it is spelled so, and else its first fault is told.
+-- A protocol name is read exactly if it is spelled so, and else its first fault is reported.
 use Rattle.std.proofs.Common.{◌≡◌, ℕ, ◌+◌, ◌*◌, ◌<◌, ◌≤◌, Bool, true, false, not, cond, eqb, ltb, List, [], ◌∷◌, ◌++◌, Result, Ok, Err, refl, ap, sym, ◌∙◌}
 use Rattle.std.proofs.Common.{subst, map, length, length-append, take, drop, take_while, arith}
 use Rattle.std.specs.Prelude.{codes, bytes_eq}

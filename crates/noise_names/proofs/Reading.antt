@@ -48,7 +48,7 @@ stripped s p x h = strip_prefix_is Decides-eqb s p (Some x) h
 pub not-stripped : (s p : List ℕ) → pointwise eqb (take (length p) s) p ≡ false → (rest : List ℕ) → s ≢ p ++ rest
 not-stripped s p h = strip_prefix_is {A = ℕ} Decides-eqb s p None h
 
--- what stands after the first word of a list
+-- what follows the first word of a list
 abbrev after_word : List Token → List ℕ → List ℕ
 after_word [] rest = rest
 after_word (v ∷ vs) rest = 44 ∷ 32 ∷ (words (v ∷ vs) ++ rest)

@@ -126,7 +126,7 @@ pub NN-known : fundamental_of (codes "NN") ≡ Some (NN (E ∷ []))
 unfolding fundamentals fundamental_of
 NN-known = refl
 
--- the psk token of place 1 stands at the end of message 1
+-- the psk token of place 1 is at the end of message 1
 pub A-psk : with_psk_tokens (1 ∷ []) 1 (own_tokens (Psk ∷ E ∷ [])) ≡ E ∷ Psk ∷ []
 A-psk = refl
 

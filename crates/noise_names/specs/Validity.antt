@@ -1,4 +1,4 @@
--- When a pattern is valid: five rules on what stands before a place (Noise, 7.3 and 9.3; the choice of the five is this library's).
+-- When a pattern is valid: five rules on what comes before a place (Noise, 7.3 and 9.3; the choice of the five is this library's).
 use Rattle.std.specs.Prelude.{◌≡◌, ℕ, ◌+◌, Bool, true, false, not, ◌&&◌, ◌||◌, List, [], ◌∷◌, ◌++◌, length, if◌then◌else◌, IsTrue, Option, Some, None}
 use Rattle.std.specs.List.{list_any}
 use Rattle.noise_names.specs.declared.token.Role.{Role}
@@ -27,7 +27,7 @@ occurs t places = list_any (λ p. is_at t p.step) places
 abbrev pub comes_with : Bool → Bool → Bool
 comes_with first second = not first || second
 
--- rule 1: both public keys of a DH token stand earlier (7.3, first rule)
+-- rule 1: both public keys of a DH token come earlier (7.3, first rule)
 abbrev pub keys_stand : List Place → Step → Bool
 keys_stand earlier (does Ee) = is_among Initiator E earlier && is_among Responder E earlier
 keys_stand earlier (does Es) = is_among Initiator E earlier && is_among Responder S earlier
@@ -120,7 +120,7 @@ first_fault_from earlier places = first_fault_by broken_rules earlier places
 abbrev pub first_fault : Plan → Option RuleFault
 first_fault plan = first_fault_from [] (places_of plan)
 
--- the fault is told of the earliest place that breaks a rule, with the lowest rule that is broken there
+-- the fault is reported of the earliest place that breaks a rule, with the lowest rule that is broken there
 pub record IsFirstFault (plan : Plan) (fault : RuleFault) : Type 0 where
   pub earlier : List Place
   pub at : Place

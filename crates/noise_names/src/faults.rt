@@ -2,7 +2,7 @@
 
 use thiserror::Error;
 
-/// Why bytes are no protocol name (Noise, 8). The first fault in this order is told, and its text is one word.
+/// Why bytes are no protocol name (Noise, 8). The first fault in this order is reported, and its text is one word.
 #[derive(Clone, Copy, Debug, PartialEq, Eq, Error)]
 pub enum NameFault {
     /// The name has more than 255 bytes.
@@ -15,7 +15,7 @@ pub enum NameFault {
     /// letters and digits that is no base: a base has 1 to 8 of them, the first a letter.
     #[error("base")]
     Base,
-    /// Something stands after the base, and one of its pieces, cut at each `+`, is not `psk` and a digit from 0 to 8.
+    /// Something follows the base, and one of its pieces, cut at each `+`, is not `psk` and a digit from 0 to 8.
     #[error("modifier")]
     Modifier,
     /// The digits of the modifiers do not rise strictly.
@@ -42,8 +42,8 @@ pub enum TextFaultKind {
     Arrow,
     /// A piece of a line, cut at each comma that a space follows, is no token.
     Token,
-    /// A pre-message line has other tokens than `e`, `s` or `e, s`, or stands where none may stand, or the line of two
-    /// spaces and `...` has no pre-message line before it or stands a second time.
+    /// A pre-message line has other tokens than `e`, `s` or `e, s`, or is where none may be, or the line of two
+    /// spaces and `...` has no pre-message line before it or occurs a second time.
     PreMessage,
     /// The arrow of a message is not that of its turn.
     Turn,
@@ -68,9 +68,9 @@ pub struct TextFault {
 
 /// The first place of a pattern that breaks a rule of validity (Noise, 7.3 and 9.3).
 ///
-/// The rules are: 1, both public keys of a DH token stand earlier; 2, a party has one `e` and one `s`; 3, a DH token stands
+/// The rules are: 1, both public keys of a DH token come earlier; 2, a party has one `e` and one `s`; 3, a DH token stands
 /// once; 4, a party encrypts after a DH of its static key only if the DH of its ephemeral key with the same key of the other
-/// party stands earlier; 5, a party encrypts after a psk only if an `e` of its own stands earlier.
+/// party comes earlier; 5, a party encrypts after a psk only if an `e` of its own comes earlier.
 #[derive(Clone, Copy, Debug, PartialEq, Eq)]
 pub struct RuleFault {
     /// The lowest rule that is broken there, 1 to 5.

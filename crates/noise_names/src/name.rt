@@ -43,7 +43,7 @@ impl ProtocolName {
 
     /// The protocol name that the bytes are (Noise, 8), with any psk modifiers (9.4). A name has at most 255 bytes:
     /// `Noise_`, a base of 1 to 8 upper-case letters and digits that begins with a letter, its modifiers, and
-    /// `_25519_ChaChaPoly_SHA256`. Of several faults the first in the order of [`NameFault`] is told.
+    /// `_25519_ChaChaPoly_SHA256`. Of several faults the first in the order of [`NameFault`] is reported.
     pub fn parse(bytes: &[u8]) -> Result<ProtocolName, NameFault>
         ensures named { IfOk result (λ name. Names bytes.now name) }
         ensures every { (name : Section) → Names bytes.now name → result ≡ Ok name }
@@ -117,14 +117,14 @@ fn read_name(bytes: &[u8]) -> Result<ProtocolName, NameFault>
     Ok(name)
 }
 
-// Whether the bytes are the end of a name, which tells its algorithms.
+// Whether the bytes are the end of a name, which names its algorithms.
 fn is_algorithm(bytes: &[u8]) -> bool
     ensures { result ≡ bytes_eq bytes.now suffix }
 {
     bytes == SUFFIX
 }
 
-// How many bytes stand before the first `_`.
+// How many bytes come before the first `_`.
 fn section_len(bytes: &[u8]) -> usize
     ensures { result ≡ length (take_while (λ b. not (b == 95)) bytes.now) }
 {

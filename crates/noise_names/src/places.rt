@@ -6,7 +6,7 @@ ghost use Rattle.noise_names.specs.Names.{are_places};
 use arrayvec::ArrayVec;
 use std::marker::Model;
 
-/// Where the psk tokens of a pattern stand (Noise, 9.4): strictly rising numbers from 0 to 8. Place 0 is in front of the
+/// Where the psk tokens of a pattern are (Noise, 9.4): strictly rising numbers from 0 to 8. Place 0 is in front of the
 /// first message, place n at the end of message n.
 #[derive(Clone, Debug, Drop, PartialEq, Eq)]
 pub struct PskPlaces {

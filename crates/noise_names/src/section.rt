@@ -26,7 +26,7 @@ fn is_base_byte(byte: u8) -> bool
     byte.is_ascii_uppercase() || byte.is_ascii_digit()
 }
 
-// How many upper-case letters and digits stand at the front.
+// How many upper-case letters and digits are at the front.
 fn base_len(section: &[u8]) -> usize
     ensures { result ≡ length (base_front section.now) }
 {
@@ -83,7 +83,7 @@ fn parse_modifiers(modifiers: &[u8]) -> Result<PskPlaces, NameFault>
     PskPlaces::new(&numbers).ok_or(NameFault::ModifierOrder)
 }
 
-// The modifier at the front, and what stands after it.
+// The modifier at the front, and what follows it.
 fn first_modifier(modifiers: &[u8]) -> Option<(u8, &[u8])>
     ensures some { IfSome result (λ r. (r.0 ≤ 8) × (modifiers.now ≡ modifier r.0 ++ r.1.now)) }
     ensures none { IfNone result ((n : ℕ) (after : List ℕ) → n ≤ 8 → modifiers.now ≡ modifier n ++ after → ⊥) }

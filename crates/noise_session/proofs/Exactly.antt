@@ -1,4 +1,4 @@
--- What is told of a whole message, by what the message is.
+-- What is reported of a whole message, by what the message is.
 use Rattle.std.proofs.Common.{◌≡◌, ◌≢◌, ◌<◌, ℕ, List, length, refl, sym, ◌∙◌, ap, subst, arith}
 use Rattle.std.specs.Prelude.{Bool, true, false, IsTrue, MatchBool}
 use Rattle.noise_names.specs.declared.token.Role.{Role}

@@ -10,7 +10,7 @@ use Rattle.noise_session.specs.inner.Outcomes.{tells, StandsIn}
 use Rattle.noise_session.specs.Steps.Told.{Payload}
 use Rattle.std.specs.Prelude.{slice_range}
 
--- a part of what stands after the first two bytes
+-- a part of what follows the first two bytes
 slice_on : (d m post rest : List ℕ) (len from to : ℕ) → 2 ≤ length d → from ≤ to → to ≤ length m → length m + 2 ≤ len
     → slice_range (take len (take 2 d ++ (m ++ post) ++ rest)) (from + 2) (to + 2) ≡ slice_range m from to
 slice_on d m post rest len from to two order within long =
@@ -39,11 +39,11 @@ tells-after d m post rest len (outcome.Dropped cause) two place long = refl
 tells-after d m post rest len (outcome.Refused token cause) two place long = refl
 tells-after d m post rest len outcome.Exhausted two place long = refl
 
--- what stands after the first k of the first n
+-- what follows the first k of the first n
 pub drop-front : (xs : List ℕ) (k n : ℕ) → take (n - k) (drop k xs) ≡ drop k (take n xs)
 drop-front xs k n = same_lists _ _ (search (rules, places)) (λ j e h. grind (arith, places))
 
--- what stands after the first two bytes of a buffer, all of which was written
+-- what follows the first two bytes of a buffer, all of which was written
 after_two : (out written : List ℕ) → 2 ≤ length out → drop 2 (put_mid 2 (length out - 2) out written) ≡ written
 after_two out written two =
     let post = drop (length out - 2) (drop 2 out) in

@@ -50,7 +50,7 @@ progress-open v going all =
 pub progress-closed : (v : EndView) → v.party.ended ≡ true → progress_of v ≡ Closed v.party.role
 progress-closed v over = rw over refl
 
--- the hash is told once all messages have passed
+-- the hash is reported once all messages have passed
 pub no-hash : (v : EndView) → v.party.passed ≢ length v.party.pattern.messages → session_hash v ≡ None
 no-hash v more = let test = same-false v.party.passed (length v.party.pattern.messages) more in rw test refl
 

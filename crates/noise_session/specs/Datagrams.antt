@@ -90,7 +90,7 @@ datagram_fault v bytes =
 abbrev pub IsSealed : DatagramView → List ℕ → List ℕ → Type 0
 IsSealed v bytes payload = drop 8 bytes ≡ packet v.history (other v.role) 0 (nonce_named bytes) payload
 
--- What comes of the bytes of a datagram: its payload, or the fault that is told. A fault changes nothing.
+-- What comes of the bytes of a datagram: its payload, or the fault that is reported. A fault changes nothing.
 pub data Opens : DatagramView → List ℕ → Result (List ℕ) DatagramFault → DatagramView → Type 0 where
   opened : (v : DatagramView) (bytes payload : List ℕ) → datagram_fault v bytes ≡ None → IsSealed v bytes payload
       → Opens v bytes (Ok payload) (accepting v (nonce_named bytes))

@@ -19,7 +19,7 @@ Encodes v message payload =
     ((v.received ≢ last_nonce) × (message ≡ packet v.party.history (other v.party.role) v.interval v.received payload))
     ((xs : List (List ℕ)) × Accepts v.party message xs payload)
 
--- What is told of a whole message that comes to an end that listens.
+-- What is reported of a whole message that comes to an end that listens.
 pub record IsToldExactly (v : EndView) (message : List ℕ) (told : Told) : Type 0 where
   -- a payload exactly where the message is one of it
   pub payload : (payload : List ℕ) → told ≡ Payload payload ↔ Encodes v message payload

@@ -139,7 +139,7 @@ impl DatagramReceiver {
         self.recent.refusal(nonce)
     }
 
-    /// Opens a datagram in place, and tells how many of its bytes from the ninth on are then the payload. The 8 of the nonce in
+    /// Opens a datagram in place, and returns how many of its bytes from the ninth on are then the payload. The 8 of the nonce in
     /// front of them and the 16 of the tag after them stay as they are.
     ///
     /// At an `Err` its bytes are unchanged.

@@ -118,7 +118,7 @@ impl DatagramSender {
         None
     }
 
-    /// Seals a payload into the first bytes of `out`, 24 more than it has, and tells how many.
+    /// Seals a payload into the first bytes of `out`, 24 more than it has, and returns how many.
     ///
     /// `out` holds them where the payload has at most 65519 bytes. The faults are OneWay, TooLong and Exhausted, looked for
     /// in this order.
@@ -173,7 +173,7 @@ impl DatagramSender {
     }
 }
 
-// Encrypts the payload in the first `payload_len` bytes of `message` in place, and tells how many bytes it has with its tag.
+// Encrypts the payload in the first `payload_len` bytes of `message` in place, and returns how many bytes it has with its tag.
 fn encrypt(cipher: &mut CipherState, message: &mut [u8], payload_len: usize) -> usize
     requires keyed { IsSome (key_in cipher.old) }
     requires left { nonce_in cipher.old ≢ last_nonce }

@@ -143,7 +143,7 @@ impl Datagrams {
         self.sender.nonce()
     }
 
-    /// Seals a payload into the first bytes of `out`, 24 more than it has, and tells how many.
+    /// Seals a payload into the first bytes of `out`, 24 more than it has, and returns how many.
     ///
     /// `out` holds them where the payload has at most 65519 bytes. The faults are OneWay, TooLong and Exhausted, looked for
     /// in this order.
@@ -188,7 +188,7 @@ impl Datagrams {
         self.sender.seal_in_place(buffer, payload_len)
     }
 
-    /// Opens a datagram in place, and tells how many of its bytes from the ninth on are then the payload. The 8 of the nonce in
+    /// Opens a datagram in place, and returns how many of its bytes from the ninth on are then the payload. The 8 of the nonce in
     /// front of them and the 16 of the tag after them stay as they are.
     ///
     /// At an `Err` its bytes are unchanged.

@@ -144,7 +144,7 @@ impl<K: Keys> End<K> {
         self.incoming.held()
     }
 
-    /// Takes bytes of at most one frame, and tells how many and what they came to.
+    /// Takes bytes of at most one frame, and returns how many and what they came to.
     ///
     /// Only the bytes that it holds, with the piece after them, count: where a frame is cut into pieces makes no difference.
     pub fn take<'a>(&'a mut self, piece: &[u8]) -> (usize, Step<'a>)
@@ -171,7 +171,7 @@ impl<K: Keys> End<K> {
         }
     }
 
-    /// Reads the missing bytes of one frame from a reader, and no more, and tells what the frame came to. Where this end
+    /// Reads the missing bytes of one frame from a reader, and no more, and returns what the frame came to. Where this end
     /// doesn't listen it reads nothing; `Ok(None)` is an end of the input between frames.
     ///
     /// At a fault the bytes that came are kept, and a later call goes on with them.
@@ -213,7 +213,7 @@ impl<K: Keys> End<K> {
         self.phase.frame_len(payload_len)
     }
 
-    /// Writes a payload as a frame, into the first bytes of `out`, and tells how many.
+    /// Writes a payload as a frame, into the first bytes of `out`, and returns how many.
     ///
     /// Where `frame_len` gives a length, `out` holds it. A DH of the handshake without an answer ends the session, and
     /// leaves open what `out` holds; an exhausted nonce ends the session; the other faults change nothing.
@@ -230,7 +230,7 @@ impl<K: Keys> End<K> {
         send(&mut self.phase, &mut self.incoming, payload, out)
     }
 
-    /// Writes a payload as a frame to a writer, by as many writes as it takes, and tells the frame's length. It doesn't flush.
+    /// Writes a payload as a frame to a writer, by as many writes as it takes, and returns the frame's length. It doesn't flush.
     ///
     /// Where a write fails, or takes none of the bytes that are left, the session has ended; so it has after a DH of the
     /// handshake without an answer, and an exhausted nonce. The other faults change nothing.

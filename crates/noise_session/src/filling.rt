@@ -18,7 +18,7 @@ pub(crate) enum Filling {
     Failed,
 }
 
-// Reads bytes until the buffer is full, and tells how many. Each read asks for all that is missing and no more.
+// Reads bytes until the buffer is full, and returns how many. Each read asks for all that is missing and no more.
 pub(crate) fn fill_from<R: Read>(from: &mut Counted<R>, buffer: &mut [u8]) -> (usize, Filling)
     ensures within { result.0 ≤ length buffer.new }
     ensures filled { (result.1 ≡ Filled) ↔ (result.0 ≡ length buffer.new) }

@@ -69,7 +69,7 @@ impl Incoming {
         })
     }
 
-    // Forgets what has come, and tells how many bytes it was. They stay in the buffer.
+    // Forgets what has come, and returns how many bytes it was. They stay in the buffer.
     pub(crate) fn clear(&mut self) -> usize
         ensures count { result ≡ self.old.held }
         ensures empty { bytes_of self.new ≡ [] }
@@ -90,7 +90,7 @@ impl Incoming {
         self.held
     }
 
-    // Takes bytes up to the end of the frame's length, or of the frame once that is there, and tells how many.
+    // Takes bytes up to the end of the frame's length, or of the frame once that is there, and returns how many.
     fn accept(&mut self, piece: &[u8]) -> usize
         ensures count { result ≤ length piece.now }
         ensures taken { bytes_of self.new ≡ bytes_of self.old ++ take result piece.now }
@@ -134,7 +134,7 @@ impl Incoming {
         }
     }
 
-    // Takes bytes of a piece up to the frame's end, and tells how many; None where the frame isn't whole with all of them.
+    // Takes bytes of a piece up to the frame's end, and returns how many; None where the frame isn't whole with all of them.
     pub(crate) fn fill(&mut self, piece: &[u8]) -> Option<usize>
         ensures part { IfNone result ((bytes_of self.new ≡ bytes_of self.old ++ piece.now) × IsPartial (bytes_of self.new)) }
         ensures whole { IfSome result
@@ -149,7 +149,7 @@ impl Incoming {
     }
 }
 
-// Reads bytes into a buffer, from one place to another, and tells how many.
+// Reads bytes into a buffer, from one place to another, and returns how many.
 fn read_into<R: Read>(
     from: &mut Counted<R>,
     buffer: &mut Vec<u8>,

@@ -107,7 +107,7 @@ impl Receiver {
         self.cipher.set_nonce(nonce);
     }
 
-    /// Opens a message in place, and tells how many first bytes of it are then the payload. The 16 of the tag after them stay
+    /// Opens a message in place, and returns how many first bytes of it are then the payload. The 16 of the tag after them stay
     /// as they are.
     ///
     /// The message has at most 65535 bytes. At an `Err` its bytes are unchanged.

@@ -148,7 +148,7 @@ impl Sender {
         None
     }
 
-    /// Seals a payload into the first bytes of `out`, 16 more than it has, and tells how many.
+    /// Seals a payload into the first bytes of `out`, 16 more than it has, and returns how many.
     ///
     /// `out` holds them where the payload has at most 65519 bytes. The faults are OneWay, TooLong and Exhausted, looked for
     /// in this order.

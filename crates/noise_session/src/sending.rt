@@ -18,7 +18,7 @@ use crate::phase::Phase;
 use byteorder::{BigEndian, ByteOrder};
 use noise_handshake::{Keys, WriteFault};
 
-// Writes a payload as a message into the first bytes of `out`, and tells how many.
+// Writes a payload as a message into the first bytes of `out`, and returns how many.
 fn write_message<K: Keys>(
     phase: &mut Phase<K>,
     payload: &[u8],
@@ -67,7 +67,7 @@ fn write_message<K: Keys>(
     }
 }
 
-// Writes a payload as a frame into the first bytes of `out`, and tells how many.
+// Writes a payload as a frame into the first bytes of `out`, and returns how many.
 fn write_frame<K: Keys>(
     phase: &mut Phase<K>,
     payload: &[u8],
@@ -93,7 +93,7 @@ fn write_frame<K: Keys>(
     Ok(2 + len)
 }
 
-// Writes a payload as a frame into the first bytes of `out`, and tells how many. Nothing is held where that ends the session.
+// Writes a payload as a frame into the first bytes of `out`, and returns how many. Nothing is held where that ends the session.
 pub(crate) fn send<K: Keys>(
     phase: &mut Phase<K>,
     incoming: &mut Incoming,

@@ -120,7 +120,7 @@ impl Transport {
     }
 
     /// The half that seals and the half that opens, as for two threads. Each does what this transport does in its direction; the
-    /// hash and the other party's static key are told by the transport alone.
+    /// hash and the other party's static key are reported by the transport alone.
     pub fn split(self) -> (Sender, Receiver)
         ensures sender { result.0 ≡ sending_half self }
         ensures receiver { result.1 ≡ receiving_half self }
@@ -198,7 +198,7 @@ impl Transport {
         self.receiver.set_nonce(receive);
     }
 
-    /// Seals a payload into the first bytes of `out`, 16 more than it has, and tells how many.
+    /// Seals a payload into the first bytes of `out`, 16 more than it has, and returns how many.
     ///
     /// `out` holds them where the payload has at most 65519 bytes. The faults are OneWay, TooLong and Exhausted, looked for
     /// in this order.
@@ -240,7 +240,7 @@ impl Transport {
         self.sender.seal_in_place(buffer, payload_len)
     }
 
-    /// Opens a message in place, and tells how many first bytes of it are then the payload. The 16 of the tag after them stay
+    /// Opens a message in place, and returns how many first bytes of it are then the payload. The 16 of the tag after them stay
     /// as they are.
     ///
     /// The message has at most 65535 bytes. At an `Err` its bytes are unchanged.

@@ -15,7 +15,7 @@ const TAG_LEN: usize = 16;
 const RESERVED_NONCE: u64 = u64::MAX;
 
 /// Why nothing was encrypted or decrypted. If several hold, the first in the order Exhausted,
-/// TooLong, Short, Tag is told.
+/// TooLong, Short, Tag is reported.
 #[derive(Clone, Copy, Debug, PartialEq, Eq)]
 pub enum CipherFault {
     /// There is a key, and its nonce is `2^64 - 1`, which is reserved (Noise 5.1).
@@ -73,7 +73,7 @@ impl CipherState {
     }
 
     /// The cipher state of a key, or of none, and a nonce: those of a state that was taken apart. Nothing
-    /// hinders a second call with the same key, so the caller makes one state of it at a time. A nonce
+    /// prevents a second call with the same key, so the caller makes one state of it at a time. A nonce
     /// that was used for encryption must not be used again with its key.
     pub fn from_parts(key: Option<[u8; 32]>, nonce: u64) -> CipherState
         ensures { result ≡ cipher_of key nonce }
@@ -187,7 +187,7 @@ impl CipherState {
 
     /// Decrypts `buf` in place (DecryptWithAd). With a key its last 16 bytes are the tag, which
     /// stay as they are, and the nonce rises by one. The answer is the length of the text, which
-    /// stands at the front.
+    /// is at the front.
     ///
     /// `ad` has at most 65535 bytes. The tag is checked before a byte is changed: at an `Err`
     /// nothing has changed, and the next call decrypts at the same nonce.

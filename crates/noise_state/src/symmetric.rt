@@ -192,7 +192,7 @@ impl SymmetricState {
 
     /// Decrypts `buf` in place under the hash, and mixes it as it was received into the hash
     /// (DecryptAndHash). With a key its last 16 bytes are the tag, which stay as they are. The
-    /// answer is the length of the text, which stands at the front.
+    /// answer is the length of the text, which is at the front.
     ///
     /// At an `Err` nothing has changed.
     pub fn decrypt_and_hash(&mut self, buf: &mut [u8]) -> Result<usize, CipherFault>

@@ -1,4 +1,4 @@
--- What two ends of a file start from, and what is told where a setup is wrong.
+-- What two ends of a file start from, and what is reported where a setup is wrong.
 use Rattle.std.proofs.Common.{◌≡◌, ◌∙◌, ◌==◌, ap, sym, refl, subst, ℕ, Bool, true, false, List, length, Option, Some, None}
 use Rattle.std.specs.Prelude.{if◌then◌else◌}
 use Rattle.std.specs.Option.{option_map}
@@ -37,7 +37,7 @@ setup-same role keys plan other remote known secrets psks a c d =
     ∙ ap (λ (r : Remote). setup_fault other role (public_of keys) r (length secrets)) c
     ∙ ap (λ (s : List (List ℕ)). setup_fault other role (public_of keys) known (length s)) d
 
--- no fault is told where nothing is wrong
+-- no fault is reported where nothing is wrong
 pub none-told : (role : Role) (found : Option SetupFault) → None ≡ option_map (λ (why : SetupFault). Setup role why) found → found ≡ None
 none-told role None e = refl
 none-told role (Some why) e = absurd (cc)

@@ -181,7 +181,7 @@ pub no-converted : (known : Option (List ℕ)) (file : VectorFile) (outcome : Ou
 no-converted known file outcome why r one (inl memory) = inl (ap status_of memory)
 no-converted known file outcome why r one (inr (is, long)) = inr (too-long known file outcome why r one is long)
 
--- ---- what is told after a run
+-- ---- what is reported after a run
 
 unmet-after : (bytes : List ℕ) (before middle after : Option (List ℕ)) (why : Fault) → (IsOfLines why → after ≡ middle)
     → IsUnmet bytes before middle why → IsUnmet bytes before after why
@@ -230,7 +230,7 @@ lines-left fault.Unreadable out after err err_after lines h = absurd lines
 lines-left fault.Unwritable out after err err_after lines h = absurd lines
 lines-left fault.Memory out after err err_after lines h = absurd lines
 
--- after lines no rule is told
+-- after lines no rule is reported
 lines-tell : (why : Fault) (before after : Option (List ℕ)) → IsOfLines why → TellsRule why before after
 lines-tell (fault.Unmet n) before after lines = tt
 lines-tell (fault.Rule f) before after lines = absurd lines
@@ -245,7 +245,7 @@ lines-tell fault.Unreadable before after lines = tt
 lines-tell fault.Unwritable before after lines = tt
 lines-tell fault.Memory before after lines = tt
 
--- a fault that is told: what holds of the run and of the telling holds of both
+-- a fault that is reported: what holds of the run and of the telling holds of both
 pub told-fault : {O E : Type 0} (contents : O → Option (List ℕ)) (Told : Fault → Type 0) (chosen : Chosen) (known : Option (List ℕ)) (old middle new : O) (err err_new : E)
     (why : Fault) (result : ℕ)
     → (status_of why ≡ 3) ⊎ IsFault chosen known (contents old) (contents middle) why

@@ -76,7 +76,7 @@ pub converted-prefix : (known : Option (List ℕ)) (file : VectorFile) (outcome 
 converted-prefix known file outcome a b converted r one meets is short grown =
     (converted, has-converted known file outcome (Some []) (Some converted) converted (Ok tt) r one meets is short refl, grown)
 
--- ---- what is told
+-- ---- what is reported
 
 -- nothing comes to the output, or a prefix of the line of a broken rule
 left-or-rule : {O : Type 0} (contents : O → Option (List ℕ)) (why : Fault) (middle new : O) → LeavesOutput contents why middle new
@@ -131,7 +131,7 @@ told-rule {O = O} contents chosen known old middle new f h unwritten grown =
       subst (λ (o : O). AppendsPrefix (contents o) (contents new) text) same grown,
     )
 
--- after a run, and what is told then
+-- after a run, and what is reported then
 pub told-prefix : {O : Type 0} (contents : O → Option (List ℕ)) (chosen : Chosen) (known : Option (List ℕ)) (old middle new : O) (why : Fault)
     → (middle ≡ old) ⊎ PrintsPrefix chosen known (contents old) (contents middle)
     → (status_of why ≡ 3) ⊎ IsFault chosen known (contents old) (contents middle) why
@@ -147,7 +147,7 @@ told-prefix {O = O} contents chosen known old middle new why run h unwritten lef
         (subst (λ (w : Fault). (status_of w ≡ 3) ⊎ IsFault chosen known (contents old) (contents middle) w) is h)
         (subst (λ (w : Fault). (status_of w ≡ 3) ⊎ IsOfLines w ⊎ (middle ≡ old)) is unwritten) grown)
 
--- but for status 3 the fault itself is told
+-- but for status 3 the fault itself is reported
 pub told-itself : (why : Fault) (result : ℕ) (a b : Option (List ℕ))
     → (told : Fault) × IsToldOf why told × (status_of told ≡ result) × AppendsPrefix a b (error_text told)
     → (result ≡ 3) ⊎ AppendsPrefix a b (error_text why)

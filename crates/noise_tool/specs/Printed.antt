@@ -82,6 +82,6 @@ stage_words stage.Ended hash = codes "ended" ∷ []
 abbrev pub state_line : Role → EndView → List ℕ
 state_line role v = line_of (codes "state" ∷ role_word role ∷ progress_words (progress_of v) (hash v.party.history))
 
--- where both ends stand
+-- the states of both ends
 abbrev pub state_lines : Sides → List (List ℕ)
 state_lines d = state_line Initiator d.initiator.view ∷ state_line Responder d.responder.view ∷ []

@@ -49,7 +49,7 @@ are_ready d = is_ready d.initiator.view && is_ready d.responder.view
 abbrev pub gone_over : Sides → Window → DatagramSides
 gone_over d window = meeting (datagrams_of d.initiator.view.party window) (datagrams_of d.responder.view.party window)
 
--- The lines after those of the events: where both ends stand; or, where the file has datagrams, that both have gone over, what came of each event
+-- The lines after those of the events: the states of both ends; or, where the file has datagrams, that both have gone over, what came of each event
 -- there, and where both stand then; or that they can't, and the datagrams' events aren't run.
 pub data AreLast : Option FileDatagrams → Sides → List (List ℕ) → Type 0 where
   without : (d : Sides) → AreLast None d (state_lines d)

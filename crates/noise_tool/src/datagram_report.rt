@@ -33,7 +33,7 @@ pub fn push_datagram_lines(
     Ok(())
 }
 
-// The line of an entry that is told of this role.
+// The line of an entry that is about this role.
 fn datagram_line(alloc: Global, role: Role, entry: &DatagramEntry) -> Result<Line, AllocError>
     ensures { IfOk result (λ line. text_in line ≡ line_of (print.datagram_words role (datagram_note_of entry.now))) }
 {
@@ -67,7 +67,7 @@ fn rejection_word(fault: DatagramFault) -> &'static str
     }
 }
 
-/// Appends where the initiator and the responder stand.
+/// Appends the states of the initiator and of the responder.
 pub fn push_datagram_states(
     alloc: Global,
     duel: &DatagramDuel,
@@ -84,7 +84,7 @@ pub fn push_datagram_states(
     Ok(())
 }
 
-// Where a party stands.
+// The state of a party.
 fn datagram_state(alloc: Global, role: Role, datagrams: &Datagrams) -> Result<Line, AllocError>
     ensures { (v : DatagramView) → Pictures datagrams.now v → IfOk result (λ line. text_in line ≡ print.datagram_state_line role v) }
 {

@@ -1,4 +1,4 @@
-//! What the command `noise` does: it does what the command line asks for, and writes lines or tells a fault.
+//! What the command `noise` does: it does what the command line asks for, and writes lines or reports a fault.
 #![tactic(auto)]
 
 mod datagram_report;

@@ -37,7 +37,7 @@ pub fn entry_lines(alloc: Global, report: &Report) -> Result<Vec<Vec<u8>>, Alloc
     Ok(lines)
 }
 
-/// Appends where the initiator's end and the responder's stand.
+/// Appends the states of the initiator's end and of the responder's.
 pub fn push_state_lines(
     alloc: Global,
     duel: &Duel<FileKeys, FileKeys>,
@@ -54,7 +54,7 @@ pub fn push_state_lines(
     Ok(())
 }
 
-/// The line of an entry that is told of this role.
+/// The line of an entry that is about this role.
 pub fn entry_line(
     alloc: Global,
     report: &Report,
@@ -83,7 +83,7 @@ pub fn entry_line(
     }
 }
 
-// The frame of this number that this role wrote; it is in the report wherever an entry tells of it.
+// The frame of this number that this role wrote; it is in the report wherever an entry reports it.
 fn frame_at(report: &Report, role: Role, number: usize) -> &[u8]
     ensures { (d : Sides) → HasFrames report.now d → result.now ≡ print.frame_at (side d role) number }
 {
@@ -119,14 +119,14 @@ pub fn fault_line(
     }
 }
 
-// Where an end stands.
+// The state of an end.
 fn state_line(alloc: Global, role: Role, end: &End<FileKeys>) -> Result<Line, AllocError>
     ensures { (v : EndView) → EndStands public_of agreement_of end.now v → IfOk result (λ line. text_in line ≡ join_with_byte 32
         (codes "state" ∷ text.role_word role ∷ print.progress_words (progress_of v) (hash v.party.history))) }
 {
     end_is_told::<FileKeys>();
     let line = begun_line(alloc, "state", role)?;
-    // An end that is open tells its hash, and no other stage shows one.
+    // An end that is open shows its hash, and no other stage shows one.
     add_stage(line, end.stage(), end.hash().unwrap_or([0; 32]))
 }
 
@@ -144,7 +144,7 @@ fn add_stage(line: Line, stage: Stage, hash: [u8; 32]) -> Result<Line, AllocErro
     }
 }
 
-/// The front of a line: what it tells, and of which role.
+/// The front of a line: what it reports, and of which role.
 pub fn begun_line(alloc: Global, word: &str, role: Role) -> Result<Line, AllocError>
     requires { IsTrue (is_printed word.now) }
     ensures { IfOk result (λ line. text_in line ≡ join_with_byte 32 (word.now ∷ text.role_word role ∷ [])) }

@@ -134,7 +134,7 @@ fn split_version(alloc: Global, version: Version) -> (Option<FileDatagrams>, Vec
     }
 }
 
-// Appends the lines after those of the events: of datagrams, where there are some, and where both ends stand.
+// Appends the lines after those of the events: of datagrams, where there are some, and the states of both ends.
 fn go_over(
     alloc: Global,
     duel: Duel<FileKeys, FileKeys>,

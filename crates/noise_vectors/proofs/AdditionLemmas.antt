@@ -31,7 +31,7 @@ use Rattle.noise_vectors.specs.declared.words.DatagramKind.TheVariants as kinds
 use Rattle.noise_vectors.proofs.LackLemmas.{lacks-append, lacks-hex_of, role_word-plain}
 use Rattle.noise_vectors.proofs.WordLemmas.{lacks-decimal}
 
--- ---- what stands next
+-- ---- what comes next
 
 -- the line of an event isn't after the events
 pub event-stands : (e : Event) (after : List ℕ) → ¬ AfterEvents (line (event_words e) after)
@@ -69,7 +69,7 @@ datagram_role_of (Seal role payload) = role
 datagram_role_of (Open role number) = role
 datagram_role_of (Raw role bytes) = role
 
--- what stands after the role
+-- what follows the role
 abbrev pub datagram_operand_of : DatagramEvent → List ℕ
 datagram_operand_of (Seal role payload) = hex_of payload.items
 datagram_operand_of (Open role number) = decimal number
@@ -141,7 +141,7 @@ after-begun : (rest : List ℕ) → AfterDatagrams rest → starts_with nat_eq r
 after-begun rest (inl none) = rw none refl
 after-begun rest (inr begun) = expect-begun rest begun
 
--- where their first line stands next, there are datagrams
+-- where their first line comes next, there are datagrams
 pub over-stands : (over : Option FileDatagrams) (left rest : List ℕ) → starts_with nat_eq left (codes "datagrams ") ≡ true → AfterDatagrams rest
     → left ≡ datagrams_text over rest → (d : FileDatagrams) × (over ≡ Some d)
 over-stands (Some d) left rest begun after e = (d, refl)

@@ -196,7 +196,7 @@ pub Left-step : (rest left text after : List ℕ) (is_ended : Bool) → Left res
     → Left rest after × (is_ended ≡ true)
 Left-step rest left text after is_ended l next is = step-of rest left text after is_ended l.others l.inner l.left_is next is
 
--- what stands before the rest's last line is the text of the lines before it
+-- what comes before the rest's last line is the text of the lines before it
 pub front-is : (text left rest : List ℕ) (before : List (List ℕ)) → text ≡ lines_of itself before (line (codes "end") rest)
     → left ≡ line (codes "end") rest → take (length text - length left) text ≡ lines_of itself before []
 front-is text left rest before e is =

@@ -30,7 +30,7 @@ role_of (Write role payload) = role
 role_of (Deliver role number cuts) = role
 role_of (Raw role bytes) = role
 
--- what stands after the role
+-- what follows the role
 abbrev pub operands_of : Event → List ℕ
 operands_of (Say role payload cuts) = hex_of payload.items ++ 32 ∷ lengths_word cuts
 operands_of (Write role payload) = hex_of payload.items

@@ -109,7 +109,7 @@ LinesLeft-end l none = end-of _ _ _ l.others l.left_is none
 pub not_begun : (front left rest : List ℕ) → starts_with nat_eq left front ≡ true → starts_with nat_eq rest front ≡ false → ¬ (left ≡ rest)
 not_begun front left rest begun other e = true≢false (sym begun ∙ ap (λ (t : List ℕ). starts_with nat_eq t front) e ∙ other)
 
--- one is left where the text begins as they do, and what stands after them doesn't
+-- one is left where the text begins as they do, and what follows them doesn't
 pub LinesLeft-begun : {A : Type 0} {words : A → List ℕ} {Good : A → Type 0} {most done : ℕ} {left rest : List ℕ}
     → LinesLeft words Good most done left rest → (front : List ℕ) → starts_with nat_eq left front ≡ true → starts_with nat_eq rest front ≡ false
     → FirstLine words Good most done left rest

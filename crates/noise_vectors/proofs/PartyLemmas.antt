@@ -14,7 +14,7 @@ use Rattle.noise_vectors.specs.declared.file_keys.FileKeys.{FileKeys}
 use Rattle.noise_vectors.specs.declared.file_keys.FileKeys.TheVariants.{Xor, Table}
 use Rattle.noise_vectors.proofs.LackLemmas.{lacks-append, lacks-encode_lower, lacks-key_word, own_word-plain, role_word-plain}
 
--- what stands after a front
+-- what follows a front
 pub after-front : (text front after rest : List ℕ) → text ≡ front ++ after → text ≡ front ++ rest → after ≡ rest
 after-front text front after rest split is = append_cancel_left front after rest (sym split ∙ is)
 
@@ -55,12 +55,12 @@ begins text = starts_with nat_eq text (codes "answer ")
 
 -- ---- a party's line
 
--- what stands after the role
+-- what follows the role
 abbrev pub words_of : FileKeys → List ℕ
 words_of (Xor keys) = codes "xor " ++ key_words keys.e keys.s
 words_of (Table keys) = codes "table " ++ key_words keys.e keys.s
 
--- what stands after the line
+-- what follows the line
 abbrev pub after_of : FileKeys → List ℕ → List ℕ
 after_of (Xor keys) rest = rest
 after_of (Table keys) rest = lines_of answer_words keys.entries rest

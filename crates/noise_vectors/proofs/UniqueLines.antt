@@ -114,7 +114,7 @@ keys-one e s f t he hs hf ht same =
 
 -- ---- events
 
--- a role, and what stands after it
+-- a role, and what follows it
 roles-one : (r s : Role) (x y : List ℕ) → role_word r ++ 32 ∷ x ≡ role_word s ++ 32 ∷ y → (r ≡ s) × (x ≡ y)
 roles-one r s x y e =
     let parts = parted-one 32 (role_word r) (role_word s) x y (role_word-plain r).1 (role_word-plain s).1 e in

@@ -91,7 +91,7 @@ blocks-one once name (Some p) (Some q) u v h k e =
 first-apart : (x y : List ℕ) → x ≡ y → (get_or x 0 0 == get_or y 0 0) ≡ false → ⊥
 first-apart x y e differ = numbers-apart (get_or x 0 0) (get_or y 0 0) (first-byte x y e) differ
 
--- of the same words both are keys of one kind, and what stands after the answers is one
+-- of the same words both are keys of one kind, and what follows the answers is one
 keys-after : (a b : FileKeys) (u v : List ℕ) → AreKeys a → AreKeys b → begins_answer u ≡ false → begins_answer v ≡ false
     → words_of a ≡ words_of b → after_of a u ≡ after_of b v → (a ≡ b) × (u ≡ v)
 keys-after (Xor a) (Xor b) u v h k hu hv e after =

@@ -18,7 +18,7 @@ use Rattle.noise_vectors.specs.declared.vector.VectorFile.{VectorFile}
 use Rattle.noise_vectors.specs.declared.vector.Version.{Version}
 use Rattle.noise_vectors.specs.declared.vector.Version.TheVariants.{One, Two}
 
--- ---- what stands after each part of the text
+-- ---- what follows each part of the text
 
 abbrev pub after_responder : VectorFile → List ℕ
 after_responder file = lines_of event_words file.events.items (version_text file.version)

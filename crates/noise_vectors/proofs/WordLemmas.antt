@@ -44,7 +44,7 @@ no-place byte text before after none h e =
     let same = none ∙ ap (position (λ b. b == byte)) e ∙ position-first byte before after h in
     cc (same)
 
--- what stands before that place and after it
+-- what comes before that place and after it
 pub parted : (byte : ℕ) (text before after : List ℕ) (place : ℕ) → text ≡ before ++ byte ∷ after → place ≡ length before
     → (take place text ≡ before) × (take (length text - (place + 1)) (drop (place + 1) text) ≡ after)
 parted byte text before after place e at =
@@ -58,7 +58,7 @@ parted byte text before after place e at =
     let left : length text - length (before ++ byte ∷ []) ≡ length after = omega arith in
     (rw at front, rw (next, left, rest) (take-length after))
 
--- the text is what stands before it, the byte, and what stands after it
+-- the text is what comes before it, the byte, and what follows it
 pub parts-at : (byte : ℕ) (text : List ℕ) (place : ℕ) → Some place ≡ position (λ b. b == byte) text
     → text ≡ take place text ++ byte ∷ take (length text - (place + 1)) (drop (place + 1) text)
 parts-at byte text place found =

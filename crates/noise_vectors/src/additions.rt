@@ -19,7 +19,7 @@ use crate::words::read_number;
 use noise_events::Window;
 use std::alloc::Global;
 
-/// The version, of which the header says whether it is the second, with all that stands after the events.
+/// The version, of which the header says whether it is the second, with all that follows the events.
 pub(crate) fn read_version(
     alloc: Global,
     lines: &mut Lines<'_>,
@@ -50,7 +50,7 @@ pub(crate) fn read_version(
     }))
 }
 
-// The datagrams, where their first line stands next.
+// The datagrams, where their first line comes next.
 fn read_datagrams(
     alloc: Global,
     lines: &mut Lines<'_>,

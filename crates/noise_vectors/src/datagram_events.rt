@@ -43,7 +43,7 @@ pub(crate) fn read_datagram_events(
     Ok(events)
 }
 
-// Whether no event of a datagram stands next.
+// Whether no event of a datagram comes next.
 fn is_after_datagrams(rest: &[u8]) -> bool
     ensures { IsTrue result ↔ AfterDatagrams rest.now }
 {
@@ -76,7 +76,7 @@ fn read_datagram_event(alloc: Global, text: &[u8]) -> Result<Option<DatagramEven
     }
 }
 
-// The kind of event, its role, and what stands after them.
+// The kind of event, its role, and what follows them.
 fn split_datagram_event(text: &[u8]) -> Option<(DatagramKind, Role, &[u8])>
     ensures text { IfSome result (λ parts. text.now ≡ datagram_kind_word parts.0 ++ 32 ∷ (role_word parts.1 ++ 32 ∷ parts.2.now)) }
     ensures every { (kind : DatagramKind) (role : Role) (operand : List ℕ)

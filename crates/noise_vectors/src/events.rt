@@ -48,7 +48,7 @@ pub(crate) fn read_events(
     Ok(events)
 }
 
-// Whether no event stands next.
+// Whether no event comes next.
 fn is_after_events(rest: &[u8]) -> bool
     ensures { IsTrue result ↔ AfterEvents rest.now }
 {
@@ -93,7 +93,7 @@ fn read_event(
     }
 }
 
-// The kind of event, its role, and what stands after them.
+// The kind of event, its role, and what follows them.
 fn split_event(text: &[u8]) -> Option<(EventKind, Role, &[u8])>
     ensures text { IfSome result (λ parts. text.now ≡ kind_word parts.0 ++ 32 ∷ (role_word parts.1 ++ 32 ∷ parts.2.now)) }
     ensures every { (kind : EventKind) (role : Role) (operands : List ℕ) → text.now ≡ kind_word kind ++ 32 ∷ (role_word role ++ 32 ∷ operands)

@@ -38,7 +38,7 @@ pub(crate) fn read_party(lines: &mut Lines<'_>, role: Role) -> Result<FileKeys, 
     Ok(FileKeys::Table(read_table(lines, e, s)?))
 }
 
-// What stands after the word of this role and a space.
+// What follows the word of this role and a space.
 fn after_role(line: &[u8], role: Role) -> Option<&[u8]>
     ensures text { IfSome result (λ words. line.now ≡ role_word role ++ 32 ∷ words.now) }
     ensures every { (words : List ℕ) → line.now ≡ role_word role ++ 32 ∷ words
@@ -62,7 +62,7 @@ fn keys_of(words: &[u8], front: &[u8]) -> Option<(Option<[u8; 32]>, Option<[u8; 
     Some((read_optional_key(e)?, read_optional_key(s)?))
 }
 
-// The table of these keys, with the answers of the lines that stand next.
+// The table of these keys, with the answers of the lines that come next.
 fn read_table(
     lines: &mut Lines<'_>,
     e: Option<[u8; 32]>,

@@ -37,7 +37,7 @@ pub fn read_vector(
     ensures right { IfOk result IsVectorFile }
     ensures allowed { IfOk result (IsAllowedFile allowed) }
 
-    // The text of a right file is refused only for want of memory.
+    // The text of a right file is refused only for lack of memory.
     ensures every { (file : VectorFile) → IsVectorFile file → IsAllowedFile allowed file → text.now ≡ text_of file
         → IfErr result (λ fault. fault ≡ Memory) }
 {
@@ -113,7 +113,7 @@ fn read_protocol(lines: &mut Lines<'_>) -> Result<ProtocolName, VectorFault>
     Ok(name)
 }
 
-// The name that stands in the line.
+// The name in the line.
 fn protocol_of(line: &[u8]) -> Option<ProtocolName>
     ensures text { IfSome result (λ name. line.now ≡ codes "protocol " ++ name_bytes name) }
     ensures right { IfSome result IsSection }
@@ -155,7 +155,7 @@ fn read_prologue(alloc: Global, lines: &mut Lines<'_>) -> Result<Vec<u8>, Vector
     Ok(prologue)
 }
 
-// The bytes that stand in the line.
+// The bytes in the line.
 fn prologue_of(alloc: Global, line: &[u8]) -> Result<Option<Vec<u8>>, AllocError>
     ensures text { IfOk result (λ found. IfSome found (λ bytes. line.now ≡ codes "prologue " ++ hex_of bytes.items)) }
     ensures bound { IfOk result (λ found. IfSome found (λ bytes. vec_len bytes ≤ 65535)) }
@@ -183,7 +183,7 @@ fn read_interval(lines: &mut Lines<'_>) -> Result<u64, VectorFault>
     Ok(interval)
 }
 
-// The number that stands in the line.
+// The number in the line.
 fn interval_of(line: &[u8]) -> Option<u64>
     ensures text { IfSome result (λ interval. line.now ≡ codes "interval " ++ decimal interval) }
     ensures every { (interval : ℕ) → interval < 2 ^ 64 → line.now ≡ codes "interval " ++ decimal interval

@@ -26,7 +26,7 @@ pub struct VectorFile {
     pub ghost short: { vec_len prologue ≤ 65535 },
 }
 
-/// The version of a vector file, and what only that version has, which stands after the events.
+/// The version of a vector file, and what only that version has, which follows the events.
 #[derive(Drop)]
 pub enum Version {
     One,

@@ -1,4 +1,4 @@
-//! The words that stand in the lines of a vector file.
+//! The words in the lines of a vector file.
 
 ghost use Rattle.std.specs.Prelude.{◌≡◌, ◌↔◌, ◌<◌, ◌≤◌, ◌^◌, ◌==◌, ℕ, List, ◌∷◌, ◌++◌, Option, Some, decimal, length, position, slice_index, vec_len};
 ghost use Rattle.std.specs.Prelude.{IfOk, IfSome, IsSome, IsTrue, MatchOption};
@@ -35,7 +35,7 @@ pub(crate) enum DatagramKind {
     Foreign,
 }
 
-/// What stands before the first such byte, and what stands after it.
+/// What comes before the first such byte, and what follows it.
 pub(crate) fn split_once(text: &[u8], separator: u8) -> Option<(&[u8], &[u8])>
     ensures parts { IfSome result (λ parts. text.now ≡ parts.0.now ++ separator ∷ parts.1.now) }
     ensures every { (before after : List ℕ) → IsTrue (lacks separator before) → text.now ≡ before ++ separator ∷ after
@@ -45,7 +45,7 @@ pub(crate) fn split_once(text: &[u8], separator: u8) -> Option<(&[u8], &[u8])>
     Some((&text[..place], &text[place + 1..]))
 }
 
-// Where the first such byte stands.
+// Where the first such byte is.
 fn place_of(text: &[u8], byte: u8) -> Option<usize>
     ensures { result ≡ position (λ b. b == byte) text.now }
 {

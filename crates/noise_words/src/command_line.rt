@@ -182,7 +182,7 @@ fn strings(alloc: Global, texts: &[&str]) -> Result<Vec<String>, AllocError>
     Ok(strings)
 }
 
-// Want of memory is told as such, whoever met it.
+// Lack of memory is reported as such, whoever met it.
 fn line_fault(error: clap::Error) -> LineFault
     ensures { (kind_of error ≡ ErrorKind.OutOfMemory → result ≡ LineFault.Memory) × (kind_of error ≢ ErrorKind.OutOfMemory → result ≡ LineFault.Line error) }
 {

@@ -39,7 +39,7 @@ fn fault(line: usize, kind: TextFaultKind) -> TextFault {
     TextFault { line, kind }
 }
 
-// A line without its line feed, whether it has one, and what stands after it.
+// A line without its line feed, whether it has one, and what follows it.
 #[derive(Clone, Copy)]
 struct Line<'a> {
     bytes: &'a [u8],
@@ -219,7 +219,7 @@ impl Words {
         }
     }
 
-    // Whether a psk stands in front, or at the end, exactly if it has to, and nowhere else.
+    // Whether a psk is at the front, or at the end, exactly if it has to, and nowhere else.
     fn have_psks(&self, in_front: bool, at_end: bool) -> bool {
         let mut rest = self.first.as_slice();
         if in_front {

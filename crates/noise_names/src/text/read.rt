@@ -41,7 +41,7 @@ pub(crate) fn read(text: &[u8]) -> Option<Pattern>
     }
 }
 
-// The name that a heading gives, and what stands after its colon.
+// The name that a heading gives, and what follows its colon.
 pub(super) fn read_heading(text: &[u8]) -> Option<(ProtocolName, &[u8])>
     ensures section { IfSome result (λ r. IsSection r.0) }
     ensures every { (s : Section) (after : List ℕ) → IsSection s → text.now ≡ (section_bytes s.base s.places ++ codes ":") ++ after
@@ -55,7 +55,7 @@ pub(super) fn read_heading(text: &[u8]) -> Option<(ProtocolName, &[u8])>
     }
 }
 
-// How many bytes stand before the first colon.
+// How many bytes come before the first colon.
 fn section_len(text: &[u8]) -> usize
     ensures { result ≡ length (take_while (λ b. not (b == 58)) text.now) }
 {
@@ -169,7 +169,7 @@ fn read_line(role: Role, lines: &[u8]) -> Option<(ArrayVec<Token, 8>, &[u8])>
     Some((tokens, after.strip_prefix(b"\n")?))
 }
 
-// The party whose arrow stands at the front of a line, and the list after the arrow.
+// The party whose arrow is at the front of a line, and the list after the arrow.
 pub(super) fn read_arrow(line: &[u8]) -> Option<(Role, &[u8])>
     ensures front { IfSome result (λ r. line.now ≡ codes "  " ++ (arrow_of r.0 ++ (codes " " ++ r.1.now))) }
     ensures shorter { IfSome result (λ r. length r.1.now < length line.now) }
@@ -182,7 +182,7 @@ pub(super) fn read_arrow(line: &[u8]) -> Option<(Role, &[u8])>
     Some((Role::Responder, list))
 }
 
-// The tokens other than psk of a list, at most 8, and what stands after the list.
+// The tokens other than psk of a list, at most 8, and what follows the list.
 fn read_words(list: &[u8]) -> (ArrayVec<Token, 8>, &[u8])
     ensures plain { list_any is_psk result.0.items ≡ false }
     ensures shorter { length result.1.now ≤ length list.now }
@@ -214,7 +214,7 @@ fn keep(tokens: &mut ArrayVec<Token, 8>, token: Token)
     }
 }
 
-// The token whose word stands in front, and what stands after that.
+// The token whose word is at the front, and what follows that.
 pub(super) fn first_word(list: &[u8]) -> Option<(Token, &[u8])>
     ensures shorter { IfSome result (λ r. length r.1.now ≤ length list.now) }
     ensures every { (t : Token) (b : ℕ) (more : List ℕ) → is_lower b ≡ false → list.now ≡ word_of t ++ b ∷ more
@@ -224,7 +224,7 @@ pub(super) fn first_word(list: &[u8]) -> Option<(Token, &[u8])>
     Some((Token::named(word)?, after))
 }
 
-// How many lower-case letters stand in front.
+// How many lower-case letters are at the front.
 fn word_len(list: &[u8]) -> usize
     ensures { result ≡ length (take_while is_lower list.now) }
 {

@@ -44,7 +44,7 @@ const TOLD: &str =
 (Responder, Sealed(0, [0, 0, 0, 0, 0, 0, 0, 0, 74, 89, 86, 222, 37, 182, 104, 64, 108, 209, 187, 180, 69, 107, 168, 161, 101])), \
 (Responder, Payload([2])), (Responder, Payload([1])), (Responder, Rejected(Repeated)), (Initiator, Payload([3]))]";
 
-// The events of which that is told.
+// The events of which that is reported.
 fn events(rt: &impl Abort, alloc: Global) -> Vec<DatagramEvent> {
     let mut events = Vec::new(alloc);
     for (role, byte) in &SEALED {

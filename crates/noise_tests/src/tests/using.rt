@@ -116,7 +116,7 @@ pub fn pass<K: Keys>(
     take_frame(to, &mut input, payloads)
 }
 
-/// Both ends of XX with the toy keys, and what the responder was told.
+/// Both ends of XX with the toy keys, and what the responder received.
 pub fn say_hello(alloc: Global) -> Result<Vec<u8>, Failure> {
     let first = XorKeys {
         e: Some([0x11; 32]),

@@ -1,4 +1,4 @@
-//! Which line of a wrong vector file is told, and that a right one is read.
+//! Which line of a wrong vector file is reported, and that a right one is read.
 
 use noise_vectors::{AllowedEvents, LineKind, VectorFault, read_vector};
 use std::alloc::Global;
@@ -46,7 +46,7 @@ const FULL: [&str; 33] = [
     "say responder - -",
 ];
 
-// A line, in front of which line of that file it stands, and which kind of line it is told not to be.
+// A line, in front of which line of that file it stands, and which kind of line it is reported not to be.
 const WRONG: [(&str, usize, LineKind); 38] = [
     ("vector 3", 1, LineKind::Header),
     ("", 1, LineKind::Header),
@@ -110,7 +110,7 @@ const OWN: [&str; 14] = [
     "say responder - -",
 ];
 
-// Without a heading or messages it is told where they had to stand. After a line of xor keys no answer may stand.
+// Without a heading or messages it is reported where they had to be. After a line of xor keys no answer may stand.
 const WRONG_IN_OWN: [(&str, usize, LineKind); 8] = [
     ("NK2:", 3, LineKind::Pattern),
     ("NK1", 3, LineKind::Pattern),
@@ -139,7 +139,7 @@ const SECOND: [&str; 13] = [
     "expect initiator: ~",
 ];
 
-// Without `datagrams` no datagram is an event, and after it nothing else is. A line is told as one of what is expected only after the first such line.
+// Without `datagrams` no datagram is an event, and after it nothing else is. A line is reported as one of what is expected only after the first such line.
 const WRONG_IN_SECOND: [(&str, usize, LineKind); 33] = [
     ("vector 3", 1, LineKind::Header),
     ("seal initiator -", 8, LineKind::Event),
@@ -176,7 +176,7 @@ const WRONG_IN_SECOND: [(&str, usize, LineKind); 33] = [
     ("seal initiator -", 13, LineKind::Expect),
 ];
 
-// What stands in the file's line of this number, the last one and without an LF, and which kind of line it is told not to be.
+// What is in the file's line of this number, the last one and without an LF, and which kind of line it is reported not to be.
 const UNENDED: [(&str, usize, LineKind); 8] = [
     ("vector 2", 1, LineKind::Ending),
     ("datagrams 64", 8, LineKind::Ending),
@@ -188,7 +188,7 @@ const UNENDED: [(&str, usize, LineKind); 8] = [
     ("expect ", 13, LineKind::Expect),
 ];
 
-// What is allowed, the line of that file that is told, and its kind.
+// What is allowed, the line of that file that is reported, and its kind.
 const ALLOWED: [(AllowedEvents, Option<(usize, LineKind)>); 3] = [
     (AllowedEvents::Any, None),
     (AllowedEvents::SayOnly, Some((8, LineKind::Event))),
@@ -287,7 +287,7 @@ fn file_with(rt: &impl Abort, alloc: Global, lines: &[&str], number: usize, line
     text
 }
 
-// This is told of a text, or it is read.
+// This is reported of a text, or it is read.
 fn tells(
     rt: &impl Abort,
     alloc: Global,
@@ -301,7 +301,7 @@ fn tells(
     assert!(rt; fault == told, "{case}");
 }
 
-// That each of these wrong lines is told, where it stands in a file of the right ones.
+// That each of these wrong lines is reported, where it stands in a file of the right ones.
 fn tells_each(
     rt: &impl Abort,
     alloc: Global,
