@@ -1,6 +1,7 @@
 // A handshake of one party.
 import { NoiseError, code, library, must } from './module.mjs';
 import { KeyPair } from './keys.mjs';
+import { protocolName } from './patterns.mjs';
 import { Datagrams, Transport } from './transport.mjs';
 
 const encoder = new TextEncoder();
@@ -33,13 +34,14 @@ export class Handshake {
    * that must never have been used before.
    */
   constructor({ pattern, responder = false, prologue = new Uint8Array(0), staticKey, ephemeralKey, remoteStatic, remoteEphemeral, psks = [] }) {
-    if (typeof pattern !== 'string') throw new TypeError('pattern has to be a protocol name or a pattern text');
+    if (typeof pattern !== 'string') throw new TypeError('pattern has to be a name or a pattern text');
+    const name = pattern.includes('\n') || pattern.startsWith('Noise_') ? pattern : protocolName(pattern);
     bytesOf(prologue, 'prologue');
     if (prologue.length > 65535) throw new NoiseError(code.LENGTH);
     if (psks.length > 9) throw new NoiseError(code.PSK_COUNT);
     for (const psk of psks) bytesOf(psk, 'a psk', 32);
     for (const key of [staticKey?.publicKey, ephemeralKey?.publicKey, remoteStatic, remoteEphemeral]) if (key) bytesOf(key, 'a public key', 32);
-    this.#options = { pattern, responder, prologue: prologue.slice(), remoteStatic, remoteEphemeral, psks: psks.map((psk) => psk.slice()) };
+    this.#options = { pattern: name, responder, prologue: prologue.slice(), remoteStatic, remoteEphemeral, psks: psks.map((psk) => psk.slice()) };
     this.#static = staticKey;
     this.#ephemeral = ephemeralKey;
     this.#place = library().take('handshake');

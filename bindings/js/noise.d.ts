@@ -30,7 +30,7 @@ export class KeyPair implements DH {
 }
 
 export interface HandshakeOptions {
-  /** A protocol name, or a pattern text whose lines end with a line feed. */
+  /** A protocol name, the name of a pattern alone, as XXpsk3, or a pattern text whose lines end with a line feed. */
   pattern: string;
   responder?: boolean;
   /** At most 65535 bytes, the same at both parties. */

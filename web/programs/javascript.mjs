@@ -79,8 +79,8 @@ function datagrams(facts) {
 export function javascript(facts) {
   const { section, name, isNamed, prologue, isDatagrams, has, knowsEphemeral } = facts;
   const isKeyed = [has, knowsEphemeral].some((who) => who.initiator || who.responder);
-  const imported = [isDatagrams && 'Handshake', isKeyed && 'KeyPair', !isDatagrams && 'NoiseSocket', 'load', isNamed && 'protocolName'].filter(Boolean);
-  const pattern = isNamed ? `protocolName('${section}')` : `[\n${facts.lines.map((line) => `  '${line}',`).join('\n')}\n  '',\n].join('\\n')`;
+  const imported = [isDatagrams && 'Handshake', isKeyed && 'KeyPair', !isDatagrams && 'NoiseSocket', 'load'].filter(Boolean);
+  const pattern = isNamed ? `'${section}'` : `[\n${facts.lines.map((line) => `  '${line}',`).join('\n')}\n  '',\n].join('\\n')`;
   return lines(
     `// The pattern ${section}: both parties in one program, ${name}.mjs, beside noise.mjs of bindings/js.`,
     `import { ${imported.join(', ')} } from './noise.mjs';`, '',

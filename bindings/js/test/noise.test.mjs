@@ -83,6 +83,8 @@ test('with the module loaded', async (t) => {
   await t.test('a set-up is checked at once', () => {
     const start = (options) => () => new Handshake(options);
     assert.throws(start({ pattern: 'Noise_QQ_25519_ChaChaPoly_SHA256' }), refused(code.NAME));
+    assert.throws(start({ pattern: 'QQ' }), refused(code.NAME));
+    assert.throws(start({ pattern: 'NNpsk0' }), refused(code.PSK_COUNT));
     assert.throws(start({ pattern: 'MINE:\n  -> e, es\n' }), refused(code.PATTERN));
     assert.throws(start({ pattern: protocolName('XX') }), refused(code.STATIC_MISSING));
     assert.throws(start({ pattern: protocolName('NK') }), refused(code.REMOTE_MISSING));

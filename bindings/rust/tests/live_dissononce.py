@@ -80,7 +80,7 @@ class End:
 
 @contextlib.contextmanager
 def example(program, pattern, own, other, address):
-    """The example as it runs; behind it, it has ended, and well."""
+    """The example as it runs; afterwards it has ended, with status 0."""
     secret = PSK.hex() if "psk" in pattern.name else "-"
     words = [program, pattern.name, own.private.data.hex(), other.public.data.hex(), secret, address]
     with subprocess.Popen(words, stdout=subprocess.PIPE, text=True) as process:

@@ -1,0 +1,28 @@
+// The module as a program in TypeScript uses it. It is only checked, against noise.d.ts, and never run.
+import {
+  Datagrams, Handshake, KeyPair, NoiseError, NoiseSocket, Transport, checkPattern, code, layout, load, protocolName,
+} from '../../bindings/js/noise.mjs';
+
+await load();
+const staticKey: KeyPair = await KeyPair.generate();
+const handshake = new Handshake({ pattern: protocolName('XX'), staticKey, psks: [new Uint8Array(32)] });
+const message: Uint8Array = await handshake.write(new Uint8Array(3));
+try {
+  await handshake.read(message);
+} catch (error) {
+  if (error instanceof NoiseError && error.code === code.TAG) console.log(error.token);
+}
+const transport: Transport = handshake.finish({ interval: 3n });
+const [sender, receiver] = transport.split();
+receiver.open(sender.seal(message));
+const datagrams: Datagrams = handshake.finishDatagrams({ window: 64 });
+console.log(datagrams.nonce + 1n);
+const verdict = checkPattern('NN:\n  -> e\n');
+if (verdict.valid) console.log(verdict.messages);
+else if ('rule' in verdict) console.log(verdict.token);
+else console.log(verdict.line);
+console.log(layout('XX').messages[0].pieces[0].kind);
+const { readable, writable } = new TransformStream<Uint8Array, Uint8Array>();
+const channel = await NoiseSocket.open({ readable, writable }, { pattern: 'XX', judge: (key) => key !== undefined });
+for await (const payload of channel) await channel.send(payload);
+await NoiseSocket.open(new WebSocket('wss://example.org/'), { pattern: 'XX' });
