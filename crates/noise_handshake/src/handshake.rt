@@ -2,15 +2,15 @@
 #![tactic(auto)]
 
 ghost use Rattle.std.specs.Prelude.{◌≡◌, ◌≤◌, ◌<◌, ◌+◌, ◌-◌, true, false, ℕ, List, ◌↔◌, length, take, drop, slice_range, Some, None, IsOk, IfOk};
-ghost use Rattle.std.specs.Prelude.{IfErr, OnErr, MatchResult, MatchOption, IsSome, IfSome, not, ◌&&◌, ◌==◌};
+ghost use Rattle.std.specs.Prelude.{IfErr, OnErr, MatchResult, MatchOption, IsSome, IfSome, not, ◌&&◌, ◌==◌, count_by, set};
 ghost use Rattle.std.specs.Option.{ForSome};
 
-use crate::layout::{MessageLayout, lay_next};
-use crate::reading::{lacked, read_lacking, read_message};
+use crate::layout::{MessageLayout, lay_next, psk_after};
+use crate::reading::{lacked, read_before, read_lacking, read_message};
 use crate::setup::{public_keys, setup_fault, start};
 use crate::stop::Stop;
 use crate::tokens::Means;
-use crate::writing::{write_lacking, write_message};
+use crate::writing::{write_lacking, write_lacking_before, write_message};
 use crate::{
     Keys, Opened, Own, Parts, Progress, ReadFault, Remote, SetupFault, Unread, WriteFault,
 };
@@ -85,16 +85,19 @@ impl<K: Keys> Handshake<K> {
     ghost use Rattle.noise_names.specs.Overhead.{has_key, overhead_of};
     ghost use Rattle.noise_handshake.specs.Passed.{passed_places};
     ghost use Rattle.noise_handshake.specs.inner.Layout.{IsLaid};
-    ghost use Rattle.noise_handshake.specs.View.{View, Accepts, Refuses, tokens_at};
+    ghost use Rattle.noise_handshake.specs.View.{View, Accepts, Refuses, Speaks, reader, tokens_at, tokens_now};
+    ghost use Rattle.noise_handshake.specs.inner.Late.{IsPskAfter};
+    ghost use Rattle.noise_handshake.specs.inner.Listening.{LeadsBefore};
+    ghost use Rattle.noise_names.specs.Tokens.{is_psk};
     ghost use Rattle.noise_handshake.specs.Held.{is_turn, read_fault, after_read_fault, write_fault, after_write_fault, message_len_of, IsRefusal};
-    ghost use Rattle.noise_handshake.specs.Held.{IsAgreement, Advances, IsOfDue, after_unread};
+    ghost use Rattle.noise_handshake.specs.Held.{IsAgreement, Advances, IsOfDue, after_unread, ended_as};
     ghost use Rattle.noise_handshake.specs.Asking.{LeavesUnread, after_asked};
     ghost use Rattle.noise_handshake.specs.declared.faults.Unread.{Unread};
     ghost use Rattle.noise_handshake.specs.Opening.{Opens};
     ghost use Rattle.noise_handshake.specs.Parts.{held_of, HasProgress, IsWhole};
-    ghost use Rattle.noise_handshake.specs.Setup.{begun, setup_fault};
-    ghost use Rattle.noise_handshake.specs.Writing.{Writes, Lacks};
-    ghost use Rattle.noise_handshake.specs.Wanting.{WantsToRead, WantsToWrite};
+    ghost use Rattle.noise_handshake.specs.Setup.{begun, secrets_of, setup_fault};
+    ghost use Rattle.noise_handshake.specs.Writing.{Writes, Lacks, LacksAt, writer};
+    ghost use Rattle.noise_handshake.specs.Wanting.{WantsToRead, WantsToWrite, LacksFor};
     ghost use Rattle.noise_handshake.specs.declared.faults.Cause.{Cause};
     ghost use Rattle.noise_handshake.specs.Party.{Stands, after_message, after_own, Declines, after_declined, Withholds, after_withheld};
 
@@ -284,7 +287,7 @@ impl<K: Keys> Handshake<K> {
     }
 
     // Why no message is read now.
-    fn read_fault(&self) -> Option<ReadFault>
+    pub(crate) fn read_fault(&self) -> Option<ReadFault>
         ensures value { result ≡ read_fault self.now }
         ensures within { self.now.passed ≤ length self.now.pattern.messages }
     {
@@ -463,7 +466,7 @@ impl<K: Keys> Handshake<K> {
     }
 
     // Why no message with a payload of this length is written now, whatever the keys answer.
-    fn write_fault(&self, payload_len: usize) -> Option<WriteFault>
+    pub(crate) fn write_fault(&self, payload_len: usize) -> Option<WriteFault>
         ensures value { result ≡ write_fault self.now payload_len }
         ensures due { result ≡ None → self.now.passed < length self.now.pattern.messages }
     {
@@ -478,6 +481,16 @@ impl<K: Keys> Handshake<K> {
         } else {
             None
         }
+    }
+
+    // The same, as the views of the handshake have it.
+    pub(crate) fn withheld(&self, payload_len: usize) -> Option<WriteFault>
+        ensures value { result ≡ write_fault self.now payload_len }
+        ensures due { result ≡ None → self.now.passed < length self.now.pattern.messages }
+        ensures withholds { (v : View) → Stands K.public_of K.agreement self.now v → IfSome result (λ fault. Withholds v payload_len fault) }
+    {
+        let _ = self.left();
+        self.write_fault(payload_len)
     }
 
     /// The length of the message that `write` would give for a payload of this length, both in bytes. None where it
@@ -541,7 +554,7 @@ impl<K: Keys> Handshake<K> {
     }
 
     // Whether a message of this party is due.
-    fn speaks(&self) -> bool
+    pub(crate) fn speaks(&self) -> bool
         ensures { result ≡ (not self.now.ended && not (self.now.passed == length self.now.pattern.messages) && is_turn self.now.role self.now.passed) }
     {
         !self.ended
@@ -566,6 +579,85 @@ impl<K: Keys> Handshake<K> {
         };
         let secrets = &self.secrets[self.used..];
         write_lacking(&self.remote, &means, secrets, &self.next.tokens)
+    }
+
+    // How many secrets are left: one for each psk token that is still to come.
+    pub(crate) fn left(&self) -> usize
+        ensures count { result ≡ length self.now.secrets }
+        ensures few { length self.now.secrets ≤ 9 }
+        ensures due { length self.now.secrets ≡ secrets_of (drop self.now.passed self.now.pattern.messages) }
+        ensures within { self.now.passed ≤ length self.now.pattern.messages }
+    {
+        self.secrets.len() - self.used
+    }
+
+    // Puts a secret in place of another one that is still to come.
+    pub(crate) fn replace_secret(&mut self, index: usize, secret: [u8; 32])
+        requires { index < length self.old.secrets }
+        ensures { self.new ≡ record self.old { secrets = set self.old.secrets index secret } }
+    {
+        self.secrets[self.used + index] = secret;
+    }
+
+    // Ends it.
+    pub(crate) fn end(&mut self)
+        ensures { self.new ≡ ended_as self.old }
+    {
+        self.ended = true;
+    }
+
+    // The first token of the next message, if there is one, that is a psk token after so many others.
+    pub(crate) fn psk_after(&self, count: usize) -> Option<usize>
+        requires { self.now.passed < length self.now.pattern.messages }
+        ensures found { let tokens = tokens_at self.now.pattern.messages self.now.passed in
+            MatchOption result (count_by is_psk tokens ≤ count) (λ k. IsPskAfter tokens count k) }
+        ensures due { length self.now.secrets ≡ secrets_of (drop self.now.passed self.now.pattern.messages) }
+    {
+        let _ = self.left();
+        psk_after(&self.next_layout().tokens, count)
+    }
+
+    // Reads a due message before token k, and returns the other party's static key as it is known there; or where reading stops before.
+    pub(crate) fn read_before(&self, k: usize, message: &[u8]) -> Result<Option<[u8; 32]>, Stop>
+        requires due { read_fault self.now ≡ None }
+        requires within { k ≤ length (tokens_at self.now.pattern.messages self.now.passed) }
+        ensures { (v : View) → Stands K.public_of K.agreement self.now v → MatchResult result
+            (λ s. LeadsBefore (reader v) v.remote v.secrets v.history (tokens_now v) message.now k s)
+            (λ stop. (stop.token < k) × Refuses v message.now stop.token stop.cause × MatchOption stop.want
+            ((token : ℕ) → Refuses v message.now token Cause.Agreement → ⊥) (λ want. WantsToRead v message.now want.0 want.1)) }
+    {
+        let means = Means {
+            keys: &self.keys,
+            role: self.role,
+            psks: self.psks,
+        };
+        let secrets = &self.secrets[self.used..];
+        read_before(
+            &self.state,
+            &self.remote,
+            &means,
+            secrets,
+            &self.next.tokens,
+            k,
+            message,
+        )
+    }
+
+    // For want of which DH answer no message would be written now, if one lacks before token k.
+    pub(crate) fn wants_before(&self, k: usize) -> Option<(Own, [u8; 32])>
+        requires due { (not self.now.ended && not (self.now.passed == length self.now.pattern.messages) && is_turn self.now.role self.now.passed) ≡ true }
+        requires within { k ≤ length (tokens_at self.now.pattern.messages self.now.passed) }
+        ensures { (v : View) → Stands K.public_of K.agreement self.now v → Speaks v × MatchOption result
+            ((token : ℕ) → LacksAt (writer v) v.remote v.secrets (take k (tokens_now v)) token → ⊥)
+            (λ want. LacksFor (writer v) v.remote v.secrets (take k (tokens_now v)) want.0 want.1) }
+    {
+        let means = Means {
+            keys: &self.keys,
+            role: self.role,
+            psks: self.psks,
+        };
+        let secrets = &self.secrets[self.used..];
+        write_lacking_before(&self.remote, &means, secrets, &self.next.tokens, k)
     }
 
     /// What the handshake leaves once all messages have passed and it hasn't ended; else it comes back as it was.

@@ -1,12 +1,14 @@
 //! The layout of a message (Noise, 5.3): where each token and the payload stand, made once for each message.
 #![tactic(auto)]
 
-ghost use Rattle.std.specs.Prelude.{◌≡◌, ◌≤◌, ◌+◌, ◌*◌, ◌++◌, length};
+ghost use Rattle.std.specs.Prelude.{◌≡◌, ◌≤◌, ◌+◌, ◌*◌, ◌++◌, length, count_by, MatchOption};
+ghost use Rattle.noise_names.specs.Tokens.{is_psk};
 ghost use Rattle.noise_names.specs.Plan.{has_psk};
 ghost use Rattle.noise_names.specs.Overhead.{has_key};
 ghost use Rattle.noise_handshake.specs.Passed.{passed_places};
 ghost use Rattle.noise_handshake.specs.Length.{keyed_after, keyed_after_tokens, token_width, tokens_width};
-ghost use Rattle.noise_handshake.specs.inner.Layout.{placed_from, IsLaid, LaysNext};
+ghost use Rattle.noise_handshake.specs.inner.Layout.{placed_from, tokens_of, IsLaid, LaysNext};
+ghost use Rattle.noise_handshake.specs.inner.Late.{IsPskAfter};
 
 use crate::setup::psk_count;
 use arrayvec::ArrayVec;
@@ -105,5 +107,24 @@ pub(crate) fn lay_next(pattern: &Pattern, psks: bool, keyed: bool, passed: u8) -
     match pattern.messages().get(passed as usize) {
         Some(message) => lay_message(message.tokens(), psks, keyed),
         None => MessageLayout::default(),
+    }
+}
+
+// The place of the psk token after so many others, if there is one.
+pub(crate) fn psk_after(placed: &[PlacedToken], count: usize) -> Option<usize>
+    requires { length placed.now ≤ 10 }
+    ensures { MatchOption result (count_by is_psk (tokens_of placed.now) ≤ count) (λ k. IsPskAfter (tokens_of placed.now) count k) }
+{
+    let (first, later) = placed.split_first()?;
+    match (first.token, count) {
+        (Token::Psk, 0) => Some(0),
+        (Token::Psk, _) => {
+            let k = psk_after(later, count - 1)?;
+            Some(k + 1)
+        }
+        _ => {
+            let k = psk_after(later, count)?;
+            Some(k + 1)
+        }
     }
 }

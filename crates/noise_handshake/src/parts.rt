@@ -1,7 +1,7 @@
 //! What a handshake holds, for a caller that keeps it itself.
 #![tactic(auto)]
 
-ghost use Rattle.std.specs.Prelude.{◌≡◌, ◌≤◌, ◌↔◌, not, ◌&&◌, length, drop, is_some, IsTrue};
+ghost use Rattle.std.specs.Prelude.{◌≡◌, ◌≤◌, ◌<◌, ◌↔◌, not, ◌&&◌, length, drop, is_some, IsTrue, MatchOption};
 ghost use Rattle.noise_names.specs.declared.token.Token.TheVariants.{E, S};
 ghost use Rattle.noise_names.specs.Tokens.{other};
 ghost use Rattle.noise_names.specs.Validity.{is_among};
@@ -84,6 +84,20 @@ impl<K: Keys> Parts<K> {
         let keyed = self.progress.state.key.is_some();
         keyed == self.pattern.has_key(self.progress.passed)
             && self.progress.state.nonce <= most_used(keyed, self.progress.passed)
+    }
+
+    // How many psk tokens are still to come; None where more messages have passed than there are.
+    pub(crate) fn due(&self) -> Option<usize>
+        ensures { MatchOption result (length self.now.pattern.messages < self.now.progress.passed)
+            (λ n. (self.now.progress.passed ≤ length self.now.pattern.messages)
+            × (n ≡ secrets_of (drop self.now.progress.passed self.now.pattern.messages)) × (n ≤ 9)) }
+    {
+        let messages = self.pattern.pattern().messages();
+        let passed = self.progress.passed as usize;
+        if passed > messages.len() {
+            return None;
+        }
+        Some(psk_total(&messages[passed..]))
     }
 
     // Whether a handshake may hold them and these secrets.

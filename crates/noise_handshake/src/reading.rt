@@ -11,7 +11,7 @@ ghost use Rattle.noise_handshake.specs.inner.Known.{is_known, are_known, e_after
 ghost use Rattle.noise_handshake.specs.Length.{keyed_after, keyed_after_tokens, token_width};
 ghost use Rattle.noise_handshake.specs.View.{Reader, Fits, Leads, Stops, known_after, learned, Reads};
 ghost use Rattle.noise_handshake.specs.View.{cause_of, secrets_after};
-ghost use Rattle.noise_handshake.specs.inner.Listening.{Fails, StopsKnowing, width_of_key};
+ghost use Rattle.noise_handshake.specs.inner.Listening.{Fails, StopsKnowing, LeadsBefore, width_of_key};
 ghost use Rattle.noise_names.specs.declared.token.Token.{Token};
 ghost use Rattle.noise_handshake.specs.inner.Layout.{tokens_of, ArePlaced};
 ghost use Rattle.noise_names.specs.Tokens.{is_psk};
@@ -19,6 +19,7 @@ ghost use Rattle.noise_handshake.specs.declared.faults.Cause.TheVariants.{Short,
 ghost use Rattle.noise_handshake.specs.Wanting.{StopsFor};
 
 use crate::layout::PlacedToken;
+use crate::stop::Stop;
 use crate::tokens::{Means, answer_at, asked_at, mix_ephemeral, secrets_after};
 use crate::{Cause, Keys, Own, Remote};
 use noise_names::{Role, Token};
@@ -272,6 +273,50 @@ pub(crate) fn read_lacking<K: Keys>(
     match read_tokens(&mut trial, &mut learned, means, secrets, placed, message) {
         Ok(_) => None,
         Err((k, cause)) => lacked(means.role, &learned, placed, k, cause),
+    }
+}
+
+// Reads the tokens before token k, and returns the other party's static key as it is known there; or where reading stops before, and
+// the DH that lacks its answer there.
+pub(crate) fn read_before<K: Keys>(
+    state: &SymmetricState,
+    known: &Remote,
+    means: &Means<K>,
+    secrets: &[[u8; 32]],
+    placed: &[PlacedToken],
+    k: usize,
+    message: &[u8],
+) -> Result<Option<[u8; 32]>, Stop>
+    requires placed { ArePlaced means.now.psks (keyed state.now) 0 placed.now }
+    requires secrets { count_by is_psk (tokens_of placed.now) ≤ length secrets.now }
+    requires nonces { nonce_now state.now + length (tokens_of placed.now) < 2 ^ 64 - 1 }
+    requires known { IsTrue (are_known means.now.role (is_some known.now.e) (is_some known.now.s) (tokens_of placed.now)) }
+    requires within { k ≤ length placed.now }
+    requires few { length placed.now ≤ 10 }
+    ensures { (r : History) → StateStands state.now r
+        → let v : Reader = record { role = means.now.role; psks = means.now.psks; agree = K.agreement means.now.keys.now } in
+        let tokens : List Token = tokens_of placed.now in MatchResult result
+        (λ s. LeadsBefore v known.now secrets.now r tokens message.now k s)
+        (λ stop. (stop.token < k) × Stops v known.now secrets.now r tokens message.now stop.token stop.cause × MatchOption stop.want
+        ((j : ℕ) → Stops v known.now secrets.now r tokens message.now j Agreement → ⊥)
+        (λ want. StopsFor v known.now secrets.now r tokens message.now want.0 want.1)) }
+{
+    let mut trial = state.for_trial();
+    let mut learned = *known;
+    match read_tokens(
+        &mut trial,
+        &mut learned,
+        means,
+        secrets,
+        &placed[..k],
+        message,
+    ) {
+        Ok(_) => Ok(learned.s),
+        Err((token, cause)) => Err(Stop {
+            token: token as u8,
+            cause,
+            want: lacked(means.role, &learned, placed, token, cause),
+        }),
     }
 }
 

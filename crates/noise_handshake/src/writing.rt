@@ -232,6 +232,31 @@ pub(crate) fn write_lacking<K: Keys>(
     }
 }
 
+// The first DH without an answer among the tokens before token k, if there is one: of which key pair it is, and to which remote key.
+pub(crate) fn write_lacking_before<K: Keys>(
+    known: &Remote,
+    means: &Means<K>,
+    secrets: &[[u8; 32]],
+    placed: &[PlacedToken],
+    k: usize,
+) -> Option<(Own, [u8; 32])>
+    requires secrets { count_by is_psk (tokens_of placed.now) ≤ length secrets.now }
+    requires own { IsTrue (list_all (has_own (K.public_of means.now.keys.now)) (tokens_of placed.now)) }
+    requires known { IsTrue (list_all (is_known means.now.role (is_some known.now.e) (is_some known.now.s)) (tokens_of placed.now)) }
+    requires within { k ≤ length placed.now }
+    ensures { let w : Writer = record {
+      role = means.now.role;
+      psks = means.now.psks;
+      own = K.public_of means.now.keys.now;
+      agree = K.agreement means.now.keys.now;
+    } in
+        MatchOption result
+        ((j : ℕ) → LacksAt w known.now secrets.now (take k (tokens_of placed.now)) j → ⊥)
+        (λ want. LacksFor w known.now secrets.now (take k (tokens_of placed.now)) want.0 want.1) }
+{
+    write_lacking(known, means, secrets, &placed[..k])
+}
+
 // Writes a message to the front of a buffer, and returns how long it is, or which token is the first DH without an answer.
 // What the buffer and the state hold is open in that case.
 pub(crate) fn write_message<K: Keys>(

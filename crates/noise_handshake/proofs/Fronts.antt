@@ -1,0 +1,118 @@
+-- The first tokens of a message.
+use Rattle.std.proofs.Common.{◌≡◌, ℕ, zero, suc, ◌+◌, ◌<◌, ◌≤◌, List, [], ◌∷◌, ◌++◌, length, take, drop, refl, ap, sym, subst, ◌∙◌, arith, take-take, length-take}
+use Rattle.std.proofs.lemmas.List.{take-append-drop}
+use Rattle.std.proofs.Common.{append_assoc}
+use Rattle.std.specs.Prelude.{Bool, true, false, ◌&&◌, is_some, count_by}
+use Rattle.std.specs.List.{list_all}
+use Rattle.noise_names.specs.declared.token.Token.{Token}
+use Rattle.noise_names.specs.declared.token.Token.TheVariants.{E, S, Ee, Es, Se, Ss, Psk}
+use Rattle.noise_names.specs.declared.token.Role.{Role}
+use Rattle.noise_state.specs.History.{History, cipher_key}
+use Rattle.noise_keys.specs.declared.keys.Own.{Own}
+use Rattle.noise_handshake.specs.declared.remote.Remote.{Remote}
+use Rattle.noise_handshake.specs.declared.faults.Cause.{Cause}
+use Rattle.noise_handshake.specs.declared.layout.PlacedToken.{PlacedToken}
+use Rattle.noise_handshake.specs.Length.{keyed_after}
+use Rattle.noise_handshake.specs.Line.{after_front}
+use Rattle.noise_handshake.specs.View.{Reader, Leads, Reaches, Stops, cause_at, learned}
+use Rattle.noise_handshake.specs.Wanting.{LacksFor}
+use Rattle.noise_handshake.specs.Writing.{Writer, Given, LacksAt}
+use Rattle.noise_handshake.specs.inner.Known.{are_known, is_known, e_after, s_after}
+use Rattle.noise_handshake.specs.inner.Layout.{tokens_of, ArePlaced}
+use Rattle.noise_handshake.specs.inner.Listening.{StopsKnowing}
+
+pub tokens-take : (ps : List PlacedToken) (k : ℕ) → tokens_of (take k ps) ≡ take k (tokens_of ps)
+tokens-take ps zero = refl
+tokens-take [] (suc k) = refl
+tokens-take (p ∷ ps) (suc k) = ap (λ (us : List Token). p.token ∷ us) (tokens-take ps k)
+
+pub placed-take : (psks keyed : Bool) (place : ℕ) (ps : List PlacedToken) (k : ℕ) → ArePlaced psks keyed place ps → ArePlaced psks keyed place (take k ps)
+placed-take psks keyed place ps zero a = tt
+placed-take psks keyed place [] (suc k) a = tt
+placed-take psks keyed place (p ∷ ps) (suc k) a = (a.0, a.1, placed-take psks (keyed_after psks keyed p.token) (place + p.width) ps k a.2)
+
+left-true : (a b : Bool) → (a && b) ≡ true → a ≡ true
+left-true true b h = refl
+left-true false b h = cc
+
+right-true : (a b : Bool) → (a && b) ≡ true → b ≡ true
+right-true true b h = h
+right-true false b h = cc
+
+both-true : (a b : Bool) → a ≡ true → b ≡ true → (a && b) ≡ true
+both-true true true g h = refl
+both-true true false g h = cc
+both-true false b g h = cc
+
+pub known-take : (role : Role) (e s : Bool) (ts : List Token) (k : ℕ) → are_known role e s ts ≡ true → are_known role e s (take k ts) ≡ true
+known-take role e s ts zero h = refl
+known-take role e s [] (suc k) h = refl
+known-take role e s (t ∷ ts) (suc k) h =
+    both-true (is_known role e s t) (are_known role (e_after e t) (s_after s t) (take k ts))
+    (left-true (is_known role e s t) (are_known role (e_after e t) (s_after s t) ts) h)
+    (known-take role (e_after e t) (s_after s t) ts k (right-true (is_known role e s t) (are_known role (e_after e t) (s_after s t) ts) h))
+
+pub all-take : (p : Token → Bool) (ts : List Token) (k : ℕ) → list_all p ts ≡ true → list_all p (take k ts) ≡ true
+all-take p ts zero h = refl
+all-take p [] (suc k) h = refl
+all-take p (t ∷ ts) (suc k) h =
+    both-true (p t) (list_all p (take k ts)) (left-true (p t) (list_all p ts) h) (all-take p ts k (right-true (p t) (list_all p ts) h))
+
+-- why reading stops at one of the first tokens
+cause-take : (keyed : Bool) (ts : List Token) (k j : ℕ) (rest : List ℕ) → j < k → j < length ts → cause_at keyed (take k ts) j rest ≡ cause_at keyed ts j rest
+cause-take keyed [] k j rest h w = absurd (omega (arith, w))
+cause-take keyed (t ∷ ts) zero j rest h w = absurd (omega (arith, h))
+cause-take keyed (t ∷ ts) (suc k) zero rest h w = refl
+cause-take keyed (t ∷ ts) (suc k) (suc j) rest h w = cause-take keyed ts k j rest (omega (arith, h)) (omega (arith, w))
+
+pub stops-all : (v : Reader) (known : Remote) (s : List (List ℕ)) (r : History) (ts : List Token) (m : List ℕ) (k j : ℕ) (cause : Cause) (here : Remote)
+    → j < length (take k ts) → StopsKnowing v known s r (take k ts) m j cause here → StopsKnowing v known s r ts m j cause here
+stops-all v known s r ts m k j cause here h (stop, knows) =
+    let less : j < k = omega (arith, h, length-take k ts) in
+    let within : j < length ts = omega (arith, h, length-take k ts) in
+    let first : take j (take k ts) ≡ take j ts = take-take j k ts (omega (arith, less)) in
+    let next : take (suc j) (take k ts) ≡ take (suc j) ts = take-take (suc j) k ts (omega (arith, less)) in (
+      record {
+        within = omega (arith, within);
+        carried = stop.carried;
+        rest = stop.rest;
+        leads = subst (λ (us : List Token). Leads v known s r us stop.carried m stop.rest) first stop.leads;
+        further = λ _ reaches. stop.further h (subst (λ (us : List Token). Reaches v known s r us m) (sym next) reaches);
+        unread = λ e. absurd (omega (arith, e, within));
+        why = stop.why ∙ cause-take (is_some (cipher_key (after_front v.psks r (take j (take k ts)) stop.carried))) ts k j stop.rest less within
+            ∙ ap (λ (us : List Token). cause_at (is_some (cipher_key (after_front v.psks r us stop.carried))) ts j stop.rest) first;
+      },
+      knows ∙ ap (λ (us : List Token). learned known us stop.carried) first,
+    )
+
+-- what the first tokens lack
+pub lacks-all : (w : Writer) (known : Remote) (s : List (List ℕ)) (ts : List Token) (k j : ℕ) → LacksAt w known s (take k ts) j → LacksAt w known s ts j
+lacks-all w known s ts k j l =
+    let less : j < k = omega (arith, l.within, length-take k ts) in
+    record {
+      within = omega (arith, l.within, length-take k ts);
+      before = l.before;
+      given = subst (λ (us : List Token). Given w known s us l.before) (take-take j k ts (omega (arith, less))) l.given;
+      none = λ xs g. l.none xs (subst (λ (us : List Token). Given w known s us xs) (sym (take-take (suc j) k ts (omega (arith, less)))) g);
+    }
+
+pub lacks-first : (w : Writer) (known : Remote) (s : List (List ℕ)) (ts : List Token) (k j : ℕ) → j < k → LacksAt w known s ts j
+    → LacksAt w known s (take k ts) j
+lacks-first w known s ts k j less l = record {
+  within = omega (arith, less, l.within, length-take k ts);
+  before = l.before;
+  given = subst (λ (us : List Token). Given w known s us l.before) (sym (take-take j k ts (omega (arith, less)))) l.given;
+  none = λ xs g. l.none xs (subst (λ (us : List Token). Given w known s us xs) (take-take (suc j) k ts (omega (arith, less))) g);
+}
+
+pub lacks-for-all : (w : Writer) (known : Remote) (s : List (List ℕ)) (ts : List Token) (k : ℕ) (own : Own) (key : List ℕ)
+    → LacksFor w known s (take k ts) own key → LacksFor w known s ts own key
+lacks-for-all w known s ts k own key l = record {
+  before = l.before;
+  token = l.token;
+  later = l.later ++ drop k ts;
+  tokens = sym (take-append-drop k ts) ∙ ap (λ (us : List Token). us ++ drop k ts) l.tokens ∙ append_assoc l.before (l.token ∷ l.later) (drop k ts);
+  lacks = lacks-all w known s ts k (length l.before) l.lacks;
+  own_is = l.own_is;
+  key_is = l.key_is;
+}

@@ -1,0 +1,47 @@
+-- The place of a psk token among tokens.
+use Rattle.std.proofs.Common.{◌≡◌, ℕ, zero, suc, ◌+◌, ◌-◌, ◌<◌, ◌≤◌, List, [], ◌∷◌, ◌++◌, length, take, drop, refl, ap, sym, subst, ◌∙◌, arith, length-take}
+use Rattle.std.proofs.Math.Seq.{take-append_seam}
+use Rattle.std.specs.Prelude.{Bool, count_by}
+use Rattle.noise_names.specs.declared.token.Token.{Token}
+use Rattle.noise_names.specs.declared.token.Token.TheVariants.{E, S, Ee, Es, Se, Ss, Psk}
+use Rattle.noise_names.specs.Tokens.{is_psk}
+use Rattle.noise_handshake.specs.inner.Late.{IsPskAfter}
+use Rattle.noise_handshake.proofs.Later.{one-more, count-take, count-less}
+use Rattle.noise_handshake.proofs.Wanted.{take-through}
+
+count-one : (before : List Token) → count_by is_psk (before ++ Psk ∷ []) ≡ suc (count_by is_psk before)
+count-one [] = refl
+count-one (E ∷ before) = count-one before
+count-one (S ∷ before) = count-one before
+count-one (Ee ∷ before) = count-one before
+count-one (Es ∷ before) = count-one before
+count-one (Se ∷ before) = count-one before
+count-one (Ss ∷ before) = count-one before
+count-one (Psk ∷ before) = one-more (before ++ Psk ∷ []) ∙ ap suc (count-one before ∙ sym (one-more before))
+
+-- as far as a psk token there is one more
+pub count-through : (ts before later : List Token) → ts ≡ before ++ Psk ∷ later → count_by is_psk (take (suc (length before)) ts) ≡ suc (count_by is_psk before)
+count-through ts before later e =
+    ap (λ (us : List Token). count_by is_psk (take (suc (length before)) us)) e ∙ ap (count_by is_psk) (take-through before later Psk) ∙ count-one before
+
+-- where there are few psk tokens none comes after so many others
+pub no-psk : (ts before later : List Token) (n : ℕ) → count_by is_psk ts ≤ n → ts ≡ before ++ Psk ∷ later → count_by is_psk before ≡ n → ⊥
+no-psk ts before later n few e c = omega (arith, few, c, count-through ts before later e, count-take ts (suc (length before)))
+
+same-length : (a b : ℕ) → (a < b → ⊥) → (b < a → ⊥) → a ≡ b
+same-length a b f g = grind arith
+
+-- one alone comes after so many others
+pub psk-place : (ts before later : List Token) (n k : ℕ) → IsPskAfter ts n k → ts ≡ before ++ Psk ∷ later → count_by is_psk before ≡ n
+    → before ≡ take k ts
+psk-place ts before later n k a e c =
+    let here : length (take k ts) ≡ k = omega (arith, length-take k ts, a.within) in
+    let mine : count_by is_psk (take (suc k) ts) ≡ suc n =
+    ap (λ (j : ℕ). count_by is_psk (take (suc j) ts)) (sym here) ∙ count-through ts (take k ts) (drop (suc k) ts) a.tokens ∙ ap suc a.count in
+    let theirs : count_by is_psk (take (suc (length before)) ts) ≡ suc n = count-through ts before later e ∙ ap suc c in
+    let seam : take (length before) ts ≡ before = ap (take (length before)) e ∙ take-append_seam before (Psk ∷ later) in
+    let count : count_by is_psk (take (length before) ts) ≡ n = ap (count_by is_psk) seam ∙ c in
+    let same : length before ≡ k = same-length (length before) k
+    (λ h. omega (arith, theirs, a.count, count-less ts (suc (length before)) k (omega (arith, h))))
+    (λ h. omega (arith, mine, count, count-less ts (suc k) (length before) (omega (arith, h)))) in
+    sym seam ∙ ap (λ (j : ℕ). take j ts) same

@@ -1,0 +1,91 @@
+-- Why a payload isn't written, whatever the keys agree on.
+use Rattle.std.proofs.Common.{◌≡◌, ℕ, ◌+◌, ◌<◌, ◌≤◌, List, Bool, true, false, length, refl, ap, sym, subst, ◌∙◌, arith, not}
+use Rattle.std.proofs.lemmas.Bool.Decides.{nat_tests}
+use Rattle.std.specs.Prelude.{Option, None, Some, IfSome, nat_lt, ◌==◌, if◌then◌else◌}
+use Rattle.noise_names.specs.declared.token.Role.{Role}
+use Rattle.noise_names.specs.declared.token.Role.TheVariants.{Initiator, Responder}
+use Rattle.noise_names.specs.Tokens.{other, same_role, turn_from}
+use Rattle.noise_names.specs.Plan.{Plan}
+use Rattle.noise_names.specs.Overhead.{overhead_of}
+use Rattle.noise_keys.specs.declared.keys.Own.{Own}
+use Rattle.noise_handshake.specs.declared.faults.WriteFault.{WriteFault}
+use Rattle.noise_handshake.specs.declared.faults.WriteFault.TheVariants as write
+use Rattle.noise_handshake.specs.Held.{Held, is_turn, length_now, write_fault}
+use Rattle.noise_handshake.specs.Party.{Stands, Withholds}
+use Rattle.noise_handshake.specs.View.{View}
+
+-- what a fault says of the tests, and none
+abbrev Said : (ended all ours long : Bool) → Option WriteFault → Type 0
+Said ended all ours long None = Unit {0}
+Said ended all ours long (Some write.Ended) = ended ≡ true
+Said ended all ours long (Some write.Done) = (ended ≡ false) × (all ≡ true)
+Said ended all ours long (Some write.NotYourTurn) = (ended ≡ false) × (all ≡ false) × (ours ≡ false)
+Said ended all ours long (Some write.TooLong) = (ended ≡ false) × (all ≡ false) × (ours ≡ true) × (long ≡ true)
+Said ended all ours long (Some (write.Agreement token)) = ⊥
+
+said : (ended all ours long : Bool) → Said ended all ours long
+    (if ended then Some write.Ended else if all then Some write.Done else if not ours then Some write.NotYourTurn
+    else if long then Some write.TooLong else None)
+said true all ours long = refl
+said false true ours long = (refl, refl)
+said false false false long = (refl, refl, refl)
+said false false true true = (refl, refl, refl, refl)
+said false false true false = tt
+
+same-role : (a b : Role) → same_role a b ≡ true → a ≡ b
+same-role Initiator Initiator e = refl
+same-role Initiator Responder e = absurd (cc)
+same-role Responder Initiator e = absurd (cc)
+same-role Responder Responder e = refl
+
+other-role : (a b : Role) → same_role a b ≡ false → a ≡ other b
+other-role Initiator Initiator e = absurd (cc)
+other-role Initiator Responder e = refl
+other-role Responder Initiator e = refl
+other-role Responder Responder e = absurd (cc)
+
+module _ {K : Type 0} (public_of : K → Own → Option (List ℕ)) (agreement : K → Own → List ℕ → Option (List ℕ)) (h : Held K) (v : View)
+    (s : Stands public_of agreement h v) (within : h.passed ≤ length h.pattern.messages) (payload : ℕ) where
+  more : (h.passed == length h.pattern.messages) ≡ false → v.passed < length v.pattern.messages
+  more e =
+      let less : h.passed < length h.pattern.messages = grind (arith, nat_tests) in
+      subst (λ (k : ℕ). k < length v.pattern.messages) s.passed (subst (λ (p : Plan). h.passed < length p.messages) s.pattern less)
+
+  whole : (h.passed == length h.pattern.messages) ≡ true → v.passed ≡ length v.pattern.messages
+  whole e =
+      let same : h.passed ≡ length h.pattern.messages = grind (arith, nat_tests) in
+      sym s.passed ∙ same ∙ ap (λ (p : Plan). length p.messages) s.pattern
+
+  turn : (b : Bool) → is_turn h.role h.passed ≡ b → same_role (turn_from Initiator v.passed) v.role ≡ b
+  turn b e =
+      ap (λ (k : ℕ). same_role (turn_from Initiator k) v.role) (sym s.passed)
+      ∙ ap (λ (r : Role). same_role (turn_from Initiator h.passed) r) (sym s.role) ∙ e
+
+  long : nat_lt 65535 (length_now h payload) ≡ true → 65535 < overhead_of v.pattern (v.passed + 1) + payload
+  long e =
+      let here : 65535 < overhead_of h.pattern (h.passed + 1) + payload = grind (arith, nat_tests) in
+      subst (λ (k : ℕ). 65535 < overhead_of v.pattern (k + 1) + payload) s.passed
+      (subst (λ (p : Plan). 65535 < overhead_of p (h.passed + 1) + payload) s.pattern here)
+
+  withheld-by : (f : WriteFault)
+      → Said h.ended (h.passed == length h.pattern.messages) (is_turn h.role h.passed) (nat_lt 65535 (length_now h payload)) (Some f)
+      → Withholds v payload f
+  withheld-by write.Ended t = sym s.ended ∙ t
+  withheld-by write.Done t = (sym s.ended ∙ t.0, whole t.1)
+  withheld-by write.NotYourTurn t =
+      record { going = sym s.ended ∙ t.0; more = more t.1; turn = other-role (turn_from Initiator v.passed) v.role (turn false t.2) }
+  withheld-by write.TooLong t = (
+    record { going = sym s.ended ∙ t.0; more = more t.1; turn = same-role (turn_from Initiator v.passed) v.role (turn true t.2) },
+    long t.3,
+  )
+  withheld-by (write.Agreement token) t = absurd t
+
+  pub withholds-of : (f : WriteFault) → write_fault h payload ≡ Some f → Withholds v payload f
+  withholds-of f e =
+      withheld-by f
+      (subst (Said h.ended (h.passed == length h.pattern.messages) (is_turn h.role h.passed) (nat_lt 65535 (length_now h payload))) e
+      (said h.ended (h.passed == length h.pattern.messages) (is_turn h.role h.passed) (nat_lt 65535 (length_now h payload))))
+
+  pub withholds-all : (o : Option WriteFault) → o ≡ write_fault h payload → IfSome o (λ f. Withholds v payload f)
+  withholds-all None e = tt
+  withholds-all (Some f) e = withholds-of f (sym e)

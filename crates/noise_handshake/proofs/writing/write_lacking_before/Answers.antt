@@ -1,0 +1,42 @@
+use Rattle.std.proofs.Common.{◌≡◌, ◌<◌, ◌≤◌, ℕ, List, length, take, true, sym, ap, subst, arith}
+use Rattle.std.specs.Prelude.{Option, None, Some, MatchOption, count_by, is_some}
+use Rattle.std.specs.List.{list_all}
+use Rattle.noise_names.specs.declared.token.Token.{Token}
+use Rattle.noise_names.specs.Tokens.{is_psk}
+use Rattle.noise_keys.specs.declared.keys.Own.{Own}
+use Rattle.noise_handshake.specs.declared.remote.Remote.{Remote}
+use Rattle.noise_handshake.specs.Wanting.{LacksFor}
+use Rattle.noise_handshake.specs.Writing.{Writer, LacksAt}
+use Rattle.noise_handshake.specs.inner.Known.{is_known}
+use Rattle.noise_handshake.specs.inner.Layout.{tokens_of}
+use Rattle.noise_handshake.specs.inner.Speaking.{has_own}
+use Rattle.noise_handshake.proofs.Fronts.{tokens-take, all-take}
+use Rattle.noise_handshake.proofs.Later.{count-take}
+use Rattle.noise_handshake.proofs.writing.write_lacking_before.Goals as goal
+
+pub write_lacking-requires-clause-secrets : goal.write_lacking-requires-clause-secrets
+write_lacking-requires-clause-secrets g c =
+    omega (arith, c.requires.secrets, ap (count_by is_psk) (tokens-take c.args.placed.now c.args.k), count-take (tokens_of c.args.placed.now) c.args.k)
+
+pub write_lacking-requires-clause-own : goal.write_lacking-requires-clause-own
+write_lacking-requires-clause-own g c =
+    subst (λ (us : List Token). list_all (has_own (g.K.Keys.public_of c.args.means.now.keys.now)) us ≡ true) (sym (tokens-take c.args.placed.now c.args.k))
+    (all-take (has_own (g.K.Keys.public_of c.args.means.now.keys.now)) (tokens_of c.args.placed.now) c.args.k c.requires.own)
+
+pub write_lacking-requires-clause-known : goal.write_lacking-requires-clause-known
+write_lacking-requires-clause-known g c =
+    subst (λ (us : List Token). list_all (is_known c.args.means.now.role (is_some c.args.known.now.e) (is_some c.args.known.now.s)) us ≡ true)
+    (sym (tokens-take c.args.placed.now c.args.k))
+    (all-take (is_known c.args.means.now.role (is_some c.args.known.now.e) (is_some c.args.known.now.s)) (tokens_of c.args.placed.now) c.args.k
+    c.requires.known)
+
+pub returns : goal.returns
+returns g c =
+    let w : Writer = record {
+      role = c.args.means.now.role;
+      psks = c.args.means.now.psks;
+      own = g.K.Keys.public_of c.args.means.now.keys.now;
+      agree = g.K.Keys.agreement c.args.means.now.keys.now;
+    } in
+    subst (λ (us : List Token). MatchOption c.write_lacking.result ((j : ℕ) → LacksAt w c.args.known.now c.args.secrets.now us j → ⊥)
+    (λ want. LacksFor w c.args.known.now c.args.secrets.now us want.0 want.1)) (tokens-take c.args.placed.now c.args.k) c.write_lacking.ensures

@@ -1,0 +1,362 @@
+//! A handshake that may start with fewer secrets than its pattern has psk tokens.
+#![tactic(auto)]
+
+ghost use Rattle.std.specs.Prelude.{◌≡◌, ◌≤◌, ◌<◌, ◌↔◌, ◌∷◌, ◌++◌, [], ℕ, List, length, take, drop, slice_range, true, false, None, Some};
+ghost use Rattle.std.specs.Prelude.{IsOk, IfOk, IfErr, OnErr, MatchResult, MatchOption, IsSome, IfSome, IsTrue, not, ◌&&◌, ◌==◌, count_by, Option};
+ghost use Rattle.std.specs.Option.{ForSome};
+
+use crate::setup::psk_total;
+use crate::{
+    Handshake, Keys, LateUnread, LateUnwritten, Opened, Parts, Progress, Remote, SetupFault,
+    Unread, Want,
+};
+use noise_names::{Role, ValidPattern};
+use std::marker::Model;
+
+/// One party of a handshake as `Handshake` is, which may start with fewer secrets than the pattern has psk tokens (Noise, 9): reading
+/// and writing ask for the others when their tokens come, and `put_secret` hands them in. So a responder can choose the secret when it
+/// knows the other party.
+///
+/// It runs as a handshake that had all secrets from the start: what its calls do holds for each view whose secrets begin with those that
+/// were handed in. No message is read or written whose psk tokens lack a secret.
+#[derive(Drop)]
+pub struct LateHandshake<K: Keys> {
+    // It has zeros in place of the secrets that lack, the last ones. No call mixes them.
+    filled: Handshake<K>,
+    lacking: usize,
+}
+
+impl<K: Keys> Model for LateHandshake<K> {
+    ghost use Rattle.std.specs.Prelude.{◌≤◌, length};
+    ghost use Rattle.noise_handshake.specs.Held.{Held};
+    ghost use Rattle.noise_handshake.specs.inner.Late.{without_last};
+
+    ghost Value = { Held K };
+
+    ghost view = { λ a. without_last a.lacking a.filled };
+
+    ghost invariant = { λ a. a.lacking ≤ length a.filled.secrets };
+}
+
+// The secrets, and zeros after them.
+fn filled(secrets: &[[u8; 32]]) -> [[u8; 32]; 9]
+    requires { length secrets.now ≤ 9 }
+    ensures kept { take (length secrets.now) result ≡ secrets.now }
+    ensures count { length result ≡ 9 }
+{
+    let mut all = [[0; 32]; 9];
+    all[..secrets.len()].copy_from_slice(secrets);
+    all
+}
+
+impl<K: Keys> LateHandshake<K> {
+    ghost use Rattle.noise_names.specs.Limits.{IsPattern};
+    ghost use Rattle.noise_names.specs.Validity.{IsValid};
+    ghost use Rattle.noise_state.specs.History.{hash};
+    ghost use Rattle.noise_names.specs.Tokens.{is_psk};
+    ghost use Rattle.noise_handshake.specs.View.{View, Accepts, tokens_at};
+    ghost use Rattle.noise_handshake.specs.Held.{is_turn, read_fault, write_fault, message_len_of, Advances};
+    ghost use Rattle.noise_handshake.specs.Opening.{Opens};
+    ghost use Rattle.noise_handshake.specs.Parts.{held_of, HasProgress};
+    ghost use Rattle.noise_handshake.specs.Party.{Stands, after_message, after_own};
+    ghost use Rattle.noise_handshake.specs.Setup.{begun, secrets_of};
+    ghost use Rattle.noise_handshake.specs.Writing.{Writes, Lacks};
+    ghost use Rattle.noise_handshake.specs.Late.{with_later, late_fault, IsLateWhole, WantsSecretToRead, WantsSecretToWrite, WantsLate, LeavesLateUnread};
+    ghost use Rattle.noise_handshake.specs.Late.{LeavesLateUnwritten, after_late_unread, after_late_declined, after_late_unwritten, IsLateOfDue, IsLateOfTurn, IsLateWant};
+
+    /// The handshake of one party before its first message, as `Handshake::new` makes it; `psks` has the secrets of the first psk tokens,
+    /// in their order, and may have fewer than there are psk tokens. At an `Err` what was handed in is gone.
+    pub fn new(
+        pattern: ValidPattern,
+        role: Role,
+        prologue: &[u8],
+        keys: K,
+        remote: Remote,
+        psks: &[[u8; 32]],
+    ) -> Result<LateHandshake<K>, SetupFault>
+        requires { length prologue.now ≤ 65535 }
+        ensures fault { MatchOption (late_fault pattern role (K.public_of keys) remote (length psks.now)) (IsOk result) (λ fault. result ≡ Err fault) }
+        ensures stands { IfOk result (λ h. (later : List (List ℕ)) → Stands K.public_of K.agreement (with_later h later)
+            (begun pattern role prologue.now (K.public_of keys) (K.agreement keys) remote (psks.now ++ later))) }
+        ensures parts { IfOk result (λ h. (h.pattern ≡ pattern) × (h.role ≡ role) × (h.keys ≡ keys) × (h.passed ≡ 0) × (h.ended ≡ false)) }
+        ensures secrets { IfOk result (λ h. h.secrets ≡ psks.now) }
+        ensures valid { IsPattern pattern × IsValid pattern }
+    {
+        let total = psk_total(pattern.pattern().messages());
+        if psks.len() >= total {
+            let filled = match Handshake::new(pattern, role, prologue, keys, remote, psks) {
+                Ok(filled) => filled,
+                Err(fault) => return Err(fault),
+            };
+            return Ok(LateHandshake { filled, lacking: 0 });
+        }
+        let all = filled(psks);
+        let lacking = total - psks.len();
+        let filled = match Handshake::new(pattern, role, prologue, keys, remote, &all[..total]) {
+            Ok(filled) => filled,
+            Err(fault) => return Err(fault),
+        };
+        Ok(LateHandshake { filled, lacking })
+    }
+
+    /// The secrets that were handed in for psk tokens that are still to come, in their order.
+    pub fn secrets(&self) -> &[[u8; 32]]
+        ensures same { result.now ≡ self.now.secrets }
+        ensures few { length result.now ≤ 9 }
+    {
+        let secrets = self.filled.secrets();
+        &secrets[..secrets.len() - self.lacking]
+    }
+
+    /// Hands in the secret of the first psk token that lacks one. False where none does; then nothing changes.
+    pub fn put_secret(&mut self, secret: [u8; 32]) -> bool
+        ensures lacks { IsTrue result ↔ (length self.old.secrets < secrets_of (drop self.old.passed self.old.pattern.messages)) }
+        ensures put { IsTrue result → self.new ≡ with_later self.old (secret ∷ []) }
+        ensures same { result ≡ false → self.new ≡ self.old }
+        ensures stands { IsTrue result → (v : View) (later : List (List ℕ)) → Stands K.public_of K.agreement (with_later self.old (secret ∷ later)) v
+            → Stands K.public_of K.agreement (with_later self.new later) v }
+    {
+        let left = self.filled.left();
+        if self.lacking == 0 {
+            return false;
+        }
+        self.filled.replace_secret(left - self.lacking, secret);
+        self.lacking -= 1;
+        true
+    }
+
+    /// A copy of what messages have changed so far, the secrets aside, as `Handshake::progress` makes it.
+    pub fn progress(&self) -> Progress
+        ensures same { HasProgress self.now result }
+        ensures whole { IsLateWhole K.public_of self.now }
+        ensures valid { IsValid self.now.pattern }
+    {
+        self.filled.progress()
+    }
+
+    /// The handshake that holds these parts, and these secrets for the first psk tokens that are still to come, in their order; or None
+    /// for what no handshake holds. Else it is as `Handshake::from_parts`.
+    pub fn from_parts(parts: Parts<K>, secrets: &[[u8; 32]]) -> Option<LateHandshake<K>>
+        ensures whole { IsSome result ↔ IsLateWhole K.public_of (held_of parts secrets.now) }
+        ensures same { IfSome result (λ h. h ≡ held_of parts secrets.now) }
+    {
+        let total = parts.due()?;
+        if secrets.len() > total {
+            return None;
+        }
+        let all = filled(secrets);
+        let filled = Handshake::from_parts(parts, &all[..total])?;
+        Some(LateHandshake {
+            filled,
+            lacking: total - secrets.len(),
+        })
+    }
+
+    /// The handshake, once no psk token lacks its secret; else it comes back as it was.
+    pub fn into_handshake(self) -> Result<Handshake<K>, LateHandshake<K>>
+        ensures when { IsOk result ↔ (length self.secrets ≡ secrets_of (drop self.passed self.pattern.messages)) }
+        ensures same { MatchResult result (λ h. h ≡ self) (λ h. h ≡ self) }
+    {
+        let _ = self.filled.left();
+        if self.lacking == 0 {
+            Ok(self.filled)
+        } else {
+            Err(self)
+        }
+    }
+
+    /// The pattern, with the tokens of its messages.
+    pub fn pattern(&self) -> &ValidPattern
+        ensures same { result.now ≡ self.now.pattern }
+        ensures valid { IsValid self.now.pattern }
+        ensures limits { IsPattern self.now.pattern }
+    {
+        self.filled.pattern()
+    }
+
+    /// How many messages have passed, of both parties together, also after the handshake has ended.
+    pub fn done(&self) -> u8
+        ensures count { result ≡ self.now.passed }
+        ensures within { self.now.passed ≤ length self.now.pattern.messages }
+    {
+        self.filled.done()
+    }
+
+    /// Whether it has ended: a message was refused, or had no answer. It then neither reads nor writes any more.
+    pub fn ended(&self) -> bool
+        ensures { result ≡ self.now.ended }
+    {
+        self.filled.ended()
+    }
+
+    /// Whether this party writes the next message, if there is one.
+    pub fn writes_next(&self) -> bool
+        ensures { result ≡ is_turn self.now.role self.now.passed }
+    {
+        self.filled.writes_next()
+    }
+
+    /// The other party's static public key, 32 bytes, as far as its pre-message and the messages that passed tell it.
+    pub fn remote_static(&self) -> Option<[u8; 32]>
+        ensures { result ≡ self.now.remote.s }
+    {
+        self.filled.remote_static()
+    }
+
+    /// The handshake hash (Noise, 11.2), 32 bytes, of the start and the messages that passed.
+    pub fn hash(&self) -> [u8; 32]
+        ensures { (v : View) (later : List (List ℕ)) → Stands K.public_of K.agreement (with_later self.now later) v → result ≡ hash v.history }
+    {
+        self.filled.hash()
+    }
+
+    /// The length of the message that would be written for a payload of this length, both in bytes. None where it would be refused
+    /// before any DH.
+    pub fn message_len(&self, payload_len: usize) -> Option<usize>
+        ensures { result ≡ message_len_of self.now payload_len }
+    {
+        self.filled.message_len(payload_len)
+    }
+
+    // How many secrets were handed in for psk tokens that are still to come.
+    fn given(&self) -> usize
+        ensures count { result ≡ length self.now.secrets }
+        ensures within { self.now.passed ≤ length self.now.pattern.messages }
+    {
+        self.filled.left() - self.lacking
+    }
+
+    /// Reads a message in place, and returns from where to where its payload then is in it, as `Handshake::read_within` does; but
+    /// where reading lacks a DH answer or a secret, this returns which, and changes nothing.
+    ///
+    /// The message has at most 65535 bytes. At an `Err` its bytes are unchanged. `Declined` with `Refused` ends the handshake, and
+    /// everything else leaves it as it was: hand in what is wanted, and read the message again.
+    pub fn read_or_ask(&mut self, message: &mut [u8]) -> Result<(usize, usize), LateUnread>
+        requires { length message.old ≤ 65535 }
+        ensures range { IfOk result (λ place. (place.0 ≤ place.1) × (place.1 ≤ length message.new)) }
+        ensures beyond { IfOk result (λ place.
+            (take place.0 message.new ≡ take place.0 message.old) × (drop place.1 message.new ≡ drop place.1 message.old)) }
+        ensures unchanged { OnErr result (message.new ≡ message.old) }
+        ensures fault { MatchOption (read_fault self.old) (IfErr result IsLateOfDue) (λ fault. result ≡ Err (LateUnread.Declined fault)) }
+        ensures state { MatchResult result (λ _. Advances self.old self.new) (λ unread. self.new ≡ after_late_unread self.old unread) }
+        ensures reads { (v : View) (later : List (List ℕ)) → Stands K.public_of K.agreement (with_later self.old later) v → MatchResult result
+            (λ place. let payload = slice_range message.new place.0 place.1 in (xs : List (List ℕ)) × Accepts v message.old xs payload
+            × Stands K.public_of K.agreement (with_later self.new later) (after_message v xs payload))
+            (λ unread. LeavesLateUnread v (length self.old.secrets) message.old unread
+            × Stands K.public_of K.agreement (with_later self.new later) (after_late_declined v unread)) }
+        ensures asked { (v : View) (later : List (List ℕ)) → Stands K.public_of K.agreement (with_later self.old later) v → (remote : Option (List ℕ))
+            → WantsSecretToRead v (length self.old.secrets) message.old remote → result ≡ Err (LateUnread.Wants (Want.Secret remote)) }
+    {
+        if let Some(fault) = self.filled.read_fault() {
+            return Err(LateUnread::Declined(fault));
+        }
+        match self.filled.psk_after(self.given()) {
+            None => {
+                let place = match self.filled.read_or_ask(message) {
+                    Ok(place) => place,
+                    Err(Unread::Wanted { own, key }) => {
+                        return Err(LateUnread::Wants(Want::Answer { own, key }));
+                    }
+                    Err(Unread::Declined(fault)) => return Err(LateUnread::Declined(fault)),
+                };
+                let _ = self.filled.left();
+                Ok(place)
+            }
+            Some(k) => match self.filled.read_before(k, message) {
+                Ok(remote) => Err(LateUnread::Wants(Want::Secret { remote })),
+                Err(stop) => match stop.want {
+                    Some(want) => {
+                        let (own, key) = want;
+                        Err(LateUnread::Wants(Want::Answer { own, key }))
+                    }
+                    None => {
+                        self.filled.end();
+                        Err(LateUnread::Declined(stop.fault()))
+                    }
+                },
+            },
+        }
+    }
+
+    /// For want of which DH answer or secret no message would be written now. None where a message is due and lacks neither, and where
+    /// none is due. Nothing changes.
+    pub fn wants_to_write(&self) -> Option<Want>
+        ensures wants { (v : View) (later : List (List ℕ)) → Stands K.public_of K.agreement (with_later self.now later) v → MatchOption result
+            ((token : ℕ) → Lacks v token → ⊥) (λ want. WantsLate v (length self.now.secrets) want) }
+        ensures asked { (v : View) (later : List (List ℕ)) → Stands K.public_of K.agreement (with_later self.now later) v
+            → WantsSecretToWrite v (length self.now.secrets) → result ≡ Some (Want.Secret self.now.remote.s) }
+        ensures few { (not self.now.ended && not (self.now.passed == length self.now.pattern.messages) && is_turn self.now.role self.now.passed) ≡ true
+            → result ≡ None → count_by is_psk (tokens_at self.now.pattern.messages self.now.passed) ≤ length self.now.secrets }
+    {
+        if !self.filled.speaks() {
+            return None;
+        }
+        match self.filled.psk_after(self.given()) {
+            None => match self.filled.wants_to_write() {
+                Some(want) => {
+                    let (own, key) = want;
+                    Some(Want::Answer { own, key })
+                }
+                None => None,
+            },
+            Some(k) => match self.filled.wants_before(k) {
+                Some(want) => {
+                    let (own, key) = want;
+                    Some(Want::Answer { own, key })
+                }
+                None => Some(Want::Secret {
+                    remote: self.filled.remote_static(),
+                }),
+            },
+        }
+    }
+
+    /// Writes a message to the front of `out`, and returns its length in bytes, as `Handshake::write` does; but where writing lacks a DH
+    /// answer or a secret, this returns which, and changes nothing.
+    ///
+    /// Where `message_len` gives a length, `out` holds it. At an `Err` nothing changes: hand in what is wanted, and write again.
+    pub fn write_or_ask(&mut self, payload: &[u8], out: &mut [u8]) -> Result<usize, LateUnwritten>
+        requires { ForSome (message_len_of self.old (length payload.now)) (λ n. n ≤ length out.old) }
+        ensures len { IfOk result (λ n. (message_len_of self.old (length payload.now) ≡ Some n) × (n ≤ length out.new)) }
+        ensures fault { MatchOption (write_fault self.old (length payload.now)) (IfErr result IsLateOfTurn) (λ fault.
+            (result ≡ Err (LateUnwritten.Withheld fault)) × (out.new ≡ out.old)) }
+        ensures state { MatchResult result (λ _. Advances self.old self.new) (λ unwritten. self.new ≡ after_late_unwritten self.old unwritten) }
+        ensures beyond { IfOk result (λ n. drop n out.new ≡ drop n out.old) }
+        ensures asks { IfErr result (λ unwritten. IsLateWant unwritten → out.new ≡ out.old) }
+        ensures writes { (v : View) (later : List (List ℕ)) → Stands K.public_of K.agreement (with_later self.old later) v → MatchResult result
+            (λ n. (xs : List (List ℕ)) × Writes v payload.now xs (take n out.new)
+            × Stands K.public_of K.agreement (with_later self.new later) (after_own v xs payload.now))
+            (λ unwritten. LeavesLateUnwritten v (length self.old.secrets) (length payload.now) unwritten
+            × Stands K.public_of K.agreement (with_later self.new later) v) }
+        ensures asked { write_fault self.old (length payload.now) ≡ None → (v : View) (later : List (List ℕ))
+            → Stands K.public_of K.agreement (with_later self.old later) v → WantsSecretToWrite v (length self.old.secrets)
+            → result ≡ Err (LateUnwritten.Wants (Want.Secret self.old.remote.s)) }
+    {
+        if let Some(fault) = self.filled.withheld(payload.len()) {
+            return Err(LateUnwritten::Withheld(fault));
+        }
+        if let Some(want) = self.wants_to_write() {
+            return Err(LateUnwritten::Wants(want));
+        }
+        let _ = self.filled.left();
+        let len = match self.filled.write(payload, out) {
+            Ok(len) => len,
+            Err(fault) => return Err(LateUnwritten::Withheld(fault)),
+        };
+        let _ = self.filled.left();
+        Ok(len)
+    }
+
+    /// What the handshake leaves once all messages have passed and it hasn't ended; else it comes back as it was.
+    pub fn finish(self) -> Result<Opened, LateHandshake<K>>
+        ensures when { IsOk result ↔ ((self.ended ≡ false) × (self.passed ≡ length self.pattern.messages)) }
+        ensures opened { (v : View) (later : List (List ℕ)) → Stands K.public_of K.agreement (with_later self later) v → IfOk result (λ o. Opens o v) }
+        ensures back { IfErr result (λ h. h ≡ self) }
+    {
+        let lacking = self.lacking;
+        match self.filled.finish() {
+            Ok(opened) => Ok(opened),
+            Err(filled) => Err(LateHandshake { filled, lacking }),
+        }
+    }
+}
