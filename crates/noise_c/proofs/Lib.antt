@@ -2,3 +2,4 @@ pub mod Finished
 pub mod Keeps
 pub mod Named
 pub mod Starts
+pub mod Wants

@@ -1,11 +1,11 @@
-use Rattle.std.proofs.Common.{◌≡◌, ℕ, List, refl, ap, sym, subst, ◌∙◌, arith}
+use Rattle.std.proofs.Common.{◌≡◌, ℕ, List, length, refl, ap, sym, subst, ◌∙◌, arith}
 use Rattle.noise_handshake.specs.declared.faults.Cause.TheVariants.{Short, Tag, Agreement}
 use Rattle.noise_handshake.specs.declared.faults.ReadFault.{ReadFault}
 use Rattle.noise_handshake.specs.declared.faults.ReadFault.TheVariants as read
-use Rattle.noise_handshake.specs.Asking.{LeavesUnread, after_asked}
+use Rattle.noise_handshake.specs.Late.{with_later, LeavesLateUnread, after_late_declined, WantsSecretToRead}
 use Rattle.noise_handshake.specs.Held.{Held, ended_as}
 use Rattle.noise_keys.specs.Table.{Table}
-use Rattle.noise_handshake.specs.declared.faults.Unread.{Unread}
+use Rattle.noise_handshake.specs.declared.late_faults.LateUnread.{LateUnread}
 use Rattle.noise_handshake.specs.Party.{Stands, Declines}
 use Rattle.noise_handshake.specs.View.{View, Refuses}
 use Rattle.noise_c.specs.Codes.{read_code, token_in}
@@ -26,7 +26,7 @@ returns-in-Ok-clause-accepted c e p v k =
     (secrets-left c.args.kept.now c.in-Some.handshake h2 c.in-Ok.ensures.state.taken _ (c.in-Some.ensures.usable.0 refl).secrets
     c.in-Some.ensures.count c.in-Some.ensures.same c.in-Ok.ensures.state.secrets c.secrets.ensures.same) in
     let s = opened old c.keep.new.kept h h2 p v c.in-Some.ensures.one c.in-Some.ensures.same stays c.keep.ensures.text same k in
-    let r = c.in-Ok.ensures.reads v s in
+    let r = c.in-Ok.ensures.reads v k.later s in
     was-read old c.keep.new.kept h h2 p v c.in-Some.ensures.one c.in-Some.ensures.same stays c.keep.ensures.text same k
     c.args.message.now c.read_or_ask.new.message c.in-Ok.start c.in-Ok.end c.in-Ok.ensures.range.0 r.0 r.1 r.2
 
@@ -56,8 +56,8 @@ returns-in-Refused-clause-declined c low high p v k =
     let same : held_in h2.pattern new ≡ h2 = ended-kept old new h h2 refl c.in-Some.ensures.same over in
     let stays : h2.pattern ≡ h.pattern = ap (λ (z : Held Table). z.pattern) over in
     let s = opened old new h h2 p v c.in-Some.ensures.one c.in-Some.ensures.same stays refl same k in
-    let r = subst (λ (z : Unread). LeavesUnread v c.args.message.now z × Stands public_in agreement_in h2 (after_asked v z))
-    c.in-Err-Declined.field-0-is (c.in-Err-Declined.ensures.reads v s) in
+    let r = subst (λ (z : LateUnread). LeavesLateUnread v (length h.secrets) c.args.message.now z × Stands public_in agreement_in (with_later h2 k.later) (after_late_declined v z))
+    c.in-Err-Declined.field-0-is (c.in-Err-Declined.ensures.reads v k.later s) in
     was-declined old new h h2 p v c.in-Some.ensures.one c.in-Some.ensures.same stays refl same k
     c.args.message.now c.in-Err-Declined.fault c.read_code-code.result.0 c.read_code-code.result.1
     (c.read_code-code.ensures.code ∙ ap read_code c.in-Err-Declined.fault-is)
@@ -74,7 +74,7 @@ agreement-of v m (read.Refused token Agreement) e d = (token, d)
 
 pub returns-in-Refused-clause-answered : goal.returns-in-Refused-clause-answered
 returns-in-Refused-clause-answered c e p v k =
-    let r = c.in-Err-Declined.ensures.reads v (stands-for c.args.kept.now c.in-Some.handshake p v c.in-Some.ensures.one c.in-Some.ensures.same k) in
-    let d = subst (λ (u : Unread). LeavesUnread v c.args.message.now u) c.in-Err-Declined.field-0-is r.0 in
+    let r = c.in-Err-Declined.ensures.reads v k.later (stands-for c.args.kept.now c.in-Some.handshake p v c.in-Some.ensures.one c.in-Some.ensures.same k) in
+    let d = subst (λ (u : LateUnread). LeavesLateUnread v (length c.in-Some.handshake.secrets) c.args.message.now u) c.in-Err-Declined.field-0-is r.0 in
     let why = agreement-of v c.args.message.now c.in-Err-Declined.fault (sym (ap read_code c.in-Err-Declined.fault-is) ∙ sym c.read_code-code.ensures.code ∙ e) d.0 in
     d.1 why.0 why.1
