@@ -1,6 +1,6 @@
 //! Reading a vector file: the order of its lines.
 
-ghost use Rattle.std.specs.Prelude.{◌≡◌, ◌<◌, ◌≤◌, ◌^◌, ◌++◌, ◌↔◌, ℕ, List, Option, Some, None, Bool, false, codes, decimal, length, vec_len};
+ghost use Rattle.std.specs.Prelude.{◌≡◌, ◌<◌, ◌≤◌, ◌^◌, ◌+◌, ◌++◌, ◌↔◌, ℕ, List, Option, Some, None, Bool, false, codes, decimal, length, vec_len};
 ghost use Rattle.std.specs.Prelude.{IfErr, IfOk, IfSome, IsFalse, IsOk, IsSome, MatchResult, OnOk};
 ghost use Rattle.std.specs.Bool.{nat_eq};
 ghost use Rattle.std.specs.List.{All, starts_with};
@@ -10,6 +10,7 @@ ghost use Rattle.noise_names.specs.Fundamental.{fundamental_of};
 ghost use Rattle.noise_vectors.specs.HexWord.{hex_of};
 ghost use Rattle.noise_vectors.specs.VectorText.{block_text, header_words, line, lines_of, psk_words, text_of};
 ghost use Rattle.noise_vectors.specs.OwnPattern.{HasName};
+ghost use Rattle.noise_vectors.specs.Told.{IsHeaderLine, IsProtocolLine, TellsLine};
 ghost use Rattle.noise_vectors.specs.VectorFile.{ArePsks, IsAllowedFile, IsOwn, IsShort, IsVectorFile};
 ghost use Rattle.noise_vectors.specs.Words.{IsKey};
 ghost use Rattle.noise_vectors.specs.declared.faults.VectorFault.TheVariants.{Memory};
@@ -69,6 +70,9 @@ pub fn read_vector(
 fn read_header(lines: &mut Lines<'_>, allowed: AllowedEvents) -> Result<bool, VectorFault>
     ensures text { IfOk result (λ second. lines.old.rest.now ≡ line (header_words second) lines.new.rest.now) }
     ensures allowed { IfOk result (λ second. allowed ≡ VersionOne → second ≡ false) }
+    ensures number { lines.old.number + 1 < 2 ^ 64 → IfOk result (λ second. lines.new.number ≡ lines.old.number + 1) }
+    ensures told { lines.old.number + 1 < 2 ^ 64
+        → IfErr result (TellsLine (IsHeaderLine allowed) lines.old.rest.now (lines.old.number + 1) LineKind.Header) }
     ensures every { (second : Bool) (rest : List ℕ) → (allowed ≡ VersionOne → second ≡ false)
         → lines.old.rest.now ≡ line (header_words second) rest
         → MatchResult result (λ read. (read ≡ second) × (lines.new.rest.now ≡ rest)) (λ fault. ⊥) }
@@ -101,6 +105,9 @@ fn is_second(line: &[u8]) -> Option<bool>
 fn read_protocol(lines: &mut Lines<'_>) -> Result<ProtocolName, VectorFault>
     ensures text { IfOk result (λ name. lines.old.rest.now ≡ line (codes "protocol " ++ name_bytes name) lines.new.rest.now) }
     ensures right { IfOk result IsSection }
+    ensures number { lines.old.number + 1 < 2 ^ 64 → IfOk result (λ name. lines.new.number ≡ lines.old.number + 1) }
+    ensures told { lines.old.number + 1 < 2 ^ 64
+        → IfErr result (TellsLine IsProtocolLine lines.old.rest.now (lines.old.number + 1) LineKind.Protocol) }
     ensures every { (name : Section) (rest : List ℕ) → IsSection name
         → lines.old.rest.now ≡ line (codes "protocol " ++ name_bytes name) rest
         → MatchResult result (λ read. (read ≡ name) × (lines.new.rest.now ≡ rest)) (λ fault. ⊥) }
