@@ -74,3 +74,11 @@ abbrev pub TellsLine : (List ℕ → Type 0) → List ℕ → ℕ → LineKind �
 TellsLine IsGood text number kind fault =
     (fault ≡ Line number kinds.Ending) ⊎ (fault ≡ Memory)
     ⊎ ((fault ≡ Line number kind) × ((words : List ℕ) × IsFirstLine words text × ¬ IsGood words))
+
+-- a fault of another line
+abbrev pub IsLater : VectorFault → Type 0
+IsLater (Line number kinds.Header) = ⊥
+IsLater (Line number kinds.Protocol) = ⊥
+IsLater (Line number kinds.Prologue) = ⊥
+IsLater (Line number kinds.Interval) = ⊥
+IsLater fault = ⊤
