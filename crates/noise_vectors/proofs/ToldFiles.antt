@@ -1,26 +1,21 @@
 -- Files that begin with the lines before the one that is told, and that none goes on with it.
 use denote.RawPtr.{null_ptr}
-use Rattle.std.proofs.Common.{arith, ◌≡◌, ◌∙◌, ◌+◌, ◌<◌, ◌≤◌, ◌^◌, ◌⊎◌, inl, inr, ap, sym, refl, subst, lit<, true, false, Bool, ℕ, List, [], ◌∷◌, ◌++◌, codes}
-use Rattle.std.proofs.Common.{length, Option, Some, None, Vec, vec_len}
+use Rattle.std.proofs.Common.{arith, ◌≡◌, ◌∙◌, ◌+◌, ◌<◌, ◌≤◌, inl, inr, ap, sym, refl, subst, lit<, true, false, Bool, ℕ, List, [], ◌++◌, codes}
+use Rattle.std.proofs.Common.{Option, Some, None, Vec, vec_len}
 use Rattle.std.specs.Prelude.{decimal, IsSome}
 use Rattle.std.proofs.lemmas.Bool.{false≢true}
 use Rattle.std.specs.Global.{Global}
-use Rattle.std.specs.List.{All}
 use Rattle.std.proofs.lemmas.List.{append_cancel_left}
 use Rattle.std.proofs.lemmas.List.Elements.{All-nil}
 use Rattle.noise_names.specs.Fundamental.{fundamental_of, fundamentals}
-use Rattle.noise_names.specs.Limits.{IsPattern}
 use Rattle.noise_names.specs.Names.{IsSection, Section, name_bytes}
 use Rattle.noise_names.specs.Plan.{Plan}
 use Rattle.noise_names.specs.Text.{text_of as pattern_text}
-use Rattle.noise_events.specs.declared.event.Event.{Event}
 use Rattle.noise_vectors.specs.HexWord.{hex_of}
-use Rattle.noise_vectors.specs.Told.{IsFirstLine, IsHeaderLine, IsIntervalLine, IsPrologueLine, IsProtocolLine, IsTold, TellsLine, line_feeds}
-use Rattle.noise_vectors.specs.Told.{up_to_interval, up_to_prologue, up_to_protocol}
+use Rattle.noise_vectors.specs.Told.{IsHeaderLine, IsIntervalLine, IsPrologueLine, IsProtocolLine, IsTold, TellsLine, line_feeds}
 use Rattle.noise_vectors.specs.VectorFile.{IsAllowed, IsAllowedFile, IsAllowedVersion, IsEvent, IsExpected, IsOwn, IsShort, IsVectorFile, IsVersion}
-use Rattle.noise_vectors.specs.VectorText.{block_text, header_words, is_second, line, lines_of, text_of}
+use Rattle.noise_vectors.specs.VectorText.{block_text, header_words, is_second, line, text_of}
 use Rattle.noise_vectors.specs.Words.{IsKey, lacks}
-use Rattle.noise_vectors.specs.declared.faults.LineKind.{LineKind}
 use Rattle.noise_vectors.specs.declared.faults.LineKind.TheVariants as kinds
 use Rattle.noise_vectors.specs.declared.faults.VectorFault.{VectorFault}
 use Rattle.noise_vectors.specs.declared.faults.VectorFault.TheVariants.{Line, Memory}

@@ -1,12 +1,7 @@
 -- Which line is told: the files that begin with the lines before it, and that none goes on with it.
-use Rattle.std.proofs.Common.{arith, ◌≡◌, ◌∙◌, ◌+◌, ◌<◌, ◌≤◌, ◌^◌, ◌==◌, ◌⊎◌, inl, inr, not, ap, sym, refl, subst, lit<, true, false, Bool, ℕ, suc, List, [], ◌∷◌, ◌++◌, codes}
-use Rattle.std.proofs.Common.{cond, count_by, length, Option, Some, None}
-use Rattle.std.specs.Prelude.{decimal, Vec}
-use Rattle.std.specs.Global.{Global}
-use Rattle.std.specs.List.{All}
+use Rattle.std.proofs.Common.{arith, ◌≡◌, ◌∙◌, ◌+◌, ◌<◌, ◌≤◌, ◌^◌, ◌==◌, inl, inr, not, ap, refl, true, false, Bool, ℕ, List, [], ◌∷◌, ◌++◌, codes}
+use Rattle.std.proofs.Common.{cond, length}
 use Rattle.std.proofs.lemmas.Bool.{and_parts}
-use Rattle.std.proofs.lemmas.List.{append_cancel_left}
-use Rattle.std.proofs.lemmas.List.Elements.{All-nil}
 use Rattle.std.proofs.lemmas.List.Sums.{count_by-le-length, sum_by-append, sum_by-cons}
 use Rattle.noise_vectors.specs.VectorText.{line}
 use Rattle.noise_vectors.specs.Told.{IsFirstLine, IsLater, line_feeds}

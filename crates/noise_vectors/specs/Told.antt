@@ -40,8 +40,8 @@ pub record IsToldLine (allowed : AllowedEvents) (text : List ℕ) (number : ℕ)
   pub is_file : IsVectorFile file
   pub is_allowed : IsAllowedFile allowed file
   pub begun : (rest : List ℕ) × (text_of file ≡ up_to file rest)
-  pub told : List ℕ   -- the line
-  pub left : List ℕ   -- the text from that line on
+  pub told : List ℕ  -- the line
+  pub left : List ℕ  -- the text from that line on
   pub text_is : text ≡ up_to file left
   pub is_first : IsFirstLine told left
   pub counted : number ≡ line_feeds (up_to file []) + 1
