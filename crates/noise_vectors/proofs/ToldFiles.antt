@@ -1,20 +1,22 @@
 -- Files that begin with the lines before the one that is told, and that none goes on with it.
 use denote.RawPtr.{null_ptr}
-use Rattle.std.proofs.Common.{arith, ◌≡◌, ◌∙◌, ◌+◌, ◌<◌, ◌≤◌, inl, inr, ap, sym, refl, subst, lit<, true, false, Bool, ℕ, List, [], ◌++◌, codes}
+use Rattle.std.proofs.Common.{arith, ◌≡◌, ◌∙◌, ◌+◌, ◌<◌, ◌≤◌, ◌^◌, inl, inr, ap, sym, refl, subst, lit<, true, false, true≢false, Bool, ℕ, List, [], ◌∷◌, ◌++◌, codes, length}
 use Rattle.std.proofs.Common.{Option, Some, None, Vec, vec_len}
 use Rattle.std.specs.Prelude.{decimal, IsSome}
+use Rattle.std.specs.Bool.{nat_eq}
+use Rattle.std.specs.List.{All, starts_with}
 use Rattle.std.proofs.lemmas.Bool.{false≢true}
 use Rattle.std.specs.Global.{Global}
 use Rattle.std.proofs.lemmas.List.{append_cancel_left}
-use Rattle.std.proofs.lemmas.List.Elements.{All-nil}
+use Rattle.std.proofs.lemmas.List.Elements.{All-head, All-nil, All-tail}
 use Rattle.noise_names.specs.Fundamental.{fundamental_of, fundamentals}
 use Rattle.noise_names.specs.Names.{IsSection, Section, name_bytes}
 use Rattle.noise_names.specs.Plan.{Plan}
 use Rattle.noise_names.specs.Text.{text_of as pattern_text}
 use Rattle.noise_vectors.specs.HexWord.{hex_of}
-use Rattle.noise_vectors.specs.Told.{IsHeaderLine, IsIntervalLine, IsPrologueLine, IsProtocolLine, IsTold, TellsLine, line_feeds}
+use Rattle.noise_vectors.specs.Told.{IsHeaderLine, IsIntervalLine, IsPrologueLine, IsProtocolLine, IsTold, TellsLine, TellsPsk, line_feeds}
 use Rattle.noise_vectors.specs.VectorFile.{IsAllowed, IsAllowedFile, IsAllowedVersion, IsEvent, IsExpected, IsOwn, IsShort, IsVectorFile, IsVersion}
-use Rattle.noise_vectors.specs.VectorText.{block_text, header_words, is_second, line, text_of}
+use Rattle.noise_vectors.specs.VectorText.{block_text, header_words, is_second, line, lines_of, psk_words, text_of}
 use Rattle.noise_vectors.specs.Words.{IsKey, lacks}
 use Rattle.noise_vectors.specs.declared.faults.LineKind.TheVariants as kinds
 use Rattle.noise_vectors.specs.declared.faults.VectorFault.{VectorFault}
@@ -27,11 +29,11 @@ use Rattle.noise_vectors.specs.declared.vector.VectorFile.{VectorFile}
 use Rattle.noise_vectors.specs.declared.vector.Version.{Version}
 use Rattle.noise_vectors.specs.declared.vector.Version.TheVariants.{One, Two}
 use Rattle.noise_vectors.proofs.AdditionLemmas.{no-second}
-use Rattle.noise_vectors.proofs.ReadingLemmas.{interval-plain, prologue-plain, protocol-plain}
-use Rattle.noise_vectors.proofs.ToldLemmas.{feeds-line, feeds-under}
+use Rattle.noise_vectors.proofs.ReadingLemmas.{interval-plain, prologue-plain, psk-plain, protocol-plain}
+use Rattle.noise_vectors.proofs.ToldLemmas.{feeds-after, feeds-line, feeds-psks, feeds-under, line-begun}
 use Rattle.noise_vectors.proofs.UniqueTexts.{blocks-after, header-plain}
 use Rattle.noise_vectors.proofs.UniqueWords.{name-one, parted-one}
-use Rattle.noise_vectors.proofs.VectorLemmas.{after_block, after_header, after_prologue, after_protocol, after_interval}
+use Rattle.noise_vectors.proofs.VectorLemmas.{psks-end, after_psks, after_block, after_header, after_prologue, after_protocol, after_interval}
 
 -- ---- a file that goes on in the shortest way
 
@@ -232,6 +234,10 @@ prologue-told alloc allowed text left second name block number fault e one h own
 
 -- ---- the interval
 
+block-all : (block : Option Plan) (rest : List ℕ) → line_feeds (block_text block rest) ≡ line_feeds (block_text block []) + line_feeds rest
+block-all None rest = let none : line_feeds [] ≡ 0 = refl in omega (arith, none)
+block-all (Some p) rest = feeds-after (pattern_text p) rest
+
 block-feeds : (block : Option Plan) (words : List ℕ) → lacks 10 words ≡ true
     → line_feeds (block_text block (line words [])) ≡ line_feeds (block_text block []) + 1
 block-feeds None words h = feeds-line words [] h
@@ -272,3 +278,98 @@ interval-told alloc allowed text left second name block prologue short number fa
           (interval-plain other.interval k.interval) first.0 parts.1 in
           bad (other.interval, k.interval, sym next.0);
     })
+
+-- ---- the psks
+
+abbrev sample_psks : (alloc : Global) → Bool → Section → Option Plan → (prologue : Vec ℕ Global) → vec_len prologue ≤ 65535 → ℕ → List (List ℕ) → VectorFile
+sample_psks alloc second name block prologue short interval psks = record {
+  protocol = name;
+  block = block;
+  prologue = prologue;
+  interval = interval;
+  psks = record { items = psks };
+  initiator = no_keys;
+  responder = no_keys;
+  events = empty alloc;
+  version = version_of alloc second;
+  short = short;
+}
+
+-- psk lines and one more that begins as they do are fewer than those of a file, of which it is one
+psk-more : (xs ys : List (List ℕ)) (words rest after : List ℕ) → All IsKey xs → All IsKey ys → lacks 10 words ≡ true
+    → starts_with nat_eq (line words rest) (codes "psk ") ≡ true → starts_with nat_eq after (codes "psk ") ≡ false
+    → lines_of psk_words ys after ≡ lines_of psk_words xs (line words rest)
+    → (psk : List ℕ) × IsKey psk × (words ≡ psk_words psk) × (length xs < length ys)
+psk-more [] [] words rest after h k plain begun other e =
+    absurd (true≢false (sym begun ∙ ap (λ (t : List ℕ). starts_with nat_eq t (codes "psk ")) (sym e) ∙ other))
+psk-more (x ∷ xs) [] words rest after h k plain begun other e =
+    absurd (true≢false (ap (λ (t : List ℕ). starts_with nat_eq t (codes "psk ")) (sym e) ∙ other))
+psk-more [] (y ∷ ys) words rest after h k plain begun other e =
+    let key = All-head IsKey y ys k in
+    let parts = parted-one 10 (psk_words y) words (lines_of psk_words ys after) rest (psk-plain y key) plain e in
+    (y, key, sym parts.0, omega arith)
+psk-more (x ∷ xs) (y ∷ ys) words rest after h k plain begun other e =
+    let parts = parted-one 10 (psk_words y) (psk_words x) (lines_of psk_words ys after) (lines_of psk_words xs (line words rest))
+    (psk-plain y (All-head IsKey y ys k)) (psk-plain x (All-head IsKey x xs h)) e in
+    let more = psk-more xs ys words rest after (All-tail IsKey x xs h) (All-tail IsKey y ys k) plain begun other parts.1 in
+    (more.0, more.1, more.2, omega (arith, more.3))
+
+pub psk-told : (alloc : Global) (allowed : AllowedEvents) (text from : List ℕ) (second : Bool) (name : Section) (block : Option Plan)
+    (prologue : Vec ℕ Global) (short : vec_len prologue ≤ 65535) (interval number : ℕ) (fault : VectorFault)
+    → text ≡ line (header_words second) (line (codes "protocol " ++ name_bytes name)
+    (block_text block (line (codes "prologue " ++ hex_of prologue.items) (line (codes "interval " ++ decimal interval) from))))
+    → (allowed ≡ VersionOne → second ≡ false) → IsSection name → IsOwn name block → IsShort prologue.items → interval < 2 ^ 64
+    → number ≡ 2 + line_feeds (block_text block []) + 2
+    → TellsPsk from number fault → IsTold allowed text fault
+psk-told alloc allowed text from second name block prologue short interval number fault e one h own few small n (inl (m, is)) =
+    told-of allowed text fault (Line m kinds.Ending) is tt
+psk-told alloc allowed text from second name block prologue short interval number fault e one h own few small n (inr w) =
+    let file = sample_psks alloc second name block prologue short interval w.psks in
+    let plain = sample-right alloc second name block prologue short h own few in
+    let same_header : is_second (version_of alloc second) ≡ second = version_of-second alloc second in
+    let here = codes "prologue " ++ hex_of prologue.items in
+    let there = codes "interval " ++ decimal interval in
+    let psks = lines_of psk_words w.psks [] in
+    let feeds = front-feeds (is_second (version_of alloc second)) name (block_text block (line here (line there psks))) h in
+    let blocks = block-all block (line here (line there psks)) in
+    let more = feeds-line here (line there psks) (prologue-plain prologue.items few) in
+    let further = feeds-line there psks (interval-plain interval small) in
+    let last = feeds-psks w.psks w.are_psks.1 in
+    told-of allowed text fault (Line (number + length w.psks + 1) kinds.Psk) w.fault_is (
+      record {
+        file = file;
+        is_file = record {
+          protocol = plain.protocol;
+          own = plain.own;
+          prologue = plain.prologue;
+          interval = small;
+          psks = w.are_psks;
+          initiator = plain.initiator;
+          responder = plain.responder;
+          events = plain.events;
+          version = plain.version;
+        };
+        is_allowed = sample-allowed alloc allowed second name block prologue short one;
+        begun = (after_psks file, refl);
+        told = w.told;
+        left = w.left;
+        text_is = e ∙ ap (λ (t : List ℕ). line (header_words second) (line (codes "protocol " ++ name_bytes name) (block_text block (line here (line there t))))) w.text_is
+            ∙ ap (λ (s : Bool). line (header_words s) (line (codes "protocol " ++ name_bytes name) (block_text block (line here (line there (lines_of psk_words w.psks w.left)))))) (sym same_header);
+        is_first = w.is_first;
+        counted = omega (arith, n, feeds, blocks, more, further, last);
+        wrong = λ other rest k allow same.
+            let psk_lines = lines_of psk_words w.psks (line w.told rest) in
+            let after = after-block (is_second (version_of alloc second)) name block other (line here (line there psk_lines)) k h own same in
+            let parts = parted-one 10 (codes "prologue " ++ hex_of other.prologue.items) here (after_prologue other) (line there psk_lines)
+            (prologue-plain other.prologue.items k.prologue) (prologue-plain prologue.items few) after in
+            let next = parted-one 10 (codes "interval " ++ decimal other.interval) there (after_interval other) psk_lines
+            (interval-plain other.interval k.interval) (interval-plain interval small) parts.1 in
+            let found = psk-more w.psks other.psks.items w.told rest (after_psks other) w.are_psks.1 k.psks.1 w.is_first.0
+            (line-begun w.told rest (codes "psk ") w.begun) (psks-end other) next.1 in
+            let full = w.full found.0 found.1 found.2 in
+            let most = k.psks.0 in
+            let less = found.3 in
+            absurd (omega (arith, full, most, less));
+      },
+      w.begun,
+    )

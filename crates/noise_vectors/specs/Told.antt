@@ -1,10 +1,11 @@
--- Which line of a wrong file is told, as far as the line of the interval; the pattern that a file spells has a rule of its own.
-use Rattle.std.specs.Prelude.{⊤, ◌≡◌, ◌⊎◌, ◌+◌, ◌<◌, ◌^◌, ◌==◌, IsTrue, ℕ, List, [], ◌++◌, Bool, false, codes, count_by, decimal}
+-- Which line of a wrong file is told, as far as the lines of the psks; the pattern that a file spells has a rule of its own.
+use Rattle.std.specs.Prelude.{⊤, ◌≡◌, ◌⊎◌, ◌+◌, ◌<◌, ◌^◌, ◌==◌, IsTrue, ℕ, List, [], ◌++◌, Bool, false, codes, count_by, decimal, length, nat_eq}
+use Rattle.std.specs.List.{starts_with}
 use Rattle.noise_names.specs.Names.{IsSection, Section, name_bytes}
 use Rattle.noise_vectors.specs.HexWord.{hex_of}
-use Rattle.noise_vectors.specs.VectorFile.{IsAllowedFile, IsShort, IsVectorFile}
-use Rattle.noise_vectors.specs.VectorText.{block_text, header_words, is_second, line, text_of}
-use Rattle.noise_vectors.specs.Words.{lacks}
+use Rattle.noise_vectors.specs.VectorFile.{ArePsks, IsAllowedFile, IsShort, IsVectorFile}
+use Rattle.noise_vectors.specs.VectorText.{block_text, header_words, is_second, line, lines_of, psk_words, text_of}
+use Rattle.noise_vectors.specs.Words.{IsKey, lacks}
 use Rattle.noise_vectors.specs.declared.faults.LineKind.{LineKind}
 use Rattle.noise_vectors.specs.declared.faults.LineKind.TheVariants as kinds
 use Rattle.noise_vectors.specs.declared.faults.VectorFault.{VectorFault}
@@ -33,6 +34,14 @@ up_to_prologue file rest = up_to_protocol file (line (codes "protocol " ++ name_
 abbrev pub up_to_interval : VectorFile → List ℕ → List ℕ
 up_to_interval file rest = up_to_prologue file (line (codes "prologue " ++ hex_of file.prologue.items) rest)
 
+-- those before its initiator's keys, where a psk line too may stand
+abbrev pub up_to_initiator : VectorFile → List ℕ → List ℕ
+up_to_initiator file rest = up_to_interval file (line (codes "interval " ++ decimal file.interval) (lines_of psk_words file.psks.items rest))
+
+-- whether the line begins as that of a psk does
+abbrev pub is_psk_line : List ℕ → Bool
+is_psk_line words = starts_with nat_eq words (codes "psk ")
+
 -- Some right file begins with the lines before the line of this number, up to where the line of the fault's kind has to stand. With that line too
 -- no right file begins.
 pub record IsToldLine (allowed : AllowedEvents) (text : List ℕ) (number : ℕ) (up_to : VectorFile → List ℕ → List ℕ) : Type 0 where
@@ -53,6 +62,7 @@ IsTold allowed text (Line number kinds.Header) = IsToldLine allowed text number 
 IsTold allowed text (Line number kinds.Protocol) = IsToldLine allowed text number up_to_protocol
 IsTold allowed text (Line number kinds.Prologue) = IsToldLine allowed text number up_to_prologue
 IsTold allowed text (Line number kinds.Interval) = IsToldLine allowed text number up_to_interval
+IsTold allowed text (Line number kinds.Psk) = (it : IsToldLine allowed text number up_to_initiator) × IsTrue (is_psk_line it.told)
 IsTold allowed text fault = ⊤
 
 -- ---- one line
@@ -81,4 +91,21 @@ IsLater (Line number kinds.Header) = ⊥
 IsLater (Line number kinds.Protocol) = ⊥
 IsLater (Line number kinds.Prologue) = ⊥
 IsLater (Line number kinds.Interval) = ⊥
+IsLater (Line number kinds.Psk) = ⊥
 IsLater fault = ⊤
+
+-- the text begins with these psk lines and then with one that is wrong, or a tenth
+pub record IsWrongPsk (text : List ℕ) (number : ℕ) (fault : VectorFault) : Type 0 where
+  pub psks : List (List ℕ)
+  pub are_psks : ArePsks psks
+  pub told : List ℕ
+  pub left : List ℕ
+  pub text_is : text ≡ lines_of psk_words psks left
+  pub is_first : IsFirstLine told left
+  pub begun : IsTrue (is_psk_line told)
+  pub fault_is : fault ≡ Line (number + length psks + 1) kinds.Psk
+  pub full : (psk : List ℕ) → IsKey psk → told ≡ psk_words psk → length psks ≡ 9
+
+-- it does, or ends within the lines
+abbrev pub TellsPsk : List ℕ → ℕ → VectorFault → Type 0
+TellsPsk text number fault = ((n : ℕ) × (fault ≡ Line n kinds.Ending)) ⊎ IsWrongPsk text number fault

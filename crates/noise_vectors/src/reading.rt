@@ -10,7 +10,7 @@ ghost use Rattle.noise_names.specs.Fundamental.{fundamental_of};
 ghost use Rattle.noise_vectors.specs.HexWord.{hex_of};
 ghost use Rattle.noise_vectors.specs.VectorText.{block_text, header_words, line, lines_of, psk_words, text_of};
 ghost use Rattle.noise_vectors.specs.OwnPattern.{HasName};
-ghost use Rattle.noise_vectors.specs.Told.{IsHeaderLine, IsIntervalLine, IsPrologueLine, IsProtocolLine, IsTold, IsLater, TellsLine, line_feeds};
+ghost use Rattle.noise_vectors.specs.Told.{IsHeaderLine, IsIntervalLine, IsPrologueLine, IsProtocolLine, IsLater, IsTold, TellsLine, TellsPsk, line_feeds};
 ghost use Rattle.noise_vectors.specs.VectorFile.{ArePsks, IsAllowedFile, IsOwn, IsShort, IsVectorFile};
 ghost use Rattle.noise_vectors.specs.Words.{IsKey};
 ghost use Rattle.noise_vectors.specs.declared.faults.VectorFault.TheVariants.{Memory};
@@ -187,6 +187,7 @@ fn prologue_of(alloc: Global, line: &[u8]) -> Result<Option<Vec<u8>>, AllocError
 
 fn read_interval(lines: &mut Lines<'_>) -> Result<u64, VectorFault>
     ensures text { IfOk result (λ interval. lines.old.rest.now ≡ line (codes "interval " ++ decimal interval) lines.new.rest.now) }
+    ensures number { lines.old.number + 1 < 2 ^ 64 → IfOk result (λ interval. lines.new.number ≡ lines.old.number + 1) }
     ensures told { lines.old.number + 1 < 2 ^ 64
         → IfErr result (TellsLine IsIntervalLine lines.old.rest.now (lines.old.number + 1) LineKind.Interval) }
     ensures every { (interval : ℕ) (rest : List ℕ) → interval < 2 ^ 64
@@ -213,7 +214,7 @@ fn interval_of(line: &[u8]) -> Option<u64>
 fn read_psks(lines: &mut Lines<'_>) -> Result<ArrayVec<[u8; 32], 9>, VectorFault>
     ensures text { IfOk result (λ psks. lines.old.rest.now ≡ lines_of psk_words psks.items lines.new.rest.now) }
     ensures right { IfOk result (λ psks. ArePsks psks.items) }
-    ensures later { IfErr result IsLater }
+    ensures told { lines.old.number < 2 ^ 63 + 99 → IfErr result (TellsPsk lines.old.rest.now lines.old.number) }
     ensures every { (psks : List (List ℕ)) (rest : List ℕ) → ArePsks psks → IsFalse (starts_with nat_eq rest (codes "psk "))
         → lines.old.rest.now ≡ lines_of psk_words psks rest
         → IsOk result × (lines.new.rest.now ≡ rest) }

@@ -1,5 +1,6 @@
-use Rattle.std.proofs.Common.{arith, ◌≡◌, ◌∙◌, ◌+◌, ◌<◌, ◌^◌, ◌++◌, ap, sym, codes, List, [], ℕ}
+use Rattle.std.proofs.Common.{arith, rules, ◌≡◌, ◌∙◌, ◌+◌, ◌<◌, ◌^◌, ◌++◌, ap, sym, codes, List, [], ℕ}
 use Rattle.noise_names.specs.Names.{name_bytes}
+use Rattle.noise_vectors.specs.HexWord.{hex_of}
 use Rattle.noise_vectors.specs.Told.{line_feeds}
 use Rattle.std.proofs.lemmas.Bool.{false≢true}
 use Rattle.std.proofs.lemmas.Result.{err_from_is_err_and}
@@ -9,7 +10,7 @@ use Rattle.noise_vectors.specs.declared.vector.VectorFile.{VectorFile}
 use Rattle.noise_vectors.proofs.AdditionLemmas.{no-second, version-after}
 use Rattle.noise_vectors.proofs.VectorLemmas.{after_block, after_header, after_initiator, after_interval, after_prologue, after_protocol}
 use Rattle.noise_vectors.proofs.VectorLemmas.{after_psks, after_responder, initiator-ends, own-read, psks-end, responder-ends}
-use Rattle.noise_vectors.proofs.ToldFiles.{header-told, interval-told, prologue-told, protocol-told}
+use Rattle.noise_vectors.proofs.ToldFiles.{header-told, interval-told, prologue-told, protocol-told, psk-told}
 use Rattle.noise_vectors.proofs.reading.read_vector.Goals.{After-read_party, After-read_prologue}
 use Rattle.noise_vectors.proofs.reading.read_vector.Goals as goal
 
@@ -164,3 +165,19 @@ returns-in_err-interval-clause-told c =
     (block_text c.in_ok-block.block t))) c.in_ok-prologue.ensures.text)
     c.in_ok-second.ensures.allowed c.in_ok-protocol.ensures.right c.in_ok-block.ensures.right c.in_ok-prologue.ensures.right
     (omega (arith, n.0, next)) (c.in_err-interval.ensures.told (omega (arith, n.1, next))))
+
+pub returns-in_err-psks-clause-told : goal.returns-in_err-psks-clause-told
+returns-in_err-psks-clause-told c =
+    let p = err_from_is_err_and c.from_residual-in_err-psks.result c.from_residual-in_err-psks.ensures.1 in
+    let g = (goal.at.returns-in_err-psks-clause-told c).After-read_prologue in
+    let n = front-number g in
+    let next = c.in_ok-prologue.ensures.number (omega (arith, n.1)) in
+    let last = c.in_ok-interval.ensures.number (omega (arith, n.1, next)) in
+    rw (p.1, p.2) (psk-told c.args.alloc c.args.allowed c.args.text.now c.read_interval.new.lines.rest.now c.in_ok-second.second
+    c.in_ok-protocol.protocol c.in_ok-block.block c.in_ok-prologue.prologue c.in_ok-prologue.ensures.bound c.in_ok-interval.interval
+    c.read_interval.new.lines.number c.in_err-psks.field-0.0 (front-read g
+    ∙ ap (λ (t : List ℕ). line (header_words c.in_ok-second.second) (line (codes "protocol " ++ name_bytes c.in_ok-protocol.protocol)
+    (block_text c.in_ok-block.block t))) (c.in_ok-prologue.ensures.text
+    ∙ ap (λ (t : List ℕ). line (codes "prologue " ++ hex_of c.in_ok-prologue.prologue.items) t) c.in_ok-interval.ensures.text))
+    c.in_ok-second.ensures.allowed c.in_ok-protocol.ensures.right c.in_ok-block.ensures.right c.in_ok-prologue.ensures.right
+    (search rules) (omega (arith, n.0, next, last)) (c.in_err-psks.ensures.told (omega (arith, n.1, next, last))))
