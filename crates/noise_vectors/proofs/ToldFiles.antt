@@ -14,7 +14,7 @@ use Rattle.noise_names.specs.Names.{IsSection, Section, name_bytes}
 use Rattle.noise_names.specs.Plan.{Plan}
 use Rattle.noise_names.specs.Text.{text_of as pattern_text}
 use Rattle.noise_vectors.specs.HexWord.{hex_of}
-use Rattle.noise_vectors.specs.Told.{IsHeaderLine, IsIntervalLine, IsPrologueLine, IsProtocolLine, IsTold, TellsLine, TellsPsk, line_feeds}
+use Rattle.noise_vectors.specs.WrongLine.{IsHeaderLine, IsIntervalLine, IsPrologueLine, IsProtocolLine, IsTold, TellsLine, TellsPsk, line_feeds}
 use Rattle.noise_vectors.specs.VectorFile.{IsAllowed, IsAllowedFile, IsAllowedVersion, IsEvent, IsExpected, IsOwn, IsShort, IsVectorFile, IsVersion}
 use Rattle.noise_vectors.specs.VectorText.{block_text, header_words, is_second, line, lines_of, psk_words, text_of}
 use Rattle.noise_vectors.specs.Words.{IsKey, lacks}

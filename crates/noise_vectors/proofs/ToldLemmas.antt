@@ -7,7 +7,7 @@ use Rattle.std.proofs.lemmas.Bool.{and_parts}
 use Rattle.std.proofs.lemmas.List.Elements.{All-head, All-tail}
 use Rattle.std.proofs.lemmas.List.Sums.{count_by-le-length, sum_by-append, sum_by-cons}
 use Rattle.noise_vectors.specs.VectorText.{line, lines_of, psk_words}
-use Rattle.noise_vectors.specs.Told.{IsFirstLine, IsLater, line_feeds}
+use Rattle.noise_vectors.specs.WrongLine.{IsFirstLine, IsLater, line_feeds}
 use Rattle.noise_vectors.specs.declared.faults.LineKind.{LineKind}
 use Rattle.noise_vectors.specs.declared.faults.LineKind.TheVariants as kinds
 use Rattle.noise_vectors.specs.declared.faults.VectorFault.TheVariants.{Line}

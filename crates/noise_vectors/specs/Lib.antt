@@ -5,7 +5,7 @@ pub mod FileKeys
 pub mod HexWord
 pub mod OwnPattern
 pub mod SameFile
-pub mod Told
 pub mod VectorFile
 pub mod VectorText
 pub mod Words
+pub mod WrongLine

@@ -7,7 +7,7 @@ ghost use Rattle.noise_names.specs.Plan.{Plan};
 ghost use Rattle.noise_names.specs.Text.{text_of as pattern_text};
 ghost use Rattle.noise_vectors.specs.Block.{IsInner, itself};
 ghost use Rattle.noise_vectors.specs.VectorText.{line, lines_of};
-ghost use Rattle.noise_vectors.specs.Told.{IsLater, line_feeds};
+ghost use Rattle.noise_vectors.specs.WrongLine.{IsLater, line_feeds};
 ghost use Rattle.noise_vectors.specs.OwnPattern.{HasName};
 
 use crate::faults::{LineKind, VectorFault};

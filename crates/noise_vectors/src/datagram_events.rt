@@ -5,7 +5,7 @@ ghost use Rattle.std.specs.List.{All};
 ghost use Rattle.noise_names.specs.declared.token.Role.{Role};
 ghost use Rattle.noise_events.specs.declared.datagram_event.DatagramEvent.{DatagramEvent};
 ghost use Rattle.noise_vectors.specs.VectorFile.{IsDatagramEvent};
-ghost use Rattle.noise_vectors.specs.Told.{IsLater};
+ghost use Rattle.noise_vectors.specs.WrongLine.{IsLater};
 ghost use Rattle.noise_vectors.specs.VectorText.{AfterDatagrams, datagram_event_words, datagram_kind_word, lines_of, role_word};
 ghost use Rattle.noise_vectors.specs.declared.faults.VectorFault.TheVariants.{Memory};
 ghost use Rattle.noise_vectors.specs.declared.words.DatagramKind.{DatagramKind};

@@ -7,7 +7,7 @@ ghost use Rattle.noise_events.specs.declared.event.Event.{Event};
 ghost use Rattle.noise_vectors.specs.Cuts.{AreCuts};
 ghost use Rattle.noise_vectors.specs.HexWord.{hex_of};
 ghost use Rattle.noise_vectors.specs.VectorFile.{IsAllowed, IsEvent, IsShort};
-ghost use Rattle.noise_vectors.specs.Told.{IsLater};
+ghost use Rattle.noise_vectors.specs.WrongLine.{IsLater};
 ghost use Rattle.noise_vectors.specs.VectorText.{AfterEvents, event_words, kind_word, lengths_word, lines_of, role_word};
 ghost use Rattle.noise_vectors.specs.declared.words.EventKind.{EventKind};
 ghost use Rattle.noise_vectors.specs.declared.faults.VectorFault.TheVariants.{Memory};

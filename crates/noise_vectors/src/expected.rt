@@ -4,7 +4,7 @@ ghost use Rattle.std.specs.Prelude.{◌≡◌, ◌++◌, ◌↔◌, ◌≤◌, [
 ghost use Rattle.std.specs.Global.{Global};
 ghost use Rattle.std.specs.List.{All};
 ghost use Rattle.noise_vectors.specs.VectorFile.{IsExpected};
-ghost use Rattle.noise_vectors.specs.Told.{IsLater};
+ghost use Rattle.noise_vectors.specs.WrongLine.{IsLater};
 ghost use Rattle.noise_vectors.specs.VectorText.{expect_words, lines_of};
 ghost use Rattle.noise_vectors.specs.declared.faults.VectorFault.TheVariants.{Memory};
 

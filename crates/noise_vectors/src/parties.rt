@@ -5,7 +5,7 @@ ghost use Rattle.std.specs.Bool.{nat_eq};
 ghost use Rattle.std.specs.List.{All, starts_with};
 ghost use Rattle.noise_keys.specs.Table.{TableEntry};
 ghost use Rattle.noise_vectors.specs.VectorFile.{AreKeys, IsEntry};
-ghost use Rattle.noise_vectors.specs.Told.{IsLater};
+ghost use Rattle.noise_vectors.specs.WrongLine.{IsLater};
 ghost use Rattle.noise_vectors.specs.Words.{IsKey};
 ghost use Rattle.noise_vectors.specs.VectorText.{answer_words, key_words, lines_of, party_text, role_word};
 

@@ -10,7 +10,7 @@ ghost use Rattle.noise_names.specs.Fundamental.{fundamental_of};
 ghost use Rattle.noise_vectors.specs.HexWord.{hex_of};
 ghost use Rattle.noise_vectors.specs.VectorText.{block_text, header_words, line, lines_of, psk_words, text_of};
 ghost use Rattle.noise_vectors.specs.OwnPattern.{HasName};
-ghost use Rattle.noise_vectors.specs.Told.{IsHeaderLine, IsIntervalLine, IsPrologueLine, IsProtocolLine, IsLater, IsTold, TellsLine, TellsPsk, line_feeds};
+ghost use Rattle.noise_vectors.specs.WrongLine.{IsHeaderLine, IsIntervalLine, IsPrologueLine, IsProtocolLine, IsLater, IsTold, TellsLine, TellsPsk, line_feeds};
 ghost use Rattle.noise_vectors.specs.VectorFile.{ArePsks, IsAllowedFile, IsOwn, IsShort, IsVectorFile};
 ghost use Rattle.noise_vectors.specs.Words.{IsKey};
 ghost use Rattle.noise_vectors.specs.declared.faults.VectorFault.TheVariants.{Memory};

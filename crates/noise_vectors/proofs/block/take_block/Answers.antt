@@ -4,7 +4,7 @@ use Rattle.std.proofs.lemmas.Slice.Eq.{bytes_eq-Decides}
 use Rattle.noise_vectors.specs.VectorText.{line}
 use Rattle.noise_vectors.proofs.BlockLemmas.{front-is, Left-last, Left-next, Left-start, Left-step}
 use Rattle.noise_vectors.proofs.LineLemmas.{Ends-after, Ends-whole}
-use Rattle.noise_vectors.specs.Told.{line_feeds}
+use Rattle.noise_vectors.specs.WrongLine.{line_feeds}
 use Rattle.noise_vectors.proofs.ToldLemmas.{feeds-few, feeds-step}
 use Rattle.noise_vectors.proofs.block.take_block.Goals as goal
 

@@ -1,7 +1,7 @@
 use Rattle.std.proofs.Common.{◌≡◌, ◌+◌, ◌<◌, ◌^◌, ℕ, List, codes, length}
 use Rattle.std.specs.List.{All}
 use Rattle.noise_vectors.specs.Block.{IsInner, itself}
-use Rattle.noise_vectors.specs.Told.{line_feeds}
+use Rattle.noise_vectors.specs.WrongLine.{line_feeds}
 use Rattle.noise_vectors.specs.VectorText.{line, lines_of}
 use Rattle.noise_vectors.proofs.BlockLemmas.{Left}
 use Rattle.noise_vectors.proofs.LineLemmas.{Ends}

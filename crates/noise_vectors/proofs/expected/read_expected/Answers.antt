@@ -7,7 +7,7 @@ use Rattle.noise_vectors.specs.VectorFile.{IsExpected}
 use Rattle.noise_vectors.specs.VectorText.{expect_words, lines_of}
 use Rattle.noise_vectors.proofs.AdditionLemmas.{expected-line}
 use Rattle.noise_vectors.proofs.LineLemmas.{lines_of-more, FirstLine-step, LinesLeft-first, LinesLeft-start}
-use Rattle.noise_vectors.specs.Told.{IsLater}
+use Rattle.noise_vectors.specs.WrongLine.{IsLater}
 use Rattle.noise_vectors.proofs.ToldLemmas.{later-any}
 use Rattle.noise_vectors.proofs.expected.read_expected.Goals as goal
 
