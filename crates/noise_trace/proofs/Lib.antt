@@ -1,0 +1,4 @@
+pub mod Keys
+pub mod Fronts
+pub mod Due
+pub mod Joined
