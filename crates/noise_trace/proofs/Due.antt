@@ -1,21 +1,19 @@
 -- The message that is due, and what its tokens carry.
-use Rattle.std.proofs.Common.{◌≡◌, ℕ, zero, suc, ◌+◌, ◌*◌, ◌<◌, ◌≤◌, List, [], ◌∷◌, ◌++◌, length, get_or, drop, refl, ap, sym, subst, ◌∙◌, arith}
-use Rattle.std.specs.Prelude.{Bool, true, false, not, ◌&&◌, nat_le, IsTrue, Option, Some, count_by}
+use Rattle.std.proofs.Common.{◌≡◌, ℕ, zero, suc, ◌*◌, ◌<◌, ◌≤◌, List, [], ◌∷◌, ◌++◌, length, get_or, drop, refl, ap, ◌∙◌, arith}
+use Rattle.std.specs.Prelude.{Bool, true, false, not, ◌&&◌, nat_le, IsTrue, count_by}
 use Rattle.noise_names.specs.declared.token.Token.{Token}
 use Rattle.noise_names.specs.declared.token.Token.TheVariants.{E, S, Ee, Es, Se, Ss, Psk}
 use Rattle.noise_names.specs.declared.token.Role.{Role}
 use Rattle.noise_names.specs.declared.token.Role.TheVariants.{Initiator, Responder}
 use Rattle.noise_names.specs.Tokens.{is_psk, other, same_role, turn_from}
-use Rattle.noise_names.specs.Plan.{Plan, has_psk}
+use Rattle.noise_names.specs.Plan.{Plan}
 use Rattle.noise_names.specs.Limits.{IsPattern}
 use Rattle.std.proofs.lemmas.Bool.Decides.{nat_tests}
-use Rattle.noise_state.specs.declared.symmetric.SymmetricState.{SymmetricState}
-use Rattle.noise_state.specs.History.{History, piece}
-use Rattle.noise_keys.specs.declared.keys.Own.{Own}
+use Rattle.noise_state.specs.History.{History}
 use Rattle.noise_handshake.specs.declared.remote.Remote.{Remote}
 use Rattle.noise_handshake.specs.Held.{is_turn, most_used}
 use Rattle.noise_handshake.specs.Setup.{secrets_of}
-use Rattle.noise_handshake.specs.Line.{front, after_front, line, after_line}
+use Rattle.noise_handshake.specs.Line.{front, line, after_line}
 use Rattle.noise_handshake.specs.View.{View, Reader, Fits, Fit, Listens, Speaks, known_after, secrets_after, tokens_at}
 use Rattle.noise_handshake.specs.Writing.{Writer, Gives, Given}
 use Rattle.noise_trace.specs.declared.values.StateValues.{StateValues}
@@ -24,7 +22,6 @@ use Rattle.noise_trace.specs.declared.step.Step.{Step}
 use Rattle.noise_trace.specs.Values.{values_of}
 use Rattle.noise_trace.specs.Carried.{Carries}
 use Rattle.noise_trace.specs.Steps.{token_steps, message_steps}
-use Rattle.noise_trace.proofs.Fronts.{Follows}
 
 pub tokens_at-read : (ms : List (List Token)) (i : ℕ) (d : List Token) → i < length ms → get_or ms i d ≡ tokens_at ms i
 tokens_at-read [] i d h = absurd (omega arith)

@@ -2,3 +2,4 @@ pub mod Keys
 pub mod Fronts
 pub mod Due
 pub mod Joined
+pub mod PreMessages

@@ -5,10 +5,14 @@
 mod before;
 mod following;
 mod laws;
+mod start;
+mod start_step;
 mod step;
 mod values;
 
 pub use before::BeforeMessage;
 pub use laws::steps_tell;
+pub use start::start_steps;
+pub use start_step::{StartPart, StartStep};
 pub use step::{Part, Step};
 pub use values::StateValues;

@@ -1,4 +1,4 @@
-use Rattle.std.proofs.Common.{◌≡◌, ℕ, ◌≤◌, List, length, take, ap, subst, ◌∙◌, arith}
+use Rattle.std.proofs.Common.{ℕ, ◌≤◌, List, length, ap, subst, ◌∙◌, arith}
 use Rattle.std.specs.Prelude.{Some}
 use Rattle.noise_state.specs.Standing.{StateStands, keyed}
 use Rattle.noise_state.specs.History.{Ciphertext, and_then}

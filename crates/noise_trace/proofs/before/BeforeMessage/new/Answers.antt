@@ -1,11 +1,9 @@
-use Rattle.std.proofs.Common.{◌≡◌, ℕ, ◌≤◌, List, ◌++◌, length, drop, sym, ap, ◌∙◌, arith}
+use Rattle.std.proofs.Common.{◌≡◌, ℕ, List, ◌++◌, length, ap, ◌∙◌, arith}
 use Rattle.std.specs.Prelude.{count_by}
 use Rattle.noise_names.specs.declared.token.Token.{Token}
 use Rattle.noise_names.specs.Plan.{Plan}
 use Rattle.noise_names.specs.Tokens.{is_psk}
-use Rattle.noise_state.specs.declared.symmetric.SymmetricState.{SymmetricState}
 use Rattle.noise_state.specs.Standing.{keyed, nonce_now}
-use Rattle.noise_handshake.specs.Setup.{secrets_of}
 use Rattle.noise_handshake.specs.View.{tokens_at}
 use Rattle.noise_trace.proofs.Due.{secrets-due, most-used, few-messages}
 use Rattle.noise_trace.proofs.before.BeforeMessage.new.Goals as goal

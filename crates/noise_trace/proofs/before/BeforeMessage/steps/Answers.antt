@@ -1,4 +1,4 @@
-use Rattle.std.proofs.Common.{List, ℕ, sym, subst}
+use Rattle.std.proofs.Common.{sym, subst}
 use Rattle.std.specs.Prelude.{Bool}
 use Rattle.noise_handshake.specs.View.{reader, tokens_now}
 use Rattle.noise_handshake.specs.Writing.{writer}
