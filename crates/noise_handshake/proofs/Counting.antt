@@ -1,41 +1,53 @@
--- The nonce counts the uses of a key, along the steps of a symmetric state.
-use Rattle.std.proofs.Common.{◌≡◌, ◌≤◌, ℕ, ◌+◌, ◌*◌, refl, ap, sym, ◌∙◌, arith}
-use Rattle.std.specs.Prelude.{Bool, true, false}
-use Rattle.noise_state.specs.Cipher.{next_nonce}
-use Rattle.noise_state.specs.Standing.{keyed, nonce_now}
-use Rattle.noise_state.specs.declared.symmetric.SymmetricState.{SymmetricState}
-use Rattle.noise_handshake.specs.Held.{most_used}
-use Rattle.noise_handshake.specs.inner.Counting.{CountsUses}
+-- The nonce counts the texts under a key, one message after another.
+use Rattle.std.proofs.Common.{◌≡◌, ◌≤◌, ◌<◌, ℕ, zero, suc, ◌+◌, ◌*◌, List, [], ◌∷◌, length, take, refl, ap, sym, ◌∙◌, arith}
+use Rattle.std.specs.Prelude.{Bool}
+use Rattle.noise_names.specs.declared.token.Token.{Token}
+use Rattle.noise_names.specs.Plan.{Plan, has_psk}
+use Rattle.noise_names.specs.Overhead.{has_key}
+use Rattle.noise_handshake.specs.Length.{keyed_after_tokens}
+use Rattle.noise_handshake.specs.Nonces.{nonce_after_message, nonce_after_messages, nonce_due}
+use Rattle.noise_handshake.specs.Passed.{passed_places}
+use Rattle.noise_handshake.specs.View.{tokens_at}
+use Rattle.noise_handshake.proofs.Places.{has_key-passed}
 
-clash : (b : Bool) → b ≡ true → b ≡ false → (n : ℕ) → n ≡ 0
-clash b k none n = cc
+-- whether there is a key after messages
+abbrev keyed_after_messages : Bool → Bool → List (List Token) → Bool
+keyed_after_messages psks keyed [] = keyed
+keyed_after_messages psks keyed (ts ∷ ms) = keyed_after_messages psks (keyed_after_tokens psks keyed ts) ms
 
--- a state with a key
-pub uses-keyed : (s : SymmetricState) → keyed s ≡ true → CountsUses s
-uses-keyed s k = record { unkeyed = λ (none : keyed s ≡ false). clash (keyed s) k none (nonce_now s) }
+keyed-more : (psks k : Bool) (ms : List (List Token)) (i : ℕ) → i < length ms
+    → keyed_after_messages psks k (take (suc i) ms) ≡ keyed_after_tokens psks (keyed_after_messages psks k (take i ms)) (tokens_at ms i)
+keyed-more psks k [] i h = absurd (omega arith)
+keyed-more psks k (ts ∷ ms) zero h = refl
+keyed-more psks k (ts ∷ ms) (suc i) h = keyed-more psks (keyed_after_tokens psks k ts) ms i (omega arith)
 
--- a state of the same key and nonce
-pub uses-same : (s t : SymmetricState) → keyed t ≡ keyed s → nonce_now t ≡ nonce_now s → CountsUses s → CountsUses t
-uses-same s t k n u = record { unkeyed = λ (none : keyed t ≡ false). n ∙ u.unkeyed (sym k ∙ none) }
+nonce-more : (psks k : Bool) (n : ℕ) (ms : List (List Token)) (i : ℕ) → i < length ms
+    → nonce_after_messages psks k n (take (suc i) ms)
+    ≡ nonce_after_message psks (keyed_after_messages psks k (take i ms)) (nonce_after_messages psks k n (take i ms)) (tokens_at ms i)
+nonce-more psks k n [] i h = absurd (omega arith)
+nonce-more psks k n (ts ∷ ms) zero h = refl
+nonce-more psks k n (ts ∷ ms) (suc i) h =
+    nonce-more psks (keyed_after_tokens psks k ts) (nonce_after_message psks k n ts) ms i (omega arith)
 
--- a state after an encryption or a decryption
-pub uses-next : (s t : SymmetricState) → keyed t ≡ keyed s → nonce_now t ≡ next_nonce (keyed s) (nonce_now s) → CountsUses s → CountsUses t
-uses-next s t k n u = record {
-  unkeyed = λ (none : keyed t ≡ false).
-      let e : keyed s ≡ false = sym k ∙ none in n ∙ ap (λ (b : Bool). next_nonce b (nonce_now s)) e ∙ u.unkeyed e;
-}
+next : (i : ℕ) → i + 1 ≡ suc i
+next i = omega arith
 
-pub most-any : (b : Bool) (passed n : ℕ) → n ≤ most_used b passed → n ≤ 11 * passed
-most-any true passed n h = h
-most-any false passed n h = omega (arith, h)
+module _ (p : Plan) where
+  keyed-passed : (i : ℕ) → i ≤ length p.messages
+      → keyed_after_messages (has_psk p) (has_key p (passed_places p 0)) (take i p.messages) ≡ has_key p (passed_places p i)
+  keyed-passed zero h = refl
+  keyed-passed (suc i) h =
+      keyed-more (has_psk p) (has_key p (passed_places p 0)) p.messages i (omega arith)
+      ∙ ap (λ (b : Bool). keyed_after_tokens (has_psk p) b (tokens_at p.messages i)) (keyed-passed i (omega arith))
+      ∙ sym (has_key-passed p i (omega arith)) ∙ ap (λ (k : ℕ). has_key p (passed_places p k)) (next i)
 
--- a nonce within the bound is 0 without a key
-pub most-unkeyed : (b : Bool) (passed n : ℕ) → n ≤ most_used b passed → b ≡ false → n ≡ 0
-most-unkeyed true passed n h e = clash true refl e n
-most-unkeyed false passed n h e = omega (arith, h)
+  -- the nonce after one message more
+  pub due-next : (i : ℕ) → i < length p.messages
+      → nonce_due p (i + 1) ≡ nonce_after_message (has_psk p) (has_key p (passed_places p i)) (nonce_due p i) (tokens_at p.messages i)
+  due-next i h =
+      ap (nonce_due p) (next i) ∙ nonce-more (has_psk p) (has_key p (passed_places p 0)) 0 p.messages i h
+      ∙ ap (λ (b : Bool). nonce_after_message (has_psk p) b (nonce_due p i) (tokens_at p.messages i)) (keyed-passed i (omega arith))
 
 -- the bound after one message more
-pub most-after : (before after : Bool) (passed n more length : ℕ) → n ≤ most_used before passed → more ≤ n + length + 1 → length ≤ 10
-    → (after ≡ false → more ≡ 0) → more ≤ most_used after (passed + 1)
-most-after before true passed n more length h e short none = omega (arith, most-any before passed n h, e, short)
-most-after before false passed n more length h e short none = omega (arith, none refl)
+pub bound-after : (passed n more length : ℕ) → n ≤ 11 * passed → more ≤ n + length + 1 → length ≤ 10 → more ≤ 11 * (passed + 1)
+bound-after passed n more length h e short = omega (arith, h, e, short)

@@ -1,5 +1,5 @@
 -- What holds of every handshake holds after a message.
-use Rattle.std.proofs.Common.{◌≡◌, ℕ, zero, suc, ◌+◌, ◌-◌, ◌<◌, ◌≤◌, List, [], ◌∷◌, length, drop, refl, ap, sym, subst, ◌∙◌, arith, length-drop}
+use Rattle.std.proofs.Common.{◌≡◌, ℕ, zero, suc, ◌+◌, ◌-◌, ◌*◌, ◌<◌, ◌≤◌, List, [], ◌∷◌, length, drop, refl, ap, sym, subst, ◌∙◌, arith, length-drop}
 use Rattle.std.specs.Prelude.{Bool, Option, count_by}
 use Rattle.noise_names.specs.declared.token.Token.{Token}
 use Rattle.noise_names.specs.Tokens.{is_psk}
@@ -11,12 +11,12 @@ use Rattle.noise_keys.specs.declared.keys.Own.{Own}
 use Rattle.noise_handshake.specs.declared.remote.Remote.{Remote}
 use Rattle.noise_handshake.specs.Length.{keyed_after_tokens}
 use Rattle.noise_handshake.specs.View.{tokens_at}
-use Rattle.noise_handshake.specs.Held.{Held, most_used}
+use Rattle.noise_handshake.specs.Held.{Held}
+use Rattle.noise_handshake.specs.Nonces.{nonce_after_message, nonce_due}
 use Rattle.noise_handshake.specs.Setup.{secrets_of}
 use Rattle.noise_handshake.specs.inner.Sound.{IsSound}
 use Rattle.noise_handshake.specs.Passed.{passed_places}
-use Rattle.noise_handshake.specs.inner.Counting.{CountsUses}
-use Rattle.noise_handshake.proofs.Counting.{most-after, most-unkeyed}
+use Rattle.noise_handshake.proofs.Counting.{bound-after, due-next}
 use Rattle.noise_handshake.proofs.Places.{has_key-passed}
 
 -- the secrets of the messages from one on
@@ -36,10 +36,6 @@ module _ {K : Type 0} (public_of : K → Own → Option (List ℕ)) (h : Held K)
   pub enough : count_by is_psk tokens ≤ length h.secrets
   enough = omega (arith, counted)
 
-  -- its nonce counts the uses of its key
-  pub counts : CountsUses h.state
-  counts = record { unkeyed = most-unkeyed (keyed h.state) h.passed (nonce_now h.state) s.nonce }
-
   -- there is a key after it exactly where the pattern says so
   pub key-after : (state : SymmetricState) (passed : ℕ) → passed ≡ h.passed + 1
       → keyed state ≡ keyed_after_tokens (has_psk h.pattern) (keyed h.state) tokens → keyed state ≡ has_key h.pattern (passed_places h.pattern passed)
@@ -48,10 +44,20 @@ module _ {K : Type 0} (public_of : K → Own → Option (List ℕ)) (h : Held K)
       ∙ ap (λ (ts : List Token). keyed_after_tokens (has_psk h.pattern) (has_key h.pattern (passed_places h.pattern h.passed)) ts) e
       ∙ sym (has_key-passed h.pattern h.passed due) ∙ ap (λ (i : ℕ). has_key h.pattern (passed_places h.pattern i)) (sym p)
 
+  -- its nonce counts the texts under that key
+  pub nonce-after : (state : SymmetricState) (passed : ℕ) → passed ≡ h.passed + 1
+      → nonce_now state ≡ nonce_after_message (has_psk h.pattern) (keyed h.state) (nonce_now h.state) tokens → nonce_now state ≡ nonce_due h.pattern passed
+  nonce-after state passed p k =
+      k ∙ ap (λ (b : Bool). nonce_after_message (has_psk h.pattern) b (nonce_now h.state) tokens) s.keyed
+      ∙ ap (λ (n : ℕ). nonce_after_message (has_psk h.pattern) (has_key h.pattern (passed_places h.pattern h.passed)) n tokens) s.nonce
+      ∙ ap (λ (ts : List Token). nonce_after_message (has_psk h.pattern) (has_key h.pattern (passed_places h.pattern h.passed))
+      (nonce_due h.pattern h.passed) ts) e
+      ∙ sym (due-next h.pattern h.passed due) ∙ ap (nonce_due h.pattern) (sym p)
+
   pub sound-after : (remote : Remote) (state : SymmetricState) (secrets : List (List ℕ)) (passed : ℕ) → passed ≡ h.passed + 1
       → secrets ≡ drop (count_by is_psk tokens) h.secrets
       → keyed state ≡ keyed_after_tokens (has_psk h.pattern) (keyed h.state) tokens → nonce_now state ≤ nonce_now h.state + length tokens + 1
-      → length tokens ≤ 10 → CountsUses state
+      → length tokens ≤ 10 → nonce_now state ≡ nonce_after_message (has_psk h.pattern) (keyed h.state) (nonce_now h.state) tokens
       → IsSound public_of (record h { remote = remote; state = state; secrets = secrets; passed = passed })
   sound-after remote state secrets passed p d k n short u = record {
     within = omega (arith, due, p);
@@ -61,8 +67,8 @@ module _ {K : Type 0} (public_of : K → Own → Option (List ℕ)) (h : Held K)
     has_e = s.has_e;
     has_s = s.has_s;
     keyed = key-after state passed p k;
-    nonce = subst (λ (i : ℕ). nonce_now state ≤ most_used (keyed state) i) (sym p)
-        (most-after (keyed h.state) (keyed state) h.passed (nonce_now h.state) (nonce_now state) (length tokens) s.nonce n short u.unkeyed);
+    nonce = nonce-after state passed p u;
+    bound = subst (λ (i : ℕ). nonce_now state ≤ 11 * i) (sym p) (bound-after h.passed (nonce_now h.state) (nonce_now state) (length tokens) s.bound n short);
   } where
     left : (a b c : ℕ) → a ≡ b + c → a - b ≡ c
     left a b c h = omega arith

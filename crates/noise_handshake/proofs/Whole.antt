@@ -1,5 +1,5 @@
 -- What holds of every handshake, and what a caller's parts are tested for.
-use Rattle.std.proofs.Common.{◌≡◌, ℕ, ◌≤◌, List, Bool, true, false, length, drop, refl, arith}
+use Rattle.std.proofs.Common.{◌≡◌, ℕ, ◌≤◌, ◌*◌, List, Bool, true, false, length, drop, refl, arith}
 use Rattle.std.specs.Prelude.{not, ◌&&◌, Option, is_some, is_none}
 use Rattle.noise_names.specs.declared.token.Token.TheVariants.{E, S}
 use Rattle.noise_names.specs.Tokens.{other}
@@ -9,7 +9,8 @@ use Rattle.noise_names.specs.Plan.{places_of}
 use Rattle.noise_state.specs.Standing.{keyed, nonce_now}
 use Rattle.noise_keys.specs.declared.keys.Own.{Own}
 use Rattle.noise_keys.specs.declared.keys.Own.TheVariants.{Ephemeral, Static}
-use Rattle.noise_handshake.specs.Held.{Held, most_used}
+use Rattle.noise_handshake.specs.Held.{Held}
+use Rattle.noise_handshake.specs.Nonces.{nonce_due}
 use Rattle.noise_handshake.specs.Parts.{IsWhole}
 use Rattle.noise_handshake.specs.Passed.{passed_places}
 use Rattle.noise_handshake.specs.Setup.{lacks_own, secrets_of}
@@ -50,7 +51,7 @@ module _ {K : Type 0} (public_of : K → Own → Option (List ℕ)) (h : Held K)
       × (is_some h.remote.s ≡ is_among (other h.role) S (passed_places h.pattern h.passed))
 
   abbrev pub Keyed : Type 0
-  Keyed = (keyed h.state ≡ has_key h.pattern (passed_places h.pattern h.passed)) × (nonce_now h.state ≤ most_used (keyed h.state) h.passed)
+  Keyed = (keyed h.state ≡ has_key h.pattern (passed_places h.pattern h.passed)) × (nonce_now h.state ≡ nonce_due h.pattern h.passed)
 
   pub is-whole : Counted → owns ≡ true → Known → Keyed → IsWhole public_of h
   is-whole a b c d = record {
@@ -78,8 +79,8 @@ module _ {K : Type 0} (public_of : K → Own → Option (List ℕ)) (h : Held K)
   whole-keyed w = (w.key, w.nonce)
 
   -- the same as a handshake keeps it
-  pub whole-sound : length h.pattern.messages ≤ 8 → IsWhole public_of h → IsSound public_of h
-  whole-sound few w = record {
+  pub whole-sound : length h.pattern.messages ≤ 8 → nonce_now h.state ≤ 11 * h.passed → IsWhole public_of h → IsSound public_of h
+  whole-sound few bound w = record {
     within = w.within;
     few = few;
     secrets = w.secrets;
@@ -87,6 +88,7 @@ module _ {K : Type 0} (public_of : K → Own → Option (List ℕ)) (h : Held K)
     has_s = absent (is_among h.role S (places_of h.pattern)) (public_of h.keys Static) w.own_s;
     keyed = w.key;
     nonce = w.nonce;
+    bound = bound;
   }
 
   pub whole-known : IsWhole public_of h → KnowsRemote h

@@ -29,11 +29,6 @@ pub record Held (K : Type 0) : Type 0 where
 abbrev pub is_turn : Role → ℕ → Bool
 is_turn role passed = same_role (turn_from Initiator passed) role
 
--- How many nonces so many messages take at most: one for each token, of which a message has at most 10, and one for its payload. Without
--- a key they take none (5.1).
-abbrev pub most_used : Bool → ℕ → ℕ
-most_used keyed passed = if keyed then 11 * passed else 0
-
 -- why no message is read now, whatever it is; none if one is due
 abbrev pub read_fault : {K : Type 0} → Held K → Option ReadFault
 read_fault h =

@@ -9,7 +9,8 @@ use Rattle.noise_keys.specs.declared.keys.Own.{Own}
 use Rattle.noise_keys.specs.declared.keys.Own.TheVariants.{Ephemeral, Static}
 use Rattle.noise_handshake.specs.declared.parts.Parts.{Parts}
 use Rattle.noise_handshake.specs.declared.parts.Progress.{Progress}
-use Rattle.noise_handshake.specs.Held.{Held, most_used}
+use Rattle.noise_handshake.specs.Held.{Held}
+use Rattle.noise_handshake.specs.Nonces.{nonce_due}
 use Rattle.noise_handshake.specs.Setup.{lacks_own, secrets_of}
 use Rattle.noise_handshake.specs.Passed.{passed_places}
 
@@ -35,8 +36,8 @@ pub record HasProgress {K : Type 0} (h : Held K) (g : Progress) : Type 0 where
 
 -- What holds of every handshake: no more messages have passed than there are, a secret is left for each psk token that is still to come (9.2),
 -- the party has each key of its own that the pattern has a token for, exactly those keys of the other party's are known whose tokens stand in
--- its pre-message or in a message that has passed (5.3), there is a cipher key exactly where the pattern says so (5.2), and its nonce is no
--- more than the messages can have taken, 0 without a key.
+-- its pre-message or in a message that has passed (5.3), there is a cipher key exactly where the pattern says so (5.2), and its nonce counts
+-- the texts that were encrypted under it (5.1), 0 without a key.
 pub record IsWhole {K : Type 0} (public_of : K → Own → Option (List ℕ)) (h : Held K) : Type 0 where
   pub within : h.passed ≤ length h.pattern.messages
   pub secrets : length h.secrets ≡ secrets_of (drop h.passed h.pattern.messages)
@@ -45,4 +46,4 @@ pub record IsWhole {K : Type 0} (public_of : K → Own → Option (List ℕ)) (h
   pub remote_e : is_some h.remote.e ≡ is_among (other h.role) E (passed_places h.pattern h.passed)
   pub remote_s : is_some h.remote.s ≡ is_among (other h.role) S (passed_places h.pattern h.passed)
   pub key : keyed h.state ≡ has_key h.pattern (passed_places h.pattern h.passed)
-  pub nonce : nonce_now h.state ≤ most_used (keyed h.state) h.passed
+  pub nonce : nonce_now h.state ≡ nonce_due h.pattern h.passed

@@ -1,5 +1,4 @@
 -- What only private functions and proofs of this crate need: no public clause names any of it.
-pub mod Counting
 pub mod Known
 pub mod Late
 pub mod Layout

@@ -185,8 +185,8 @@ impl<K: Keys> Handshake<K> {
 
     /// The handshake that holds these parts, and these secrets for the psk tokens that are still to come, in their order; or None for
     /// what no handshake holds. It stands for what the handshake stood for that was taken apart; at None the parts are gone. What can't be
-    /// told from the parts isn't tested, as whether the keys, the hash and the nonce come of messages: of other parts it may be a handshake
-    /// that stands for no view.
+    /// told from the parts isn't tested, as whether the keys and the hash come of messages: of other parts it may be a handshake that
+    /// stands for no view. The nonce has to be the number of texts that the pattern's tokens encrypt under the present key.
     ///
     /// A handshake that was taken apart is put together once: two of them would encrypt at the same nonce.
     pub fn from_parts(parts: Parts<K>, secrets: &[[u8; 32]]) -> Option<Handshake<K>>

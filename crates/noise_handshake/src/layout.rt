@@ -44,7 +44,7 @@ fn token_width(keyed: bool, token: Token) -> u8
 }
 
 // Whether there is a key after a token.
-fn keyed_after(psks: bool, keyed: bool, token: Token) -> bool
+pub(crate) fn keyed_after(psks: bool, keyed: bool, token: Token) -> bool
     ensures { result ≡ keyed_after psks keyed token }
 {
     match token {

@@ -1,23 +1,21 @@
 //! What a handshake holds, for a caller that keeps it itself.
 #![tactic(auto)]
 
-ghost use Rattle.std.specs.Prelude.{◌≡◌, ◌≤◌, ◌<◌, ◌↔◌, not, ◌&&◌, length, drop, is_some, IsTrue, MatchOption};
+ghost use Rattle.std.specs.Prelude.{◌≡◌, ◌≤◌, ◌<◌, ◌*◌, ◌↔◌, not, ◌&&◌, length, drop, is_some, IsTrue, MatchOption};
 ghost use Rattle.noise_names.specs.declared.token.Token.TheVariants.{E, S};
 ghost use Rattle.noise_names.specs.Tokens.{other};
 ghost use Rattle.noise_names.specs.Validity.{is_among};
 ghost use Rattle.noise_names.specs.Overhead.{has_key};
-ghost use Rattle.noise_handshake.specs.Held.{most_used};
+ghost use Rattle.noise_handshake.specs.Nonces.{nonce_due};
 ghost use Rattle.noise_handshake.specs.Passed.{passed_places};
 ghost use Rattle.noise_handshake.specs.Setup.{lacks_own, secrets_of};
 ghost use Rattle.noise_handshake.specs.Parts.{held_of, IsWhole};
 
+use crate::nonces::nonce_due;
 use crate::setup::{lacks_own, psk_total, was_sent};
 use crate::{Keys, Own, Remote};
 use noise_names::{Role, ValidPattern};
 use noise_state::StateParts;
-
-// A message takes no more nonces: one for each of its tokens, at most 10, and one for its payload.
-const NONCES: u64 = 11;
 
 /// What messages change of a handshake, its secrets aside.
 #[derive(Drop)]
@@ -75,15 +73,17 @@ impl<K: Keys> Parts<K> {
             && self.progress.remote.s.is_some() == was_sent(pattern, passed, other, Own::Static)
     }
 
-    // Whether there is a cipher key exactly where the pattern says so, and the nonce isn't beyond what the messages can have taken.
+    // Whether there is a cipher key exactly where the pattern says so, and the nonce counts what was encrypted under it.
     fn has_state(&self) -> bool
         requires { self.now.progress.passed ≤ length self.now.pattern.messages }
-        ensures { IsTrue result ↔ ((is_some self.now.progress.state.key ≡ has_key self.now.pattern (passed_places self.now.pattern self.now.progress.passed))
-            × (self.now.progress.state.nonce ≤ most_used (is_some self.now.progress.state.key) self.now.progress.passed)) }
+        ensures whole { IsTrue result ↔ ((is_some self.now.progress.state.key ≡ has_key self.now.pattern (passed_places self.now.pattern self.now.progress.passed))
+            × (self.now.progress.state.nonce ≡ nonce_due self.now.pattern self.now.progress.passed)) }
+        ensures bound { IsTrue result → self.now.progress.state.nonce ≤ 11 * self.now.progress.passed }
     {
-        let keyed = self.progress.state.key.is_some();
-        keyed == self.pattern.has_key(self.progress.passed)
-            && self.progress.state.nonce <= most_used(keyed, self.progress.passed)
+        let passed = self.progress.passed;
+        let due = nonce_due(&self.pattern, passed);
+        self.progress.state.key.is_some() == self.pattern.has_key(passed)
+            && self.progress.state.nonce == due
     }
 
     // How many psk tokens are still to come; None where more messages have passed than there are.
@@ -104,6 +104,7 @@ impl<K: Keys> Parts<K> {
     pub(crate) fn are_whole(&self, secrets: &[[u8; 32]]) -> bool
         ensures whole { IsTrue result ↔ IsWhole K.public_of (held_of self.now secrets.now) }
         ensures few { IsTrue result → length secrets.now ≤ 9 }
+        ensures bound { IsTrue result → self.now.progress.state.nonce ≤ 11 * self.now.progress.passed }
     {
         if !self.has_secrets(secrets) {
             return false;
@@ -116,11 +117,4 @@ impl<K: Keys> Parts<K> {
         }
         self.has_state()
     }
-}
-
-// How many nonces so many messages take at most.
-fn most_used(keyed: bool, passed: u8) -> u64
-    ensures { result ≡ most_used keyed passed }
-{
-    if keyed { NONCES * u64::from(passed) } else { 0 }
 }

@@ -2,9 +2,10 @@
 #![tactic(auto)]
 
 ghost use Rattle.std.specs.Prelude.{◌≡◌, ◌≤◌, ◌<◌, ◌+◌, ◌-◌, ◌*◌, ◌^◌, ◌++◌, ℕ, List, length, take, drop, count_by, is_some, Option, Some, None};
-ghost use Rattle.std.specs.Prelude.{MatchOption, MatchResult, IfOk, IfErr, OnOk, OnErr, slice_range, slice_index_or, nat_lt, if◌then◌else◌, IsTrue, true};
+ghost use Rattle.std.specs.Prelude.{MatchOption, MatchResult, IfOk, IfSome, IfErr, OnOk, OnErr, slice_range, slice_index_or, nat_lt, if◌then◌else◌, IsTrue, true};
+ghost use Rattle.noise_state.specs.Cipher.{next_nonce};
 ghost use Rattle.noise_state.specs.Standing.{StateStands, keyed, nonce_now};
-ghost use Rattle.noise_handshake.specs.inner.Counting.{CountsUses};
+ghost use Rattle.noise_handshake.specs.Nonces.{nonce_after, nonce_after_message, nonce_after_tokens};
 ghost use Rattle.noise_state.specs.History.{History, Ciphertext, and_then, piece, cipher_key, nonce};
 ghost use Rattle.noise_handshake.specs.Line.{with_ephemeral, token_piece, after_token, after_front, after_line};
 ghost use Rattle.noise_handshake.specs.inner.Known.{is_known, are_known, e_after, s_after, e_after_tokens, s_after_tokens};
@@ -37,7 +38,7 @@ fn read_e(
     ensures key { OnOk result (keyed state.new ≡ keyed_after psks (keyed state.old) Token.E) }
     ensures known { OnOk result ((is_some known.new.e ≡ true) × (known.new.s ≡ known.old.s)) }
     ensures nonce { nonce_now state.new ≤ nonce_now state.old }
-    ensures uses { CountsUses state.old → CountsUses state.new }
+    ensures counted { OnOk result (nonce_now state.new ≡ nonce_after psks (keyed state.old) (nonce_now state.old) Token.E) }
     ensures unchanged { OnErr result (known.new ≡ known.old) }
     ensures read { (r : History) → StateStands state.old r → MatchResult result
         (λ n. (x : List ℕ) × (length x ≡ 32) × (message.now ≡ x ++ drop n message.now) × StateStands state.new (with_ephemeral psks r x)
@@ -59,7 +60,7 @@ fn open_key(state: &mut SymmetricState, buffer: &mut [u8]) -> Option<[u8; 32]>
     requires nonces { nonce_now state.old < 2 ^ 64 - 1 }
     ensures key { keyed state.new ≡ keyed state.old }
     ensures nonce { nonce_now state.new ≤ nonce_now state.old + 1 }
-    ensures uses { CountsUses state.old → CountsUses state.new }
+    ensures counted { IfSome result (λ _. nonce_now state.new ≡ next_nonce (keyed state.old) (nonce_now state.old)) }
     ensures opened { (r : History) → StateStands state.old r → length buffer.old ≡ width_of_key r → MatchOption result
         ((x : List ℕ) → buffer.old ≡ piece r x → ⊥)
         (λ x. (length x ≡ 32) × (buffer.old ≡ piece r x) × StateStands state.new (and_then r (Ciphertext (piece r x)))) }
@@ -94,7 +95,7 @@ fn read_s(
     ensures key { keyed state.new ≡ keyed state.old }
     ensures known { OnOk result ((known.new.e ≡ known.old.e) × (is_some known.new.s ≡ true)) }
     ensures nonce { nonce_now state.new ≤ nonce_now state.old + 1 }
-    ensures uses { CountsUses state.old → CountsUses state.new }
+    ensures counted { OnOk result (nonce_now state.new ≡ next_nonce (keyed state.old) (nonce_now state.old)) }
     ensures unchanged { OnErr result (known.new ≡ known.old) }
     ensures read { (r : History) → StateStands state.old r → MatchResult result
         (λ n. (x : List ℕ) × (length x ≡ 32) × (message.now ≡ piece r x ++ drop n message.now) × StateStands state.new (and_then r (Ciphertext (piece r x)))
@@ -135,7 +136,7 @@ fn read_token<K: Keys>(
     ensures e { OnOk result (is_some known.new.e ≡ e_after (is_some known.old.e) placed.token) }
     ensures s { OnOk result (is_some known.new.s ≡ s_after (is_some known.old.s) placed.token) }
     ensures nonce { nonce_now state.new ≤ nonce_now state.old + 1 }
-    ensures uses { CountsUses state.old → CountsUses state.new }
+    ensures counted { OnOk result (nonce_now state.new ≡ nonce_after means.now.psks (keyed state.old) (nonce_now state.old) placed.token) }
     ensures unchanged { OnErr result (known.new ≡ known.old) }
     ensures read { (r : History) → StateStands state.old r
         → let v : Reader = record { role = means.now.role; psks = means.now.psks; agree = K.agreement means.now.keys.now } in MatchResult result
@@ -189,7 +190,7 @@ fn read_tokens<K: Keys>(
     ensures e { OnOk result (is_some known.new.e ≡ e_after_tokens (is_some known.old.e) (tokens_of placed.now)) }
     ensures s { OnOk result (is_some known.new.s ≡ s_after_tokens (is_some known.old.s) (tokens_of placed.now)) }
     ensures nonce { nonce_now state.new ≤ nonce_now state.old + length (tokens_of placed.now) }
-    ensures uses { CountsUses state.old → CountsUses state.new }
+    ensures counted { OnOk result (nonce_now state.new ≡ nonce_after_tokens means.now.psks (keyed state.old) (nonce_now state.old) (tokens_of placed.now)) }
     ensures read { (r : History) (place : ℕ) → StateStands state.old r → place ≤ length message.now
         → ArePlaced means.now.psks (keyed state.old) place placed.now
         → let v : Reader = record { role = means.now.role; psks = means.now.psks; agree = K.agreement means.now.keys.now } in
@@ -342,7 +343,7 @@ pub(crate) fn read_message<K: Keys>(
     ensures e { OnOk result (is_some known.new.e ≡ e_after_tokens (is_some known.old.e) (tokens_of placed.now)) }
     ensures s { OnOk result (is_some known.new.s ≡ s_after_tokens (is_some known.old.s) (tokens_of placed.now)) }
     ensures nonce { nonce_now state.new ≤ nonce_now state.old + length (tokens_of placed.now) + 1 }
-    ensures uses { CountsUses state.old → CountsUses state.new }
+    ensures counted { OnOk result (nonce_now state.new ≡ nonce_after_message means.now.psks (keyed state.old) (nonce_now state.old) (tokens_of placed.now)) }
     ensures read { (r : History) → StateStands state.old r
         → let v : Reader = record { role = means.now.role; psks = means.now.psks; agree = K.agreement means.now.keys.now } in
         let tokens : List Token = tokens_of placed.now in MatchResult result

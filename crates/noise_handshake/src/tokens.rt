@@ -4,7 +4,7 @@
 ghost use Rattle.std.specs.Prelude.{◌≡◌, ◌<◌, ◌≤◌, length, is_some, Some, None, IsTrue, MatchOption};
 ghost use Rattle.noise_names.specs.declared.token.Token.{Token};
 ghost use Rattle.noise_state.specs.Standing.{StateStands, keyed, nonce_now};
-ghost use Rattle.noise_handshake.specs.inner.Counting.{CountsUses};
+ghost use Rattle.noise_handshake.specs.Nonces.{nonce_after};
 ghost use Rattle.noise_state.specs.History.{History};
 ghost use Rattle.noise_handshake.specs.inner.Known.{remote_known};
 ghost use Rattle.noise_handshake.specs.Length.{keyed_after};
@@ -76,7 +76,7 @@ pub(crate) fn mix_ephemeral(state: &mut SymmetricState, psks: bool, key: &[u8; 3
     ensures mixed { (r : History) → StateStands state.old r → StateStands state.new (with_ephemeral psks r key.now) }
     ensures keyed { keyed state.new ≡ keyed_after psks (keyed state.old) Token.E }
     ensures used { nonce_now state.new ≤ nonce_now state.old }
-    ensures uses { CountsUses state.old → CountsUses state.new }
+    ensures counted { nonce_now state.new ≡ nonce_after psks (keyed state.old) (nonce_now state.old) Token.E }
 {
     state.mix_hash(key);
     if psks {

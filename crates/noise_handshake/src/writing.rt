@@ -4,8 +4,9 @@
 ghost use Rattle.std.specs.Prelude.{◌≡◌, ◌≤◌, ◌<◌, ◌+◌, ◌-◌, ◌^◌, ℕ, List, length, take, drop, count_by, IsTrue, MatchOption, MatchResult, IfSome};
 ghost use Rattle.std.specs.Prelude.{IfOk, is_some, None};
 ghost use Rattle.std.specs.List.{list_all};
+ghost use Rattle.noise_state.specs.Cipher.{next_nonce};
 ghost use Rattle.noise_state.specs.Standing.{StateStands, keyed, nonce_now};
-ghost use Rattle.noise_handshake.specs.inner.Counting.{CountsUses};
+ghost use Rattle.noise_handshake.specs.Nonces.{nonce_after, nonce_after_message, nonce_after_tokens};
 ghost use Rattle.noise_state.specs.History.{History, Ciphertext, and_then, piece};
 ghost use Rattle.noise_handshake.specs.Line.{token_piece, after_token, front, after_front, line, after_line, with_ephemeral};
 ghost use Rattle.noise_handshake.specs.inner.Known.{is_known, remote_known};
@@ -51,7 +52,7 @@ fn write_part(state: &mut SymmetricState, text: &[u8], out: &mut [u8]) -> usize
     ensures rest { drop result out.new ≡ drop result out.old }
     ensures keyed { keyed state.new ≡ keyed state.old }
     ensures used { nonce_now state.new ≤ nonce_now state.old + 1 }
-    ensures uses { CountsUses state.old → CountsUses state.new }
+    ensures counted { nonce_now state.new ≡ next_nonce (keyed state.old) (nonce_now state.old) }
     ensures written { (r : History) → StateStands state.old r → (take result out.new ≡ piece r text.now)
         × StateStands state.new (and_then r (Ciphertext (piece r text.now))) }
 {
@@ -70,7 +71,7 @@ fn write_e(state: &mut SymmetricState, psks: bool, key: &[u8; 32], out: &mut [u8
     ensures rest { drop result out.new ≡ drop result out.old }
     ensures keyed { keyed state.new ≡ keyed_after psks (keyed state.old) Token.E }
     ensures used { nonce_now state.new ≤ nonce_now state.old }
-    ensures uses { CountsUses state.old → CountsUses state.new }
+    ensures counted { nonce_now state.new ≡ nonce_after psks (keyed state.old) (nonce_now state.old) Token.E }
     ensures written { (r : History) → StateStands state.old r → (take result out.new ≡ key.now) × StateStands state.new (with_ephemeral psks r key.now) }
 {
     mix_ephemeral(state, psks, key);
@@ -95,7 +96,7 @@ fn write_token<K: Keys>(
     ensures rest { IfSome result (λ n. drop n out.new ≡ drop n out.old) }
     ensures keyed { IfSome result (λ _. keyed state.new ≡ keyed_after means.now.psks (keyed state.old) token) }
     ensures used { nonce_now state.new ≤ nonce_now state.old + 1 }
-    ensures uses { CountsUses state.old → CountsUses state.new }
+    ensures counted { IfSome result (λ _. nonce_now state.new ≡ nonce_after means.now.psks (keyed state.old) (nonce_now state.old) token) }
     ensures written { (r : History) → StateStands state.old r
         → let w : Writer = record {
           role = means.now.role;
@@ -148,7 +149,7 @@ fn write_tokens<K: Keys>(
     ensures rest { IfOk result (λ n. drop n out.new ≡ drop n out.old) }
     ensures keyed { IfOk result (λ _. keyed state.new ≡ keyed_after_tokens means.now.psks (keyed state.old) (tokens_of placed.now)) }
     ensures used { nonce_now state.new ≤ nonce_now state.old + length (tokens_of placed.now) }
-    ensures uses { CountsUses state.old → CountsUses state.new }
+    ensures counted { IfOk result (λ _. nonce_now state.new ≡ nonce_after_tokens means.now.psks (keyed state.old) (nonce_now state.old) (tokens_of placed.now)) }
     ensures written { (r : History) → StateStands state.old r
         → let w : Writer = record {
           role = means.now.role;
@@ -279,7 +280,7 @@ pub(crate) fn write_message<K: Keys>(
     ensures rest { IfOk result (λ n. drop n out.new ≡ drop n out.old) }
     ensures keyed { IfOk result (λ _. keyed state.new ≡ keyed_after_tokens means.now.psks (keyed state.old) (tokens_of placed.now)) }
     ensures used { nonce_now state.new ≤ nonce_now state.old + length (tokens_of placed.now) + 1 }
-    ensures uses { CountsUses state.old → CountsUses state.new }
+    ensures counted { IfOk result (λ _. nonce_now state.new ≡ nonce_after_message means.now.psks (keyed state.old) (nonce_now state.old) (tokens_of placed.now)) }
     ensures written { (r : History) → StateStands state.old r
         → let w : Writer = record {
           role = means.now.role;

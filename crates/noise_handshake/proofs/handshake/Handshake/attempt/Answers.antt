@@ -21,9 +21,8 @@ use Rattle.noise_handshake.specs.declared.layout.MessageLayout.{MessageLayout}
 use Rattle.noise_handshake.specs.Passed.{passed_places}
 use Rattle.noise_handshake.specs.Party.{Stands}
 use Rattle.noise_handshake.specs.inner.Layout.{tokens_of, IsLaid, LaysNext}
-use Rattle.noise_handshake.specs.inner.Counting.{CountsUses}
-use Rattle.noise_handshake.proofs.Counting.{most-any}
-use Rattle.noise_handshake.proofs.Keeping.{enough, counts, key-after, sound-after}
+use Rattle.noise_handshake.specs.Nonces.{nonce_after_message}
+use Rattle.noise_handshake.proofs.Keeping.{enough, key-after, sound-after}
 use Rattle.noise_handshake.proofs.Wanted.{wants}
 use Rattle.noise_handshake.proofs.Views.{items-from}
 use Rattle.noise_handshake.proofs.handshake.Handshake.attempt.Goals as goal
@@ -94,7 +93,7 @@ read_message-requires-clause-nonces g c =
     let placed : List PlacedToken = c.deref-2.result.now in
     let ts : List Token = tokens_of placed in
     let few : length ts ≤ 10 = omega (arith, length-tokens_of placed, c.deref-2.ensures.1) in
-    omega (arith, most-any (keyed a.state) a.passed (nonce_now a.state) i.2.nonce, i.2.few, less, few, ap (λ (z : SymmetricState). nonce_now z) c.for_trial-state.ensures)
+    omega (arith, i.2.bound, i.2.few, less, few, ap (λ (z : SymmetricState). nonce_now z) c.for_trial-state.ensures)
 
 pub read_message-requires-clause-known : goal.read_message-requires-clause-known
 read_message-requires-clause-known g c =
@@ -208,14 +207,15 @@ invariant_of-self g c =
     let key : keyed c.read_message.new.state ≡ keyed_after_tokens (has_psk a.pattern) (keyed a.state) ts =
     c.in-Ok.ensures.key ∙ ap (λ (z : SymmetricState). keyed_after_tokens a.psks (keyed z) ts) c.for_trial-state.ensures
     ∙ ap (λ (b : Bool). keyed_after_tokens b (keyed a.state) ts) i.0 in
-    let uses : CountsUses c.read_message.new.state = c.read_message.ensures.uses
-    (subst (λ (z : SymmetricState). CountsUses z) (sym c.for_trial-state.ensures) (counts P h i.2 ts e less)) in
+    let nonce : nonce_now c.read_message.new.state ≡ nonce_after_message (has_psk a.pattern) (keyed a.state) (nonce_now a.state) ts =
+    c.in-Ok.ensures.counted ∙ ap (λ (z : SymmetricState). nonce_after_message a.psks (keyed z) (nonce_now z) ts) c.for_trial-state.ensures
+    ∙ ap (λ (b : Bool). nonce_after_message b (keyed a.state) (nonce_now a.state) ts) i.0 in
     let counted : nonce_now c.read_message.new.state ≤ nonce_now a.state + length ts + 1 =
     subst (λ (z : SymmetricState). nonce_now c.read_message.new.state ≤ nonce_now z + length ts + 1) c.for_trial-state.ensures c.read_message.ensures.nonce in (
       i.0,
       omega (arith, enough P h i.2 ts e less, length-drop a.used a.secrets.items, n, i.1),
       sound-after P h i.2 ts e less c.read_message.new.known c.read_message.new.state (drop (a.used + found.secrets) a.secrets.items) (a.passed + 1) refl
-          (ap (λ (k : ℕ). drop (a.used + k) a.secrets.items) n ∙ sym (drop-drop (count_by is_psk ts) a.used a.secrets.items)) key counted few uses,
+          (ap (λ (k : ℕ). drop (a.used + k) a.secrets.items) n ∙ sym (drop-drop (count_by is_psk ts) a.used a.secrets.items)) key counted few nonce,
       knows-read h i.3 less c.read_message.new.known c.read_message.new.state (drop (a.used + found.secrets) a.secrets.items) ts
           (reads-turn h none) e c.in-Ok.ensures.e c.in-Ok.ensures.s,
       subst (λ (z : Plan). LaysNext z (a.passed + 1) c.lay_next-self-inside.result) c.pattern-plan.ensures.same c.lay_next-self-inside.ensures,

@@ -60,7 +60,8 @@ invariant_of-result g c =
       has_e = own-e plan c.args.role own c.args.remote n none;
       has_s = own-s plan c.args.role own c.args.remote n none;
       keyed = c.start-state.ensures.key;
-      nonce = omega (arith, c.start-state.ensures.nonce);
+      nonce = c.start-state.ensures.nonce;
+      bound = omega (arith, c.start-state.ensures.nonce);
     } in (
       psks ∙ ap has_psk q,
       omega arith,

@@ -17,7 +17,6 @@ use Rattle.noise_handshake.specs.declared.layout.MessageLayout.{MessageLayout}
 use Rattle.noise_handshake.specs.Passed.{passed_places}
 use Rattle.noise_handshake.specs.Party.{Stands}
 use Rattle.noise_handshake.specs.inner.Layout.{tokens_of, IsLaid}
-use Rattle.noise_handshake.proofs.Counting.{most-any}
 use Rattle.noise_handshake.proofs.Keeping.{enough}
 use Rattle.noise_handshake.proofs.Views.{items-from}
 use Rattle.noise_handshake.proofs.handshake.Handshake.wants_to_read.Goals as goal
@@ -87,7 +86,7 @@ read_lacking-requires-clause-nonces g c =
     let placed : List PlacedToken = c.deref-2.result.now in
     let ts : List Token = tokens_of placed in
     let few : length ts ≤ 10 = omega (arith, length-tokens_of placed, c.deref-2.ensures.1) in
-    omega (arith, most-any (keyed a.state) a.passed (nonce_now a.state) i.2.nonce, i.2.few, less, few)
+    omega (arith, i.2.bound, i.2.few, less, few)
 
 pub read_lacking-requires-clause-known : goal.read_lacking-requires-clause-known
 read_lacking-requires-clause-known g c =

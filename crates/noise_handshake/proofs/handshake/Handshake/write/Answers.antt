@@ -23,10 +23,13 @@ use Rattle.noise_handshake.specs.declared.layout.MessageLayout.{MessageLayout}
 use Rattle.noise_handshake.specs.Passed.{passed_places}
 use Rattle.noise_handshake.specs.Party.{Stands}
 use Rattle.noise_handshake.specs.inner.Layout.{tokens_of, IsLaid, LaysNext}
-use Rattle.noise_handshake.specs.inner.Counting.{CountsUses}
-use Rattle.noise_handshake.proofs.Counting.{most-any}
-use Rattle.noise_handshake.proofs.Keeping.{enough, counts, key-after, sound-after}
+use Rattle.noise_handshake.specs.Nonces.{nonce_after_message}
+use Rattle.noise_handshake.proofs.Keeping.{enough, key-after, sound-after}
 use Rattle.noise_handshake.proofs.Views.{items-from}
+use Rattle.noise_handshake.proofs.LateViews.{fault-no-agreement, withheld-view}
+use Rattle.noise_handshake.proofs.Withheld.{withholds-of}
+use Rattle.noise_handshake.specs.View.{View}
+use Rattle.noise_handshake.specs.declared.faults.WriteFault.{WriteFault}
 use Rattle.noise_handshake.proofs.handshake.Handshake.write.Goals as goal
 
 pub write_message-requires-clause-secrets : goal.write_message-requires-clause-secrets
@@ -78,7 +81,7 @@ write_message-requires-clause-nonces g c =
     let placed : List PlacedToken = c.deref-2.result.now in
     let ts : List Token = tokens_of placed in
     let few : length ts ≤ 10 = omega (arith, length-tokens_of placed, c.deref-2.ensures.1) in
-    omega (arith, most-any (keyed a.state) a.passed (nonce_now a.state) i.2.nonce, i.2.few, less, few, ap (λ (z : SymmetricState). nonce_now z) c.for_trial-state.ensures)
+    omega (arith, i.2.bound, i.2.few, less, few, ap (λ (z : SymmetricState). nonce_now z) c.for_trial-state.ensures)
 
 pub write_message-requires-clause-own : goal.write_message-requires-clause-own
 write_message-requires-clause-own g c =
@@ -290,15 +293,16 @@ invariant_of-self g c =
     let key : keyed c.write_message.new.state ≡ keyed_after_tokens (has_psk a.pattern) (keyed a.state) ts =
     c.in-Ok.ensures.keyed ∙ ap (λ (z : SymmetricState). keyed_after_tokens a.psks (keyed z) ts) c.for_trial-state.ensures
     ∙ ap (λ (b : Bool). keyed_after_tokens b (keyed a.state) ts) i.0 in
-    let uses : CountsUses c.write_message.new.state = c.write_message.ensures.uses
-    (subst (λ (z : SymmetricState). CountsUses z) (sym c.for_trial-state.ensures) (counts P h i.2 ts e less)) in
+    let nonce : nonce_now c.write_message.new.state ≡ nonce_after_message (has_psk a.pattern) (keyed a.state) (nonce_now a.state) ts =
+    c.in-Ok.ensures.counted ∙ ap (λ (z : SymmetricState). nonce_after_message a.psks (keyed z) (nonce_now z) ts) c.for_trial-state.ensures
+    ∙ ap (λ (b : Bool). nonce_after_message b (keyed a.state) (nonce_now a.state) ts) i.0 in
     let counted : nonce_now c.write_message.new.state ≤ nonce_now a.state + length ts + 1 =
     subst (λ (z : SymmetricState). nonce_now c.write_message.new.state ≤ nonce_now z + length ts + 1) c.for_trial-state.ensures
     c.write_message.ensures.used in (
       i.0,
       omega (arith, enough P h i.2 ts e less, length-drop a.used a.secrets.items, n, i.1),
       sound-after P h i.2 ts e less a.remote c.write_message.new.state (drop (a.used + found.secrets) a.secrets.items) (a.passed + 1) refl
-          (ap (λ (k : ℕ). drop (a.used + k) a.secrets.items) n ∙ sym (drop-drop (count_by is_psk ts) a.used a.secrets.items)) key counted few uses,
+          (ap (λ (k : ℕ). drop (a.used + k) a.secrets.items) n ∙ sym (drop-drop (count_by is_psk ts) a.used a.secrets.items)) key counted few nonce,
       knows-wrote h i.3 less c.write_message.new.state (drop (a.used + found.secrets) a.secrets.items) (writes-turn P h i.2 len none),
       subst (λ (z : Plan). LaysNext z (a.passed + 1) c.lay_next-self-inside.result) c.pattern-plan.ensures.same c.lay_next-self-inside.ensures,
       i.5,
@@ -447,3 +451,17 @@ returns-in-Ok-clause-state g c =
     } in
     subst (λ (z : Held g.row.K.Denot). Advances z after) c.self.view_is
     (advanced h after a.secrets.items a.used a.next.secrets refl refl refl refl (unended-write h len none) refl refl)
+
+pub returns-in-Some-clause-writes : goal.returns-in-Some-clause-writes
+returns-in-Some-clause-writes g c v s =
+    let P = g.K.Keys.public_of in
+    let A = g.K.Keys.agreement in
+    let f : WriteFault = c.in-Some.fault in
+    let len : ℕ = length c.args.payload.now in
+    let e : write_fault c.args.self.now len ≡ Some f = sym c.write_fault.ensures.value ∙ c.in-Some.is in
+    let within : c.args.self.now.passed ≤ length c.args.self.now.pattern.messages =
+    subst (λ (z : Held g.row.K.Denot). z.passed ≤ length z.pattern.messages) c.self.view_is c.self.invariant.2.within in
+    let clear = fault-no-agreement c.args.self.now len f e in (
+      withholds-of P A c.args.self.now v s within len f e,
+      subst (λ (w : View). Stands P A c.args.self.now w) (sym (withheld-view v f clear)) s,
+    )

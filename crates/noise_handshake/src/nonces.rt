@@ -1,0 +1,89 @@
+//! The nonce that messages leave (Noise, 5.1 and 5.2).
+#![tactic(auto)]
+
+ghost use Rattle.std.specs.Prelude.{◌≡◌, ◌≤◌, ◌<◌, ◌+◌, ◌-◌, ◌*◌, ◌^◌, length};
+ghost use Rattle.noise_names.specs.Overhead.{has_key};
+ghost use Rattle.noise_state.specs.Cipher.{next_nonce};
+ghost use Rattle.noise_handshake.specs.Length.{keyed_after_tokens};
+ghost use Rattle.noise_handshake.specs.Nonces.{nonce_after, nonce_after_tokens, nonce_after_messages, nonce_due};
+ghost use Rattle.noise_handshake.specs.Passed.{passed_places};
+
+use crate::layout::keyed_after;
+use noise_names::{Message, Pattern, Token, ValidPattern};
+
+// Whether there is a key, and its nonce.
+#[derive(Clone, Copy)]
+struct Count {
+    keyed: bool,
+    nonce: u64,
+}
+
+// The nonce after a text that is encrypted where there is a key.
+fn next_nonce(keyed: bool, nonce: u64) -> u64
+    requires { nonce < 2 ^ 64 - 1 }
+    ensures value { result ≡ next_nonce keyed nonce }
+    ensures bound { result ≤ nonce + 1 }
+{
+    if keyed { nonce + 1 } else { nonce }
+}
+
+// The nonce after a token.
+fn nonce_after(psks: bool, count: Count, token: Token) -> u64
+    requires { count.nonce < 2 ^ 64 - 1 }
+    ensures value { result ≡ nonce_after psks count.keyed count.nonce token }
+    ensures bound { result ≤ count.nonce + 1 }
+{
+    match token {
+        Token::E => { if psks { 0 } else { count.nonce } }
+        Token::S => next_nonce(count.keyed, count.nonce),
+        _ => 0,
+    }
+}
+
+fn after_tokens(psks: bool, count: Count, tokens: &[Token]) -> Count
+    requires { count.nonce + length tokens.now < 2 ^ 64 - 1 }
+    ensures keyed { result.keyed ≡ keyed_after_tokens psks count.keyed tokens.now }
+    ensures nonce { result.nonce ≡ nonce_after_tokens psks count.keyed count.nonce tokens.now }
+    ensures bound { result.nonce ≤ count.nonce + length tokens.now }
+{
+    let Some((token, later)) = tokens.split_first() else {
+        return count;
+    };
+    let after = Count {
+        keyed: keyed_after(psks, count.keyed, *token),
+        nonce: nonce_after(psks, count, *token),
+    };
+    after_tokens(psks, after, later)
+}
+
+fn after_messages(psks: bool, count: Count, messages: &[Message]) -> u64
+    requires small { count.nonce ≤ 88 - 11 * length messages.now }
+    requires few { length messages.now ≤ 8 }
+    ensures nonce { result ≡ nonce_after_messages psks count.keyed count.nonce messages.now }
+    ensures bound { result ≤ count.nonce + 11 * length messages.now }
+{
+    let Some((message, later)) = messages.split_first() else {
+        return count.nonce;
+    };
+    let after = after_tokens(psks, count, message.tokens());
+    let next = Count {
+        keyed: after.keyed,
+        nonce: next_nonce(after.keyed, after.nonce),
+    };
+    after_messages(psks, next, later)
+}
+
+// The nonce of a handshake in which so many messages have passed.
+pub(crate) fn nonce_due(valid: &ValidPattern, passed: u8) -> u64
+    requires { passed ≤ length valid.now.messages }
+    ensures due { result ≡ nonce_due valid.now passed }
+    ensures bound { result ≤ 11 * passed }
+{
+    let pattern: &Pattern = valid.pattern();
+    let psks = !pattern.is_plain();
+    let count = Count {
+        keyed: valid.has_key(0),
+        nonce: 0,
+    };
+    after_messages(psks, count, &pattern.messages()[..passed as usize])
+}
