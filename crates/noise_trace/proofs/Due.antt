@@ -11,7 +11,7 @@ use Rattle.noise_names.specs.Limits.{IsPattern}
 use Rattle.std.proofs.lemmas.Bool.Decides.{nat_tests}
 use Rattle.noise_state.specs.History.{History}
 use Rattle.noise_handshake.specs.declared.remote.Remote.{Remote}
-use Rattle.noise_handshake.specs.Held.{is_turn, most_used}
+use Rattle.noise_handshake.specs.Held.{is_turn}
 use Rattle.noise_handshake.specs.Setup.{secrets_of}
 use Rattle.noise_handshake.specs.Line.{front, line, after_line}
 use Rattle.noise_handshake.specs.View.{View, Reader, Fits, Fit, Listens, Speaks, known_after, secrets_after, tokens_at}
@@ -38,10 +38,6 @@ pub secrets-due : (ms : List (List Token)) (n : ℕ) → count_by is_psk (tokens
 secrets-due [] n = omega arith
 secrets-due (ts ∷ ms) zero = omega arith
 secrets-due (ts ∷ ms) (suc n) = secrets-due ms n
-
-pub most-used : (k : Bool) (n : ℕ) → most_used k n ≤ 11 * n
-most-used true n = omega arith
-most-used false n = omega arith
 
 -- what a message of the other party carries
 pub fit-carries : (v : Reader) (known : Remote) (secrets : List (List ℕ)) (ts : List Token) (xs : List (List ℕ))
@@ -105,9 +101,3 @@ message-done psks r ts xs payload m from values before after f s w b a =
     ∙ ap (λ (z : List ℕ). token_steps psks r 0 ts xs ++ (record { part = part.Payload; from = length (front psks r ts xs); to = length z; state = values }) ∷ []) s
     ∙ ap (λ (z : StateValues). token_steps psks r 0 ts xs
     ++ (record { part = part.Payload; from = length (front psks r ts xs); to = length (line psks r ts xs payload); state = z }) ∷ []) w
-
-pub few-messages : (p : Plan) → IsPattern p → length p.messages ≤ 8
-few-messages p i = at_most (nat_le 1 (length p.messages)) (length p.messages) i.count where
-  at_most : (a : Bool) (n : ℕ) → IsTrue (a && nat_le n 8) → n ≤ 8
-  at_most true n h = grind (arith, nat_tests)
-  at_most false n h = absurd (cc)

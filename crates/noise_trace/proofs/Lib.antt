@@ -3,3 +3,4 @@ pub mod Fronts
 pub mod Due
 pub mod Joined
 pub mod PreMessages
+pub mod NonceBounds

@@ -5,7 +5,8 @@ use Rattle.noise_names.specs.Plan.{Plan}
 use Rattle.noise_names.specs.Tokens.{is_psk}
 use Rattle.noise_state.specs.Standing.{keyed, nonce_now}
 use Rattle.noise_handshake.specs.View.{tokens_at}
-use Rattle.noise_trace.proofs.Due.{secrets-due, most-used, few-messages}
+use Rattle.noise_trace.proofs.Due.{secrets-due}
+use Rattle.noise_trace.proofs.NonceBounds.{nonce-most}
 use Rattle.noise_trace.proofs.before.BeforeMessage.new.Goals as goal
 
 pub invariant_of-result : goal.invariant_of-result
@@ -28,5 +29,5 @@ invariant_of-result g c =
     let state : c.from_parts.result ≡ h.state = c.from_parts.ensures ∙ came.state in
     record {
       secrets_due = omega (arith, ap (count_by is_psk) due, secrets-due p.messages h.passed, whole.secrets, ap length (s ∙ c.secrets.ensures.same));
-      nonces = omega (arith, ap nonce_now state, whole.nonce, most-used (keyed h.state) h.passed, whole.within, few-messages p c.pattern.ensures.limits);
+      nonces = omega (arith, ap nonce_now state, whole.nonce, nonce-most p h.passed c.pattern.ensures.limits);
     }
