@@ -1,14 +1,11 @@
 -- The message that is due, and what its tokens carry.
-use Rattle.std.proofs.Common.{◌≡◌, ℕ, zero, suc, ◌*◌, ◌<◌, ◌≤◌, List, [], ◌∷◌, ◌++◌, length, get_or, drop, refl, ap, ◌∙◌, arith}
-use Rattle.std.specs.Prelude.{Bool, true, false, not, ◌&&◌, nat_le, IsTrue, count_by}
+use Rattle.std.proofs.Common.{◌≡◌, ℕ, zero, suc, ◌<◌, ◌≤◌, List, [], ◌∷◌, ◌++◌, length, get_or, drop, refl, ap, ◌∙◌, arith}
+use Rattle.std.specs.Prelude.{Bool, true, false, not, count_by}
 use Rattle.noise_names.specs.declared.token.Token.{Token}
 use Rattle.noise_names.specs.declared.token.Token.TheVariants.{E, S, Ee, Es, Se, Ss, Psk}
 use Rattle.noise_names.specs.declared.token.Role.{Role}
 use Rattle.noise_names.specs.declared.token.Role.TheVariants.{Initiator, Responder}
 use Rattle.noise_names.specs.Tokens.{is_psk, other, same_role, turn_from}
-use Rattle.noise_names.specs.Plan.{Plan}
-use Rattle.noise_names.specs.Limits.{IsPattern}
-use Rattle.std.proofs.lemmas.Bool.Decides.{nat_tests}
 use Rattle.noise_state.specs.History.{History}
 use Rattle.noise_handshake.specs.declared.remote.Remote.{Remote}
 use Rattle.noise_handshake.specs.Held.{is_turn}

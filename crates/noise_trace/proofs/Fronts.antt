@@ -8,10 +8,8 @@ use Rattle.noise_state.specs.Standing.{StateStands}
 use Rattle.noise_handshake.specs.declared.remote.Remote.{Remote}
 use Rattle.noise_handshake.specs.Line.{token_piece, after_token, front, after_front}
 use Rattle.noise_handshake.specs.View.{Reader, Fits, secrets_after}
-use Rattle.noise_trace.specs.declared.values.StateValues.{StateValues}
 use Rattle.noise_trace.specs.declared.step.Part.TheVariants as part
 use Rattle.noise_trace.specs.declared.step.Step.{Step}
-use Rattle.noise_trace.specs.Values.{values_of}
 use Rattle.noise_trace.specs.Carried.{known_next, Carries}
 use Rattle.noise_trace.specs.Steps.{step, token_steps}
 
@@ -55,28 +53,22 @@ Follows psks r tokens xs from state result old new =
     (result ≡ Some (from + length (front psks r tokens xs))) × StateStands state (after_front psks r tokens xs)
     × (new ≡ old ++ token_steps psks r from tokens xs)
 
-module _ (psks : Bool) (r : History) (tokens ts : List Token) (t : Token) (xs ys : List (List ℕ)) (x : List ℕ) (from width : ℕ)
-    (state : SymmetricState) (result : Option ℕ) (old mid new : List Step) (values : StateValues)
-    (split : tokens ≡ t ∷ ts) (parts : xs ≡ x ∷ ys) (wide : width ≡ length (token_piece r t x)) (are : values ≡ values_of (after_token psks r t x))
-    (pushed : mid ≡ old ++ (record { part = part.Token t; from = from; to = from + width; state = values }) ∷ []) where
-  one : record { part = part.Token t; from = from; to = from + width; state = values }
-      ≡ step (part.Token t) from (length (token_piece r t x)) (after_token psks r t x)
-  one =
-      ap (λ (n : ℕ). record { part = part.Token t; from = from; to = from + n; state = values }) wide
-      ∙ ap (λ (z : StateValues). record { part = part.Token t; from = from; to = from + length (token_piece r t x); state = z }) are
-
-  -- what following the others makes is what following all of them makes
-  pub followed-on : Follows psks (after_token psks r t x) ts ys (from + width) state result mid new → Follows psks r tokens xs from state result old new
-  followed-on f =
-      let after : History = after_token psks r t x in
-      let piece : List ℕ = token_piece r t x in
-      let length-is : (from + width) + length (front psks after ts ys) ≡ from + length (piece ++ front psks after ts ys) =
-      omega (arith, wide, length-append piece (front psks after ts ys)) in
-      let steps : new ≡ old ++ token_steps psks r from (t ∷ ts) (x ∷ ys) =
-      f.2 ∙ ap (λ (n : ℕ). mid ++ token_steps psks after (from + n) ts ys) wide
-      ∙ ap (λ (z : List Step). z ++ token_steps psks after (from + length piece) ts ys)
-      (pushed ∙ ap (λ (s : Step). old ++ s ∷ []) one)
-      ∙ append_assoc old (step (part.Token t) from (length piece) after ∷ []) (token_steps psks after (from + length piece) ts ys) in
-      let whole : Follows psks r (t ∷ ts) (x ∷ ys) from state result old new = (f.0 ∙ ap (λ (n : ℕ). Some n) length-is, f.1, steps) in
-      subst (λ (us : List Token). Follows psks r us xs from state result old new) (sym split)
-      (subst (λ (zs : List (List ℕ)). Follows psks r (t ∷ ts) zs from state result old new) (sym parts) whole)
+-- what following the others makes is what following all of them makes
+pub followed-on : (psks : Bool) (r : History) (tokens ts : List Token) (t : Token) (xs ys : List (List ℕ)) (x : List ℕ) (from to : ℕ)
+    (state : SymmetricState) (result : Option ℕ) (old mid new : List Step)
+    → tokens ≡ t ∷ ts → xs ≡ x ∷ ys → to ≡ from + length (token_piece r t x)
+    → mid ≡ old ++ step (part.Token t) from (length (token_piece r t x)) (after_token psks r t x) ∷ []
+    → Follows psks (after_token psks r t x) ts ys to state result mid new → Follows psks r tokens xs from state result old new
+followed-on psks r tokens ts t xs ys x from to state result old mid new split parts place pushed f =
+    let after : History = after_token psks r t x in
+    let piece : List ℕ = token_piece r t x in
+    let first : Step = step (part.Token t) from (length piece) after in
+    let length-is : to + length (front psks after ts ys) ≡ from + length (piece ++ front psks after ts ys) =
+    omega (arith, place, length-append piece (front psks after ts ys)) in
+    let steps : new ≡ old ++ token_steps psks r from (t ∷ ts) (x ∷ ys) =
+    f.2 ∙ ap (λ (n : ℕ). mid ++ token_steps psks after n ts ys) place
+    ∙ ap (λ (z : List Step). z ++ token_steps psks after (from + length piece) ts ys) pushed
+    ∙ append_assoc old (first ∷ []) (token_steps psks after (from + length piece) ts ys) in
+    let whole : Follows psks r (t ∷ ts) (x ∷ ys) from state result old new = (f.0 ∙ ap (λ (n : ℕ). Some n) length-is, f.1, steps) in
+    subst (λ (us : List Token). Follows psks r us xs from state result old new) (sym split)
+    (subst (λ (zs : List (List ℕ)). Follows psks r (t ∷ ts) zs from state result old new) (sym parts) whole)

@@ -1,5 +1,5 @@
 -- How many nonces the messages of a pattern take at most.
-use Rattle.std.proofs.Common.{◌≡◌, ℕ, zero, suc, ◌+◌, ◌*◌, ◌≤◌, List, [], ◌∷◌, ◌++◌, length, take, refl, sym, ap, ◌∙◌, arith, length-append}
+use Rattle.std.proofs.Common.{◌≡◌, ℕ, zero, suc, ◌+◌, ◌*◌, ◌≤◌, List, [], ◌∷◌, ◌++◌, length, take, refl, ap, ◌∙◌, arith, length-append}
 use Rattle.std.proofs.lemmas.Bool.Decides.{nat_tests}
 use Rattle.std.specs.Prelude.{Bool, true, false, ◌&&◌, ◌==◌, IsTrue, nat_le, if◌then◌else◌}
 use Rattle.std.specs.List.{list_any, list_all}
@@ -7,7 +7,7 @@ use Rattle.noise_names.specs.declared.token.Token.{Token}
 use Rattle.noise_names.specs.declared.token.Token.TheVariants.{E, S, Ee, Es, Se, Ss, Psk}
 use Rattle.noise_names.specs.Tokens.{own_tokens}
 use Rattle.noise_names.specs.Plan.{Plan, has_psk}
-use Rattle.noise_names.specs.Limits.{IsPattern, HavePsksAt, psk_if, with_psk_tokens, has_few_tokens}
+use Rattle.noise_names.specs.Limits.{IsPattern, HavePsksAt, psk_if, has_few_tokens}
 use Rattle.noise_names.specs.Overhead.{has_key}
 use Rattle.noise_state.specs.Cipher.{next_nonce}
 use Rattle.noise_handshake.specs.Length.{keyed_after, keyed_after_tokens}
@@ -46,8 +46,13 @@ messages-most : (psks keyed : Bool) (n k : ℕ) (ms : List (List Token)) → Are
 messages-most psks keyed n zero ms short = omega arith
 messages-most psks keyed n (suc k) [] short = omega arith
 messages-most psks keyed n (suc k) (ts ∷ ms) short =
-    omega (arith, messages-most psks (keyed_after_tokens psks keyed ts) (nonce_after_message psks keyed n ts) k ms short.1,
-    next-most (keyed_after_tokens psks keyed ts) (nonce_after_tokens psks keyed n ts), tokens-most psks keyed n ts, short.0)
+    omega (
+      arith,
+      messages-most psks (keyed_after_tokens psks keyed ts) (nonce_after_message psks keyed n ts) k ms short.1,
+      next-most (keyed_after_tokens psks keyed ts) (nonce_after_tokens psks keyed n ts),
+      tokens-most psks keyed n ts,
+      short.0,
+    )
 
 one-psk : (n : ℕ) (places : List ℕ) → length (psk_if n places) ≤ 1
 one-psk n places = by (list_any (λ m. m == n) places) where
@@ -84,5 +89,8 @@ few-messages p i = few-own (nat_le 1 (length p.messages)) (length p.messages) i.
 -- the nonce of a handshake of the pattern
 pub nonce-most : (p : Plan) (passed : ℕ) → IsPattern p → nonce_due p passed ≤ 88
 nonce-most p passed i =
-    omega (arith, few-messages p i,
-    messages-most (has_psk p) (has_key p (passed_places p 0)) 0 passed p.messages (short p.places 1 p.messages i.psks.tokens i.sizes))
+    omega (
+      arith,
+      few-messages p i,
+      messages-most (has_psk p) (has_key p (passed_places p 0)) 0 passed p.messages (short p.places 1 p.messages i.psks.tokens i.sizes),
+    )

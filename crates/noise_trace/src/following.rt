@@ -1,15 +1,16 @@
 //! Following the tokens of a message.
 #![tactic(auto)]
 
-ghost use Rattle.std.specs.Prelude.{◌≡◌, ◌≤◌, ◌<◌, ◌+◌, ◌-◌, ◌^◌, ◌++◌, ℕ, List, length, drop, take, count_by, Option, Some, IfSome, if◌then◌else◌};
+ghost use Rattle.std.specs.Prelude.{◌≡◌, ◌≤◌, ◌<◌, ◌+◌, ◌-◌, ◌^◌, ◌++◌, ◌∷◌, [], ℕ, List, length, drop, take, count_by, Option, Some, IfSome, if◌then◌else◌};
 ghost use Rattle.noise_names.specs.declared.token.Token.{Token};
 ghost use Rattle.noise_names.specs.Tokens.{is_psk};
 ghost use Rattle.noise_state.specs.History.{History, Ciphertext, and_then, piece};
 ghost use Rattle.noise_state.specs.Standing.{StateStands, keyed, nonce_now};
 ghost use Rattle.noise_handshake.specs.Line.{with_ephemeral, token_piece, after_token, front, after_front};
 ghost use Rattle.noise_handshake.specs.View.{Reader, Fits, answered, own_at, remote_at, known_after, secrets_after};
-ghost use Rattle.noise_trace.specs.Carried.{Carries};
-ghost use Rattle.noise_trace.specs.Steps.{token_steps};
+ghost use Rattle.noise_trace.specs.Carried.{known_next, Carries};
+ghost use Rattle.noise_trace.specs.declared.step.Part.TheVariants as part;
+ghost use Rattle.noise_trace.specs.Steps.{step, token_steps};
 
 use crate::values::values_of;
 use crate::{Part, Step};
@@ -216,6 +217,46 @@ pub(crate) fn bytes_from(message: &[u8], place: usize) -> &[u8]
     &message[place..]
 }
 
+// Follows one token from a place in the message on, adds its step, and returns where the bytes after it begin, and the keys of the
+// other party that are known after it.
+fn follow_one<K: Keys>(
+    state: &mut SymmetricState,
+    known: &Remote,
+    means: &Means<K>,
+    secrets: &[[u8; 32]],
+    token: Token,
+    from: usize,
+    steps: &mut ArrayVec<Step, 11>,
+) -> Option<(usize, Remote)>
+    requires secret { token ≡ Token.Psk → 0 < length secrets.now }
+    requires nonces { nonce_now state.old < 2 ^ 64 - 1 }
+    requires room { length steps.old.items < 11 }
+    requires within { from ≤ length means.now.message.now }
+    ensures nonce { nonce_now state.new ≤ nonce_now state.old + 1 }
+    ensures many { length steps.new.items ≤ length steps.old.items + 1 }
+    ensures range { IfSome result (λ next. next.0 ≤ length means.now.message.now) }
+    ensures followed { (r : History) (x more : List ℕ) → StateStands state.old r
+        → let v : Reader = record { role = means.now.role; psks = means.now.psks; agree = K.agreement means.now.keys.now } in
+        Fits v known.now secrets.now token x → drop from means.now.message.now ≡ token_piece r token x ++ more
+        → (result ≡ Some (from + length (token_piece r token x), known_next means.now.reads known.now token x))
+        × StateStands state.new (after_token means.now.psks r token x)
+        × (steps.new.items ≡ steps.old.items
+        ++ step (part.Token token) from (length (token_piece r token x)) (after_token means.now.psks r token x) ∷ []) }
+{
+    let rest = bytes_from(means.message, from);
+    let (width, learned) = follow_token(state, known, means, secrets, token, rest)?;
+    let to = from + width;
+    let values = values_of(state);
+    let part = Part::Token(token);
+    steps.push(Step {
+        part,
+        from,
+        to,
+        state: values,
+    });
+    Some((to, known_next(means.reads, known, learned)))
+}
+
 // Follows tokens from a place in the message on, adds a step for each, and returns where the bytes after them begin.
 pub(crate) fn follow<K: Keys>(
     state: &mut SymmetricState,
@@ -243,16 +284,7 @@ pub(crate) fn follow<K: Keys>(
     let Some((token, later)) = tokens.split_first() else {
         return Some(from);
     };
-    let rest = bytes_from(means.message, from);
-    let (width, learned) = follow_token(state, known, means, secrets, *token, rest)?;
-    let to = from + width;
-    steps.push(Step {
-        part: Part::Token(*token),
-        from,
-        to,
-        state: values_of(state),
-    });
+    let (to, learned) = follow_one(state, known, means, secrets, *token, from, steps)?;
     let others = secrets_after(secrets, *token);
-    let learned = known_next(means.reads, known, learned);
     follow(state, &learned, means, others, later, to, steps)
 }

@@ -1,11 +1,11 @@
-use Rattle.std.proofs.Common.{◌≡◌, ℕ, ◌+◌, List, ◌++◌, length, drop, drop-drop, sym, ap, subst, ◌∙◌}
+use Rattle.std.proofs.Common.{◌≡◌, ℕ, ◌+◌, List, ◌++◌, length, drop, drop-drop, refl, sym, ap, subst, ◌∙◌}
 use Rattle.std.proofs.lemmas.List.{drop_at}
-use Rattle.std.specs.Prelude.{Bool, if◌then◌else◌}
+use Rattle.std.specs.Prelude.{Bool}
 use Rattle.noise_names.specs.declared.token.Token.{Token}
 use Rattle.noise_state.specs.History.{History}
 use Rattle.noise_handshake.specs.declared.remote.Remote.{Remote}
 use Rattle.noise_handshake.specs.Line.{token_piece, after_token, front}
-use Rattle.noise_handshake.specs.View.{Reader, known_after, secrets_after}
+use Rattle.noise_handshake.specs.View.{Reader, secrets_after}
 use Rattle.noise_trace.specs.Carried.{known_next, Carries}
 use Rattle.noise_trace.proofs.Fronts.{some-same, parted, followed-on}
 use Rattle.noise_trace.proofs.following.+follow.Goals as goal
@@ -19,21 +19,21 @@ returns-clause-followed g t c r xs more s carries spelled =
     let known : Remote = c.args.known.now in
     let token : Token = c.in-Some.token.now in
     let later : List Token = c.in-Some.later.now in
-    let width : ℕ = c.in_ok-width.width in
-    let p = parted reads v known c.args.secrets.now r c.args.tokens.now token later xs more c.bytes_from-rest.result.now c.in-Some.ensures.cases.0 carries
-    (c.bytes_from-rest.ensures ∙ spelled) in
+    let p = parted reads v known c.args.secrets.now r c.args.tokens.now token later xs more (drop from m) c.in-Some.ensures.cases.0 carries spelled in
     let piece : List ℕ = token_piece r token p.first in
     let after : History = after_token v.psks r token p.first in
     let tail : List ℕ = front v.psks after later p.others ++ more in
-    let d = c.follow_token.ensures.followed r p.first tail s p.fits p.spelled in
-    let same : ◌≡◌ {A = ℕ × Remote} (width, c.in_ok-width.learned) (length piece, known_after known token p.first) =
-    some-same {A = ℕ × Remote} (width, c.in_ok-width.learned) (length piece, known_after known token p.first) (sym c.in_ok-width.was ∙ d.0) in
-    let wide : width ≡ length piece = ap (λ (q : ℕ × Remote). q.0) same in
-    let knows : c.known_next-learned.result ≡ known_next reads known token p.first =
-    c.known_next-learned.ensures ∙ ap (λ (z : Remote). if reads then z else known) (ap (λ (q : ℕ × Remote). q.1) same) in
-    let here : drop (from + width) m ≡ tail = sym (drop-drop width from m) ∙ ap (drop width) (sym c.bytes_from-rest.ensures ∙ p.spelled) ∙ drop_at piece tail width (sym wide) in
+    let d = c.follow_one.ensures.followed r p.first tail s p.fits p.spelled in
+    let to : ℕ = c.in_ok-to.to in
+    let learned : Remote = c.in_ok-to.learned in
+    let same : ◌≡◌ {A = ℕ × Remote} (to, learned) (from + length piece, known_next reads known token p.first) =
+    some-same {A = ℕ × Remote} (to, learned) (from + length piece, known_next reads known token p.first) (sym c.in_ok-to.was ∙ d.0) in
+    let place : to ≡ from + length piece = ap (λ (q : ℕ × Remote). q.0) same in
+    let knows : learned ≡ known_next reads known token p.first = ap (λ (q : ℕ × Remote). q.1) same in
+    let here : drop to m ≡ tail =
+    ap (λ (n : ℕ). drop n m) place ∙ sym (drop-drop (length piece) from m) ∙ ap (drop (length piece)) p.spelled ∙ drop_at piece tail (length piece) refl in
     let c1 = subst (λ (z : Remote). Carries reads v z (secrets_after c.args.secrets.now token) later p.others) (sym knows) p.carries in
-    let c2 = subst (λ (z : List (List ℕ)). Carries reads v c.known_next-learned.result z later p.others) (sym c.secrets_after-others.ensures) c1 in
-    followed-on v.psks r c.args.tokens.now later token xs p.others p.first from width c.follow.new.state c.follow.result
-    c.args.steps.now.items c.push.new.self.items c.follow.new.steps.items c.values_of.result c.in-Some.ensures.cases.0 p.parts wide
-    (c.values_of.ensures after d.1) c.push.ensures.items (c.follow.ensures.followed after p.others more d.1 c2 here)
+    let c2 = subst (λ (z : List (List ℕ)). Carries reads v learned z later p.others) (sym c.secrets_after-others.ensures) c1 in
+    followed-on v.psks r c.args.tokens.now later token xs p.others p.first from to c.follow.new.state c.follow.result
+    c.args.steps.now.items c.follow_one.new.steps.items c.follow.new.steps.items c.in-Some.ensures.cases.0 p.parts place d.2
+    (c.follow.ensures.followed after p.others more d.1 c2 here)

@@ -3,7 +3,7 @@ use Rattle.std.specs.Prelude.{count_by}
 use Rattle.noise_names.specs.declared.token.Token.{Token}
 use Rattle.noise_names.specs.Plan.{Plan}
 use Rattle.noise_names.specs.Tokens.{is_psk}
-use Rattle.noise_state.specs.Standing.{keyed, nonce_now}
+use Rattle.noise_state.specs.Standing.{nonce_now}
 use Rattle.noise_handshake.specs.View.{tokens_at}
 use Rattle.noise_trace.proofs.Due.{secrets-due}
 use Rattle.noise_trace.proofs.NonceBounds.{nonce-most}
