@@ -2,10 +2,11 @@
 #![tactic(auto)]
 
 ghost use Rattle.std.specs.Prelude.{◌≡◌, ◌≤◌, ◌<◌, ◌+◌, ◌-◌, ◌^◌};
-ghost use Rattle.noise_state.specs.History.{History, Ciphertext, and_then};
+ghost use Rattle.noise_state.specs.History.{History, Ciphertext, and_then, initiator_key, responder_key};
 ghost use Rattle.noise_state.specs.Standing.{StateStands, nonce_now};
 ghost use Rattle.noise_trace.specs.Values.{values_of};
 
+use noise_kdf::expand2;
 use noise_state::{StateParts, SymmetricState};
 
 /// The values of a symmetric state (Noise, 5.2).
@@ -18,6 +19,17 @@ pub struct StateValues {
     pub key: Option<[u8; 32]>,
     /// The nonce of the next use of the key; 0 without a key.
     pub nonce: u64,
+}
+
+impl StateValues {
+    /// The keys of the transport where these are the values at the end of a handshake (Split): that of the messages from the
+    /// initiator to the responder first. Each is used from nonce 0 on.
+    pub fn transport_keys(&self) -> ([u8; 32], [u8; 32])
+        ensures initiator { (r : History) → self.now ≡ values_of r → result.0 ≡ initiator_key r }
+        ensures responder { (r : History) → self.now ≡ values_of r → result.1 ≡ responder_key r }
+    {
+        expand2(&self.chaining_key, &[])
+    }
 }
 
 // The values of a state.
