@@ -9,7 +9,8 @@
    THE ORDER OF CALLS
 
        noise_start                              once, by each party
-       noise_write, noise_read                  in turn; the initiator writes first. At NOISE_WANTED call noise_answer, then repeat the call
+       noise_write, noise_read                  in turn; the initiator writes first. At NOISE_WANTED call noise_answer, at NOISE_WANTED_PSK
+                                                call noise_set_psk; then repeat the call
        noise_finish                             after the last message, for a stream, which loses no message and keeps their order
          noise_transport_seal, _open              as often as needed
        noise_finish_datagrams                   in place of noise_finish, for a network that loses, repeats and reorders messages
@@ -52,6 +53,20 @@
        if (noise_transport_remote_static(&t, &remote) != NOISE_OK) fail();
        if (!remote.present || memcmp(remote.bytes, expected_remote_static, 32) != 0) fail();
        noise_wipe(&h, sizeof h);                             // and t, once it is no longer used
+
+   A PSK FOR EACH PEER. A responder of IKpsk2 or XXpsk3 learns only from message 1 or 3 which party it talks to. Start it with setup.psk_count 0.
+   The call that comes to the psk token returns NOISE_WANTED_PSK with the other party's static public key. In the loop above, after noise_write
+   or noise_read, where `psk_of` looks up the psk of a static key:
+
+               if (code == NOISE_WANTED_PSK) {
+                   uint8_t psk[32];
+                   if (!told.remote_known || !psk_of(told.remote, psk)) fail();
+                   if (noise_set_psk(&h, psk) != NOISE_OK) fail();
+                   continue;                             // repeats the call
+               }
+
+   The other party has not proved yet that it has the secret key, nor the psk: choose the psk by the key, and do nothing else before NOISE_OK. A
+   wrong psk gives NOISE_TAG. So 32 random bytes for an unknown key hide which keys are known.
 
    FRAMES. A message doesn't contain its length. Over a stream, send the length before the message, in two bytes, the higher byte first
    (Noise, 13). A datagram needs no length:
@@ -128,7 +143,7 @@ enum noise_code {
     NOISE_STATIC_MISSING = 5,      /* the pattern has a token s of this party: set setup.s */
     NOISE_REMOTE_MISSING = 6,      /* setup.remote_e or setup.remote_s lacks a key of the other party's pre-message: get it first, or use another pattern */
     NOISE_REMOTE_UNEXPECTED = 7,   /* setup.remote_e or setup.remote_s has a key that isn't in the other party's pre-message: leave it out */
-    NOISE_PSK_COUNT = 8,           /* the number of psks isn't the number of psk tokens */
+    NOISE_PSK_COUNT = 8,           /* there are more psks than psk tokens. noise_set_psk: no psk token that is still to come lacks its psk */
 
     /* noise_write, noise_read. */
     NOISE_NOT_YOUR_TURN = 10,      /* noise_write: the other party writes the next message. noise_read: this party does */
@@ -164,7 +179,11 @@ enum noise_code {
     NOISE_NAME_TAKEN = 36,         /* the base name is that of a fundamental pattern, and this pattern is another */
     NOISE_LIMIT = 37,              /* a ninth message, or a message with no token but psk, or with more than eight others */
     NOISE_ENDING = 38,             /* the line has no line feed, or there is no message */
-    NOISE_RULE = 39                /* the pattern isn't valid: it breaks the rule told.rule at told.message, told.token */
+    NOISE_RULE = 39,               /* the pattern isn't valid: it breaks the rule told.rule at told.message, told.token */
+
+    /* noise_write, noise_read of a handshake that was started with fewer psks than its pattern has psk tokens. */
+    NOISE_WANTED_PSK = 40          /* the call needs the psk of a psk token: pass it to noise_set_psk, then repeat the call. `told` has the other
+                                      party's static public key, if it is known */
 };
 
 /* Sizes, in bytes. */
@@ -200,7 +219,8 @@ typedef struct {
     uint8_t responder;             /* 0: the initiator, which writes the first message; any other value: the responder */
     noise_key e, s;                /* this party's public keys, ephemeral and static: each for which the pattern has a token of this party */
     noise_key remote_e, remote_s;  /* the other party's public keys: those of its pre-message (as the responder's s in IK), and no other */
-    uint8_t psk_count;             /* how many psks there are: one for each psk token, in the order of the tokens; at most 9 */
+    uint8_t psk_count;             /* how many psks there are: those of the first psk tokens, in the order of the tokens; at most 9. The calls ask
+                                      for the others when their tokens come: NOISE_WANTED_PSK */
     uint8_t psks[9][32];
 } noise_setup;
 
@@ -211,7 +231,9 @@ typedef struct {
                                       the length of the message in `out`. ROOM of noise_write: the length that the message would have */
     uint8_t token;                 /* SHORT, TAG of noise_read: the token at which it was refused, counted from 0; the payload comes after the last */
     uint8_t of_static;             /* WANTED: which key pair of this party X25519 needs: 0 the ephemeral one, 1 the static one */
-    uint8_t remote[32];            /* WANTED: the public key of the other party that it needs */
+    uint8_t remote[32];            /* WANTED: the public key of the other party that it needs. WANTED_PSK: the other party's static public key as
+                                      it is known before the psk token, also from the very message that is read; zeros if it isn't known */
+    uint8_t remote_known;          /* WANTED_PSK: 1 if that static key is known, else 0 */
 } noise_told;
 
 /* The progress of a handshake. */
@@ -252,8 +274,9 @@ size_t noise_handshake_size(void);
          <- e, ee, es
    (at most 413 bytes). The name of such a handshake is Noise_, the heading without its colon, and _25519_ChaChaPoly_SHA256.
    prologue: what the parties have agreed on before; the same bytes at both, at most 65535.
-   OK · NAME · PATTERN · LENGTH: the prologue is too long · EPHEMERAL_MISSING, STATIC_MISSING, REMOTE_MISSING, REMOTE_UNEXPECTED, PSK_COUNT. If
-   several apply, the first is returned; but a psk_count above 9 gives PSK_COUNT before the keys are checked. At any code but OK *h is unchanged. */
+   OK · NAME · PATTERN · LENGTH: the prologue is too long · EPHEMERAL_MISSING, STATIC_MISSING, REMOTE_MISSING, REMOTE_UNEXPECTED, PSK_COUNT: more
+   psks than psk tokens. If several apply, the first is returned; but a psk_count above 9 gives PSK_COUNT before the keys are checked. At any code but
+   OK *h is unchanged. */
 uint32_t noise_start(noise_handshake *h, const uint8_t *pattern, size_t pattern_len, const uint8_t *prologue, size_t prologue_len,
     const noise_setup *setup);
 
@@ -264,17 +287,24 @@ uint32_t noise_start(noise_handshake *h, const uint8_t *pattern, size_t pattern_
    STRUCT: for a struct without a valid state it returns OK or FULL by the number of answers there, and the next call returns STRUCT. */
 uint32_t noise_answer(noise_handshake *h, uint8_t of_static, const uint8_t remote[32], const uint8_t answer[32]);
 
+/* Supplies the psk of the first psk token that lacks one: after noise_start those that setup.psks had are there, in the order of the tokens. Call it
+   after NOISE_WANTED_PSK, or before. From then on all is as if noise_start had been given this psk too.
+   OK · STRUCT · PSK_COUNT: no psk token that is still to come lacks its psk. At any code but OK *h is unchanged. A psk that is there can't be
+   replaced: after a wrong one noise_read of the message returns TAG, and the handshake has ended. */
+uint32_t noise_set_psk(noise_handshake *h, const uint8_t psk[32]);
+
 /* Writes the next message, with this payload, to the start of out. Until the parties share a key, the payload isn't encrypted: section 7.7 of the
    standard says how well each payload is protected. noise_message_len gives the length of the message.
-   OK: the message is the first told->len bytes of out; the bytes after it are unchanged · WANTED: told->of_static, told->remote · STRUCT · ENDED ·
-   DONE · NOT_YOUR_TURN · TOO_LONG: the message would have more than 65535 bytes · ROOM: out is shorter than the message, which has told->len bytes.
-   At any code but OK *h and out are unchanged (except at NOISE_AGREEMENT: see there). */
+   OK: the message is the first told->len bytes of out; the bytes after it are unchanged · WANTED: told->of_static, told->remote · WANTED_PSK:
+   told->remote, told->remote_known · STRUCT · ENDED · DONE · NOT_YOUR_TURN · TOO_LONG: the message would have more than 65535 bytes · ROOM: out is
+   shorter than the message, which has told->len bytes. At any code but OK *h and out are unchanged (except at NOISE_AGREEMENT: see there). */
 uint32_t noise_write(noise_handshake *h, const uint8_t *payload, size_t payload_len, uint8_t *out, size_t out_len, noise_told *told);
 
 /* Reads the next message, in place.
    OK: the payload is now the told->len bytes of message from told->from on · WANTED: told->of_static, told->remote; *h is unchanged: call
-   noise_answer, then read the same message again · SHORT, TAG: told->token; the handshake has ended · STRUCT · LENGTH · ENDED · DONE ·
-   NOT_YOUR_TURN. At any code but OK message is unchanged. */
+   noise_answer, then read the same message again · WANTED_PSK: told->remote, told->remote_known; *h is unchanged: call noise_set_psk, then read
+   the same message again · SHORT, TAG: told->token; the handshake has ended · STRUCT · LENGTH · ENDED · DONE · NOT_YOUR_TURN. At any code but OK
+   message is unchanged. */
 uint32_t noise_read(noise_handshake *h, uint8_t *message, size_t message_len, noise_told *told);
 
 /* Returns the length of the next message with a payload of this length.
@@ -409,7 +439,7 @@ static inline const char *noise_text(uint32_t code) {
     case NOISE_STATIC_MISSING: return "The setup lacks this party's static public key.";
     case NOISE_REMOTE_MISSING: return "The setup lacks a public key of the other party's pre-message.";
     case NOISE_REMOTE_UNEXPECTED: return "The setup has a public key of the other party that is not in its pre-message.";
-    case NOISE_PSK_COUNT: return "The number of secrets is not the number of psk tokens.";
+    case NOISE_PSK_COUNT: return "There are more secrets than psk tokens.";
     case NOISE_NOT_YOUR_TURN: return "It is the other party's turn.";
     case NOISE_TOO_LONG: return "The message would be or is too long.";
     case NOISE_DONE: return "All messages of the handshake have passed.";
@@ -440,6 +470,7 @@ static inline const char *noise_text(uint32_t code) {
     case NOISE_LIMIT: return "The pattern has too many messages, or a message has too few or too many tokens.";
     case NOISE_ENDING: return "The line has no line feed, or there is no message.";
     case NOISE_RULE: return "The pattern is not valid.";
+    case NOISE_WANTED_PSK: return "The call needs the secret of a psk token.";
     default: return "This number is not a code of the library.";
     }
 }

@@ -3,13 +3,13 @@ use Rattle.std.proofs.Common.{◌≡◌, ℕ, ◌+◌, ◌-◌, ◌++◌, ◌≤
 use Rattle.std.proofs.Math.Seq.{drop-append_seam}
 use Rattle.noise_names.specs.Plan.{Plan}
 use Rattle.noise_names.specs.Validity.{IsValid}
-use Rattle.noise_handshake.specs.Parts.{IsWhole}
 use Rattle.noise_handshake.specs.declared.faults.Cause.{Cause}
 use Rattle.noise_handshake.specs.declared.faults.ReadFault.{ReadFault}
 use Rattle.noise_handshake.specs.declared.faults.ReadFault.TheVariants as read
-use Rattle.noise_handshake.specs.declared.faults.Unread.{Unread}
-use Rattle.noise_handshake.specs.declared.faults.Unread.TheVariants as unread
-use Rattle.noise_handshake.specs.Held.{Held, after_unread, ended_as}
+use Rattle.noise_handshake.specs.declared.late_faults.LateUnread.{LateUnread}
+use Rattle.noise_handshake.specs.declared.late_faults.LateUnread.TheVariants as unread
+use Rattle.noise_handshake.specs.Held.{Held, ended_as}
+use Rattle.noise_handshake.specs.Late.{with_later, after_late_unread, IsLateWhole}
 use Rattle.noise_keys.specs.Table.{Table}
 use Rattle.noise_handshake.specs.View.{View, Accepts}
 use Rattle.noise_handshake.specs.Party.{Stands, after_message, after_own, after_declined, Declines}
@@ -22,38 +22,40 @@ use Rattle.noise_c.specs.Codes.{read_code, token_in}
 module _ (old new : NoiseHandshake) (h h2 : Held Table) (p : Plan) (v : View) (one : (q : Plan) → IsPatternOf (text_in old) q → q ≡ h.pattern) (same : h ≡ held_in h.pattern old)
     (stays : h2.pattern ≡ h.pattern) (name : text_in new ≡ text_in old) (kept : held_in h2.pattern new ≡ h2) (k : KeepsView old p v) where
   -- the handshake that was opened stands for the view
-  pub opened : Stands public_in agreement_in h v
-  opened = subst (λ (z : Held Table). Stands public_in agreement_in z v) (ap (λ (q : Plan). held_in q old) (one p k.pattern) ∙ sym same) k.stands
+  pub opened : Stands public_in agreement_in (with_later h k.later) v
+  opened = subst (λ (z : Held Table). Stands public_in agreement_in (with_later z k.later) v) (ap (λ (q : Plan). held_in q old) (one p k.pattern) ∙ sym same) k.stands
 
   -- and what it became is kept
-  pub keeps : (w : View) → Stands public_in agreement_in h2 w → KeepsView new p w
+  pub keeps : (w : View) → Stands public_in agreement_in (with_later h2 k.later) w → KeepsView new p w
   keeps w s = record {
     pattern = subst (λ (z : List ℕ). IsPatternOf z p) (sym name) k.pattern;
-    stands = subst (λ (z : Held Table). Stands public_in agreement_in z w) (sym (ap (λ (q : Plan). held_in q new) (one p k.pattern ∙ sym stays) ∙ kept)) s;
+    later = k.later;
+    stands = subst (λ (z : Held Table). Stands public_in agreement_in (with_later z k.later) w) (sym (ap (λ (q : Plan). held_in q new) (one p k.pattern ∙ sym stays) ∙ kept)) s;
   }
 
   pub was-read : (message new_message : List ℕ) (start end : ℕ) → start ≤ end
-      → (xs : List (List ℕ)) → Accepts v message xs (slice_range new_message start end) → Stands public_in agreement_in h2 (after_message v xs (slice_range new_message start end))
+      → (xs : List (List ℕ)) → Accepts v message xs (slice_range new_message start end) → Stands public_in agreement_in (with_later h2 k.later) (after_message v xs (slice_range new_message start end))
       → WasRead p v message (slice_range new_message start (start + (end - start))) new
   was-read message new_message start end r xs a s =
       let n : end ≡ start + (end - start) = omega (arith, r) in
       subst (λ (z : ℕ). WasRead p v message (slice_range new_message start z) new) n
       (record { carried = xs; accepts = a; keeps = keeps (after_message v xs (slice_range new_message start end)) s })
 
-  pub was-declined : (message : List ℕ) (fault : ReadFault) (code token : ℕ) → code ≡ read_code fault → token ≡ token_in fault → Declines v message fault → Stands public_in agreement_in h2 (after_declined v fault)
+  pub was-declined : (message : List ℕ) (fault : ReadFault) (code token : ℕ) → code ≡ read_code fault → token ≡ token_in fault → Declines v message fault → Stands public_in agreement_in (with_later h2 k.later) (after_declined v fault)
       → WasDeclined p v message code token new
   was-declined message fault code token e t d s = record { fault = fault; code_is = e; token_is = t; declines = d; keeps = keeps (after_declined v fault) s }
 
-  pub was-written : (payload message : List ℕ) (xs : List (List ℕ)) → Writes v payload xs message → Stands public_in agreement_in h2 (after_own v xs payload) → WasWritten p v payload message new
+  pub was-written : (payload message : List ℕ) (xs : List (List ℕ)) → Writes v payload xs message → Stands public_in agreement_in (with_later h2 k.later) (after_own v xs payload) → WasWritten p v payload message new
   was-written payload message xs w s = record { carried = xs; writes = w; keeps = keeps (after_own v xs payload) s }
 
 -- a handshake that was opened stands for what is kept
-pub stands-for : (old : NoiseHandshake) (h : Held Table) (p : Plan) (v : View) → ((q : Plan) → IsPatternOf (text_in old) q → q ≡ h.pattern) → h ≡ held_in h.pattern old → KeepsView old p v → Stands public_in agreement_in h v
-stands-for old h p v one same k = subst (λ (z : Held Table). Stands public_in agreement_in z v) (ap (λ (q : Plan). held_in q old) (one p k.pattern) ∙ sym same) k.stands
+pub stands-for : (old : NoiseHandshake) (h : Held Table) (p : Plan) (v : View) → ((q : Plan) → IsPatternOf (text_in old) q → q ≡ h.pattern) → h ≡ held_in h.pattern old → (k : KeepsView old p v)
+    → Stands public_in agreement_in (with_later h k.later) v
+stands-for old h p v one same k = subst (λ (z : Held Table). Stands public_in agreement_in (with_later z k.later) v) (ap (λ (q : Plan). held_in q old) (one p k.pattern) ∙ sym same) k.stands
 
 -- what keeps a handshake is usable
 pub usable-kept : (new : NoiseHandshake) (h : Held Table) → new.mark ≡ HANDSHAKE → new.text_len ≤ 416 → new.answer_count ≤ 8 → new.secret_count ≤ 9
-    → IsPatternOf (text_in new) h.pattern → IsValid h.pattern → held_in h.pattern new ≡ h → IsWhole public_in h → IsUsable new
+    → IsPatternOf (text_in new) h.pattern → IsValid h.pattern → held_in h.pattern new ≡ h → IsLateWhole public_in h → IsUsable new
 usable-kept new h m t a n named valid same whole = record {
   mark = m;
   text = t;
@@ -62,13 +64,13 @@ usable-kept new h m t a n named valid same whole = record {
   pattern = h.pattern;
   named = named;
   valid = valid;
-  whole = subst (λ (z : Held Table). IsWhole public_in z) (sym same) whole;
+  whole = subst (λ (z : Held Table). IsLateWhole public_in z) (sym same) whole;
 }
 
 -- the same of what a usable one becomes
 pub usable-after : (old new : NoiseHandshake) (h h2 : Held Table) → IsUsable old → new.mark ≡ old.mark → new.text_len ≡ old.text_len → new.answer_count ≡ old.answer_count
     → new.secret_count ≤ 9 → text_in new ≡ text_in old → IsPatternOf (text_in old) h.pattern → h2.pattern ≡ h.pattern → IsValid h2.pattern
-    → held_in h2.pattern new ≡ h2 → IsWhole public_in h2 → IsUsable new
+    → held_in h2.pattern new ≡ h2 → IsLateWhole public_in h2 → IsUsable new
 usable-after old new h h2 u m t a n name named stays valid same whole =
     usable-kept new h2 (m ∙ u.mark) (omega (arith, t, u.text)) (omega (arith, a, u.answers)) n
     (subst (λ (z : List ℕ). IsPatternOf z h2.pattern) (sym name) (subst (λ (q : Plan). IsPatternOf (text_in old) q) (sym stays) named)) valid same whole
@@ -80,9 +82,9 @@ ended-kept old new h h2 n same e =
     ap (λ (q : Plan). held_in q new) (ap (λ (z : Held Table). z.pattern) e) ∙ ap (held_in h.pattern) n ∙ sym (e ∙ ap (λ (z : Held Table). ended_as z) same)
 
 -- a refusal ends it
-pub refused-leaves : (h h2 : Held Table) (u : Unread) (fault : ReadFault) (token : ℕ) (cause : Cause) → h2 ≡ after_unread h u → u ≡ unread.Declined fault
+pub refused-leaves : (h h2 : Held Table) (u : LateUnread) (fault : ReadFault) (token : ℕ) (cause : Cause) → h2 ≡ after_late_unread h u → u ≡ unread.Declined fault
     → fault ≡ read.Refused token cause → h2 ≡ ended_as h
-refused-leaves h h2 u fault token cause e f g = e ∙ ap (after_unread h) (f ∙ ap unread.Declined g)
+refused-leaves h h2 u fault token cause e f g = e ∙ ap (after_late_unread h) (f ∙ ap unread.Declined g)
 
 -- the secrets that are left after a message stand at the same end
 secrets-after : (old : NoiseHandshake) (h h2 : Held Table) (taken : List (List ℕ)) → old.secret_count ≤ 9 → length h.secrets ≡ old.secret_count

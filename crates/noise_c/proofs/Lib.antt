@@ -1,4 +1,6 @@
 pub mod Finished
 pub mod Keeps
 pub mod Named
+pub mod Moved
 pub mod Starts
+pub mod Wants

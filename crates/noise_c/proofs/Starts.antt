@@ -1,6 +1,6 @@
 -- The start of a handshake.
 use Rattle.std.proofs.Common.{◌≡◌, ◌≤◌, ◌⊎◌, ◌↔◌, inl, inr, ℕ, List, true, false, sym, subst, ◌∙◌, ap, refl, arith}
-use Rattle.std.specs.Prelude.{Result, Ok, Err, Option, Some, None, MatchOption, IsOk, nat_lt, length}
+use Rattle.std.specs.Prelude.{Result, Ok, Err, Option, Some, None, MatchOption, IsOk, IfOk, nat_lt, length, ◌++◌}
 use Rattle.std.proofs.lemmas.Bool.Decides.{nat_tests}
 use Rattle.noise_names.specs.Plan.{Plan}
 use Rattle.noise_names.specs.Validity.{IsValid}
@@ -8,10 +8,11 @@ use Rattle.noise_handshake.specs.Held.{Held}
 use Rattle.noise_keys.specs.Table.{Table}
 use Rattle.noise_handshake.specs.View.{View}
 use Rattle.noise_handshake.specs.Party.{Stands}
+use Rattle.noise_handshake.specs.Late.{with_later}
 use Rattle.noise_c.specs.declared.kept.NoiseHandshake.{NoiseHandshake}
 use Rattle.noise_c.specs.Kept.{public_in, agreement_in, text_in, held_in, KeepsView, IsPatternOf, IsPatternFault, IsNoName, IsNoText, IsNotValid, is_text, IsStartCode, fault_in, code_of, start_code}
 use Rattle.noise_handshake.specs.declared.remote.Remote.{Remote}
-use Rattle.noise_handshake.specs.Setup.{setup_fault}
+use Rattle.noise_handshake.specs.Setup.{begun, setup_fault}
 use Rattle.noise_names.specs.declared.token.Role.{Role}
 use Rattle.noise_c.specs.Codes.{setup_code}
 use Rattle.noise_c.specs.declared.kept.NoiseSetup.{NoiseSetup}
@@ -64,11 +65,12 @@ valid-pattern bytes p n h v one none = (λ e. absurd (none e), λ i. absurd (not
   not-both (inl t) = t.none p h
   not-both (inr t) = t.broken (subst (λ (z : Plan). IsValid z) (sym (one t.pattern t.named)) v)
 
-pub keeps-start : (new : NoiseHandshake) (h : Held Table) (p : Plan) (text : List ℕ) (v : View)
-    → text_in new ≡ text → IsPatternOf text p → h.pattern ≡ p → held_in h.pattern new ≡ h → Stands public_in agreement_in h v → KeepsView new p v
-keeps-start new h p text v t named q same s = record {
+pub keeps-start : (new : NoiseHandshake) (h : Held Table) (p : Plan) (text : List ℕ) (later : List (List ℕ)) (v : View)
+    → text_in new ≡ text → IsPatternOf text p → h.pattern ≡ p → held_in h.pattern new ≡ h → Stands public_in agreement_in (with_later h later) v → KeepsView new p v
+keeps-start new h p text later v t named q same s = record {
   pattern = subst (λ (z : List ℕ). IsPatternOf z p) (sym t) named;
-  stands = subst (λ (z : Held Table). Stands public_in agreement_in z v) (sym (ap (λ (z : Plan). held_in z new) (sym q) ∙ same)) s;
+  later = later;
+  stands = subst (λ (z : Held Table). Stands public_in agreement_in (with_later z later) v) (sym (ap (λ (z : Plan). held_in z new) (sym q) ∙ same)) s;
 }
 
 ok-err : (h : Held Table) (f : SetupFault) → ◌≡◌ {A = Result (Held Table) SetupFault} (Ok h) (Err f) → ⊥
@@ -111,3 +113,12 @@ fault-moved p role role2 t t2 m m2 n r a b c h =
     subst (λ (z : Remote). MatchOption (setup_fault p role2 (public_in t2) z n) (IsOk r) (λ f. r ≡ Err f)) c
     (subst (λ (z : Table). MatchOption (setup_fault p role2 (public_in z) m n) (IsOk r) (λ f. r ≡ Err f)) b
     (subst (λ (z : Role). MatchOption (setup_fault p z (public_in t) m n) (IsOk r) (λ f. r ≡ Err f)) a h))
+
+pub stands-moved : (p : Plan) (prologue : List ℕ) (t : Table) (psks : List (List ℕ)) (role role2 : Role) (m m2 : Remote) (r : Result (Held Table) SetupFault) → role ≡ role2 → m ≡ m2
+    → IfOk r (λ h. (later : List (List ℕ)) → Stands public_in agreement_in (with_later h later) (begun p role prologue (public_in t) (agreement_in t) m (psks ++ later)))
+    → IfOk r (λ h. (later : List (List ℕ)) → Stands public_in agreement_in (with_later h later) (begun p role2 prologue (public_in t) (agreement_in t) m2 (psks ++ later)))
+stands-moved p prologue t psks role role2 m m2 r a b h =
+    subst (λ (z : Remote). IfOk r (λ y. (later : List (List ℕ)) → Stands public_in agreement_in (with_later y later)
+    (begun p role2 prologue (public_in t) (agreement_in t) z (psks ++ later)))) b
+    (subst (λ (z : Role). IfOk r (λ y. (later : List (List ℕ)) → Stands public_in agreement_in (with_later y later)
+    (begun p z prologue (public_in t) (agreement_in t) m (psks ++ later)))) a h)

@@ -16,11 +16,13 @@ use Rattle.noise_handshake.specs.declared.faults.ReadFault.{ReadFault}
 use Rattle.noise_keys.specs.declared.faults.SetupFault.{SetupFault}
 use Rattle.noise_handshake.specs.declared.faults.WriteFault.{WriteFault}
 use Rattle.noise_handshake.specs.declared.remote.Remote.{Remote}
+use Rattle.noise_handshake.specs.declared.late_faults.Want.{Want}
+use Rattle.noise_handshake.specs.declared.late_faults.Want.TheVariants.{Answer, Secret}
 use Rattle.noise_keys.specs.Keys.{key_of}
 use Rattle.noise_keys.specs.Table.{Table, TableEntry, answer_in}
 use Rattle.noise_handshake.specs.Held.{Held, is_turn}
-use Rattle.noise_handshake.specs.Parts.{IsWhole}
-use Rattle.noise_handshake.specs.Setup.{begun, setup_fault}
+use Rattle.noise_handshake.specs.Late.{with_later, late_fault, IsLateWhole}
+use Rattle.noise_handshake.specs.Setup.{begun}
 use Rattle.noise_handshake.specs.View.{View, Accepts}
 use Rattle.noise_handshake.specs.Writing.{Writes}
 use Rattle.noise_handshake.specs.Party.{Stands, after_message, after_own, Declines, after_declined, Withholds}
@@ -30,6 +32,7 @@ use Rattle.noise_c.specs.declared.kept.NoiseHandshake.{NoiseHandshake}
 use Rattle.noise_c.specs.declared.kept.NoiseSetup.{NoiseSetup}
 use Rattle.noise_c.specs.declared.marks.TheConstants.{HANDSHAKE}
 use Rattle.noise_c.specs.declared.kept.NoiseStageTold.{NoiseStageTold}
+use Rattle.noise_c.specs.declared.kept.NoiseTold.{NoiseTold}
 use Rattle.noise_c.specs.Codes.{read_code, token_in, write_code, setup_code}
 
 -- a key, if there is one
@@ -120,12 +123,13 @@ pub record IsUsable (k : NoiseHandshake) : Type 0 where
   pub pattern : Plan
   pub named : IsPatternOf (text_in k) pattern
   pub valid : IsValid pattern
-  pub whole : IsWhole public_in (held_in pattern k)
+  pub whole : IsLateWhole public_in (held_in pattern k)
 
--- What C keeps stands for the view, by a pattern of its name.
+-- What C keeps stands for the view, by a pattern of its name: with the view's later secrets, which it may lack.
 pub record KeepsView (k : NoiseHandshake) (p : Plan) (v : View) : Type 0 where
   pub pattern : IsPatternOf (text_in k) p
-  pub stands : Stands public_in agreement_in (held_in p k) v
+  pub later : List (List ℕ)
+  pub stands : Stands public_in agreement_in (with_later (held_in p k) later) v
 
 -- The payload was accepted, and what is kept stands for the view after the message.
 pub record WasRead (p : Plan) (v : View) (message payload : List ℕ) (k : NoiseHandshake) : Type 0 where
@@ -159,6 +163,20 @@ pub record IsAdded (old new : NoiseHandshake) (entry : TableEntry) : Type 0 wher
   pub held : (p : Plan) → held_in p new
       ≡ record (held_in p old) { keys = record (table_in old) { entries = (table_in old).entries ++ entry ∷ [] } }
 
+-- what is kept has this secret after the others, and is otherwise as it was
+pub record IsGiven (old new : NoiseHandshake) (secret : List ℕ) : Type 0 where
+  pub text : text_in new ≡ text_in old
+  pub held : (p : Plan) → held_in p new ≡ with_later (held_in p old) (secret ∷ [])
+
+-- the other party's static key that is told, if it is known
+abbrev pub remote_told : NoiseTold → Option (List ℕ)
+remote_told told = if told.remote_known == 0 then None else Some told.remote
+
+-- What is wanted is told, with this number.
+abbrev pub TellsWant : Want → NoiseTold → ℕ → Type 0
+TellsWant (Answer own key) told code = (code ≡ 20) × (own_in told.of_static ≡ own) × (told.remote ≡ key)
+TellsWant (Secret remote) told code = (code ≡ 40) × (remote_told told ≡ remote)
+
 -- the public keys that are handed in, with no answer yet
 abbrev pub table_of : NoiseSetup → Table
 table_of setup = record { e = key_in setup.e; s = key_in setup.s; entries = [] }
@@ -170,15 +188,15 @@ remote_of setup = record { e = key_in setup.remote_e; s = key_in setup.remote_s 
 abbrev pub psks_in : NoiseSetup → List (List ℕ)
 psks_in setup = take setup.psk_count setup.psks
 
--- the view at the start
-abbrev pub begun_in : Plan → List ℕ → NoiseSetup → View
-begun_in p prologue setup =
+-- the view at the start, whose secrets are those that are handed in, and these
+abbrev pub begun_in : Plan → List ℕ → NoiseSetup → List (List ℕ) → View
+begun_in p prologue setup later =
     begun p (role_in setup.responder) prologue (public_in (table_of setup)) (agreement_in (table_of setup)) (remote_of setup)
-    (psks_in setup)
+    (psks_in setup ++ later)
 
--- what is wrong with what is handed in
+-- what is wrong with what is handed in, which may have fewer secrets than the pattern has psk tokens
 abbrev pub fault_in : Plan → NoiseSetup → Option SetupFault
-fault_in p setup = setup_fault p (role_in setup.responder) (public_in (table_of setup)) (remote_of setup) (length (psks_in setup))
+fault_in p setup = late_fault p (role_in setup.responder) (public_in (table_of setup)) (remote_of setup) (length (psks_in setup))
 
 abbrev pub code_of : Option SetupFault → ℕ
 code_of None = 0

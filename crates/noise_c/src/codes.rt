@@ -69,6 +69,8 @@ pub(crate) const ENDING: u32 = 38;
 
 pub(crate) const RULE: u32 = 39;
 
+pub(crate) const WANTED_PSK: u32 = 40;
+
 // The number of a fault of a setup.
 pub(crate) fn setup_code(fault: SetupFault) -> u32
     ensures { result ≡ setup_code fault }

@@ -1,17 +1,18 @@
 //! Exports: handshakes.
 #![tactic(auto)]
 
-ghost use Rattle.std.specs.Prelude.{◌≡◌, ◌≤◌, ◌<◌, ◌+◌, ◌⊎◌, ◌↔◌, length, slice_range};
+ghost use Rattle.std.specs.Prelude.{◌≡◌, ◌≤◌, ◌<◌, ◌+◌, ◌⊎◌, ◌↔◌, List, Option, ℕ, length, slice_range};
 ghost use Rattle.noise_names.specs.Plan.{Plan};
 ghost use Rattle.noise_handshake.specs.View.{View};
 ghost use Rattle.noise_handshake.specs.Wanting.{WantsToRead};
-ghost use Rattle.noise_c.specs.Kept.{own_in, IsAdded, IsUsable, KeepsView, WasRead, WasDeclined};
-ghost use Rattle.noise_c.specs.declared.codes.TheConstants.{AGREEMENT, DONE, ENDED, FULL, LENGTH, NOT_YOUR_TURN, OK, STRUCT, TAG, WANTED};
+ghost use Rattle.noise_handshake.specs.Late.{WantsSecretToRead};
+ghost use Rattle.noise_c.specs.Kept.{own_in, remote_told, IsAdded, IsUsable, KeepsView, TellsWant, WasRead, WasDeclined};
+ghost use Rattle.noise_c.specs.declared.codes.TheConstants.{AGREEMENT, DONE, ENDED, FULL, LENGTH, NOT_YOUR_TURN, OK, STRUCT, TAG, WANTED, WANTED_PSK};
 
-use crate::codes::{FULL, LENGTH, OK, STRUCT, WANTED, read_code};
-use crate::held::{handshake_of, keep};
+use crate::codes::{FULL, LENGTH, OK, STRUCT, WANTED, WANTED_PSK, read_code};
+use crate::held::{handshake_of, keep, kept_key};
 use crate::kept::{NoiseAnswer, NoiseHandshake, NoiseTold};
-use noise_handshake::{Own, ReadFault, Unread};
+use noise_handshake::{LateUnread, Own, ReadFault, Want};
 
 const MAX_LEN: usize = 65535;
 
@@ -58,19 +59,31 @@ fn number_of(own: Own) -> u8
     }
 }
 
-// Tells which answer is wanted.
-pub(crate) fn tell(own: Own, key: [u8; 32], told: &mut NoiseTold)
-    ensures own { own_in told.new.of_static ≡ own }
-    ensures key { told.new.remote ≡ key }
+// Tells what is wanted, and returns the number of that.
+pub(crate) fn tell(want: Want, told: &mut NoiseTold) -> u32
+    ensures { TellsWant want told.new result }
 {
-    told.of_static = number_of(own);
-    told.remote = key;
+    match want {
+        Want::Answer { own, key } => {
+            told.of_static = number_of(own);
+            told.remote = key;
+            WANTED
+        }
+        Want::Secret { remote } => {
+            let key = kept_key(remote);
+            let bytes = key.bytes;
+            told.remote = bytes;
+            told.remote_known = key.present;
+            WANTED_PSK
+        }
+    }
 }
 
 /// Reads a message in place, and returns where its payload is. At any answer but OK its bytes are unchanged.
 ///
-/// WANTED tells the DH answer that is lacking, and changes nothing: hand it in, and call again. AGREEMENT can only come of memory
-/// that no call has left.
+/// WANTED tells the DH answer that is lacking, and WANTED_PSK the other party's static key as it is known before the psk token whose
+/// secret is lacking, also from this message. Both change nothing: hand in what is wanted, and call again. AGREEMENT can only come of
+/// memory that no call has left.
 #[unsafe(no_mangle)]
 pub extern "C" fn noise_read(
     kept: &mut NoiseHandshake,
@@ -83,6 +96,10 @@ pub extern "C" fn noise_read(
         → WasRead p v message.old (slice_range message.new told.new.from (told.new.from + told.new.len)) kept.new }
     ensures wanted { result ≡ WANTED → (p : Plan) (v : View) → KeepsView kept.old p v
         → WantsToRead v message.old (own_in told.new.of_static) told.new.remote }
+    ensures wanted_psk { result ≡ WANTED_PSK → (p : Plan) (v : View) → KeepsView kept.old p v
+        → WantsSecretToRead v kept.old.secret_count message.old (remote_told told.new) }
+    ensures asked { IsUsable kept.old → length message.old ≤ 65535 → (p : Plan) (v : View) → KeepsView kept.old p v → (remote : Option (List ℕ))
+        → WantsSecretToRead v kept.old.secret_count message.old remote → (result ≡ WANTED_PSK) × (remote_told told.new ≡ remote) }
     ensures declined { NOT_YOUR_TURN ≤ result → result ≤ TAG → (p : Plan) (v : View) → KeepsView kept.old p v
         → WasDeclined p v message.old result told.new.token kept.new }
     ensures answered { result ≡ AGREEMENT → (p : Plan) (v : View) → KeepsView kept.old p v → ⊥ }
@@ -90,7 +107,8 @@ pub extern "C" fn noise_read(
     ensures unchanged { OK < result → message.new ≡ message.old }
     ensures usable { result ≡ OK → IsUsable kept.new }
     ensures stays { IsUsable kept.old → IsUsable kept.new }
-    ensures codes { (result ≡ OK) ⊎ (result ≡ NOT_YOUR_TURN) ⊎ ((DONE ≤ result) × (result ≤ TAG)) ⊎ (result ≡ WANTED) ⊎ (result ≡ STRUCT) ⊎ (result ≡ LENGTH) }
+    ensures codes { (result ≡ OK) ⊎ (result ≡ NOT_YOUR_TURN) ⊎ ((DONE ≤ result) × (result ≤ TAG)) ⊎ (result ≡ WANTED) ⊎ (result ≡ STRUCT) ⊎ (result ≡ LENGTH)
+        ⊎ (result ≡ WANTED_PSK) }
 {
     let Some(mut handshake) = handshake_of(kept) else {
         return STRUCT;
@@ -106,11 +124,8 @@ pub extern "C" fn noise_read(
             keep(&handshake.progress(), left, kept);
             OK
         }
-        Err(Unread::Wanted { own, key }) => {
-            tell(own, key, told);
-            WANTED
-        }
-        Err(Unread::Declined(fault)) => {
+        Err(LateUnread::Wants(want)) => tell(want, told),
+        Err(LateUnread::Declined(fault)) => {
             let (code, token) = read_code(fault);
             told.token = token;
             if let ReadFault::Refused { .. } = fault {

@@ -15,7 +15,7 @@ use crate::codes::{NAME, PATTERN};
 use crate::kept::{NoiseHandshake, NoiseKey};
 use crate::kept_keys::{KeptKeys, key_of};
 use crate::marks::HANDSHAKE;
-use noise_handshake::{Handshake, Parts, Progress, Remote};
+use noise_handshake::{LateHandshake, Parts, Progress, Remote};
 use noise_names::{Pattern, ProtocolName, Role, ValidPattern, fundamental};
 use noise_state::StateParts;
 
@@ -130,7 +130,7 @@ fn keys_of<'a>(kept: &'a NoiseHandshake) -> KeptKeys<'a>
     }
 }
 
-// The secrets that are left.
+// The secrets that were handed in and are left.
 fn secrets_of(kept: &NoiseHandshake) -> &[[u8; 32]]
     requires { kept.now.secret_count ≤ 9 }
     ensures same { result.now ≡ drop (9 - kept.now.secret_count) kept.now.secrets }
@@ -168,7 +168,7 @@ fn parts_of<'a>(kept: &'a NoiseHandshake, pattern: ValidPattern) -> Parts<KeptKe
 }
 
 // The handshake of what C keeps, if a call has left it.
-pub(crate) fn handshake_of<'a>(kept: &'a NoiseHandshake) -> Option<Handshake<KeptKeys<'a>>>
+pub(crate) fn handshake_of<'a>(kept: &'a NoiseHandshake) -> Option<LateHandshake<KeptKeys<'a>>>
     ensures usable { IsSome result ↔ IsUsable kept.now }
     ensures named { IfSome result (λ h. IsPatternOf (text_in kept.now) h.pattern) }
     ensures one { IfSome result (λ h. (q : Plan) → IsPatternOf (text_in kept.now) q → q ≡ h.pattern) }
@@ -190,7 +190,7 @@ pub(crate) fn handshake_of<'a>(kept: &'a NoiseHandshake) -> Option<Handshake<Kep
     let Ok(pattern) = pattern_of(&kept.text[..kept.text_len as usize]) else {
         return None;
     };
-    Handshake::from_parts(parts_of(kept, pattern), secrets_of(kept))
+    LateHandshake::from_parts(parts_of(kept, pattern), secrets_of(kept))
 }
 
 // Keeps what messages have changed, and how many secrets are left.

@@ -19,7 +19,7 @@ pub struct NoiseAnswer {
 }
 
 /// A handshake of one party: the initiator where `responder` is 0. The text is that of its pattern, or its protocol name. The
-/// secrets that are left are the last `secret_count` of `secrets`.
+/// secrets that were handed in and are left are the last `secret_count` of `secrets`.
 #[repr(C)]
 #[derive(Clone, Copy)]
 pub struct NoiseHandshake {
@@ -44,7 +44,8 @@ pub struct NoiseHandshake {
 }
 
 /// What a handshake of one party starts from, beside its pattern and its prologue: the role, the initiator's where `responder`
-/// is 0; the public keys of its own, and those of the other party's pre-message; and a secret for each psk token, in their order.
+/// is 0; the public keys of its own, and those of the other party's pre-message; and the secrets of the first psk tokens, in their
+/// order.
 #[repr(C)]
 #[derive(Clone, Copy)]
 pub struct NoiseSetup {
@@ -58,7 +59,8 @@ pub struct NoiseSetup {
 }
 
 /// What a call tells beside its number: where a payload stands in a message that was read, or how long a message is that was
-/// written; the token of a refusal; the answer that is wanted.
+/// written; the token of a refusal; the answer that is wanted, or the other party's static key where a secret is, which is known
+/// unless `remote_known` is 0.
 #[repr(C)]
 #[derive(Clone, Copy)]
 pub struct NoiseTold {
@@ -67,6 +69,7 @@ pub struct NoiseTold {
     pub token: u8,
     pub of_static: u8,
     pub remote: [u8; 32],
+    pub remote_known: u8,
 }
 
 /// Where a handshake stands: how many messages its pattern has and how many have passed, and two flags, 0 or 1.

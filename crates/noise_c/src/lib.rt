@@ -20,6 +20,7 @@ mod kept_keys;
 mod kept_transport;
 pub mod laws;
 mod marks;
+mod secrets;
 mod splitting;
 mod starting;
 mod transport_codes;

@@ -1,10 +1,11 @@
 //! Exports: the start of a handshake.
 #![tactic(auto)]
 
-ghost use Rattle.std.specs.Prelude.{◌≡◌, ◌≤◌, ◌<◌, ◌-◌, ◌↔◌, ◌⊎◌, length, drop, MatchOption, IsOk, IfOk, Err};
+ghost use Rattle.std.specs.Prelude.{◌≡◌, ◌≤◌, ◌<◌, ◌-◌, ◌↔◌, ◌⊎◌, ℕ, List, length, drop, MatchOption, IsOk, IfOk, Err};
 ghost use Rattle.noise_names.specs.Plan.{Plan};
 ghost use Rattle.noise_names.specs.Validity.{IsValid};
 ghost use Rattle.noise_handshake.specs.Party.{Stands};
+ghost use Rattle.noise_handshake.specs.Late.{with_later};
 ghost use Rattle.noise_c.specs.Kept.{role_in, public_in, agreement_in, table_in, table_of, text_in, psks_in, begun_in, fault_in, start_code};
 ghost use Rattle.noise_c.specs.Kept.{IsPatternOf, IsNoName, IsNoText, IsNotValid, IsUsable, IsStartCode, KeepsView};
 ghost use Rattle.noise_c.specs.declared.marks.TheConstants.{HANDSHAKE};
@@ -15,7 +16,7 @@ use crate::held::{keep, pattern_of, role_of};
 use crate::kept::{NoiseHandshake, NoiseSetup};
 use crate::kept_keys::{KeptKeys, key_of};
 use crate::marks::HANDSHAKE;
-use noise_handshake::{Handshake, Remote, SetupFault};
+use noise_handshake::{LateHandshake, Remote, SetupFault};
 use noise_names::ValidPattern;
 
 const MAX_LEN: usize = 65535;
@@ -25,11 +26,12 @@ fn begin<'a>(
     pattern: ValidPattern,
     prologue: &[u8],
     setup: &'a NoiseSetup,
-) -> Result<Handshake<KeptKeys<'a>>, SetupFault>
+) -> Result<LateHandshake<KeptKeys<'a>>, SetupFault>
     requires len { length prologue.now ≤ 65535 }
     requires count { setup.now.psk_count ≤ 9 }
     ensures fault { MatchOption (fault_in pattern setup.now) (IsOk result) (λ fault. result ≡ Err fault) }
-    ensures stands { IfOk result (λ h. Stands public_in agreement_in h (begun_in pattern prologue.now setup.now)) }
+    ensures stands { IfOk result (λ h. (later : List (List ℕ)) → Stands public_in agreement_in (with_later h later)
+        (begun_in pattern prologue.now setup.now later)) }
     ensures pattern { IfOk result (λ h. h.pattern ≡ pattern) }
     ensures role { IfOk result (λ h. h.role ≡ role_in setup.now.responder) }
     ensures keys { IfOk result (λ h. h.keys ≡ table_of setup.now) }
@@ -46,7 +48,7 @@ fn begin<'a>(
     };
     let role = role_of(setup.responder);
     let psks = &setup.psks[..setup.psk_count as usize];
-    Handshake::new(pattern, role, prologue, keys, remote, psks)
+    LateHandshake::new(pattern, role, prologue, keys, remote, psks)
 }
 
 // Keeps what a handshake doesn't change: the text, the role, the keys of its own, with no answer yet, and the secrets.
@@ -83,7 +85,7 @@ fn start_with(
     requires short { length text.now ≤ 413 }
     requires named { IsPatternOf text.now pattern }
     ensures code { result ≡ start_code pattern prologue.now setup.now }
-    ensures begun { result ≡ OK → KeepsView kept.new pattern (begun_in pattern prologue.now setup.now) }
+    ensures begun { result ≡ OK → (later : List (List ℕ)) → KeepsView kept.new pattern (begun_in pattern prologue.now setup.now later) }
     ensures usable { result ≡ OK → IsUsable kept.new }
     ensures text { result ≡ OK → text_in kept.new ≡ text.now }
     ensures unchanged { OK < result → kept.new ≡ kept.old }
@@ -109,7 +111,8 @@ fn start_with(
 /// the struct holds before may be anything; at any answer but OK it is left as it was.
 ///
 /// NAME is no protocol name of a pattern, PATTERN a text that spells none, or a pattern that isn't valid. LENGTH is a prologue
-/// of more than 65535 bytes. PSK_COUNT is another number of secrets than the pattern has psk tokens.
+/// of more than 65535 bytes. PSK_COUNT is more secrets than the pattern has psk tokens: where there are fewer, reading and writing
+/// ask for the others when their tokens come.
 #[unsafe(no_mangle)]
 pub extern "C" fn noise_start(
     kept: &mut NoiseHandshake,
@@ -120,7 +123,8 @@ pub extern "C" fn noise_start(
     ensures name { result ≡ NAME ↔ IsNoName pattern.now }
     ensures pattern { result ≡ PATTERN ↔ (IsNoText pattern.now ⊎ IsNotValid pattern.now) }
     ensures valid { (p : Plan) → IsPatternOf pattern.now p → IsValid p → result ≡ start_code p prologue.now setup.now }
-    ensures begun { result ≡ OK → (p : Plan) → IsPatternOf pattern.now p → KeepsView kept.new p (begun_in p prologue.now setup.now) }
+    ensures begun { result ≡ OK → (p : Plan) → IsPatternOf pattern.now p → (later : List (List ℕ))
+        → KeepsView kept.new p (begun_in p prologue.now setup.now later) }
     ensures usable { result ≡ OK → IsUsable kept.new }
     ensures text { result ≡ OK → text_in kept.new ≡ pattern.now }
     ensures unchanged { OK < result → kept.new ≡ kept.old }

@@ -5,19 +5,22 @@ ghost use Rattle.std.specs.Prelude.{◌≡◌, ◌≤◌, ◌<◌, ◌⊎◌, �
 ghost use Rattle.noise_names.specs.Plan.{Plan};
 ghost use Rattle.noise_handshake.specs.View.{View};
 ghost use Rattle.noise_handshake.specs.Held.{message_len_of};
+ghost use Rattle.noise_handshake.specs.Late.{WantsSecretToWrite};
 ghost use Rattle.noise_handshake.specs.Wanting.{WantsToWrite};
-ghost use Rattle.noise_c.specs.Kept.{own_in, text_in, held_in, IsPatternOf, IsUsable, KeepsView, WasWritten, WasWithheld};
-ghost use Rattle.noise_c.specs.declared.codes.TheConstants.{AGREEMENT, NOT_YOUR_TURN, OK, ROOM, STRUCT, WANTED};
+ghost use Rattle.noise_c.specs.Kept.{own_in, remote_told, text_in, held_in, IsPatternOf, IsUsable, KeepsView, WasWritten, WasWithheld};
+ghost use Rattle.noise_c.specs.declared.codes.TheConstants.{AGREEMENT, NOT_YOUR_TURN, OK, ROOM, STRUCT, WANTED, WANTED_PSK};
 
-use crate::codes::{OK, ROOM, STRUCT, WANTED, write_code};
+use crate::codes::{OK, ROOM, STRUCT, write_code};
 use crate::handshakes::tell;
 use crate::held::{handshake_of, keep};
 use crate::kept::{NoiseHandshake, NoiseTold};
+use noise_handshake::LateUnwritten;
 
 /// Writes a message to the front of `out`, and returns its length, in bytes. At any answer but OK the struct and `out` are unchanged.
 ///
-/// ROOM tells the length that `out` is too short for. WANTED tells the DH answer that is lacking: hand it in, and call again.
-/// AGREEMENT can only come of memory that no call has left, and leaves open what `out` holds.
+/// ROOM tells the length that `out` is too short for. WANTED tells the DH answer that is lacking, and WANTED_PSK the other party's
+/// static key, if it is known, where the secret of a psk token is lacking: hand in what is wanted, and call again. AGREEMENT can only
+/// come of memory that no call has left, and leaves open what `out` holds.
 #[unsafe(no_mangle)]
 pub extern "C" fn noise_write(
     kept: &mut NoiseHandshake,
@@ -37,11 +40,16 @@ pub extern "C" fn noise_write(
     ensures short { (p : Plan) → IsPatternOf (text_in kept.old) p → (n : ℕ) → message_len_of (held_in p kept.old) (length payload.now) ≡ Some n
         → length out.old < n → (result ≡ ROOM) ⊎ (result ≡ STRUCT) }
     ensures wanted { result ≡ WANTED → (p : Plan) (v : View) → KeepsView kept.old p v → WantsToWrite v (own_in told.new.of_static) told.new.remote }
+    ensures wanted_psk { result ≡ WANTED_PSK → (p : Plan) (v : View) → KeepsView kept.old p v
+        → WantsSecretToWrite v kept.old.secret_count × (remote_told told.new ≡ v.remote.s) }
+    ensures asked { IsUsable kept.old → (p : Plan) (v : View) → KeepsView kept.old p v → WantsSecretToWrite v kept.old.secret_count → (n : ℕ)
+        → message_len_of (held_in p kept.old) (length payload.now) ≡ Some n → n ≤ length out.old → result ≡ WANTED_PSK }
     ensures withheld { NOT_YOUR_TURN ≤ result → result ≤ AGREEMENT → (p : Plan) (v : View) → KeepsView kept.old p v → WasWithheld v (length payload.now) result }
     ensures answered { result ≡ AGREEMENT → (p : Plan) (v : View) → KeepsView kept.old p v → ⊥ }
     ensures unchanged { OK < result → kept.new ≡ kept.old }
     ensures out { OK < result → (result ≡ AGREEMENT → ⊥) → out.new ≡ out.old }
-    ensures codes { (result ≡ OK) ⊎ ((NOT_YOUR_TURN ≤ result) × (result ≤ AGREEMENT)) ⊎ (result ≡ ROOM) ⊎ (result ≡ WANTED) ⊎ (result ≡ STRUCT) }
+    ensures codes { (result ≡ OK) ⊎ ((NOT_YOUR_TURN ≤ result) × (result ≤ AGREEMENT)) ⊎ (result ≡ ROOM) ⊎ (result ≡ WANTED) ⊎ (result ≡ STRUCT)
+        ⊎ (result ≡ WANTED_PSK) }
 {
     let Some(mut handshake) = handshake_of(kept) else {
         return STRUCT;
@@ -51,13 +59,8 @@ pub extern "C" fn noise_write(
             told.len = needed;
             return ROOM;
         }
-        if let Some(want) = handshake.wants_to_write() {
-            let (own, key) = want;
-            tell(own, key, told);
-            return WANTED;
-        }
     }
-    match handshake.write(payload, out) {
+    match handshake.write_or_ask(payload, out) {
         Ok(len) => {
             told.from = 0;
             told.len = len;
@@ -65,6 +68,7 @@ pub extern "C" fn noise_write(
             keep(&handshake.progress(), left, kept);
             OK
         }
-        Err(fault) => write_code(fault),
+        Err(LateUnwritten::Wants(want)) => tell(want, told),
+        Err(LateUnwritten::Withheld(fault)) => write_code(fault),
     }
 }

@@ -15,7 +15,7 @@ returns-in-Ok-clause-code c u =
 
 pub returns-in-Ok-clause-opens : goal.returns-in-Ok-clause-opens
 returns-in-Ok-clause-opens c p v k =
-    c.in-Ok.ensures.opened v (stands-for c.args.kept.now c.in-Some.handshake p v c.in-Some.ensures.one c.in-Some.ensures.same k)
+    c.in-Ok.ensures.opened v k.later (stands-for c.args.kept.now c.in-Some.handshake p v c.in-Some.ensures.one c.in-Some.ensures.same k)
 
 pub returns-in-Err-2-clause-code : goal.returns-in-Err-2-clause-code
 returns-in-Err-2-clause-code c u =

@@ -2,7 +2,8 @@ use Rattle.std.proofs.Common.{◌≡◌, List, ℕ, length, sym, ap, ◌∙◌, 
 use Rattle.std.specs.Prelude.{Option, Some, None, IfSome}
 use Rattle.noise_names.specs.Plan.{Plan}
 use Rattle.noise_handshake.specs.Held.{Held}
-use Rattle.noise_handshake.specs.Parts.{IsWhole, held_of}
+use Rattle.noise_handshake.specs.Parts.{held_of}
+use Rattle.noise_handshake.specs.Late.{IsLateWhole}
 use Rattle.noise_c.specs.declared.kept.NoiseHandshake.{NoiseHandshake}
 use Rattle.noise_keys.specs.Table.{Table}
 use Rattle.noise_c.specs.Kept.{public_in, text_in, held_in, IsPatternOf}
@@ -45,11 +46,11 @@ returns-clause-usable c =
         pattern = c.in-Ok.pattern;
         named = c.in-Ok.ensures.named;
         valid = c.in-Ok.ensures.valid;
-        whole = subst (λ (z : Held Table). IsWhole public_in z) held (c.from_parts.ensures.whole.0 some);
+        whole = subst (λ (z : Held Table). IsLateWhole public_in z) held (c.from_parts.ensures.whole.0 some);
       },
       λ u. c.from_parts.ensures.whole.1
-          (subst (λ (z : Held Table). IsWhole public_in z) (sym held)
-          (subst (λ (q : Plan). IsWhole public_in (held_in q c.args.kept.now)) (c.in-Ok.ensures.one u.pattern u.named) u.whole)),
+          (subst (λ (z : Held Table). IsLateWhole public_in z) (sym held)
+          (subst (λ (q : Plan). IsLateWhole public_in (held_in q c.args.kept.now)) (c.in-Ok.ensures.one u.pattern u.named) u.whole)),
     )
 
 pub returns-clause-one : goal.returns-clause-one

@@ -34,5 +34,6 @@ returns-in-Ok-clause-valid c p h v =
     c.start_with.ensures.code ∙ ap (λ (z : Plan). start_code z c.args.prologue.now c.args.setup.now) (sym (c.in-Ok.ensures.one p h))
 
 pub returns-in-Ok-clause-begun : goal.returns-in-Ok-clause-begun
-returns-in-Ok-clause-begun c e p h =
-    subst (λ (z : Plan). KeepsView c.start_with.new.kept z (begun_in z c.args.prologue.now c.args.setup.now)) (sym (c.in-Ok.ensures.one p h)) (c.start_with.ensures.begun e)
+returns-in-Ok-clause-begun c e p h later =
+    subst (λ (z : Plan). KeepsView c.start_with.new.kept z (begun_in z c.args.prologue.now c.args.setup.now later)) (sym (c.in-Ok.ensures.one p h))
+    (c.start_with.ensures.begun e later)

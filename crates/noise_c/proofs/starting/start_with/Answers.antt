@@ -14,13 +14,13 @@ returns-in-Err-clause-code c =
     c.setup_code.ensures ∙ start-err c.args.pattern c.args.prologue.now c.args.setup.now (Err c.in-Err.fault) c.in-Err.fault refl (omega (arith, c.if-prologue-gt-MAX_LEN.false)) (omega (arith, c.if-setup-gt9.false)) c.in-Err.ensures.fault
 
 pub returns-in-Ok-clause-begun : goal.returns-in-Ok-clause-begun
-returns-in-Ok-clause-begun c e =
+returns-in-Ok-clause-begun c e later =
     let h = c.in-Ok.handshake in
     let same : held_in h.pattern c.keep.new.kept ≡ h =
     c.keep.ensures.same h c.progress.ensures.same (c.in-Ok.ensures.keys ∙ sym c.keep_start.ensures.keys)
     (c.in-Ok.ensures.role ∙ ap role_in (sym c.keep_start.ensures.role)) (c.in-Ok.ensures.secrets ∙ sym c.keep_start.ensures.secrets) in
-    keeps-start c.keep.new.kept h c.args.pattern c.args.text.now (begun_in c.args.pattern c.args.prologue.now c.args.setup.now)
-    (c.keep.ensures.text ∙ c.keep_start.ensures.text) c.requires.named c.in-Ok.ensures.pattern same c.in-Ok.ensures.stands
+    keeps-start c.keep.new.kept h c.args.pattern c.args.text.now later (begun_in c.args.pattern c.args.prologue.now c.args.setup.now later)
+    (c.keep.ensures.text ∙ c.keep_start.ensures.text) c.requires.named c.in-Ok.ensures.pattern same (c.in-Ok.ensures.stands later)
 
 pub returns-in-Ok-clause-usable : goal.returns-in-Ok-clause-usable
 returns-in-Ok-clause-usable c e =

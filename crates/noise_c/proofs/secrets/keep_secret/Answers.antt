@@ -1,0 +1,16 @@
+use Rattle.std.proofs.Common.{rules, ◌≡◌, ◌+◌, ◌-◌, ◌∙◌, ℕ, List, length, drop, slice_set, ap, refl}
+use Rattle.std.specs.List.{copy_within}
+use Rattle.noise_c.specs.Kept.{held_in}
+use Rattle.noise_c.proofs.Moved.{moved-last}
+use Rattle.noise_c.proofs.secrets.keep_secret.Goals as goal
+
+pub returns-clause-given : goal.returns-clause-given
+returns-clause-given c =
+    let nine : length c.args.kept.now.secrets ≡ 9 = search rules in
+    record {
+      text = refl;
+      held = λ p. ap (λ (z : List (List ℕ)). record (held_in p c.args.kept.now) { secrets = z })
+          (ap (λ (z : List (List ℕ)). drop (9 - (c.args.kept.now.secret_count + 1)) (slice_set z 8 c.args.secret.now)) c.copy_within.ensures.after
+          ∙ ap (λ (n : ℕ). drop (9 - (c.args.kept.now.secret_count + 1)) (slice_set (copy_within c.args.kept.now.secrets 1 n 0) 8 c.args.secret.now)) nine
+          ∙ moved-last c.args.kept.now.secrets c.args.secret.now c.args.kept.now.secret_count nine c.requires);
+    }
