@@ -41,6 +41,7 @@ const (
 	ErrLimit            Code = 37
 	ErrEnding           Code = 38
 	ErrRule             Code = 39
+	ErrWantedPsk        Code = 40
 )
 
 // Sizes, in bytes.

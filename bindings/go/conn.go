@@ -55,7 +55,7 @@ func Client(conn net.Conn, config *Config) (*Conn, error) { return newConn(conn,
 func Server(conn net.Conn, config *Config) (*Conn, error) { return newConn(conn, config, false) }
 
 func newConn(conn net.Conn, config *Config, initiator bool) (*Conn, error) {
-	h, err := NewHandshakeState(config, initiator)
+	h, err := newHandshakeState(config, initiator, false)
 	if err != nil {
 		return nil, err
 	}

@@ -38,6 +38,7 @@ pub(crate) const NAME_TAKEN: u32 = 36;
 pub(crate) const LIMIT: u32 = 37;
 pub(crate) const ENDING: u32 = 38;
 pub(crate) const RULE: u32 = 39;
+pub(crate) const WANTED_PSK: u32 = 40;
 
 pub(crate) const KEY_LEN: usize = 32;
 pub(crate) const TAG_LEN: usize = 16;
