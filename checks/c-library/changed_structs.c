@@ -27,7 +27,8 @@ static uint64_t *send, *receive;
 static size_t *len;
 static unsigned long calls, usable;
 
-static const uint64_t handshake_faults = CODE(NOISE_STRUCT) | CODE(NOISE_ENDED) | CODE(NOISE_DONE) | CODE(NOISE_NOT_YOUR_TURN) | CODE(NOISE_WANTED);
+static const uint64_t handshake_faults = CODE(NOISE_STRUCT) | CODE(NOISE_ENDED) | CODE(NOISE_DONE) | CODE(NOISE_NOT_YOUR_TURN) | CODE(NOISE_WANTED)
+    | CODE(NOISE_WANTED_PSK);
 
 static void make_places(void) {
     h = (noise_handshake *)place_at_edge(sizeof *h);

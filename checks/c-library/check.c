@@ -25,6 +25,7 @@ int main(int count, char **words) {
     check_halves();
     check_datagram_halves();
     check_changed_structs();
+    check_late_secrets();
     puts("c-library: all codes, bytes and places were right");
     return 0;
 }

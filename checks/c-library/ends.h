@@ -74,5 +74,6 @@ void check_datagrams(void);
 void check_halves(void);
 void check_datagram_halves(void);
 void check_changed_structs(void);
+void check_late_secrets(void);
 
 #endif

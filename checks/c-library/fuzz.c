@@ -30,9 +30,10 @@ static unsigned long calls, went_well, rounds;
 
 static const uint64_t begun = CODE(NOISE_OK) | CODE(NOISE_STRUCT);
 static const uint64_t write_codes = CODE(NOISE_OK) | CODE(NOISE_NOT_YOUR_TURN) | CODE(NOISE_TOO_LONG) | CODE(NOISE_DONE) | CODE(NOISE_ENDED)
-    | CODE(NOISE_AGREEMENT) | CODE(NOISE_ROOM) | CODE(NOISE_WANTED) | CODE(NOISE_STRUCT);
+    | CODE(NOISE_AGREEMENT) | CODE(NOISE_ROOM) | CODE(NOISE_WANTED) | CODE(NOISE_WANTED_PSK) | CODE(NOISE_STRUCT);
 static const uint64_t read_codes = CODE(NOISE_OK) | CODE(NOISE_NOT_YOUR_TURN) | CODE(NOISE_DONE) | CODE(NOISE_ENDED) | CODE(NOISE_AGREEMENT)
-    | CODE(NOISE_SHORT) | CODE(NOISE_TAG) | CODE(NOISE_WANTED) | CODE(NOISE_STRUCT) | CODE(NOISE_LENGTH);
+    | CODE(NOISE_SHORT) | CODE(NOISE_TAG) | CODE(NOISE_WANTED) | CODE(NOISE_WANTED_PSK) | CODE(NOISE_STRUCT) | CODE(NOISE_LENGTH);
+static const uint64_t psk_codes = CODE(NOISE_OK) | CODE(NOISE_STRUCT) | CODE(NOISE_PSK_COUNT);
 static const uint64_t seal_codes = CODE(NOISE_OK) | CODE(NOISE_STRUCT) | CODE(NOISE_ROOM) | CODE(NOISE_ONE_WAY) | CODE(NOISE_TOO_LONG) | CODE(NOISE_EXHAUSTED);
 static const uint64_t open_codes = CODE(NOISE_OK) | CODE(NOISE_STRUCT) | CODE(NOISE_LENGTH) | CODE(NOISE_ONE_WAY) | CODE(NOISE_EXHAUSTED)
     | CODE(NOISE_SHORT) | CODE(NOISE_TAG);
@@ -229,17 +230,36 @@ static void hand_in_there(noise_handshake *h, unsigned role, const noise_told *t
     *h = *there;
 }
 
-static uint32_t write_there(noise_handshake *h, unsigned role, size_t len, size_t out_len, noise_told *told) {
-    uint32_t code;
-    while ((code = call_writing(write_handshake, h, sizeof *h, write_codes, len, out_len, told)) == NOISE_WANTED)
-        hand_in_there(h, role, told, CODE(NOISE_OK));
+// Supplies the secret of the first psk token that lacks one.
+static uint32_t set_psk_there(noise_handshake *h, const uint8_t *psk, uint64_t codes) {
+    noise_handshake *there = put(&kept_place, h, sizeof *h, false);
+    uint32_t code = counted(noise_set_psk(there, put(&first_place, psk, 32, true)), codes);
+    if (code != NOISE_OK) MUST(!memcmp(there, h, sizeof *h));
+    *h = *there;
     return code;
 }
 
-static uint32_t read_there(noise_handshake *h, unsigned role, uint8_t *bytes, size_t len, noise_told *told) {
+// Supplies what a call has asked for. False if it has asked for nothing.
+static bool supply_there(noise_handshake *h, unsigned role, unsigned *given, const noise_told *told, uint32_t code) {
+    if (code == NOISE_WANTED) hand_in_there(h, role, told, CODE(NOISE_OK));
+    if (code == NOISE_WANTED_PSK) {
+        MUST(told->remote_known <= 1);
+        set_psk_there(h, secret((*given)++), CODE(NOISE_OK));
+    }
+    return code == NOISE_WANTED || code == NOISE_WANTED_PSK;
+}
+
+static uint32_t write_there(noise_handshake *h, unsigned role, unsigned *given, size_t len, size_t out_len, noise_told *told) {
     uint32_t code;
-    while ((code = call_opening(read_handshake, h, sizeof *h, read_codes, bytes, len, told)) == NOISE_WANTED)
-        hand_in_there(h, role, told, CODE(NOISE_OK));
+    do code = call_writing(write_handshake, h, sizeof *h, write_codes, len, out_len, told);
+    while (supply_there(h, role, given, told, code));
+    return code;
+}
+
+static uint32_t read_there(noise_handshake *h, unsigned role, unsigned *given, uint8_t *bytes, size_t len, noise_told *told) {
+    uint32_t code;
+    do code = call_opening(read_handshake, h, sizeof *h, read_codes, bytes, len, told);
+    while (supply_there(h, role, given, told, code));
     return code;
 }
 
@@ -334,6 +354,7 @@ static void disturb_handshake(const noise_handshake *h, unsigned role) {
     call_writing(write_handshake, &copy, sizeof copy, write_codes, random_len(), random_len(), &told);
     call_opening(read_handshake, &copy, sizeof copy, read_codes, bytes, len, &told);
     hand_in_there(&copy, role, &told, CODE(NOISE_OK) | CODE(NOISE_FULL));
+    if (one_in(2)) set_psk_there(&copy, bytes, psk_codes);
     call_opening(read_handshake, &copy, sizeof copy, read_codes, bytes, len, &told);
 }
 
@@ -409,29 +430,29 @@ static plan random_plan(void) {
 }
 
 // A changed message on a copy: it may be one that nobody can tell from a genuine one, as long as no key is agreed on.
-static void try_changed(const noise_handshake *h, unsigned role, size_t len) {
+static void try_changed(const noise_handshake *h, unsigned role, unsigned given, size_t len) {
     static uint8_t changed[ROOM];
     noise_handshake copy = *h;
     noise_told told;
     memcpy(changed, message, len);
     change_bytes(changed, len);
     if (one_in(3)) len = below(len + 1);
-    uint32_t code = read_there(&copy, role, changed, len, &told);
+    uint32_t code = read_there(&copy, role, &given, changed, len, &told);
     MUST(is_in(code, CODE(NOISE_OK) | CODE(NOISE_SHORT) | CODE(NOISE_TAG)));
     if (code != NOISE_OK) MUST(call_opening(read_handshake, &copy, sizeof copy, read_codes, changed, len, &told) == NOISE_ENDED);
 }
 
-static void shake_hands(const plan *p, noise_handshake h[2]) {
+static void shake_hands(const plan *p, noise_handshake h[2], unsigned given[2]) {
     noise_told told;
     for (unsigned m = 0; m < p->messages; m++) {
         unsigned writer = m % 2, reader = 1 - writer;
         size_t len = random_len() % 60000, needed;
         disturb_handshake(&h[below(2)], writer);
         MUST(noise_message_len(&h[writer], len, &needed) == NOISE_OK);
-        MUST(write_there(&h[writer], writer, len, below(needed), &told) == NOISE_ROOM && told.len == needed);
-        MUST(write_there(&h[writer], writer, len, needed + (one_in(2) ? 0 : below(50)), &told) == NOISE_OK && told.len == needed);
-        try_changed(&h[reader], reader, needed);
-        MUST(read_there(&h[reader], reader, message, needed, &told) == NOISE_OK);
+        MUST(write_there(&h[writer], writer, &given[writer], len, below(needed), &told) == NOISE_ROOM && told.len == needed);
+        MUST(write_there(&h[writer], writer, &given[writer], len, needed + (one_in(2) ? 0 : below(50)), &told) == NOISE_OK && told.len == needed);
+        try_changed(&h[reader], reader, given[reader], needed);
+        MUST(read_there(&h[reader], reader, &given[reader], message, needed, &told) == NOISE_OK);
         MUST(told.len == len && !memcmp(message + told.from, payload, len));
     }
 }
@@ -553,15 +574,18 @@ static void use_network(const plan *p, const noise_handshake h[2]) {
 static void try_round(void) {
     plan p = random_plan();
     noise_handshake h[2];
+    unsigned given[2];
     size_t len = strlen(p.text[0] ? p.text : p.name);
     for (unsigned role = 0; role < 2; role++) {
         noise_setup setup = setup_of(&p, role);
+        given[role] = one_in(2) ? p.psks : (unsigned)below(p.psks + 1);
+        setup.psk_count = (uint8_t)given[role];
         memset(&h[role], 0x44, sizeof *h);
         disturb_start(&p, role);
         MUST(start_there(&h[role], p.text[0] ? p.text : p.name, len, p.prologue_len, &setup) == NOISE_OK);
     }
     for (size_t i = 0; i < 512; i++) payload[below(sizeof payload)] = (uint8_t)random_number();
-    shake_hands(&p, h);
+    shake_hands(&p, h, given);
     ask_handshake(&h[0]);
     use_stream(&p, h);
     use_network(&p, h);

@@ -6,6 +6,7 @@
 _Noreturn void fail(void);
 void write_all(const uint8_t *at, size_t len);
 void read_all(uint8_t *at, size_t len);
+bool psk_of(const uint8_t remote[32], uint8_t psk[32]);
 bool x25519(const uint8_t secret[32], const uint8_t remote[32], uint8_t answer[32]);
 extern const bool is_responder;
 extern const uint8_t own_ephemeral_public[32], own_static_public[32], own_static_secret[32], own_ephemeral_secret[32], prologue[], expected_remote_static[32];

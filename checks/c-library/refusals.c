@@ -54,7 +54,7 @@ static void check_setups(void) {
         must_begin(p.name, 9, &s, NOISE_REMOTE_UNEXPECTED);
         for (unsigned count = 0; count < 256; count++) {
             s = right, s.psk_count = (uint8_t)count;
-            must_begin(p.name, 9, &s, count == 1 ? NOISE_OK : NOISE_PSK_COUNT);
+            must_begin(p.name, 9, &s, count <= 1 ? NOISE_OK : NOISE_PSK_COUNT);
         }
         memset(&s, 0, sizeof s);                         // of several faults the first
         s.responder = (uint8_t)role;

@@ -1,3 +1,4 @@
+pub mod Runs
 pub mod Finished
 pub mod Keeps
 pub mod Named

@@ -34,6 +34,7 @@ use Rattle.noise_c.specs.declared.marks.TheConstants.{HANDSHAKE}
 use Rattle.noise_c.specs.declared.kept.NoiseStageTold.{NoiseStageTold}
 use Rattle.noise_c.specs.declared.kept.NoiseTold.{NoiseTold}
 use Rattle.noise_c.specs.Codes.{read_code, token_in, write_code, setup_code}
+use Rattle.noise_c.specs.declared.codes.TheConstants.{EPHEMERAL_MISSING, LENGTH, NAME, OK, PATTERN, PSK_COUNT, WANTED, WANTED_PSK}
 
 -- a key, if there is one
 abbrev pub key_in : NoiseKey → Option (List ℕ)
@@ -99,7 +100,7 @@ pub record IsNotValid (bytes : List ℕ) : Type 0 where
 
 -- why these bytes are of no valid pattern: NAME or PATTERN
 abbrev pub IsPatternFault : List ℕ → ℕ → Type 0
-IsPatternFault bytes code = ((code ≡ 1) × IsNoName bytes) ⊎ ((code ≡ 2) × (IsNoText bytes ⊎ IsNotValid bytes))
+IsPatternFault bytes code = ((code ≡ NAME) × IsNoName bytes) ⊎ ((code ≡ PATTERN) × (IsNoText bytes ⊎ IsNotValid bytes))
 
 -- the handshake
 abbrev pub held_in : Plan → NoiseHandshake → Held Table
@@ -174,8 +175,8 @@ remote_told told = if told.remote_known == 0 then None else Some told.remote
 
 -- What is wanted is told, with this number.
 abbrev pub TellsWant : Want → NoiseTold → ℕ → Type 0
-TellsWant (Answer own key) told code = (code ≡ 20) × (own_in told.of_static ≡ own) × (told.remote ≡ key)
-TellsWant (Secret remote) told code = (code ≡ 40) × (remote_told told ≡ remote)
+TellsWant (Answer own key) told code = (code ≡ WANTED) × (own_in told.of_static ≡ own) × (told.remote ≡ key)
+TellsWant (Secret remote) told code = (code ≡ WANTED_PSK) × (remote_told told ≡ remote)
 
 -- the public keys that are handed in, with no answer yet
 abbrev pub table_of : NoiseSetup → Table
@@ -205,13 +206,13 @@ code_of (Some fault) = setup_code fault
 -- the number that a start with a valid pattern answers: LENGTH, PSK_COUNT for more than there is room for, the fault of the setup, or OK
 abbrev pub start_code : Plan → List ℕ → NoiseSetup → ℕ
 start_code p prologue setup =
-    if nat_lt 65535 (length prologue) then 24
-    else if nat_lt 9 setup.psk_count then 8
+    if nat_lt 65535 (length prologue) then LENGTH
+    else if nat_lt 9 setup.psk_count then PSK_COUNT
     else code_of (fault_in p setup)
 
 -- one of the numbers of a start
 abbrev pub IsStartCode : ℕ → Type 0
-IsStartCode n = (n ≡ 0) ⊎ (n ≡ 1) ⊎ (n ≡ 2) ⊎ ((4 ≤ n) × (n ≤ 8)) ⊎ (n ≡ 24)
+IsStartCode n = (n ≡ OK) ⊎ (n ≡ NAME) ⊎ (n ≡ PATTERN) ⊎ ((EPHEMERAL_MISSING ≤ n) × (n ≤ PSK_COUNT)) ⊎ (n ≡ LENGTH)
 
 -- where the handshake stands
 pub record TellsStage (h : Held Table) (told : NoiseStageTold) : Type 0 where

@@ -9,6 +9,7 @@ use Rattle.noise_c.specs.declared.marks.TheConstants.{DATAGRAM_SENDER, DATAGRAM_
 use Rattle.noise_c.specs.KeptTransport.{is_party, party_in}
 use Rattle.noise_c.specs.KeptDatagrams.{is_window, window_in}
 use Rattle.noise_c.specs.TransportCodes.{sealing_code}
+use Rattle.noise_c.specs.declared.codes.TheConstants.{ROOM, STRUCT}
 
 -- A call has left this as a half that seals: its mark is that of one of this layout, and it is of one of the two parties.
 abbrev pub is_datagram_sender : NoiseDatagramSender → Bool
@@ -35,6 +36,6 @@ is_datagram_receiver k =
 -- the number that sealing tells, by the lengths of the payload and of what there is room for
 abbrev pub datagram_sender_seal_code : NoiseDatagramSender → ℕ → ℕ → ℕ
 datagram_sender_seal_code k payload room =
-    if not (is_datagram_sender k) then 23
-    else if nat_lt room (payload + 24) then 18
+    if not (is_datagram_sender k) then STRUCT
+    else if nat_lt room (payload + 24) then ROOM
     else sealing_code (unsealed (party_in k.party) (not (k.one_way == 0)) k.nonce payload)

@@ -8,6 +8,7 @@ use Rattle.noise_c.specs.declared.kept_datagrams.NoiseDatagrams.{NoiseDatagrams}
 use Rattle.noise_c.specs.declared.marks.TheConstants.{DATAGRAMS}
 use Rattle.noise_c.specs.KeptTransport.{is_party, party_in}
 use Rattle.noise_c.specs.TransportCodes.{sealing_code}
+use Rattle.noise_c.specs.declared.codes.TheConstants.{ROOM, STRUCT}
 
 -- the number of nonces of a window
 abbrev pub is_window : ℕ → Bool
@@ -35,6 +36,6 @@ is_datagrams k = (k.mark == DATAGRAMS) && is_party k.party && is_window k.window
 -- the number that sealing tells, by the lengths of the payload and of what there is room for
 abbrev pub datagrams_seal_code : NoiseDatagrams → ℕ → ℕ → ℕ
 datagrams_seal_code k payload room =
-    if not (is_datagrams k) then 23
-    else if nat_lt room (payload + 24) then 18
+    if not (is_datagrams k) then STRUCT
+    else if nat_lt room (payload + 24) then ROOM
     else sealing_code (unsealed (party_in k.party) (not (k.one_way == 0)) k.send_nonce payload)

@@ -5,6 +5,7 @@ use Rattle.noise_c.specs.declared.kept_halves.NoiseHalf.{NoiseHalf}
 use Rattle.noise_c.specs.declared.marks.TheConstants.{SENDER, RECEIVER}
 use Rattle.noise_c.specs.KeptTransport.{is_party, party_in}
 use Rattle.noise_c.specs.TransportCodes.{sealing_code, open_code}
+use Rattle.noise_c.specs.declared.codes.TheConstants.{ROOM, STRUCT}
 
 -- A call has left this as a half of this kind: its mark is that of the kind in this layout, and it is of one of the two parties.
 abbrev pub is_half : ℕ → NoiseHalf → Bool
@@ -17,8 +18,8 @@ half_kept_in k = record { role = party_in k.party; one_way = not (k.one_way == 0
 -- the number that sealing tells, by the lengths of the payload and of what there is room for
 abbrev pub sender_seal_code : NoiseHalf → ℕ → ℕ → ℕ
 sender_seal_code k payload room =
-    if not (is_half SENDER k) then 23
-    else if nat_lt room (payload + 16) then 18
+    if not (is_half SENDER k) then STRUCT
+    else if nat_lt room (payload + 16) then ROOM
     else sealing_code (sender_fault (half_kept_in k) payload)
 
 -- the number of a message of this length that isn't looked into

@@ -9,6 +9,8 @@ use Rattle.noise_c.specs.declared.kept_transport.NoiseTransport.{NoiseTransport}
 use Rattle.noise_c.specs.declared.marks.TheConstants.{TRANSPORT}
 use Rattle.noise_c.specs.Kept.{key_in}
 use Rattle.noise_c.specs.TransportCodes.{sealing_code, open_code}
+use Rattle.noise_c.specs.declared.codes.TheConstants.{ENDED, OK, ROOM, STRUCT}
+use Rattle.noise_c.specs.declared.transport_codes.TheConstants.{NOT_DONE}
 
 -- A number for each role: memory of zeros has neither.
 abbrev pub is_party : ℕ → Bool
@@ -37,13 +39,13 @@ transport_kept_in k = record {
 
 -- the number that finishing a handshake tells: ENDED, OK where all messages have passed, else NOT_DONE
 abbrev pub finish_code : Held Table → ℕ
-finish_code h = if h.ended then 13 else if h.passed == length h.pattern.messages then 0 else 19
+finish_code h = if h.ended then ENDED else if h.passed == length h.pattern.messages then OK else NOT_DONE
 
 -- the number that sealing tells, by the lengths of the payload and of what there is room for
 abbrev pub transport_seal_code : NoiseTransport → ℕ → ℕ → ℕ
 transport_seal_code k payload room =
-    if not (is_transport k) then 23
-    else if nat_lt room (payload + 16) then 18
+    if not (is_transport k) then STRUCT
+    else if nat_lt room (payload + 16) then ROOM
     else sealing_code (seal_fault (transport_kept_in k) payload)
 
 -- the number of a message of this length that isn't looked into

@@ -4,11 +4,12 @@
 ghost use Rattle.std.specs.Prelude.{◌≡◌, ◌≤◌, ◌-◌, ◌↔◌, ◌⊎◌, length, drop, map, IfSome, IsSome, IfOk, IfErr, IsOk};
 ghost use Rattle.noise_handshake.specs.Held.{Held};
 ghost use Rattle.noise_handshake.specs.Parts.{held_of, HasProgress};
+ghost use Rattle.noise_handshake.specs.Late.{IsLateWhole};
 ghost use Rattle.noise_keys.specs.Table.{Table};
 ghost use Rattle.noise_names.specs.Plan.{Plan};
 ghost use Rattle.noise_names.specs.Text.{Spells};
 ghost use Rattle.noise_names.specs.Validity.{IsValid};
-ghost use Rattle.noise_c.specs.Kept.{key_in, role_in, table_in, text_in, held_in, IsNamed, IsPatternOf, IsPatternFault, is_text, IsUsable};
+ghost use Rattle.noise_c.specs.Kept.{key_in, public_in, role_in, table_in, text_in, held_in, IsNamed, IsPatternOf, IsPatternFault, is_text, IsUsable};
 ghost use Rattle.noise_c.specs.declared.codes.TheConstants.{NAME, PATTERN};
 
 use crate::codes::{NAME, PATTERN};
@@ -167,6 +168,21 @@ fn parts_of<'a>(kept: &'a NoiseHandshake, pattern: ValidPattern) -> Parts<KeptKe
     }
 }
 
+// The handshake of this pattern, if its parts are those of one. It needs most of the stack, so `pattern_of` isn't called beneath it.
+#[inline(never)]
+fn restored<'a>(
+    kept: &'a NoiseHandshake,
+    pattern: ValidPattern,
+) -> Option<LateHandshake<KeptKeys<'a>>>
+    requires answers { kept.now.answer_count ≤ 8 }
+    requires secrets { kept.now.secret_count ≤ 9 }
+    ensures whole { IsSome result ↔ IsLateWhole public_in (held_in pattern kept.now) }
+    ensures same { IfSome result (λ h. h ≡ held_in pattern kept.now) }
+    ensures count { IfSome result (λ h. length h.secrets ≡ kept.now.secret_count) }
+{
+    LateHandshake::from_parts(parts_of(kept, pattern), secrets_of(kept))
+}
+
 // The handshake of what C keeps, if a call has left it.
 pub(crate) fn handshake_of<'a>(kept: &'a NoiseHandshake) -> Option<LateHandshake<KeptKeys<'a>>>
     ensures usable { IsSome result ↔ IsUsable kept.now }
@@ -190,7 +206,7 @@ pub(crate) fn handshake_of<'a>(kept: &'a NoiseHandshake) -> Option<LateHandshake
     let Ok(pattern) = pattern_of(&kept.text[..kept.text_len as usize]) else {
         return None;
     };
-    LateHandshake::from_parts(parts_of(kept, pattern), secrets_of(kept))
+    restored(kept, pattern)
 }
 
 // Keeps what messages have changed, and how many secrets are left.

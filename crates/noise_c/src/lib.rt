@@ -2,6 +2,7 @@
 //! pair is used: the caller is shown which DH answer is wanted, and hands it in.
 #![tactic(auto)]
 
+pub mod answered;
 mod asking;
 mod checking;
 mod codes;

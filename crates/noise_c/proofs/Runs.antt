@@ -1,0 +1,163 @@
+-- A handshake that is handed each DH answer when it asks is as the library's.
+use Rattle.std.proofs.Common.{◌≡◌, ◌⊎◌, inl, inr, ℕ, suc, ◌≤◌, List, [], ◌∷◌, ◌++◌, refl, ap, sym, subst, ◌∙◌}
+use Rattle.std.specs.Prelude.{Bool, true, false, ◌&&◌, cond, Option, Some, None, find, nat_eq}
+use Rattle.std.specs.Option.{option_map, option_or}
+use Rattle.std.specs.Cmp.Lexicographic.{pointwise, same_text}
+use Rattle.std.proofs.lemmas.Cmp.{nat_list_eq_equiv}
+use Rattle.std.proofs.lemmas.List.Folds.{find-append}
+use Rattle.noise_names.specs.Plan.{Plan}
+use Rattle.noise_names.specs.Validity.{IsValid}
+use Rattle.noise_keys.specs.declared.keys.Own.{Own}
+use Rattle.noise_keys.specs.declared.keys.Own.TheVariants.{Ephemeral, Static}
+use Rattle.noise_keys.specs.Table.{Table, TableEntry, answer_in, is_for, same_own}
+use Rattle.noise_handshake.specs.Held.{Held}
+use Rattle.noise_handshake.specs.Late.{with_later}
+use Rattle.noise_handshake.specs.Party.{Stands}
+use Rattle.noise_handshake.specs.View.{View}
+use Rattle.noise_answers.specs.Answers.{Answers, AnsweredIsWhole, AreAmong, AskedIsLacking, AskedToRead, AskedToWrite, FourSuffice, FourSufficeToWrite, HasKeys}
+use Rattle.noise_answers.specs.Answers.{IsHandedIn, with_answers}
+use Rattle.noise_answers.specs.Answers.AskedToRead.{ready as none_to_read, asked as one_to_read}
+use Rattle.noise_answers.specs.Answers.AskedToWrite.{ready as none_to_write, asked as one_to_write}
+use Rattle.noise_c.specs.declared.kept.NoiseHandshake.{NoiseHandshake}
+use Rattle.noise_c.specs.Kept.{IsAdded, IsPatternOf, KeepsView, agreement_in, held_in, public_in, table_in}
+use Rattle.noise_c.specs.Answered.{ReadsByAnswers, WritesByAnswers, IsAsLibrary, ReadsAsLibrary, WritesAsLibrary, answers_in}
+use Rattle.noise_c.specs.Answered.ReadsByAnswers.{ready as reads_now, answered as reads_later}
+use Rattle.noise_c.specs.Answered.WritesByAnswers.{ready as writes_now, answered as writes_later}
+
+-- ---- an answer more
+
+-- the answer after those of the entries
+either : (es : List TableEntry) (e : TableEntry) (own : Own) (key : List ℕ)
+    → answer_in (es ++ e ∷ []) own key ≡ option_or (answer_in es own key) (answer_in (e ∷ []) own key)
+either es e own key =
+    ap (option_map (λ (t : TableEntry). t.answer)) (find-append (is_for own key) es (e ∷ []))
+    ∙ map-or (find (is_for own key) es) (find (is_for own key) (e ∷ [])) where
+      map-or : (a b : Option TableEntry)
+          → option_map (λ (t : TableEntry). t.answer) (option_or a b)
+          ≡ option_or (option_map (λ (t : TableEntry). t.answer) a) (option_map (λ (t : TableEntry). t.answer) b)
+      map-or None b = refl
+      map-or (Some t) b = refl
+
+own-itself : (own : Own) → same_own own own ≡ true
+own-itself Ephemeral = refl
+own-itself Static = refl
+
+own-same : (a b : Own) → same_own a b ≡ true → a ≡ b
+own-same Ephemeral Ephemeral e = refl
+own-same Ephemeral Static e = cc
+own-same Static Ephemeral e = cc
+own-same Static Static e = refl
+
+both : (a b : Bool) → a ≡ true → b ≡ true → (a && b) ≡ true
+both true true f g = refl
+both true false f g = cc
+both false b f g = cc
+
+left-true : (a b : Bool) → (a && b) ≡ true → a ≡ true
+left-true true b e = refl
+left-true false b e = cc
+
+right-true : (a b : Bool) → (a && b) ≡ true → b ≡ true
+right-true true b e = e
+right-true false b e = cc
+
+module _ (own : Own) (key x : List ℕ) where
+  abbrev entry : TableEntry
+  entry = record { own = own; remote = key; answer = x }
+
+  alone : answer_in (entry ∷ []) own key ≡ Some x
+  alone = at (is_for own key entry) (both (same_own own own) (pointwise nat_eq key key) (own-itself own) (nat_list_eq_equiv.refl key)) where
+    at : (b : Bool) → b ≡ true → option_map (λ (t : TableEntry). t.answer) (cond b (Some entry) None) ≡ Some x
+    at true e = refl
+    at false e = cc
+
+  only-one : (o : Own) (k y : List ℕ) → answer_in (entry ∷ []) o k ≡ Some y → (o ≡ own) × (k ≡ key) × (y ≡ x)
+  only-one o k y e = at (is_for o k entry) refl e where
+    at : (b : Bool) → is_for o k entry ≡ b → option_map (λ (t : TableEntry). t.answer) (cond b (Some entry) None) ≡ Some y
+        → (o ≡ own) × (k ≡ key) × (y ≡ x)
+    at true t f = (
+      sym (own-same own o (left-true (same_own own o) (pointwise nat_eq key k) t)),
+      sym (same_text key k (sym (right-true (same_own own o) (pointwise nat_eq key k) t))),
+      cc,
+    )
+    at false t f = cc
+
+  handed : (es : List TableEntry) → answer_in es own key ≡ None → IsHandedIn (answer_in es) (answer_in (es ++ entry ∷ [])) own key x
+  handed es none = record {
+    there = either es entry own key ∙ ap (λ (o : Option (List ℕ)). option_or o (answer_in (entry ∷ []) own key)) none ∙ alone;
+    kept = λ (o : Own) (k y : List ℕ) (e : answer_in es o k ≡ Some y).
+        either es entry o k ∙ ap (λ (z : Option (List ℕ)). option_or z (answer_in (entry ∷ []) o k)) e;
+    only = λ (o : Own) (k y : List ℕ) (e : answer_in (es ++ entry ∷ []) o k ≡ Some y).
+        which o k y (answer_in es o k) refl (sym (either es entry o k) ∙ e);
+  } where
+    which : (o : Own) (k y : List ℕ) (a : Option (List ℕ)) → answer_in es o k ≡ a
+        → option_or (answer_in es o k) (answer_in (entry ∷ []) o k) ≡ Some y
+        → (answer_in es o k ≡ Some y) ⊎ ((o ≡ own) × (k ≡ key) × (y ≡ x))
+    which o k y None t e = inr (only-one o k y (sym (ap (λ (z : Option (List ℕ)). option_or z (answer_in (entry ∷ []) o k)) t) ∙ e))
+    which o k y (Some z) t e = inl (t ∙ (sym (ap (λ (w : Option (List ℕ)). option_or w (answer_in (entry ∷ []) o k)) t) ∙ e))
+
+-- ---- what is kept
+
+module _ (p : Plan) (v : View) where
+  abbrev Keeps : NoiseHandshake → Type 0
+  Keeps k = KeepsView k p (with_answers v (answers_in k))
+
+  module _ (k next : NoiseHandshake) (own : Own) (key x : List ℕ) (added : IsAdded k next (record { own = own; remote = key; answer = x })) where
+    table : table_in next ≡ record (table_in k) { entries = (table_in k).entries ++ record { own = own; remote = key; answer = x } ∷ [] }
+    table = ap (λ (h : Held Table). h.keys) (added.held p)
+
+    pub answers-next : answers_in k own key ≡ None → IsHandedIn (answers_in k) (answers_in next) own key x
+    answers-next none =
+        subst (λ (t : Table). IsHandedIn (answers_in k) (agreement_in t) own key x) (sym table) (handed own key x (table_in k).entries none)
+
+    pub keeps-next : Keeps k → Keeps next
+    keeps-next c = record {
+      pattern = subst (λ (bytes : List ℕ). IsPatternOf bytes p) (sym added.text) c.pattern;
+      later = c.later;
+      stands = subst (λ (h : Held Table). Stands public_in agreement_in (with_later h c.later) (with_answers v (answers_in next))) (sym (added.held p)) (record {
+        pattern = c.stands.pattern;
+        role = c.stands.role;
+        secrets = c.stands.secrets;
+        own = c.stands.own;
+        agree = ap agreement_in (sym table);
+        remote = c.stands.remote;
+        passed = c.stands.passed;
+        history = c.stands.history;
+        ended = c.stands.ended;
+      });
+    }
+
+  -- each call that asks is one of the view's
+  pub asked-to-read : AskedIsLacking → (all : Answers) (message : List ℕ) (k last : NoiseHandshake) (n : ℕ) → Keeps k → ReadsByAnswers p all message k n last
+      → AskedToRead v all message (answers_in k) n (answers_in last) × Keeps last
+  asked-to-read lacks all message k last n keeps (reads_now _) = (none_to_read (answers_in k), keeps)
+  asked-to-read lacks all message k last _ keeps (reads_later _ next _ own key x n wants is added more) =
+      let w = wants (with_answers v (answers_in k)) keeps in
+      let none : answers_in k own key ≡ None = (lacks (with_answers v (answers_in k)) own key).0 message w in
+      let i = asked-to-read lacks all message next last n (keeps-next k next own key x added keeps) more in
+      (one_to_read (answers_in k) (answers_in next) (answers_in last) own key x n w is (answers-next k next own key x added none) i.0, i.1)
+
+  pub asked-to-write : AskedIsLacking → (all : Answers) → HasKeys v → (k last : NoiseHandshake) (n : ℕ) → Keeps k → WritesByAnswers p all k n last
+      → AskedToWrite v all (answers_in k) n (answers_in last) × Keeps last
+  asked-to-write lacks all keys k last n keeps (writes_now _) = (none_to_write (answers_in k), keeps)
+  asked-to-write lacks all keys k last _ keeps (writes_later _ next _ own key x n wants is added more) =
+      let w = wants (with_answers v (answers_in k)) keeps in
+      let none : answers_in k own key ≡ None = (lacks (with_answers v (answers_in k)) own key).1 keys w in
+      let i = asked-to-write lacks all keys next last n (keeps-next k next own key x added keeps) more in
+      (one_to_write (answers_in k) (answers_in next) (answers_in last) own key x n w is (answers-next k next own key x added none) i.0, i.1)
+
+-- the pattern of the view is that of the name
+pattern-is : (p : Plan) (v : View) (k : NoiseHandshake) → KeepsView k p v → p ≡ v.pattern
+pattern-is p v k c = c.stands.pattern
+
+pub reads-as : AskedIsLacking → AnsweredIsWhole → FourSuffice → ReadsAsLibrary
+reads-as lacks whole four p v all message k last n valid keeps among run =
+    let a = asked-to-read p v lacks all message k last n keeps run in
+    let f = four v (answers_in k) (answers_in last) all message n (subst IsValid (pattern-is p _ k keeps) valid) among a.0 in
+    record { few = f.1; keeps = a.1; among = f.2; same = whole v (answers_in last) all f.2 }
+
+pub writes-as : AskedIsLacking → AnsweredIsWhole → FourSufficeToWrite → WritesAsLibrary
+writes-as lacks whole four p v all k last n valid keys keeps among run =
+    let a = asked-to-write p v lacks all keys k last n keeps run in
+    let f = four v (answers_in k) (answers_in last) all n (subst IsValid (pattern-is p _ k keeps) valid) keys among a.0 in
+    record { few = f.1; keeps = a.1; among = f.2; same = whole v (answers_in last) all f.2 }
