@@ -725,3 +725,29 @@ func BenchmarkSeal(b *testing.B) {
 		})
 	}
 }
+
+// BenchmarkConn sends messages over TCP, and reads them.
+func BenchmarkConn(b *testing.B) {
+	for _, size := range []int{64, 1024, 16384} {
+		b.Run(fmt.Sprint(size), func(b *testing.B) {
+			client, server := configs(b, "NN")
+			c, s := connected(b, client, server)
+			errC, errS := both(c, s)
+			must(b, errC, errS)
+			b.SetBytes(int64(size))
+			b.ResetTimer()
+			go func() {
+				payload := make([]byte, size)
+				for i := 0; i < b.N; i++ {
+					c.Write(payload)
+				}
+			}()
+			room := make([]byte, size)
+			for i := 0; i < b.N; i++ {
+				if _, err := s.Read(room); err != nil {
+					b.Fatal(err)
+				}
+			}
+		})
+	}
+}
