@@ -14,7 +14,7 @@ use Rattle.noise_names.specs.Names.{IsSection, Section, name_bytes}
 use Rattle.noise_names.specs.Plan.{Plan}
 use Rattle.noise_names.specs.Text.{text_of as pattern_text}
 use Rattle.noise_vectors.specs.HexWord.{hex_of}
-use Rattle.noise_vectors.specs.WrongLine.{IsBegun, IsLater, IsOfBlock, up_to_initiator, IsHeaderLine, IsIntervalLine, IsPrologueLine, IsProtocolLine, IsTold, TellsLine, TellsPsk, line_feeds}
+use Rattle.noise_vectors.specs.WrongLine.{IsBegun, IsLater, IsOfBlock, IsHeaderLine, IsIntervalLine, IsPrologueLine, IsProtocolLine, IsTold, TellsLine, TellsPsk, line_feeds}
 use Rattle.noise_vectors.specs.VectorFile.{ArePsks, IsAllowed, IsAllowedFile, IsAllowedVersion, IsEvent, IsExpected, IsOwn, IsShort, IsVectorFile, IsVersion}
 use Rattle.noise_vectors.specs.VectorText.{block_text, header_words, is_second, line, lines_of, psk_words, text_of}
 use Rattle.noise_vectors.specs.Words.{IsKey, lacks}
@@ -389,8 +389,8 @@ begun-psks : (alloc : Global) (allowed : AllowedEvents) (text left : List ℕ) (
     → text ≡ line (header_words second) (line (codes "protocol " ++ name_bytes name)
     (block_text block (line (codes "prologue " ++ hex_of prologue.items) (line (codes "interval " ++ decimal interval) (lines_of psk_words psks left)))))
     → (allowed ≡ VersionOne → second ≡ false) → IsSection name → IsOwn name block → IsShort prologue.items → interval < 2 ^ 64 → ArePsks psks
-    → IsBegun allowed text up_to_initiator
-begun-psks alloc allowed text left second name block prologue short interval psks e one h own few small are =
+    → starts_with nat_eq left (codes "psk ") ≡ false → IsBegun allowed text
+begun-psks alloc allowed text left second name block prologue short interval psks e one h own few small are over =
     let same_header : is_second (version_of alloc second) ≡ second = version_of-second alloc second in
     let rest = line (codes "protocol " ++ name_bytes name) (block_text block (line (codes "prologue " ++ hex_of prologue.items)
     (line (codes "interval " ++ decimal interval) (lines_of psk_words psks left)))) in
@@ -400,9 +400,10 @@ begun-psks alloc allowed text left second name block prologue short interval psk
       is_allowed = sample-allowed alloc allowed second name block prologue short one;
       left = left;
       text_is = e ∙ ap (λ (s : Bool). line (header_words s) rest) (sym same_header);
+      over = over;
     }
 
-later-of : (allowed : AllowedEvents) (text : List ℕ) (fault : VectorFault) → IsLater fault → IsBegun allowed text up_to_initiator → IsTold allowed text fault
+later-of : (allowed : AllowedEvents) (text : List ℕ) (fault : VectorFault) → IsLater fault → IsBegun allowed text → IsTold allowed text fault
 later-of allowed text (Line n kinds.Keys) h b = b
 later-of allowed text (Line n kinds.Answer) h b = b
 later-of allowed text (Line n kinds.Event) h b = b
@@ -416,9 +417,9 @@ pub later-told : (alloc : Global) (allowed : AllowedEvents) (text left : List �
     → text ≡ line (header_words second) (line (codes "protocol " ++ name_bytes name)
     (block_text block (line (codes "prologue " ++ hex_of prologue.items) (line (codes "interval " ++ decimal interval) (lines_of psk_words psks left)))))
     → (allowed ≡ VersionOne → second ≡ false) → IsSection name → IsOwn name block → IsShort prologue.items → interval < 2 ^ 64 → ArePsks psks
-    → IsLater fault → IsTold allowed text fault
-later-told alloc allowed text left second name block prologue short interval psks fault e one h own few small are later =
-    later-of allowed text fault later (begun-psks alloc allowed text left second name block prologue short interval psks e one h own few small are)
+    → starts_with nat_eq left (codes "psk ") ≡ false → IsLater fault → IsTold allowed text fault
+later-told alloc allowed text left second name block prologue short interval psks fault e one h own few small are over later =
+    later-of allowed text fault later (begun-psks alloc allowed text left second name block prologue short interval psks e one h own few small are over)
 
 -- a fault of the block comes of a name whose pattern a file spells
 pub block-told : (allowed : AllowedEvents) (text left : List ℕ) (second : Bool) (name : Section) (fault : VectorFault)

@@ -1,5 +1,5 @@
 -- Which line of a wrong file is told, as far as the lines of the psks; the pattern that a file spells has a rule of its own.
-use Rattle.std.specs.Prelude.{⊤, ◌≡◌, ◌⊎◌, ◌+◌, ◌<◌, ◌^◌, ◌==◌, IsTrue, ℕ, List, [], ◌++◌, Bool, false, codes, count_by, decimal, length, nat_eq, None}
+use Rattle.std.specs.Prelude.{⊤, ◌≡◌, ◌⊎◌, ◌+◌, ◌<◌, ◌^◌, ◌==◌, IsFalse, IsTrue, ℕ, List, [], ◌++◌, Bool, false, codes, count_by, decimal, length, nat_eq, None}
 use Rattle.std.specs.List.{starts_with}
 use Rattle.noise_names.specs.Fundamental.{fundamental_of}
 use Rattle.noise_names.specs.Names.{IsSection, Section, name_bytes}
@@ -57,13 +57,14 @@ pub record IsToldLine (allowed : AllowedEvents) (text : List ℕ) (number : ℕ)
   pub counted : number ≡ line_feeds (up_to file []) + 1
   pub wrong : (other : VectorFile) (rest : List ℕ) → IsVectorFile other → IsAllowedFile allowed other → ¬ (text_of other ≡ up_to file (line told rest))
 
--- some right file that is allowed begins with the text's lines up to there
-pub record IsBegun (allowed : AllowedEvents) (text : List ℕ) (up_to : VectorFile → List ℕ → List ℕ) : Type 0 where
+-- some right file that is allowed begins with the text's lines up to its initiator's keys, and no psk line is left
+pub record IsBegun (allowed : AllowedEvents) (text : List ℕ) : Type 0 where
   pub file : VectorFile
   pub is_file : IsVectorFile file
   pub is_allowed : IsAllowedFile allowed file
   pub left : List ℕ
-  pub text_is : text ≡ up_to file left
+  pub text_is : text ≡ up_to_initiator file left
+  pub over : IsFalse (is_psk_line left)
 
 -- the text begins with a header that is allowed and a protocol whose base is of no fundamental pattern
 pub record HasOwnName (allowed : AllowedEvents) (text : List ℕ) : Type 0 where
@@ -84,7 +85,7 @@ IsTold allowed text (Line number kinds.Interval) = IsToldLine allowed text numbe
 IsTold allowed text (Line number kinds.Psk) = (it : IsToldLine allowed text number up_to_initiator) × IsTrue (is_psk_line it.told)
 IsTold allowed text (Line number kinds.Pattern) = HasOwnName allowed text
 IsTold allowed text (Line number kinds.Ending) = ⊤
-IsTold allowed text (Line number kind) = IsBegun allowed text up_to_initiator
+IsTold allowed text (Line number kind) = IsBegun allowed text
 IsTold allowed text Memory = ⊤
 
 -- ---- one line

@@ -215,6 +215,7 @@ fn interval_of(line: &[u8]) -> Option<u64>
 fn read_psks(lines: &mut Lines<'_>) -> Result<ArrayVec<[u8; 32], 9>, VectorFault>
     ensures text { IfOk result (λ psks. lines.old.rest.now ≡ lines_of psk_words psks.items lines.new.rest.now) }
     ensures right { IfOk result (λ psks. ArePsks psks.items) }
+    ensures over { IfOk result (λ psks. IsFalse (starts_with nat_eq lines.new.rest.now (codes "psk "))) }
     ensures told { lines.old.number < 2 ^ 63 + 99 → IfErr result (TellsPsk lines.old.rest.now lines.old.number) }
     ensures every { (psks : List (List ℕ)) (rest : List ℕ) → ArePsks psks → IsFalse (starts_with nat_eq rest (codes "psk "))
         → lines.old.rest.now ≡ lines_of psk_words psks rest

@@ -206,7 +206,7 @@ later c fault front h =
     ∙ ap (λ (t : List ℕ). line (codes "prologue " ++ hex_of c.in_ok-prologue.prologue.items) t) (c.in_ok-interval.ensures.text
     ∙ ap (λ (t : List ℕ). line (codes "interval " ++ decimal c.in_ok-interval.interval) t) c.in_ok-psks.ensures.text)))
     c.in_ok-second.ensures.allowed c.in_ok-protocol.ensures.right c.in_ok-block.ensures.right c.in_ok-prologue.ensures.right
-    (search rules) c.in_ok-psks.ensures.right h
+    (search rules) c.in_ok-psks.ensures.right c.in_ok-psks.ensures.over h
 
 pub returns-in_err-initiator-clause-told : goal.returns-in_err-initiator-clause-told
 returns-in_err-initiator-clause-told c =
