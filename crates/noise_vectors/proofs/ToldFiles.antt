@@ -14,8 +14,8 @@ use Rattle.noise_names.specs.Names.{IsSection, Section, name_bytes}
 use Rattle.noise_names.specs.Plan.{Plan}
 use Rattle.noise_names.specs.Text.{text_of as pattern_text}
 use Rattle.noise_vectors.specs.HexWord.{hex_of}
-use Rattle.noise_vectors.specs.WrongLine.{IsHeaderLine, IsIntervalLine, IsPrologueLine, IsProtocolLine, IsTold, TellsLine, TellsPsk, line_feeds}
-use Rattle.noise_vectors.specs.VectorFile.{IsAllowed, IsAllowedFile, IsAllowedVersion, IsEvent, IsExpected, IsOwn, IsShort, IsVectorFile, IsVersion}
+use Rattle.noise_vectors.specs.WrongLine.{IsBegun, IsLater, IsOfBlock, IsHeaderLine, IsIntervalLine, IsPrologueLine, IsProtocolLine, IsTold, TellsLine, TellsPsk, line_feeds}
+use Rattle.noise_vectors.specs.VectorFile.{ArePsks, IsAllowed, IsAllowedFile, IsAllowedVersion, IsEvent, IsExpected, IsOwn, IsShort, IsVectorFile, IsVersion}
 use Rattle.noise_vectors.specs.VectorText.{block_text, header_words, is_second, line, lines_of, psk_words, text_of}
 use Rattle.noise_vectors.specs.Words.{IsKey, lacks}
 use Rattle.noise_vectors.specs.declared.faults.LineKind.TheVariants as kinds
@@ -314,6 +314,24 @@ psk-more (x ∷ xs) (y ∷ ys) words rest after h k plain begun other e =
     let more = psk-more xs ys words rest after (All-tail IsKey x xs h) (All-tail IsKey y ys k) plain begun other parts.1 in
     (more.0, more.1, more.2, omega (arith, more.3))
 
+-- a file with these psks
+sample_psks-right : (alloc : Global) (second : Bool) (name : Section) (block : Option Plan) (prologue : Vec ℕ Global) (short : vec_len prologue ≤ 65535)
+    (interval : ℕ) (psks : List (List ℕ)) → IsSection name → IsOwn name block → IsShort prologue.items → interval < 2 ^ 64 → ArePsks psks
+    → IsVectorFile (sample_psks alloc second name block prologue short interval psks)
+sample_psks-right alloc second name block prologue short interval psks h own few small are =
+    let plain = sample-right alloc second name block prologue short h own few in
+    record {
+      protocol = plain.protocol;
+      own = plain.own;
+      prologue = plain.prologue;
+      interval = small;
+      psks = are;
+      initiator = plain.initiator;
+      responder = plain.responder;
+      events = plain.events;
+      version = plain.version;
+    }
+
 pub psk-told : (alloc : Global) (allowed : AllowedEvents) (text from : List ℕ) (second : Bool) (name : Section) (block : Option Plan)
     (prologue : Vec ℕ Global) (short : vec_len prologue ≤ 65535) (interval number : ℕ) (fault : VectorFault)
     → text ≡ line (header_words second) (line (codes "protocol " ++ name_bytes name)
@@ -325,7 +343,6 @@ psk-told alloc allowed text from second name block prologue short interval numbe
     told-of allowed text fault (Line m kinds.Ending) is tt
 psk-told alloc allowed text from second name block prologue short interval number fault e one h own few small n (inr w) =
     let file = sample_psks alloc second name block prologue short interval w.psks in
-    let plain = sample-right alloc second name block prologue short h own few in
     let same_header : is_second (version_of alloc second) ≡ second = version_of-second alloc second in
     let here = codes "prologue " ++ hex_of prologue.items in
     let there = codes "interval " ++ decimal interval in
@@ -338,17 +355,7 @@ psk-told alloc allowed text from second name block prologue short interval numbe
     told-of allowed text fault (Line (number + length w.psks + 1) kinds.Psk) w.fault_is (
       record {
         file = file;
-        is_file = record {
-          protocol = plain.protocol;
-          own = plain.own;
-          prologue = plain.prologue;
-          interval = small;
-          psks = w.are_psks;
-          initiator = plain.initiator;
-          responder = plain.responder;
-          events = plain.events;
-          version = plain.version;
-        };
+        is_file = sample_psks-right alloc second name block prologue short interval w.psks h own few small w.are_psks;
         is_allowed = sample-allowed alloc allowed second name block prologue short one;
         begun = (after_psks file, refl);
         told = w.told;
@@ -373,3 +380,52 @@ psk-told alloc allowed text from second name block prologue short interval numbe
       },
       w.begun,
     )
+
+-- ---- later lines
+
+-- the lines up to the initiator's are right
+begun-psks : (alloc : Global) (allowed : AllowedEvents) (text left : List ℕ) (second : Bool) (name : Section) (block : Option Plan)
+    (prologue : Vec ℕ Global) (short : vec_len prologue ≤ 65535) (interval : ℕ) (psks : List (List ℕ))
+    → text ≡ line (header_words second) (line (codes "protocol " ++ name_bytes name)
+    (block_text block (line (codes "prologue " ++ hex_of prologue.items) (line (codes "interval " ++ decimal interval) (lines_of psk_words psks left)))))
+    → (allowed ≡ VersionOne → second ≡ false) → IsSection name → IsOwn name block → IsShort prologue.items → interval < 2 ^ 64 → ArePsks psks
+    → starts_with nat_eq left (codes "psk ") ≡ false → IsBegun allowed text
+begun-psks alloc allowed text left second name block prologue short interval psks e one h own few small are over =
+    let same_header : is_second (version_of alloc second) ≡ second = version_of-second alloc second in
+    let rest = line (codes "protocol " ++ name_bytes name) (block_text block (line (codes "prologue " ++ hex_of prologue.items)
+    (line (codes "interval " ++ decimal interval) (lines_of psk_words psks left)))) in
+    record {
+      file = sample_psks alloc second name block prologue short interval psks;
+      is_file = sample_psks-right alloc second name block prologue short interval psks h own few small are;
+      is_allowed = sample-allowed alloc allowed second name block prologue short one;
+      left = left;
+      text_is = e ∙ ap (λ (s : Bool). line (header_words s) rest) (sym same_header);
+      over = over;
+    }
+
+later-of : (allowed : AllowedEvents) (text : List ℕ) (fault : VectorFault) → IsLater fault → IsBegun allowed text → IsTold allowed text fault
+later-of allowed text (Line n kinds.Keys) h b = b
+later-of allowed text (Line n kinds.Answer) h b = b
+later-of allowed text (Line n kinds.Event) h b = b
+later-of allowed text (Line n kinds.Expect) h b = b
+later-of allowed text (Line n kinds.Ending) h b = tt
+later-of allowed text Memory h b = tt
+later-of allowed text fault h b = absurd h
+
+pub later-told : (alloc : Global) (allowed : AllowedEvents) (text left : List ℕ) (second : Bool) (name : Section) (block : Option Plan)
+    (prologue : Vec ℕ Global) (short : vec_len prologue ≤ 65535) (interval : ℕ) (psks : List (List ℕ)) (fault : VectorFault)
+    → text ≡ line (header_words second) (line (codes "protocol " ++ name_bytes name)
+    (block_text block (line (codes "prologue " ++ hex_of prologue.items) (line (codes "interval " ++ decimal interval) (lines_of psk_words psks left)))))
+    → (allowed ≡ VersionOne → second ≡ false) → IsSection name → IsOwn name block → IsShort prologue.items → interval < 2 ^ 64 → ArePsks psks
+    → starts_with nat_eq left (codes "psk ") ≡ false → IsLater fault → IsTold allowed text fault
+later-told alloc allowed text left second name block prologue short interval psks fault e one h own few small are over later =
+    later-of allowed text fault later (begun-psks alloc allowed text left second name block prologue short interval psks e one h own few small are over)
+
+-- a fault of the block comes of a name whose pattern a file spells
+pub block-told : (allowed : AllowedEvents) (text left : List ℕ) (second : Bool) (name : Section) (fault : VectorFault)
+    → text ≡ line (header_words second) (line (codes "protocol " ++ name_bytes name) left)
+    → (allowed ≡ VersionOne → second ≡ false) → IsSection name → fundamental_of name.base ≡ None → IsOfBlock fault → IsTold allowed text fault
+block-told allowed text left second name (Line n kinds.Pattern) e one h unknown of =
+    record { second = second; is_allowed = one; name = name; is_section = h; unknown = unknown; left = left; text_is = e }
+block-told allowed text left second name (Line n kinds.Ending) e one h unknown of = tt
+block-told allowed text left second name fault e one h unknown of = absurd of

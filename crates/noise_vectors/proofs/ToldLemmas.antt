@@ -96,6 +96,7 @@ later-any kinds.Protocol m n h = h
 later-any kinds.Prologue m n h = h
 later-any kinds.Interval m n h = h
 later-any kinds.Psk m n h = h
+later-any kinds.Pattern m n h = h
 later-any kind m n h = tt
 
 -- a line begins so where the text does

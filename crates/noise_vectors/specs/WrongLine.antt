@@ -1,6 +1,7 @@
 -- Which line of a wrong file is told, as far as the lines of the psks; the pattern that a file spells has a rule of its own.
-use Rattle.std.specs.Prelude.{⊤, ◌≡◌, ◌⊎◌, ◌+◌, ◌<◌, ◌^◌, ◌==◌, IsTrue, ℕ, List, [], ◌++◌, Bool, false, codes, count_by, decimal, length, nat_eq}
+use Rattle.std.specs.Prelude.{⊤, ◌≡◌, ◌⊎◌, ◌+◌, ◌<◌, ◌^◌, ◌==◌, IsFalse, IsTrue, ℕ, List, [], ◌++◌, Bool, false, codes, count_by, decimal, length, nat_eq, None}
 use Rattle.std.specs.List.{starts_with}
+use Rattle.noise_names.specs.Fundamental.{fundamental_of}
 use Rattle.noise_names.specs.Names.{IsSection, Section, name_bytes}
 use Rattle.noise_vectors.specs.HexWord.{hex_of}
 use Rattle.noise_vectors.specs.VectorFile.{ArePsks, IsAllowedFile, IsShort, IsVectorFile}
@@ -56,14 +57,36 @@ pub record IsToldLine (allowed : AllowedEvents) (text : List ℕ) (number : ℕ)
   pub counted : number ≡ line_feeds (up_to file []) + 1
   pub wrong : (other : VectorFile) (rest : List ℕ) → IsVectorFile other → IsAllowedFile allowed other → ¬ (text_of other ≡ up_to file (line told rest))
 
--- what a fault tells of the text
+-- some right file that is allowed begins with the text's lines up to its initiator's keys, and no psk line is left
+pub record IsBegun (allowed : AllowedEvents) (text : List ℕ) : Type 0 where
+  pub file : VectorFile
+  pub is_file : IsVectorFile file
+  pub is_allowed : IsAllowedFile allowed file
+  pub left : List ℕ
+  pub text_is : text ≡ up_to_initiator file left
+  pub over : IsFalse (is_psk_line left)
+
+-- the text begins with a header that is allowed and a protocol whose base is of no fundamental pattern
+pub record HasOwnName (allowed : AllowedEvents) (text : List ℕ) : Type 0 where
+  pub second : Bool
+  pub is_allowed : allowed ≡ VersionOne → second ≡ false
+  pub name : Section
+  pub is_section : IsSection name
+  pub unknown : fundamental_of name.base ≡ None
+  pub left : List ℕ
+  pub text_is : text ≡ line (header_words second) (line (codes "protocol " ++ name_bytes name) left)
+
+-- what a fault tells of the text; of the lines after the psks, that those up to there are right
 abbrev pub IsTold : AllowedEvents → List ℕ → VectorFault → Type 0
 IsTold allowed text (Line number kinds.Header) = IsToldLine allowed text number (λ file rest. rest)
 IsTold allowed text (Line number kinds.Protocol) = IsToldLine allowed text number up_to_protocol
 IsTold allowed text (Line number kinds.Prologue) = IsToldLine allowed text number up_to_prologue
 IsTold allowed text (Line number kinds.Interval) = IsToldLine allowed text number up_to_interval
 IsTold allowed text (Line number kinds.Psk) = (it : IsToldLine allowed text number up_to_initiator) × IsTrue (is_psk_line it.told)
-IsTold allowed text fault = ⊤
+IsTold allowed text (Line number kinds.Pattern) = HasOwnName allowed text
+IsTold allowed text (Line number kinds.Ending) = ⊤
+IsTold allowed text (Line number kind) = IsBegun allowed text
+IsTold allowed text Memory = ⊤
 
 -- ---- one line
 
@@ -85,14 +108,21 @@ TellsLine IsGood text number kind fault =
     (fault ≡ Line number kinds.Ending) ⊎ (fault ≡ Memory)
     ⊎ ((fault ≡ Line number kind) × ((words : List ℕ) × IsFirstLine words text × ¬ IsGood words))
 
--- a fault of another line
+-- a fault of a line after the psks, or the text's end
 abbrev pub IsLater : VectorFault → Type 0
 IsLater (Line number kinds.Header) = ⊥
 IsLater (Line number kinds.Protocol) = ⊥
 IsLater (Line number kinds.Prologue) = ⊥
 IsLater (Line number kinds.Interval) = ⊥
 IsLater (Line number kinds.Psk) = ⊥
+IsLater (Line number kinds.Pattern) = ⊥
 IsLater fault = ⊤
+
+-- a fault of the pattern that a file spells, or the text's end
+abbrev pub IsOfBlock : VectorFault → Type 0
+IsOfBlock (Line number kinds.Pattern) = ⊤
+IsOfBlock (Line number kinds.Ending) = ⊤
+IsOfBlock fault = ⊥
 
 -- the text begins with these psk lines and then with one that is wrong, or a tenth
 pub record IsWrongPsk (text : List ℕ) (number : ℕ) (fault : VectorFault) : Type 0 where

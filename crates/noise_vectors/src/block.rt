@@ -7,7 +7,7 @@ ghost use Rattle.noise_names.specs.Plan.{Plan};
 ghost use Rattle.noise_names.specs.Text.{text_of as pattern_text};
 ghost use Rattle.noise_vectors.specs.Block.{IsInner, itself};
 ghost use Rattle.noise_vectors.specs.VectorText.{line, lines_of};
-ghost use Rattle.noise_vectors.specs.WrongLine.{IsLater, line_feeds};
+ghost use Rattle.noise_vectors.specs.WrongLine.{IsOfBlock, line_feeds};
 ghost use Rattle.noise_vectors.specs.OwnPattern.{HasName};
 
 use crate::faults::{LineKind, VectorFault};
@@ -26,7 +26,7 @@ pub(crate) fn read_block(
     ensures number { lines.old.number < 9
         → IfOk result (λ pattern. lines.new.number ≡ lines.old.number + line_feeds (pattern_text pattern ++ line (codes "end") [])) }
     ensures few { lines.old.number < 9 → IfOk result (λ pattern. lines.new.number < 2 ^ 63 + 9) }
-    ensures later { IfErr result IsLater }
+    ensures fault { IfErr result IsOfBlock }
     ensures every { (pattern : Plan) (rest : List ℕ) → IsPattern pattern → HasName pattern protocol.now
         → lines.old.rest.now ≡ pattern_text pattern ++ line (codes "end") rest
         → MatchResult result (λ read. (read ≡ pattern) × (lines.new.rest.now ≡ rest)) (λ fault. ⊥) }
@@ -48,7 +48,7 @@ fn take_block<'a>(lines: &mut Lines<'a>) -> Result<&'a [u8], VectorFault>
     ensures number { lines.old.number < 9 → IfOk result (λ text. IsTrue lines.new.is_ended
         → lines.new.number + line_feeds lines.new.rest.now ≡ lines.old.number + line_feeds lines.old.rest.now) }
     ensures few { lines.old.number < 9 → IfOk result (λ text. IsTrue lines.new.is_ended → lines.new.number < 2 ^ 63 + 9) }
-    ensures later { IfErr result IsLater }
+    ensures fault { IfErr result IsOfBlock }
     ensures every { (before : List (List ℕ)) (rest : List ℕ) → All IsInner before
         → lines.old.rest.now ≡ lines_of itself before (line (codes "end") rest)
         → MatchResult result (λ text. (text.now ≡ lines_of itself before []) × (lines.new.rest.now ≡ rest) × IsTrue lines.new.is_ended) (λ fault. ⊥) }

@@ -10,7 +10,7 @@ ghost use Rattle.noise_names.specs.Fundamental.{fundamental_of};
 ghost use Rattle.noise_vectors.specs.HexWord.{hex_of};
 ghost use Rattle.noise_vectors.specs.VectorText.{block_text, header_words, line, lines_of, psk_words, text_of};
 ghost use Rattle.noise_vectors.specs.OwnPattern.{HasName};
-ghost use Rattle.noise_vectors.specs.WrongLine.{IsHeaderLine, IsIntervalLine, IsPrologueLine, IsProtocolLine, IsLater, IsTold, TellsLine, TellsPsk, line_feeds};
+ghost use Rattle.noise_vectors.specs.WrongLine.{IsHeaderLine, IsIntervalLine, IsPrologueLine, IsOfBlock, IsProtocolLine, IsTold, TellsLine, TellsPsk, line_feeds};
 ghost use Rattle.noise_vectors.specs.VectorFile.{ArePsks, IsAllowedFile, IsOwn, IsShort, IsVectorFile};
 ghost use Rattle.noise_vectors.specs.Words.{IsKey};
 ghost use Rattle.noise_vectors.specs.declared.faults.VectorFault.TheVariants.{Memory};
@@ -142,7 +142,8 @@ fn read_own_pattern(
     ensures right { IfOk result (IsOwn protocol.now) }
     ensures number { lines.old.number < 9 → IfOk result (λ block. lines.new.number ≡ lines.old.number + line_feeds (block_text block [])) }
     ensures few { lines.old.number < 9 → IfOk result (λ block. lines.new.number < 2 ^ 63 + 9) }
-    ensures later { IfErr result IsLater }
+    ensures fault { IfErr result IsOfBlock }
+    ensures own { IfErr result (λ fault. fundamental_of protocol.now.base ≡ None) }
     ensures every { (block : Option Plan) (rest : List ℕ) → IsOwn protocol.now block
         → lines.old.rest.now ≡ block_text block rest
         → MatchResult result (λ found. (found ≡ block) × (lines.new.rest.now ≡ rest)) (λ fault. ⊥) }
@@ -214,6 +215,7 @@ fn interval_of(line: &[u8]) -> Option<u64>
 fn read_psks(lines: &mut Lines<'_>) -> Result<ArrayVec<[u8; 32], 9>, VectorFault>
     ensures text { IfOk result (λ psks. lines.old.rest.now ≡ lines_of psk_words psks.items lines.new.rest.now) }
     ensures right { IfOk result (λ psks. ArePsks psks.items) }
+    ensures over { IfOk result (λ psks. IsFalse (starts_with nat_eq lines.new.rest.now (codes "psk "))) }
     ensures told { lines.old.number < 2 ^ 63 + 99 → IfErr result (TellsPsk lines.old.rest.now lines.old.number) }
     ensures every { (psks : List (List ℕ)) (rest : List ℕ) → ArePsks psks → IsFalse (starts_with nat_eq rest (codes "psk "))
         → lines.old.rest.now ≡ lines_of psk_words psks rest
