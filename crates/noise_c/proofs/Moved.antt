@@ -21,19 +21,19 @@ set-first (a ∷ []) y e = refl
 set-first (a ∷ b ∷ ws) y e = absurd (omega (arith, e))
 
 -- nine secrets, moved one place to the front, and one put at the end
-moved : (xs : List (List ℕ)) (y : List ℕ) → length xs ≡ 9 → slice_set (copy_within xs 1 9 0) 8 y ≡ drop 1 xs ++ y ∷ []
-moved xs y e =
+pub moved : (xs ys : List (List ℕ)) (y : List ℕ) → ys ≡ copy_within xs 1 (length xs) 0 → length xs ≡ 9 → slice_set ys 8 y ≡ drop 1 xs ++ y ∷ []
+moved xs ys y up e =
     let eight : length (drop 1 xs) ≡ 8 = omega (arith, length-drop 1 xs, e) in
     let last : length (drop 8 xs) ≡ 1 = omega (arith, length-drop 8 xs, e) in
-    ap (λ (z : List (List ℕ)). slice_set z 8 y) (paste_all xs 0 (drop 1 xs) 8 (sym eight)) ∙ set-append_right (drop 1 xs) (drop 8 xs) 8 8 y eight (omega arith)
+    ap (λ (z : List (List ℕ)). slice_set z 8 y) (up ∙ ap (λ (n : ℕ). copy_within xs 1 n 0) e ∙ paste_all xs 0 (drop 1 xs) 8 (sym eight)) ∙ set-append_right (drop 1 xs) (drop 8 xs) 8 8 y eight (omega arith)
     ∙ ap (λ (z : List (List ℕ)). drop 1 xs ++ z) (set-first (drop 8 xs) y last)
 
 -- the last of them
-pub moved-last : (xs : List (List ℕ)) (y : List ℕ) (c : ℕ) → length xs ≡ 9 → c < 9 → drop (9 - (c + 1)) (slice_set (copy_within xs 1 9 0) 8 y) ≡ drop (9 - c) xs ++ y ∷ []
+pub moved-last : (xs : List (List ℕ)) (y : List ℕ) (c : ℕ) → length xs ≡ 9 → c < 9 → drop (9 - (c + 1)) (drop 1 xs ++ y ∷ []) ≡ drop (9 - c) xs ++ y ∷ []
 moved-last xs y c e few =
     let eight : length (drop 1 xs) ≡ 8 = omega (arith, length-drop 1 xs, e) in
     let i : 1 + (9 - (c + 1)) ≡ 9 - c = omega (arith, few) in
-    ap (drop (9 - (c + 1))) (moved xs y e) ∙ drop-append-le (9 - (c + 1)) (drop 1 xs) (y ∷ []) (omega (arith, eight))
+    drop-append-le (9 - (c + 1)) (drop 1 xs) (y ∷ []) (omega (arith, eight))
     ∙ ap (λ (z : List (List ℕ)). z ++ y ∷ []) (drop-drop (9 - (c + 1)) 1 xs ∙ ap (λ (n : ℕ). drop n xs) i)
 
 append-assoc : (xs : List (List ℕ)) (y : List ℕ) (zs : List (List ℕ)) → (xs ++ y ∷ []) ++ zs ≡ xs ++ y ∷ zs

@@ -1,5 +1,5 @@
 -- A handshake that is handed each DH answer when it asks is as the library's.
-use Rattle.std.proofs.Common.{◌≡◌, ◌⊎◌, inl, inr, ℕ, suc, ◌≤◌, List, [], ◌∷◌, ◌++◌, refl, ap, sym, subst, ◌∙◌}
+use Rattle.std.proofs.Common.{◌≡◌, ◌⊎◌, inl, inr, ℕ, List, [], ◌∷◌, ◌++◌, refl, ap, sym, subst, ◌∙◌}
 use Rattle.std.specs.Prelude.{Bool, true, false, ◌&&◌, cond, Option, Some, None, find, nat_eq}
 use Rattle.std.specs.Option.{option_map, option_or}
 use Rattle.std.specs.Cmp.Lexicographic.{pointwise, same_text}
@@ -14,13 +14,13 @@ use Rattle.noise_handshake.specs.Held.{Held}
 use Rattle.noise_handshake.specs.Late.{with_later}
 use Rattle.noise_handshake.specs.Party.{Stands}
 use Rattle.noise_handshake.specs.View.{View}
-use Rattle.noise_answers.specs.Answers.{Answers, AnsweredIsWhole, AreAmong, AskedIsLacking, AskedToRead, AskedToWrite, FourSuffice, FourSufficeToWrite, HasKeys}
+use Rattle.noise_answers.specs.Answers.{Answers, AnsweredIsWhole, AskedIsLacking, AskedToRead, AskedToWrite, FourSuffice, FourSufficeToWrite, HasKeys}
 use Rattle.noise_answers.specs.Answers.{IsHandedIn, with_answers}
 use Rattle.noise_answers.specs.Answers.AskedToRead.{ready as none_to_read, asked as one_to_read}
 use Rattle.noise_answers.specs.Answers.AskedToWrite.{ready as none_to_write, asked as one_to_write}
 use Rattle.noise_c.specs.declared.kept.NoiseHandshake.{NoiseHandshake}
-use Rattle.noise_c.specs.Kept.{IsAdded, IsPatternOf, KeepsView, agreement_in, held_in, public_in, table_in}
-use Rattle.noise_c.specs.Answered.{ReadsByAnswers, WritesByAnswers, IsAsLibrary, ReadsAsLibrary, WritesAsLibrary, answers_in}
+use Rattle.noise_c.specs.Kept.{IsAdded, IsPatternOf, KeepsView, agreement_in, public_in, table_in}
+use Rattle.noise_c.specs.Answered.{ReadsByAnswers, WritesByAnswers, ReadsAsLibrary, WritesAsLibrary, answers_in}
 use Rattle.noise_c.specs.Answered.ReadsByAnswers.{ready as reads_now, answered as reads_later}
 use Rattle.noise_c.specs.Answered.WritesByAnswers.{ready as writes_now, answered as writes_later}
 

@@ -1,7 +1,7 @@
 //! Exports: the secrets that a handshake wasn't started with.
 #![tactic(auto)]
 
-ghost use Rattle.std.specs.Prelude.{◌≡◌, ◌≤◌, ◌<◌, ◌⊎◌, ◌↔◌, ◌∷◌, ◌++◌, ℕ, List, drop};
+ghost use Rattle.std.specs.Prelude.{◌≡◌, ◌≤◌, ◌<◌, ◌⊎◌, ◌↔◌, ◌∷◌, ◌++◌, [], ℕ, List, drop};
 ghost use Rattle.noise_names.specs.Plan.{Plan};
 ghost use Rattle.noise_handshake.specs.View.{View};
 ghost use Rattle.noise_handshake.specs.Setup.{secrets_of};
@@ -12,6 +12,15 @@ use crate::codes::{OK, PSK_COUNT, STRUCT};
 use crate::held::handshake_of;
 use crate::kept::NoiseHandshake;
 
+// Moves the secrets one place to the front, and puts this one at the end.
+#[tactic(auto, using(crate::proofs::Moved::moved))]
+fn put_last(secrets: &mut [[u8; 32]; 9], secret: &[u8; 32])
+    ensures { secrets.new ≡ drop 1 secrets.old ++ secret.now ∷ [] }
+{
+    secrets.copy_within(1.., 0);
+    secrets[8] = *secret;
+}
+
 // Keeps this secret after the others.
 fn keep_secret(kept: &mut NoiseHandshake, secret: &[u8; 32])
     requires { kept.old.secret_count < 9 }
@@ -21,8 +30,7 @@ fn keep_secret(kept: &mut NoiseHandshake, secret: &[u8; 32])
     ensures answers { kept.new.answer_count ≡ kept.old.answer_count }
     ensures few { kept.new.secret_count ≤ 9 }
 {
-    kept.secrets.copy_within(1.., 0);
-    kept.secrets[8] = *secret;
+    put_last(&mut kept.secrets, secret);
     kept.secret_count += 1;
 }
 

@@ -1,5 +1,4 @@
-use Rattle.std.proofs.Common.{rules, ◌≡◌, ◌+◌, ◌-◌, ◌∙◌, ℕ, List, length, drop, slice_set, ap, refl}
-use Rattle.std.specs.List.{copy_within}
+use Rattle.std.proofs.Common.{rules, ◌≡◌, ◌+◌, ◌-◌, ◌∙◌, ℕ, List, length, drop, ap, refl}
 use Rattle.noise_c.specs.Kept.{held_in}
 use Rattle.noise_c.proofs.Moved.{moved-last}
 use Rattle.noise_c.proofs.secrets.keep_secret.Goals as goal
@@ -10,7 +9,6 @@ returns-clause-given c =
     record {
       text = refl;
       held = λ p. ap (λ (z : List (List ℕ)). record (held_in p c.args.kept.now) { secrets = z })
-          (ap (λ (z : List (List ℕ)). drop (9 - (c.args.kept.now.secret_count + 1)) (slice_set z 8 c.args.secret.now)) c.copy_within.ensures.after
-          ∙ ap (λ (n : ℕ). drop (9 - (c.args.kept.now.secret_count + 1)) (slice_set (copy_within c.args.kept.now.secrets 1 n 0) 8 c.args.secret.now)) nine
+          (ap (drop (9 - (c.args.kept.now.secret_count + 1))) c.put_last.ensures
           ∙ moved-last c.args.kept.now.secrets c.args.secret.now c.args.kept.now.secret_count nine c.requires);
     }
