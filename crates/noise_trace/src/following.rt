@@ -52,7 +52,12 @@ fn remote_at(role: Role, known: &Remote, token: Token) -> Option<[u8; 32]>
 }
 
 // The answer at a DH token, where there is one.
-fn answer_at<K: Keys>(keys: &K, role: Role, known: &Remote, token: Token) -> Option<[u8; 32]>
+pub(crate) fn answer_at<K: Keys>(
+    keys: &K,
+    role: Role,
+    known: &Remote,
+    token: Token,
+) -> Option<[u8; 32]>
     ensures { result ≡ answered (K.agreement keys.now) (own_at role token) (remote_at role known.now token) }
 {
     match remote_at(role, known, token) {
@@ -199,7 +204,7 @@ fn known_next(reads: bool, known: &Remote, learned: Remote) -> Remote
 }
 
 // The secrets still to come after a token.
-fn secrets_after(secrets: &[[u8; 32]], token: Token) -> &[[u8; 32]]
+pub(crate) fn secrets_after(secrets: &[[u8; 32]], token: Token) -> &[[u8; 32]]
     requires { token ≡ Token.Psk → 0 < length secrets.now }
     ensures { result.now ≡ secrets_after secrets.now token }
 {
