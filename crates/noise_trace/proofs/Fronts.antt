@@ -10,7 +10,7 @@ use Rattle.noise_handshake.specs.Line.{token_piece, after_token, front, after_fr
 use Rattle.noise_handshake.specs.View.{Reader, Fits, secrets_after}
 use Rattle.noise_trace.specs.declared.step.Part.TheVariants as part
 use Rattle.noise_trace.specs.declared.step.Step.{Step}
-use Rattle.noise_trace.specs.Carried.{known_next, Carries}
+use Rattle.noise_trace.specs.inner.Carried.{known_next, Carries}
 use Rattle.noise_trace.specs.Steps.{step, token_steps}
 
 pub some-same : {A : Type 0} (a b : A) → Some a ≡ Some b → a ≡ b

@@ -59,8 +59,8 @@ fn tokens_at(messages: &[Message], i: usize) -> &[Token]
 
 impl BeforeMessage {
     ghost use Rattle.noise_trace.specs.Before.{StandsBefore};
-    ghost use Rattle.noise_trace.specs.Carried.{Carries};
-    ghost use Rattle.noise_trace.specs.Front.{IsFront};
+    ghost use Rattle.noise_trace.specs.inner.Carried.{Carries};
+    ghost use Rattle.noise_trace.specs.inner.Front.{IsFront};
     ghost use Rattle.noise_trace.specs.Steps.{message_steps, token_steps};
 
     /// What is kept of a handshake before its next message.

@@ -8,7 +8,7 @@ ghost use Rattle.noise_state.specs.History.{History, Ciphertext, and_then, piece
 ghost use Rattle.noise_state.specs.Standing.{StateStands, keyed, nonce_now};
 ghost use Rattle.noise_handshake.specs.Line.{with_ephemeral, token_piece, after_token, front, after_front};
 ghost use Rattle.noise_handshake.specs.View.{Reader, Fits, answered, own_at, remote_at, known_after, secrets_after};
-ghost use Rattle.noise_trace.specs.Carried.{known_next, Carries};
+ghost use Rattle.noise_trace.specs.inner.Carried.{known_next, Carries};
 ghost use Rattle.noise_trace.specs.declared.step.Part.TheVariants as part;
 ghost use Rattle.noise_trace.specs.Steps.{step, token_steps};
 
