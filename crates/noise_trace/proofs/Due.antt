@@ -17,7 +17,7 @@ use Rattle.noise_trace.specs.declared.values.StateValues.{StateValues}
 use Rattle.noise_trace.specs.declared.step.Part.TheVariants as part
 use Rattle.noise_trace.specs.declared.step.Step.{Step}
 use Rattle.noise_trace.specs.Values.{values_of}
-use Rattle.noise_trace.specs.Carried.{Carries}
+use Rattle.noise_trace.specs.inner.Carried.{Carries}
 use Rattle.noise_trace.specs.Steps.{token_steps, message_steps}
 
 pub tokens_at-read : (ms : List (List Token)) (i : ℕ) (d : List Token) → i < length ms → get_or ms i d ≡ tokens_at ms i

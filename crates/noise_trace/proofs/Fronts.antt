@@ -10,7 +10,7 @@ use Rattle.noise_handshake.specs.Line.{token_piece, after_token, front, after_fr
 use Rattle.noise_handshake.specs.View.{Reader, Fits, secrets_after}
 use Rattle.noise_trace.specs.declared.step.Part.TheVariants as part
 use Rattle.noise_trace.specs.declared.step.Step.{Step}
-use Rattle.noise_trace.specs.Carried.{known_next, Carries}
+use Rattle.noise_trace.specs.inner.Carried.{known_next, Carries}
 use Rattle.noise_trace.specs.Steps.{step, token_steps}
 
 pub some-same : {A : Type 0} (a b : A) → Some a ≡ Some b → a ≡ b
@@ -53,6 +53,22 @@ Follows psks r tokens xs from state result old new =
     (result ≡ Some (from + length (front psks r tokens xs))) × StateStands state (after_front psks r tokens xs)
     × (new ≡ old ++ token_steps psks r from tokens xs)
 
+-- the step of the first token, and then those of the others
+pub steps-on : (psks : Bool) (r : History) (tokens ts : List Token) (t : Token) (xs ys : List (List ℕ)) (x : List ℕ) (from to : ℕ)
+    (old mid new : List Step)
+    → tokens ≡ t ∷ ts → xs ≡ x ∷ ys → to ≡ from + length (token_piece r t x)
+    → mid ≡ old ++ step (part.Token t) from (length (token_piece r t x)) (after_token psks r t x) ∷ []
+    → new ≡ mid ++ token_steps psks (after_token psks r t x) to ts ys → new ≡ old ++ token_steps psks r from tokens xs
+steps-on psks r tokens ts t xs ys x from to old mid new split parts place pushed later =
+    let after : History = after_token psks r t x in
+    let width : ℕ = length (token_piece r t x) in
+    let whole : new ≡ old ++ token_steps psks r from (t ∷ ts) (x ∷ ys) =
+    later ∙ ap (λ (n : ℕ). mid ++ token_steps psks after n ts ys) place
+    ∙ ap (λ (z : List Step). z ++ token_steps psks after (from + width) ts ys) pushed
+    ∙ append_assoc old (step (part.Token t) from width after ∷ []) (token_steps psks after (from + width) ts ys) in
+    subst (λ (us : List Token). new ≡ old ++ token_steps psks r from us xs) (sym split)
+    (subst (λ (zs : List (List ℕ)). new ≡ old ++ token_steps psks r from (t ∷ ts) zs) (sym parts) whole)
+
 -- what following the others makes is what following all of them makes
 pub followed-on : (psks : Bool) (r : History) (tokens ts : List Token) (t : Token) (xs ys : List (List ℕ)) (x : List ℕ) (from to : ℕ)
     (state : SymmetricState) (result : Option ℕ) (old mid new : List Step)
@@ -62,13 +78,11 @@ pub followed-on : (psks : Bool) (r : History) (tokens ts : List Token) (t : Toke
 followed-on psks r tokens ts t xs ys x from to state result old mid new split parts place pushed f =
     let after : History = after_token psks r t x in
     let piece : List ℕ = token_piece r t x in
-    let first : Step = step (part.Token t) from (length piece) after in
     let length-is : to + length (front psks after ts ys) ≡ from + length (piece ++ front psks after ts ys) =
     omega (arith, place, length-append piece (front psks after ts ys)) in
-    let steps : new ≡ old ++ token_steps psks r from (t ∷ ts) (x ∷ ys) =
-    f.2 ∙ ap (λ (n : ℕ). mid ++ token_steps psks after n ts ys) place
-    ∙ ap (λ (z : List Step). z ++ token_steps psks after (from + length piece) ts ys) pushed
-    ∙ append_assoc old (first ∷ []) (token_steps psks after (from + length piece) ts ys) in
-    let whole : Follows psks r (t ∷ ts) (x ∷ ys) from state result old new = (f.0 ∙ ap (λ (n : ℕ). Some n) length-is, f.1, steps) in
-    subst (λ (us : List Token). Follows psks r us xs from state result old new) (sym split)
-    (subst (λ (zs : List (List ℕ)). Follows psks r (t ∷ ts) zs from state result old new) (sym parts) whole)
+    let ends : (result ≡ Some (from + length (front psks r (t ∷ ts) (x ∷ ys)))) × StateStands state (after_front psks r (t ∷ ts) (x ∷ ys)) =
+    (f.0 ∙ ap (λ (n : ℕ). Some n) length-is, f.1) in
+    let whole = subst (λ (us : List Token). (result ≡ Some (from + length (front psks r us xs))) × StateStands state (after_front psks r us xs)) (sym split)
+    (subst (λ (zs : List (List ℕ)). (result ≡ Some (from + length (front psks r (t ∷ ts) zs))) × StateStands state (after_front psks r (t ∷ ts) zs))
+    (sym parts) ends) in
+    (whole.0, whole.1, steps-on psks r tokens ts t xs ys x from to old mid new split parts place pushed f.2)

@@ -8,11 +8,12 @@ ghost use Rattle.noise_state.specs.Standing.{nonce_now};
 ghost use Rattle.noise_handshake.specs.View.{View, Accepts, Refuses, reader, tokens_at, tokens_now};
 ghost use Rattle.noise_handshake.specs.Held.{is_turn};
 ghost use Rattle.noise_handshake.specs.Line.{front, line};
-ghost use Rattle.noise_handshake.specs.Writing.{Writes};
+ghost use Rattle.noise_handshake.specs.Writing.{Lacks, Writes};
 ghost use Rattle.noise_handshake.specs.Party.{Stands};
 ghost use Rattle.noise_handshake.specs.declared.faults.Cause.{Cause};
 
 use crate::following::{Means, bytes_from, follow};
+use crate::own::{OwnMeans, give};
 use crate::values::{mix_piece, values_of};
 use crate::{Part, Step};
 use arrayvec::ArrayVec;
@@ -58,8 +59,8 @@ fn tokens_at(messages: &[Message], i: usize) -> &[Token]
 
 impl BeforeMessage {
     ghost use Rattle.noise_trace.specs.Before.{StandsBefore};
-    ghost use Rattle.noise_trace.specs.Carried.{Carries};
-    ghost use Rattle.noise_trace.specs.Front.{IsFront};
+    ghost use Rattle.noise_trace.specs.inner.Carried.{Carries};
+    ghost use Rattle.noise_trace.specs.inner.Front.{IsFront};
     ghost use Rattle.noise_trace.specs.Steps.{message_steps, token_steps};
 
     /// What is kept of a handshake before its next message.
@@ -165,6 +166,35 @@ impl BeforeMessage {
     {
         let count = self.tokens.len().min(token as usize);
         let Front { steps, .. } = self.front(keys, message, count);
+        steps
+    }
+
+    /// The steps of a message that this party then didn't write, for want of a DH answer at this token, counted from 0: those of the
+    /// tokens before it, at the places that they would have had.
+    ///
+    /// `keys` are those of the handshake. Of other keys or tokens the steps may end early.
+    pub fn withheld_steps<K: Keys>(&self, keys: &K, token: u8) -> ArrayVec<Step, 11>
+        ensures withheld { (v : View) → StandsBefore self.now v → K.public_of keys.now ≡ v.own → K.agreement keys.now ≡ v.agree
+            → (lacks : Lacks v token)
+            → result.items ≡ token_steps (has_psk v.pattern) v.history 0 (take token (tokens_now v)) lacks.lacks.before }
+    {
+        let count = self.tokens.len().min(token as usize);
+        let means = OwnMeans {
+            keys,
+            role: self.role,
+            psks: self.psks,
+            known: self.remote,
+        };
+        let mut state = self.state.for_trial();
+        let mut steps = ArrayVec::new();
+        give(
+            &mut state,
+            &means,
+            &self.secrets,
+            &self.tokens[..count],
+            0,
+            &mut steps,
+        );
         steps
     }
 }

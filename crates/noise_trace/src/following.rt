@@ -8,7 +8,7 @@ ghost use Rattle.noise_state.specs.History.{History, Ciphertext, and_then, piece
 ghost use Rattle.noise_state.specs.Standing.{StateStands, keyed, nonce_now};
 ghost use Rattle.noise_handshake.specs.Line.{with_ephemeral, token_piece, after_token, front, after_front};
 ghost use Rattle.noise_handshake.specs.View.{Reader, Fits, answered, own_at, remote_at, known_after, secrets_after};
-ghost use Rattle.noise_trace.specs.Carried.{known_next, Carries};
+ghost use Rattle.noise_trace.specs.inner.Carried.{known_next, Carries};
 ghost use Rattle.noise_trace.specs.declared.step.Part.TheVariants as part;
 ghost use Rattle.noise_trace.specs.Steps.{step, token_steps};
 
@@ -52,7 +52,12 @@ fn remote_at(role: Role, known: &Remote, token: Token) -> Option<[u8; 32]>
 }
 
 // The answer at a DH token, where there is one.
-fn answer_at<K: Keys>(keys: &K, role: Role, known: &Remote, token: Token) -> Option<[u8; 32]>
+pub(crate) fn answer_at<K: Keys>(
+    keys: &K,
+    role: Role,
+    known: &Remote,
+    token: Token,
+) -> Option<[u8; 32]>
     ensures { result ≡ answered (K.agreement keys.now) (own_at role token) (remote_at role known.now token) }
 {
     match remote_at(role, known, token) {
@@ -199,7 +204,7 @@ fn known_next(reads: bool, known: &Remote, learned: Remote) -> Remote
 }
 
 // The secrets still to come after a token.
-fn secrets_after(secrets: &[[u8; 32]], token: Token) -> &[[u8; 32]]
+pub(crate) fn secrets_after(secrets: &[[u8; 32]], token: Token) -> &[[u8; 32]]
     requires { token ≡ Token.Psk → 0 < length secrets.now }
     ensures { result.now ≡ secrets_after secrets.now token }
 {

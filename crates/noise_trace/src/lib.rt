@@ -5,6 +5,7 @@
 mod before;
 mod following;
 mod laws;
+mod own;
 mod start;
 mod start_step;
 mod step;

@@ -6,7 +6,7 @@ use Rattle.noise_state.specs.History.{History}
 use Rattle.noise_handshake.specs.declared.remote.Remote.{Remote}
 use Rattle.noise_handshake.specs.Line.{token_piece, after_token, front}
 use Rattle.noise_handshake.specs.View.{Reader, secrets_after}
-use Rattle.noise_trace.specs.Carried.{known_next, Carries}
+use Rattle.noise_trace.specs.inner.Carried.{known_next, Carries}
 use Rattle.noise_trace.proofs.Fronts.{some-same, parted, followed-on}
 use Rattle.noise_trace.proofs.following.+follow.Goals as goal
 

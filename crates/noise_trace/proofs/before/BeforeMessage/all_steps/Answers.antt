@@ -8,8 +8,8 @@ use Rattle.noise_handshake.specs.Held.{is_turn}
 use Rattle.noise_handshake.specs.Line.{front, after_front}
 use Rattle.noise_handshake.specs.View.{reader, tokens_now}
 use Rattle.noise_trace.specs.Values.{values_of}
-use Rattle.noise_trace.specs.Carried.{Carries}
-use Rattle.noise_trace.specs.Front.{IsFront}
+use Rattle.noise_trace.specs.inner.Carried.{Carries}
+use Rattle.noise_trace.specs.inner.Front.{IsFront}
 use Rattle.noise_trace.proofs.Fronts.{some-same}
 use Rattle.noise_trace.proofs.Due.{message-done}
 use Rattle.noise_trace.proofs.before.BeforeMessage.all_steps.Goals as goal

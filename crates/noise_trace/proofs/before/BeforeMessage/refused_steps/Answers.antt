@@ -5,7 +5,7 @@ use Rattle.noise_names.specs.declared.token.Token.{Token}
 use Rattle.noise_names.specs.Plan.{has_psk}
 use Rattle.noise_handshake.specs.Line.{front}
 use Rattle.noise_handshake.specs.View.{reader, tokens_now}
-use Rattle.noise_trace.specs.Carried.{Carries}
+use Rattle.noise_trace.specs.inner.Carried.{Carries}
 use Rattle.noise_trace.specs.Steps.{token_steps}
 use Rattle.noise_trace.proofs.Due.{fit-carries, reads}
 use Rattle.noise_trace.proofs.before.BeforeMessage.refused_steps.Goals as goal

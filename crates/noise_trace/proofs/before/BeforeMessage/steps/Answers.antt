@@ -2,7 +2,7 @@ use Rattle.std.proofs.Common.{sym, subst}
 use Rattle.std.specs.Prelude.{Bool}
 use Rattle.noise_handshake.specs.View.{reader, tokens_now}
 use Rattle.noise_handshake.specs.Writing.{writer}
-use Rattle.noise_trace.specs.Carried.{Carries}
+use Rattle.noise_trace.specs.inner.Carried.{Carries}
 use Rattle.noise_trace.proofs.Due.{fit-carries, given-carries, reads, writes}
 use Rattle.noise_trace.proofs.before.BeforeMessage.steps.Goals as goal
 
