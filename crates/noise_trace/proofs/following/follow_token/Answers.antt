@@ -24,7 +24,8 @@ returns-in_ok-width-in-E-clause-followed g c r x more s f e =
     let told = c.take_e.ensures.taken r x more s long here in
     let same : ◌≡◌ {A = ℕ × List ℕ} (c.in_ok-width-in-E.width, c.in_ok-width-in-E.key) (length x, x) =
     some-same {A = ℕ × List ℕ} (c.in_ok-width-in-E.width, c.in_ok-width-in-E.key) (length x, x) (sym c.in_ok-width-in-E.was ∙ told.0) in
-    let all : ◌≡◌ {A = Option (ℕ × Remote)} (Some (c.in_ok-width-in-E.width, record c.args.known.now { e = Some c.in_ok-width-in-E.key })) (Some (length x, record c.args.known.now { e = Some x })) =
+    let all : ◌≡◌ {A = Option (ℕ × Remote)} (Some (c.in_ok-width-in-E.width, record c.args.known.now { e = Some c.in_ok-width-in-E.key }))
+    (Some (length x, record c.args.known.now { e = Some x })) =
     ap (λ (q : ℕ × List ℕ). Some (q.0, record c.args.known.now { e = Some q.1 })) same in
     subst (λ (t : Token). (◌≡◌ {A = Option (ℕ × Remote)} (Some (c.in_ok-width-in-E.width, record c.args.known.now { e = Some c.in_ok-width-in-E.key }))
     (Some (length (token_piece r t x), known_after c.args.known.now t x))) × StateStands c.take_e.new.state (after_token v.psks r t x))
