@@ -24,8 +24,10 @@ type Config struct {
 	InsecureAcceptAnyKey bool
 	// PSKs has one secret of 32 bytes for each psk token of the pattern, in their order.
 	PSKs [][]byte
-	// PSKFor, in place of PSKs, returns the secrets that this party shares with the owner of a static key. That key has to be known before the first
-	// message that has a psk token.
+	// PSKFor, in place of PSKs, returns the secrets that this party shares with the owner of a static key. It is called at the first psk token, before
+	// which that key has to be known. The other party hasn't shown yet that it has the key's secret key: so choose the secrets, and do nothing else. At
+	// XXpsk3, where the token is in the message that has the key, VerifyPeer is called after PSKFor, once that message is accepted. An error ends the
+	// handshake, and nothing more is sent; 32 random bytes for a key that you don't know, in place of an error, don't tell which keys you know.
 	PSKFor func(key [KeyLen]byte) ([][]byte, error)
 	// Interval is the number of messages after which each direction renews its key; 0 is never. The same at both parties.
 	Interval uint64
@@ -60,12 +62,12 @@ var (
 	errNil        = errors.New("the Config is nil")
 	errTwo        = errors.New("set either PSKs or PSKFor")
 	errNoKey      = errors.New("the other party has no static key in this pattern")
-	errPSKTooLate = errors.New("the other party's static key isn't known before the first message with a psk token")
+	errPSKTooLate = errors.New("the other party's static key isn't known before the first psk token")
 	errEarly      = errors.New("the pattern has an ephemeral key before \"...\", which this package doesn't support")
 )
 
-// check compares a Config with its pattern, which the library accepts.
-func (c *Config) check(p *pattern, initiator bool) error {
+// check compares a Config with its pattern, which the library accepts. isLate is whether secrets may still be handed in by SetPSK.
+func (c *Config) check(p *pattern, initiator, isLate bool) error {
 	known, learns := p.knows(initiator), p.learns(initiator)
 	hasKey := known || learns >= 0
 	switch {
@@ -83,17 +85,19 @@ func (c *Config) check(p *pattern, initiator bool) error {
 		return &ConfigError{"PSKs", ErrPskCount}
 	case c.PSKFor != nil && c.PSKs != nil:
 		return &ConfigError{"PSKFor", errTwo}
-	case c.PSKFor != nil && p.firstPSK < 0:
+	case c.PSKFor != nil && p.psks == 0:
 		return &ConfigError{"PSKFor", ErrPskCount}
-	case c.PSKFor != nil && !known && (learns < 0 || learns >= p.firstPSK):
+	case c.PSKFor != nil && !known && !p.learnsBeforePSK(initiator):
 		return &ConfigError{"PSKFor", errPSKTooLate}
+	case c.PSKFor == nil && len(c.PSKs) != p.psks && (c.PSKs != nil || !isLate):
+		return &ConfigError{"PSKs", ErrPskCount}
 	}
 	for _, psk := range c.PSKs {
 		if len(psk) != KeyLen {
 			return &ConfigError{"PSKs", errKeyLen}
 		}
 	}
-	if c.VerifyPeer == nil && c.PeerStatic == nil && c.PSKs == nil && c.PSKFor == nil && !c.InsecureAcceptAnyKey {
+	if c.VerifyPeer == nil && c.PeerStatic == nil && p.psks == 0 && !c.InsecureAcceptAnyKey {
 		return &ConfigError{"VerifyPeer", ErrUnauthenticated}
 	}
 	return nil
@@ -101,7 +105,7 @@ func (c *Config) check(p *pattern, initiator bool) error {
 
 // Check returns the *ConfigError that Client, for the initiator, or Server would return; nil if there is none. It doesn't call VerifyPeer or PSKFor.
 func (c *Config) Check(initiator bool) error {
-	h, err := started(c, initiator, new(KeyPair))
+	h, err := started(c, initiator, false, new(KeyPair))
 	if err != nil {
 		return err
 	}

@@ -55,7 +55,7 @@ func Client(conn net.Conn, config *Config) (*Conn, error) { return newConn(conn,
 func Server(conn net.Conn, config *Config) (*Conn, error) { return newConn(conn, config, false) }
 
 func newConn(conn net.Conn, config *Config, initiator bool) (*Conn, error) {
-	h, err := NewHandshakeState(config, initiator)
+	h, err := newHandshakeState(config, initiator, false)
 	if err != nil {
 		return nil, err
 	}
@@ -315,7 +315,7 @@ func (c *Conn) Close() error {
 	defer c.in.Unlock()
 	c.sealer.Close()
 	c.opener.Close()
-	wipe(c.rest)
+	wipe(c.frames.buffer)
 	c.rest, c.inErr, c.outErr = nil, net.ErrClosed, net.ErrClosed
 	return err
 }
@@ -343,11 +343,11 @@ func isTimeout(err error) bool {
 	return errors.As(err, &t) && t.Timeout()
 }
 
-// frameReader reads frames, and continues within one after a deadline has passed.
+// frameReader reads frames, as many at once as have come, and continues within one after a deadline has passed.
 type frameReader struct {
-	from   io.Reader
-	buffer []byte
-	have   int
+	from        io.Reader
+	buffer      []byte
+	start, have int // buffer[start:have] has come, and isn't returned yet
 }
 
 // next returns the next message, which is valid until the next call. io.EOF: the connection ended before it; io.ErrUnexpectedEOF: within it.
@@ -355,25 +355,32 @@ func (f *frameReader) next() ([]byte, error) {
 	if err := f.fill(2); err != nil {
 		return nil, err
 	}
-	whole := 2 + int(binary.BigEndian.Uint16(f.buffer))
+	whole := 2 + int(binary.BigEndian.Uint16(f.buffer[f.start:]))
 	if err := f.fill(whole); err != nil {
 		return nil, err
 	}
-	f.have = 0
-	return f.buffer[2:whole], nil
+	message := f.buffer[f.start+2 : f.start+whole]
+	f.start += whole
+	return message, nil
 }
 
+// fill reads until so many bytes have come.
 func (f *frameReader) fill(wanted int) error {
-	if len(f.buffer) < wanted {
-		f.buffer = append(f.buffer, make([]byte, wanted-len(f.buffer))...)
+	if f.start+wanted > len(f.buffer) {
+		f.have = copy(f.buffer, f.buffer[f.start:f.have])
+		f.start = 0
 	}
-	for f.have < wanted {
-		n, err := f.from.Read(f.buffer[f.have:wanted])
+	if len(f.buffer) < wanted {
+		f.buffer = append(f.buffer, make([]byte, wanted+4096-len(f.buffer))...)
+	}
+	for f.have-f.start < wanted {
+		n, err := f.from.Read(f.buffer[f.have:])
 		f.have += n
-		if err == io.EOF && f.have > 0 && f.have < wanted {
+		come := f.have - f.start
+		if err == io.EOF && come > 0 && come < wanted {
 			return io.ErrUnexpectedEOF
 		}
-		if err != nil && f.have < wanted {
+		if err != nil && come < wanted {
 			return err
 		}
 	}

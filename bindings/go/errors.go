@@ -16,6 +16,7 @@ var texts = map[Code]string{
 	ErrRemoteMissing:    "the pattern needs the other party's static key beforehand",
 	ErrRemoteUnexpected: "the other party has no such static key in this pattern",
 	ErrPskCount:         "the number of secrets isn't the number of psk tokens",
+	ErrWantedPsk:        "the message needs the secret of a psk token",
 	ErrNotYourTurn:      "it is the other party's turn",
 	ErrTooLong:          "the message would be too long, or is",
 	ErrDone:             "all messages of the handshake have passed",
@@ -94,6 +95,17 @@ func (e *HandshakeError) Error() string {
 
 // Unwrap returns the cause.
 func (e *HandshakeError) Unwrap() error { return e.Err }
+
+// WantedPSKError says that the message that is due needs the secret of a psk token, which SetPSK passes. The handshake is as it was.
+type WantedPSKError struct {
+	PeerStatic []byte // the other party's static key, of which it hasn't shown yet that it has the secret key; nil if it isn't known
+}
+
+// Error returns what is needed.
+func (e *WantedPSKError) Error() string { return ErrWantedPsk.Error() }
+
+// Unwrap returns ErrWantedPsk.
+func (e *WantedPSKError) Unwrap() error { return ErrWantedPsk }
 
 // ConfigError is a fault of a Config, found before a byte is sent.
 type ConfigError struct {

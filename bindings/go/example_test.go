@@ -102,36 +102,59 @@ func ExampleConfig_Check() {
 	// true VerifyPeer true
 }
 
-// Each client has a secret of its own: the server looks it up by the client's static key.
+// Each client has a secret of its own: the server looks it up by the client's static key, which it learns from message 3.
 func ExampleConfig_pSKFor() {
 	serverKey, err := noise.GenerateKeyPair()
 	must(err)
 	clientKey, err := noise.GenerateKeyPair()
 	must(err)
-	serverPublic, clientPublic := serverKey.Public(), clientKey.Public()
-	secrets := map[[noise.KeyLen]byte][]byte{clientPublic: bytes.Repeat([]byte{7}, noise.KeyLen)}
+	secrets := map[[noise.KeyLen]byte][]byte{clientKey.Public(): bytes.Repeat([]byte{7}, noise.KeyLen)}
 	here, there := net.Pipe()
 	go func() {
 		conn, err := noise.Server(there, &noise.Config{
-			Pattern: "IKpsk2", Static: serverKey,
-			PSKFor: func(key [noise.KeyLen]byte) ([][]byte, error) {
-				secret, ok := secrets[key]
+			Pattern: "XXpsk3", Static: serverKey,
+			PSKFor: func(peer [noise.KeyLen]byte) ([][]byte, error) {
+				secret, ok := secrets[peer]
 				if !ok {
 					return nil, errors.New("not on the list")
 				}
-				return [][]byte{secret}, nil
+				return [][]byte{secret}, nil // one for each psk token
 			},
 		})
 		must(err)
 		io.WriteString(conn, "hello")
 		conn.Close()
 	}()
-	conn, err := noise.Client(here, &noise.Config{
-		Pattern: "IKpsk2", Static: clientKey, PeerStatic: serverPublic[:], PSKs: [][]byte{secrets[clientPublic]},
-	})
+	conn, err := noise.Client(here, &noise.Config{Pattern: "XXpsk3", Static: clientKey, PSKs: [][]byte{secrets[clientKey.Public()]}})
 	must(err)
 	text, err := io.ReadAll(conn)
 	fmt.Println(string(text), err)
+	// Output: hello <nil>
+}
+
+// The same message by message: the call that needs the secret says so, and is made again.
+func ExampleHandshakeState_SetPSK() {
+	serverKey, err := noise.GenerateKeyPair()
+	must(err)
+	clientKey, err := noise.GenerateKeyPair()
+	must(err)
+	serverPublic, clientPublic := serverKey.Public(), clientKey.Public()
+	secrets := map[string][]byte{string(clientPublic[:]): bytes.Repeat([]byte{7}, noise.KeyLen)}
+	client, err := noise.NewHandshakeState(&noise.Config{
+		Pattern: "IKpsk1", Static: clientKey, PeerStatic: serverPublic[:], PSKs: [][]byte{secrets[string(clientPublic[:])]},
+	}, true)
+	must(err)
+	server, err := noise.NewHandshakeState(&noise.Config{Pattern: "IKpsk1", Static: serverKey}, false)
+	must(err)
+	message, err := client.WriteMessage(nil, []byte("hello"))
+	must(err)
+	payload, err := server.ReadMessage(nil, message)
+	var wanted *noise.WantedPSKError
+	if errors.As(err, &wanted) {
+		must(server.SetPSK(secrets[string(wanted.PeerStatic)]))
+		payload, err = server.ReadMessage(nil, message)
+	}
+	fmt.Println(string(payload), err)
 	// Output: hello <nil>
 }
 

@@ -3,10 +3,7 @@ package noise
 // #include "noise.h"
 import "C"
 
-import (
-	"bytes"
-	"crypto/subtle"
-)
+import "crypto/subtle"
 
 // HandshakeState runs a handshake message by message. One goroutine at a time may use it.
 //
@@ -20,15 +17,8 @@ type HandshakeState struct {
 	ephemeral *KeyPair
 	ended     error
 	next      int        // the message that is due, from 0 on
+	prepared  bool       // whether the library has the X25519 results of that message already
 	remote    remoteKeys // those that are known
-	passed    []passedMessage
-	waits     bool // for PSKFor to be called
-}
-
-// passedMessage is a message that passed before PSKFor was called.
-type passedMessage struct {
-	written          bool
-	payload, message []byte
 }
 
 // remoteKeys are the public keys of the other party, as far as they are known.
@@ -50,17 +40,18 @@ func (k remoteKeys) with(m *message, received []byte) remoteKeys {
 	return k
 }
 
-// NewHandshakeState starts a handshake with a new ephemeral key pair. A *ConfigError says what is wrong with the Config.
+// NewHandshakeState starts a handshake with a new ephemeral key pair. A *ConfigError says what is wrong with the Config. If it has neither PSKs nor
+// PSKFor, SetPSK passes the secrets.
 func NewHandshakeState(config *Config, initiator bool) (*HandshakeState, error) {
+	return newHandshakeState(config, initiator, true)
+}
+
+func newHandshakeState(config *Config, initiator, isLate bool) (*HandshakeState, error) {
 	ephemeral, err := GenerateKeyPair()
 	if err != nil {
 		return nil, err
 	}
-	return newHandshakeState(config, initiator, ephemeral)
-}
-
-func newHandshakeState(config *Config, initiator bool, ephemeral *KeyPair) (*HandshakeState, error) {
-	h, err := started(config, initiator, ephemeral)
+	h, err := started(config, initiator, isLate, ephemeral)
 	if err == nil && h.remote.hasS {
 		err = h.judge()
 	}
@@ -70,27 +61,19 @@ func newHandshakeState(config *Config, initiator bool, ephemeral *KeyPair) (*Han
 	return h, nil
 }
 
-// started returns a handshake in which VerifyPeer and PSKFor haven't been called.
-func started(config *Config, initiator bool, ephemeral *KeyPair) (*HandshakeState, error) {
+// started returns a handshake in which neither VerifyPeer nor PSKFor has been called.
+func started(config *Config, initiator, isLate bool, ephemeral *KeyPair) (*HandshakeState, error) {
 	if config == nil {
 		return nil, &ConfigError{"", errNil}
 	}
-	h := &HandshakeState{config: *config, pattern: patternOf(config.pattern()), initiator: initiator, ephemeral: ephemeral}
-	if err := h.config.check(h.pattern, initiator); err != nil {
+	h := &HandshakeState{memory: new(handshakeMemory), config: *config, pattern: patternOf(config.pattern()), initiator: initiator, ephemeral: ephemeral}
+	if err := h.config.check(h.pattern, initiator, isLate); err != nil {
 		if code := h.patternFault(); code != 0 {
 			err = &ConfigError{"Pattern", code}
 		}
 		return nil, err
 	}
-	psks := config.PSKs
-	if config.PSKFor != nil {
-		h.waits = true
-		psks = make([][]byte, h.pattern.psks)
-		for i := range psks {
-			psks[i] = make([]byte, KeyLen)
-		}
-	}
-	if code := h.start(psks); code != 0 {
+	if code := h.start(); code != 0 {
 		return nil, &ConfigError{fieldOf(code), code}
 	}
 	if h.pattern.knows(initiator) {
@@ -116,8 +99,8 @@ func setKey(at *C.noise_key, key []byte) {
 	copy(bytesOf(&at.bytes[0], KeyLen), key)
 }
 
-// start starts the handshake with these secrets.
-func (h *HandshakeState) start(psks [][]byte) Code {
+// start starts the handshake.
+func (h *HandshakeState) start() Code {
 	setup := new(C.noise_setup)
 	if !h.initiator {
 		setup.responder = 1
@@ -131,16 +114,12 @@ func (h *HandshakeState) start(psks [][]byte) Code {
 	if h.pattern.knows(h.initiator) {
 		setKey(&setup.remote_s, h.config.PeerStatic)
 	}
-	setup.psk_count = C.uint8_t(len(psks))
-	for i, psk := range psks {
+	setup.psk_count = C.uint8_t(len(h.config.PSKs))
+	for i, psk := range h.config.PSKs {
 		secret := bytesOf(&setup.psks[i][0], KeyLen)
 		copy(secret, psk)
 		defer wipe(secret)
 	}
-	if h.memory != nil {
-		h.memory.wipe()
-	}
-	h.memory, h.next = new(handshakeMemory), 0
 	pattern, prologue := []byte(h.config.pattern()), h.config.Prologue
 	return Code(C.noise_start(&h.memory.kept, place(pattern), C.size_t(len(pattern)), place(prologue), C.size_t(len(prologue)), setup))
 }
@@ -191,7 +170,7 @@ func (h *HandshakeState) Close() error {
 	if h.ephemeral != nil {
 		h.ephemeral.Wipe()
 	}
-	h.passed, h.ended = nil, ErrEnded
+	h.ended = ErrEnded
 	return nil
 }
 
@@ -216,7 +195,11 @@ func (h *HandshakeState) supply(ofStatic bool, remote [KeyLen]byte) error {
 
 // prepare passes those results of X25519 that message m needs and whose keys are known, so that the library doesn't ask for them one by one. Of a
 // message that is read, it leaves out what comes after an encrypted static key: the library checks the tag of that key first.
-func (h *HandshakeState) prepare(m *message, keys *remoteKeys, tokens []string) error {
+func (h *HandshakeState) prepare(keys *remoteKeys, tokens []string) error {
+	if h.prepared {
+		return nil
+	}
+	h.prepared = true
 	for _, token := range tokens {
 		if len(token) != 2 {
 			continue
@@ -236,43 +219,85 @@ func (h *HandshakeState) prepare(m *message, keys *remoteKeys, tokens []string) 
 	return nil
 }
 
-// called makes a call of the library, and supplies the results of X25519 that it asks for.
+// called makes a call of the library, and supplies the results of X25519 and the secrets that it asks for. A *WantedPSKError leaves the handshake as it was;
+// after another error it has ended.
 func (h *HandshakeState) called(call func() C.uint32_t) (Code, error) {
 	told := &h.memory.told
 	for {
-		if code := call(); code != C.NOISE_WANTED {
+		var err error
+		switch code := call(); code {
+		case C.NOISE_WANTED:
+			err = h.supply(told.of_static != 0, keyIn(&told.remote[0]))
+		case C.NOISE_WANTED_PSK:
+			if h.config.PSKFor == nil {
+				return 0, h.wantedPSK()
+			}
+			err = h.choose()
+		default:
 			return Code(code), nil
 		}
-		if err := h.supply(told.of_static != 0, keyIn(&told.remote[0])); err != nil {
-			return 0, err
+		if err != nil {
+			return 0, h.end(-1, err)
 		}
 	}
 }
 
-// WriteMessage appends the next message, with this payload, to dst. ErrNotYourTurn, ErrDone and ErrTooLong leave the handshake as it was.
+// wantedPSK returns what the library asks for.
+func (h *HandshakeState) wantedPSK() error {
+	told := &h.memory.told
+	if told.remote_known == 0 {
+		return &WantedPSKError{}
+	}
+	key := keyIn(&told.remote[0])
+	return &WantedPSKError{key[:]}
+}
+
+// choose passes the secrets that this party shares with the owner of the static key that the library has told.
+func (h *HandshakeState) choose() error {
+	if h.memory.told.remote_known == 0 {
+		return errPSKTooLate
+	}
+	psks, err := h.config.PSKFor(keyIn(&h.memory.told.remote[0]))
+	if err != nil {
+		return err
+	}
+	if len(psks) != h.pattern.psks {
+		return ErrPskCount
+	}
+	for _, psk := range psks {
+		if err := h.SetPSK(psk); err != nil {
+			return err
+		}
+	}
+	return nil
+}
+
+// SetPSK passes the secret, of 32 bytes, of the first psk token that has none: after a *WantedPSKError, or before. It is for a Config with neither PSKs
+// nor PSKFor. ErrPskCount: no token that is still to come lacks its secret. A secret that was passed can't be replaced: if it is wrong, ReadMessage
+// returns ErrTag.
+func (h *HandshakeState) SetPSK(psk []byte) error {
+	if h.ended != nil {
+		return h.ended
+	}
+	if len(psk) != KeyLen {
+		return errKeyLen
+	}
+	return asError(uint32(C.noise_set_psk(&h.memory.kept, place(psk))))
+}
+
+// WriteMessage appends the next message, with this payload, to dst. ErrNotYourTurn, ErrDone, ErrTooLong and a *WantedPSKError leave the handshake as it
+// was.
 func (h *HandshakeState) WriteMessage(dst, payload []byte) ([]byte, error) {
 	if h.ended != nil {
 		return dst, h.ended
 	}
-	whole, err := h.write(dst, payload)
-	if err != nil {
-		return dst, err
-	}
-	if h.waits {
-		h.passed = append(h.passed, passedMessage{true, append([]byte(nil), payload...), append([]byte(nil), whole[len(dst):]...)})
-	}
-	return whole, nil
-}
-
-func (h *HandshakeState) write(dst, payload []byte) ([]byte, error) {
 	m, size := h.memory, C.size_t(0)
 	switch code := C.noise_message_len(&m.kept, C.size_t(len(payload)), &size); {
 	case code == C.NOISE_STRUCT:
-		return nil, h.end(-1, ErrStruct)
+		return dst, h.end(-1, ErrStruct)
 	case code == C.NOISE_OK:
-		message := &h.pattern.messages[h.next]
-		if err := h.prepare(message, &h.remote, message.tokens); err != nil {
-			return nil, h.end(-1, err)
+		if err := h.prepare(&h.remote, h.pattern.messages[h.next].tokens); err != nil {
+			return dst, h.end(-1, err)
 		}
 	}
 	whole, room := grown(dst, int(size))
@@ -284,18 +309,24 @@ func (h *HandshakeState) write(dst, payload []byte) ([]byte, error) {
 	})
 	switch {
 	case err != nil:
-		return nil, h.end(-1, err)
+		return dst, err
 	case code == ErrStruct || code == ErrAgreement || code == ErrFull:
-		return nil, h.end(-1, code)
+		return dst, h.end(-1, code)
 	case code != 0:
-		return nil, code
+		return dst, code
 	}
-	h.next++
+	h.passed()
 	return whole[:len(dst)+int(m.told.len)], nil
 }
 
+// passed notes that a message has passed.
+func (h *HandshakeState) passed() {
+	h.next++
+	h.prepared = false
+}
+
 // ReadMessage reads the message that is due, and appends its payload to dst. A *HandshakeError says what is wrong with the message, and the handshake has
-// ended; ErrNotYourTurn and ErrDone leave it as it was.
+// ended; ErrNotYourTurn, ErrDone and a *WantedPSKError leave it as it was.
 func (h *HandshakeState) ReadMessage(dst, message []byte) ([]byte, error) {
 	if h.ended != nil {
 		return dst, h.ended
@@ -313,9 +344,6 @@ func (h *HandshakeState) ReadMessage(dst, message []byte) ([]byte, error) {
 	if err != nil {
 		return dst, err
 	}
-	if h.waits {
-		h.passed = append(h.passed, passedMessage{false, nil, append([]byte(nil), message...)})
-	}
 	if passed == h.pattern.learns(h.initiator) {
 		if h.remote.s, h.remote.hasS = h.PeerStatic(); !h.remote.hasS {
 			return dst, h.end(-1, ErrStruct)
@@ -331,7 +359,7 @@ func (h *HandshakeState) read(received []byte) ([]byte, error) {
 	m, work := h.memory, append([]byte(nil), received...)
 	message := &h.pattern.messages[h.next]
 	keys := h.remote.with(message, received)
-	if err := h.prepare(message, &keys, message.tokens[:message.sealed]); err != nil {
+	if err := h.prepare(&keys, message.tokens[:message.sealed]); err != nil {
 		return nil, h.end(-1, err)
 	}
 	code, err := h.called(func() C.uint32_t {
@@ -339,18 +367,18 @@ func (h *HandshakeState) read(received []byte) ([]byte, error) {
 	})
 	switch {
 	case err != nil:
-		return nil, h.end(-1, err)
+		return nil, err
 	case code == ErrShort || code == ErrTag:
 		return nil, h.end(int(m.told.token), code)
 	case code != 0:
 		return nil, h.end(-1, code)
 	}
 	h.remote = keys
-	h.next++
+	h.passed()
 	return work[m.told.from : m.told.from+m.told.len], nil
 }
 
-// judge decides whether the other party's static key, which is known now, is accepted, and gets the secrets that this party shares with its owner.
+// judge decides whether the other party's static key, which is known now, is accepted.
 func (h *HandshakeState) judge() error {
 	key := h.remote.s
 	if want := h.config.PeerStatic; want != nil && subtle.ConstantTimeCompare(want, key[:]) != 1 {
@@ -359,46 +387,6 @@ func (h *HandshakeState) judge() error {
 	if h.config.VerifyPeer != nil {
 		if err := h.config.VerifyPeer(key); err != nil {
 			return h.end(-1, err)
-		}
-	}
-	if !h.waits {
-		return nil
-	}
-	psks, err := h.config.PSKFor(key)
-	if err != nil {
-		return h.end(-1, err)
-	}
-	if err := h.startAgain(psks); err != nil {
-		return h.end(-1, err)
-	}
-	return nil
-}
-
-// startAgain replaces the zeros, with which the handshake began, by the secrets. No message that has passed has mixed in a secret: so each is made again
-// as it was, byte for byte, and no other message is ever made with this ephemeral key.
-func (h *HandshakeState) startAgain(psks [][]byte) error {
-	for _, psk := range psks {
-		if len(psk) != KeyLen {
-			return errKeyLen
-		}
-	}
-	if len(psks) != h.pattern.psks {
-		return ErrPskCount
-	}
-	passed := h.passed
-	h.waits, h.passed = false, nil
-	if code := h.start(psks); code != 0 {
-		return code
-	}
-	for _, p := range passed {
-		if !p.written {
-			if _, err := h.read(p.message); err != nil {
-				return err
-			}
-			continue
-		}
-		if again, err := h.write(nil, p.payload); err != nil || !bytes.Equal(again, p.message) {
-			return ErrStruct
 		}
 	}
 	return nil

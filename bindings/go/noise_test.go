@@ -233,6 +233,7 @@ func TestConfigFaults(t *testing.T) {
 		{"anybody", &Config{Static: k}, "VerifyPeer", ErrUnauthenticated},
 		{"anybody, without keys", &Config{Pattern: "NN"}, "VerifyPeer", ErrUnauthenticated},
 		{"a verifier that isn't asked", &Config{Pattern: "NN", VerifyPeer: ok}, "VerifyPeer", errNoKey},
+		{"a secret for a key in a pattern without secrets", &Config{Static: k, PSKFor: psksFor}, "PSKFor", ErrPskCount},
 		{"an ephemeral key beforehand", &Config{Pattern: "EARLY:\n  <- e\n  ...\n  -> e, ee\n", InsecureAcceptAnyKey: true}, "Pattern", errEarly},
 		{"a long prologue", &Config{Static: k, VerifyPeer: ok, Prologue: make([]byte, MaxPrologue+1)}, "Prologue", ErrLength},
 	} {
@@ -275,45 +276,6 @@ func TestPeerIsJudged(t *testing.T) {
 	c, s := connected(t, client, server)
 	err, _ := both(c, s)
 	wants(t, err, ErrPeerKey)
-}
-
-func TestSecretsOfAKey(t *testing.T) {
-	for _, it := range []struct {
-		pattern   string
-		initiator bool
-	}{{"IKpsk2", false}, {"IXpsk2", false}, {"XXpsk3", true}, {"KKpsk0", false}, {"KKpsk0", true},
-		{"XA1psk3:\n  -> e\n  <- e, ee, s, es\n  -> s, se, psk\n", true}} {
-		client, server := configs(t, it.pattern)
-		asked, other := client, server.Static
-		if !it.initiator {
-			asked, other = server, client.Static
-		}
-		secrets := asked.PSKs
-		asked.PSKs, asked.PSKFor = nil, func(got [KeyLen]byte) ([][]byte, error) {
-			if !bytes.Equal(got[:], key(other)) {
-				t.Error("asked for another's secrets")
-			}
-			return secrets, nil
-		}
-		client.Payloads, server.Payloads = [][]byte{nil, nil, []byte("third")}, [][]byte{nil, []byte("second")}
-		c, s := connected(t, client, server)
-		errC, errS := both(c, s)
-		must(t, errC, errS)
-		exchange(t, c, s)
-		if c.ConnectionState().HandshakeHash != s.ConnectionState().HandshakeHash {
-			t.Error(it.pattern)
-		}
-	}
-	client, server := configs(t, "IKpsk2")
-	server.PSKs, server.PSKFor = nil, func([KeyLen]byte) ([][]byte, error) { return [][]byte{make([]byte, KeyLen)}, nil }
-	c, s := connected(t, client, server)
-	err, _ := both(c, s)
-	wants(t, err, ErrTag)
-	server.PSKFor = nil
-	server.PSKFor = func([KeyLen]byte) ([][]byte, error) { return nil, io.ErrNoProgress }
-	c, s = connected(t, client, server)
-	_, err = both(c, s)
-	wants(t, err, io.ErrNoProgress)
 }
 
 func TestPayloads(t *testing.T) {
@@ -759,6 +721,32 @@ func BenchmarkSeal(b *testing.B) {
 			b.SetBytes(int64(size))
 			for i := 0; i < b.N; i++ {
 				s.Seal(room, payload)
+			}
+		})
+	}
+}
+
+// BenchmarkConn sends messages over TCP, and reads them.
+func BenchmarkConn(b *testing.B) {
+	for _, size := range []int{64, 1024, 16384} {
+		b.Run(fmt.Sprint(size), func(b *testing.B) {
+			client, server := configs(b, "NN")
+			c, s := connected(b, client, server)
+			errC, errS := both(c, s)
+			must(b, errC, errS)
+			b.SetBytes(int64(size))
+			b.ResetTimer()
+			go func() {
+				payload := make([]byte, size)
+				for i := 0; i < b.N; i++ {
+					c.Write(payload)
+				}
+			}()
+			room := make([]byte, size)
+			for i := 0; i < b.N; i++ {
+				if _, err := s.Read(room); err != nil {
+					b.Fatal(err)
+				}
 			}
 		})
 	}

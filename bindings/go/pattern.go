@@ -30,8 +30,7 @@ type pattern struct {
 	known    [2]bool // whether the static key of the initiator, and of the responder, is in a pre-message
 	early    bool    // an ephemeral key is in a pre-message
 	messages []message
-	psks     int
-	firstPSK int // the message, from 0 on, that has the first psk token; -1: none
+	psks     int // the number of psk tokens
 }
 
 type message struct {
@@ -62,7 +61,7 @@ func patternOf(text string) *pattern {
 
 // parsed reads the lines of a pattern, and adds psk tokens at these places.
 func parsed(lines, places []string) *pattern {
-	p := &pattern{firstPSK: -1}
+	p := new(pattern)
 	for _, line := range lines {
 		arrow, tokens, _ := strings.Cut(strings.TrimSpace(line), " ")
 		switch {
@@ -95,15 +94,12 @@ func (p *pattern) addPSK(place string) {
 	}
 }
 
-// measure finds the psk tokens, and where public keys are in the messages.
+// measure counts the psk tokens, and finds where public keys are in the messages.
 func (p *pattern) measure() {
 	for i := range p.messages {
 		for _, token := range p.messages[i].tokens {
 			if token == "psk" {
 				p.psks++
-				if p.firstPSK < 0 {
-					p.firstPSK = i
-				}
 			}
 		}
 	}
@@ -147,6 +143,21 @@ func (p *pattern) learns(initiator bool) int {
 		}
 	}
 	return -1
+}
+
+// learnsBeforePSK reports whether a message gives a party the other's static key before the first psk token.
+func (p *pattern) learnsBeforePSK(initiator bool) bool {
+	for _, m := range p.messages {
+		for _, token := range m.tokens {
+			switch {
+			case token == "psk":
+				return false
+			case token == "s" && m.byInitiator != initiator:
+				return true
+			}
+		}
+	}
+	return false
 }
 
 func (p *pattern) oneWay() bool { return len(p.messages) == 1 }

@@ -31,22 +31,27 @@ export class Handshake {
 
   /**
    * Checks the set-up at once, and throws what noise_start returns. The ephemeral key pair is drawn at the first message, unless one is passed:
-   * that must never have been used before.
+   * that must never have been used before. `pskFor(remoteStatic)`, in place of `psks`, chooses the secret of each psk token by the other party's
+   * static key.
    */
-  constructor({ pattern, responder = false, prologue = new Uint8Array(0), staticKey, ephemeralKey, remoteStatic, remoteEphemeral, psks = [] }) {
+  constructor({ pattern, responder = false, prologue = new Uint8Array(0), staticKey, ephemeralKey, remoteStatic, remoteEphemeral, psks = [], pskFor }) {
     if (typeof pattern !== 'string') throw new TypeError('pattern has to be a name or a pattern text');
     const name = pattern.includes('\n') || pattern.startsWith('Noise_') ? pattern : protocolName(pattern);
     bytesOf(prologue, 'prologue');
     if (prologue.length > 65535) throw new NoiseError(code.LENGTH);
+    if (pskFor !== undefined && typeof pskFor !== 'function') throw new TypeError('pskFor has to be a function');
+    if (pskFor && psks.length > 0) throw new TypeError('pass either psks or pskFor');
     if (psks.length > 9) throw new NoiseError(code.PSK_COUNT);
     for (const psk of psks) bytesOf(psk, 'a psk', 32);
     for (const key of [staticKey?.publicKey, ephemeralKey?.publicKey, remoteStatic, remoteEphemeral]) if (key) bytesOf(key, 'a public key', 32);
-    this.#options = { pattern: name, responder, prologue: prologue.slice(), remoteStatic, remoteEphemeral, psks: psks.map((psk) => psk.slice()) };
+    this.#options = { pattern: name, responder, prologue: prologue.slice(), remoteStatic, remoteEphemeral, psks: psks.map((psk) => psk.slice()), pskFor };
     this.#static = staticKey;
     this.#ephemeral = ephemeralKey;
     this.#place = library().take('handshake');
     try {
-      this.#start(ephemeralKey?.publicKey ?? PLACEHOLDER);
+      this.#start(PLACEHOLDER);
+      if (this.#lacksPsk() !== (pskFor !== undefined)) throw new NoiseError(code.PSK_COUNT);
+      if (ephemeralKey) this.#start(ephemeralKey.publicKey);
     } catch (error) {
       this.dispose();
       throw error;
@@ -73,6 +78,12 @@ export class Handshake {
     must(answer);
   }
 
+  /** Whether a psk token lacks its secret. This passes one: so it is called before the handshake is started with its ephemeral key. */
+  #lacksPsk() {
+    const lib = library();
+    return lib.x.noise_set_psk(this.#place, lib.put('answer', PLACEHOLDER)[0]) === code.OK;
+  }
+
   #here() {
     if (this.#place === undefined) throw new NoiseError(code.DISPOSED);
     return this.#place;
@@ -95,24 +106,37 @@ export class Handshake {
     }
   }
 
-  /** Repeats a call as long as it asks for a result of X25519. */
+  /** Repeats a call as long as it asks for a result of X25519 or a secret. */
   async #answered(call) {
     const lib = library();
     for (;;) {
       const number = call(this.#here());
       const told = lib.told();
-      if (number !== code.WANTED) {
+      if (number === code.WANTED) await this.#answer(told.ofStatic, lib.wanted());
+      else if (number === code.WANTED_PSK && told.remoteKnown) await this.#choose(lib.wanted());
+      else {
         must(number, number === code.SHORT || number === code.TAG ? told.token : undefined);
         return told;
       }
-      const remote = lib.wanted();
-      const answer = await this.#agree(told.ofStatic, remote);
-      const place = this.#here();
-      lib.view(lib.at.told + 18n, 32).set(remote);
-      const taken = lib.x.noise_answer(place, told.ofStatic, lib.at.told + 18n, lib.put('answer', answer)[0]);
-      lib.wipe('answer');
-      must(taken);
     }
+  }
+
+  async #answer(ofStatic, remote) {
+    const lib = library();
+    const answer = await this.#agree(ofStatic, remote);
+    const place = this.#here();
+    lib.view(lib.at.told + 18n, 32).set(remote);
+    const taken = lib.x.noise_answer(place, ofStatic, lib.at.told + 18n, lib.put('answer', answer)[0]);
+    lib.wipe('answer');
+    must(taken);
+  }
+
+  async #choose(remoteStatic) {
+    const lib = library();
+    const psk = bytesOf(await this.#options.pskFor(remoteStatic), 'the psk of pskFor', 32);
+    const taken = lib.x.noise_set_psk(this.#here(), lib.put('answer', psk)[0]);
+    lib.wipe('answer');
+    must(taken);
   }
 
   async #agree(ofStatic, remote) {

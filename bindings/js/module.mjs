@@ -8,7 +8,7 @@ const NAMES = {
   5: ['STATIC_MISSING', 'the pattern has a token s of this party: pass staticKey'],
   6: ['REMOTE_MISSING', "a key of the other party's pre-message is missing: pass remoteStatic or remoteEphemeral"],
   7: ['REMOTE_UNEXPECTED', "a key was passed that isn't in the other party's pre-message: leave it out"],
-  8: ['PSK_COUNT', 'not one secret for each psk token'],
+  8: ['PSK_COUNT', 'not one secret for each psk token: pass psks, or pskFor'],
   10: ['NOT_YOUR_TURN', 'the other party is to write, or at read this one is'],
   11: ['TOO_LONG', 'the message or datagram would have, or has, more bytes than it may have'],
   12: ['DONE', 'all messages of the handshake have passed: finish'],
@@ -39,6 +39,7 @@ const NAMES = {
   37: ['LIMIT', 'a ninth message, no token but psk, or more than eight others'],
   38: ['ENDING', 'the line has no line feed, or there is no message'],
   39: ['RULE', 'the pattern breaks a rule'],
+  40: ['WANTED_PSK', "a psk token comes before the other party's static key, by which pskFor would choose: pass psks"],
   '-1': ['BUSY', 'another call on this handshake is under way: await it first'],
   '-2': ['DISPOSED', 'this object is used up'],
   '-3': ['NO_MEMORY64', 'this engine runs no WebAssembly with 64-bit memory: take a browser of 2025 or later with memory64, '
@@ -151,10 +152,11 @@ class Library {
       len: this.#data.getUint32(start + 8, true),
       token: this.#bytes[start + 16],
       ofStatic: this.#bytes[start + 17],
+      remoteKnown: this.#bytes[start + 50] !== 0,
     };
   }
 
-  /** The other party's public key for which the last call needs a result of X25519. */
+  /** The other party's public key for which the last call needs a result of X25519, or a secret. */
   wanted() {
     return this.view(this.at.told + 18n, 32).slice();
   }

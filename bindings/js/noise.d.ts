@@ -42,6 +42,11 @@ export interface HandshakeOptions {
   remoteEphemeral?: Uint8Array;
   /** 32 bytes for each psk token, in their order. */
   psks?: Uint8Array[];
+  /**
+   * In place of `psks`: called at each psk token with the other party's static key, and gives the secret of 32 bytes. The other party hasn't shown
+   * yet that it has the private key. What it throws rejects `write` or `read`, and nothing is sent.
+   */
+  pskFor?(remoteStatic: Uint8Array): Uint8Array | Promise<Uint8Array>;
 }
 export interface Stage {
   messages: number;

@@ -1,5 +1,6 @@
 // One end over TCP: node echo.mjs PATTERN OWN_SECRET PEER_KEY PSKS ADDRESS. It connects as the initiator, sends 128 KiB, and wants them back; where
-// ADDRESS begins with '@' it listens there, prints the address, and sends back what it reads. PSKS are joined by commas, and '-' where there is none.
+// ADDRESS begins with '@' it listens there, prints the address, and sends back what it reads. PSKS are joined by commas, and '-' where there is none;
+// "KEY=SECRET,.." has the secrets that a listener chooses by the other party's key.
 import assert from 'node:assert/strict';
 import { once } from 'node:events';
 import { connect, createServer } from 'node:net';
@@ -51,6 +52,13 @@ async function sendAll(channel, all) {
   await channel.send(new Uint8Array(0));
 }
 
+function secrets() {
+  const words = psks === '-' ? [] : psks.split(',');
+  if (!psks.includes('=')) return { psks: words.map(bytes) };
+  const table = new Map(words.map((word) => word.split('=')));
+  return { pskFor: (key) => bytes(table.get(Buffer.from(key).toString('hex'))) };
+}
+
 await load();
 const channel = await NoiseSocket.open(await connection(), {
   pattern,
@@ -58,7 +66,7 @@ const channel = await NoiseSocket.open(await connection(), {
   prologue: new TextEncoder().encode('live'),
   staticKey: plan.static[role] ? await keyPair(bytes(secret)) : undefined,
   remoteStatic: plan.before[other].includes('s') ? bytes(peer) : undefined,
-  psks: psks === '-' ? [] : psks.split(',').map(bytes),
+  ...secrets(),
   judge: (key) => key === undefined || Buffer.compare(key, bytes(peer)) === 0,
 });
 if (role === 'responder') {

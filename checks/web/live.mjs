@@ -1,4 +1,4 @@
-// A client in JavaScript of the server of examples/c: node live.mjs PATTERN FOLDER, where FOLDER has the server's public key.
+// A client in JavaScript of the server of examples/programs/c: node live.mjs PATTERN FOLDER, where FOLDER has the server's public key.
 import assert from 'node:assert/strict';
 import { readFile } from 'node:fs/promises';
 import { connect } from 'node:net';
@@ -33,4 +33,4 @@ const channel = await NoiseSocket.open(socket, {
 await channel.send(bytes('hello from JavaScript'));
 assert.equal(new TextDecoder().decode(await channel.receive()).replace(/\0$/, ''), 'hello from JavaScript');
 await channel.close();
-console.log(`web: a channel by ${pattern} between JavaScript and the server of examples/c`);
+console.log(`web: a channel by ${pattern} between JavaScript and the server of examples/programs/c`);

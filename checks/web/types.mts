@@ -6,6 +6,8 @@ import {
 await load();
 const staticKey: KeyPair = await KeyPair.generate();
 const handshake = new Handshake({ pattern: protocolName('XX'), staticKey, psks: [new Uint8Array(32)] });
+const late = new Handshake({ pattern: 'XXpsk3', responder: true, staticKey, pskFor: async (remoteStatic) => remoteStatic.slice(0, 32) });
+late.dispose();
 const message: Uint8Array = await handshake.write(new Uint8Array(3));
 try {
   await handshake.read(message);

@@ -28,6 +28,15 @@ func TestJavaScript(t *testing.T) {
 	}
 }
 
+// TestJavaScriptSecretOfEachPeer is secretOfEachPeer with the same program.
+func TestJavaScriptSecretOfEachPeer(t *testing.T) {
+	program := os.Getenv("NOISE_JS_ECHO")
+	if program == "" {
+		t.Skip("NOISE_JS_ECHO isn't set")
+	}
+	secretOfEachPeer(t, program)
+}
+
 func withJavaScript(t *testing.T, program, name string, initiator bool) {
 	own, err := noise.GenerateKeyPair()
 	must(t, err)

@@ -5,9 +5,11 @@ import (
 	"bytes"
 	"crypto/rand"
 	"encoding/binary"
+	"errors"
 	"fmt"
 	"io"
 	"net"
+	"strings"
 	"testing"
 	"time"
 
@@ -131,6 +133,54 @@ func live(t *testing.T, pattern flynn.HandshakePattern, name string, place int, 
 	}
 	a, b := tcp(t)
 	run(t, a, b, config, them, initiator, len(pattern.Messages))
+}
+
+// choosing are patterns in which a server may choose the secret by the client's key.
+var choosing = []string{"XXpsk3", "IKpsk2", "IKpsk1"}
+
+func newKeys(t *testing.T, count int) (keys []*noise.KeyPair) {
+	t.Helper()
+	for len(keys) < count {
+		key, err := noise.GenerateKeyPair()
+		must(t, err)
+		keys = append(keys, key)
+	}
+	return keys
+}
+
+// secretOf returns the secret of client i.
+func secretOf(i int) []byte { return bytes.Repeat([]byte{byte(i + 1)}, 32) }
+
+// chooser returns the Config of a server that has a secret with each of these clients.
+func chooser(own noise.DH, name string, clients []*noise.KeyPair) *noise.Config {
+	return &noise.Config{Pattern: name, Prologue: []byte("live"), Static: own, PSKFor: func(key [noise.KeyLen]byte) ([][]byte, error) {
+		for i, client := range clients {
+			if client.Public() == key {
+				return [][]byte{secretOf(i)}, nil
+			}
+		}
+		return nil, errors.New("no secret for this key")
+	}}
+}
+
+// TestFlynnSecretOfEachPeer runs two clients of flynn's, which have a secret each, with a server that chooses it.
+func TestFlynnSecretOfEachPeer(t *testing.T) {
+	for _, name := range choosing {
+		keys := newKeys(t, 3)
+		for i, client := range keys[:2] {
+			t.Run(fmt.Sprintf("%s/%d", name, i), func(t *testing.T) {
+				secret, public, server := client.Secret(), client.Public(), keys[2].Public()
+				base, place, _ := strings.Cut(name, "psk")
+				them := flynn.Config{CipherSuite: suite, Pattern: flynn.HandshakeXX, Prologue: []byte("live"), Initiator: true,
+					StaticKeypair: flynn.DHKey{Private: secret[:], Public: public[:]}, PresharedKey: secretOf(i), PresharedKeyPlacement: int(place[0] - '0')}
+				if base == "IK" {
+					them.Pattern, them.PeerStatic = flynn.HandshakeIK, server[:]
+				}
+				a, b := tcp(t)
+				run(t, a, b, chooser(keys[2], name, keys[:2]), them, false, len(them.Pattern.Messages))
+			})
+		}
+	}
 }
 
 func run(t *testing.T, a, b net.Conn, config *noise.Config, them flynn.Config, initiator bool, count int) {

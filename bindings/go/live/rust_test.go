@@ -60,6 +60,35 @@ func withRust(t *testing.T, program, name string, psk, initiator, oneWay bool) {
 	}
 }
 
+// TestRustSecretOfEachPeer is secretOfEachPeer with the same example.
+func TestRustSecretOfEachPeer(t *testing.T) {
+	program := os.Getenv("NOISE_RUST_ECHO")
+	if program == "" {
+		t.Skip("NOISE_RUST_ECHO isn't set")
+	}
+	secretOfEachPeer(t, program)
+}
+
+// secretOfEachPeer passes the patterns in which a server may choose the secret by the client's key, with the server in either language, and two clients
+// that have a secret each.
+func secretOfEachPeer(t *testing.T, program string) {
+	keys := newKeys(t, 3)
+	server, public := keys[2], keys[2].Public()
+	table := fmt.Sprintf("%x=%x,%x=%x", keys[0].Public(), secretOf(0), keys[1].Public(), secretOf(1))
+	for _, name := range choosing {
+		for i, client := range keys[:2] {
+			config := &noise.Config{Pattern: name, Prologue: []byte("live"), Static: client, PSKs: [][]byte{secretOf(i)}}
+			if strings.HasPrefix(name, "IK") {
+				config.PeerStatic = public[:]
+			}
+			words := []string{name, fmt.Sprintf("%x", server.Secret()), fmt.Sprintf("%x", client.Public()), table, "@127.0.0.1:0"}
+			t.Run(fmt.Sprintf("%s/%d/true", name, i), func(t *testing.T) { toRust(t, exec.Command(program, words...), config, false) })
+			words = []string{name, fmt.Sprintf("%x", client.Secret()), fmt.Sprintf("%x", public), fmt.Sprintf("%x", secretOf(i))}
+			t.Run(fmt.Sprintf("%s/%d/false", name, i), func(t *testing.T) { fromRust(t, program, words, chooser(server, name, keys[:2]), false) })
+		}
+	}
+}
+
 // toRust sends 128 KiB, and wants them back.
 func toRust(t *testing.T, cmd *exec.Cmd, config *noise.Config, oneWay bool) {
 	cmd.Stderr = os.Stderr

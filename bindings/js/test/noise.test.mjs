@@ -92,6 +92,65 @@ test('with the module loaded', async (t) => {
     assert.throws(start({ pattern: protocolName('NNpsk0') }), refused(code.PSK_COUNT));
     assert.throws(start({ pattern: protocolName('NN'), prologue: new Uint8Array(65536) }), refused(code.LENGTH));
     assert.throws(start({ pattern: protocolName('NN'), prologue: 'text' }), TypeError);
+    const psk = new Uint8Array(32);
+    assert.throws(start({ pattern: 'NNpsk0+psk2', psks: [psk] }), refused(code.PSK_COUNT));
+    assert.throws(start({ pattern: 'NN', pskFor: () => psk }), refused(code.PSK_COUNT));
+    assert.throws(start({ pattern: 'NNpsk0', psks: [psk], pskFor: () => psk }), TypeError);
+    assert.throws(start({ pattern: 'NNpsk0', pskFor: psk }), TypeError);
+  });
+
+  // A server that has a secret with each of two clients, and where a client that has the other's secret is refused: by whom, at which token.
+  for (const [pattern, reader, at] of [['XXpsk3', 'responder', 3], ['IKpsk2', 'initiator', 4], ['IKpsk1', 'responder', 5]]) {
+    await t.test(`${pattern}: each peer has its secret`, async () => {
+      const clients = await Promise.all([1, 2, 3].map(() => KeyPair.generate()));
+      const secrets = new Map(clients.slice(0, 2).map(({ publicKey }, n) => [publicKey.toString(), new Uint8Array(32).fill(n + 1)]));
+      const unknown = new Error('unknown');
+      const pskFor = async (key) => {
+        if (!secrets.has(key.toString())) throw unknown;
+        return secrets.get(key.toString());
+      };
+      const run = async (staticKey, secret) => {
+        const it = await parties(pattern, { initiator: { staticKey, psks: [secret] }, responder: { psks: undefined, pskFor } });
+        await pass(it);
+        assert.deepEqual(it.responder.remoteStatic, staticKey.publicKey);
+        const [a, b] = [it.initiator.finish(), it.responder.finish()];
+        assert.deepEqual(b.open(a.seal(text('hello'))), text('hello'));
+      };
+      await run(clients[0], new Uint8Array(32).fill(1));
+      await run(clients[1], new Uint8Array(32).fill(2));
+      await assert.rejects(run(clients[2], new Uint8Array(32)), unknown);
+      const it = await parties(pattern, { initiator: { staticKey: clients[0], psks: [new Uint8Array(32).fill(2)] }, responder: { psks: undefined, pskFor } });
+      await assert.rejects(pass(it), refused(code.TAG, at));
+      assert.equal(it[reader].stage.ended, true);
+    });
+  }
+
+  await t.test('a channel whose secret is chosen by the other party’s key', async () => {
+    const [up, down] = [new TransformStream(), new TransformStream()];
+    const socket = { readable: up.readable, writable: down.writable };
+    const [client, staticKey] = [await KeyPair.generate(), await KeyPair.generate()];
+    const secrets = new Map([[client.publicKey.toString(), new Uint8Array(32).fill(7)]]);
+    const accept = async () => {
+      const pskFor = async (remoteStatic) => {
+        const secret = secrets.get(remoteStatic.toString());
+        if (!secret) throw new Error('not on the list');
+        return secret;
+      };
+      const channel = await NoiseSocket.open(socket, { pattern: 'XXpsk3', responder: true, staticKey, pskFor });
+      return channel.receive();
+    };
+    const options = { pattern: 'XXpsk3', staticKey: client, psks: [new Uint8Array(32).fill(7)] };
+    const [received] = await Promise.all([accept(), NoiseSocket.open({ readable: down.readable, writable: up.writable }, options).then((a) => a.send(text('hello')))]);
+    assert.deepEqual(received, text('hello'));
+  });
+
+  await t.test('a secret that is chosen too early, or of another length', async () => {
+    const early = new Handshake({ pattern: 'NNpsk0', pskFor: () => new Uint8Array(32) });
+    await assert.rejects(early.write(), refused(code.WANTED_PSK));
+    const it = await parties('IKpsk2', { responder: { psks: undefined, pskFor: () => new Uint8Array(31) } });
+    await it.responder.read(await it.initiator.write());
+    await assert.rejects(it.responder.write(), TypeError);
+    assert.equal(it.responder.stage.ended, false);
   });
 
   await t.test('a changed message ends the handshake at its token, and a second call is refused', async () => {

@@ -1,4 +1,4 @@
-// The module against the vector files of examples/ that say what has to be printed; those lines were computed by a program of another kind.
+// The module against the vector files of examples/vectors/ that say what has to be printed; those lines were computed by a program of another kind.
 import { readFileSync, readdirSync } from 'node:fs';
 import test from 'node:test';
 import assert from 'node:assert/strict';
@@ -12,7 +12,7 @@ const ELSEWHERE = {
 };
 
 await load();
-const folder = new URL('../../../examples/', import.meta.url);
+const folder = new URL('../../../examples/vectors/', import.meta.url);
 let count = 0;
 for (const name of readdirSync(folder).filter((it) => it.endsWith('.vector')).sort()) {
   const file = parse(readFileSync(new URL(name, folder), 'utf8'));

@@ -1,5 +1,6 @@
 // One end over TCP: echo PATTERN OWN_SECRET PEER_KEY PSK ADDRESS. It connects as the initiator, sends 128 KiB, and wants them back; where ADDRESS
-// begins with '@' it listens there, prints the address, and sends back what it reads. PSK is '-' if there is none.
+// begins with '@' it listens there, prints the address, and sends back what it reads. PSK is '-' if there is none; "KEY=SECRET,.." has the secrets that a
+// listener chooses by the other party's key.
 use std::io::{self, Read, Write};
 use std::net::{TcpListener, TcpStream};
 use yulimosar::{Builder, KeyPair, Stream};
@@ -20,7 +21,9 @@ fn main() -> io::Result<()> {
     };
     let listens = address.strip_prefix('@');
     let (own, peer) = (KeyPair::from_secret(&bytes32(secret))?, bytes32(peer));
-    let psk = if psk == "-" { None } else { Some(bytes32(psk)) };
+    let secrets: Vec<([u8; 32], [u8; 32])> =
+        psk.split(',').filter_map(|it| it.split_once('=')).map(|(key, it)| (bytes32(key), bytes32(it))).collect();
+    let psk = if psk == "-" || !secrets.is_empty() { None } else { Some(bytes32(psk)) };
     let mut builder = Builder::new(pattern).prologue(b"live").static_key(own);
     let letters = pattern.split("psk").next().unwrap_or_default().as_bytes();
     if letters[if listens.is_some() { 0 } else { letters.len() - 1 }] == b'K' || letters.len() == 1 && listens.is_none() {
@@ -34,7 +37,14 @@ fn main() -> io::Result<()> {
         Some(address) => {
             let listener = TcpListener::bind(address)?;
             println!("{}", listener.local_addr()?);
-            echo(Stream::anonymous(listener.accept()?.0, builder.responder::<KeyPair>()?)?, letters.len() == 1)
+            let below = listener.accept()?.0;
+            let stream = if secrets.is_empty() {
+                Stream::anonymous(below, builder.responder::<KeyPair>()?)?
+            } else {
+                let secret_of = |key: &[u8; 32]| secrets.iter().find(|(known, _)| known == key).map(|(_, secret)| *secret);
+                Stream::with_psk_for(below, builder.late_psks().responder::<KeyPair>()?, secret_of)?
+            };
+            echo(stream, letters.len() == 1)
         }
     }
 }

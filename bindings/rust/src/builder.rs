@@ -26,6 +26,7 @@ pub struct Builder<'a, S: Dh = NoKey> {
     remote_static: Option<[u8; 32]>,
     psks: [Option<&'a [u8; 32]>; MAX_PSKS],
     psk_count: usize,
+    late_psks: bool,
     interval: u64,
 }
 
@@ -33,7 +34,7 @@ impl<'a> Builder<'a, NoKey> {
     /// A handshake of this pattern: a protocol name, as `Noise_XX_25519_ChaChaPoly_SHA256`; the name of a pattern alone, as `XXpsk3`; or the
     /// text of your own pattern, whose last byte is a line feed.
     pub fn new(pattern: &'a str) -> Self {
-        Builder { pattern, prologue: &[], static_key: None, remote_static: None, psks: [None; MAX_PSKS], psk_count: 0, interval: 0 }
+        Builder { pattern, prologue: &[], static_key: None, remote_static: None, psks: [None; MAX_PSKS], psk_count: 0, late_psks: false, interval: 0 }
     }
 }
 
@@ -46,8 +47,8 @@ impl<'a, S: Dh> Builder<'a, S> {
 
     /// This party's static key pair.
     pub fn static_key<T: Dh>(self, key: T) -> Builder<'a, T> {
-        let Builder { pattern, prologue, static_key: _, remote_static, psks, psk_count, interval } = self;
-        Builder { pattern, prologue, static_key: Some(key), remote_static, psks, psk_count, interval }
+        let Builder { pattern, prologue, static_key: _, remote_static, psks, psk_count, late_psks, interval } = self;
+        Builder { pattern, prologue, static_key: Some(key), remote_static, psks, psk_count, late_psks, interval }
     }
 
     /// The other party's static key, if the pattern needs it beforehand, as the responder's in IK.
@@ -62,6 +63,13 @@ impl<'a, S: Dh> Builder<'a, S> {
             *place = Some(secret);
         }
         self.psk_count += 1;
+        self
+    }
+
+    /// The secrets of the psk tokens for which `psk` gives none come when their tokens do, chosen by the other party's static key: by
+    /// `Stream::with_psk_for` or `Handshake::set_psk`.
+    pub fn late_psks(mut self) -> Self {
+        self.late_psks = true;
         self
     }
 
@@ -101,6 +109,7 @@ impl<'a, S: Dh> Builder<'a, S> {
         };
         let mut memory = raw::Handshake::new();
         match start(&mut memory, self.pattern, self.prologue, &setup) {
+            OK if memory.lacks_psk() != self.late_psks => Err(Error::PskCount),
             OK => Ok(Handshake::begun(memory, self.static_key, ephemeral, self.interval)),
             code => Err(Error::of(code, None)),
         }

@@ -24,8 +24,13 @@ pub enum Error {
     RemoteMissing,
     /// The other party's static key isn't in a pre-message of the pattern.
     RemoteUnexpected,
-    /// The number of secrets isn't the number of psk tokens: `Builder::psk`.
+    /// The number of secrets isn't the number of psk tokens: `Builder::psk`, `Builder::late_psks`, `Handshake::set_psk`.
     PskCount,
+    /// The message that is due needs the secret of a psk token: pass it to `Handshake::set_psk`, and make the same call again.
+    WantedPsk {
+        /// The other party's static key, if it is known. It hasn't shown yet that it has the secret key.
+        remote_static: Option<[u8; 32]>,
+    },
     /// It is the other party's turn.
     NotYourTurn,
     /// The message would be too long, or is.
@@ -105,7 +110,8 @@ impl fmt::Display for Error {
             Error::StaticMissing => "the pattern needs a static key of this party: Builder::static_key",
             Error::RemoteMissing => "the pattern needs the other party's static key beforehand: Builder::remote_static",
             Error::RemoteUnexpected => "the other party's static key isn't in a pre-message of the pattern: Builder::remote_static",
-            Error::PskCount => "the number of secrets isn't the number of psk tokens: Builder::psk",
+            Error::PskCount => "the number of secrets isn't the number of psk tokens: Builder::psk, Builder::late_psks",
+            Error::WantedPsk { .. } => "the message needs the secret of a psk token: Handshake::set_psk",
             Error::NotYourTurn => "it is the other party's turn",
             Error::TooLong => "the message would be too long, or is",
             Error::Done => "all messages of the handshake have passed",

@@ -1,4 +1,4 @@
-use crate::header::{OK, WANTED};
+use crate::header::{OK, WANTED, WANTED_PSK};
 use crate::raw::{self, Told};
 use crate::{Datagrams, Dh, Ephemeral, Error, Transport};
 
@@ -35,25 +35,28 @@ impl<S: Dh, E: Ephemeral> Handshake<S, E> {
         Handshake { memory, static_key, ephemeral, interval }
     }
 
-    /// Writes the next message, with this payload, to the start of `out`, and returns its length. At an error nothing is changed.
+    /// Writes the next message, with this payload, to the start of `out`, and returns its length. At an error, as `WantedPsk`, nothing is changed.
     pub fn write(&mut self, payload: &[u8], out: &mut [u8]) -> Result<usize, Error> {
         let mut told = Told::default();
         loop {
             match self.memory.write(payload, out, &mut told) {
                 OK => return Ok(told.len),
                 WANTED => self.answer(&told)?,
+                WANTED_PSK => return Err(told.wanted_psk()),
                 code => return Err(Error::of(code, None)),
             }
         }
     }
 
-    /// Reads the message that is due, in place, and returns its payload. `Short` and `Tag` end the handshake; otherwise an error changes nothing.
+    /// Reads the message that is due, in place, and returns its payload. `Short` and `Tag` end the handshake; otherwise an error, as `WantedPsk`,
+    /// changes nothing.
     pub fn read<'m>(&mut self, message: &'m mut [u8]) -> Result<&'m mut [u8], Error> {
         let mut told = Told::default();
         loop {
             match self.memory.read(message, &mut told) {
                 OK => return Ok(&mut message[told.from..told.from + told.len]),
                 WANTED => self.answer(&told)?,
+                WANTED_PSK => return Err(told.wanted_psk()),
                 code => return Err(Error::of(code, Some(told.token))),
             }
         }
@@ -72,6 +75,43 @@ impl<S: Dh, E: Ephemeral> Handshake<S, E> {
             OK => Ok(()),
             code => Err(Error::of(code, None)),
         }
+    }
+
+    /// Passes the secret of the first psk token that has none: after `WantedPsk`, or before. `PskCount`: no token that is still to come lacks its
+    /// secret. A secret that was passed can't be replaced: if it is wrong, the other party's message is refused with `Tag`.
+    ///
+    #[cfg_attr(feature = "openssl", doc = "```")]
+    #[cfg_attr(not(feature = "openssl"), doc = "```ignore")]
+    /// # fn main() -> Result<(), yulimosar::Error> {
+    /// use yulimosar::{Builder, Error, KeyPair};
+    ///
+    /// let (client_key, server_key) = (KeyPair::generate()?, KeyPair::generate()?);
+    /// let secrets = std::collections::HashMap::from([(*client_key.public_key(), [7; 32])]);
+    /// let mut client = Builder::new("XXpsk3").static_key(client_key).psk(&[7; 32]).initiator::<KeyPair>()?;
+    /// let mut server = Builder::new("XXpsk3").static_key(server_key).late_psks().responder::<KeyPair>()?;
+    /// let mut message = [0; 100];
+    /// let len = client.write(b"", &mut message)?;
+    /// server.read(&mut message[..len])?;
+    /// let len = server.write(b"", &mut message)?;
+    /// client.read(&mut message[..len])?;
+    /// let len = client.write(b"", &mut message)?;
+    /// if let Err(Error::WantedPsk { remote_static: Some(key) }) = server.read(&mut message[..len]) {
+    ///     server.set_psk(secrets.get(&key).ok_or(Error::Refused)?)?;
+    ///     server.read(&mut message[..len])?; // the same message again
+    /// }
+    /// assert_eq!(client.hash(), server.hash());
+    /// # Ok(()) }
+    /// ```
+    pub fn set_psk(&mut self, secret: &[u8; 32]) -> Result<(), Error> {
+        match self.memory.set_psk(secret) {
+            OK => Ok(()),
+            code => Err(Error::of(code, None)),
+        }
+    }
+
+    /// Whether a psk token that is still to come lacks its secret.
+    pub fn lacks_psk(&self) -> bool {
+        self.memory.lacks_psk()
     }
 
     /// How many bytes the next message has with a payload of this length; `None` if `write` wouldn't accept it now.
@@ -117,5 +157,11 @@ impl<S: Dh, E: Ephemeral> Handshake<S, E> {
             OK => Ok(Datagrams::of(memory)),
             code => Err(Error::of(code, None)),
         }
+    }
+}
+
+impl Told {
+    fn wanted_psk(&self) -> Error {
+        Error::WantedPsk { remote_static: Some(self.remote).filter(|_| self.remote_known != 0) }
     }
 }

@@ -43,6 +43,7 @@ pub(crate) struct Told {
     pub(crate) token: u8,
     pub(crate) of_static: u8,
     pub(crate) remote: [u8; KEY_LEN],
+    pub(crate) remote_known: u8,
 }
 
 #[repr(C)]
@@ -57,6 +58,7 @@ pub(crate) struct Stage {
 extern "C" {
     fn noise_start(h: *mut Handshake, pattern: *const u8, pattern_len: usize, prologue: *const u8, prologue_len: usize, setup: *const Setup) -> u32;
     fn noise_answer(h: *mut Handshake, of_static: u8, remote: *const u8, answer: *const u8) -> u32;
+    fn noise_set_psk(h: *mut Handshake, psk: *const u8) -> u32;
     fn noise_write(h: *mut Handshake, payload: *const u8, payload_len: usize, out: *mut u8, out_len: usize, told: *mut Told) -> u32;
     fn noise_read(h: *mut Handshake, message: *mut u8, message_len: usize, told: *mut Told) -> u32;
     fn noise_message_len(h: *const Handshake, payload_len: usize, len: *mut usize) -> u32;
@@ -105,6 +107,16 @@ impl Handshake {
     pub(crate) fn answer(&mut self, of_static: u8, remote: &[u8; KEY_LEN], answer: &[u8; KEY_LEN]) -> u32 {
         // SAFETY: see above.
         unsafe { noise_answer(self, of_static, remote.as_ptr(), answer.as_ptr()) }
+    }
+
+    pub(crate) fn set_psk(&mut self, psk: &[u8; KEY_LEN]) -> u32 {
+        // SAFETY: see above.
+        unsafe { noise_set_psk(self, psk.as_ptr()) }
+    }
+
+    // Whether a psk token that is still to come lacks its secret: a copy, which is dropped, takes one more.
+    pub(crate) fn lacks_psk(&self) -> bool {
+        Handshake(self.0).set_psk(&[0; KEY_LEN]) == OK
     }
 
     pub(crate) fn write(&mut self, payload: &[u8], out: &mut [u8], told: &mut Told) -> u32 {

@@ -192,10 +192,58 @@ impl<T: Read + Write> Stream<T> {
         Ok(Stream::pass(below, handshake, |_| true)?.0)
     }
 
-    fn pass<S: Dh, E: Ephemeral>(
+    /// Runs a handshake of [`Builder::late_psks`](crate::Builder::late_psks). At a psk token that lacks its secret `psk_for` is called with the other
+    /// party's static key, and returns the secret that this party shares with its owner, or `None` to refuse that party: nothing more is sent then. A
+    /// pattern that doesn't give that key before the token is refused with `WantedPsk`.
+    ///
+    /// The other party hasn't shown yet that it has the secret key: so choose the secret, and do nothing else. 32 random bytes for a key that you don't
+    /// know, in place of `None`, don't tell which keys you know.
+    ///
+    #[cfg_attr(feature = "openssl", doc = "```")]
+    #[cfg_attr(not(feature = "openssl"), doc = "```ignore")]
+    /// # fn main() -> std::io::Result<()> {
+    /// use std::collections::HashMap;
+    /// use std::os::unix::net::UnixStream;
+    /// use yulimosar::{Builder, KeyPair, Stream};
+    ///
+    /// let (here, there) = UnixStream::pair()?;
+    /// let (client, server) = (KeyPair::generate()?, KeyPair::generate()?);
+    /// let client_key = *client.public_key();
+    /// let secrets = HashMap::from([(client_key, [7; 32])]);
+    /// let server = std::thread::spawn(move || {
+    ///     let handshake = Builder::new("XXpsk3").static_key(server).late_psks().responder::<KeyPair>()?;
+    ///     Stream::with_psk_for(there, handshake, |key| secrets.get(key).copied())
+    /// });
+    /// let handshake = Builder::new("XXpsk3").static_key(client).psk(&[7; 32]).initiator::<KeyPair>()?;
+    /// let client = Stream::anonymous(here, handshake)?;
+    /// let server = server.join().unwrap()?;
+    /// assert_eq!(server.remote_static(), Some(&client_key));
+    /// assert_eq!(client.hash(), server.hash());
+    /// # Ok(()) }
+    /// ```
+    pub fn with_psk_for<S: Dh, E: Ephemeral>(
+        below: T,
+        handshake: Handshake<S, E>,
+        psk_for: impl FnMut(&[u8; 32]) -> Option<[u8; 32]>,
+    ) -> io::Result<Stream<T>> {
+        if !handshake.lacks_psk() {
+            return Err(Error::PskCount.into());
+        }
+        Ok(Stream::run(below, handshake, |_| true, psk_for)?.0)
+    }
+
+    fn pass<S: Dh, E: Ephemeral>(below: T, handshake: Handshake<S, E>, accept: impl FnOnce(&[u8; 32]) -> bool) -> io::Result<(Stream<T>, bool)> {
+        if handshake.lacks_psk() {
+            return Err(Error::PskCount.into());
+        }
+        Stream::run(below, handshake, accept, |_| None)
+    }
+
+    fn run<S: Dh, E: Ephemeral>(
         mut below: T,
         mut handshake: Handshake<S, E>,
         accept: impl FnOnce(&[u8; 32]) -> bool,
+        mut psk_for: impl FnMut(&[u8; 32]) -> Option<[u8; 32]>,
     ) -> io::Result<(Stream<T>, bool)> {
         let mut accept = Some(accept);
         let (mut frames, mut out) = (Frames::default(), vec![0; 2]);
@@ -210,13 +258,13 @@ impl<T: Read + Write> Stream<T> {
             }
             if handshake.writes_next() {
                 out.resize(2 + handshake.message_len(0).ok_or(Error::TooLong)?, 0);
-                let len = handshake.write(&[], &mut out[2..])?;
+                let len = choosing(&mut handshake, &mut psk_for, |handshake| handshake.write(&[], &mut out[2..]))?;
                 out[..2].copy_from_slice(&(len as u16).to_be_bytes());
                 below.write_all(&out)?;
                 below.flush()?;
             } else {
                 let end = frames.next(&mut below)?;
-                handshake.read(&mut frames.buffer[2..end])?;
+                choosing(&mut handshake, &mut psk_for, |handshake| handshake.read(&mut frames.buffer[2..end]).map(drop))?;
             }
         }
         let (hash, remote_static) = (handshake.hash(), handshake.remote_static());
@@ -224,6 +272,25 @@ impl<T: Read + Write> Stream<T> {
         let reading = Reading { receiver, frames, rest: (0, 0), ended: None };
         let writing = Writing { sender, frame: Vec::new(), ended: false, broken: false };
         Ok((Stream { below, reading, writing, hash, remote_static }, accept.is_none()))
+    }
+}
+
+// Makes a call of a handshake, and passes the secrets that it asks for.
+fn choosing<S: Dh, E: Ephemeral, R>(
+    handshake: &mut Handshake<S, E>,
+    psk_for: &mut impl FnMut(&[u8; 32]) -> Option<[u8; 32]>,
+    mut call: impl FnMut(&mut Handshake<S, E>) -> Result<R, Error>,
+) -> Result<R, Error> {
+    loop {
+        match call(handshake) {
+            Err(Error::WantedPsk { remote_static: Some(key) }) => {
+                let mut secret = psk_for(&key).ok_or(Error::Refused)?;
+                let passed = handshake.set_psk(&secret);
+                wipe(&mut secret);
+                passed?;
+            }
+            answer => return answer,
+        }
     }
 }
 

@@ -92,6 +92,10 @@ fn builds_are_refused() {
     assert_eq!(fault(Builder::new("NK").static_key(Toy(3))), Error::RemoteMissing);
     assert_eq!(fault(own().remote_static(&[1; 32])), Error::RemoteUnexpected);
     assert_eq!(fault(own().psk(&PSK)), Error::PskCount);
+    assert_eq!(fault(own().late_psks()), Error::PskCount);
+    assert_eq!(fault(Builder::new("NNpsk0").static_key(Toy(3))), Error::PskCount);
+    assert_eq!(fault(Builder::new("NNpsk0+psk2").static_key(Toy(3)).psk(&PSK)), Error::PskCount);
+    assert_eq!(fault(Builder::new("NNpsk0").static_key(Toy(3)).psk(&PSK).late_psks()), Error::PskCount);
     assert_eq!(fault((0..300).fold(own(), |builder, _| builder.psk(&PSK))), Error::PskCount);
     assert_eq!(fault(own().prologue(&[0; 65536])), Error::TooLong);
 }
@@ -212,6 +216,78 @@ fn the_other_key_is_judged() {
     let refused = Stream::new(a, client, |_| false).err().unwrap();
     assert_eq!(refused.get_ref().unwrap().to_string(), Error::Refused.to_string());
     assert_eq!(server.join().unwrap(), Some(ErrorKind::ConnectionAborted));
+}
+
+// A server that has the secrets [1; 32] and [2; 32] with the clients Toy(11) and Toy(13).
+fn choose(key: &[u8; 32]) -> Option<[u8; 32]> {
+    [([11; 32], [1; 32]), ([13; 32], [2; 32])].into_iter().find(|(known, _)| known == key).map(|(_, secret)| secret)
+}
+
+fn client_and_late_server(pattern: &str, key: Toy, secret: &[u8; 32]) -> (Party, Party) {
+    let mut client = Builder::new(pattern).static_key(key).psk(secret);
+    if pattern.starts_with("IK") {
+        client = client.remote_static(&[5; 32]);
+    }
+    (client.initiator().unwrap(), Builder::new(pattern).static_key(Toy(5)).late_psks().responder().unwrap())
+}
+
+#[test]
+fn each_peer_has_its_secret() {
+    // The pattern, and whether the server reads the message that has the secret, and its last token.
+    for (pattern, reads, token) in [("XXpsk3", true, 3), ("IKpsk2", false, 4), ("IKpsk1", true, 5)] {
+        let run = |key, secret| {
+            let ((a, b), (client, server)) = (tcp(), client_and_late_server(pattern, key, &secret));
+            let server = std::thread::spawn(move || Stream::with_psk_for(b, server, choose));
+            (Stream::new(a, client, |key| key == &[5; 32]), server.join().unwrap())
+        };
+        for (key, secret) in [(Toy(11), [1; 32]), (Toy(13), [2; 32])] {
+            let (client, server) = run(key, secret);
+            let (mut client, mut server) = (client.unwrap(), server.unwrap());
+            assert_eq!(server.remote_static(), Some(&key.public()));
+            client.write_all(b"hello").unwrap();
+            let mut said = [0; 5];
+            server.read_exact(&mut said).unwrap();
+            assert_eq!(&said, b"hello");
+        }
+        let inner = |error: Option<io::Error>| *error.unwrap().get_ref().unwrap().downcast_ref::<Error>().unwrap();
+        let (client, server) = run(Toy(15), [1; 32]);
+        assert_eq!(inner(server.err()), Error::Refused);
+        // No message 2 came.
+        assert!(reads || client.err().unwrap().kind() == ErrorKind::ConnectionAborted);
+        let (client, server) = run(Toy(11), [2; 32]);
+        assert_eq!(inner(if reads { server.err() } else { client.err() }), Error::Tag { token: Some(token) });
+    }
+}
+
+#[test]
+fn a_wanted_secret_changes_nothing() {
+    let (mut client, mut server) = client_and_late_server("IKpsk1", Toy(11), &[1; 32]);
+    let mut message = [0; 200];
+    let len = client.write(b"payload", &mut message).unwrap();
+    let sent = message;
+    for _ in 0..20 {
+        assert_eq!(server.read(&mut message[..len]), Err(Error::WantedPsk { remote_static: Some([11; 32]) }));
+        assert_eq!(message, sent);
+    }
+    assert!(server.lacks_psk());
+    server.set_psk(&[1; 32]).unwrap();
+    assert!(!server.lacks_psk());
+    assert_eq!(server.set_psk(&[1; 32]), Err(Error::PskCount));
+    assert_eq!(server.read(&mut message[..len]).unwrap(), b"payload");
+    assert_eq!(client.hash(), server.hash());
+    let mut first = Builder::new("NNpsk0").late_psks().initiator::<Toy>().unwrap();
+    assert_eq!(first.write(b"", &mut message), Err(Error::WantedPsk { remote_static: None }));
+}
+
+#[test]
+fn a_stream_has_all_secrets_or_asks_for_them() {
+    let begun = || client_and_late_server("XXpsk3", Toy(11), &[1; 32]);
+    let inner = |stream: io::Result<Stream<Script>>| *stream.err().unwrap().get_ref().unwrap().downcast_ref::<Error>().unwrap();
+    assert_eq!(inner(Stream::new(Script(&[]), begun().1, |_| true)), Error::PskCount);
+    assert_eq!(inner(Stream::anonymous(Script(&[]), begun().1)), Error::PskCount);
+    assert_eq!(inner(Stream::with_psk_for(Script(&[]), begun().0, choose)), Error::PskCount);
+    let early = Builder::new("NNpsk0").late_psks().initiator::<Toy>().unwrap();
+    assert_eq!(inner(Stream::with_psk_for(Script(&[]), early, choose)), Error::WantedPsk { remote_static: None });
 }
 
 // A stream that has these bytes to read.

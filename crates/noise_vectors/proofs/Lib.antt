@@ -9,6 +9,8 @@ pub mod LackLemmas
 pub mod LineLemmas
 pub mod PartyLemmas
 pub mod ReadingLemmas
+pub mod ToldFiles
+pub mod ToldLemmas
 pub mod UniqueLines
 pub mod UniqueTexts
 pub mod UniqueWords

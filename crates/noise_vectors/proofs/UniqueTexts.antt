@@ -76,6 +76,18 @@ patterns-one once p q u v h k e =
     lp.lines_are ∙ ap (λ (xs : List (List ℕ)). lines_of Blocks.itself xs []) parts.0 ∙ sym lq.lines_are in
     (once (pattern_text p) p q (record { is_pattern = h; spelled = refl }) (record { is_pattern = k; spelled = same }), parts.1)
 
+-- what follows the pattern is one, whatever it is
+pub blocks-after : (name : Section) (a b : Option Plan) (u v : List ℕ) → IsOwn name a → IsOwn name b → block_text a u ≡ block_text b v → u ≡ v
+blocks-after name None None u v h k e = e
+blocks-after name None (Some q) u v h k e = absurd (cc (h.0.1 (k.0.0 refl)))
+blocks-after name (Some p) None u v h k e = absurd (cc (k.0.1 (h.0.0 refl)))
+blocks-after name (Some p) (Some q) u v h k e =
+    let lp = lined-pattern p h.1.0 in
+    let lq = lined-pattern q k.1.0 in
+    let whole = sym (block-lines p h.1.0 u (pattern_text p ++ line (codes "end") u) refl) ∙ e
+    ∙ block-lines q k.1.0 v (pattern_text q ++ line (codes "end") v) refl in
+    (inner-one lp.before lq.before u v lp.inner lq.inner whole).1
+
 -- of one name, both files spell a pattern, or none does
 blocks-one : PatternsOnce → (name : Section) (a b : Option Plan) (u v : List ℕ) → IsOwn name a → IsOwn name b → block_text a u ≡ block_text b v
     → (a ≡ b) × (u ≡ v)
@@ -161,7 +173,7 @@ expected-no_datagram (x ∷ xs) = refl
 
 -- ---- versions
 
-header-plain : (version : Version) → lacks 10 (header_words (is_second version)) ≡ true
+pub header-plain : (version : Version) → lacks 10 (header_words (is_second version)) ≡ true
 header-plain One = refl
 header-plain (Two additions) = refl
 

@@ -1,6 +1,6 @@
 -- Where a byte stands first, and what decimal numbers look like.
 use Rattle.std.proofs.Common.{arith, ◌≡◌, ◌∙◌, ◌+◌, ◌-◌, ◌<◌, ◌≤◌, ◌^◌, ◌==◌, not, true, false, ap, refl, sym, add-one, eq-eqb, lit<}
-use Rattle.std.proofs.Common.{ℕ, zero, suc, List, [], ◌∷◌, ◌++◌, Some, None, length, get_or, take, drop}
+use Rattle.std.proofs.Common.{ℕ, zero, suc, List, [], ◌∷◌, ◌++◌, Some, None, length, get_or, take, drop, Bool, inl, inr, subst, ◌⊎◌}
 use Rattle.std.specs.Prelude.{decimal, position}
 use Rattle.std.specs.List.{prefix_len}
 use Rattle.std.specs.Str.Parse.{AllDigits}
@@ -81,6 +81,46 @@ not_lacks byte [] after h =
 not_lacks byte (b ∷ bs) after h =
     let parts = and_parts (not (b == byte)) (lacks byte (bs ++ byte ∷ after)) h in
     not_lacks byte bs after parts.1
+
+-- a text that is parted by its first such byte
+pub record Parted (byte : ℕ) (text : List ℕ) : Type 0 where
+  pub before : List ℕ
+  pub after : List ℕ
+  pub plain : lacks byte before ≡ true
+  pub text_is : text ≡ before ++ byte ∷ after
+
+parted-step : (byte b : ℕ) (bs : List ℕ) (test : Bool) → (b == byte) ≡ test → (lacks byte bs ≡ true) ⊎ Parted byte bs
+    → (lacks byte (b ∷ bs) ≡ true) ⊎ Parted byte (b ∷ bs)
+parted-step byte b bs true e rest =
+    inr (record { before = []; after = bs; plain = refl; text_is = ap (λ (n : ℕ). n ∷ bs) (eqb-true b byte e) })
+parted-step byte b bs false e (inl h) = inl (rw (e, h) refl)
+parted-step byte b bs false e (inr s) =
+    inr (record { before = b ∷ s.before; after = s.after; plain = rw (e, s.plain) refl; text_is = ap (λ (t : List ℕ). b ∷ t) s.text_is })
+
+-- a text lacks the byte, or is parted by it
+lacks-or : (byte : ℕ) (text : List ℕ) → (lacks byte text ≡ true) ⊎ Parted byte text
+lacks-or byte [] = inl refl
+lacks-or byte (b ∷ bs) = parted-step byte b bs (b == byte) refl (lacks-or byte bs)
+
+-- without a place the text lacks the byte
+pub lacks-no_place : (byte : ℕ) (text : List ℕ) → None ≡ position (λ b. b == byte) text → lacks byte text ≡ true
+lacks-no_place byte text none =
+    elim (lacks-or byte text) [
+      | inl h ↦ h
+      | inr s ↦ absurd (no-place byte text s.before s.after none s.plain s.text_is)
+    ]
+
+-- what comes before the first place lacks the byte
+pub lacks-front : (byte : ℕ) (text : List ℕ) (place : ℕ) → Some place ≡ position (λ b. b == byte) text → lacks byte (take place text) ≡ true
+lacks-front byte text place found =
+    elim (lacks-or byte text) [
+      | inl h ↦ absurd (not_lacks byte (take place text) (take (length text - (place + 1)) (drop (place + 1) text))
+          (subst (λ (t : List ℕ). lacks byte t ≡ true) (parts-at byte text place found) h))
+      | inr s ↦
+          let at = place-first byte text s.before s.after place found s.plain s.text_is in
+          let parts = parted byte text s.before s.after place s.text_is at in
+          subst (λ (t : List ℕ). lacks byte t ≡ true) (sym parts.0) s.plain
+    ]
 
 -- ---- decimal numbers
 

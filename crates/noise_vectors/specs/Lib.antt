@@ -8,3 +8,4 @@ pub mod SameFile
 pub mod VectorFile
 pub mod VectorText
 pub mod Words
+pub mod WrongLine

@@ -4,6 +4,7 @@ ghost use Rattle.std.specs.Prelude.{◌≡◌, ℕ, List, Option, Some, None, Bo
 ghost use Rattle.std.specs.List.{All};
 ghost use Rattle.noise_events.specs.declared.window.Window.{Window};
 ghost use Rattle.noise_vectors.specs.VectorFile.{IsAllowedVersion, IsDatagramEvent, IsVersion};
+ghost use Rattle.noise_vectors.specs.WrongLine.{IsLater};
 ghost use Rattle.noise_vectors.specs.VectorText.{AfterDatagrams, datagrams_text, is_second, version_text, window_words};
 ghost use Rattle.noise_vectors.specs.declared.faults.VectorFault.TheVariants.{Memory};
 ghost use Rattle.noise_vectors.specs.declared.vector.AllowedEvents.TheVariants.{SayOnly, VersionOne};
@@ -31,6 +32,7 @@ pub(crate) fn read_version(
     ensures which { IfOk result (λ version. is_second version ≡ second) }
     ensures right { IfOk result IsVersion }
     ensures allowed { IfOk result (IsAllowedVersion allowed) }
+    ensures later { IfErr result IsLater }
     ensures every { (version : Version) → IsVersion version → IsAllowedVersion allowed version → is_second version ≡ second
         → lines.old.rest.now ≡ version_text version
         → IfErr result (λ fault. fault ≡ Memory) }
@@ -59,6 +61,7 @@ fn read_datagrams(
     ensures text { IfOk result (λ found. lines.old.rest.now ≡ datagrams_text found lines.new.rest.now) }
     ensures right { IfOk result (λ found. IfSome found (λ over. All IsDatagramEvent over.events.items)) }
     ensures allowed { IfOk result (λ found. allowed ≡ SayOnly → found ≡ None) }
+    ensures later { IfErr result IsLater }
     ensures every { (over : Option FileDatagrams) (rest : List ℕ) → IfSome over (λ over. All IsDatagramEvent over.events.items)
         → (allowed ≡ SayOnly → over ≡ None) → AfterDatagrams rest → lines.old.rest.now ≡ datagrams_text over rest
         → MatchResult result (λ found. lines.new.rest.now ≡ rest) (λ fault. fault ≡ Memory) }

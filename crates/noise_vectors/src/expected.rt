@@ -4,6 +4,7 @@ ghost use Rattle.std.specs.Prelude.{◌≡◌, ◌++◌, ◌↔◌, ◌≤◌, [
 ghost use Rattle.std.specs.Global.{Global};
 ghost use Rattle.std.specs.List.{All};
 ghost use Rattle.noise_vectors.specs.VectorFile.{IsExpected};
+ghost use Rattle.noise_vectors.specs.WrongLine.{IsLater};
 ghost use Rattle.noise_vectors.specs.VectorText.{expect_words, lines_of};
 ghost use Rattle.noise_vectors.specs.declared.faults.VectorFault.TheVariants.{Memory};
 
@@ -18,6 +19,7 @@ pub(crate) fn read_expected(
 ) -> Result<Vec<Vec<u8>>, VectorFault>
     ensures text { IfOk result (λ expected. lines.old.rest.now ≡ lines_of expect_words expected.items []) }
     ensures right { IfOk result (λ expected. All (λ words. IsExpected words.items) expected.items) }
+    ensures later { IfErr result IsLater }
     ensures every { (expected : List (Vec ℕ Global)) → All (λ words. IsExpected words.items) expected
         → lines.old.rest.now ≡ lines_of expect_words expected []
         → IfErr result (λ fault. fault ≡ Memory) }

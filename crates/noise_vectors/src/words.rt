@@ -1,6 +1,6 @@
 //! The words in the lines of a vector file.
 
-ghost use Rattle.std.specs.Prelude.{◌≡◌, ◌↔◌, ◌<◌, ◌≤◌, ◌^◌, ◌==◌, ℕ, List, ◌∷◌, ◌++◌, Option, Some, decimal, length, position, slice_index, vec_len};
+ghost use Rattle.std.specs.Prelude.{◌≡◌, ◌↔◌, ◌<◌, ◌≤◌, ◌^◌, ◌==◌, ℕ, List, ◌∷◌, ◌++◌, Option, Some, None, decimal, length, position, slice_index, vec_len};
 ghost use Rattle.std.specs.Prelude.{IfOk, IfSome, IsSome, IsTrue, MatchOption};
 ghost use Rattle.noise_vectors.specs.HexWord.{hex_of};
 ghost use Rattle.hex.specs.Hex.{encode_lower};
@@ -38,6 +38,8 @@ pub(crate) enum DatagramKind {
 /// What comes before the first such byte, and what follows it.
 pub(crate) fn split_once(text: &[u8], separator: u8) -> Option<(&[u8], &[u8])>
     ensures parts { IfSome result (λ parts. text.now ≡ parts.0.now ++ separator ∷ parts.1.now) }
+    ensures first { IfSome result (λ parts. IsTrue (lacks separator parts.0.now)) }
+    ensures none { result ≡ None → IsTrue (lacks separator text.now) }
     ensures every { (before after : List ℕ) → IsTrue (lacks separator before) → text.now ≡ before ++ separator ∷ after
         → MatchOption result (Unit {0} → ⊥) (λ parts. (parts.0.now ≡ before) × (parts.1.now ≡ after)) }
 {

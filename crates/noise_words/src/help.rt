@@ -33,7 +33,7 @@ pub const WITH_VALUE: [Subcommand<'static>; 6] = [
         several: false,
         about: "Say whether the pattern in a file is valid, and how many bytes each message adds",
         meaning: "A file with the text of a pattern",
-        example: "Example: noise check examples/ikpsk2.pattern",
+        example: "Example: noise check examples/patterns/ikpsk2.pattern",
     },
     Subcommand {
         name: "talk",
@@ -41,7 +41,7 @@ pub const WITH_VALUE: [Subcommand<'static>; 6] = [
         several: false,
         about: "Run two ends on a vector file and print what each writes and takes",
         meaning: "A vector file whose events are all say; lines that it expects are compared",
-        example: "Example: noise talk examples/first-message.vector",
+        example: "Example: noise talk examples/vectors/first-message.vector",
     },
     Subcommand {
         name: "replay",
@@ -49,7 +49,7 @@ pub const WITH_VALUE: [Subcommand<'static>; 6] = [
         several: false,
         about: "Run two ends on a vector file whose frames may be lost, repeated or foreign",
         meaning: "A vector file with events of all kinds, and datagrams; lines that it expects are compared",
-        example: "Example: noise replay examples/each-outcome.vector",
+        example: "Example: noise replay examples/vectors/each-outcome.vector",
     },
     Subcommand {
         name: "convert",
@@ -57,7 +57,7 @@ pub const WITH_VALUE: [Subcommand<'static>; 6] = [
         several: false,
         about: "Print a version 1 vector file as one of version 2 that expects what its run prints",
         meaning: "A vector file of version 1",
-        example: "Example: noise convert examples/first-message.vector",
+        example: "Example: noise convert examples/vectors/first-message.vector",
     },
     Subcommand {
         name: "test",
@@ -65,6 +65,6 @@ pub const WITH_VALUE: [Subcommand<'static>; 6] = [
         several: true,
         about: "Run vector files and say of each whether its run is what it expects",
         meaning: "Vector files of version 2 with expect lines",
-        example: "Example: noise test examples/xx.vector examples/ik.vector",
+        example: "Example: noise test examples/vectors/xx.vector examples/vectors/ik.vector",
     },
 ];

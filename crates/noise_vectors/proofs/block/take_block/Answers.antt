@@ -1,13 +1,15 @@
-use Rattle.std.proofs.Common.{rules, ◌≡◌, ◌∙◌, ◌-◌, ap, refl, sym, List, [], ℕ, ◌++◌, codes, length, take}
+use Rattle.std.proofs.Common.{arith, rules, ◌≡◌, ◌∙◌, ◌-◌, ap, refl, sym, List, [], ℕ, ◌++◌, codes, length, take}
 use Rattle.std.specs.Prelude.{IsTrue}
 use Rattle.std.proofs.lemmas.Slice.Eq.{bytes_eq-Decides}
 use Rattle.noise_vectors.specs.VectorText.{line}
 use Rattle.noise_vectors.proofs.BlockLemmas.{front-is, Left-last, Left-next, Left-start, Left-step}
 use Rattle.noise_vectors.proofs.LineLemmas.{Ends-after, Ends-whole}
+use Rattle.noise_vectors.specs.WrongLine.{line_feeds}
+use Rattle.noise_vectors.proofs.ToldLemmas.{feeds-few, feeds-step}
 use Rattle.noise_vectors.proofs.block.take_block.Goals as goal
 
 pub loop-lines-init : goal.loop-lines-init
-loop-lines-init c = (([], refl), λ before rest h e. Left-start rest before c.args.lines.now.rest.now h e)
+loop-lines-init c = (([], refl), λ before rest h e. Left-start rest before c.args.lines.now.rest.now h e, λ low. refl)
 
 pub returns-in_err-next-clause-every : goal.returns-in_err-next-clause-every
 returns-in_err-next-clause-every c = λ before rest h e.
@@ -55,4 +57,22 @@ loop-lines-preserved c =
           let l = Left-step rest c.loop-lines.lines.rest.now c.in_ok-next.field-0.now c.next.new.self.rest.now c.next.new.self.is_ended
           (c.loop-lines.invariant.1 before rest h e) c.in_ok-next.ensures.every other in
           l.0,
+      feeds-step c.loop-lines.lines.number c.next.new.self.number (line_feeds c.args.lines.now.rest.now) c.args.lines.now.number c.loop-lines.lines.rest.now
+          c.in_ok-next.field-0.now c.next.new.self.rest.now c.loop-lines.invariant.2 c.next.ensures.number c.in_ok-next.ensures.plain
+          (c.in_ok-next.ensures.ended ended),
     )
+
+pub returns-then-eq-clause-number : goal.returns-then-eq-clause-number
+returns-then-eq-clause-number c = λ low ended.
+    let few = feeds-few c.args.lines.now.rest.now in
+    feeds-step c.loop-lines.lines.number c.next.new.self.number (line_feeds c.args.lines.now.rest.now) c.args.lines.now.number c.loop-lines.lines.rest.now
+    c.in_ok-next.field-0.now c.next.new.self.rest.now c.loop-lines.invariant.2 c.next.ensures.number c.in_ok-next.ensures.plain
+    (c.in_ok-next.ensures.ended ended) (omega (arith, few, low))
+
+pub returns-then-eq-clause-few : goal.returns-then-eq-clause-few
+returns-then-eq-clause-few c = λ low ended.
+    let few = feeds-few c.args.lines.now.rest.now in
+    let same = feeds-step c.loop-lines.lines.number c.next.new.self.number (line_feeds c.args.lines.now.rest.now) c.args.lines.now.number c.loop-lines.lines.rest.now
+    c.in_ok-next.field-0.now c.next.new.self.rest.now c.loop-lines.invariant.2 c.next.ensures.number c.in_ok-next.ensures.plain
+    (c.in_ok-next.ensures.ended ended) (omega (arith, few, low)) in
+    omega (arith, few, low, same)

@@ -1,6 +1,7 @@
-use Rattle.std.proofs.Common.{◌≡◌, ℕ, List, codes, length}
+use Rattle.std.proofs.Common.{◌≡◌, ◌+◌, ◌<◌, ◌^◌, ℕ, List, codes, length}
 use Rattle.std.specs.List.{All}
 use Rattle.noise_vectors.specs.Block.{IsInner, itself}
+use Rattle.noise_vectors.specs.WrongLine.{line_feeds}
 use Rattle.noise_vectors.specs.VectorText.{line, lines_of}
 use Rattle.noise_vectors.proofs.BlockLemmas.{Left}
 use Rattle.noise_vectors.proofs.LineLemmas.{Ends}
@@ -11,6 +12,8 @@ invariant-loop-lines l =
     Ends l.text l.lines.rest.now
     × ((before : List (List ℕ)) (rest : List ℕ) → All IsInner before → l.fn.lines.rest.now ≡ lines_of itself before (line (codes "end") rest)
     → Left rest l.lines.rest.now)
+    × (l.fn.lines.number + line_feeds l.fn.lines.rest.now + 1 < 2 ^ 64
+    → l.lines.number + line_feeds l.lines.rest.now ≡ l.fn.lines.number + line_feeds l.fn.lines.rest.now)
 
 abbrev pub decreases-loop-lines : goal.decreases-loop-lines
 decreases-loop-lines l = length l.lines.rest.now

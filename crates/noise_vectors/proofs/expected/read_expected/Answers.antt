@@ -7,6 +7,8 @@ use Rattle.noise_vectors.specs.VectorFile.{IsExpected}
 use Rattle.noise_vectors.specs.VectorText.{expect_words, lines_of}
 use Rattle.noise_vectors.proofs.AdditionLemmas.{expected-line}
 use Rattle.noise_vectors.proofs.LineLemmas.{lines_of-more, FirstLine-step, LinesLeft-first, LinesLeft-start}
+use Rattle.noise_vectors.specs.WrongLine.{IsLater}
+use Rattle.noise_vectors.proofs.ToldLemmas.{later-any}
 use Rattle.noise_vectors.proofs.expected.read_expected.Goals as goal
 
 abbrev IsRight : Vec ℕ Global → Type 0
@@ -18,6 +20,7 @@ loop-alloc-init c = (
   subst (λ (expected : List (Vec ℕ Global)). All IsRight expected) (sym c.new-expected.ensures.items) (All-nil IsRight),
   λ expected right e. LinesLeft-start expect_words IsRight (length expected) (vec_len c.new-expected.result) expected
       c.args.lines.now.rest.now [] c.new-expected.ensures.len e right (omega arith),
+  tt,
 )
 
 pub returns-in_default-clause-every : goal.returns-in_default-clause-every
@@ -54,4 +57,9 @@ loop-alloc-preserved c =
           let f = LinesLeft-first (c.loop-alloc.invariant.2 expected right e) some in
           let read = c.in_ok-line.ensures.every (expect_words f.next) (lines_of expect_words f.others []) (expected-line f.next.items f.next_good) f.left_is in
           FirstLine-step f len read.1,
+      tt,
     )
+
+pub returns-in_default-clause-later : goal.returns-in_default-clause-later
+returns-in_default-clause-later c =
+    subst IsLater (sym c.fault.ensures) (later-any c.loop-alloc.kind 0 c.next.new.self.number c.loop-alloc.invariant.3)

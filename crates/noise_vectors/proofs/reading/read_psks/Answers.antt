@@ -1,4 +1,4 @@
-use Rattle.std.proofs.Common.{rules, arith, ◌≡◌, ◌+◌, ◌≤◌, ◌∙◌, ap, subst, sym, refl, true, false, true≢false, List, ℕ, [], ◌∷◌, ◌++◌, codes, length}
+use Rattle.std.proofs.Common.{rules, arith, inr, ◌≡◌, ◌+◌, ◌≤◌, ◌∙◌, ap, subst, sym, refl, true, false, true≢false, List, ℕ, [], ◌∷◌, ◌++◌, codes, length}
 use Rattle.std.specs.Prelude.{IsTrue}
 use Rattle.std.specs.Bool.{nat_eq}
 use Rattle.std.specs.List.{All, starts_with}
@@ -10,6 +10,9 @@ use Rattle.noise_vectors.specs.Words.{IsKey}
 use Rattle.noise_vectors.proofs.LineLemmas.{lines_of-more, FirstLine-room, FirstLine-step}
 use Rattle.noise_vectors.proofs.LineLemmas.{LinesLeft-begun, LinesLeft-end, LinesLeft-start}
 use Rattle.noise_vectors.proofs.ReadingLemmas.{psk-plain}
+use Rattle.noise_vectors.specs.declared.faults.LineKind.TheVariants as kinds
+use Rattle.noise_vectors.specs.declared.faults.VectorFault.TheVariants.{Line}
+use Rattle.noise_vectors.proofs.ToldLemmas.{begun-line, first-line}
 use Rattle.noise_vectors.proofs.reading.read_psks.Goals as goal
 
 pub loop-lines-init : goal.loop-lines-init
@@ -18,6 +21,7 @@ loop-lines-init c =
       ap (λ (psks : List (List ℕ)). lines_of psk_words psks c.args.lines.now.rest.now) (sym none),
       subst ArePsks (sym none) (omega arith, All-nil IsKey),
       λ psks rest h other e. LinesLeft-start psk_words IsKey 9 (length c.new-psks.result.items) psks c.args.lines.now.rest.now rest (ap length none) e h.1 h.0,
+      λ low. let zero : length c.new-psks.result.items ≡ 0 = ap length none in omega (arith, zero),
     )
 
 pub returns-in_default-clause-every : goal.returns-in_default-clause-every
@@ -67,6 +71,11 @@ loop-lines-preserved c =
           let f = LinesLeft-begun (c.loop-lines.invariant.2 psks rest h other e) (codes "psk ") begun other in
           let read = c.in_ok-line.ensures.every (psk_words f.next) (lines_of psk_words f.others rest) (psk-plain f.next f.next_good) f.left_is in
           FirstLine-step f more read.1,
+      λ low.
+          let here = c.loop-lines.invariant.3 low in
+          let less : length c.loop-lines.psks.items ≤ 9 = c.loop-lines.invariant.1.0 in
+          let next = c.next.ensures.number (omega (arith, here, less, low)) in
+          omega (arith, here, more, next),
     )
 
 pub returns-clause-every : goal.returns-clause-every
@@ -75,3 +84,48 @@ returns-clause-every c =
     let none : (psk after : List ℕ) → ¬ (c.loop-lines.lines.rest.now ≡ line (psk_words psk) after) =
     λ psk after e. true≢false (sym (ap (λ (t : List ℕ). starts_with nat_eq t (codes "psk ")) e) ∙ over) in
     λ psks rest h other e. (refl, LinesLeft-end (c.loop-lines.invariant.2 psks rest h other e) none)
+
+pub returns-in_default-clause-told : goal.returns-in_default-clause-told
+returns-in_default-clause-told c = λ low.
+    let here = c.loop-lines.invariant.3 low in
+    let less : length c.loop-lines.psks.items ≤ 9 = c.loop-lines.invariant.1.0 in
+    let next = c.next.ensures.number (omega (arith, here, less, low)) in
+    let begun : starts_with nat_eq c.loop-lines.lines.rest.now (codes "psk ") ≡ true = search rules in
+    let first = first-line c.loop-lines.lines.rest.now c.in_ok-line.line.now c.next.new.self.rest.now c.next.new.self.is_ended
+    c.in_ok-line.ensures.ended c.in_ok-line.ensures.last c.in_ok-line.ensures.plain in
+    let n : c.next.new.self.number ≡ c.args.lines.now.number + length c.loop-lines.psks.items + 1 = omega (arith, here, next) in
+    inr (record {
+      psks = c.loop-lines.psks.items;
+      are_psks = c.loop-lines.invariant.1;
+      told = c.in_ok-line.line.now;
+      left = c.loop-lines.lines.rest.now;
+      text_is = c.loop-lines.invariant.0;
+      is_first = first;
+      begun = begun-line c.in_ok-line.line.now c.loop-lines.lines.rest.now (codes "psk ") first refl begun;
+      fault_is = c.fault.ensures ∙ ap (λ (k : ℕ). Line k kinds.Psk) n;
+      full = λ psk key same.
+          let some = c.in_default.ensures.every psk key same in
+          absurd (cc (some));
+    })
+
+pub returns-then-is_err-clause-told : goal.returns-then-is_err-clause-told
+returns-then-is_err-clause-told c = λ low.
+    let here = c.loop-lines.invariant.3 low in
+    let less : length c.loop-lines.psks.items ≤ 9 = c.loop-lines.invariant.1.0 in
+    let next = c.next.ensures.number (omega (arith, here, less, low)) in
+    let begun : starts_with nat_eq c.loop-lines.lines.rest.now (codes "psk ") ≡ true = search rules in
+    let full : length c.loop-lines.psks.items ≡ 9 = search rules in
+    let first = first-line c.loop-lines.lines.rest.now c.in_ok-line.line.now c.next.new.self.rest.now c.next.new.self.is_ended
+    c.in_ok-line.ensures.ended c.in_ok-line.ensures.last c.in_ok-line.ensures.plain in
+    let n : c.next.new.self.number ≡ c.args.lines.now.number + length c.loop-lines.psks.items + 1 = omega (arith, here, next) in
+    inr (record {
+      psks = c.loop-lines.psks.items;
+      are_psks = c.loop-lines.invariant.1;
+      told = c.in_ok-line.line.now;
+      left = c.loop-lines.lines.rest.now;
+      text_is = c.loop-lines.invariant.0;
+      is_first = first;
+      begun = begun-line c.in_ok-line.line.now c.loop-lines.lines.rest.now (codes "psk ") first refl begun;
+      fault_is = c.fault-then-is_err.ensures ∙ ap (λ (k : ℕ). Line k kinds.Psk) n;
+      full = λ psk key same. full;
+    })

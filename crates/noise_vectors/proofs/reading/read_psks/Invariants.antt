@@ -1,4 +1,4 @@
-use Rattle.std.proofs.Common.{◌≡◌, ℕ, List, codes, length}
+use Rattle.std.proofs.Common.{◌≡◌, ◌+◌, ◌<◌, ◌^◌, ℕ, List, codes, length}
 use Rattle.std.specs.Prelude.{IsFalse}
 use Rattle.std.specs.Bool.{nat_eq}
 use Rattle.std.specs.List.{starts_with}
@@ -15,6 +15,7 @@ invariant-loop-lines l =
     × ((psks : List (List ℕ)) (rest : List ℕ) → ArePsks psks → IsFalse (starts_with nat_eq rest (codes "psk "))
     → l.fn.lines.rest.now ≡ lines_of psk_words psks rest
     → LinesLeft psk_words IsKey 9 (length l.psks.items) l.lines.rest.now rest)
+    × (l.fn.lines.number < 2 ^ 63 + 99 → l.lines.number ≡ l.fn.lines.number + length l.psks.items)
 
 abbrev pub decreases-loop-lines : goal.decreases-loop-lines
 decreases-loop-lines l = length l.lines.rest.now

@@ -1,0 +1,100 @@
+-- The message that is due, and what its tokens carry.
+use Rattle.std.proofs.Common.{◌≡◌, ℕ, zero, suc, ◌<◌, ◌≤◌, List, [], ◌∷◌, ◌++◌, length, get_or, drop, refl, ap, ◌∙◌, arith}
+use Rattle.std.specs.Prelude.{Bool, true, false, not, count_by}
+use Rattle.noise_names.specs.declared.token.Token.{Token}
+use Rattle.noise_names.specs.declared.token.Token.TheVariants.{E, S, Ee, Es, Se, Ss, Psk}
+use Rattle.noise_names.specs.declared.token.Role.{Role}
+use Rattle.noise_names.specs.declared.token.Role.TheVariants.{Initiator, Responder}
+use Rattle.noise_names.specs.Tokens.{is_psk, other, same_role, turn_from}
+use Rattle.noise_state.specs.History.{History}
+use Rattle.noise_handshake.specs.declared.remote.Remote.{Remote}
+use Rattle.noise_handshake.specs.Held.{is_turn}
+use Rattle.noise_handshake.specs.Setup.{secrets_of}
+use Rattle.noise_handshake.specs.Line.{front, line, after_line}
+use Rattle.noise_handshake.specs.View.{View, Reader, Fits, Fit, Listens, Speaks, known_after, secrets_after, tokens_at}
+use Rattle.noise_handshake.specs.Writing.{Writer, Gives, Given}
+use Rattle.noise_trace.specs.declared.values.StateValues.{StateValues}
+use Rattle.noise_trace.specs.declared.step.Part.TheVariants as part
+use Rattle.noise_trace.specs.declared.step.Step.{Step}
+use Rattle.noise_trace.specs.Values.{values_of}
+use Rattle.noise_trace.specs.inner.Carried.{Carries}
+use Rattle.noise_trace.specs.Steps.{token_steps, message_steps}
+
+pub tokens_at-read : (ms : List (List Token)) (i : ℕ) (d : List Token) → i < length ms → get_or ms i d ≡ tokens_at ms i
+tokens_at-read [] i d h = absurd (omega arith)
+tokens_at-read (ts ∷ ms) zero d h = refl
+tokens_at-read (ts ∷ ms) (suc i) d h = tokens_at-read ms i d (omega arith)
+
+pub tokens_at-none : (ms : List (List Token)) (i : ℕ) → length ms ≤ i → [] ≡ tokens_at ms i
+tokens_at-none [] i h = refl
+tokens_at-none (ts ∷ ms) zero h = absurd (omega arith)
+tokens_at-none (ts ∷ ms) (suc i) h = tokens_at-none ms i (omega arith)
+
+-- the next message takes no more secrets than all that are to come
+pub secrets-due : (ms : List (List Token)) (n : ℕ) → count_by is_psk (tokens_at ms n) ≤ secrets_of (drop n ms)
+secrets-due [] n = omega arith
+secrets-due (ts ∷ ms) zero = omega arith
+secrets-due (ts ∷ ms) (suc n) = secrets-due ms n
+
+-- what a message of the other party carries
+pub fit-carries : (v : Reader) (known : Remote) (secrets : List (List ℕ)) (ts : List Token) (xs : List (List ℕ))
+    → Fit v known secrets ts xs → Carries true v known secrets ts xs
+fit-carries v known secrets [] [] f = tt
+fit-carries v known secrets [] (x ∷ xs) f = f
+fit-carries v known secrets (t ∷ ts) [] f = f
+fit-carries v known secrets (t ∷ ts) (x ∷ xs) f = (f.0, fit-carries v (known_after known t x) (secrets_after secrets t) ts xs f.1)
+
+-- what reading asks of a party that writes
+abbrev pub as_reader : Writer → Reader
+as_reader w = record { role = w.role; psks = w.psks; agree = w.agree }
+
+gives-fits : (w : Writer) (known : Remote) (secrets : List (List ℕ)) (t : Token) (x : List ℕ) → Gives w known secrets t x
+    → Fits (as_reader w) known secrets t x
+gives-fits w known secrets E x g = g.1
+gives-fits w known secrets S x g = g.1
+gives-fits w known secrets Ee x g = g
+gives-fits w known secrets Es x g = g
+gives-fits w known secrets Se x g = g
+gives-fits w known secrets Ss x g = g
+gives-fits w known secrets Psk x g = g
+
+-- what a message of its own carries
+pub given-carries : (w : Writer) (known : Remote) (secrets : List (List ℕ)) (ts : List Token) (xs : List (List ℕ))
+    → Given w known secrets ts xs → Carries false (as_reader w) known secrets ts xs
+given-carries w known secrets [] [] f = tt
+given-carries w known secrets [] (x ∷ xs) f = f
+given-carries w known secrets (t ∷ ts) [] f = f
+given-carries w known secrets (t ∷ ts) (x ∷ xs) f =
+    (gives-fits w known secrets t x f.0, given-carries w known (secrets_after secrets t) ts xs f.1)
+
+listens : (a b : Role) → a ≡ other b → not (same_role a b) ≡ true
+listens Initiator Initiator e = absurd (cc)
+listens Initiator Responder e = refl
+listens Responder Initiator e = refl
+listens Responder Responder e = absurd (cc)
+
+speaks : (a b : Role) → a ≡ b → not (same_role a b) ≡ false
+speaks Initiator Initiator e = refl
+speaks Initiator Responder e = absurd (cc)
+speaks Responder Initiator e = absurd (cc)
+speaks Responder Responder e = refl
+
+-- a party that listens reads, and one that speaks doesn't
+pub reads : (v : View) → Listens v → not (is_turn v.role v.passed) ≡ true
+reads v l = listens (turn_from Initiator v.passed) v.role l.turn
+
+pub writes : (v : View) → Speaks v → not (is_turn v.role v.passed) ≡ false
+writes v s = speaks (turn_from Initiator v.passed) v.role s.turn
+
+-- the steps of the tokens and that of the payload are those of the message
+pub message-done : (psks : Bool) (r : History) (ts : List Token) (xs : List (List ℕ)) (payload m : List ℕ) (from : ℕ) (values : StateValues)
+    (before after : List Step) → from ≡ length (front psks r ts xs) → m ≡ line psks r ts xs payload → values ≡ values_of (after_line psks r ts xs payload)
+    → before ≡ token_steps psks r 0 ts xs
+    → after ≡ before ++ (record { part = part.Payload; from = from; to = length m; state = values }) ∷ []
+    → after ≡ message_steps psks r ts xs payload
+message-done psks r ts xs payload m from values before after f s w b a =
+    a ∙ ap (λ (z : List Step). z ++ (record { part = part.Payload; from = from; to = length m; state = values }) ∷ []) b
+    ∙ ap (λ (n : ℕ). token_steps psks r 0 ts xs ++ (record { part = part.Payload; from = n; to = length m; state = values }) ∷ []) f
+    ∙ ap (λ (z : List ℕ). token_steps psks r 0 ts xs ++ (record { part = part.Payload; from = length (front psks r ts xs); to = length z; state = values }) ∷ []) s
+    ∙ ap (λ (z : StateValues). token_steps psks r 0 ts xs
+    ++ (record { part = part.Payload; from = length (front psks r ts xs); to = length (line psks r ts xs payload); state = z }) ∷ []) w

@@ -1,0 +1,88 @@
+-- Following the tokens of a message.
+use Rattle.std.proofs.Common.{◌≡◌, ℕ, ◌+◌, List, [], ◌∷◌, ◌++◌, length, refl, ap, sym, subst, ◌∙◌, arith, append_assoc, length-append}
+use Rattle.std.specs.Prelude.{Bool, Option, Some, unwrap_or}
+use Rattle.noise_names.specs.declared.token.Token.{Token}
+use Rattle.noise_state.specs.declared.symmetric.SymmetricState.{SymmetricState}
+use Rattle.noise_state.specs.History.{History}
+use Rattle.noise_state.specs.Standing.{StateStands}
+use Rattle.noise_handshake.specs.declared.remote.Remote.{Remote}
+use Rattle.noise_handshake.specs.Line.{token_piece, after_token, front, after_front}
+use Rattle.noise_handshake.specs.View.{Reader, Fits, secrets_after}
+use Rattle.noise_trace.specs.declared.step.Part.TheVariants as part
+use Rattle.noise_trace.specs.declared.step.Step.{Step}
+use Rattle.noise_trace.specs.inner.Carried.{known_next, Carries}
+use Rattle.noise_trace.specs.Steps.{step, token_steps}
+
+pub some-same : {A : Type 0} (a b : A) → Some a ≡ Some b → a ≡ b
+some-same {A} a b e = ap (λ (o : Option A). unwrap_or o a) e
+
+-- The text of the first token, and those of the others.
+pub record Parted (reads : Bool) (v : Reader) (known : Remote) (secrets : List (List ℕ)) (r : History) (t : Token) (ts : List Token)
+    (xs : List (List ℕ)) (more rest : List ℕ) : Type 0 where
+  pub first : List ℕ
+  pub others : List (List ℕ)
+  pub parts : xs ≡ first ∷ others
+  pub fits : Fits v known secrets t first
+  pub carries : Carries reads v (known_next reads known t first) (secrets_after secrets t) ts others
+  pub spelled : rest ≡ token_piece r t first ++ (front v.psks (after_token v.psks r t first) ts others ++ more)
+
+parted-first : (reads : Bool) (v : Reader) (known : Remote) (secrets : List (List ℕ)) (r : History) (t : Token) (ts : List Token)
+    (xs : List (List ℕ)) (more rest : List ℕ)
+    → Carries reads v known secrets (t ∷ ts) xs → rest ≡ front v.psks r (t ∷ ts) xs ++ more → Parted reads v known secrets r t ts xs more rest
+parted-first reads v known secrets r t ts [] more rest c e = absurd c
+parted-first reads v known secrets r t ts (x ∷ xs) more rest c e = record {
+  first = x;
+  others = xs;
+  parts = refl;
+  fits = c.0;
+  carries = c.1;
+  spelled = e ∙ append_assoc (token_piece r t x) (front v.psks (after_token v.psks r t x) ts xs) more;
+}
+
+pub parted : (reads : Bool) (v : Reader) (known : Remote) (secrets : List (List ℕ)) (r : History) (tokens : List Token) (t : Token) (ts : List Token)
+    (xs : List (List ℕ)) (more rest : List ℕ) → tokens ≡ t ∷ ts
+    → Carries reads v known secrets tokens xs → rest ≡ front v.psks r tokens xs ++ more → Parted reads v known secrets r t ts xs more rest
+parted reads v known secrets r tokens t ts xs more rest split c e =
+    parted-first reads v known secrets r t ts xs more rest
+    (subst (λ (us : List Token). Carries reads v known secrets us xs) split c)
+    (subst (λ (us : List Token). rest ≡ front v.psks r us xs ++ more) split e)
+
+-- what following tokens makes
+abbrev pub Follows : Bool → History → List Token → List (List ℕ) → ℕ → SymmetricState → Option ℕ → List Step → List Step → Type 0
+Follows psks r tokens xs from state result old new =
+    (result ≡ Some (from + length (front psks r tokens xs))) × StateStands state (after_front psks r tokens xs)
+    × (new ≡ old ++ token_steps psks r from tokens xs)
+
+-- the step of the first token, and then those of the others
+pub steps-on : (psks : Bool) (r : History) (tokens ts : List Token) (t : Token) (xs ys : List (List ℕ)) (x : List ℕ) (from to : ℕ)
+    (old mid new : List Step)
+    → tokens ≡ t ∷ ts → xs ≡ x ∷ ys → to ≡ from + length (token_piece r t x)
+    → mid ≡ old ++ step (part.Token t) from (length (token_piece r t x)) (after_token psks r t x) ∷ []
+    → new ≡ mid ++ token_steps psks (after_token psks r t x) to ts ys → new ≡ old ++ token_steps psks r from tokens xs
+steps-on psks r tokens ts t xs ys x from to old mid new split parts place pushed later =
+    let after : History = after_token psks r t x in
+    let width : ℕ = length (token_piece r t x) in
+    let whole : new ≡ old ++ token_steps psks r from (t ∷ ts) (x ∷ ys) =
+    later ∙ ap (λ (n : ℕ). mid ++ token_steps psks after n ts ys) place
+    ∙ ap (λ (z : List Step). z ++ token_steps psks after (from + width) ts ys) pushed
+    ∙ append_assoc old (step (part.Token t) from width after ∷ []) (token_steps psks after (from + width) ts ys) in
+    subst (λ (us : List Token). new ≡ old ++ token_steps psks r from us xs) (sym split)
+    (subst (λ (zs : List (List ℕ)). new ≡ old ++ token_steps psks r from (t ∷ ts) zs) (sym parts) whole)
+
+-- what following the others makes is what following all of them makes
+pub followed-on : (psks : Bool) (r : History) (tokens ts : List Token) (t : Token) (xs ys : List (List ℕ)) (x : List ℕ) (from to : ℕ)
+    (state : SymmetricState) (result : Option ℕ) (old mid new : List Step)
+    → tokens ≡ t ∷ ts → xs ≡ x ∷ ys → to ≡ from + length (token_piece r t x)
+    → mid ≡ old ++ step (part.Token t) from (length (token_piece r t x)) (after_token psks r t x) ∷ []
+    → Follows psks (after_token psks r t x) ts ys to state result mid new → Follows psks r tokens xs from state result old new
+followed-on psks r tokens ts t xs ys x from to state result old mid new split parts place pushed f =
+    let after : History = after_token psks r t x in
+    let piece : List ℕ = token_piece r t x in
+    let length-is : to + length (front psks after ts ys) ≡ from + length (piece ++ front psks after ts ys) =
+    omega (arith, place, length-append piece (front psks after ts ys)) in
+    let ends : (result ≡ Some (from + length (front psks r (t ∷ ts) (x ∷ ys)))) × StateStands state (after_front psks r (t ∷ ts) (x ∷ ys)) =
+    (f.0 ∙ ap (λ (n : ℕ). Some n) length-is, f.1) in
+    let whole = subst (λ (us : List Token). (result ≡ Some (from + length (front psks r us xs))) × StateStands state (after_front psks r us xs)) (sym split)
+    (subst (λ (zs : List (List ℕ)). (result ≡ Some (from + length (front psks r (t ∷ ts) zs))) × StateStands state (after_front psks r (t ∷ ts) zs))
+    (sym parts) ends) in
+    (whole.0, whole.1, steps-on psks r tokens ts t xs ys x from to old mid new split parts place pushed f.2)

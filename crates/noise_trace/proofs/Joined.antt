@@ -1,0 +1,50 @@
+-- The bytes of steps, joined.
+use Rattle.std.proofs.Common.{◌≡◌, ℕ, ◌+◌, ◌-◌, List, [], ◌∷◌, ◌++◌, length, take}
+use Rattle.std.proofs.Common.{drop, drop-drop, refl, sym, ap, ◌∙◌, arith, append_assoc, append-nil, length-append}
+use Rattle.std.proofs.lemmas.List.{take_at, drop_at}
+use Rattle.std.specs.Prelude.{Bool, slice_range}
+use Rattle.noise_names.specs.declared.token.Token.{Token}
+use Rattle.noise_state.specs.History.{History, piece}
+use Rattle.noise_handshake.specs.Line.{token_piece, after_token, front, after_front, line}
+use Rattle.noise_trace.specs.declared.step.Step.{Step}
+use Rattle.noise_trace.specs.Steps.{joined, token_steps, payload_step, message_steps}
+
+joined-append : (m : List ℕ) (a b : List Step) → joined m (a ++ b) ≡ joined m a ++ joined m b
+joined-append m [] b = refl
+joined-append m (s ∷ a) b =
+    ap (λ (z : List ℕ). slice_range m s.from s.to ++ z) (joined-append m a b) ∙ sym (append_assoc (slice_range m s.from s.to) (joined m a) (joined m b))
+
+-- the bytes from a place on, so many of them
+part-is : (m x more : List ℕ) (from n : ℕ) → drop from m ≡ x ++ more → n ≡ length x → slice_range m from (from + n) ≡ x
+part-is m x more from n e w =
+    let count : (from + n) - from ≡ n = omega arith in
+    ap (λ (k : ℕ). take k (drop from m)) count ∙ ap (take n) e ∙ take_at x more n (sym w)
+
+joined-tokens : (psks : Bool) (r : History) (ts : List Token) (xs : List (List ℕ)) (from : ℕ) (m more : List ℕ)
+    → drop from m ≡ front psks r ts xs ++ more → joined m (token_steps psks r from ts xs) ≡ front psks r ts xs
+joined-tokens psks r [] xs from m more e = refl
+joined-tokens psks r (t ∷ ts) [] from m more e = refl
+joined-tokens psks r (t ∷ ts) (x ∷ xs) from m more e =
+    let part : List ℕ = token_piece r t x in
+    let after : History = after_token psks r t x in
+    let rest : List ℕ = front psks after ts xs in
+    let split : drop from m ≡ part ++ (rest ++ more) = e ∙ append_assoc part rest more in
+    let next : drop (from + length part) m ≡ rest ++ more =
+    sym (drop-drop (length part) from m) ∙ ap (drop (length part)) split ∙ drop_at part (rest ++ more) (length part) refl in
+    ap (λ (z : List ℕ). z ++ joined m (token_steps psks after (from + length part) ts xs)) (part-is m part (rest ++ more) from (length part) split refl)
+    ∙ ap (λ (z : List ℕ). part ++ z) (joined-tokens psks after ts xs (from + length part) m more next)
+
+-- those of a message are the message
+pub joined-message : (psks : Bool) (r : History) (ts : List Token) (xs : List (List ℕ)) (payload : List ℕ)
+    → joined (line psks r ts xs payload) (message_steps psks r ts xs payload) ≡ line psks r ts xs payload
+joined-message psks r ts xs payload =
+    let m : List ℕ = line psks r ts xs payload in
+    let first : List ℕ = front psks r ts xs in
+    let last : List ℕ = piece (after_front psks r ts xs) payload in
+    let here : drop (length first) m ≡ last ++ [] = drop_at first last (length first) refl ∙ sym (append-nil last) in
+    let ends : slice_range m (length first) (length m) ≡ last =
+    ap (λ (k : ℕ). slice_range m (length first) k) (length-append first last)
+    ∙ part-is m last [] (length first) (length last) here refl in
+    joined-append m (token_steps psks r 0 ts xs) (payload_step psks r ts xs payload ∷ [])
+    ∙ ap (λ (z : List ℕ). z ++ (slice_range m (length first) (length m) ++ [])) (joined-tokens psks r ts xs 0 m last refl)
+    ∙ ap (λ (z : List ℕ). first ++ z) (append-nil (slice_range m (length first) (length m)) ∙ ends)

@@ -1,0 +1,6 @@
+pub mod Keys
+pub mod Fronts
+pub mod Due
+pub mod Joined
+pub mod PreMessages
+pub mod NonceBounds

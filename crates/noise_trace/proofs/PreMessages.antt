@@ -1,0 +1,176 @@
+-- The steps of the start.
+use Rattle.std.proofs.Common.{◌≡◌, ℕ, List, [], ◌∷◌, ◌++◌, refl, sym, ap, subst, ◌∙◌, append_assoc}
+use Rattle.std.specs.Prelude.{Bool, true, false, not, ◌||◌, ◌↔◌, IsTrue, IsFalse, Option, Some, is_some, unwrap_or}
+use Rattle.noise_names.specs.declared.token.Token.{Token}
+use Rattle.noise_names.specs.declared.token.Token.TheVariants.{E, S, Ee, Es, Se, Ss, Psk}
+use Rattle.noise_names.specs.declared.token.Role.{Role}
+use Rattle.noise_names.specs.declared.token.Role.TheVariants.{Initiator, Responder}
+use Rattle.noise_names.specs.Tokens.{other, same_token}
+use Rattle.noise_names.specs.Plan.{Plan, pre_of, has_psk, places_of}
+use Rattle.noise_names.specs.Names.{name_bytes}
+use Rattle.noise_names.specs.Validity.{is_among}
+use Rattle.noise_state.specs.declared.symmetric.SymmetricState.{SymmetricState}
+use Rattle.noise_state.specs.History.{History, MixHash, and_then}
+use Rattle.noise_state.specs.Standing.{StateStands}
+use Rattle.noise_keys.specs.declared.keys.Own.{Own}
+use Rattle.noise_keys.specs.declared.keys.Own.TheVariants.{Ephemeral, Static}
+use Rattle.noise_handshake.specs.declared.remote.Remote.{Remote}
+use Rattle.noise_handshake.specs.Setup.{has_before, has_token, keys_of, public_keys, start_of, token_of}
+use Rattle.noise_handshake.specs.View.{with_premessage}
+use Rattle.noise_trace.specs.declared.start_step.StartPart.TheVariants as part
+use Rattle.noise_trace.specs.declared.start_step.StartStep.{StartStep}
+use Rattle.noise_handshake.specs.Line.{with_ephemeral}
+use Rattle.noise_trace.specs.declared.values.StateValues.{StateValues}
+use Rattle.noise_trace.specs.Values.{values_of}
+use Rattle.noise_trace.specs.Start.{start_step, key_steps, pre_steps, named, prologued, start_steps, values_after}
+
+pub flips : (b x : Bool) → (IsTrue b ↔ IsFalse x) → not b ≡ x
+flips true x e = sym (e.0 refl)
+flips false true e = refl
+flips false false e = absurd (let h : false ≡ true = e.1 refl in cc)
+
+-- what mixing tokens makes of a pre-message
+abbrev pub Mixes : Bool → Role → Remote → List Token → History → SymmetricState → List StartStep → List StartStep → Type 0
+Mixes psks party keys ts r state old new =
+    StateStands state (with_premessage psks keys ts r) × (new ≡ old ++ key_steps psks party keys ts r)
+
+-- a static key
+pub mixes-s : (psks : Bool) (party : Role) (keys : Remote) (t : Token) (r : History) (key : List ℕ) (state : SymmetricState) (old new : List StartStep)
+    → t ≡ S → keys.s ≡ Some key → StateStands state (and_then r (MixHash key))
+    → new ≡ old ++ start_step (part.Key party t) (and_then r (MixHash key)) ∷ [] → Mixes psks party keys (t ∷ []) r state old new
+mixes-s psks party keys t r key state old new e k s n =
+    let q : key ≡ unwrap_or keys.s [] = sym (ap (λ (o : Option (List ℕ)). unwrap_or o []) k) in
+    let n1 : new ≡ old ++ start_step (part.Key party S) (and_then r (MixHash key)) ∷ [] =
+    subst (λ (u : Token). new ≡ old ++ start_step (part.Key party u) (and_then r (MixHash key)) ∷ []) e n in
+    subst (λ (u : Token). Mixes psks party keys (u ∷ []) r state old new) (sym e) (
+      subst (λ (z : List ℕ). StateStands state (and_then r (MixHash z))) q s,
+      subst (λ (z : List ℕ). new ≡ old ++ start_step (part.Key party S) (and_then r (MixHash z)) ∷ []) q n1,
+    )
+
+pre-cons : (psks : Bool) (keys : Remote) (t : Token) (ts : List Token) (r : History)
+    → with_premessage psks keys ts (with_premessage psks keys (t ∷ []) r) ≡ with_premessage psks keys (t ∷ ts) r
+pre-cons psks keys E ts r = refl
+pre-cons psks keys S ts r = refl
+pre-cons psks keys Ee ts r = refl
+pre-cons psks keys Es ts r = refl
+pre-cons psks keys Se ts r = refl
+pre-cons psks keys Ss ts r = refl
+pre-cons psks keys Psk ts r = refl
+
+steps-cons : (psks : Bool) (party : Role) (keys : Remote) (t : Token) (ts : List Token) (r : History)
+    → key_steps psks party keys (t ∷ []) r ++ key_steps psks party keys ts (with_premessage psks keys (t ∷ []) r) ≡ key_steps psks party keys (t ∷ ts) r
+steps-cons psks party keys E ts r = refl
+steps-cons psks party keys S ts r = refl
+steps-cons psks party keys Ee ts r = refl
+steps-cons psks party keys Es ts r = refl
+steps-cons psks party keys Se ts r = refl
+steps-cons psks party keys Ss ts r = refl
+steps-cons psks party keys Psk ts r = refl
+
+-- the first token, and then the others
+pub mixes-on : (psks : Bool) (party : Role) (keys : Remote) (tokens : List Token) (t : Token) (ts : List Token) (r : History) (state : SymmetricState)
+    (old mid new : List StartStep) → tokens ≡ t ∷ ts → mid ≡ old ++ key_steps psks party keys (t ∷ []) r
+    → Mixes psks party keys ts (with_premessage psks keys (t ∷ []) r) state mid new → Mixes psks party keys tokens r state old new
+mixes-on psks party keys tokens t ts r state old mid new split first m =
+    let later : List StartStep = key_steps psks party keys ts (with_premessage psks keys (t ∷ []) r) in
+    subst (λ (us : List Token). Mixes psks party keys us r state old new) (sym split) (
+      subst (λ (z : History). StateStands state z) (pre-cons psks keys t ts r) m.0,
+      m.1 ∙ ap (λ (z : List StartStep). z ++ later) first ∙ append_assoc old (key_steps psks party keys (t ∷ []) r) later
+          ∙ ap (λ (z : List StartStep). old ++ z) (steps-cons psks party keys t ts r),
+    )
+
+right : (a b : Bool) → b ≡ true → (a || b) ≡ true
+right true b e = refl
+right false b e = e
+
+-- the tokens of a list are among it
+pub has-here : (u t : Token) (tokens ts : List Token) → same_token u u ≡ true → tokens ≡ t ∷ ts → t ≡ u → has_token u tokens ≡ true
+has-here u t tokens ts same split e =
+    subst (λ (us : List Token). has_token u us ≡ true) (sym split)
+    (subst (λ (z : Token). has_token u (z ∷ ts) ≡ true) (sym e) (ap (λ (b : Bool). b || has_token u ts) same))
+
+pub has-later : (u t : Token) (tokens ts : List Token) → tokens ≡ t ∷ ts → has_token u ts ≡ true → has_token u tokens ≡ true
+has-later u t tokens ts split h =
+    subst (λ (us : List Token). has_token u us ≡ true) (sym split) (right (same_token t u) (has_token u ts) h)
+
+-- A party's keys of its pre-message are there, in a setup without a fault.
+module _ (p : Plan) (own : Own → Option (List ℕ)) (known : Remote)
+    (stand : (party : Role) (t : Token) → has_before p party t ≡ true → is_among party t (places_of p) ≡ true) where
+  pub has-keys : (party role : Role)
+      → ((x : Own) → is_among role (token_of x) (places_of p) ≡ true → is_some (own x) ≡ true)
+      → (is_some known.e ≡ has_before p (other role) E) × (is_some known.s ≡ has_before p (other role) S)
+      → (has_before p party E ≡ true → is_some (keys_of party role (public_keys own) known).e ≡ true)
+      × (has_before p party S ≡ true → is_some (keys_of party role (public_keys own) known).s ≡ true)
+  has-keys Initiator Initiator whole remote = (λ h. whole Ephemeral (stand Initiator E h), λ h. whole Static (stand Initiator S h))
+  has-keys Responder Responder whole remote = (λ h. whole Ephemeral (stand Responder E h), λ h. whole Static (stand Responder S h))
+  has-keys Initiator Responder whole remote = (λ h. remote.0 ∙ h, λ h. remote.1 ∙ h)
+  has-keys Responder Initiator whole remote = (λ h. remote.0 ∙ h, λ h. remote.1 ∙ h)
+
+-- the steps as the code makes them
+abbrev pub made : Bool → List Token → List Token → List ℕ → List ℕ → Remote → Remote → List StartStep
+made psks first second name prologue initiator responder =
+    let r0 : History = record { name = name; entries = [] } in
+    let r1 : History = and_then r0 (MixHash prologue) in
+    start_step part.Name r0 ∷ start_step part.Prologue r1
+    ∷ (key_steps psks Initiator initiator first r1
+    ++ key_steps psks Responder responder second (with_premessage psks initiator first r1))
+
+-- they are those of the pattern
+pub made-is : (p : Plan) (psks : Bool) (first second : List Token) (name prologue : List ℕ) (initiator responder i r : Remote)
+    → psks ≡ has_psk p → first ≡ pre_of Initiator p → second ≡ pre_of Responder p → name ≡ name_bytes (record { base = p.base; places = p.places })
+    → initiator ≡ i → responder ≡ r
+    → made psks first second name prologue initiator responder
+    ≡ start_step part.Name (named p) ∷ start_step part.Prologue (prologued p prologue) ∷ pre_steps p i r (prologued p prologue)
+made-is p psks first second name prologue initiator responder i r eb ef es en ei er =
+    ap (λ (z : Bool). made z first second name prologue initiator responder) eb
+    ∙ ap (λ (z : List Token). made (has_psk p) z second name prologue initiator responder) ef
+    ∙ ap (λ (z : List Token). made (has_psk p) (pre_of Initiator p) z name prologue initiator responder) es
+    ∙ ap (λ (z : List ℕ). made (has_psk p) (pre_of Initiator p) (pre_of Responder p) z prologue initiator responder) en
+    ∙ ap (λ (z : Remote). made (has_psk p) (pre_of Initiator p) (pre_of Responder p) (name_bytes (record { base = p.base; places = p.places })) prologue z responder) ei
+    ∙ ap (λ (z : Remote). made (has_psk p) (pre_of Initiator p) (pre_of Responder p) (name_bytes (record { base = p.base; places = p.places })) prologue i z) er
+
+-- one after another
+pub in-turn : (psks : Bool) (first second : List Token) (name prologue : List ℕ) (initiator responder : Remote) (none one two three four : List StartStep)
+    → none ≡ [] → one ≡ none ++ start_step part.Name (record { name = name; entries = [] }) ∷ []
+    → two ≡ one ++ start_step part.Prologue (and_then (record { name = name; entries = [] }) (MixHash prologue)) ∷ []
+    → three ≡ two ++ key_steps psks Initiator initiator first (and_then (record { name = name; entries = [] }) (MixHash prologue))
+    → four ≡ three ++ key_steps psks Responder responder second
+    (with_premessage psks initiator first (and_then (record { name = name; entries = [] }) (MixHash prologue)))
+    → four ≡ made psks first second name prologue initiator responder
+in-turn psks first second name prologue initiator responder none one two three four e0 e1 e2 e3 e4 =
+    let r0 : History = record { name = name; entries = [] } in
+    let r1 : History = and_then r0 (MixHash prologue) in
+    let last : List StartStep = key_steps psks Responder responder second (with_premessage psks initiator first r1) in
+    let keys : List StartStep = key_steps psks Initiator initiator first r1 in
+    e4 ∙ ap (λ (z : List StartStep). z ++ last) e3
+    ∙ ap (λ (z : List StartStep). (z ++ keys) ++ last) e2
+    ∙ ap (λ (z : List StartStep). ((z ++ start_step part.Prologue r1 ∷ []) ++ keys) ++ last) e1
+    ∙ ap (λ (z : List StartStep). (((z ++ start_step part.Name r0 ∷ []) ++ start_step part.Prologue r1 ∷ []) ++ keys) ++ last) e0
+
+after-append : (before : StateValues) (a b : List StartStep) → values_after before (a ++ b) ≡ values_after (values_after before a) b
+after-append before [] b = refl
+after-append before (s ∷ a) b = after-append s.state a b
+
+after-keys : (psks : Bool) (party : Role) (keys : Remote) (ts : List Token) (r : History)
+    → values_after (values_of r) (key_steps psks party keys ts r) ≡ values_of (with_premessage psks keys ts r)
+after-keys psks party keys [] r = refl
+after-keys psks party keys (E ∷ ts) r = after-keys psks party keys ts (with_ephemeral psks r (unwrap_or keys.e []))
+after-keys psks party keys (S ∷ ts) r = after-keys psks party keys ts (and_then r (MixHash (unwrap_or keys.s [])))
+after-keys psks party keys (Ee ∷ ts) r = after-keys psks party keys ts r
+after-keys psks party keys (Es ∷ ts) r = after-keys psks party keys ts r
+after-keys psks party keys (Se ∷ ts) r = after-keys psks party keys ts r
+after-keys psks party keys (Ss ∷ ts) r = after-keys psks party keys ts r
+after-keys psks party keys (Psk ∷ ts) r = after-keys psks party keys ts r
+
+-- after the last step of the start the values are those of the start
+pub after-start : (p : Plan) (role : Role) (prologue : List ℕ) (own remote : Remote) (before : StateValues)
+    → values_after before (start_steps p role prologue own remote) ≡ values_of (start_of p role prologue own remote)
+after-start p role prologue own remote before =
+    let i : Remote = keys_of Initiator role own remote in
+    let r : Remote = keys_of Responder role own remote in
+    let r1 : History = prologued p prologue in
+    let r2 : History = with_premessage (has_psk p) i (pre_of Initiator p) r1 in
+    after-append (values_of r1) (key_steps (has_psk p) Initiator i (pre_of Initiator p) r1) (key_steps (has_psk p) Responder r (pre_of Responder p) r2)
+    ∙ ap (λ (z : StateValues). values_after z (key_steps (has_psk p) Responder r (pre_of Responder p) r2))
+    (after-keys (has_psk p) Initiator i (pre_of Initiator p) r1)
+    ∙ after-keys (has_psk p) Responder r (pre_of Responder p) r2

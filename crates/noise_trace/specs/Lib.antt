@@ -1,0 +1,5 @@
+pub mod Before
+pub mod Start
+pub mod Steps
+pub mod Values
+pub mod inner

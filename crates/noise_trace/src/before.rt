@@ -1,0 +1,200 @@
+//! What is kept of a handshake before a message, to tell the steps of that message.
+#![tactic(auto)]
+
+ghost use Rattle.std.specs.Prelude.{◌≡◌, ◌≤◌, ◌<◌, ◌+◌, ◌-◌, ◌^◌, ◌++◌, ℕ, List, length, take, count_by, not, IfSome};
+ghost use Rattle.noise_names.specs.Tokens.{is_psk};
+ghost use Rattle.noise_names.specs.Plan.{has_psk};
+ghost use Rattle.noise_state.specs.Standing.{nonce_now};
+ghost use Rattle.noise_handshake.specs.View.{View, Accepts, Refuses, reader, tokens_at, tokens_now};
+ghost use Rattle.noise_handshake.specs.Held.{is_turn};
+ghost use Rattle.noise_handshake.specs.Line.{front, line};
+ghost use Rattle.noise_handshake.specs.Writing.{Lacks, Writes};
+ghost use Rattle.noise_handshake.specs.Party.{Stands};
+ghost use Rattle.noise_handshake.specs.declared.faults.Cause.{Cause};
+
+use crate::following::{Means, bytes_from, follow};
+use crate::own::{OwnMeans, give};
+use crate::values::{mix_piece, values_of};
+use crate::{Part, Step};
+use arrayvec::ArrayVec;
+use noise_handshake::{Handshake, Keys, Remote};
+use noise_names::{Message, Role, Token};
+use noise_state::SymmetricState;
+
+/// A handshake as it is before a message, to tell the steps of that message once it was written or has come.
+///
+/// It has the cipher key with its nonce: it is for showing what is mixed, and encrypts nothing.
+#[derive(Drop)]
+pub struct BeforeMessage {
+    role: Role,
+    psks: bool,
+    writes: bool,
+    tokens: ArrayVec<Token, 10>,
+    remote: Remote,
+    secrets: ArrayVec<[u8; 32], 9>,
+    state: SymmetricState,
+    ghost secrets_due: { count_by is_psk tokens.items ≤ length secrets.items },
+    ghost nonces: { nonce_now state + 11 < 2 ^ 64 - 1 },
+}
+
+// The steps of tokens, the state after them, and where the bytes after them begin, if the tokens fit.
+#[derive(Drop)]
+struct Front {
+    steps: ArrayVec<Step, 11>,
+    state: SymmetricState,
+    end: Option<usize>,
+}
+
+// The tokens of message i, counted from 0; none after the last.
+fn tokens_at(messages: &[Message], i: usize) -> &[Token]
+    ensures tokens { result.now ≡ tokens_at messages.now i }
+    ensures few { length result.now ≤ 10 }
+{
+    if i < messages.len() {
+        messages[i].tokens()
+    } else {
+        &[]
+    }
+}
+
+impl BeforeMessage {
+    ghost use Rattle.noise_trace.specs.Before.{StandsBefore};
+    ghost use Rattle.noise_trace.specs.inner.Carried.{Carries};
+    ghost use Rattle.noise_trace.specs.inner.Front.{IsFront};
+    ghost use Rattle.noise_trace.specs.Steps.{message_steps, token_steps};
+
+    /// What is kept of a handshake before its next message.
+    pub fn new<K: Keys>(handshake: &Handshake<K>) -> BeforeMessage
+        ensures { (v : View) → Stands K.public_of K.agreement handshake.now v → StandsBefore result v }
+    {
+        let progress = handshake.progress();
+        let pattern = handshake.pattern().pattern();
+        let mut tokens = ArrayVec::new();
+        tokens
+            .try_extend_from_slice(tokens_at(pattern.messages(), progress.passed as usize))
+            .unwrap();
+        let mut secrets = ArrayVec::new();
+        secrets.try_extend_from_slice(handshake.secrets()).unwrap();
+        BeforeMessage {
+            role: handshake.role(),
+            psks: !pattern.is_plain(),
+            writes: handshake.writes_next(),
+            tokens,
+            remote: progress.remote,
+            secrets,
+            state: SymmetricState::from_parts(progress.state),
+        }
+    }
+
+    // Follows the first so many tokens of the message.
+    fn front<K: Keys>(&self, keys: &K, message: &[u8], count: usize) -> Front
+        requires { count ≤ length self.now.tokens.items }
+        ensures nonce { nonce_now result.state < 2 ^ 64 - 1 }
+        ensures many { length result.steps.items ≤ count }
+        ensures range { IfSome result.end (λ end. end ≤ length message.now) }
+        ensures front { (v : View) (xs : List (List ℕ)) (more : List ℕ) → StandsBefore self.now v → K.agreement keys.now ≡ v.agree
+            → Carries (not (is_turn v.role v.passed)) (reader v) v.remote v.secrets (take count (tokens_now v)) xs
+            → message.now ≡ front (has_psk v.pattern) v.history (take count (tokens_now v)) xs ++ more
+            → IsFront result (has_psk v.pattern) v.history (take count (tokens_now v)) xs }
+    {
+        let means = Means {
+            keys,
+            role: self.role,
+            psks: self.psks,
+            reads: !self.writes,
+            message,
+        };
+        let mut state = self.state.for_trial();
+        let mut steps = ArrayVec::new();
+        let end = follow(
+            &mut state,
+            &self.remote,
+            &means,
+            &self.secrets,
+            &self.tokens[..count],
+            0,
+            &mut steps,
+        );
+        Front { steps, state, end }
+    }
+
+    // The steps of the whole message.
+    fn all_steps<K: Keys>(&self, keys: &K, message: &[u8]) -> ArrayVec<Step, 11>
+        ensures { (v : View) (xs : List (List ℕ)) (payload : List ℕ) → StandsBefore self.now v → K.agreement keys.now ≡ v.agree
+            → Carries (not (is_turn v.role v.passed)) (reader v) v.remote v.secrets (tokens_now v) xs
+            → message.now ≡ line (has_psk v.pattern) v.history (tokens_now v) xs payload
+            → result.items ≡ message_steps (has_psk v.pattern) v.history (tokens_now v) xs payload }
+    {
+        let Front {
+            mut steps,
+            mut state,
+            end,
+        } = self.front(keys, message, self.tokens.len());
+        if let Some(from) = end {
+            mix_piece(&mut state, bytes_from(message, from));
+            steps.push(Step {
+                part: Part::Payload,
+                from,
+                to: message.len(),
+                state: values_of(&state),
+            });
+        }
+        steps
+    }
+
+    /// The steps of a message that this party then wrote or accepted: one for each of its tokens, and one for the payload.
+    ///
+    /// `keys` are those of the handshake, and `message` is as it was sent, so a copy of one that was read in place. Of other
+    /// keys or messages the steps may end early.
+    pub fn steps<K: Keys>(&self, keys: &K, message: &[u8]) -> ArrayVec<Step, 11>
+        ensures accepted { (v : View) (xs : List (List ℕ)) (payload : List ℕ) → StandsBefore self.now v → K.agreement keys.now ≡ v.agree
+            → Accepts v message.now xs payload → result.items ≡ message_steps (has_psk v.pattern) v.history (tokens_now v) xs payload }
+        ensures written { (v : View) (xs : List (List ℕ)) (payload : List ℕ) → StandsBefore self.now v → K.agreement keys.now ≡ v.agree
+            → Writes v payload xs message.now → result.items ≡ message_steps (has_psk v.pattern) v.history (tokens_now v) xs payload }
+    {
+        self.all_steps(keys, message)
+    }
+
+    /// The steps of a message that this party then refused at this token, counted from 0: those of the tokens before it. Where the
+    /// payload was refused, which counts as the token after the last, they are those of all tokens.
+    ///
+    /// `keys` are those of the handshake. Of other keys, messages or tokens the steps may end early.
+    pub fn refused_steps<K: Keys>(&self, keys: &K, message: &[u8], token: u8) -> ArrayVec<Step, 11>
+        ensures refused { (v : View) (cause : Cause) → StandsBefore self.now v → K.agreement keys.now ≡ v.agree
+            → (refused : Refuses v message.now token cause)
+            → result.items ≡ token_steps (has_psk v.pattern) v.history 0 (take token (tokens_now v)) refused.stops.carried }
+    {
+        let count = self.tokens.len().min(token as usize);
+        let Front { steps, .. } = self.front(keys, message, count);
+        steps
+    }
+
+    /// The steps of a message that this party then didn't write, for want of a DH answer at this token, counted from 0: those of the
+    /// tokens before it, at the places that they would have had.
+    ///
+    /// `keys` are those of the handshake. Of other keys or tokens the steps may end early.
+    pub fn withheld_steps<K: Keys>(&self, keys: &K, token: u8) -> ArrayVec<Step, 11>
+        ensures withheld { (v : View) → StandsBefore self.now v → K.public_of keys.now ≡ v.own → K.agreement keys.now ≡ v.agree
+            → (lacks : Lacks v token)
+            → result.items ≡ token_steps (has_psk v.pattern) v.history 0 (take token (tokens_now v)) lacks.lacks.before }
+    {
+        let count = self.tokens.len().min(token as usize);
+        let means = OwnMeans {
+            keys,
+            role: self.role,
+            psks: self.psks,
+            known: self.remote,
+        };
+        let mut state = self.state.for_trial();
+        let mut steps = ArrayVec::new();
+        give(
+            &mut state,
+            &means,
+            &self.secrets,
+            &self.tokens[..count],
+            0,
+            &mut steps,
+        );
+        steps
+    }
+}

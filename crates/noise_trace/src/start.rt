@@ -1,0 +1,152 @@
+//! The steps before the first message.
+#![tactic(auto)]
+
+ghost use Rattle.std.specs.Prelude.{◌≡◌, ◌≤◌, ◌+◌, ◌++◌, ◌<◌, ◌∷◌, [], true, ℕ, List, length, is_some, None};
+ghost use Rattle.noise_names.specs.declared.token.Token.TheVariants.{E, S};
+ghost use Rattle.noise_names.specs.Plan.{has_psk, pre_of};
+ghost use Rattle.noise_state.specs.History.{History};
+ghost use Rattle.noise_state.specs.Standing.{StateStands};
+ghost use Rattle.noise_handshake.specs.Setup.{has_token, keys_of, public_keys, setup_fault};
+ghost use Rattle.noise_handshake.specs.View.{with_premessage};
+ghost use Rattle.noise_trace.specs.Start.{key_steps, pre_steps, start_step, start_steps, named, prologued};
+
+use crate::following::mix_ephemeral;
+use crate::values::values_of;
+use crate::{StartPart, StartStep};
+use arrayvec::ArrayVec;
+use noise_handshake::{Keys, Own, Remote, setup_is_whole, tokens_stand};
+use noise_names::{Role, Token, ValidPattern};
+use noise_state::SymmetricState;
+
+// Adds the step of a part.
+fn add_step(steps: &mut ArrayVec<StartStep, 6>, part: StartPart, state: &SymmetricState)
+    requires { length steps.old.items < 6 }
+    ensures len { length steps.new.items ≡ length steps.old.items + 1 }
+    ensures added { (r : History) → StateStands state.now r → steps.new.items ≡ steps.old.items ++ start_step part r ∷ [] }
+{
+    steps.push(StartStep {
+        part,
+        state: values_of(state),
+    });
+}
+
+// Mixes the key of a pre-message's token, if it is there, and adds its step.
+fn mix_one(
+    state: &mut SymmetricState,
+    psks: bool,
+    party: Role,
+    keys: &Remote,
+    token: Token,
+    steps: &mut ArrayVec<StartStep, 6>,
+)
+    requires room { length steps.old.items < 6 }
+    ensures many { length steps.new.items ≤ length steps.old.items + 1 }
+    ensures mixed { (r : History) → StateStands state.old r
+        → (token ≡ E → is_some keys.now.e ≡ true) → (token ≡ S → is_some keys.now.s ≡ true)
+        → StateStands state.new (with_premessage psks keys.now (token ∷ []) r)
+        × (steps.new.items ≡ steps.old.items ++ key_steps psks party keys.now (token ∷ []) r) }
+{
+    match (token, keys.e, keys.s) {
+        (Token::E, Some(key), _) => {
+            mix_ephemeral(state, psks, &key);
+            add_step(steps, StartPart::Key(party, token), state);
+        }
+        (Token::S, _, Some(key)) => {
+            state.mix_hash(&key);
+            add_step(steps, StartPart::Key(party, token), state);
+        }
+        _ => {}
+    }
+}
+
+// Mixes the keys of a party's pre-message, and adds a step for each.
+fn mix_keys(
+    state: &mut SymmetricState,
+    psks: bool,
+    party: Role,
+    keys: &Remote,
+    tokens: &[Token],
+    steps: &mut ArrayVec<StartStep, 6>,
+)
+    requires room { length steps.old.items + length tokens.now ≤ 6 }
+    ensures many { length steps.new.items ≤ length steps.old.items + length tokens.now }
+    ensures mixed { (r : History) → StateStands state.old r
+        → (has_token E tokens.now ≡ true → is_some keys.now.e ≡ true) → (has_token S tokens.now ≡ true → is_some keys.now.s ≡ true)
+        → StateStands state.new (with_premessage psks keys.now tokens.now r)
+        × (steps.new.items ≡ steps.old.items ++ key_steps psks party keys.now tokens.now r) }
+{
+    let Some((token, later)) = tokens.split_first() else {
+        return;
+    };
+    mix_one(state, psks, party, keys, *token, steps);
+    mix_keys(state, psks, party, keys, later, steps);
+}
+
+// The public keys of a party, for a role with these keys of its own and these of the other party.
+fn keys_of(party: Role, role: Role, own: &Remote, remote: &Remote) -> Remote
+    ensures { result ≡ keys_of party role own.now remote.now }
+{
+    match (party, role) {
+        (Role::Initiator, Role::Initiator) => *own,
+        (Role::Responder, Role::Responder) => *own,
+        _ => *remote,
+    }
+}
+
+// The public keys of a party's own.
+fn public_keys<K: Keys>(keys: &K) -> Remote
+    ensures { result ≡ public_keys (K.public_of keys.now) }
+{
+    Remote {
+        e: keys.public(Own::Ephemeral),
+        s: keys.public(Own::Static),
+    }
+}
+
+/// The steps of a handshake's start, of a setup that `Handshake::new` takes: one for the protocol name, one for the prologue, an
+/// empty one too, and one for each public key of the pre-messages, the initiator's first.
+///
+/// Of another setup the steps may leave out keys.
+pub fn start_steps<K: Keys>(
+    pattern: &ValidPattern,
+    role: Role,
+    prologue: &[u8],
+    keys: &K,
+    remote: &Remote,
+) -> ArrayVec<StartStep, 6>
+    ensures { (secrets : ℕ) → setup_fault pattern.now role (K.public_of keys.now) remote.now secrets ≡ None
+        → result.items ≡ start_steps pattern.now role prologue.now (public_keys (K.public_of keys.now)) remote.now }
+{
+    setup_is_whole();
+    tokens_stand();
+    let plan = pattern.pattern();
+    let psks = !plan.is_plain();
+    let own = public_keys(keys);
+    let initiator = keys_of(Role::Initiator, role, &own, remote);
+    let responder = keys_of(Role::Responder, role, &own, remote);
+    let name = plan.name().write();
+    let mut state = SymmetricState::new(&name);
+    let mut steps = ArrayVec::new();
+    add_step(&mut steps, StartPart::Name, &state);
+    state.mix_hash(prologue);
+    add_step(&mut steps, StartPart::Prologue, &state);
+    let first = plan.pre(Role::Initiator);
+    mix_keys(
+        &mut state,
+        psks,
+        Role::Initiator,
+        &initiator,
+        first,
+        &mut steps,
+    );
+    let second = plan.pre(Role::Responder);
+    mix_keys(
+        &mut state,
+        psks,
+        Role::Responder,
+        &responder,
+        second,
+        &mut steps,
+    );
+    steps
+}
