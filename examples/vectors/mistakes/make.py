@@ -159,7 +159,9 @@ class Party:
 
     def agree(self, token: str) -> None:
         """The tokens ee, es, se: the first letter is the initiator's key (7.1)."""
-        own, theirs = token if self.role == "initiator" or self.mistake == "es-se" else token[::-1]
+        own, theirs = token[0], token[1]
+        if self.role == "responder" and self.mistake != "es-se":
+            own, theirs = theirs, own
         answer = private_key(self.role, own).exchange(X25519PublicKey.from_public_bytes(self.remote[theirs]))
         self.mix_key(answer)
 
@@ -321,14 +323,16 @@ class Run:
         """The lines of the file before its events."""
         lines = ["vector 2", f"protocol Noise_{self.mistake.pattern}_25519_ChaChaPoly_SHA256", "prologue -"]
         lines.append(f"interval {self.mistake.interval}")
-        lines += [f"psk {PSK.hex()}"] * ("psk" in self.mistake.pattern)
+        if "psk" in self.mistake.pattern:
+            lines.append(f"psk {PSK.hex()}")
         for role in ROLES:
             lines += party_lines(role)
         return lines
 
     def compared(self) -> list[str]:
         """The lines of a file that expects the frames of the party with the mistake. The handshake has two messages."""
-        lines, expected = self.head(), []
+        lines = self.head()
+        expected: list[str] = []
         for number, tokens in enumerate(self.messages):
             writer, reader = ROLES[number % 2], ROLES[1 - number % 2]
             message = self.parties[writer].write(tokens, PAYLOAD)
