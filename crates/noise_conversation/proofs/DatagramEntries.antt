@@ -28,9 +28,11 @@ use Rattle.noise_duel.specs.DatagramRuns.PartyOpens.{opens, rejects}
 use Rattle.noise_duel.specs.DatagramRuns.PartySeals.{seals, seals_nothing}
 use Rattle.noise_duel.specs.DatagramSides.{DatagramSide, DatagramSides, NonceMessage, at_nonce, datagrams_in, meeting, new_party, of_nonce, opening, party, sealing, whole}
 use Rattle.noise_duel.specs.Forgery.{ForgedAt}
-use Rattle.noise_duel.specs.Sides.{TransportMessage}
+use Rattle.noise_duel.specs.Sides.{Sides, TransportMessage}
 use Rattle.noise_conversation.specs.Datagrams.{nonce_in, SealedAt, OpenedAt, IsToldOfDatagrams, DatagramsAreTold, ForgedDatagram, EntriesArrive}
-use Rattle.noise_conversation.specs.Datagrams.{DatagramEntriesAgree, DatagramKeysCome}
+use Rattle.noise_duel.specs.Clash.{ClashFound, ClashStands}
+use Rattle.noise_duel.specs.Networks.{HaveOneHistory, HistoriesCollide}
+use Rattle.noise_conversation.specs.Datagrams.{DatagramEntriesAgree, DatagramKeysCome, HistoriesClash}
 
 -- ---- lists
 
@@ -646,3 +648,12 @@ module _ (agree : DatagramRunsAgree) where
         there = pictures.responder.receive_key ∙ ap Some there ∙ sym pictures.initiator.send_key;
         back = pictures.initiator.receive_key ∙ ap Some back ∙ sym pictures.responder.send_key;
       }
+
+-- ---- with equal hashes
+
+-- what follows of one history, or the position of a clash
+pub or-clash : {A : Type 0} → ClashStands → ClashFound → (d : Sides) → (HaveOneHistory d → A) → HaveOneHistory d ⊎ HistoriesCollide d → A ⊎ HistoriesClash d
+or-clash stands first d one (inl same) = inl (one same)
+or-clash stands first d one (inr (i, c)) =
+    let at = first d.initiator.view.party.history d.responder.view.party.history i c in
+    inr (at.0, at.1, stands d.initiator.view.party.history d.responder.view.party.history at.0 at.1)

@@ -9,7 +9,7 @@ use Rattle.noise_duel.specs.declared.report.Report.{Report}
 use Rattle.noise_duel.specs.Conversation.{facing}
 use Rattle.noise_duel.specs.Entries.{bytes_of, notes_of}
 use Rattle.noise_duel.specs.HeldDuel.{HeldDuel, DuelStands}
-use Rattle.noise_duel.specs.Networks.{HaveOneHash, HaveOneHistory, HistoriesCollide, PayloadsAgree}
+use Rattle.noise_duel.specs.Networks.{HaveOneHash, HaveOneHistory, HistoriesCollide, PayloadsAgree, ShareSecrets}
 use Rattle.noise_duel.specs.Reports.{Reports}
 use Rattle.noise_duel.specs.Sides.{Sides}
 use Rattle.noise_conversation.specs.Entries.{EntriesAgree, KeysMeet}
@@ -24,6 +24,8 @@ module _ {K : Type 0} (public_of : K → Own → Option (List ℕ)) (agreement :
     -- what the report tells of each role as written and accepted is what it wrote and accepted in the run, whatever the hashes are
     pub initiator : IsTold Initiator events (notes_of report.entries.items) reports.last.initiator
     pub responder : IsTold Responder events (notes_of report.entries.items) reports.last.responder
+    -- the psks are the same, and the keys answer one another alike
+    pub secrets : ShareSecrets p s.initiator s.responder reports.last
     pub history : (hash : List ℕ) → hash_in duel.initiator.phase ≡ Some hash → hash_in duel.responder.phase ≡ Some hash
         → HaveOneHistory reports.last ⊎ HistoriesCollide reports.last
     pub payloads : (hash : List ℕ) → hash_in duel.initiator.phase ≡ Some hash → hash_in duel.responder.phase ≡ Some hash

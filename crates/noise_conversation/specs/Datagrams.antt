@@ -7,13 +7,15 @@ use Rattle.noise_state.specs.History.{History}
 use Rattle.noise_session.specs.Transport.{packet}
 use Rattle.noise_session.specs.Datagrams.{DatagramView, datagram, nonce_named}
 use Rattle.noise_events.specs.DatagramEvents.{DatagramEvent, Seal, Open, Raw}
+use Rattle.noise_duel.specs.Clash.{clash_position}
+use Rattle.noise_duel.specs.Collision.{Collision}
 use Rattle.noise_duel.specs.DatagramAgreement.{HaveOneBeginning}
 use Rattle.noise_duel.specs.DatagramNotes.{DatagramNote, Sealed, Payload}
 use Rattle.noise_duel.specs.DatagramReports.{HeldDatagramDuel, DuelPictures, DatagramReports, datagram_notes_of}
 use Rattle.noise_duel.specs.declared.datagram_report.DatagramReport.{DatagramReport}
 use Rattle.noise_duel.specs.DatagramRuns.{DatagramRun}
 use Rattle.noise_duel.specs.DatagramSides.{DatagramSide, DatagramSides, NonceMessage, meeting, of_nonce, whole}
-use Rattle.noise_duel.specs.Sides.{TransportMessage}
+use Rattle.noise_duel.specs.Sides.{Sides, TransportMessage}
 
 -- the nonce of the datagram that comes in an event: the datagram's number, or the nonce that the bytes name (Noise 11.4)
 abbrev pub nonce_in : DatagramEvent → Option ℕ
@@ -93,3 +95,8 @@ pub record DatagramsOverNetwork (v w : DatagramView) (events : List DatagramEven
   pub there : EntriesArrive v.history Initiator events (datagram_notes_of report.entries.items)
   pub back : EntriesArrive v.history Responder events (datagram_notes_of report.entries.items)
   pub keys : DatagramKeysMeet duel
+
+-- The texts that the two ends hashed clash: `clash_position` names the first position at which they differ with one digest.
+abbrev pub HistoriesClash : Sides → Type 0
+HistoriesClash d = (k : ℕ) × (clash_position d.initiator.view.party.history d.responder.view.party.history ≡ Some k)
+    × Collision d.initiator.view.party.history d.responder.view.party.history k

@@ -1,10 +1,10 @@
 //! Datagrams between two ends, over any network.
 #![tactic(auto)]
 
-ghost use Rattle.std.specs.Prelude.{◌≡◌, ℕ, List, IfOk, true};
+ghost use Rattle.std.specs.Prelude.{◌≡◌, ◌⊎◌, ℕ, List, IfOk, Some, true};
 ghost use Rattle.noise_names.specs.declared.token.Role.{Role};
 ghost use Rattle.noise_names.specs.Plan.{Plan};
-ghost use Rattle.noise_session.specs.Ends.{EndView};
+ghost use Rattle.noise_session.specs.Ends.{EndView, hash_in};
 ghost use Rattle.noise_session.specs.Datagrams.{datagrams_of};
 ghost use Rattle.noise_session.specs.EndDatagrams.{is_datagram_ready};
 ghost use Rattle.noise_events.specs.DatagramEvents.{datagram_events_of};
@@ -14,13 +14,16 @@ ghost use Rattle.noise_duel.specs.DatagramReports.{DatagramReports, DuelPictures
 ghost use Rattle.noise_duel.specs.DatagramSides.{meeting};
 ghost use Rattle.noise_duel.specs.HeldDuel.{DuelStands, facing_as};
 ghost use Rattle.noise_duel.specs.Messages.{Start};
-ghost use Rattle.noise_duel.specs.Networks.{HaveOneHistory};
+ghost use Rattle.noise_duel.specs.Networks.{HaveOneHistory, ShareSecrets};
 ghost use Rattle.noise_duel.specs.Notes.{Note};
 ghost use Rattle.noise_duel.specs.Runs.{Run};
 ghost use Rattle.noise_duel.specs.Sides.{Sides};
-ghost use Rattle.noise_conversation.specs.Datagrams.{DatagramEntriesAgree, DatagramKeysCome, DatagramsAreTold, DatagramsOverNetwork};
+ghost use Rattle.noise_conversation.specs.Datagrams.{DatagramEntriesAgree, DatagramKeysCome, DatagramsAreTold, DatagramsOverNetwork, HistoriesClash};
 
-use noise_duel::{DatagramDuel, DatagramEvent, DatagramReport, Duel, datagrams_agree};
+use crate::network::hash_is_told;
+use noise_duel::{
+    DatagramDuel, DatagramEvent, DatagramReport, Duel, clash_told, datagrams_agree, ends_agree,
+};
 use noise_handshake::Keys;
 use noise_session::Window;
 use std::alloc::{AllocError, Global};
@@ -28,9 +31,9 @@ use std::alloc::{AllocError, Global};
 /// Both ends of a duel go over to datagrams, with this window, and any events run between them: datagrams get lost, come twice or in another order, or
 /// were sealed by nobody.
 ///
-/// Where a run over frames left the two ends with one history, as equal hashes say, each payload that the report tells of a role as opened, at a nonce,
-/// is the one that it tells of the other as sealed, as its datagram of that number, or the datagram is forged; and no nonce is opened at two places
-/// (Noise, 11.4).
+/// Where a run over frames left the two ends with one history, each payload that the report tells of a role as opened, at a nonce, is the one that it
+/// tells of the other as sealed, as its datagram of that number, or the datagram is forged; and no nonce is opened at two places (Noise, 11.4). So it is
+/// where both ends tell one hash and have the same secrets, or the texts that they hashed clash at `clash_position`.
 ///
 /// At Err, for lack of memory, the ends are gone.
 pub fn run_datagrams<A: Keys, B: Keys>(
@@ -47,7 +50,15 @@ pub fn run_datagrams<A: Keys, B: Keys>(
         → Run (facing p a b i j) opening notes d → DuelStands A.public_of A.agreement B.public_of B.agreement duel d → HaveOneHistory d
         → IfOk result (λ r. DatagramsOverNetwork (datagrams_of d.initiator.view.party window) (datagrams_of d.responder.view.party window)
         (datagram_events_of events.now) r.0 r.1) }
+    ensures hashes { (p : Plan) (a b : Start) (i j : ℕ) (opening : List Event) (notes : List (Role × Note)) (d : Sides) (hash : List ℕ)
+        → Run (facing p a b i j) opening notes d → DuelStands A.public_of A.agreement B.public_of B.agreement duel d → ShareSecrets p a b d
+        → hash_in duel.initiator.phase ≡ Some hash → hash_in duel.responder.phase ≡ Some hash
+        → IfOk result (λ r. DatagramsOverNetwork (datagrams_of d.initiator.view.party window) (datagrams_of d.responder.view.party window)
+        (datagram_events_of events.now) r.0 r.1 ⊎ HistoriesClash d) }
 {
+    hash_is_told::<A, B>();
+    ends_agree();
+    clash_told();
     let parties = go_over(duel, window);
     datagrams_agree();
     datagram_entries_agree();

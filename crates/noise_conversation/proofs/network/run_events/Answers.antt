@@ -33,6 +33,7 @@ returns g c =
         reports = told.0;
         initiator = payloads.0;
         responder = payloads.1;
+        secrets = inr secrets;
         history = λ hash e f. told.1.one (hashes hash told.0.stands e f) (inr secrets);
         payloads = λ hash e f. told.1.payloads refl (hashes hash told.0.stands e f) (inr secrets);
         entries = λ hash e f.
