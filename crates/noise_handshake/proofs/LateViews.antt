@@ -440,6 +440,10 @@ module _ {K : Type 0} (public_of : K → Own → Option (List ℕ)) (agreement :
         wants-held v h.secrets given-now alike m own key (length (tokens_now v)) (few-here (length (tokens_now v))) a
         (wants-read-all (holding v h.secrets) m own key a)
 
+    -- where no answer lacks
+    pub read-lacks : ((token : ℕ) → Refuses (holding v h.secrets) m token Agreement → ⊥) → (token : ℕ) → Refuses v m token Agreement → ⊥
+    read-lacks none token r = none token (refuses-back v h.secrets given-now alike m token Agreement (few-here (suc token)) r)
+
     declines-held : (fault : ReadFault) → Declines (holding v h.secrets) m fault → Declines v m fault
     declines-held read.Ended d = d
     declines-held read.Done d = d

@@ -54,7 +54,8 @@ impl<K: Keys> LateHandshake<K> {
     ghost use Rattle.noise_names.specs.Validity.{IsValid};
     ghost use Rattle.noise_state.specs.History.{hash};
     ghost use Rattle.noise_names.specs.Tokens.{is_psk};
-    ghost use Rattle.noise_handshake.specs.View.{View, Accepts, tokens_at};
+    ghost use Rattle.noise_handshake.specs.View.{View, Accepts, Refuses, tokens_at};
+    ghost use Rattle.noise_handshake.specs.declared.faults.Cause.TheVariants.{Agreement};
     ghost use Rattle.noise_handshake.specs.Held.{is_turn, read_fault, write_fault, message_len_of, Advances};
     ghost use Rattle.noise_handshake.specs.Opening.{Opens};
     ghost use Rattle.noise_handshake.specs.Parts.{held_of, HasProgress};
@@ -273,6 +274,39 @@ impl<K: Keys> LateHandshake<K> {
                         self.filled.end();
                         Err(LateUnread::Declined(stop.fault()))
                     }
+                },
+            },
+        }
+    }
+
+    /// For want of which DH answer or secret this message would not be read now, as `read_or_ask` tells it. None where it lacks neither, and
+    /// where no message is due. Nothing changes.
+    pub fn wants_to_read(&self, message: &[u8]) -> Option<Want>
+        ensures wants { (v : View) (later : List (List ℕ)) → Stands K.public_of K.agreement (with_later self.now later) v → MatchOption result
+            ((token : ℕ) → Refuses v message.now token Agreement → ⊥)
+            (λ want. LeavesLateUnread v (length self.now.secrets) message.now (LateUnread.Wants want)) }
+        ensures asked { (v : View) (later : List (List ℕ)) → Stands K.public_of K.agreement (with_later self.now later) v → (remote : Option (List ℕ))
+            → WantsSecretToRead v (length self.now.secrets) message.now remote → result ≡ Some (Want.Secret remote) }
+    {
+        if let Some(_) = self.filled.read_fault() {
+            return None;
+        }
+        match self.filled.psk_after(self.given()) {
+            None => match self.filled.wants_to_read(message) {
+                Some(want) => {
+                    let (own, key) = want;
+                    Some(Want::Answer { own, key })
+                }
+                None => None,
+            },
+            Some(k) => match self.filled.read_before(k, message) {
+                Ok(remote) => Some(Want::Secret { remote }),
+                Err(stop) => match stop.want {
+                    Some(want) => {
+                        let (own, key) = want;
+                        Some(Want::Answer { own, key })
+                    }
+                    None => None,
                 },
             },
         }
