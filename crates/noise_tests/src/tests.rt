@@ -1,6 +1,7 @@
 //! What no contract says: worked frames and packets, what readers and writers that fail come to, and that each call can succeed.
 
 mod conversations;
+mod datagram_conversations;
 mod datagram_duels;
 mod datagrams;
 mod duels;

@@ -29,7 +29,7 @@ fn lines_for(
 }
 
 // Both key pairs, each key of one byte throughout.
-fn both_keys(ephemeral: u8, fixed: u8) -> XorKeys
+pub fn both_keys(ephemeral: u8, fixed: u8) -> XorKeys
     ensures e { IsSome result.e }
     ensures s { IsSome result.s }
 {
@@ -58,7 +58,7 @@ fn comes_through(rt: &impl Abort, alloc: Global, pattern: ValidPattern, psks: &[
 }
 
 // A fundamental pattern with psk tokens at these places.
-fn pattern(rt: &impl Abort, base: &[u8], places: &[u8]) -> ValidPattern {
+pub fn pattern(rt: &impl Abort, base: &[u8], places: &[u8]) -> ValidPattern {
     let plain = fundamental(base).expect(rt, "a fundamental pattern");
     let places = PskPlaces::new(places).expect(rt, "places");
     let is_plain = plain.is_plain();

@@ -1,0 +1,74 @@
+//! Datagrams after a session that opened over frames: the caller has no condition, so what the law on datagrams asks of two ends can be met.
+
+ghost use Rattle.std.specs.Prelude.{◌⊎◌, IfSome};
+ghost use Rattle.noise_events.specs.DatagramEvents.{datagram_events_of};
+ghost use Rattle.noise_events.specs.declared.window.Window.TheVariants.{W64};
+ghost use Rattle.noise_session.specs.Datagrams.{datagrams_of};
+ghost use Rattle.noise_duel.specs.Sides.{Sides};
+ghost use Rattle.noise_conversation.specs.Datagrams.{DatagramsOverNetwork, HistoriesClash};
+
+use super::conversations::{both_keys, pattern};
+use noise_conversation::{run_datagrams, run_events};
+use noise_duel::{Cuts, DatagramDuel, DatagramEvent, DatagramReport, Event};
+use noise_names::{Role, ValidPattern};
+use noise_session::Window;
+use std::alloc::Global;
+
+// Any events between two ends of equal setup, and then datagrams, where both tell one hash and may go over.
+fn over_datagrams(
+    alloc: Global,
+    pattern: ValidPattern,
+    events: &[Event],
+    datagrams: &[DatagramEvent],
+) -> Option<(DatagramDuel, DatagramReport)>
+    ensures { IfSome result (λ r. (d : Sides) × (DatagramsOverNetwork (datagrams_of d.initiator.view.party W64) (datagrams_of d.responder.view.party W64)
+        (datagram_events_of datagrams.now) r.0 r.1 ⊎ HistoriesClash d)) }
+{
+    let initiator = both_keys(0x11, 0x22);
+    let responder = both_keys(0x33, 0x44);
+    let made = run_events(
+        alloc,
+        pattern,
+        b"tests",
+        initiator,
+        responder,
+        &[],
+        0,
+        events,
+    );
+    let (duel, _report) = match made {
+        Ok(made) => made,
+        Err(_) => return None,
+    };
+    let first = duel.initiator().hash()?;
+    let second = duel.responder().hash()?;
+    if first != second {
+        return None;
+    }
+    let ready = duel.initiator().datagram_ready() && duel.responder().datagram_ready();
+    if !ready {
+        return None;
+    }
+    match run_datagrams(alloc, duel, Window::W64, datagrams) {
+        Ok(ran) => Some(ran),
+        Err(_) => None,
+    }
+}
+
+#[test]
+fn come_after_the_handshake(rt: HostRuntime) {
+    let pattern = pattern(&rt, b"NN", &[]);
+    let events = [
+        Event::Say(Role::Initiator, Vec::new(rt.alloc()), Cuts::whole()),
+        Event::Say(Role::Responder, Vec::new(rt.alloc()), Cuts::whole()),
+    ];
+    let datagrams = [
+        DatagramEvent::Seal(Role::Initiator, Vec::new(rt.alloc())),
+        DatagramEvent::Open(Role::Responder, 0),
+        DatagramEvent::Open(Role::Responder, 0),
+    ];
+    let ran = over_datagrams(rt.alloc(), pattern, &events, &datagrams);
+    let (_, report) = ran.expect(&rt, "datagrams");
+    let told = report.entries.len();
+    assert!(rt; told == 3);
+}
