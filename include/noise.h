@@ -22,7 +22,8 @@
 
    noise_stage says whose turn it is. noise_finish returns NOISE_NOT_DONE as long as messages are due.
 
-   A WHOLE HANDSHAKE, for either party. FRAMES, below, has `send` and `take`; `x25519` is the function of the curve:
+   A WHOLE HANDSHAKE, for either party. FRAMES, below, has `send_frame` and `take_frame`; `x25519` is the function of the curve, which returns
+   false where a library such as OpenSSL refuses a result of zeros:
 
        noise_setup setup = {0};                              // {0}: the initiator, without keys or psks
        setup.responder = is_responder;
@@ -38,21 +39,25 @@
            noise_told told;
            size_t len = 0;
            noise_stage(&h, &stage);
-           if (!stage.writes_next) len = take(message);
+           if (!stage.writes_next) len = take_frame(message);
            for (;;) {
                code = stage.writes_next ? noise_write(&h, payload, 0, message, sizeof message, &told) : noise_read(&h, message, len, &told);
                if (code != NOISE_WANTED) break;
-               x25519(told.of_static ? own_static_secret : own_ephemeral_secret, told.remote, answer);
+               if (!x25519(told.of_static ? own_static_secret : own_ephemeral_secret, told.remote, answer)) fail();
                if (noise_answer(&h, told.of_static, told.remote, answer) != NOISE_OK) fail();
            }
            if (code != NOISE_OK) fail();
-           if (stage.writes_next) send(message, told.len);   // else the payload is the told.len bytes at message + told.from
+           if (stage.writes_next) send_frame(message, told.len);   // else the payload is the told.len bytes at message + told.from
        }
        if (code != NOISE_OK) fail();
        noise_key remote;
        if (noise_transport_remote_static(&t, &remote) != NOISE_OK) fail();
        if (!remote.present || memcmp(remote.bytes, expected_remote_static, 32) != 0) fail();
        noise_wipe(&h, sizeof h);                             // and t, once it is no longer used
+       noise_wipe(answer, sizeof answer);                    // and the ephemeral secret key
+
+   With XX this compares the key after the whole handshake, in which the initiator has shown its own static key. It can compare earlier: after
+   message 2, with noise_remote_static.
 
    A PSK FOR EACH PEER. A responder of IKpsk2 or XXpsk3 learns only from message 1 or 3 which party it talks to. Start it with setup.psk_count 0.
    The call that comes to the psk token returns NOISE_WANTED_PSK with the other party's static public key. In the loop above, after noise_write
@@ -62,27 +67,34 @@
                    uint8_t psk[32];
                    if (!told.remote_known || !psk_of(told.remote, psk)) fail();
                    if (noise_set_psk(&h, psk) != NOISE_OK) fail();
+                   noise_wipe(psk, sizeof psk);
                    continue;                             // repeats the call
                }
 
-   The other party has not proved yet that it has the secret key, nor the psk: choose the psk by the key, and do nothing else before NOISE_OK. A
-   wrong psk gives NOISE_TAG. So 32 random bytes for an unknown key hide which keys are known.
+   The other party has not proved yet that it has the secret key, nor the psk: choose the psk by the key, and do nothing else until a message of
+   that party which was encrypted after the psk has been accepted. With XXpsk3 that is message 3, at NOISE_OK of noise_read. With IKpsk2 it is the
+   first transport message that opens: this party writes the message with the psk, so NOISE_OK of noise_write proves nothing.
+   A wrong psk gives NOISE_TAG at the party that reads the message. The party that wrote the last message of a handshake finishes with NOISE_OK,
+   and learns of a refusal only from what comes, or doesn't come, afterwards. To refuse a peer, wipe the handshake and close the connection; or
+   pass 32 random bytes, which hides which keys are known.
 
    FRAMES. A message doesn't contain its length. Over a stream, send the length before the message, in two bytes, the higher byte first
    (Noise, 13). A datagram needs no length:
 
-       void send(const uint8_t *message, size_t len) {
+       void send_frame(const uint8_t *message, size_t len) {
            uint8_t head[2] = { (uint8_t)(len >> 8), (uint8_t)len };
            write_all(head, 2);
            write_all(message, len);
        }
-       size_t take(uint8_t message[65535]) {
+       size_t take_frame(uint8_t message[65535]) {
            uint8_t head[2];
            read_all(head, 2);
            size_t len = (size_t)head[0] << 8 | head[1];
            read_all(message, len);
            return len;
        }
+
+   No tag protects the end of a stream: somebody may cut it. Let a last message say that it is the last, and take any other end for an error.
 
    WHAT THE LIBRARY CHECKS. A call returns a code for each wrong value. No length, no count and no content of a kept struct makes a call stop
    the process or access memory that it wasn't given. NOISE_STRUCT means that the kept struct holds no state that a call could have made. Each
@@ -103,11 +115,13 @@
      noise_datagrams may be used like its halves if, from then on, one only seals and the other only opens: each call uses and changes only the
      state of its own direction.
    - Each handshake has a new ephemeral key pair. A pair that was used before makes the same keys again.
-   - X25519 may give all zeros. If you want such a key refused (Noise, 12.1), don't pass it to noise_answer, and end the handshake.
+   - X25519 may give all zeros; some libraries, such as OpenSSL, return an error then. If you want such a key refused (Noise, 12.1), don't pass
+     the result to noise_answer, and end the handshake.
    - No call compares the other party's static key with the one that you expect. noise_remote_static returns it; compare it yourself.
 
    WIPING. The kept structs contain psks, X25519 answers and keys, also after the handshake has ended. Overwrite them with noise_wipe: a
-   noise_handshake after noise_finish, and each other struct once it is no longer used. Calls don't overwrite what they leave on the stack. A
+   noise_handshake after noise_finish, and each other struct once it is no longer used; and what you have passed: setup with its psks, a psk, an
+   answer, the ephemeral secret key. No call keeps a pointer, so this may be done right after the call. Calls don't overwrite what they leave on the stack. A
    call uses at most 14 KB of stack. checks/c-library/stack.c measured this on x86-64: it fills the stack, and looks at what each call has changed.
 
    ANOTHER BUILD. If the program may run with another build of the library than this header's, compare noise_handshake_size() with
@@ -143,16 +157,16 @@ enum noise_code {
     NOISE_STATIC_MISSING = 5,      /* the pattern has a token s of this party: set setup.s */
     NOISE_REMOTE_MISSING = 6,      /* setup.remote_e or setup.remote_s lacks a key of the other party's pre-message: get it first, or use another pattern */
     NOISE_REMOTE_UNEXPECTED = 7,   /* setup.remote_e or setup.remote_s has a key that isn't in the other party's pre-message: leave it out */
-    NOISE_PSK_COUNT = 8,           /* there are more psks than psk tokens. noise_set_psk: no psk token that is still to come lacks its psk */
+    NOISE_PSK_COUNT = 8,           /* there are more psks than psk tokens. noise_set_psk: each psk token that is still to come has its psk already */
 
     /* noise_write, noise_read. */
     NOISE_NOT_YOUR_TURN = 10,      /* noise_write: the other party writes the next message. noise_read: this party does */
     NOISE_TOO_LONG = 11,           /* writing, sealing: the result would be too long; send less. noise_datagrams_open: the datagram is too long; drop it */
     NOISE_DONE = 12,               /* all messages of the handshake have passed: call noise_finish */
     NOISE_ENDED = 13,              /* a refused message has ended the handshake: start a new one */
-    NOISE_AGREEMENT = 14,          /* only for a changed struct (otherwise NOISE_WANTED is returned); noise_write may then have changed `out` */
+    NOISE_AGREEMENT = 14,          /* as NOISE_STRUCT: only for a changed struct (otherwise NOISE_WANTED comes); noise_write may have changed `out` */
     NOISE_SHORT = 15,              /* the message has too few bytes. After noise_read the handshake has ended; tell nobody why */
-    NOISE_TAG = 16,                /* a tag is wrong: the parties differ in something, or the message was changed. After noise_read the handshake has ended */
+    NOISE_TAG = 16,                /* a tag is wrong: the parties differ in a key, a psk or the prologue, or the message was changed. noise_read: ended */
     NOISE_EXHAUSTED = 17,          /* the nonce is 2^64 - 1: this key encrypts no more messages; start a new handshake */
     NOISE_ROOM = 18,               /* `out` is too short: told.len of noise_write, or noise_message_len, gives the length that it needs */
     NOISE_NOT_DONE = 19,           /* noise_finish: messages of the handshake are still due */
@@ -289,7 +303,7 @@ uint32_t noise_answer(noise_handshake *h, uint8_t of_static, const uint8_t remot
 
 /* Supplies the psk of the first psk token that lacks one: after noise_start those that setup.psks had are there, in the order of the tokens. Call it
    after NOISE_WANTED_PSK, or before. From then on all is as if noise_start had been given this psk too.
-   OK · STRUCT · PSK_COUNT: no psk token that is still to come lacks its psk. At any code but OK *h is unchanged. A psk that is there can't be
+   OK · STRUCT · PSK_COUNT: each psk token that is still to come has its psk already. At any code but OK *h is unchanged. A psk that is there can't be
    replaced: after a wrong one noise_read of the message returns TAG, and the handshake has ended. */
 uint32_t noise_set_psk(noise_handshake *h, const uint8_t psk[32]);
 
@@ -354,7 +368,7 @@ uint32_t noise_transport_seal_in_place(noise_transport *t, uint8_t *buffer, size
 /* Opens the next message of the other party, in place.
    OK: the payload is now the told->len bytes of message from told->from on · STRUCT · LENGTH · ONE_WAY · EXHAUSTED · SHORT · TAG. At any code but OK
    *t and message are unchanged, so a forged message that somebody inserted does no harm. But if a message was lost or changed, all later
-   messages give TAG: over a stream, close the connection at the first. */
+   messages give TAG: over a stream, close the connection at the first code but OK. */
 uint32_t noise_transport_open(noise_transport *t, uint8_t *message, size_t message_len, noise_told *told);
 
 /* Returns the nonces of the next message to seal and of the next to open: how many were sealed, and opened, so far. OK · STRUCT. */
@@ -364,7 +378,8 @@ uint32_t noise_transport_nonces(const noise_transport *t, uint64_t *send, uint64
 uint32_t noise_transport_hash(const noise_transport *t, uint8_t hash[32]);
 uint32_t noise_transport_remote_static(const noise_transport *t, noise_key *key);
 
-/* Splits a transport into the half that seals and the half that opens, for two threads. Ask for the hash and the other party's static key before.
+/* Splits a transport into the half that seals and the half that opens, for two threads. Ask for the hash, the other party's static key and the nonces
+   before.
    OK: *sender and *receiver may have held anything before; *t is now all zeros, and each call with it returns STRUCT · STRUCT: all is unchanged. */
 uint32_t noise_transport_split(noise_transport *t, noise_sender *sender, noise_receiver *receiver);
 
@@ -446,7 +461,7 @@ static inline const char *noise_text(uint32_t code) {
     case NOISE_ENDED: return "The handshake has ended, since a message was refused.";
     case NOISE_AGREEMENT: return "A result of X25519 is missing in a struct that something else has changed.";
     case NOISE_SHORT: return "The message has too few bytes.";
-    case NOISE_TAG: return "The message is not one that the other party made for this call.";
+    case NOISE_TAG: return "A tag is wrong: the message was changed, or the parties differ in a key, a psk or the prologue.";
     case NOISE_EXHAUSTED: return "This key encrypts and decrypts no more messages.";
     case NOISE_ROOM: return "The buffer is too short for the message.";
     case NOISE_NOT_DONE: return "Messages of the handshake are still due.";
