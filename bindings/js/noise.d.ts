@@ -104,7 +104,10 @@ export class Datagrams implements Sealer, Opener {
 
 export interface NoiseSocketOptions extends HandshakeOptions {
   interval?: bigint | number;
-  /** Called after the last message; unless it returns true, the channel is closed. */
+  /**
+   * Called once, as soon as the other party's static key is known, before anything else is sent or read; in a handshake without such a key after the
+   * last message, with undefined. Unless it returns true, the connection is closed, and `open` throws NOISE_KEY.
+   */
   judge?(remoteStatic: Uint8Array | undefined): boolean | Promise<boolean>;
 }
 /** What is used of a stream of Node, as a socket of TCP. */

@@ -249,11 +249,38 @@ test('with the module loaded', async (t) => {
       NoiseSocket.open(far, { pattern, staticKey: await KeyPair.generate(), responder: true }).then((channel) => channel.receive()),
     ]);
     assert.equal(a.reason.name, 'NOISE_KEY');
-    assert.deepEqual([b.status, b.value], ['fulfilled', undefined]);
+    assert.match(a.reason.message, /judge didn't return true/u);
+    assert.equal(b.reason?.name, 'NOISE_CLOSED'); // no message 3
     const [cut, cutter] = pair();
     await Promise.all([assert.rejects(NoiseSocket.open(cut, { pattern, staticKey: await KeyPair.generate() }), refused(code.CLOSED)),
       (async () => { const reader = cutter.readable.getReader(); await reader.read(); await cutter.writable.getWriter().close(); })()]);
   });
+
+  // Which key `judge` gets, how many messages this party has sent then, and that nothing is sent after a refusal.
+  for (const [pattern, responder, sent] of [['XX', false, 1], ['XX', true, 1], ['IX', false, 1], ['IX', true, 0], ['IK', false, 0], ['IK', true, 0], ['NK', true, 1]]) {
+    await t.test(`${pattern}: the ${responder ? 'responder' : 'initiator'} judges as soon as it knows the key`, async () => {
+      for (const verdict of [true, false]) {
+        let count = 0;
+        const counting = new TransformStream({ transform: (chunk, controller) => { count += 1; controller.enqueue(chunk); } }, undefined, { highWaterMark: 16 });
+        const other = new TransformStream(undefined, undefined, { highWaterMark: 16 });
+        const [one, two] = [await KeyPair.generate(), await KeyPair.generate()];
+        const seen = [];
+        const judge = (key) => { seen.push([key, count]); return verdict; };
+        const here = { pattern, responder, judge };
+        const there = { pattern, responder: !responder, staticKey: two };
+        if (pattern !== 'NK') here.staticKey = one;
+        else [here.staticKey, there.staticKey, there.remoteStatic] = [one, undefined, one.publicKey];
+        if (pattern === 'IK') [here, there].find((it) => !it.responder).remoteStatic = responder ? one.publicKey : two.publicKey;
+        const [a, b] = await Promise.allSettled([
+          NoiseSocket.open({ readable: other.readable, writable: counting.writable }, here),
+          NoiseSocket.open({ readable: counting.readable, writable: other.writable }, there),
+        ]);
+        assert.deepEqual(seen, [[pattern === 'NK' ? undefined : two.publicKey, sent]]);
+        if (verdict) assert.deepEqual([a.status, b.status], ['fulfilled', 'fulfilled']);
+        else assert.deepEqual([a.reason.name, count], ['NOISE_KEY', sent]);
+      }
+    });
+  }
 
   await t.test('a channel over a pair of streams, in pieces of one byte', async () => {
     const transform = (chunk, controller) => { for (const byte of chunk) controller.enqueue(Uint8Array.of(byte)); };
