@@ -25,6 +25,8 @@ export interface DH {
 export class KeyPair implements DH {
   static generate(): Promise<KeyPair>;
   static from(pair: CryptoKeyPair): Promise<KeyPair>;
+  /** The pair of a secret key of 32 bytes, from a file for example. The bytes stay the caller's to overwrite. */
+  static fromSecret(bytes: Uint8Array): Promise<KeyPair>;
   readonly publicKey: Uint8Array;
   agree(remote: Uint8Array): Promise<Uint8Array>;
 }

@@ -256,6 +256,18 @@ test('with the module loaded', async (t) => {
       (async () => { const reader = cutter.readable.getReader(); await reader.read(); await cutter.writable.getWriter().close(); })()]);
   });
 
+  await t.test('the key pairs of RFC 7748, 6.1, from their secret keys', async () => {
+    const bytes = (digits) => new Uint8Array(Buffer.from(digits, 'hex'));
+    const [alice, bob] = await Promise.all([
+      '77076d0a7318a57d3c16c17251b26645df4c2f87ebc0992ab177fba51db92c2a', '5dab087e624a8a4b79e17f8b83800ee66f3bb1292618b6fd1c2f8b27ff88e0eb',
+    ].map((secret) => KeyPair.fromSecret(bytes(secret))));
+    assert.deepEqual(alice.publicKey, bytes('8520f0098930a754748b7ddcb43ef75a0dbf3a0d26381af4eba4a98eaa9b4e6a'));
+    assert.deepEqual(bob.publicKey, bytes('de9edb7d7b7dc1b4d35b61c2ece435373f8343c85b78674dadfc7e146f882b4f'));
+    const shared = bytes('4a5d9d5ba4ce2de1728e3bf480350f25e07e21c947d19e3376f09b3c1e161742');
+    assert.deepEqual(await Promise.all([alice.agree(bob.publicKey), bob.agree(alice.publicKey)]), [shared, shared]);
+    await assert.rejects(KeyPair.fromSecret(new Uint8Array(31)), TypeError);
+  });
+
   // Which key `judge` gets, how many messages this party has sent then, and that nothing is sent after a refusal.
   for (const [pattern, responder, sent] of [['XX', false, 1], ['XX', true, 1], ['IX', false, 1], ['IX', true, 0], ['IK', false, 0], ['IK', true, 0], ['NK', true, 1]]) {
     await t.test(`${pattern}: the ${responder ? 'responder' : 'initiator'} judges as soon as it knows the key`, async () => {
