@@ -20,7 +20,7 @@ type Config struct {
 	// VerifyPeer is called with the other party's static key as soon as that is known, before anything else is read or written. An error ends the
 	// handshake. It isn't called in a handshake without such a key.
 	VerifyPeer func(key [KeyLen]byte) error
-	// InsecureAcceptAnyKey lets a party talk to anybody, if neither VerifyPeer nor PeerStatic nor PSKs say who may be the other party.
+	// InsecureAcceptAnyKey lets a party talk to anybody, if neither VerifyPeer nor PeerStatic nor PSKs nor PSKFor say who may be the other party.
 	InsecureAcceptAnyKey bool
 	// PSKs has one secret of 32 bytes for each psk token of the pattern, in their order.
 	PSKs [][]byte

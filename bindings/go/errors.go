@@ -71,7 +71,7 @@ var (
 	// ErrCut is returned if the connection ended between two messages, before the end of the other party's stream.
 	ErrCut = errors.New("noise: the connection was cut before the end of the stream")
 	// ErrUnauthenticated is returned if nothing says who may be the other party.
-	ErrUnauthenticated = errors.New("noise: nothing says who may be the other party: set VerifyPeer, PeerStatic or PSKs, or InsecureAcceptAnyKey")
+	ErrUnauthenticated = errors.New("noise: nothing says who may be the other party: set VerifyPeer, PeerStatic, PSKs or PSKFor, or InsecureAcceptAnyKey")
 	// ErrPeerKey is returned if the other party's static key isn't Config.PeerStatic.
 	ErrPeerKey = errors.New("noise: the other party has another static key than the one expected")
 	// ErrLowOrder is returned if X25519 of the other party's public key is zeros (the framework's 12.1).
@@ -80,7 +80,7 @@ var (
 
 // HandshakeError says what is wrong with a message of a handshake. Unwrap returns the cause, as ErrTag or the error of VerifyPeer.
 type HandshakeError struct {
-	Message int   // the message, from 0 on
+	Message int   // the message, from 0 on; that which has the key, if PeerStatic or VerifyPeer refused it
 	Token   int   // ErrShort, ErrTag: the token at which it was refused, from 0 on, the payload after the last; else -1
 	Err     error // the cause
 }

@@ -108,13 +108,14 @@ func ExampleConfig_pSKFor() {
 	must(err)
 	clientKey, err := noise.GenerateKeyPair()
 	must(err)
-	secrets := map[[noise.KeyLen]byte][]byte{clientKey.Public(): bytes.Repeat([]byte{7}, noise.KeyLen)}
+	clientPublic := clientKey.Public()
+	secrets := map[string][]byte{string(clientPublic[:]): bytes.Repeat([]byte{7}, noise.KeyLen)}
 	here, there := net.Pipe()
 	go func() {
 		conn, err := noise.Server(there, &noise.Config{
 			Pattern: "XXpsk3", Static: serverKey,
 			PSKFor: func(peer [noise.KeyLen]byte) ([][]byte, error) {
-				secret, ok := secrets[peer]
+				secret, ok := secrets[string(peer[:])]
 				if !ok {
 					return nil, errors.New("not on the list")
 				}
@@ -125,7 +126,7 @@ func ExampleConfig_pSKFor() {
 		io.WriteString(conn, "hello")
 		conn.Close()
 	}()
-	conn, err := noise.Client(here, &noise.Config{Pattern: "XXpsk3", Static: clientKey, PSKs: [][]byte{secrets[clientKey.Public()]}})
+	conn, err := noise.Client(here, &noise.Config{Pattern: "XXpsk3", Static: clientKey, PSKs: [][]byte{secrets[string(clientPublic[:])]}})
 	must(err)
 	text, err := io.ReadAll(conn)
 	fmt.Println(string(text), err)

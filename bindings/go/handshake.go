@@ -53,7 +53,7 @@ func newHandshakeState(config *Config, initiator, isLate bool) (*HandshakeState,
 	}
 	h, err := started(config, initiator, isLate, ephemeral)
 	if err == nil && h.remote.hasS {
-		err = h.judge()
+		err = h.judge(0)
 	}
 	if err != nil {
 		return nil, err
@@ -154,11 +154,15 @@ func (h *HandshakeState) MessageIndex() int {
 	return passed
 }
 
-// end ends the handshake, and overwrites keys and X25519 results.
+// end ends the handshake at the message that is due, and overwrites keys and X25519 results.
 func (h *HandshakeState) end(token int, cause error) error {
-	fault := &HandshakeError{h.MessageIndex(), token, cause}
+	return h.endAt(h.MessageIndex(), token, cause)
+}
+
+// endAt ends the handshake at a message.
+func (h *HandshakeState) endAt(message, token int, cause error) error {
 	h.Close()
-	return fault
+	return &HandshakeError{message, token, cause}
 }
 
 // Close overwrites what the handshake keeps. Later calls return ErrEnded.
@@ -346,9 +350,9 @@ func (h *HandshakeState) ReadMessage(dst, message []byte) ([]byte, error) {
 	}
 	if passed == h.pattern.learns(h.initiator) {
 		if h.remote.s, h.remote.hasS = h.PeerStatic(); !h.remote.hasS {
-			return dst, h.end(-1, ErrStruct)
+			return dst, h.endAt(passed, -1, ErrStruct)
 		}
-		if err := h.judge(); err != nil {
+		if err := h.judge(passed); err != nil {
 			return dst, err
 		}
 	}
@@ -378,15 +382,15 @@ func (h *HandshakeState) read(received []byte) ([]byte, error) {
 	return work[m.told.from : m.told.from+m.told.len], nil
 }
 
-// judge decides whether the other party's static key, which is known now, is accepted.
-func (h *HandshakeState) judge() error {
+// judge decides whether the other party's static key is accepted, which is known from a message, or from the start (0).
+func (h *HandshakeState) judge(message int) error {
 	key := h.remote.s
 	if want := h.config.PeerStatic; want != nil && subtle.ConstantTimeCompare(want, key[:]) != 1 {
-		return h.end(-1, ErrPeerKey)
+		return h.endAt(message, -1, ErrPeerKey)
 	}
 	if h.config.VerifyPeer != nil {
 		if err := h.config.VerifyPeer(key); err != nil {
-			return h.end(-1, err)
+			return h.endAt(message, -1, err)
 		}
 	}
 	return nil

@@ -248,7 +248,7 @@ func TestConfigFaults(t *testing.T) {
 
 func TestPeerIsJudged(t *testing.T) {
 	refused := errors.New("not on the list")
-	for _, pattern := range []string{"XX", "IX", "IK", "KK"} {
+	for pattern, message := range map[string]int{"XX": 2, "IX": 0, "IK": 0, "KK": 0} {
 		client, server := configs(t, pattern)
 		server.VerifyPeer = func(got [KeyLen]byte) error {
 			if !bytes.Equal(got[:], key(client.Static)) {
@@ -265,7 +265,7 @@ func TestPeerIsJudged(t *testing.T) {
 		_, err := both(c, s)
 		wants(t, err, refused)
 		var fault *HandshakeError
-		if !errors.As(err, &fault) || fault.Token != -1 {
+		if !errors.As(err, &fault) || fault.Message != message || fault.Token != -1 {
 			t.Error(err)
 		}
 		_, err = s.Read(make([]byte, 1))
@@ -276,6 +276,10 @@ func TestPeerIsJudged(t *testing.T) {
 	c, s := connected(t, client, server)
 	err, _ := both(c, s)
 	wants(t, err, ErrPeerKey)
+	var fault *HandshakeError
+	if !errors.As(err, &fault) || fault.Message != 1 {
+		t.Error(err)
+	}
 }
 
 func TestPayloads(t *testing.T) {

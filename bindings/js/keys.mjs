@@ -2,6 +2,15 @@
 // Those that are made here are WebCrypto's: the private key stays inside the browser.
 
 const NAME = 'X25519';
+/** What is before a secret key in PKCS #8 (RFC 8410, 7). */
+const PKCS8 = Uint8Array.of(48, 46, 2, 1, 0, 48, 5, 6, 3, 43, 101, 110, 4, 34, 4, 32);
+/** X25519 of a secret key and this point is the public key (RFC 7748, 6.1). */
+const BASE_POINT = new Uint8Array(32).fill(9, 0, 1);
+
+async function agreed(secret, remote) {
+  const key = await crypto.subtle.importKey('raw', remote, { name: NAME }, true, []);
+  return new Uint8Array(await crypto.subtle.deriveBits({ name: NAME, public: key }, secret, 256));
+}
 
 /** A key pair of WebCrypto's X25519. */
 export class KeyPair {
@@ -21,8 +30,21 @@ export class KeyPair {
 
   /** The answer of X25519 for this private key and a public key of 32 bytes. It rejects where the answer would be all zeros. */
   async agree(remote) {
-    const key = await crypto.subtle.importKey('raw', remote, { name: NAME }, true, []);
-    return new Uint8Array(await crypto.subtle.deriveBits({ name: NAME, public: key }, this.#secret, 256));
+    return agreed(this.#secret, remote);
+  }
+
+  /** The pair of a secret key of 32 bytes, from a file for example. It isn't extractable from the pair; the bytes stay the caller's to overwrite. */
+  static async fromSecret(bytes) {
+    if (!(bytes instanceof Uint8Array) || bytes.length !== 32) throw new TypeError('a secret key has to be a Uint8Array of 32 bytes');
+    const encoded = new Uint8Array(48);
+    encoded.set(PKCS8);
+    encoded.set(bytes, 16);
+    try {
+      const secret = await crypto.subtle.importKey('pkcs8', encoded, { name: NAME }, false, ['deriveBits']);
+      return new KeyPair(secret, await agreed(secret, BASE_POINT));
+    } finally {
+      encoded.fill(0);
+    }
   }
 
   /** The pair of a CryptoKeyPair that the program keeps, in IndexedDB for example. */

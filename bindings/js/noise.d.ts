@@ -25,6 +25,8 @@ export interface DH {
 export class KeyPair implements DH {
   static generate(): Promise<KeyPair>;
   static from(pair: CryptoKeyPair): Promise<KeyPair>;
+  /** The pair of a secret key of 32 bytes, from a file for example. The bytes stay the caller's to overwrite. */
+  static fromSecret(bytes: Uint8Array): Promise<KeyPair>;
   readonly publicKey: Uint8Array;
   agree(remote: Uint8Array): Promise<Uint8Array>;
 }
@@ -104,7 +106,10 @@ export class Datagrams implements Sealer, Opener {
 
 export interface NoiseSocketOptions extends HandshakeOptions {
   interval?: bigint | number;
-  /** Called after the last message; unless it returns true, the channel is closed. */
+  /**
+   * Called once, as soon as the other party's static key is known, before anything else is sent or read; in a handshake without such a key after the
+   * last message, with undefined. Unless it returns true, the connection is closed, and `open` throws NOISE_KEY.
+   */
   judge?(remoteStatic: Uint8Array | undefined): boolean | Promise<boolean>;
 }
 /** What is used of a stream of Node, as a socket of TCP. */

@@ -121,15 +121,24 @@ export class NoiseSocket {
   /**
    * Passes a handshake, without payloads, over a WebSocket, over `{readable, writable}`, or over a stream of Node. The options are those of
    * Handshake, and `interval`. What a WebSocket got before this call isn't seen.
-   * `judge(remoteStatic)` is called after the last message, and has to return true: otherwise the channel is closed.
+   * `judge(remoteStatic)` is called once, as soon as the other party's static key is known, before anything else is sent or read; without such a
+   * key after the last message, with undefined. It has to return true: otherwise the connection is closed, and `open` throws NOISE_KEY.
    */
   static async open(carrier, { interval = 0n, judge, ...options }) {
     const handshake = new Handshake(options);
     let channel;
+    let isDue = Boolean(judge);
     try {
       channel = await over(carrier);
-      while (!handshake.stage.done) {
-        if (handshake.stage.writesNext) {
+      for (;;) {
+        const { done, writesNext } = handshake.stage;
+        const { remoteStatic } = handshake;
+        if (isDue && (done || remoteStatic)) {
+          isDue = false;
+          if (!(await judge(remoteStatic))) throw new NoiseError(code.KEY);
+        }
+        if (done) return new NoiseSocket(channel, handshake.finish({ interval }));
+        if (writesNext) {
           await channel.send(await handshake.write());
           continue;
         }
@@ -137,12 +146,6 @@ export class NoiseSocket {
         if (!message) throw new NoiseError(code.CLOSED);
         await handshake.read(message);
       }
-      const transport = handshake.finish({ interval });
-      if (judge && !(await judge(transport.remoteStatic))) {
-        transport.dispose();
-        throw new NoiseError(code.KEY);
-      }
-      return new NoiseSocket(channel, transport);
     } catch (error) {
       await channel?.close();
       throw error;

@@ -5,6 +5,8 @@ import {
 
 await load();
 const staticKey: KeyPair = await KeyPair.generate();
+const kept: KeyPair = await KeyPair.fromSecret(new Uint8Array(32).fill(7));
+console.log(kept.publicKey.length);
 const handshake = new Handshake({ pattern: protocolName('XX'), staticKey, psks: [new Uint8Array(32)] });
 const late = new Handshake({ pattern: 'XXpsk3', responder: true, staticKey, pskFor: async (remoteStatic) => remoteStatic.slice(0, 32) });
 late.dispose();

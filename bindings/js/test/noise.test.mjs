@@ -214,64 +214,16 @@ test('with the module loaded', async (t) => {
     }
   });
 
-  await t.test('a channel over a pair of sockets, one message a frame, and a text frame is refused', async () => {
-    /** What NoiseSocket uses of a WebSocket. */
-    class Socket extends EventTarget {
-      readyState = 0;
-      open() { this.readyState = 1; this.dispatchEvent(new Event('open')); }
-      send(data) { queueMicrotask(() => this.other.dispatchEvent(Object.assign(new Event('message'), { data: typeof data === 'string' ? data : data.slice().buffer }))); }
-      close() { for (const it of [this, this.other]) { it.readyState = 3; it.dispatchEvent(new Event('close')); } }
-    }
-    const [one, two] = [new Socket(), new Socket()];
-    Object.assign(one, { other: two });
-    Object.assign(two, { other: one });
-    setTimeout(() => { one.open(); two.open(); }, 5);
-    const pattern = protocolName('NN');
-    const [a, b] = await Promise.all([NoiseSocket.open(one, { pattern }), NoiseSocket.open(two, { pattern, responder: true })]);
-    assert.deepEqual(a.hash, b.hash);
-    await a.send(text('hello'));
-    assert.deepEqual(await b.receive(), text('hello'));
-    two.send('a text');
-    await assert.rejects(a.receive(), refused(code.SHORT));
-    assert.equal(await b.receive(), undefined);
-    await assert.rejects(a.send(text('x')), refused(code.DISPOSED));
-  });
-
-  await t.test('the other party’s key is checked, and a closed connection is reported', async () => {
-    const pair = () => {
-      const [up, down] = [new TransformStream(), new TransformStream()];
-      return [{ readable: down.readable, writable: up.writable }, { readable: up.readable, writable: down.writable }];
-    };
-    const pattern = protocolName('XX');
-    const [near, far] = pair();
-    const [a, b] = await Promise.allSettled([
-      NoiseSocket.open(near, { pattern, staticKey: await KeyPair.generate(), judge: () => false }),
-      NoiseSocket.open(far, { pattern, staticKey: await KeyPair.generate(), responder: true }).then((channel) => channel.receive()),
-    ]);
-    assert.equal(a.reason.name, 'NOISE_KEY');
-    assert.deepEqual([b.status, b.value], ['fulfilled', undefined]);
-    const [cut, cutter] = pair();
-    await Promise.all([assert.rejects(NoiseSocket.open(cut, { pattern, staticKey: await KeyPair.generate() }), refused(code.CLOSED)),
-      (async () => { const reader = cutter.readable.getReader(); await reader.read(); await cutter.writable.getWriter().close(); })()]);
-  });
-
-  await t.test('a channel over a pair of streams, in pieces of one byte', async () => {
-    const transform = (chunk, controller) => { for (const byte of chunk) controller.enqueue(Uint8Array.of(byte)); };
-    const bytewise = () => new TransformStream({ transform }, { highWaterMark: 1e6 }, { highWaterMark: 1e6 });
-    const [up, down] = [bytewise(), bytewise()];
-    const [client, server] = [await KeyPair.generate(), await KeyPair.generate()];
-    const options = { pattern: protocolName('XX'), interval: 3 };
-    const same = (key) => (got) => Buffer.compare(got, key.publicKey) === 0;
-    const [a, b] = await Promise.all([
-      NoiseSocket.open({ readable: down.readable, writable: up.writable }, { ...options, staticKey: client, judge: same(server) }),
-      NoiseSocket.open({ readable: up.readable, writable: down.writable }, { ...options, staticKey: server, responder: true, judge: same(client) }),
-    ]);
-    for (let n = 0; n < 7; n += 1) {
-      await a.send(text(`hello ${n}`));
-      assert.deepEqual(await b.receive(), text(`hello ${n}`));
-    }
-    await a.close();
-    assert.equal(await b.receive(), undefined);
+  await t.test('the key pairs of RFC 7748, 6.1, from their secret keys', async () => {
+    const bytes = (digits) => new Uint8Array(Buffer.from(digits, 'hex'));
+    const [alice, bob] = await Promise.all([
+      '77076d0a7318a57d3c16c17251b26645df4c2f87ebc0992ab177fba51db92c2a', '5dab087e624a8a4b79e17f8b83800ee66f3bb1292618b6fd1c2f8b27ff88e0eb',
+    ].map((secret) => KeyPair.fromSecret(bytes(secret))));
+    assert.deepEqual(alice.publicKey, bytes('8520f0098930a754748b7ddcb43ef75a0dbf3a0d26381af4eba4a98eaa9b4e6a'));
+    assert.deepEqual(bob.publicKey, bytes('de9edb7d7b7dc1b4d35b61c2ece435373f8343c85b78674dadfc7e146f882b4f'));
+    const shared = bytes('4a5d9d5ba4ce2de1728e3bf480350f25e07e21c947d19e3376f09b3c1e161742');
+    assert.deepEqual(await Promise.all([alice.agree(bob.publicKey), bob.agree(alice.publicKey)]), [shared, shared]);
+    await assert.rejects(KeyPair.fromSecret(new Uint8Array(31)), TypeError);
   });
 });
 
