@@ -122,7 +122,11 @@
    WIPING. The kept structs contain psks, X25519 answers and keys, also after the handshake has ended. Overwrite them with noise_wipe: a
    noise_handshake after noise_finish, and each other struct once it is no longer used; and what you have passed: setup with its psks, a psk, an
    answer, the ephemeral secret key. No call keeps a pointer, so this may be done right after the call. Calls don't overwrite what they leave on the stack. A
-   call uses at most 14 KB of stack. checks/c-library/stack.c measured this on x86-64: it fills the stack, and looks at what each call has changed.
+   call uses at most 14 KB of stack. checks/c-library/stack.c of the sources measured this on x86-64: it fills the stack, and looks at what each call
+   has changed.
+
+   LINKING. With `pkg-config --cflags --libs noise_c` a program links the shared library, and finds it when it starts only where the loader looks. For
+   the static library link libnoise_c.a itself, as -l:libnoise_c.a.
 
    ANOTHER BUILD. If the program may run with another build of the library than this header's, compare noise_handshake_size() with
    sizeof(noise_handshake), and likewise for the other kept structs, before any other call. */
@@ -132,7 +136,7 @@
 #include <stddef.h>
 #include <stdint.h>
 
-/* The version of this header: docs/VERSIONS.md says what each number promises. */
+/* The version of this header: docs/VERSIONS.md of the sources says what each number promises. */
 #define NOISE_VERSION_MAJOR 1
 #define NOISE_VERSION_MINOR 0
 #define NOISE_VERSION_PATCH 0
@@ -355,9 +359,9 @@ size_t noise_transport_size(void);
 uint32_t noise_finish(const noise_handshake *h, uint64_t interval, noise_transport *t);
 
 /* Seals a payload as the next message, which it writes to the start of out. The message is 16 bytes longer than the payload.
-   OK: the message is the first told->len bytes of out; the bytes after it are unchanged · STRUCT · ROOM: out has fewer bytes than the message ·
-   ONE_WAY · TOO_LONG: the payload has more than 65519 bytes · EXHAUSTED. If several apply, the first is returned. At any code but OK *t and out
-   are unchanged. */
+   OK: the message is the first told->len bytes of out; the bytes after it are unchanged · STRUCT · ROOM: out has fewer bytes than the payload and
+   16, also where that would be too long · ONE_WAY · TOO_LONG: the payload has more than 65519 bytes · EXHAUSTED. If several apply, the first is
+   returned. At any code but OK *t and out are unchanged. */
 uint32_t noise_transport_seal(noise_transport *t, const uint8_t *payload, size_t payload_len, uint8_t *out, size_t out_len, noise_told *told);
 
 /* Seals a payload as noise_transport_seal does, in one buffer: the payload is the first payload_len bytes of buffer, and the message replaces it.
