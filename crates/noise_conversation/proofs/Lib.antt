@@ -7,4 +7,5 @@ pub mod Framed
 pub mod Faults
 pub mod Payloads
 pub mod Places
+pub mod Told
 pub mod Xor

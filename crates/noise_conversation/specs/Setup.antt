@@ -1,9 +1,10 @@
 -- What two ends of equal setup start from.
-use Rattle.std.specs.Prelude.{◌≡◌, ⊤, ℕ, List, length, Option, Some, None, IsSome}
+use Rattle.std.specs.Prelude.{◌≡◌, ⊤, ℕ, List, length, Option, Some, None, IsSome, nat_le, if◌then◌else◌}
 use Rattle.noise_names.specs.declared.token.Role.{Role}
 use Rattle.noise_names.specs.declared.token.Role.TheVariants.{Initiator, Responder}
 use Rattle.noise_names.specs.Tokens.{other}
 use Rattle.noise_names.specs.Plan.{Plan}
+use Rattle.noise_state.specs.History.{History, hash}
 use Rattle.noise_keys.specs.declared.faults.SetupFault.{SetupFault}
 use Rattle.noise_keys.specs.declared.keys.Own.{Own}
 use Rattle.noise_keys.specs.declared.xor_keys.XorKeys.{XorKeys}
@@ -11,8 +12,10 @@ use Rattle.noise_keys.specs.Keys.{key_of, xor_answer}
 use Rattle.noise_handshake.specs.Counterparts.{shown_before}
 use Rattle.noise_handshake.specs.Setup.{setup_fault}
 use Rattle.noise_duel.specs.Messages.{Start}
-use Rattle.noise_duel.specs.Conversation.{transcript}
+use Rattle.noise_duel.specs.Conversation.{ComeThrough, after_conversation, payloads_in, start_in, transcript}
+use Rattle.noise_duel.specs.HeldDuel.{DuelStands, HeldDuel}
 use Rattle.noise_duel.specs.SetUpAlike.{HasAnswers, material_of}
+use Rattle.noise_duel.specs.Sides.{Sides}
 use Rattle.noise_conversation.specs.declared.fault.ConversationFault.{ConversationFault}
 use Rattle.noise_conversation.specs.declared.fault.ConversationFault.TheVariants.{Setup, Memory}
 
@@ -38,6 +41,12 @@ module _ {K : Type 0} (public_of : K → Own → Option (List ℕ)) (agreement :
     responder = start_by p Responder prologue psks responder initiator;
   }
 
+  -- The two ends are those that wrote and accepted all messages of the lines: they hold the history, the counts and the keys after them.
+  pub record AreAfter (p : Plan) (s : Starts) (prologue : List ℕ) (interval : ℕ) (lines : List (Role × List ℕ)) (duel : HeldDuel K K) : Type 0 where
+    pub last : Sides
+    pub stands : DuelStands public_of agreement public_of agreement duel last
+    pub through : ComeThrough (material_of s.initiator s.responder) p prologue interval lines last
+
 -- the initiator has an answer at each DH of the pattern
 abbrev pub HaveAnswers : Plan → Starts → Type 0
 HaveAnswers p s = HasAnswers p s.initiator s.responder
@@ -45,6 +54,16 @@ HaveAnswers p s = HasAnswers p s.initiator s.responder
 -- all messages of lines with their writers, by both parties' keys and psks
 abbrev pub transcript_of : Plan → Starts → List ℕ → ℕ → List (Role × List ℕ) → List (Role × List ℕ)
 transcript_of p s prologue interval lines = transcript (material_of s.initiator s.responder) p prologue interval lines
+
+-- the history after those of them that are handshake messages
+abbrev pub history_of : Plan → Starts → List ℕ → List (Role × List ℕ) → History
+history_of p s prologue lines =
+    let w = material_of s.initiator s.responder in
+    after_conversation w p 0 w.secrets (start_in w p prologue) (payloads_in (length p.messages) lines)
+
+-- the handshake hash (Noise 11.2), if there is a line for each handshake message
+abbrev pub hash_of_lines : Plan → Starts → List ℕ → List (Role × List ℕ) → Option (List ℕ)
+hash_of_lines p s prologue lines = if nat_le (length p.messages) (length lines) then Some (hash (history_of p s prologue lines)) else None
 
 -- the first of two faults
 abbrev pub or_next : Option SetupFault → Option SetupFault → Option SetupFault
