@@ -15,9 +15,9 @@ use Rattle.noise_duel.specs.Messages.Exchanged.{none, wrote, took}
 
 -- messages leave a party its pattern
 pub same-pattern : (v w : View) (ms : List HandshakeMessage) → Exchanged v ms w → w.pattern ≡ v.pattern
-same-pattern v w ms (none v) = refl
-same-pattern v w ms (wrote v w p more writes later) = same-pattern (after_own v p.carried p.payload) w more later
-same-pattern v w ms (took v w p more takes later) = same-pattern (after_message v p.carried p.payload) w more later
+same-pattern v w [] (none _) = refl
+same-pattern v w (p ∷ ps) (wrote _ _ _ _ here more) = same-pattern (after_own v p.carried p.payload) w ps more
+same-pattern v w (p ∷ ps) (took _ _ _ _ here more) = same-pattern (after_message v p.carried p.payload) w ps more
 
 same-test : (passed m n : ℕ) (b c : Bool) → passed ≡ min m n → (passed == m) ≡ b → nat_le m n ≡ c → b ≡ c
 same-test passed m n true true e x y = refl
@@ -26,7 +26,7 @@ same-test passed m n true false e x y = absurd (grind (arith, nat_tests))
 same-test passed m n false true e x y = absurd (grind (arith, nat_tests))
 
 count-of : (k : ℕ) (lines : List (Role × List ℕ)) → length (payloads_in k lines) ≡ min k (length lines)
-count-of k lines = length-map (λ l. l.1) (take k lines) ∙ length-take k lines
+count-of k lines = length-map (take k lines) (λ (l : Role × List ℕ). l.1) ∙ length-take k lines
 
 -- where as many messages have passed as there are lines for, the hash is told exactly if there is a line for each message
 pub hash-told : (v : EndView) (p : Plan) (r : History) (lines : List (Role × List ℕ)) → v.party.pattern ≡ p
@@ -37,4 +37,6 @@ hash-told v p r lines pattern count history =
     let n : ℕ = length lines in
     let passed : v.party.passed ≡ min m n = count ∙ count-of m lines in
     let test : (v.party.passed == m) ≡ nat_le m n = same-test v.party.passed m n (v.party.passed == m) (nat_le m n) passed refl refl in
-    rw pattern history test refl
+    ap (λ (q : Plan). (if v.party.passed == length q.messages then Some (hash v.party.history) else None)) pattern
+    ∙ ap (λ (b : Bool). (if b then Some (hash v.party.history) else None)) test
+    ∙ ap (λ (h : History). (if nat_le m n then Some (hash h) else None)) history
