@@ -40,8 +40,10 @@ impl Direction {
 
     // Counts a message, and shows its key; at the last nonce, which no message has, nothing.
     pub(crate) fn pass(&mut self, interval: u64) -> Moment
-        ensures { (r : History) (writer : Role) (n : ℕ) → self.old ≡ direction r writer interval n → n ≢ last_nonce
-            → (shown result ≡ passed_moment r writer interval n) × (self.new ≡ direction r writer interval (n + 1)) }
+        ensures shown { (r : History) (writer : Role) (n : ℕ) → self.old ≡ direction r writer interval n → n ≢ last_nonce
+            → shown result ≡ passed_moment r writer interval n }
+        ensures next { (r : History) (writer : Role) (n : ℕ) → self.old ≡ direction r writer interval n → n ≢ last_nonce
+            → self.new ≡ direction r writer interval (n + 1) }
     {
         let Direction { nonce, key } = *self;
         if nonce == u64::MAX {
