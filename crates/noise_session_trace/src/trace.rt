@@ -136,7 +136,11 @@ impl<K: Keys> EndTrace<K> {
     pub fn keys(&self) -> Option<([u8; 32], [u8; 32])>
         ensures { (v : EndView) → EndFollows K.public_of K.agreement self.now v → result ≡ keys_in v.party }
     {
-        let opening = Opening::after(&self.following)?;
-        Some((opening.initiator, opening.responder))
+        let Opening {
+            initiator,
+            responder,
+            ..
+        } = Opening::after(&self.following)?;
+        Some((initiator, responder))
     }
 }
