@@ -7,6 +7,7 @@ ghost use Rattle.noise_state.specs.History.{History};
 ghost use Rattle.noise_session.specs.Transport.{last_nonce, transport_key};
 ghost use Rattle.noise_session_trace.specs.Directions.{direction};
 ghost use Rattle.noise_session_trace.specs.Moments.{shown, passed_moment, kept_moment, renewed_after};
+ghost use Rattle.noise_session_trace.specs.Moments.Shown.{Nothing};
 
 use crate::Moment;
 use noise_aead::rekey;
@@ -44,6 +45,7 @@ impl Direction {
             → shown result ≡ passed_moment r writer interval n }
         ensures next { (r : History) (writer : Role) (n : ℕ) → self.old ≡ direction r writer interval n → n ≢ last_nonce
             → self.new ≡ direction r writer interval (n + 1) }
+        ensures last { self.old.nonce ≡ last_nonce → (shown result ≡ Nothing) × (self.new ≡ self.old) }
     {
         let Direction { nonce, key } = *self;
         if nonce == u64::MAX {

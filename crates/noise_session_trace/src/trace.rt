@@ -29,7 +29,7 @@ pub struct EndTrace<K: Keys> {
 
 impl<K: Keys> EndTrace<K> {
     ghost use Rattle.noise_trace.specs.Following.{Follows};
-    ghost use Rattle.noise_session_trace.specs.Moments.Shown.{Message};
+    ghost use Rattle.noise_session_trace.specs.Moments.Shown.{Message, Nothing};
     ghost use Rattle.noise_session_trace.specs.Following.{EndFollows, directions_in};
     ghost use Rattle.noise_session_trace.specs.Moments.{shown, opening_in, message_moment, stopped_moment, sent_moment, opened_moment, tried_moment, keys_in};
 
@@ -49,7 +49,8 @@ impl<K: Keys> EndTrace<K> {
         }
     }
 
-    /// A message that the end wrote: of the handshake, or of the transport once the session is open.
+    /// A message that the end wrote: of the handshake, or of the transport once the session is open. At nonce 2^64 - 1, which no
+    /// message has, nothing is shown and nothing changes.
     pub fn wrote(&mut self, message: &[u8]) -> Moment
         ensures handshake { (v : EndView) (xs : List (List ℕ)) (payload : List ℕ) → EndFollows K.public_of K.agreement self.old v
             → Writes v.party payload xs message.now
@@ -58,6 +59,8 @@ impl<K: Keys> EndTrace<K> {
         ensures transport { (v : EndView) (payload : List ℕ) → EndFollows K.public_of K.agreement self.old v
             → refusal (progress_of v) (length payload) ≡ None → IsTrue (is_open (progress_of v))
             → (shown result ≡ sent_moment v) × EndFollows K.public_of K.agreement self.new (record v { sent = v.sent + 1 }) }
+        ensures exhausted { (v : EndView) → EndFollows K.public_of K.agreement self.old v → IsTrue (is_open (progress_of v)) → v.sent ≡ last_nonce
+            → (shown result ≡ Nothing) × EndFollows K.public_of K.agreement self.new v }
     {
         if let Some(directions) = &mut self.directions {
             return directions.sending.pass(self.interval);
@@ -66,7 +69,8 @@ impl<K: Keys> EndTrace<K> {
         self.passed(steps)
     }
 
-    /// A message that the end accepted or opened. A handshake message that is read in place is passed as it came.
+    /// A message that the end accepted or opened, as it came: a copy of one that is read in place. At nonce 2^64 - 1, which no
+    /// message has, nothing is shown and nothing changes.
     pub fn took(&mut self, message: &[u8]) -> Moment
         ensures handshake { (v : EndView) (xs : List (List ℕ)) (payload : List ℕ) → EndFollows K.public_of K.agreement self.old v
             → Accepts v.party message.now xs payload
@@ -75,6 +79,8 @@ impl<K: Keys> EndTrace<K> {
         ensures transport { (v : EndView) → EndFollows K.public_of K.agreement self.old v
             → IsTrue (is_open (progress_of v)) → v.received ≢ last_nonce
             → (shown result ≡ opened_moment v) × EndFollows K.public_of K.agreement self.new (record v { received = v.received + 1; held = [] }) }
+        ensures exhausted { (v : EndView) → EndFollows K.public_of K.agreement self.old v → IsTrue (is_open (progress_of v)) → v.received ≡ last_nonce
+            → (shown result ≡ Nothing) × EndFollows K.public_of K.agreement self.new v }
     {
         if let Some(directions) = &mut self.directions {
             return directions.receiving.pass(self.interval);
@@ -123,8 +129,10 @@ impl<K: Keys> EndTrace<K> {
 
     /// A transport message that the end dropped: the nonce and the key that it was tried with. Before the opening nothing.
     pub fn tried(&self) -> Moment
-        ensures { (v : EndView) → EndFollows K.public_of K.agreement self.now v → IsTrue (is_open (progress_of v))
+        ensures opened { (v : EndView) → EndFollows K.public_of K.agreement self.now v → IsTrue (is_open (progress_of v))
             → shown result ≡ tried_moment v }
+        ensures before { (v : EndView) → EndFollows K.public_of K.agreement self.now v → v.party.passed ≢ length v.party.pattern.messages
+            → shown result ≡ Nothing }
     {
         match &self.directions {
             Some(directions) => directions.receiving.now(),
