@@ -140,6 +140,13 @@ impl<K: Keys> EndTrace<K> {
         }
     }
 
+    /// How many handshake messages have passed.
+    pub fn messages_passed(&self) -> u64
+        ensures { (v : EndView) → EndFollows K.public_of K.agreement self.now v → result ≡ v.party.passed }
+    {
+        u64::from(self.following.passed())
+    }
+
     /// The two keys that the session opened with, the initiator's first, once it has: those of datagrams too.
     pub fn keys(&self) -> Option<([u8; 32], [u8; 32])>
         ensures { (v : EndView) → EndFollows K.public_of K.agreement self.now v → result ≡ keys_in v.party }
