@@ -6,6 +6,7 @@ mod datagram_duels;
 mod datagrams;
 mod duels;
 mod frames;
+mod session_keys;
 mod streams;
 mod support;
 mod taking;
