@@ -127,9 +127,7 @@ impl<K: Keys> Handshake<K> {
         }
         let mut secrets = ArrayVec::new();
         secrets.try_extend_from_slice(psks).unwrap();
-        Ok(Handshake::begin(
-            pattern, role, prologue, keys, remote, secrets,
-        ))
+        Ok(Handshake::begin(pattern, role, prologue, keys, remote, secrets))
     }
 
     // The handshake before its first message, of a setup without a fault.
