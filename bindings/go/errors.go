@@ -80,13 +80,16 @@ var (
 
 // HandshakeError says what is wrong with a message of a handshake. Unwrap returns the cause, as ErrTag or the error of VerifyPeer.
 type HandshakeError struct {
-	Message int   // the message, from 0 on; that which has the key, if PeerStatic or VerifyPeer refused it
+	Message int   // the message, from 0 on; that which has the key, if PeerStatic or VerifyPeer refused it, and -1 for a key known from the start
 	Token   int   // ErrShort, ErrTag: the token at which it was refused, from 0 on, the payload after the last; else -1
 	Err     error // the cause
 }
 
 // Error returns the message, the token and the cause, in words.
 func (e *HandshakeError) Error() string {
+	if e.Message < 0 {
+		return fmt.Sprintf("before the handshake's first message: %v", e.Err)
+	}
 	if e.Token < 0 {
 		return fmt.Sprintf("handshake message %d: %v", e.Message+1, e.Err)
 	}

@@ -53,7 +53,7 @@ func newHandshakeState(config *Config, initiator, isLate bool) (*HandshakeState,
 	}
 	h, err := started(config, initiator, isLate, ephemeral)
 	if err == nil && h.remote.hasS {
-		err = h.judge(0)
+		err = h.judge(-1)
 	}
 	if err != nil {
 		return nil, err
@@ -382,7 +382,7 @@ func (h *HandshakeState) read(received []byte) ([]byte, error) {
 	return work[m.told.from : m.told.from+m.told.len], nil
 }
 
-// judge decides whether the other party's static key is accepted, which is known from a message, or from the start (0).
+// judge decides whether the other party's static key is accepted, which is known from a message, or from the start (-1).
 func (h *HandshakeState) judge(message int) error {
 	key := h.remote.s
 	if want := h.config.PeerStatic; want != nil && subtle.ConstantTimeCompare(want, key[:]) != 1 {

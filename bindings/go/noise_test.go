@@ -259,6 +259,10 @@ func TestPeerIsJudged(t *testing.T) {
 		if pattern == "KK" {
 			_, err := NewHandshakeState(server, false)
 			wants(t, err, refused)
+			var fault *HandshakeError
+			if !errors.As(err, &fault) || fault.Message != -1 || fault.Token != -1 {
+				t.Error(err)
+			}
 			continue
 		}
 		c, s := connected(t, client, server)

@@ -135,7 +135,7 @@ export class NoiseSocket {
         const { remoteStatic } = handshake;
         if (isDue && (done || remoteStatic)) {
           isDue = false;
-          if (!(await judge(remoteStatic))) throw new NoiseError(code.KEY);
+          if ((await judge(remoteStatic)) !== true) throw new NoiseError(code.KEY);
         }
         if (done) return new NoiseSocket(channel, handshake.finish({ interval }));
         if (writesNext) {

@@ -52,7 +52,7 @@ test('channels', async (t) => {
   // Which key `judge` gets, how many messages this party has sent then, and that nothing is sent after a refusal.
   for (const [pattern, responder, sent] of [['XX', false, 1], ['XX', true, 1], ['IX', false, 1], ['IX', true, 0], ['IK', false, 0], ['IK', true, 0], ['NK', true, 1]]) {
     await t.test(`${pattern}: the ${responder ? 'responder' : 'initiator'} judges as soon as it knows the key`, async () => {
-      for (const verdict of [true, false]) {
+      for (const verdict of [true, false, 1, 'yes', {}, undefined]) {
         let count = 0;
         const counting = new TransformStream({ transform: (chunk, controller) => { count += 1; controller.enqueue(chunk); } }, undefined, { highWaterMark: 16 });
         const other = new TransformStream(undefined, undefined, { highWaterMark: 16 });
@@ -69,7 +69,7 @@ test('channels', async (t) => {
           NoiseSocket.open({ readable: counting.readable, writable: other.writable }, there),
         ]);
         assert.deepEqual(seen, [[pattern === 'NK' ? undefined : two.publicKey, sent]]);
-        if (verdict) assert.deepEqual([a.status, b.status], ['fulfilled', 'fulfilled']);
+        if (verdict === true) assert.deepEqual([a.status, b.status], ['fulfilled', 'fulfilled']);
         else assert.deepEqual([a.reason.name, count], ['NOISE_KEY', sent]);
       }
     });

@@ -1,10 +1,11 @@
 -- What the memory that C keeps of a transport stands for.
-use Rattle.std.specs.Prelude.{ℕ, ◌==◌, ◌+◌, nat_lt, not, ◌||◌, ◌&&◌, length, Bool, Option, Some, option_map, if◌then◌else◌}
+use Rattle.std.specs.Prelude.{ℕ, ◌==◌, ◌+◌, nat_lt, not, ◌||◌, ◌&&◌, length, replicate, Bool, Option, Some, option_map, if◌then◌else◌}
 use Rattle.noise_names.specs.declared.token.Role.{Role}
 use Rattle.noise_names.specs.declared.token.Role.TheVariants.{Initiator, Responder}
 use Rattle.noise_handshake.specs.Held.{Held}
 use Rattle.noise_keys.specs.Table.{Table}
 use Rattle.noise_session.specs.HeldTransport.{HeldTransport, seal_fault, open_fault}
+use Rattle.noise_c.specs.declared.kept.NoiseKey.{NoiseKey}
 use Rattle.noise_c.specs.declared.kept_transport.NoiseTransport.{NoiseTransport}
 use Rattle.noise_c.specs.declared.marks.TheConstants.{TRANSPORT}
 use Rattle.noise_c.specs.Kept.{key_in}
@@ -22,6 +23,24 @@ party_in party = if party == 1 then Initiator else Responder
 -- A call has left this: its mark is that of a transport of this layout, and it is of one of the two parties.
 abbrev pub is_transport : NoiseTransport → Bool
 is_transport k = (k.mark == TRANSPORT) && is_party k.party
+
+-- memory of zeros
+abbrev pub no_key : NoiseKey
+no_key = record { present = 0; bytes = replicate 32 0 }
+
+abbrev pub no_transport : NoiseTransport
+no_transport = record {
+  mark = 0;
+  party = 0;
+  one_way = 0;
+  hash = replicate 32 0;
+  remote_static = no_key;
+  interval = 0;
+  send_key = replicate 32 0;
+  send_nonce = 0;
+  receive_key = replicate 32 0;
+  receive_nonce = 0;
+}
 
 -- the transport
 abbrev pub transport_kept_in : NoiseTransport → HeldTransport

@@ -1,10 +1,9 @@
 //! What C keeps of datagrams, and from it to datagrams and back.
 #![tactic(auto)]
 
-ghost use Rattle.std.specs.Prelude.{◌≡◌, IfSome, is_some, true, false};
-ghost use Rattle.noise_c.specs.KeptDatagrams.{is_window, window_in, is_datagrams, datagrams_kept_in};
+ghost use Rattle.std.specs.Prelude.{◌≡◌, IfSome, is_some, true};
+ghost use Rattle.noise_c.specs.KeptDatagrams.{is_window, window_in, is_datagrams, datagrams_kept_in, no_datagrams};
 
-use crate::held::kept_key;
 use crate::kept::NoiseKey;
 use crate::kept_transport::{party_of, role_named};
 use crate::marks::DATAGRAMS;
@@ -109,14 +108,17 @@ pub(crate) fn kept_datagrams(
 
 // Memory of zeros, which is no datagrams.
 pub(crate) fn no_datagrams() -> NoiseDatagrams
-    ensures { is_datagrams result ≡ false }
+    ensures { result ≡ no_datagrams }
 {
     NoiseDatagrams {
         mark: 0,
         party: 0,
         one_way: 0,
         hash: [0; 32],
-        remote_static: kept_key(None),
+        remote_static: NoiseKey {
+            present: 0,
+            bytes: [0; 32],
+        },
         window: 0,
         send_key: [0; 32],
         send_nonce: 0,

@@ -1,8 +1,8 @@
 //! What C keeps of a transport, and from it to a transport and back.
 #![tactic(auto)]
 
-ghost use Rattle.std.specs.Prelude.{◌≡◌, IfSome, is_some, true, false};
-ghost use Rattle.noise_c.specs.KeptTransport.{is_party, party_in, is_transport, transport_kept_in};
+ghost use Rattle.std.specs.Prelude.{◌≡◌, IfSome, is_some, true};
+ghost use Rattle.noise_c.specs.KeptTransport.{is_party, party_in, is_transport, transport_kept_in, no_transport};
 
 use crate::held::kept_key;
 use crate::kept::NoiseKey;
@@ -100,14 +100,17 @@ pub(crate) fn kept_transport(transport: Transport) -> NoiseTransport
 
 // Memory of zeros, which is no transport.
 pub(crate) fn no_transport() -> NoiseTransport
-    ensures { is_transport result ≡ false }
+    ensures { result ≡ no_transport }
 {
     NoiseTransport {
         mark: 0,
         party: 0,
         one_way: 0,
         hash: [0; 32],
-        remote_static: kept_key(None),
+        remote_static: NoiseKey {
+            present: 0,
+            bytes: [0; 32],
+        },
         interval: 0,
         send_key: [0; 32],
         send_nonce: 0,

@@ -3,7 +3,7 @@
 
 ghost use Rattle.std.specs.Prelude.{◌≡◌, ◌↔◌, ◌<◌, ◌⊎◌, true, false};
 ghost use Rattle.noise_session.specs.HeldTransport.{TransportView, TransportStands, SenderStands, ReceiverStands, sending_half, receiving_half};
-ghost use Rattle.noise_c.specs.KeptTransport.{is_transport, transport_kept_in};
+ghost use Rattle.noise_c.specs.KeptTransport.{is_transport, transport_kept_in, no_transport};
 ghost use Rattle.noise_c.specs.KeptHalves.{is_half, half_kept_in};
 ghost use Rattle.noise_c.specs.declared.codes.TheConstants.{OK, STRUCT};
 ghost use Rattle.noise_c.specs.declared.marks.TheConstants.{SENDER, RECEIVER};
@@ -38,7 +38,7 @@ pub extern "C" fn noise_transport_split(
     ensures stands { result ≡ OK → (v : TransportView) → TransportStands (transport_kept_in kept.old) v
         → SenderStands (half_kept_in sender.new) v × ReceiverStands (half_kept_in receiver.new) v }
     ensures known { result ≡ OK → (is_half SENDER sender.new ≡ true) × (is_half RECEIVER receiver.new ≡ true) }
-    ensures gone { result ≡ OK → is_transport kept.new ≡ false }
+    ensures gone { result ≡ OK → kept.new ≡ no_transport }
     ensures unchanged { OK < result → (kept.new ≡ kept.old) × (sender.new ≡ sender.old) × (receiver.new ≡ receiver.old) }
     ensures codes { (result ≡ OK) ⊎ (result ≡ STRUCT) }
 {

@@ -7,13 +7,9 @@ use Rattle.noise_names.specs.Overhead.{has_key}
 use Rattle.noise_handshake.specs.Length.{keyed_after_tokens}
 use Rattle.noise_handshake.specs.Nonces.{nonce_after_message, nonce_after_messages, nonce_due}
 use Rattle.noise_handshake.specs.Passed.{passed_places}
+use Rattle.noise_handshake.specs.inner.Keyed.{keyed_after_messages}
 use Rattle.noise_handshake.specs.View.{tokens_at}
 use Rattle.noise_handshake.proofs.Places.{has_key-passed}
-
--- whether there is a key after messages
-abbrev keyed_after_messages : Bool → Bool → List (List Token) → Bool
-keyed_after_messages psks keyed [] = keyed
-keyed_after_messages psks keyed (ts ∷ ms) = keyed_after_messages psks (keyed_after_tokens psks keyed ts) ms
 
 keyed-more : (psks k : Bool) (ms : List (List Token)) (i : ℕ) → i < length ms
     → keyed_after_messages psks k (take (suc i) ms) ≡ keyed_after_tokens psks (keyed_after_messages psks k (take i ms)) (tokens_at ms i)
@@ -33,7 +29,7 @@ next : (i : ℕ) → i + 1 ≡ suc i
 next i = omega arith
 
 module _ (p : Plan) where
-  keyed-passed : (i : ℕ) → i ≤ length p.messages
+  pub keyed-passed : (i : ℕ) → i ≤ length p.messages
       → keyed_after_messages (has_psk p) (has_key p (passed_places p 0)) (take i p.messages) ≡ has_key p (passed_places p i)
   keyed-passed zero h = refl
   keyed-passed (suc i) h =

@@ -62,13 +62,11 @@ second true b h = h
 second false b h = cc
 
 -- a pattern takes at most 9 secrets
+pub few-messages : (p : Plan) → IsPattern p → length p.messages ≤ 8
+few-messages p h = leb-true (length p.messages) 8 (second (nat_le 1 (length p.messages)) (nat_le (length p.messages) 8) h.count)
+
 pub few-secrets : (p : Plan) → IsPattern p → secrets_of p.messages ≤ 9
-few-secrets p h =
-    omega (
-      arith,
-      all-few p.places p.messages h.psks.tokens,
-      leb-true (length p.messages) 8 (second (nat_le 1 (length p.messages)) (nat_le (length p.messages) 8) h.count),
-    )
+few-secrets p h = omega (arith, all-few p.places p.messages h.psks.tokens, few-messages p h)
 
 later-take-less : (n : ℕ) (ms : List (List Token)) → secrets_of (drop n ms) ≤ secrets_of ms
 later-take-less zero ms = omega arith

@@ -1,7 +1,7 @@
 //! A handshake of one party.
 #![tactic(auto)]
 
-ghost use Rattle.std.specs.Prelude.{◌≡◌, ◌≤◌, ◌<◌, ◌+◌, ◌-◌, true, false, ℕ, List, ◌↔◌, length, take, drop, slice_range, Some, None, IsOk, IfOk};
+ghost use Rattle.std.specs.Prelude.{◌≡◌, ◌≤◌, ◌<◌, ◌+◌, ◌-◌, ◌*◌, true, false, ℕ, List, ◌↔◌, length, take, drop, slice_range, Some, None, IsOk, IfOk};
 ghost use Rattle.std.specs.Prelude.{IfErr, OnErr, MatchResult, MatchOption, IsSome, IfSome, not, ◌&&◌, ◌==◌, count_by, set};
 ghost use Rattle.std.specs.Option.{ForSome};
 
@@ -125,12 +125,33 @@ impl<K: Keys> Handshake<K> {
         if let Some(fault) = setup_fault(plan, role, &keys, &remote, psks.len()) {
             return Err(fault);
         }
+        let mut secrets = ArrayVec::new();
+        secrets.try_extend_from_slice(psks).unwrap();
+        Ok(Handshake::begin(pattern, role, prologue, keys, remote, secrets))
+    }
+
+    // The handshake before its first message, of a setup without a fault.
+    pub(crate) fn begin(
+        pattern: ValidPattern,
+        role: Role,
+        prologue: &[u8],
+        keys: K,
+        remote: Remote,
+        secrets: ArrayVec<[u8; 32], 9>,
+    ) -> Handshake<K>
+        requires len { length prologue.now ≤ 65535 }
+        requires right { setup_fault pattern role (K.public_of keys) remote (length secrets.items) ≡ None }
+        ensures stands { Stands K.public_of K.agreement result
+            (begun pattern role prologue.now (K.public_of keys) (K.agreement keys) remote secrets.items) }
+        ensures parts { (result.pattern ≡ pattern) × (result.role ≡ role) × (result.keys ≡ keys) × (result.passed ≡ 0) × (result.ended ≡ false) }
+        ensures secrets { result.secrets ≡ secrets.items }
+    {
+        let plan = pattern.pattern();
+        let _ = plan.messages();
         let with_psks = !plan.is_plain();
         let state = start(plan, role, prologue, &public_keys(&keys), &remote);
         let next = lay_next(plan, with_psks, state.has_key(), 0);
-        let mut secrets = ArrayVec::new();
-        secrets.try_extend_from_slice(psks).unwrap();
-        Ok(Handshake {
+        Handshake {
             pattern,
             role,
             keys,
@@ -142,7 +163,7 @@ impl<K: Keys> Handshake<K> {
             psks: with_psks,
             next,
             state,
-        })
+        }
     }
 
     /// The secrets of the psk tokens that are still to come, in their order.
@@ -193,28 +214,37 @@ impl<K: Keys> Handshake<K> {
         ensures whole { IsSome result ↔ IsWhole K.public_of (held_of parts secrets.now) }
         ensures same { IfSome result (λ h. h ≡ held_of parts secrets.now) }
     {
-        if !parts.are_whole(secrets) {
+        if secrets.len() != parts.secrets_due()? {
             return None;
         }
+        let mut kept = ArrayVec::new();
+        kept.try_extend_from_slice(secrets).unwrap();
+        Some(Handshake::of_parts(parts, kept))
+    }
+
+    // The handshake that holds these parts and secrets.
+    pub(crate) fn of_parts(parts: Parts<K>, secrets: ArrayVec<[u8; 32], 9>) -> Handshake<K>
+        requires whole { IsWhole K.public_of (held_of parts secrets.items) }
+        requires bound { parts.progress.state.nonce ≤ 11 * parts.progress.passed }
+        ensures { result ≡ held_of parts secrets.items }
+    {
         let progress = parts.progress;
         let plan = parts.pattern.pattern();
         let psks = !plan.is_plain();
         let next = lay_next(plan, psks, progress.state.key.is_some(), progress.passed);
-        let mut kept = ArrayVec::new();
-        kept.try_extend_from_slice(secrets).unwrap();
-        Some(Handshake {
+        Handshake {
             pattern: parts.pattern,
             role: parts.role,
             keys: parts.keys,
             remote: progress.remote,
-            secrets: kept,
+            secrets,
             used: 0,
             passed: progress.passed,
             ended: progress.ended,
             psks,
             next,
             state: SymmetricState::from_parts(progress.state),
-        })
+        }
     }
 
     /// The pattern, with the tokens of its messages.

@@ -5,11 +5,12 @@ ghost use Rattle.std.specs.Prelude.{◌≡◌, ◌≤◌, ◌<◌, ◌↔◌, �
 ghost use Rattle.std.specs.Prelude.{IsOk, IfOk, IfErr, OnErr, MatchResult, MatchOption, IsSome, IfSome, IsTrue, not, ◌&&◌, ◌==◌, count_by, Option};
 ghost use Rattle.std.specs.Option.{ForSome};
 
-use crate::setup::psk_total;
+use crate::setup::{psk_total, setup_fault};
 use crate::{
     Handshake, Keys, LateUnread, LateUnwritten, Opened, Parts, Progress, Remote, SetupFault,
     Unread, Want,
 };
+use arrayvec::ArrayVec;
 use noise_names::{Role, ValidPattern};
 use std::marker::Model;
 
@@ -38,14 +39,18 @@ impl<K: Keys> Model for LateHandshake<K> {
     ghost invariant = { λ a. a.lacking ≤ length a.filled.secrets };
 }
 
-// The secrets, and zeros after them.
-fn filled(secrets: &[[u8; 32]]) -> [[u8; 32]; 9]
-    requires { length secrets.now ≤ 9 }
-    ensures kept { take (length secrets.now) result ≡ secrets.now }
-    ensures count { length result ≡ 9 }
+// The secrets, and zeros after them up to so many.
+fn filled(secrets: &[[u8; 32]], total: usize) -> ArrayVec<[u8; 32], 9>
+    requires fits { length secrets.now ≤ total }
+    requires few { total ≤ 9 }
+    ensures kept { take (length secrets.now) result.items ≡ secrets.now }
+    ensures count { length result.items ≡ total }
 {
-    let mut all = [[0; 32]; 9];
-    all[..secrets.len()].copy_from_slice(secrets);
+    let mut all = ArrayVec::new();
+    all.try_extend_from_slice(secrets).unwrap();
+    while all.len() < total {
+        all.push([0; 32]);
+    }
     all
 }
 
@@ -83,20 +88,15 @@ impl<K: Keys> LateHandshake<K> {
         ensures secrets { IfOk result (λ h. h.secrets ≡ psks.now) }
         ensures valid { IsPattern pattern × IsValid pattern }
     {
-        let total = psk_total(pattern.pattern().messages());
-        if psks.len() >= total {
-            let filled = match Handshake::new(pattern, role, prologue, keys, remote, psks) {
-                Ok(filled) => filled,
-                Err(fault) => return Err(fault),
-            };
-            return Ok(LateHandshake { filled, lacking: 0 });
+        let plan = pattern.pattern();
+        let total = psk_total(plan.messages());
+        let count = psks.len().max(total);
+        if let Some(fault) = setup_fault(plan, role, &keys, &remote, count) {
+            return Err(fault);
         }
-        let all = filled(psks);
         let lacking = total - psks.len();
-        let filled = match Handshake::new(pattern, role, prologue, keys, remote, &all[..total]) {
-            Ok(filled) => filled,
-            Err(fault) => return Err(fault),
-        };
+        let secrets = filled(psks, total);
+        let filled = Handshake::begin(pattern, role, prologue, keys, remote, secrets);
         Ok(LateHandshake { filled, lacking })
     }
 
@@ -141,12 +141,11 @@ impl<K: Keys> LateHandshake<K> {
         ensures whole { IsSome result ↔ IsLateWhole K.public_of (held_of parts secrets.now) }
         ensures same { IfSome result (λ h. h ≡ held_of parts secrets.now) }
     {
-        let total = parts.due()?;
+        let total = parts.secrets_due()?;
         if secrets.len() > total {
             return None;
         }
-        let all = filled(secrets);
-        let filled = Handshake::from_parts(parts, &all[..total])?;
+        let filled = Handshake::of_parts(parts, filled(secrets, total));
         Some(LateHandshake {
             filled,
             lacking: total - secrets.len(),

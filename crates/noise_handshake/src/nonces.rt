@@ -1,21 +1,25 @@
-//! The nonce that messages leave (Noise, 5.1 and 5.2).
+//! The key and the nonce that messages leave (Noise, 5.1 and 5.2).
 #![tactic(auto)]
 
 ghost use Rattle.std.specs.Prelude.{◌≡◌, ◌≤◌, ◌<◌, ◌+◌, ◌-◌, ◌*◌, ◌^◌, length};
+ghost use Rattle.noise_names.specs.Plan.{has_psk};
 ghost use Rattle.noise_names.specs.Overhead.{has_key};
 ghost use Rattle.noise_state.specs.Cipher.{next_nonce};
 ghost use Rattle.noise_handshake.specs.Length.{keyed_after_tokens};
 ghost use Rattle.noise_handshake.specs.Nonces.{nonce_after, nonce_after_tokens, nonce_after_messages, nonce_due};
 ghost use Rattle.noise_handshake.specs.Passed.{passed_places};
+ghost use Rattle.noise_handshake.specs.inner.Keyed.{keyed_after_messages};
 
+use crate::Own;
 use crate::layout::keyed_after;
-use noise_names::{Message, Pattern, Token, ValidPattern};
+use crate::setup::has_token;
+use noise_names::{Message, Pattern, Role, Token, ValidPattern};
 
 // Whether there is a key, and its nonce.
 #[derive(Clone, Copy)]
-struct Count {
-    keyed: bool,
-    nonce: u64,
+pub(crate) struct Count {
+    pub(crate) keyed: bool,
+    pub(crate) nonce: u64,
 }
 
 // The nonce after a text that is encrypted where there is a key.
@@ -56,14 +60,15 @@ fn after_tokens(psks: bool, count: Count, tokens: &[Token]) -> Count
     after_tokens(psks, after, later)
 }
 
-fn after_messages(psks: bool, count: Count, messages: &[Message]) -> u64
+fn after_messages(psks: bool, count: Count, messages: &[Message]) -> Count
     requires small { count.nonce ≤ 88 - 11 * length messages.now }
     requires few { length messages.now ≤ 8 }
-    ensures nonce { result ≡ nonce_after_messages psks count.keyed count.nonce messages.now }
-    ensures bound { result ≤ count.nonce + 11 * length messages.now }
+    ensures keyed { result.keyed ≡ keyed_after_messages psks count.keyed messages.now }
+    ensures nonce { result.nonce ≡ nonce_after_messages psks count.keyed count.nonce messages.now }
+    ensures bound { result.nonce ≤ count.nonce + 11 * length messages.now }
 {
     let Some((message, later)) = messages.split_first() else {
-        return count.nonce;
+        return count;
     };
     let after = after_tokens(psks, count, message.tokens());
     let next = Count {
@@ -73,16 +78,27 @@ fn after_messages(psks: bool, count: Count, messages: &[Message]) -> u64
     after_messages(psks, next, later)
 }
 
-// The nonce of a handshake in which so many messages have passed.
-pub(crate) fn nonce_due(valid: &ValidPattern, passed: u8) -> u64
+// Whether there is a key after the pre-messages.
+fn keyed_first(pattern: &Pattern, psks: bool) -> bool
+    requires { psks ≡ has_psk pattern.now }
+    ensures { result ≡ has_key pattern.now (passed_places pattern.now 0) }
+{
+    let first = has_token(pattern.pre(Role::Initiator), Own::Ephemeral);
+    let second = has_token(pattern.pre(Role::Responder), Own::Ephemeral);
+    psks && (first || second)
+}
+
+// Whether there is a key in a handshake in which so many messages have passed, and its nonce.
+pub(crate) fn count_due(valid: &ValidPattern, passed: u8) -> Count
     requires { passed ≤ length valid.now.messages }
-    ensures due { result ≡ nonce_due valid.now passed }
-    ensures bound { result ≤ 11 * passed }
+    ensures keyed { result.keyed ≡ has_key valid.now (passed_places valid.now passed) }
+    ensures nonce { result.nonce ≡ nonce_due valid.now passed }
+    ensures bound { result.nonce ≤ 11 * passed }
 {
     let pattern: &Pattern = valid.pattern();
     let psks = !pattern.is_plain();
     let count = Count {
-        keyed: valid.has_key(0),
+        keyed: keyed_first(pattern, psks),
         nonce: 0,
     };
     after_messages(psks, count, &pattern.messages()[..passed as usize])

@@ -1,7 +1,7 @@
 //! What a handshake holds, for a caller that keeps it itself.
 #![tactic(auto)]
 
-ghost use Rattle.std.specs.Prelude.{◌≡◌, ◌≤◌, ◌<◌, ◌*◌, ◌↔◌, not, ◌&&◌, length, drop, is_some, IsTrue, MatchOption};
+ghost use Rattle.std.specs.Prelude.{◌≡◌, ◌≤◌, ◌<◌, ◌*◌, ◌↔◌, ℕ, List, not, ◌&&◌, length, drop, is_some, IsTrue, MatchOption};
 ghost use Rattle.noise_names.specs.declared.token.Token.TheVariants.{E, S};
 ghost use Rattle.noise_names.specs.Tokens.{other};
 ghost use Rattle.noise_names.specs.Validity.{is_among};
@@ -11,7 +11,7 @@ ghost use Rattle.noise_handshake.specs.Passed.{passed_places};
 ghost use Rattle.noise_handshake.specs.Setup.{lacks_own, secrets_of};
 ghost use Rattle.noise_handshake.specs.Parts.{held_of, IsWhole};
 
-use crate::nonces::nonce_due;
+use crate::nonces::count_due;
 use crate::setup::{lacks_own, psk_total, was_sent};
 use crate::{Keys, Own, Remote};
 use noise_names::{Role, ValidPattern};
@@ -39,17 +39,6 @@ pub struct Parts<K> {
 }
 
 impl<K: Keys> Parts<K> {
-    // Whether no more messages have passed than there are, and a secret is left for each psk token to come.
-    fn has_secrets(&self, secrets: &[[u8; 32]]) -> bool
-        ensures due { IsTrue result ↔ ((self.now.progress.passed ≤ length self.now.pattern.messages)
-            × (length secrets.now ≡ secrets_of (drop self.now.progress.passed self.now.pattern.messages))) }
-        ensures few { IsTrue result → length secrets.now ≤ 9 }
-    {
-        let messages = self.pattern.pattern().messages();
-        let passed = self.progress.passed as usize;
-        passed <= messages.len() && secrets.len() == psk_total(&messages[passed..])
-    }
-
     // Whether the party has each key of its own that the pattern has a token for.
     fn has_own(&self) -> bool
         ensures { result ≡ (not (lacks_own self.now.pattern self.now.role E (K.public_of self.now.keys Own.Ephemeral))
@@ -80,14 +69,12 @@ impl<K: Keys> Parts<K> {
             × (self.now.progress.state.nonce ≡ nonce_due self.now.pattern self.now.progress.passed)) }
         ensures bound { IsTrue result → self.now.progress.state.nonce ≤ 11 * self.now.progress.passed }
     {
-        let passed = self.progress.passed;
-        let due = nonce_due(&self.pattern, passed);
-        self.progress.state.key.is_some() == self.pattern.has_key(passed)
-            && self.progress.state.nonce == due
+        let due = count_due(&self.pattern, self.progress.passed);
+        self.progress.state.key.is_some() == due.keyed && self.progress.state.nonce == due.nonce
     }
 
     // How many psk tokens are still to come; None where more messages have passed than there are.
-    pub(crate) fn due(&self) -> Option<usize>
+    fn due(&self) -> Option<usize>
         ensures { MatchOption result (length self.now.pattern.messages < self.now.progress.passed)
             (λ n. (self.now.progress.passed ≤ length self.now.pattern.messages)
             × (n ≡ secrets_of (drop self.now.progress.passed self.now.pattern.messages)) × (n ≤ 9)) }
@@ -100,21 +87,22 @@ impl<K: Keys> Parts<K> {
         Some(psk_total(&messages[passed..]))
     }
 
-    // Whether a handshake may hold them and these secrets.
-    pub(crate) fn are_whole(&self, secrets: &[[u8; 32]]) -> bool
-        ensures whole { IsTrue result ↔ IsWhole K.public_of (held_of self.now secrets.now) }
-        ensures few { IsTrue result → length secrets.now ≤ 9 }
-        ensures bound { IsTrue result → self.now.progress.state.nonce ≤ 11 * self.now.progress.passed }
+    // How many secrets a handshake that holds them has; None where none holds them.
+    pub(crate) fn secrets_due(&self) -> Option<usize>
+        ensures { MatchOption result ((secrets : List (List ℕ)) → IsWhole K.public_of (held_of self.now secrets) → ⊥)
+            (λ n. (n ≤ 9) × (self.now.progress.state.nonce ≤ 11 * self.now.progress.passed)
+            × ((secrets : List (List ℕ)) → IsWhole K.public_of (held_of self.now secrets) ↔ (length secrets ≡ n))) }
     {
-        if !self.has_secrets(secrets) {
-            return false;
-        }
+        let due = self.due()?;
         if !self.has_own() {
-            return false;
+            return None;
         }
         if !self.has_remote() {
-            return false;
+            return None;
         }
-        self.has_state()
+        if !self.has_state() {
+            return None;
+        }
+        Some(due)
     }
 }

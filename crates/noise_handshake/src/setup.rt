@@ -32,7 +32,7 @@ fn sends(token: Token, own: Own) -> bool
 }
 
 // Whether one of the tokens does.
-fn has_token(tokens: &[Token], own: Own) -> bool
+pub(crate) fn has_token(tokens: &[Token], own: Own) -> bool
     ensures { result ≡ list_any (λ t. same_token t (token_of own)) tokens.now }
 {
     tokens.iter().any(|token| sends(*token, own))

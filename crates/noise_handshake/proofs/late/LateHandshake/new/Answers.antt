@@ -1,65 +1,59 @@
-use Rattle.std.proofs.Common.{◌≡◌, ◌≤◌, ◌<◌, ℕ, List, length, take, true, false, max, ap, sym, subst, ◌∙◌, arith, length-take}
-use Rattle.std.specs.Prelude.{MatchOption, Result, Ok, Err}
-use Rattle.noise_names.specs.Plan.{Plan}
-use Rattle.noise_keys.specs.declared.faults.SetupFault.{SetupFault}
-use Rattle.noise_handshake.specs.Held.{Held}
+use Rattle.std.proofs.Common.{◌≡◌, ◌-◌, ◌++◌, ℕ, List, length, take, ap, sym, ◌∙◌, arith}
+use Rattle.std.specs.Prelude.{None}
 use Rattle.noise_handshake.specs.Setup.{secrets_of, setup_fault}
-use Rattle.noise_handshake.specs.inner.Late.{without_last}
-use Rattle.noise_handshake.proofs.LateViews.{ok-fault, err-fault}
-use Rattle.noise_handshake.proofs.Starting.{few-secrets}
+use Rattle.noise_handshake.proofs.Setting.{counted}
 use Rattle.noise_handshake.proofs.late.LateHandshake.new.Goals as goal
 
-pub filled-all-requires : goal.filled-all-requires
-filled-all-requires g c =
-    let e : c.psk_total-total.result ≡ secrets_of c.pattern.result.now.messages = c.psk_total-total.ensures.total ∙ ap secrets_of c.messages.ensures.same in
-    omega (arith, c.if-psks-total.false, e, few-secrets c.pattern.result.now c.messages.ensures.limits)
+pub overflow_sub-lacking : goal.overflow_sub-lacking
+overflow_sub-lacking g c =
+    let own = g.K.Keys.public_of c.args.keys in
+    let n : ℕ = c.max-count.result in
+    let none : setup_fault c.pattern-plan.result.now c.args.role own c.args.remote n ≡ None = sym c.setup_fault.ensures.fault ∙ c.in_default.is in
+    let total : c.psk_total-total.result ≡ secrets_of c.pattern-plan.result.now.messages = c.psk_total-total.ensures.total ∙ ap secrets_of c.messages.ensures.same in
+    omega (arith, total, counted c.pattern-plan.result.now c.args.role own c.args.remote n none, c.max-count.ensures)
 
-pub slice_bounds-all-end : goal.slice_bounds-all-end
-slice_bounds-all-end g c =
-    let e : c.psk_total-total.result ≡ secrets_of c.pattern.result.now.messages = c.psk_total-total.ensures.total ∙ ap secrets_of c.messages.ensures.same in
-    omega (arith, e, few-secrets c.pattern.result.now c.messages.ensures.limits, c.filled-all.ensures.count)
+pub filled-secrets-requires-clause-fits : goal.filled-secrets-requires-clause-fits
+filled-secrets-requires-clause-fits g c =
+    let own = g.K.Keys.public_of c.args.keys in
+    let n : ℕ = c.max-count.result in
+    let none : setup_fault c.pattern-plan.result.now c.args.role own c.args.remote n ≡ None = sym c.setup_fault.ensures.fault ∙ c.in_default.is in
+    let total : c.psk_total-total.result ≡ secrets_of c.pattern-plan.result.now.messages = c.psk_total-total.ensures.total ∙ ap secrets_of c.messages.ensures.same in
+    omega (arith, total, counted c.pattern-plan.result.now c.args.role own c.args.remote n none, c.max-count.ensures)
 
-pub slice_bounds-new-end : goal.slice_bounds-new-end
-slice_bounds-new-end g c =
-    let e : c.psk_total-total.result ≡ secrets_of c.pattern.result.now.messages = c.psk_total-total.ensures.total ∙ ap secrets_of c.messages.ensures.same in
-    omega (
-      arith,
-      e,
-      few-secrets c.pattern.result.now c.messages.ensures.limits,
-      c.filled-all.ensures.count,
-      length-take c.psk_total-total.result c.filled-all.result,
-    )
+pub returns-clause-stands : goal.returns-clause-stands
+returns-clause-stands g c later =
+    let psks : List (List ℕ) = c.args.psks.now in
+    let lacking : ℕ = c.psk_total-total.result - length psks in
+    let all : List (List ℕ) = c.filled-secrets.result.items in
+    let own = g.K.Keys.public_of c.args.keys in
+    let n : ℕ = c.max-count.result in
+    let none : setup_fault c.pattern-plan.result.now c.args.role own c.args.remote n ≡ None = sym c.setup_fault.ensures.fault ∙ c.in_default.is in
+    let total : c.psk_total-total.result ≡ secrets_of c.pattern-plan.result.now.messages = c.psk_total-total.ensures.total ∙ ap secrets_of c.messages.ensures.same in
+    let count : length all - lacking ≡ length psks =
+    omega (arith, total, counted c.pattern-plan.result.now c.args.role own c.args.remote n none, c.max-count.ensures, c.filled-secrets.ensures.count) in
+    let same : take (length c.begin-filled.result.secrets - lacking) c.begin-filled.result.secrets ≡ psks =
+    ap (λ (z : List (List ℕ)). take (length z - lacking) z) c.begin-filled.ensures.secrets ∙ ap (λ (k : ℕ). take k all) count ∙ c.filled-secrets.ensures.kept in
+    let s = c.begin-filled.ensures.stands in record {
+      pattern = s.pattern;
+      role = s.role;
+      secrets = ap (λ (z : List (List ℕ)). z ++ later) same;
+      own = s.own;
+      agree = s.agree;
+      remote = s.remote;
+      passed = s.passed;
+      ended = s.ended;
+      history = s.history;
+    }
 
-pub returns-in-Err-clause-fault : goal.returns-in-Err-clause-fault
-returns-in-Err-clause-fault g c =
-    let total : c.psk_total-total.result ≡ secrets_of c.args.pattern.messages =
-    c.psk_total-total.ensures.total ∙ ap secrets_of c.messages.ensures.same ∙ ap (λ (p : Plan). secrets_of p.messages) c.pattern.ensures.same in
-    let e : length c.args.psks.now ≡ max (length c.args.psks.now) (secrets_of c.args.pattern.messages) = omega (arith, total, c.if-psks-total.true) in
-    err-fault _ _ c.args.pattern c.args.role (g.K.Keys.public_of c.args.keys) c.args.remote _ _ e c.in-Err.fault c.in-Err.ensures.fault
-
-pub returns-then-psks-total-clause-fault : goal.returns-then-psks-total-clause-fault
-returns-then-psks-total-clause-fault g c =
-    let total : c.psk_total-total.result ≡ secrets_of c.args.pattern.messages =
-    c.psk_total-total.ensures.total ∙ ap secrets_of c.messages.ensures.same ∙ ap (λ (p : Plan). secrets_of p.messages) c.pattern.ensures.same in
-    let e : length c.args.psks.now ≡ max (length c.args.psks.now) (secrets_of c.args.pattern.messages) = omega (arith, total, c.if-psks-total.true) in
-    ok-fault _ _ c.args.pattern c.args.role (g.K.Keys.public_of c.args.keys) c.args.remote _ _ e _ _ c.in-Ok.ensures.fault
-
-pub returns-in-Err-new-clause-fault : goal.returns-in-Err-new-clause-fault
-returns-in-Err-new-clause-fault g c =
-    let total : c.psk_total-total.result ≡ secrets_of c.args.pattern.messages =
-    c.psk_total-total.ensures.total ∙ ap secrets_of c.messages.ensures.same ∙ ap (λ (p : Plan). secrets_of p.messages) c.pattern.ensures.same in
-    let few : secrets_of c.pattern.result.now.messages ≤ 9 = few-secrets c.pattern.result.now c.messages.ensures.limits in
-    let same : secrets_of c.pattern.result.now.messages ≡ secrets_of c.args.pattern.messages = ap (λ (p : Plan). secrets_of p.messages) c.pattern.ensures.same in
-    let e : length (take c.psk_total-total.result c.filled-all.result) ≡ max (length c.args.psks.now) (secrets_of c.args.pattern.messages) =
-    omega (arith, total, few, same, c.if-psks-total.false, c.filled-all.ensures.count, length-take c.psk_total-total.result c.filled-all.result) in
-    err-fault _ _ c.args.pattern c.args.role (g.K.Keys.public_of c.args.keys) c.args.remote _ _ e c.in-Err-new.fault c.in-Err-new.ensures.fault
-
-pub returns-clause-fault : goal.returns-clause-fault
-returns-clause-fault g c =
-    let total : c.psk_total-total.result ≡ secrets_of c.args.pattern.messages =
-    c.psk_total-total.ensures.total ∙ ap secrets_of c.messages.ensures.same ∙ ap (λ (p : Plan). secrets_of p.messages) c.pattern.ensures.same in
-    let few : secrets_of c.pattern.result.now.messages ≤ 9 = few-secrets c.pattern.result.now c.messages.ensures.limits in
-    let same : secrets_of c.pattern.result.now.messages ≡ secrets_of c.args.pattern.messages = ap (λ (p : Plan). secrets_of p.messages) c.pattern.ensures.same in
-    let e : length (take c.psk_total-total.result c.filled-all.result) ≡ max (length c.args.psks.now) (secrets_of c.args.pattern.messages) =
-    omega (arith, total, few, same, c.if-psks-total.false, c.filled-all.ensures.count, length-take c.psk_total-total.result c.filled-all.result) in
-    ok-fault _ _ c.args.pattern c.args.role (g.K.Keys.public_of c.args.keys) c.args.remote _ _ e _ _ c.in-Ok-new.ensures.fault
+pub returns-clause-secrets : goal.returns-clause-secrets
+returns-clause-secrets g c =
+    let psks : List (List ℕ) = c.args.psks.now in
+    let lacking : ℕ = c.psk_total-total.result - length psks in
+    let all : List (List ℕ) = c.filled-secrets.result.items in
+    let own = g.K.Keys.public_of c.args.keys in
+    let n : ℕ = c.max-count.result in
+    let none : setup_fault c.pattern-plan.result.now c.args.role own c.args.remote n ≡ None = sym c.setup_fault.ensures.fault ∙ c.in_default.is in
+    let total : c.psk_total-total.result ≡ secrets_of c.pattern-plan.result.now.messages = c.psk_total-total.ensures.total ∙ ap secrets_of c.messages.ensures.same in
+    let count : length all - lacking ≡ length psks =
+    omega (arith, total, counted c.pattern-plan.result.now c.args.role own c.args.remote n none, c.max-count.ensures, c.filled-secrets.ensures.count) in
+    ap (λ (z : List (List ℕ)). take (length z - lacking) z) c.begin-filled.ensures.secrets ∙ ap (λ (k : ℕ). take k all) count ∙ c.filled-secrets.ensures.kept

@@ -1,4 +1,4 @@
-use Rattle.std.proofs.Common.{◌≡◌, ◌++◌, ℕ, List, length, ap, sym, subst, ◌∙◌, arith}
+use Rattle.std.proofs.Common.{◌≡◌, ℕ, List, length, ap, sym, subst, ◌∙◌, arith}
 use Rattle.std.specs.Prelude.{Bool, not, false, None}
 use Rattle.noise_names.specs.declared.token.Role.TheVariants.{Initiator, Responder}
 use Rattle.noise_names.specs.Plan.{Plan, has_psk}
@@ -12,38 +12,42 @@ use Rattle.noise_names.specs.Tokens.{other}
 use Rattle.noise_handshake.specs.inner.Known.{KnowsRemote}
 use Rattle.noise_handshake.proofs.Knowing.{stands-start}
 use Rattle.noise_handshake.proofs.Setting.{flips, has-pre, remote-exactly, counted, own-e, own-s}
-use Rattle.noise_handshake.proofs.handshake.Handshake.new.Goals as goal
+use Rattle.noise_handshake.proofs.Starting.{few-messages}
+use Rattle.noise_handshake.proofs.handshake.Handshake.begin.Goals as goal
 
 pub start-state-requires-clause-initiator : goal.start-state-requires-clause-initiator
 start-state-requires-clause-initiator g c =
     let plan : Plan = c.pattern-plan.result.now in
     let own = g.K.Keys.public_of c.args.keys in
-    let none : setup_fault plan c.args.role own c.args.remote (length c.args.psks.now) ≡ None = sym c.setup_fault.ensures.fault ∙ c.in_default.is in
+    let n : ℕ = length c.args.secrets.items in
+    let none : setup_fault plan c.args.role own c.args.remote n ≡ None =
+    ap (λ (z : Plan). setup_fault z c.args.role own c.args.remote n) c.pattern-plan.ensures.same ∙ c.requires.right in
     subst (λ (z : Remote). HasPre plan Initiator (keys_of Initiator c.args.role z c.args.remote)) (sym c.public_keys.ensures)
-    (has-pre plan Initiator c.args.role own c.args.remote (length c.args.psks.now) none)
+    (has-pre plan Initiator c.args.role own c.args.remote n none)
 
 pub start-state-requires-clause-responder : goal.start-state-requires-clause-responder
 start-state-requires-clause-responder g c =
     let plan : Plan = c.pattern-plan.result.now in
     let own = g.K.Keys.public_of c.args.keys in
-    let none : setup_fault plan c.args.role own c.args.remote (length c.args.psks.now) ≡ None = sym c.setup_fault.ensures.fault ∙ c.in_default.is in
+    let n : ℕ = length c.args.secrets.items in
+    let none : setup_fault plan c.args.role own c.args.remote n ≡ None =
+    ap (λ (z : Plan). setup_fault z c.args.role own c.args.remote n) c.pattern-plan.ensures.same ∙ c.requires.right in
     subst (λ (z : Remote). HasPre plan Responder (keys_of Responder c.args.role z c.args.remote)) (sym c.public_keys.ensures)
-    (has-pre plan Responder c.args.role own c.args.remote (length c.args.psks.now) none)
+    (has-pre plan Responder c.args.role own c.args.remote n none)
 
 pub invariant_of-result : goal.invariant_of-result
 invariant_of-result g c =
     let plan : Plan = c.pattern-plan.result.now in
     let P = g.K.Keys.public_of in
     let own = g.K.Keys.public_of c.args.keys in
-    let n : ℕ = length c.args.psks.now in
-    let none : setup_fault plan c.args.role own c.args.remote n ≡ None = sym c.setup_fault.ensures.fault ∙ c.in_default.is in
+    let n : ℕ = length c.args.secrets.items in
+    let none : setup_fault plan c.args.role own c.args.remote n ≡ None =
+    ap (λ (z : Plan). setup_fault z c.args.role own c.args.remote n) c.pattern-plan.ensures.same ∙ c.requires.right in
     let q : plan ≡ c.args.pattern = c.pattern-plan.ensures.same in
     let b : Bool = not c.is_plain-with_psks.result in
     let psks : b ≡ has_psk plan = flips c.is_plain-with_psks.result (has_psk plan) c.is_plain-with_psks.ensures in
     let count : n ≡ secrets_of plan.messages = counted plan c.args.role own c.args.remote n none in
-    let items : List (List ℕ) = c.try_extend_from_slice.new.self.items in
-    let same : items ≡ c.args.psks.now = rw c.unwrap.ensures at c.try_extend_from_slice.ensures.ok
-    ∙ ap (λ (z : List (List ℕ)). z ++ c.args.psks.now) c.new-secrets.ensures in
+    let items : List (List ℕ) = c.args.secrets.items in
     let h : IsSound P (record {
       pattern = plan;
       role = c.args.role;
@@ -55,8 +59,8 @@ invariant_of-result g c =
       state = c.start-state.result;
     }) = record {
       within = omega arith;
-      few = c.setup_fault.ensures.short;
-      secrets = ap length same ∙ count;
+      few = few-messages plan c.messages.ensures.limits;
+      secrets = count;
       has_e = own-e plan c.args.role own c.args.remote n none;
       has_s = own-s plan c.args.role own c.args.remote n none;
       keyed = c.start-state.ensures.key;

@@ -1,0 +1,8 @@
+use Rattle.std.proofs.Common.{rules}
+use Rattle.noise_handshake.proofs.Counting.{keyed-passed}
+use Rattle.noise_handshake.proofs.nonces.count_due.Goals as goal
+
+pub returns-clause-keyed : goal.returns-clause-keyed
+returns-clause-keyed c =
+    let passed = keyed-passed c.args.valid.now c.args.passed c.requires in
+    search (rules, passed)
