@@ -130,7 +130,7 @@ expected-line words h = lacks-append 10 (codes "expect ") words refl (printed-li
 -- ---- what a version may have
 
 -- what is expected begins otherwise than the datagrams
-expect-begun : (rest : List ℕ) → starts_with nat_eq rest (codes "expect ") ≡ true → starts_with nat_eq rest (codes "datagrams ") ≡ false
+pub expect-begun : (rest : List ℕ) → starts_with nat_eq rest (codes "expect ") ≡ true → starts_with nat_eq rest (codes "datagrams ") ≡ false
 expect-begun [] h = absurd (cc h)
 expect-begun (b ∷ bs) h =
     let first : nat_eq 101 b ≡ true = (and_parts (nat_eq 101 b) _ h).0 in

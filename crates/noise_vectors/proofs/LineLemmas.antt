@@ -7,7 +7,7 @@ use Rattle.std.proofs.lemmas.List.Elements.{All-head, All-tail}
 use Rattle.std.proofs.Math.Seq.{take-append_seam}
 use Rattle.noise_vectors.specs.VectorText.{line, lines_of}
 
-lines_of-push : {A : Type 0} (words : A → List ℕ) (xs : List A) (x : A) (rest : List ℕ)
+pub lines_of-push : {A : Type 0} (words : A → List ℕ) (xs : List A) (x : A) (rest : List ℕ)
     → lines_of words xs (line (words x) rest) ≡ lines_of words (xs ++ x ∷ []) rest
 lines_of-push words [] x rest = refl
 lines_of-push words (y ∷ ys) x rest = ap (λ (t : List ℕ). line (words y) t) (lines_of-push words ys x rest)

@@ -1,18 +1,13 @@
 -- Which line is told: the files that begin with the lines before it, and that none goes on with it.
-use Rattle.std.proofs.Common.{arith, subst, ◌≡◌, ◌∙◌, ◌+◌, ◌<◌, ◌≤◌, ◌^◌, ◌==◌, inl, inr, not, ap, refl, true, false, Bool, ℕ, List, [], ◌∷◌, ◌++◌, codes}
-use Rattle.std.proofs.Common.{cond, length}
+use Rattle.std.proofs.Common.{arith, subst, ◌≡◌, ◌∙◌, ◌+◌, ◌<◌, ◌≤◌, ◌^◌, ◌==◌, inl, inr, not, ap, refl, sym, true, false, Bool, ℕ, List, [], ◌∷◌, ◌++◌}
+use Rattle.std.proofs.Common.{cond, length, true≢false}
 use Rattle.std.specs.Bool.{nat_eq}
-use Rattle.std.specs.List.{All, starts_with}
+use Rattle.std.specs.List.{starts_with}
 use Rattle.std.proofs.lemmas.Bool.{and_parts}
-use Rattle.std.proofs.lemmas.List.Elements.{All-head, All-tail}
 use Rattle.std.proofs.lemmas.List.Sums.{count_by-le-length, sum_by-append, sum_by-cons}
-use Rattle.noise_vectors.specs.VectorText.{line, lines_of, psk_words}
-use Rattle.noise_vectors.specs.WrongLine.{IsFirstLine, IsLater, line_feeds}
-use Rattle.noise_vectors.specs.declared.faults.LineKind.{LineKind}
-use Rattle.noise_vectors.specs.declared.faults.LineKind.TheVariants as kinds
-use Rattle.noise_vectors.specs.declared.faults.VectorFault.TheVariants.{Line}
-use Rattle.noise_vectors.specs.Words.{IsKey, lacks}
-use Rattle.noise_vectors.proofs.ReadingLemmas.{psk-plain}
+use Rattle.noise_vectors.specs.VectorText.{line}
+use Rattle.noise_vectors.specs.WrongLine.{IsFirstLine, line_feeds}
+use Rattle.noise_vectors.specs.Words.{lacks}
 
 -- ---- line feeds
 
@@ -41,63 +36,60 @@ feeds-append x y = sum_by-append feed_of x y
 pub feeds-few : (text : List ℕ) → line_feeds text ≤ length text
 feeds-few text = count_by-le-length (λ (b : ℕ). b == 10) text
 
--- one line more is read, with its number
-pub feeds-step : (number next whole before : ℕ) (rest words after : List ℕ) → (before + whole + 1 < 2 ^ 64 → number + line_feeds rest ≡ before + whole)
-    → (number + 1 < 2 ^ 64 → next ≡ number + 1) → lacks 10 words ≡ true → rest ≡ line words after
-    → before + whole + 1 < 2 ^ 64 → next + line_feeds after ≡ before + whole
-feeds-step number next whole before rest words after same step plain e low =
-    let now = same low in
+-- ---- the number of a line
+
+-- one line more is read
+pub counted-step : (number next total : ℕ) (rest words after : List ℕ) → total < 2 ^ 63 → number + line_feeds rest ≡ total
+    → (number + 1 < 2 ^ 64 → next ≡ number + 1) → lacks 10 words ≡ true → rest ≡ line words after → next + line_feeds after ≡ total
+counted-step number next total rest words after low same step plain e =
     let one : line_feeds rest ≡ 1 + line_feeds after = ap line_feeds e ∙ feeds-line words after plain in
-    let small : number + 1 < 2 ^ 64 = omega (arith, now, one, low) in
+    let small : number + 1 < 2 ^ 64 = omega (arith, same, low) in
     let n = step small in
-    omega (arith, now, one, n)
+    omega (arith, same, one, n)
 
--- the lines of a pattern and the line after them
-pub feeds-block : (number before : ℕ) (start text rest : List ℕ) → number + line_feeds rest ≡ before + line_feeds start
-    → start ≡ text ++ line (codes "end") rest → number ≡ before + line_feeds (text ++ line (codes "end") [])
-feeds-block number before start text rest same e =
-    let all : line_feeds start ≡ line_feeds text + line_feeds (line (codes "end") rest) = ap line_feeds e ∙ feeds-append text (line (codes "end") rest) in
-    let one = feeds-line (codes "end") rest refl in
-    let alone = feeds-line (codes "end") [] refl in
-    let none : line_feeds [] ≡ 0 = refl in
-    let front = feeds-append text (line (codes "end") []) in
-    omega (arith, same, all, one, alone, none, front)
+-- its number
+pub counted-here : (number next total : ℕ) (rest : List ℕ) → total < 2 ^ 63 → number + line_feeds rest ≡ total
+    → (number + 1 < 2 ^ 64 → next ≡ number + 1) → next + line_feeds rest ≡ total + 1
+counted-here number next total rest low same step =
+    let small : number + 1 < 2 ^ 64 = omega (arith, same, low) in
+    let n = step small in
+    omega (arith, same, n)
 
--- and a text after those
-pub feeds-after : (text rest : List ℕ) → line_feeds (text ++ line (codes "end") rest) ≡ line_feeds (text ++ line (codes "end") []) + line_feeds rest
-feeds-after text rest =
-    let whole = feeds-append text (line (codes "end") rest) in
-    let front = feeds-append text (line (codes "end") []) in
-    let one = feeds-line (codes "end") rest refl in
-    let alone = feeds-line (codes "end") [] refl in
-    omega (arith, whole, front, one, alone)
+pub low-of : (total number : ℕ) (rest : List ℕ) → total < 2 ^ 63 → number + line_feeds rest ≡ total → number + line_feeds rest < 2 ^ 63
+low-of total number rest low e = omega (arith, low, e)
 
--- and a line after those
-pub feeds-under : (text words : List ℕ) → lacks 10 words ≡ true
-    → line_feeds (text ++ line (codes "end") (line words [])) ≡ line_feeds (text ++ line (codes "end") []) + 1
-feeds-under text words h =
-    let whole = feeds-append text (line (codes "end") (line words [])) in
-    let front = feeds-append text (line (codes "end") []) in
-    let one = feeds-line (codes "end") (line words []) refl in
-    let alone = feeds-line (codes "end") [] refl in
-    let under = feeds-line words [] h in
-    omega (arith, whole, front, one, alone, under)
+feeds-plain : (words : List ℕ) → lacks 10 words ≡ true → line_feeds words ≡ 0
+feeds-plain [] h = refl
+feeds-plain (b ∷ bs) h =
+    let parts = and_parts (not (b == 10)) (lacks 10 bs) h in
+    let more = feeds-plain bs parts.1 in
+    let one = sum_by-cons feed_of b bs in
+    let none = feed b parts.0 in
+    omega (arith, one, more, none)
+
+-- the number of the last one, which has no line feed
+pub counted-last : (number next total : ℕ) (rest words : List ℕ) → total < 2 ^ 63 → number + line_feeds rest ≡ total
+    → (number + 1 < 2 ^ 64 → next ≡ number + 1) → lacks 10 words ≡ true → rest ≡ words → next ≡ total + 1
+counted-last number next total rest words low same step plain e =
+    let none : line_feeds rest ≡ 0 = ap line_feeds e ∙ feeds-plain words plain in
+    let small : number + 1 < 2 ^ 64 = omega (arith, same, low) in
+    let n = step small in
+    omega (arith, same, none, n)
+
+-- the number of a line that is missing
+pub counted-none : (number next total : ℕ) (rest : List ℕ) → total < 2 ^ 63 → number + line_feeds rest ≡ total
+    → (number + 1 < 2 ^ 64 → next ≡ number + 1) → rest ≡ [] → next ≡ total + 1
+counted-none number next total rest low same step e =
+    let none : line_feeds rest ≡ 0 = ap line_feeds e in
+    let small : number + 1 < 2 ^ 64 = omega (arith, same, low) in
+    let n = step small in
+    omega (arith, same, none, n)
 
 -- what was read is the text's first line
 pub first-line : (text words rest : List ℕ) (is_ended : Bool) → (is_ended ≡ true → text ≡ line words rest) → (is_ended ≡ false → text ≡ words)
     → lacks 10 words ≡ true → IsFirstLine words text
 first-line text words rest true ended last plain = (plain, inr (rest, ended refl))
 first-line text words rest false ended last plain = (plain, inl (last refl))
-
--- a fault of such a kind is one at any line
-pub later-any : (kind : LineKind) (m n : ℕ) → IsLater (Line m kind) → IsLater (Line n kind)
-later-any kinds.Header m n h = h
-later-any kinds.Protocol m n h = h
-later-any kinds.Prologue m n h = h
-later-any kinds.Interval m n h = h
-later-any kinds.Psk m n h = h
-later-any kinds.Pattern m n h = h
-later-any kind m n h = tt
 
 -- a line begins so where the text does
 begun-front : (words rest front : List ℕ) → lacks 10 front ≡ true → starts_with nat_eq (line words rest) front ≡ true → starts_with nat_eq words front ≡ true
@@ -126,10 +118,23 @@ line-begun (b ∷ bs) rest (f ∷ fs) h =
     let more = line-begun bs rest fs parts.1 in
     rw (parts.0, more) refl
 
--- the lines of psks have one each
-pub feeds-psks : (psks : List (List ℕ)) → All IsKey psks → line_feeds (lines_of psk_words psks []) ≡ length psks
-feeds-psks [] h = refl
-feeds-psks (p ∷ ps) h =
-    let first = feeds-line (psk_words p) (lines_of psk_words ps []) (psk-plain p (All-head IsKey p ps h)) in
-    let more = feeds-psks ps (All-tail IsKey p ps h) in
-    omega (arith, first, more)
+same-test : (a b : Bool) → (a ≡ true → b ≡ true) → (b ≡ true → a ≡ true) → a ≡ b
+same-test true true f g = refl
+same-test true false f g = absurd (true≢false (sym (f refl)))
+same-test false true f g = absurd (true≢false (sym (g refl)))
+same-test false false f g = refl
+
+text-begun : (words text front : List ℕ) → IsFirstLine words text → starts_with nat_eq words front ≡ true → starts_with nat_eq text front ≡ true
+text-begun words text front (plain, inl e) h = rw e h
+text-begun words text front (plain, inr (rest, e)) h = rw e (line-begun words rest front h)
+
+-- a text begins as its first line does
+pub same-begun : (words text front : List ℕ) → IsFirstLine words text → lacks 10 front ≡ true → starts_with nat_eq text front ≡ starts_with nat_eq words front
+same-begun words text front first lack =
+    same-test (starts_with nat_eq text front) (starts_with nat_eq words front) (begun-line words text front first lack) (text-begun words text front first)
+
+-- and so does that line with another text after it
+pub other-begun : (words text rest front : List ℕ) → IsFirstLine words text → lacks 10 front ≡ true
+    → starts_with nat_eq (line words rest) front ≡ starts_with nat_eq text front
+other-begun words text rest front first lack =
+    same-begun words (line words rest) front (first.0, inr (rest, refl)) lack ∙ sym (same-begun words text front first lack)

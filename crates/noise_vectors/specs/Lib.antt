@@ -4,6 +4,7 @@ pub mod Expectations
 pub mod FileKeys
 pub mod HexWord
 pub mod OwnPattern
+pub mod ReaderFaults
 pub mod SameFile
 pub mod VectorFile
 pub mod VectorText

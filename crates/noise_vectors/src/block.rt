@@ -1,13 +1,14 @@
 //! The pattern that a file spells itself.
 
-ghost use Rattle.std.specs.Prelude.{◌≡◌, ◌+◌, ◌<◌, ◌^◌, ◌++◌, [], ℕ, List, IfErr, IfOk, IsTrue, MatchResult, Ok, codes};
+ghost use Rattle.std.specs.Prelude.{◌≡◌, ◌+◌, ◌<◌, ◌^◌, ◌++◌, [], ℕ, List, IfErr, IfOk, IsFalse, IsTrue, MatchResult, Ok, codes};
 ghost use Rattle.std.specs.List.{All};
 ghost use Rattle.noise_names.specs.Limits.{IsPattern};
 ghost use Rattle.noise_names.specs.Plan.{Plan};
 ghost use Rattle.noise_names.specs.Text.{text_of as pattern_text};
 ghost use Rattle.noise_vectors.specs.Block.{IsInner, itself};
+ghost use Rattle.noise_vectors.specs.ReaderFaults.{TellsBlock};
 ghost use Rattle.noise_vectors.specs.VectorText.{line, lines_of};
-ghost use Rattle.noise_vectors.specs.WrongLine.{IsOfBlock, line_feeds};
+ghost use Rattle.noise_vectors.specs.WrongLine.{line_feeds};
 ghost use Rattle.noise_vectors.specs.OwnPattern.{HasName};
 
 use crate::faults::{LineKind, VectorFault};
@@ -23,10 +24,10 @@ pub(crate) fn read_block(
     ensures text { IfOk result (λ pattern. lines.old.rest.now ≡ pattern_text pattern ++ line (codes "end") lines.new.rest.now) }
     ensures right { IfOk result IsPattern }
     ensures named { IfOk result (λ pattern. HasName pattern protocol.now) }
-    ensures number { lines.old.number < 9
-        → IfOk result (λ pattern. lines.new.number ≡ lines.old.number + line_feeds (pattern_text pattern ++ line (codes "end") [])) }
-    ensures few { lines.old.number < 9 → IfOk result (λ pattern. lines.new.number < 2 ^ 63 + 9) }
-    ensures fault { IfErr result IsOfBlock }
+    ensures counted { lines.old.number + line_feeds lines.old.rest.now < 2 ^ 63
+        → IfOk result (λ pattern. lines.new.number + line_feeds lines.new.rest.now ≡ lines.old.number + line_feeds lines.old.rest.now) }
+    ensures told { lines.old.number + line_feeds lines.old.rest.now < 2 ^ 63
+        → IfErr result (TellsBlock lines.old.rest.now (lines.old.number + line_feeds lines.old.rest.now)) }
     ensures every { (pattern : Plan) (rest : List ℕ) → IsPattern pattern → HasName pattern protocol.now
         → lines.old.rest.now ≡ pattern_text pattern ++ line (codes "end") rest
         → MatchResult result (λ read. (read ≡ pattern) × (lines.new.rest.now ≡ rest)) (λ fault. ⊥) }
@@ -45,10 +46,12 @@ pub(crate) fn read_block(
 // The lines before the next line `end`, which is read too.
 fn take_block<'a>(lines: &mut Lines<'a>) -> Result<&'a [u8], VectorFault>
     ensures text { IfOk result (λ text. IsTrue lines.new.is_ended → lines.old.rest.now ≡ text.now ++ line (codes "end") lines.new.rest.now) }
-    ensures number { lines.old.number < 9 → IfOk result (λ text. IsTrue lines.new.is_ended
-        → lines.new.number + line_feeds lines.new.rest.now ≡ lines.old.number + line_feeds lines.old.rest.now) }
-    ensures few { lines.old.number < 9 → IfOk result (λ text. IsTrue lines.new.is_ended → lines.new.number < 2 ^ 63 + 9) }
-    ensures fault { IfErr result IsOfBlock }
+    ensures counted { lines.old.number + line_feeds lines.old.rest.now < 2 ^ 63
+        → IfOk result (λ text. IsTrue lines.new.is_ended → lines.new.number + line_feeds lines.new.rest.now ≡ lines.old.number + line_feeds lines.old.rest.now) }
+    ensures last { lines.old.number + line_feeds lines.old.rest.now < 2 ^ 63
+        → IfOk result (λ text. IsFalse lines.new.is_ended → lines.new.number ≡ lines.old.number + line_feeds lines.old.rest.now + 1) }
+    ensures told { lines.old.number + line_feeds lines.old.rest.now < 2 ^ 63
+        → IfErr result (TellsBlock lines.old.rest.now (lines.old.number + line_feeds lines.old.rest.now)) }
     ensures every { (before : List (List ℕ)) (rest : List ℕ) → All IsInner before
         → lines.old.rest.now ≡ lines_of itself before (line (codes "end") rest)
         → MatchResult result (λ text. (text.now ≡ lines_of itself before []) × (lines.new.rest.now ≡ rest) × IsTrue lines.new.is_ended) (λ fault. ⊥) }

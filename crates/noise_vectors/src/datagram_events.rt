@@ -1,11 +1,12 @@
 //! The lines of events after `datagrams`.
 
-ghost use Rattle.std.specs.Prelude.{◌≡◌, ◌∷◌, ◌++◌, ◌↔◌, ℕ, List, IfErr, IfOk, IfSome, IsSome, IsTrue, MatchOption, MatchResult};
+ghost use Rattle.std.specs.Prelude.{◌≡◌, ◌+◌, ◌<◌, ◌^◌, ◌∷◌, ◌++◌, ◌↔◌, ℕ, List, IfErr, IfOk, IfSome, IsSome, IsTrue, MatchOption, MatchResult};
 ghost use Rattle.std.specs.List.{All};
 ghost use Rattle.noise_names.specs.declared.token.Role.{Role};
 ghost use Rattle.noise_events.specs.declared.datagram_event.DatagramEvent.{DatagramEvent};
 ghost use Rattle.noise_vectors.specs.VectorFile.{IsDatagramEvent};
-ghost use Rattle.noise_vectors.specs.WrongLine.{IsLater};
+ghost use Rattle.noise_vectors.specs.WrongLine.{line_feeds};
+ghost use Rattle.noise_vectors.specs.ReaderFaults.{TellsAfter, datagram_lines};
 ghost use Rattle.noise_vectors.specs.VectorText.{AfterDatagrams, datagram_event_words, datagram_kind_word, lines_of, role_word};
 ghost use Rattle.noise_vectors.specs.declared.faults.VectorFault.TheVariants.{Memory};
 ghost use Rattle.noise_vectors.specs.declared.words.DatagramKind.{DatagramKind};
@@ -26,7 +27,11 @@ pub(crate) fn read_datagram_events(
 ) -> Result<Vec<DatagramEvent>, VectorFault>
     ensures text { IfOk result (λ events. lines.old.rest.now ≡ lines_of datagram_event_words events.items lines.new.rest.now) }
     ensures right { IfOk result (λ events. All IsDatagramEvent events.items) }
-    ensures later { IfErr result IsLater }
+    ensures over { IfOk result (λ events. AfterDatagrams lines.new.rest.now) }
+    ensures counted { lines.old.number + line_feeds lines.old.rest.now < 2 ^ 63
+        → IfOk result (λ events. lines.new.number + line_feeds lines.new.rest.now ≡ lines.old.number + line_feeds lines.old.rest.now) }
+    ensures told { lines.old.number + line_feeds lines.old.rest.now < 2 ^ 63
+        → IfErr result (TellsAfter datagram_lines lines.old.rest.now (lines.old.number + line_feeds lines.old.rest.now)) }
     ensures every { (events : List DatagramEvent) (rest : List ℕ) → All IsDatagramEvent events → AfterDatagrams rest
         → lines.old.rest.now ≡ lines_of datagram_event_words events rest
         → MatchResult result (λ read. lines.new.rest.now ≡ rest) (λ fault. fault ≡ Memory) }

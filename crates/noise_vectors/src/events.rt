@@ -1,13 +1,14 @@
 //! The lines of events.
 
-ghost use Rattle.std.specs.Prelude.{◌≡◌, ◌<◌, ◌^◌, ◌∷◌, ◌++◌, ◌↔◌, ℕ, List, IfErr, IfOk, IfSome, IsSome, IsTrue, MatchOption, MatchResult, decimal};
+ghost use Rattle.std.specs.Prelude.{◌≡◌, ◌+◌, ◌<◌, ◌^◌, ◌∷◌, ◌++◌, ◌↔◌, ℕ, List, IfErr, IfOk, IfSome, IsSome, IsTrue, MatchOption, MatchResult, decimal};
 ghost use Rattle.std.specs.List.{All};
 ghost use Rattle.noise_names.specs.declared.token.Role.{Role};
 ghost use Rattle.noise_events.specs.declared.event.Event.{Event};
 ghost use Rattle.noise_vectors.specs.Cuts.{AreCuts};
 ghost use Rattle.noise_vectors.specs.HexWord.{hex_of};
 ghost use Rattle.noise_vectors.specs.VectorFile.{IsAllowed, IsEvent, IsShort};
-ghost use Rattle.noise_vectors.specs.WrongLine.{IsLater};
+ghost use Rattle.noise_vectors.specs.WrongLine.{line_feeds};
+ghost use Rattle.noise_vectors.specs.ReaderFaults.{TellsAfter, event_lines};
 ghost use Rattle.noise_vectors.specs.VectorText.{AfterEvents, event_words, kind_word, lengths_word, lines_of, role_word};
 ghost use Rattle.noise_vectors.specs.declared.words.EventKind.{EventKind};
 ghost use Rattle.noise_vectors.specs.declared.faults.VectorFault.TheVariants.{Memory};
@@ -31,7 +32,11 @@ pub(crate) fn read_events(
     ensures text { IfOk result (λ events. lines.old.rest.now ≡ lines_of event_words events.items lines.new.rest.now) }
     ensures right { IfOk result (λ events. All IsEvent events.items) }
     ensures allowed { IfOk result (λ events. All (IsAllowed allowed) events.items) }
-    ensures later { IfErr result IsLater }
+    ensures over { IfOk result (λ events. AfterEvents lines.new.rest.now) }
+    ensures counted { lines.old.number + line_feeds lines.old.rest.now < 2 ^ 63
+        → IfOk result (λ events. lines.new.number + line_feeds lines.new.rest.now ≡ lines.old.number + line_feeds lines.old.rest.now) }
+    ensures told { lines.old.number + line_feeds lines.old.rest.now < 2 ^ 63
+        → IfErr result (TellsAfter (event_lines allowed) lines.old.rest.now (lines.old.number + line_feeds lines.old.rest.now)) }
     ensures every { (events : List Event) (rest : List ℕ) → All IsEvent events → All (IsAllowed allowed) events → AfterEvents rest
         → lines.old.rest.now ≡ lines_of event_words events rest
         → MatchResult result (λ read. lines.new.rest.now ≡ rest) (λ fault. fault ≡ Memory) }

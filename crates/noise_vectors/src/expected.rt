@@ -1,10 +1,11 @@
 //! The lines of what is expected.
 
-ghost use Rattle.std.specs.Prelude.{◌≡◌, ◌++◌, ◌↔◌, ◌≤◌, [], ℕ, List, Vec, IfErr, IfOk, IfSome, IsTrue, MatchOption, codes};
+ghost use Rattle.std.specs.Prelude.{◌≡◌, ◌+◌, ◌<◌, ◌^◌, ◌++◌, ◌↔◌, ◌≤◌, [], ℕ, List, Vec, IfErr, IfOk, IfSome, IsTrue, MatchOption, codes};
 ghost use Rattle.std.specs.Global.{Global};
 ghost use Rattle.std.specs.List.{All};
 ghost use Rattle.noise_vectors.specs.VectorFile.{IsExpected};
-ghost use Rattle.noise_vectors.specs.WrongLine.{IsLater};
+ghost use Rattle.noise_vectors.specs.WrongLine.{line_feeds};
+ghost use Rattle.noise_vectors.specs.ReaderFaults.{TellsAfter, expect_lines};
 ghost use Rattle.noise_vectors.specs.VectorText.{expect_words, lines_of};
 ghost use Rattle.noise_vectors.specs.declared.faults.VectorFault.TheVariants.{Memory};
 
@@ -19,7 +20,8 @@ pub(crate) fn read_expected(
 ) -> Result<Vec<Vec<u8>>, VectorFault>
     ensures text { IfOk result (λ expected. lines.old.rest.now ≡ lines_of expect_words expected.items []) }
     ensures right { IfOk result (λ expected. All (λ words. IsExpected words.items) expected.items) }
-    ensures later { IfErr result IsLater }
+    ensures told { lines.old.number + line_feeds lines.old.rest.now < 2 ^ 63
+        → IfErr result (TellsAfter expect_lines lines.old.rest.now (lines.old.number + line_feeds lines.old.rest.now)) }
     ensures every { (expected : List (Vec ℕ Global)) → All (λ words. IsExpected words.items) expected
         → lines.old.rest.now ≡ lines_of expect_words expected []
         → IfErr result (λ fault. fault ≡ Memory) }

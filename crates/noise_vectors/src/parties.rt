@@ -1,11 +1,12 @@
 //! The lines that give a party its keys.
 
-ghost use Rattle.std.specs.Prelude.{◌≡◌, ◌≤◌, ◌∷◌, ◌++◌, ℕ, List, Option, IfErr, IfOk, IfSome, IsFalse, IsOk, IsSome, MatchOption, codes, length};
+ghost use Rattle.std.specs.Prelude.{◌≡◌, ◌+◌, ◌<◌, ◌≤◌, ◌^◌, ◌∷◌, ◌++◌, ℕ, List, Option, IfErr, IfOk, IfSome, IsFalse, IsOk, IsSome, MatchOption, codes, length};
 ghost use Rattle.std.specs.Bool.{nat_eq};
 ghost use Rattle.std.specs.List.{All, starts_with};
 ghost use Rattle.noise_keys.specs.Table.{TableEntry};
 ghost use Rattle.noise_vectors.specs.VectorFile.{AreKeys, IsEntry};
-ghost use Rattle.noise_vectors.specs.WrongLine.{IsLater};
+ghost use Rattle.noise_vectors.specs.WrongLine.{is_answer_line, line_feeds};
+ghost use Rattle.noise_vectors.specs.ReaderFaults.{TellsAfter, TellsParty, answer_lines};
 ghost use Rattle.noise_vectors.specs.Words.{IsKey};
 ghost use Rattle.noise_vectors.specs.VectorText.{answer_words, key_words, lines_of, party_text, role_word};
 
@@ -20,7 +21,11 @@ use noise_names::Role;
 pub(crate) fn read_party(lines: &mut Lines<'_>, role: Role) -> Result<FileKeys, VectorFault>
     ensures text { IfOk result (λ keys. lines.old.rest.now ≡ party_text role keys lines.new.rest.now) }
     ensures right { IfOk result AreKeys }
-    ensures later { IfErr result IsLater }
+    ensures over { IfOk result (λ keys. IsFalse (is_answer_line keys lines.new.rest.now)) }
+    ensures counted { lines.old.number + line_feeds lines.old.rest.now < 2 ^ 63
+        → IfOk result (λ keys. lines.new.number + line_feeds lines.new.rest.now ≡ lines.old.number + line_feeds lines.old.rest.now) }
+    ensures told { lines.old.number + line_feeds lines.old.rest.now < 2 ^ 63
+        → IfErr result (TellsParty role lines.old.rest.now (lines.old.number + line_feeds lines.old.rest.now)) }
     ensures every { (keys : FileKeys) (rest : List ℕ) → AreKeys keys → IsFalse (starts_with nat_eq rest (codes "answer "))
         → lines.old.rest.now ≡ party_text role keys rest
         → IsOk result × (lines.new.rest.now ≡ rest) }
@@ -73,7 +78,11 @@ fn read_table(
     ensures keys { IfOk result (λ table. (table.e ≡ e) × (table.s ≡ s)) }
     ensures text { IfOk result (λ table. lines.old.rest.now ≡ lines_of answer_words table.entries lines.new.rest.now) }
     ensures right { IfOk result (λ table. (length table.entries ≤ 8) × All IsEntry table.entries) }
-    ensures later { IfErr result IsLater }
+    ensures over { IfOk result (λ table. IsFalse (starts_with nat_eq lines.new.rest.now (codes "answer "))) }
+    ensures counted { lines.old.number + line_feeds lines.old.rest.now < 2 ^ 63
+        → IfOk result (λ table. lines.new.number + line_feeds lines.new.rest.now ≡ lines.old.number + line_feeds lines.old.rest.now) }
+    ensures told { lines.old.number + line_feeds lines.old.rest.now < 2 ^ 63
+        → IfErr result (TellsAfter answer_lines lines.old.rest.now (lines.old.number + line_feeds lines.old.rest.now)) }
     ensures every { (entries : List TableEntry) (rest : List ℕ) → length entries ≤ 8 → All IsEntry entries
         → IsFalse (starts_with nat_eq rest (codes "answer "))
         → lines.old.rest.now ≡ lines_of answer_words entries rest

@@ -8,9 +8,10 @@ ghost use Rattle.noise_names.specs.Names.{IsSection, Section, name_bytes};
 ghost use Rattle.noise_names.specs.Plan.{Plan};
 ghost use Rattle.noise_names.specs.Fundamental.{fundamental_of};
 ghost use Rattle.noise_vectors.specs.HexWord.{hex_of};
+ghost use Rattle.noise_vectors.specs.ReaderFaults.{IsHeaderLine, IsIntervalLine, IsPrologueLine, IsProtocolLine, TellsAfter, TellsBlock, TellsLine, psk_lines};
 ghost use Rattle.noise_vectors.specs.VectorText.{block_text, header_words, line, lines_of, psk_words, text_of};
 ghost use Rattle.noise_vectors.specs.OwnPattern.{HasName};
-ghost use Rattle.noise_vectors.specs.WrongLine.{IsHeaderLine, IsIntervalLine, IsPrologueLine, IsOfBlock, IsProtocolLine, IsTold, TellsLine, TellsPsk, line_feeds};
+ghost use Rattle.noise_vectors.specs.WrongLine.{IsTold, line_feeds};
 ghost use Rattle.noise_vectors.specs.VectorFile.{ArePsks, IsAllowedFile, IsOwn, IsShort, IsVectorFile};
 ghost use Rattle.noise_vectors.specs.Words.{IsKey};
 ghost use Rattle.noise_vectors.specs.declared.faults.VectorFault.TheVariants.{Memory};
@@ -73,9 +74,10 @@ pub fn read_vector(
 fn read_header(lines: &mut Lines<'_>, allowed: AllowedEvents) -> Result<bool, VectorFault>
     ensures text { IfOk result (λ second. lines.old.rest.now ≡ line (header_words second) lines.new.rest.now) }
     ensures allowed { IfOk result (λ second. allowed ≡ VersionOne → second ≡ false) }
-    ensures number { lines.old.number + 1 < 2 ^ 64 → IfOk result (λ second. lines.new.number ≡ lines.old.number + 1) }
-    ensures told { lines.old.number + 1 < 2 ^ 64
-        → IfErr result (TellsLine (IsHeaderLine allowed) lines.old.rest.now (lines.old.number + 1) LineKind.Header) }
+    ensures counted { lines.old.number + line_feeds lines.old.rest.now < 2 ^ 63
+        → IfOk result (λ second. lines.new.number + line_feeds lines.new.rest.now ≡ lines.old.number + line_feeds lines.old.rest.now) }
+    ensures told { lines.old.number + line_feeds lines.old.rest.now < 2 ^ 63
+        → IfErr result (TellsLine (IsHeaderLine allowed) lines.old.rest.now (lines.old.number + line_feeds lines.old.rest.now) LineKind.Header) }
     ensures every { (second : Bool) (rest : List ℕ) → (allowed ≡ VersionOne → second ≡ false)
         → lines.old.rest.now ≡ line (header_words second) rest
         → MatchResult result (λ read. (read ≡ second) × (lines.new.rest.now ≡ rest)) (λ fault. ⊥) }
@@ -108,9 +110,10 @@ fn is_second(line: &[u8]) -> Option<bool>
 fn read_protocol(lines: &mut Lines<'_>) -> Result<ProtocolName, VectorFault>
     ensures text { IfOk result (λ name. lines.old.rest.now ≡ line (codes "protocol " ++ name_bytes name) lines.new.rest.now) }
     ensures right { IfOk result IsSection }
-    ensures number { lines.old.number + 1 < 2 ^ 64 → IfOk result (λ name. lines.new.number ≡ lines.old.number + 1) }
-    ensures told { lines.old.number + 1 < 2 ^ 64
-        → IfErr result (TellsLine IsProtocolLine lines.old.rest.now (lines.old.number + 1) LineKind.Protocol) }
+    ensures counted { lines.old.number + line_feeds lines.old.rest.now < 2 ^ 63
+        → IfOk result (λ name. lines.new.number + line_feeds lines.new.rest.now ≡ lines.old.number + line_feeds lines.old.rest.now) }
+    ensures told { lines.old.number + line_feeds lines.old.rest.now < 2 ^ 63
+        → IfErr result (TellsLine IsProtocolLine lines.old.rest.now (lines.old.number + line_feeds lines.old.rest.now) LineKind.Protocol) }
     ensures every { (name : Section) (rest : List ℕ) → IsSection name
         → lines.old.rest.now ≡ line (codes "protocol " ++ name_bytes name) rest
         → MatchResult result (λ read. (read ≡ name) × (lines.new.rest.now ≡ rest)) (λ fault. ⊥) }
@@ -140,9 +143,10 @@ fn read_own_pattern(
 ) -> Result<Option<Pattern>, VectorFault>
     ensures text { IfOk result (λ block. lines.old.rest.now ≡ block_text block lines.new.rest.now) }
     ensures right { IfOk result (IsOwn protocol.now) }
-    ensures number { lines.old.number < 9 → IfOk result (λ block. lines.new.number ≡ lines.old.number + line_feeds (block_text block [])) }
-    ensures few { lines.old.number < 9 → IfOk result (λ block. lines.new.number < 2 ^ 63 + 9) }
-    ensures fault { IfErr result IsOfBlock }
+    ensures counted { lines.old.number + line_feeds lines.old.rest.now < 2 ^ 63
+        → IfOk result (λ block. lines.new.number + line_feeds lines.new.rest.now ≡ lines.old.number + line_feeds lines.old.rest.now) }
+    ensures told { lines.old.number + line_feeds lines.old.rest.now < 2 ^ 63
+        → IfErr result (TellsBlock lines.old.rest.now (lines.old.number + line_feeds lines.old.rest.now)) }
     ensures own { IfErr result (λ fault. fundamental_of protocol.now.base ≡ None) }
     ensures every { (block : Option Plan) (rest : List ℕ) → IsOwn protocol.now block
         → lines.old.rest.now ≡ block_text block rest
@@ -158,9 +162,10 @@ fn read_prologue(alloc: Global, lines: &mut Lines<'_>) -> Result<Vec<u8>, Vector
     ensures text { IfOk result (λ bytes. lines.old.rest.now ≡ line (codes "prologue " ++ hex_of bytes.items) lines.new.rest.now) }
     ensures bound { IfOk result (λ bytes. vec_len bytes ≤ 65535) }
     ensures right { IfOk result (λ bytes. IsShort bytes.items) }
-    ensures number { lines.old.number + 1 < 2 ^ 64 → IfOk result (λ bytes. lines.new.number ≡ lines.old.number + 1) }
-    ensures told { lines.old.number + 1 < 2 ^ 64
-        → IfErr result (TellsLine IsPrologueLine lines.old.rest.now (lines.old.number + 1) LineKind.Prologue) }
+    ensures counted { lines.old.number + line_feeds lines.old.rest.now < 2 ^ 63
+        → IfOk result (λ bytes. lines.new.number + line_feeds lines.new.rest.now ≡ lines.old.number + line_feeds lines.old.rest.now) }
+    ensures told { lines.old.number + line_feeds lines.old.rest.now < 2 ^ 63
+        → IfErr result (TellsLine IsPrologueLine lines.old.rest.now (lines.old.number + line_feeds lines.old.rest.now) LineKind.Prologue) }
     ensures every { (bytes rest : List ℕ) → IsShort bytes → lines.old.rest.now ≡ line (codes "prologue " ++ hex_of bytes) rest
         → MatchResult result (λ read. lines.new.rest.now ≡ rest) (λ fault. fault ≡ Memory) }
 {
@@ -188,9 +193,10 @@ fn prologue_of(alloc: Global, line: &[u8]) -> Result<Option<Vec<u8>>, AllocError
 
 fn read_interval(lines: &mut Lines<'_>) -> Result<u64, VectorFault>
     ensures text { IfOk result (λ interval. lines.old.rest.now ≡ line (codes "interval " ++ decimal interval) lines.new.rest.now) }
-    ensures number { lines.old.number + 1 < 2 ^ 64 → IfOk result (λ interval. lines.new.number ≡ lines.old.number + 1) }
-    ensures told { lines.old.number + 1 < 2 ^ 64
-        → IfErr result (TellsLine IsIntervalLine lines.old.rest.now (lines.old.number + 1) LineKind.Interval) }
+    ensures counted { lines.old.number + line_feeds lines.old.rest.now < 2 ^ 63
+        → IfOk result (λ interval. lines.new.number + line_feeds lines.new.rest.now ≡ lines.old.number + line_feeds lines.old.rest.now) }
+    ensures told { lines.old.number + line_feeds lines.old.rest.now < 2 ^ 63
+        → IfErr result (TellsLine IsIntervalLine lines.old.rest.now (lines.old.number + line_feeds lines.old.rest.now) LineKind.Interval) }
     ensures every { (interval : ℕ) (rest : List ℕ) → interval < 2 ^ 64
         → lines.old.rest.now ≡ line (codes "interval " ++ decimal interval) rest
         → IsOk result × (lines.new.rest.now ≡ rest) }
@@ -216,7 +222,10 @@ fn read_psks(lines: &mut Lines<'_>) -> Result<ArrayVec<[u8; 32], 9>, VectorFault
     ensures text { IfOk result (λ psks. lines.old.rest.now ≡ lines_of psk_words psks.items lines.new.rest.now) }
     ensures right { IfOk result (λ psks. ArePsks psks.items) }
     ensures over { IfOk result (λ psks. IsFalse (starts_with nat_eq lines.new.rest.now (codes "psk "))) }
-    ensures told { lines.old.number < 2 ^ 63 + 99 → IfErr result (TellsPsk lines.old.rest.now lines.old.number) }
+    ensures counted { lines.old.number + line_feeds lines.old.rest.now < 2 ^ 63
+        → IfOk result (λ psks. lines.new.number + line_feeds lines.new.rest.now ≡ lines.old.number + line_feeds lines.old.rest.now) }
+    ensures told { lines.old.number + line_feeds lines.old.rest.now < 2 ^ 63
+        → IfErr result (TellsAfter psk_lines lines.old.rest.now (lines.old.number + line_feeds lines.old.rest.now)) }
     ensures every { (psks : List (List ℕ)) (rest : List ℕ) → ArePsks psks → IsFalse (starts_with nat_eq rest (codes "psk "))
         → lines.old.rest.now ≡ lines_of psk_words psks rest
         → IsOk result × (lines.new.rest.now ≡ rest) }

@@ -1,8 +1,8 @@
-use Rattle.std.proofs.Common.{◌≡◌, ◌∙◌, ◌++◌, ap, codes, refl, sym, List, ℕ}
-use Rattle.noise_names.specs.Text.{text_of as pattern_text}
-use Rattle.noise_vectors.specs.VectorText.{line}
+use Rattle.std.proofs.Common.{◌∙◌, ◌+◌, refl, sym}
 use Rattle.noise_vectors.proofs.BlockLemmas.{block-lines, lined-pattern}
-use Rattle.noise_vectors.proofs.ToldLemmas.{feeds-block}
+use Rattle.std.proofs.lemmas.Result.{err_from_is_err_and}
+use Rattle.noise_vectors.specs.WrongLine.{line_feeds}
+use Rattle.noise_vectors.proofs.PartLemmas.{block-ending, not-true}
 use Rattle.noise_vectors.proofs.block.read_block.Goals as goal
 
 pub returns-in_err-text-clause-every : goal.returns-in_err-text-clause-every
@@ -31,10 +31,20 @@ returns-in-Err-clause-every c = λ pattern rest h named e.
     let parsed = c.in-Err.ensures.every pattern h named (read.0 ∙ sym l.lines_are) in
     cc (parsed)
 
-pub returns-in_ok-end-in-Ok-clause-number : goal.returns-in_ok-end-in-Ok-clause-number
-returns-in_ok-end-in-Ok-clause-number c = λ low.
-    let ended = c.in_ok-end-in-Ok.ensures.ended.0 refl in
-    let spelled : c.in_ok-text.text.now ≡ pattern_text c.in-Ok.pattern = c.in-Ok.ensures.spelled in
-    feeds-block c.take_block.new.lines.number c.args.lines.now.number c.args.lines.now.rest.now (pattern_text c.in-Ok.pattern) c.take_block.new.lines.rest.now
-    (c.in_ok-text.ensures.number low ended)
-    (c.in_ok-text.ensures.text ended ∙ ap (λ (t : List ℕ). t ++ line (codes "end") c.take_block.new.lines.rest.now) spelled)
+pub returns-in_ok-end-in-Ok-clause-counted : goal.returns-in_ok-end-in-Ok-clause-counted
+returns-in_ok-end-in-Ok-clause-counted c = λ low. c.in_ok-text.ensures.counted low (c.in_ok-end-in-Ok.ensures.ended.0 refl)
+
+pub returns-in_err-text-clause-told : goal.returns-in_err-text-clause-told
+returns-in_err-text-clause-told c =
+    let p = err_from_is_err_and c.from_residual.result c.from_residual.ensures.1 in λ low.
+    rw (p.1, p.2) (c.in_err-text.ensures.told low)
+
+pub returns-in_err-end-in-Ok-clause-told : goal.returns-in_err-end-in-Ok-clause-told
+returns-in_err-end-in-Ok-clause-told c =
+    let p = err_from_is_err_and c.from_residual-in_err-end-in-Ok.result c.from_residual-in_err-end-in-Ok.ensures.1 in λ low.
+    rw (p.1, p.2) (block-ending c.args.lines.now.rest.now (c.args.lines.now.number + line_feeds c.args.lines.now.rest.now) c.take_block.new.lines.number _ c.in_err-end-in-Ok.ensures.fault
+    (c.in_ok-text.ensures.last low (not-true c.take_block.new.lines.is_ended (λ yes. let bad = c.in_err-end-in-Ok.ensures.ended.1 yes in cc (bad))))
+    (λ before rest h e.
+    let read = c.in_ok-text.ensures.every before rest h e in
+    let ended = c.in_err-end-in-Ok.ensures.ended.1 read.2 in
+    cc (ended)))

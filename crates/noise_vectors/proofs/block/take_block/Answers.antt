@@ -1,11 +1,13 @@
-use Rattle.std.proofs.Common.{arith, rules, ◌≡◌, ◌∙◌, ◌-◌, ap, refl, sym, List, [], ℕ, ◌++◌, codes, length, take}
+use Rattle.std.proofs.Common.{rules, ◌≡◌, ◌∙◌, ◌+◌, ◌-◌, ap, refl, sym, List, [], ℕ, ◌++◌, codes, length, take}
 use Rattle.std.specs.Prelude.{IsTrue}
 use Rattle.std.proofs.lemmas.Slice.Eq.{bytes_eq-Decides}
 use Rattle.noise_vectors.specs.VectorText.{line}
 use Rattle.noise_vectors.proofs.BlockLemmas.{front-is, Left-last, Left-next, Left-start, Left-step}
 use Rattle.noise_vectors.proofs.LineLemmas.{Ends-after, Ends-whole}
 use Rattle.noise_vectors.specs.WrongLine.{line_feeds}
-use Rattle.noise_vectors.proofs.ToldLemmas.{feeds-few, feeds-step}
+use Rattle.noise_vectors.proofs.PartLemmas.{block-ending, not-true}
+use Rattle.std.proofs.lemmas.Result.{err_from_is_err_and}
+use Rattle.noise_vectors.proofs.ToldLemmas.{counted-last, counted-none, counted-step}
 use Rattle.noise_vectors.proofs.block.take_block.Goals as goal
 
 pub loop-lines-init : goal.loop-lines-init
@@ -57,22 +59,34 @@ loop-lines-preserved c =
           let l = Left-step rest c.loop-lines.lines.rest.now c.in_ok-next.field-0.now c.next.new.self.rest.now c.next.new.self.is_ended
           (c.loop-lines.invariant.1 before rest h e) c.in_ok-next.ensures.every other in
           l.0,
-      feeds-step c.loop-lines.lines.number c.next.new.self.number (line_feeds c.args.lines.now.rest.now) c.args.lines.now.number c.loop-lines.lines.rest.now
-          c.in_ok-next.field-0.now c.next.new.self.rest.now c.loop-lines.invariant.2 c.next.ensures.number c.in_ok-next.ensures.plain
-          (c.in_ok-next.ensures.ended ended),
+      λ low. counted-step c.loop-lines.lines.number c.next.new.self.number (c.args.lines.now.number + line_feeds c.args.lines.now.rest.now) c.loop-lines.lines.rest.now c.in_ok-next.field-0.now c.next.new.self.rest.now low (c.loop-lines.invariant.2 low) c.next.ensures.number c.in_ok-next.ensures.plain (c.in_ok-next.ensures.ended ended),
     )
 
-pub returns-then-eq-clause-number : goal.returns-then-eq-clause-number
-returns-then-eq-clause-number c = λ low ended.
-    let few = feeds-few c.args.lines.now.rest.now in
-    feeds-step c.loop-lines.lines.number c.next.new.self.number (line_feeds c.args.lines.now.rest.now) c.args.lines.now.number c.loop-lines.lines.rest.now
-    c.in_ok-next.field-0.now c.next.new.self.rest.now c.loop-lines.invariant.2 c.next.ensures.number c.in_ok-next.ensures.plain
-    (c.in_ok-next.ensures.ended ended) (omega (arith, few, low))
+pub returns-then-eq-clause-counted : goal.returns-then-eq-clause-counted
+returns-then-eq-clause-counted c = λ low ended.
+    counted-step c.loop-lines.lines.number c.next.new.self.number (c.args.lines.now.number + line_feeds c.args.lines.now.rest.now) c.loop-lines.lines.rest.now c.in_ok-next.field-0.now c.next.new.self.rest.now low (c.loop-lines.invariant.2 low) c.next.ensures.number c.in_ok-next.ensures.plain (c.in_ok-next.ensures.ended ended)
 
-pub returns-then-eq-clause-few : goal.returns-then-eq-clause-few
-returns-then-eq-clause-few c = λ low ended.
-    let few = feeds-few c.args.lines.now.rest.now in
-    let same = feeds-step c.loop-lines.lines.number c.next.new.self.number (line_feeds c.args.lines.now.rest.now) c.args.lines.now.number c.loop-lines.lines.rest.now
-    c.in_ok-next.field-0.now c.next.new.self.rest.now c.loop-lines.invariant.2 c.next.ensures.number c.in_ok-next.ensures.plain
-    (c.in_ok-next.ensures.ended ended) (omega (arith, few, low)) in
-    omega (arith, few, low, same)
+pub returns-then-eq-clause-last : goal.returns-then-eq-clause-last
+returns-then-eq-clause-last c = λ low open_.
+    counted-last c.loop-lines.lines.number c.next.new.self.number (c.args.lines.now.number + line_feeds c.args.lines.now.rest.now) c.loop-lines.lines.rest.now c.in_ok-next.field-0.now low (c.loop-lines.invariant.2 low) c.next.ensures.number c.in_ok-next.ensures.plain (c.in_ok-next.ensures.last open_)
+
+pub returns-in_err-next-clause-told : goal.returns-in_err-next-clause-told
+returns-in_err-next-clause-told c =
+    let p = err_from_is_err_and c.from_residual.result c.from_residual.ensures.1 in λ low.
+    rw (p.1, p.2) (block-ending c.args.lines.now.rest.now (c.args.lines.now.number + line_feeds c.args.lines.now.rest.now) c.next.new.self.number _ c.in_err-next.ensures.missing.1
+    (counted-none c.loop-lines.lines.number c.next.new.self.number (c.args.lines.now.number + line_feeds c.args.lines.now.rest.now) c.loop-lines.lines.rest.now low (c.loop-lines.invariant.2 low) c.next.ensures.number c.in_err-next.ensures.missing.0)
+    (λ before rest h e. Left-next rest c.loop-lines.lines.rest.now (c.loop-lines.invariant.1 before rest h e) c.in_err-next.ensures.every))
+
+pub returns-in_err-end-clause-told : goal.returns-in_err-end-clause-told
+returns-in_err-end-clause-told c =
+    let word : c.as_slice.result.now ≡ codes "end" = c.as_slice.ensures in
+    let other : ¬ (c.in_ok-next.field-0.now ≡ codes "end") =
+    λ e. let yes = (bytes_eq-Decides c.in_ok-next.field-0.now c.as_slice.result.now).1 (e ∙ sym word) in cc (c.eq.ensures, yes) in
+    let p = err_from_is_err_and c.from_residual-in_err-end.result c.from_residual-in_err-end.ensures.1 in λ low.
+    rw (p.1, p.2) (block-ending c.args.lines.now.rest.now (c.args.lines.now.number + line_feeds c.args.lines.now.rest.now) c.next.new.self.number _ c.in_err-end.ensures.fault
+    (counted-last c.loop-lines.lines.number c.next.new.self.number (c.args.lines.now.number + line_feeds c.args.lines.now.rest.now) c.loop-lines.lines.rest.now c.in_ok-next.field-0.now low (c.loop-lines.invariant.2 low) c.next.ensures.number c.in_ok-next.ensures.plain
+    (c.in_ok-next.ensures.last (not-true c.next.new.self.is_ended (λ yes. let bad = c.in_err-end.ensures.ended.1 yes in cc (bad)))))
+    (λ before rest h e.
+    let l = Left-step rest c.loop-lines.lines.rest.now c.in_ok-next.field-0.now c.next.new.self.rest.now c.next.new.self.is_ended (c.loop-lines.invariant.1 before rest h e) c.in_ok-next.ensures.every other in
+    let ok = c.in_err-end.ensures.ended.1 l.1 in
+    cc (ok)))

@@ -12,7 +12,7 @@ invariant-loop-lines l =
     Ends l.text l.lines.rest.now
     × ((before : List (List ℕ)) (rest : List ℕ) → All IsInner before → l.fn.lines.rest.now ≡ lines_of itself before (line (codes "end") rest)
     → Left rest l.lines.rest.now)
-    × (l.fn.lines.number + line_feeds l.fn.lines.rest.now + 1 < 2 ^ 64
+    × (l.fn.lines.number + line_feeds l.fn.lines.rest.now < 2 ^ 63
     → l.lines.number + line_feeds l.lines.rest.now ≡ l.fn.lines.number + line_feeds l.fn.lines.rest.now)
 
 abbrev pub decreases-loop-lines : goal.decreases-loop-lines

@@ -1,14 +1,22 @@
-use Rattle.std.proofs.Common.{rules, refl, arith, ◌≡◌, ◌+◌, ◌∙◌, ap, sym, subst, ℕ, Vec, List, [], ◌∷◌, ◌++◌, length, vec_len}
+use Rattle.std.proofs.Common.{rules, refl, arith, ◌≡◌, ◌+◌, ◌∙◌, ap, sym, subst, ℕ, Vec, List, [], ◌∷◌, ◌++◌, length, vec_len, ◌<◌, ◌^◌, codes}
 use Rattle.std.specs.Global.{Global}
 use Rattle.std.specs.Prelude.{IsTrue}
 use Rattle.std.specs.List.{All}
 use Rattle.std.proofs.lemmas.List.Elements.{All-nil, All-push}
 use Rattle.noise_vectors.specs.VectorFile.{IsExpected}
-use Rattle.noise_vectors.specs.VectorText.{expect_words, lines_of}
+use Rattle.noise_vectors.specs.VectorText.{expect_line, expect_words, lines_of}
 use Rattle.noise_vectors.proofs.AdditionLemmas.{expected-line}
 use Rattle.noise_vectors.proofs.LineLemmas.{lines_of-more, FirstLine-step, LinesLeft-first, LinesLeft-start}
-use Rattle.noise_vectors.specs.WrongLine.{IsLater}
-use Rattle.noise_vectors.proofs.ToldLemmas.{later-any}
+use Rattle.std.proofs.lemmas.Result.{err_from_is_err_and}
+use Rattle.noise_vectors.specs.ReaderFaults.{expect_kind, expect_lines}
+use Rattle.noise_vectors.specs.WrongLine.{line_feeds}
+use Rattle.noise_vectors.specs.declared.faults.LineKind.{LineKind}
+use Rattle.noise_vectors.specs.declared.faults.VectorFault.TheVariants.{Line}
+use Rattle.noise_vectors.specs.Expectations.{bytes_of}
+use Rattle.std.proofs.lemmas.List.{length-append}
+use Rattle.noise_vectors.proofs.PartLemmas.{not-true, tells-cut, tells-wrong}
+use Rattle.noise_vectors.proofs.ToldLemmas.{counted-step}
+use Rattle.noise_vectors.proofs.HeldLemmas.{expect-more, held-good, held-lines, lines-long}
 use Rattle.noise_vectors.proofs.expected.read_expected.Goals as goal
 
 abbrev IsRight : Vec ℕ Global → Type 0
@@ -20,7 +28,8 @@ loop-alloc-init c = (
   subst (λ (expected : List (Vec ℕ Global)). All IsRight expected) (sym c.new-expected.ensures.items) (All-nil IsRight),
   λ expected right e. LinesLeft-start expect_words IsRight (length expected) (vec_len c.new-expected.result) expected
       c.args.lines.now.rest.now [] c.new-expected.ensures.len e right (omega arith),
-  tt,
+  ap (λ (vs : List (Vec ℕ Global)). expect_kind (bytes_of vs)) (sym c.new-expected.ensures.items),
+  λ low. refl,
 )
 
 pub returns-in_default-clause-every : goal.returns-in_default-clause-every
@@ -57,9 +66,34 @@ loop-alloc-preserved c =
           let f = LinesLeft-first (c.loop-alloc.invariant.2 expected right e) some in
           let read = c.in_ok-line.ensures.every (expect_words f.next) (lines_of expect_words f.others []) (expected-line f.next.items f.next_good) f.left_is in
           FirstLine-step f len read.1,
-      tt,
+      expect-more c.loop-alloc.expected.items c.in_ok-words.words
+          ∙ ap (λ (vs : List (Vec ℕ Global)). expect_kind (bytes_of vs)) (sym pushed),
+      λ low. counted-step c.loop-alloc.lines.number c.next.new.self.number (c.args.lines.now.number + line_feeds c.args.lines.now.rest.now) c.loop-alloc.lines.rest.now c.in_ok-line.line.now c.next.new.self.rest.now low (c.loop-alloc.invariant.4 low) c.next.ensures.number c.in_ok-line.ensures.plain (c.in_ok-line.ensures.ended ended),
     )
 
-pub returns-in_default-clause-later : goal.returns-in_default-clause-later
-returns-in_default-clause-later c =
-    subst IsLater (sym c.fault.ensures) (later-any c.loop-alloc.kind 0 c.next.new.self.number c.loop-alloc.invariant.3)
+pub returns-in_default-clause-told : goal.returns-in_default-clause-told
+returns-in_default-clause-told c =
+    let text = c.loop-alloc.invariant.0 ∙ held-lines c.loop-alloc.expected.items c.loop-alloc.lines.rest.now in
+    let long = lines-long expect_line (bytes_of c.loop-alloc.expected.items) c.loop-alloc.lines.rest.now in
+    let len : length c.args.lines.now.rest.now ≡ length (lines_of expect_line (bytes_of c.loop-alloc.expected.items) c.loop-alloc.lines.rest.now) = ap length text in
+    let some = c.in_ok-line.ensures.shorter in
+    let few : length (bytes_of c.loop-alloc.expected.items) + 1 < 2 ^ 63 = omega (arith, long, len, some) in
+    λ low.
+    tells-wrong expect_lines c.args.lines.now.rest.now (c.args.lines.now.number + line_feeds c.args.lines.now.rest.now) _ (bytes_of c.loop-alloc.expected.items) c.loop-alloc.lines.rest.now c.in_ok-line.line.now c.next.new.self.rest.now c.next.new.self.is_ended c.loop-alloc.lines.number c.next.new.self.number
+    text (held-good c.loop-alloc.expected.items c.loop-alloc.invariant.1) (omega (arith, few)) (λ none. let yes = c.is_empty.ensures.1 none in cc (yes)) (c.loop-alloc.invariant.4 low) low c.next.ensures.number c.in_ok-line.ensures.ended c.in_ok-line.ensures.last c.in_ok-line.ensures.plain (c.fault.ensures ∙ ap (λ (k : LineKind). Line c.next.new.self.number k) c.loop-alloc.invariant.3)
+    (λ words good same. c.in_default.ensures.every words good.0 same tt)
+
+pub returns-in_err-end-clause-told : goal.returns-in_err-end-clause-told
+returns-in_err-end-clause-told c =
+    let text = c.loop-alloc.invariant.0 ∙ held-lines c.loop-alloc.expected.items c.loop-alloc.lines.rest.now in
+    let long = lines-long expect_line (bytes_of c.loop-alloc.expected.items) c.loop-alloc.lines.rest.now in
+    let len : length c.args.lines.now.rest.now ≡ length (lines_of expect_line (bytes_of c.loop-alloc.expected.items) c.loop-alloc.lines.rest.now) = ap length text in
+    let some = c.in_ok-line.ensures.shorter in
+    let few : length (bytes_of c.loop-alloc.expected.items) + 1 < 2 ^ 63 = omega (arith, long, len, some) in
+    let words : length c.in_ok-line.line.now ≡ 7 + length c.in-Some.words.now = ap length c.in-Some.ensures.text ∙ length-append (codes "expect ") c.in-Some.words.now in
+    let last : length c.loop-alloc.lines.rest.now ≡ length c.in_ok-line.line.now = ap length (c.in_ok-line.ensures.last (not-true c.next.new.self.is_ended (λ yes. let bad = c.in_err-end.ensures.ended.1 yes in cc (bad)))) in
+    let whole : length c.args.lines.now.rest.now < 2 ^ 63 = omega arith in
+    let p = err_from_is_err_and c.from_residual-in_err-end.result c.from_residual-in_err-end.ensures.1 in λ low.
+    rw (p.1, p.2) (tells-cut expect_lines c.args.lines.now.rest.now (c.args.lines.now.number + line_feeds c.args.lines.now.rest.now) _ (bytes_of c.loop-alloc.expected.items) c.in-Some.words.now c.loop-alloc.lines.rest.now c.in_ok-line.line.now c.next.new.self.is_ended c.loop-alloc.lines.number c.next.new.self.number
+    text (held-good c.loop-alloc.expected.items c.loop-alloc.invariant.1) few (c.loop-alloc.invariant.4 low) low c.next.ensures.number c.in_ok-line.ensures.last c.in_ok-line.ensures.plain (λ yes. let bad = c.in_err-end.ensures.ended.1 yes in cc (bad))
+    c.in_err-end.ensures.fault c.in-Some.ensures.text (c.in-Some.ensures.right, omega (arith, words, long, len, last, whole)))

@@ -1,8 +1,9 @@
-use Rattle.std.proofs.Common.{◌≡◌, ℕ, Vec, List, [], length, vec_len}
+use Rattle.std.proofs.Common.{◌≡◌, ◌+◌, ◌<◌, ◌^◌, ℕ, Vec, List, [], length, vec_len}
 use Rattle.std.specs.Global.{Global}
 use Rattle.std.specs.List.{All}
-use Rattle.noise_vectors.specs.WrongLine.{IsLater}
-use Rattle.noise_vectors.specs.declared.faults.VectorFault.TheVariants.{Line}
+use Rattle.noise_vectors.specs.Expectations.{bytes_of}
+use Rattle.noise_vectors.specs.ReaderFaults.{expect_kind}
+use Rattle.noise_vectors.specs.WrongLine.{line_feeds}
 use Rattle.noise_vectors.specs.VectorFile.{IsExpected}
 use Rattle.noise_vectors.specs.VectorText.{expect_words, lines_of}
 use Rattle.noise_vectors.proofs.LineLemmas.{LinesLeft}
@@ -15,7 +16,9 @@ invariant-loop-alloc l =
     × ((expected : List (Vec ℕ Global)) → All (λ (words : Vec ℕ Global). IsExpected words.items) expected
     → l.fn.lines.rest.now ≡ lines_of expect_words expected []
     → LinesLeft expect_words (λ (words : Vec ℕ Global). IsExpected words.items) (length expected) (vec_len l.expected) l.lines.rest.now [])
-    × IsLater (Line 0 l.kind)
+    × (l.kind ≡ expect_kind (bytes_of l.expected.items))
+    × (l.fn.lines.number + line_feeds l.fn.lines.rest.now < 2 ^ 63
+    → l.lines.number + line_feeds l.lines.rest.now ≡ l.fn.lines.number + line_feeds l.fn.lines.rest.now)
 
 abbrev pub decreases-loop-alloc : goal.decreases-loop-alloc
 decreases-loop-alloc l = length l.lines.rest.now

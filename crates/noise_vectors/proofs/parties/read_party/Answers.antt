@@ -1,4 +1,15 @@
-use Rattle.std.proofs.Common.{◌≡◌, ◌∙◌, ap, sym, refl, ℕ, List, ◌++◌, codes}
+use Rattle.std.proofs.Common.{arith, ◌≡◌, ◌∙◌, ◌+◌, ap, sym, refl, subst, inl, inr, ℕ, List, [], ◌++◌, codes}
+use Rattle.std.proofs.lemmas.List.Elements.{All-nil}
+use Rattle.std.proofs.lemmas.Result.{err_from_is_err_and}
+use Rattle.noise_vectors.specs.ReaderFaults.{TellsAfter, answer_lines}
+use Rattle.noise_vectors.specs.VectorFile.{IsEntry}
+use Rattle.noise_vectors.specs.WrongLine.{line_feeds}
+use Rattle.noise_vectors.specs.declared.faults.LineKind.TheVariants as kinds
+use Rattle.noise_vectors.specs.declared.faults.VectorFault.TheVariants.{Line}
+use Rattle.noise_vectors.specs.declared.file_keys.FileKeys.TheVariants.{Xor, Table}
+use Rattle.noise_vectors.proofs.PartLemmas.{not-true}
+use Rattle.noise_vectors.proofs.PartyTold.{party-words, table-cut, table-line, table-told, xor-cut}
+use Rattle.noise_vectors.proofs.ToldLemmas.{counted-here, counted-last, counted-step, first-line, low-of}
 use Rattle.noise_vectors.specs.VectorText.{key_words}
 use Rattle.noise_vectors.proofs.PartyLemmas.{not-xor, party-read, words_of, xor-after}
 use Rattle.noise_vectors.proofs.parties.read_party.Goals as goal
@@ -70,3 +81,94 @@ returns-clause-every c =
     let t = not-xor keys c.in-Some.words.now c.as_slice.result.now h words front c.in_default-keys_of.ensures.every in
     let done = c.in_ok-read_table.ensures.every t.table.entries rest t.few t.entries_are other (read.1 ∙ t.after_is rest) in
     (refl, done.1)
+
+pub returns-in_default-clause-told : goal.returns-in_default-clause-told
+returns-in_default-clause-told c =
+    λ low.
+    inr (inr (inl (
+      record {
+        told = c.in_ok-line.line.now;
+        is_first = first-line c.args.lines.now.rest.now c.in_ok-line.line.now c.next.new.self.rest.now c.next.new.self.is_ended c.in_ok-line.ensures.ended c.in_ok-line.ensures.last c.in_ok-line.ensures.plain;
+        number = c.next.new.self.number;
+        counted = counted-here c.args.lines.now.number c.next.new.self.number (c.args.lines.now.number + line_feeds c.args.lines.now.rest.now) c.args.lines.now.rest.now low refl c.next.ensures.number;
+        fault_is = c.fault.ensures;
+      },
+      λ keys rest after h e.
+          let words = party-words c.args.role keys c.in_ok-line.line.now after rest c.in_ok-line.ensures.plain h e in
+          c.in_default.ensures.every (words_of keys) words tt,
+    )))
+
+pub returns-in_default-keys_of-2-clause-told : goal.returns-in_default-keys_of-2-clause-told
+returns-in_default-keys_of-2-clause-told c =
+    let front : c.as_slice.result.now ≡ codes "xor " = c.as_slice.ensures in
+    let front_table : c.as_slice-2.result.now ≡ codes "table " = c.as_slice-2.ensures in
+    λ low.
+    inr (inr (inl (
+      record {
+        told = c.in_ok-line.line.now;
+        is_first = first-line c.args.lines.now.rest.now c.in_ok-line.line.now c.next.new.self.rest.now c.next.new.self.is_ended c.in_ok-line.ensures.ended c.in_ok-line.ensures.last c.in_ok-line.ensures.plain;
+        number = c.next.new.self.number;
+        counted = counted-here c.args.lines.now.number c.next.new.self.number (c.args.lines.now.number + line_feeds c.args.lines.now.rest.now) c.args.lines.now.rest.now low refl c.next.ensures.number;
+        fault_is = c.fault-in_default-keys_of-2.ensures;
+      },
+      λ keys rest after h e.
+          let words = party-words c.args.role keys c.in_ok-line.line.now after rest c.in_ok-line.ensures.plain h e in
+          let found = c.in-Some.ensures.every (words_of keys) words in
+          let t = not-xor keys c.in-Some.words.now c.as_slice.result.now h found front c.in_default-keys_of.ensures.every in
+          let bad = c.in_default-keys_of-2.ensures.every t.table.e t.table.s t.e t.s
+          (t.words_are ∙ ap (λ (f : List ℕ). f ++ key_words t.table.e t.table.s) (sym front_table)) in
+          cc (bad),
+    )))
+
+pub returns-in_err-end-clause-told : goal.returns-in_err-end-clause-told
+returns-in_err-end-clause-told c =
+    let front : c.as_slice.result.now ≡ codes "xor " = c.as_slice.ensures in
+    let p = err_from_is_err_and c.from_residual-in_err-end.result c.from_residual-in_err-end.ensures.1 in λ low.
+    let last = c.in_ok-line.ensures.last (not-true c.next.new.self.is_ended (λ yes. let bad = c.in_err-end.ensures.ended.1 yes in cc (bad))) in
+    let n = counted-last c.args.lines.now.number c.next.new.self.number (c.args.lines.now.number + line_feeds c.args.lines.now.rest.now) c.args.lines.now.rest.now c.in_ok-line.line.now low refl c.next.ensures.number c.in_ok-line.ensures.plain last in
+    rw (p.1, p.2) (inr (inl (
+      c.in_err-end.ensures.fault ∙ ap (λ (k : ℕ). Line k kinds.Ending) n,
+      inr (
+        Xor (record { e = c.in-Some-keys_of.e; s = c.in-Some-keys_of.s }),
+        c.in-Some-keys_of.ensures.right,
+        xor-cut c.args.role c.in-Some-keys_of.e c.in-Some-keys_of.s c.args.lines.now.rest.now c.in_ok-line.line.now c.in-Some.words.now last c.in-Some.ensures.text
+            (c.in-Some-keys_of.ensures.text ∙ ap (λ (f : List ℕ). f ++ key_words c.in-Some-keys_of.e c.in-Some-keys_of.s) front),
+      ),
+    )))
+
+pub returns-in_err-end-2-clause-told : goal.returns-in_err-end-2-clause-told
+returns-in_err-end-2-clause-told c =
+    let front : c.as_slice-2.result.now ≡ codes "table " = c.as_slice-2.ensures in
+    let p = err_from_is_err_and c.from_residual-in_err-end-2.result c.from_residual-in_err-end-2.ensures.1 in λ low.
+    let last = c.in_ok-line.ensures.last (not-true c.next.new.self.is_ended (λ yes. let bad = c.in_err-end-2.ensures.ended.1 yes in cc (bad))) in
+    let n = counted-last c.args.lines.now.number c.next.new.self.number (c.args.lines.now.number + line_feeds c.args.lines.now.rest.now) c.args.lines.now.rest.now c.in_ok-line.line.now low refl c.next.ensures.number c.in_ok-line.ensures.plain last in
+    rw (p.1, p.2) (inr (inl (
+      c.in_err-end-2.ensures.fault ∙ ap (λ (k : ℕ). Line k kinds.Ending) n,
+      inr (
+        Table (record { e = c.in-Some-keys_of-2.e; s = c.in-Some-keys_of-2.s; entries = [] }),
+        (c.in-Some-keys_of-2.ensures.right.0, c.in-Some-keys_of-2.ensures.right.1, omega arith, All-nil IsEntry),
+        table-cut c.args.role c.in-Some-keys_of-2.e c.in-Some-keys_of-2.s c.args.lines.now.rest.now c.in_ok-line.line.now c.in-Some.words.now last c.in-Some.ensures.text
+            (c.in-Some-keys_of-2.ensures.text ∙ ap (λ (f : List ℕ). f ++ key_words c.in-Some-keys_of-2.e c.in-Some-keys_of-2.s) front),
+      ),
+    )))
+
+pub returns-in-Some-keys_of-clause-counted : goal.returns-in-Some-keys_of-clause-counted
+returns-in-Some-keys_of-clause-counted c = λ low.
+    counted-step c.args.lines.now.number c.next.new.self.number (c.args.lines.now.number + line_feeds c.args.lines.now.rest.now) c.args.lines.now.rest.now c.in_ok-line.line.now c.next.new.self.rest.now low refl c.next.ensures.number c.in_ok-line.ensures.plain (c.in_ok-line.ensures.ended (c.in_ok-end.ensures.ended.0 refl))
+
+pub returns-clause-counted : goal.returns-clause-counted
+returns-clause-counted c = λ low.
+    let n = counted-step c.args.lines.now.number c.next.new.self.number (c.args.lines.now.number + line_feeds c.args.lines.now.rest.now) c.args.lines.now.rest.now c.in_ok-line.line.now c.next.new.self.rest.now low refl c.next.ensures.number c.in_ok-line.ensures.plain (c.in_ok-line.ensures.ended (c.in_ok-end-2.ensures.ended.0 refl)) in
+    c.in_ok-read_table.ensures.counted (low-of (c.args.lines.now.number + line_feeds c.args.lines.now.rest.now) c.next.new.self.number c.next.new.self.rest.now low n) ∙ n
+
+pub returns-in_err-read_table-clause-told : goal.returns-in_err-read_table-clause-told
+returns-in_err-read_table-clause-told c =
+    let front : c.as_slice-2.result.now ≡ codes "table " = c.as_slice-2.ensures in
+    let p = err_from_is_err_and c.from_residual-in_err-read_table.result c.from_residual-in_err-read_table.ensures.1 in λ low.
+    let n = counted-step c.args.lines.now.number c.next.new.self.number (c.args.lines.now.number + line_feeds c.args.lines.now.rest.now) c.args.lines.now.rest.now c.in_ok-line.line.now c.next.new.self.rest.now low refl c.next.ensures.number c.in_ok-line.ensures.plain (c.in_ok-line.ensures.ended (c.in_ok-end-2.ensures.ended.0 refl)) in
+    let tells = c.in_err-read_table.ensures.told (low-of (c.args.lines.now.number + line_feeds c.args.lines.now.rest.now) c.next.new.self.number c.next.new.self.rest.now low n) in
+    rw (p.1, p.2) (table-told c.args.role c.in-Some-keys_of-2.e c.in-Some-keys_of-2.s c.args.lines.now.rest.now c.next.new.self.rest.now (c.args.lines.now.number + line_feeds c.args.lines.now.rest.now) _
+    (table-line c.args.role c.in-Some-keys_of-2.e c.in-Some-keys_of-2.s c.args.lines.now.rest.now c.in_ok-line.line.now c.in-Some.words.now c.next.new.self.rest.now (c.in_ok-line.ensures.ended (c.in_ok-end-2.ensures.ended.0 refl))
+    c.in-Some.ensures.text (c.in-Some-keys_of-2.ensures.text ∙ ap (λ (f : List ℕ). f ++ key_words c.in-Some-keys_of-2.e c.in-Some-keys_of-2.s) front))
+    c.in-Some-keys_of-2.ensures.right.0 c.in-Some-keys_of-2.ensures.right.1
+    (subst (λ (n : ℕ). TellsAfter answer_lines c.next.new.self.rest.now n c.in_err-read_table.field-0.0) n tells))

@@ -9,6 +9,11 @@ use Rattle.noise_vectors.specs.VectorFile.{IsEntry}
 use Rattle.noise_vectors.specs.VectorText.{answer_words, line, lines_of}
 use Rattle.noise_vectors.proofs.LineLemmas.{lines_of-more, FirstLine-room, FirstLine-step, LinesLeft-begun, LinesLeft-end}
 use Rattle.noise_vectors.proofs.PartyLemmas.{begins, lacks-answer_words}
+use Rattle.std.proofs.lemmas.Result.{err_from_is_err_and}
+use Rattle.noise_vectors.specs.ReaderFaults.{answer_lines}
+use Rattle.noise_vectors.specs.WrongLine.{line_feeds}
+use Rattle.noise_vectors.proofs.PartLemmas.{tells-cut, tells-wrong}
+use Rattle.noise_vectors.proofs.ToldLemmas.{counted-step}
 use Rattle.noise_vectors.proofs.parties.read_table.Goals as goal
 
 pub returns-in_default-clause-every : goal.returns-in_default-clause-every
@@ -60,6 +65,7 @@ loop-lines-preserved c =
           let f = LinesLeft-begun (c.loop-lines.invariant.every entries rest few are other is) (codes "answer ") starts other in
           let read = c.in_ok-line.ensures.every (answer_words f.next) (lines_of answer_words f.others rest) (lacks-answer_words f.next f.next_good) f.left_is in
           FirstLine-step f one read.1;
+      counted = λ low. counted-step c.loop-lines.lines.number c.next.new.self.number (c.args.lines.now.number + line_feeds c.args.lines.now.rest.now) c.loop-lines.lines.rest.now c.in_ok-line.line.now c.next.new.self.rest.now low (c.loop-lines.invariant.counted low) c.next.ensures.number c.in_ok-line.ensures.plain (c.in_ok-line.ensures.ended ended);
     }
 
 pub returns-clause-every : goal.returns-clause-every
@@ -68,3 +74,32 @@ returns-clause-every c =
     let none : (entry : TableEntry) (after : List ℕ) → ¬ (c.loop-lines.lines.rest.now ≡ line (answer_words entry) after) =
     λ entry after e. true≢false (sym (ap begins e) ∙ over) in
     λ entries rest few are other is. (refl, LinesLeft-end (c.loop-lines.invariant.every entries rest few are other is) none)
+
+pub returns-in_default-clause-told : goal.returns-in_default-clause-told
+returns-in_default-clause-told c =
+    let starts : begins c.loop-lines.lines.rest.now ≡ true = search rules in
+    λ low.
+    tells-wrong answer_lines c.args.lines.now.rest.now (c.args.lines.now.number + line_feeds c.args.lines.now.rest.now) _ c.loop-lines.table.entries c.loop-lines.lines.rest.now c.in_ok-line.line.now c.next.new.self.rest.now c.next.new.self.is_ended c.loop-lines.lines.number c.next.new.self.number
+    c.loop-lines.invariant.text c.loop-lines.invariant.right c.loop-lines.invariant.few (λ over. true≢false (sym starts ∙ over)) (c.loop-lines.invariant.counted low) low c.next.ensures.number c.in_ok-line.ensures.ended c.in_ok-line.ensures.last c.in_ok-line.ensures.plain c.fault.ensures
+    (λ entry good same. let some = c.in_default.ensures.every entry good same in absurd (cc (some)))
+
+pub returns-then-is_err-clause-told : goal.returns-then-is_err-clause-told
+returns-then-is_err-clause-told c =
+    let starts : begins c.loop-lines.lines.rest.now ≡ true = search rules in
+    let full : length c.loop-lines.table.entries ≡ 8 = c.add.ensures.full.0 (sym c.if-is_err.ensures.value) in
+    λ low.
+    tells-wrong answer_lines c.args.lines.now.rest.now (c.args.lines.now.number + line_feeds c.args.lines.now.rest.now) _ c.loop-lines.table.entries c.loop-lines.lines.rest.now c.in_ok-line.line.now c.next.new.self.rest.now c.next.new.self.is_ended c.loop-lines.lines.number c.next.new.self.number
+    c.loop-lines.invariant.text c.loop-lines.invariant.right c.loop-lines.invariant.few (λ over. true≢false (sym starts ∙ over)) (c.loop-lines.invariant.counted low) low c.next.ensures.number c.in_ok-line.ensures.ended c.in_ok-line.ensures.last c.in_ok-line.ensures.plain c.fault-then-is_err.ensures
+    (λ entry good same. full)
+
+pub returns-in_err-end-clause-told : goal.returns-in_err-end-clause-told
+returns-in_err-end-clause-told c =
+    let found : TableEntry = record { own = c.in-Some.found.0; remote = c.in-Some.found.1; answer = c.in-Some.found.2 } in
+    let other : ¬ (length c.loop-lines.table.entries ≡ 8) = λ e. let full = c.add.ensures.full.1 e in cc (full, c.is_err.ensures.value, c.if-is_err.false) in
+    let p = err_from_is_err_and c.from_residual-in_err-end.result c.from_residual-in_err-end.ensures.1 in λ low.
+    rw (p.1, p.2) (tells-cut answer_lines c.args.lines.now.rest.now (c.args.lines.now.number + line_feeds c.args.lines.now.rest.now) _ c.loop-lines.table.entries found c.loop-lines.lines.rest.now c.in_ok-line.line.now c.next.new.self.is_ended c.loop-lines.lines.number c.next.new.self.number
+    c.loop-lines.invariant.text c.loop-lines.invariant.right (omega (arith, c.loop-lines.invariant.few, other)) (c.loop-lines.invariant.counted low) low c.next.ensures.number c.in_ok-line.ensures.last c.in_ok-line.ensures.plain (λ yes. let bad = c.in_err-end.ensures.ended.1 yes in cc (bad))
+    c.in_err-end.ensures.fault c.in-Some.ensures.text c.in-Some.ensures.right)
+
+pub returns-clause-counted : goal.returns-clause-counted
+returns-clause-counted c = λ low. c.loop-lines.invariant.counted low

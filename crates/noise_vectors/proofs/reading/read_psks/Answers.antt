@@ -1,4 +1,4 @@
-use Rattle.std.proofs.Common.{rules, arith, inr, ◌≡◌, ◌+◌, ◌≤◌, ◌∙◌, ap, subst, sym, refl, true, false, true≢false, List, ℕ, [], ◌∷◌, ◌++◌, codes, length}
+use Rattle.std.proofs.Common.{rules, arith, ◌≡◌, ◌+◌, ◌≤◌, ◌∙◌, ap, subst, sym, refl, true, false, true≢false, List, ℕ, [], ◌∷◌, ◌++◌, codes, length}
 use Rattle.std.specs.Prelude.{IsTrue}
 use Rattle.std.specs.Bool.{nat_eq}
 use Rattle.std.specs.List.{All, starts_with}
@@ -10,9 +10,11 @@ use Rattle.noise_vectors.specs.Words.{IsKey}
 use Rattle.noise_vectors.proofs.LineLemmas.{lines_of-more, FirstLine-room, FirstLine-step}
 use Rattle.noise_vectors.proofs.LineLemmas.{LinesLeft-begun, LinesLeft-end, LinesLeft-start}
 use Rattle.noise_vectors.proofs.ReadingLemmas.{psk-plain}
-use Rattle.noise_vectors.specs.declared.faults.LineKind.TheVariants as kinds
-use Rattle.noise_vectors.specs.declared.faults.VectorFault.TheVariants.{Line}
-use Rattle.noise_vectors.proofs.ToldLemmas.{begun-line, first-line}
+use Rattle.std.proofs.lemmas.Result.{err_from_is_err_and}
+use Rattle.noise_vectors.specs.ReaderFaults.{psk_lines}
+use Rattle.noise_vectors.specs.WrongLine.{line_feeds}
+use Rattle.noise_vectors.proofs.PartLemmas.{tells-cut, tells-wrong}
+use Rattle.noise_vectors.proofs.ToldLemmas.{counted-step}
 use Rattle.noise_vectors.proofs.reading.read_psks.Goals as goal
 
 pub loop-lines-init : goal.loop-lines-init
@@ -21,7 +23,7 @@ loop-lines-init c =
       ap (λ (psks : List (List ℕ)). lines_of psk_words psks c.args.lines.now.rest.now) (sym none),
       subst ArePsks (sym none) (omega arith, All-nil IsKey),
       λ psks rest h other e. LinesLeft-start psk_words IsKey 9 (length c.new-psks.result.items) psks c.args.lines.now.rest.now rest (ap length none) e h.1 h.0,
-      λ low. let zero : length c.new-psks.result.items ≡ 0 = ap length none in omega (arith, zero),
+      λ low. refl,
     )
 
 pub returns-in_default-clause-every : goal.returns-in_default-clause-every
@@ -71,11 +73,7 @@ loop-lines-preserved c =
           let f = LinesLeft-begun (c.loop-lines.invariant.2 psks rest h other e) (codes "psk ") begun other in
           let read = c.in_ok-line.ensures.every (psk_words f.next) (lines_of psk_words f.others rest) (psk-plain f.next f.next_good) f.left_is in
           FirstLine-step f more read.1,
-      λ low.
-          let here = c.loop-lines.invariant.3 low in
-          let less : length c.loop-lines.psks.items ≤ 9 = c.loop-lines.invariant.1.0 in
-          let next = c.next.ensures.number (omega (arith, here, less, low)) in
-          omega (arith, here, more, next),
+      λ low. counted-step c.loop-lines.lines.number c.next.new.self.number (c.args.lines.now.number + line_feeds c.args.lines.now.rest.now) c.loop-lines.lines.rest.now c.in_ok-line.line.now c.next.new.self.rest.now low (c.loop-lines.invariant.3 low) c.next.ensures.number c.in_ok-line.ensures.plain (c.in_ok-line.ensures.ended ended),
     )
 
 pub returns-clause-every : goal.returns-clause-every
@@ -86,46 +84,32 @@ returns-clause-every c =
     λ psks rest h other e. (refl, LinesLeft-end (c.loop-lines.invariant.2 psks rest h other e) none)
 
 pub returns-in_default-clause-told : goal.returns-in_default-clause-told
-returns-in_default-clause-told c = λ low.
-    let here = c.loop-lines.invariant.3 low in
-    let less : length c.loop-lines.psks.items ≤ 9 = c.loop-lines.invariant.1.0 in
-    let next = c.next.ensures.number (omega (arith, here, less, low)) in
+returns-in_default-clause-told c =
     let begun : starts_with nat_eq c.loop-lines.lines.rest.now (codes "psk ") ≡ true = search rules in
-    let first = first-line c.loop-lines.lines.rest.now c.in_ok-line.line.now c.next.new.self.rest.now c.next.new.self.is_ended
-    c.in_ok-line.ensures.ended c.in_ok-line.ensures.last c.in_ok-line.ensures.plain in
-    let n : c.next.new.self.number ≡ c.args.lines.now.number + length c.loop-lines.psks.items + 1 = omega (arith, here, next) in
-    inr (record {
-      psks = c.loop-lines.psks.items;
-      are_psks = c.loop-lines.invariant.1;
-      told = c.in_ok-line.line.now;
-      left = c.loop-lines.lines.rest.now;
-      text_is = c.loop-lines.invariant.0;
-      is_first = first;
-      begun = begun-line c.in_ok-line.line.now c.loop-lines.lines.rest.now (codes "psk ") first refl begun;
-      fault_is = c.fault.ensures ∙ ap (λ (k : ℕ). Line k kinds.Psk) n;
-      full = λ psk key same.
-          let some = c.in_default.ensures.every psk key same in
-          absurd (cc (some));
-    })
+    λ low.
+    tells-wrong psk_lines c.args.lines.now.rest.now (c.args.lines.now.number + line_feeds c.args.lines.now.rest.now) _ c.loop-lines.psks.items c.loop-lines.lines.rest.now c.in_ok-line.line.now c.next.new.self.rest.now c.next.new.self.is_ended c.loop-lines.lines.number c.next.new.self.number
+    c.loop-lines.invariant.0 c.loop-lines.invariant.1.1 c.loop-lines.invariant.1.0 (λ over. true≢false (sym begun ∙ over)) (c.loop-lines.invariant.3 low) low c.next.ensures.number c.in_ok-line.ensures.ended c.in_ok-line.ensures.last c.in_ok-line.ensures.plain c.fault.ensures
+    (λ psk key same. let some = c.in_default.ensures.every psk key same in absurd (cc (some)))
 
 pub returns-then-is_err-clause-told : goal.returns-then-is_err-clause-told
-returns-then-is_err-clause-told c = λ low.
-    let here = c.loop-lines.invariant.3 low in
-    let less : length c.loop-lines.psks.items ≤ 9 = c.loop-lines.invariant.1.0 in
-    let next = c.next.ensures.number (omega (arith, here, less, low)) in
+returns-then-is_err-clause-told c =
     let begun : starts_with nat_eq c.loop-lines.lines.rest.now (codes "psk ") ≡ true = search rules in
     let full : length c.loop-lines.psks.items ≡ 9 = search rules in
-    let first = first-line c.loop-lines.lines.rest.now c.in_ok-line.line.now c.next.new.self.rest.now c.next.new.self.is_ended
-    c.in_ok-line.ensures.ended c.in_ok-line.ensures.last c.in_ok-line.ensures.plain in
-    let n : c.next.new.self.number ≡ c.args.lines.now.number + length c.loop-lines.psks.items + 1 = omega (arith, here, next) in
-    inr (record {
-      psks = c.loop-lines.psks.items;
-      are_psks = c.loop-lines.invariant.1;
-      told = c.in_ok-line.line.now;
-      left = c.loop-lines.lines.rest.now;
-      text_is = c.loop-lines.invariant.0;
-      is_first = first;
-      begun = begun-line c.in_ok-line.line.now c.loop-lines.lines.rest.now (codes "psk ") first refl begun;
-      fault_is = c.fault-then-is_err.ensures ∙ ap (λ (k : ℕ). Line k kinds.Psk) n;
-      full = λ psk key same. full;
-    })
+    λ low.
+    tells-wrong psk_lines c.args.lines.now.rest.now (c.args.lines.now.number + line_feeds c.args.lines.now.rest.now) _ c.loop-lines.psks.items c.loop-lines.lines.rest.now c.in_ok-line.line.now c.next.new.self.rest.now c.next.new.self.is_ended c.loop-lines.lines.number c.next.new.self.number
+    c.loop-lines.invariant.0 c.loop-lines.invariant.1.1 c.loop-lines.invariant.1.0 (λ over. true≢false (sym begun ∙ over)) (c.loop-lines.invariant.3 low) low c.next.ensures.number c.in_ok-line.ensures.ended c.in_ok-line.ensures.last c.in_ok-line.ensures.plain c.fault-then-is_err.ensures
+    (λ psk key same. full)
+
+pub returns-in_err-end-clause-told : goal.returns-in_err-end-clause-told
+returns-in_err-end-clause-told c =
+    let pushed : c.try_push.new.self.items ≡ c.loop-lines.psks.items ++ c.in-Some.psk ∷ [] = search rules in
+    let few : length c.try_push.new.self.items ≤ 9 = search rules in
+    let more : length c.try_push.new.self.items ≡ length c.loop-lines.psks.items + 1 =
+    ap length pushed ∙ length-append c.loop-lines.psks.items (c.in-Some.psk ∷ []) in
+    let p = err_from_is_err_and c.from_residual-in_err-end.result c.from_residual-in_err-end.ensures.1 in λ low.
+    rw (p.1, p.2) (tells-cut psk_lines c.args.lines.now.rest.now (c.args.lines.now.number + line_feeds c.args.lines.now.rest.now) _ c.loop-lines.psks.items c.in-Some.psk c.loop-lines.lines.rest.now c.in_ok-line.line.now c.next.new.self.is_ended c.loop-lines.lines.number c.next.new.self.number
+    c.loop-lines.invariant.0 c.loop-lines.invariant.1.1 (omega (arith, few, more)) (c.loop-lines.invariant.3 low) low c.next.ensures.number c.in_ok-line.ensures.last c.in_ok-line.ensures.plain (λ yes. let bad = c.in_err-end.ensures.ended.1 yes in cc (bad))
+    c.in_err-end.ensures.fault c.in-Some.ensures.text c.in-Some.ensures.right)
+
+pub returns-clause-counted : goal.returns-clause-counted
+returns-clause-counted c = λ low. c.loop-lines.invariant.3 low

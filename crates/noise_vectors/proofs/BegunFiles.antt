@@ -1,0 +1,314 @@
+-- Right files that begin with the lines that are read, and what other right files have after those.
+use Rattle.std.proofs.Common.{arith, ◌≡◌, ◌∙◌, ◌<◌, inl, inr, ap, sym, refl, true, false, true≢false, Bool, ℕ, List, [], ◌∷◌, ◌++◌, codes, get_or, length}
+use Rattle.std.proofs.Common.{◌==◌, Vec}
+use Rattle.std.specs.Prelude.{decimal}
+use Rattle.std.specs.Bool.{nat_eq}
+use Rattle.std.specs.List.{All, starts_with}
+use Rattle.std.specs.Global.{Global}
+use Rattle.std.proofs.lemmas.Bool.{and_parts, eq-eqb, eqb-true}
+use Rattle.std.proofs.lemmas.List.{append_cancel_left}
+use Rattle.noise_events.specs.declared.event.Event.{Event}
+use Rattle.noise_events.specs.declared.event.Event.TheVariants.{Write, Say, Deliver, Raw}
+use Rattle.noise_keys.specs.Table.{TableEntry}
+use Rattle.noise_keys.specs.Table as Tables
+use Rattle.noise_names.specs.declared.token.Role.{Role}
+use Rattle.noise_names.specs.declared.token.Role.TheVariants.{Initiator, Responder}
+use Rattle.noise_vectors.specs.HexWord.{hex_of}
+use Rattle.noise_vectors.specs.ReaderFaults.{answer_lines, event_lines, psk_lines}
+use Rattle.noise_vectors.specs.SameFile.{expected_of}
+use Rattle.noise_vectors.specs.VectorFile.{AreKeys, IsAllowed, IsAllowedFile, IsEntry, IsEvent, IsVectorFile}
+use Rattle.noise_vectors.specs.VectorText.{AfterEvents, answer_words, event_words, header_words, is_second, line, lines_of, party_text, psk_words, role_word, text_of, version_text}
+use Rattle.noise_vectors.specs.Words.{IsKey, lacks}
+use Rattle.noise_vectors.specs.WrongLine.{is_answer_line, is_psk_line, up_to_events, up_to_initiator, up_to_responder}
+use Rattle.noise_vectors.specs.declared.file_keys.FileKeys.{FileKeys}
+use Rattle.noise_vectors.specs.declared.file_keys.FileKeys.TheVariants.{Xor, Table}
+use Rattle.noise_vectors.specs.declared.vector.AllowedEvents.{AllowedEvents}
+use Rattle.noise_vectors.specs.declared.vector.VectorFile.{VectorFile}
+use Rattle.noise_vectors.proofs.AdditionLemmas.{event-stands, version-after}
+use Rattle.noise_vectors.proofs.EventLemmas.{all-right, event_words-line}
+use Rattle.noise_vectors.proofs.FrontLemmas.{up_to_version}
+use Rattle.noise_vectors.proofs.PartLemmas.{goes-on, header-one, lines-over, not-true}
+use Rattle.noise_vectors.proofs.PartyLemmas.{after_of, begins, lacks-answer_words, lacks-party, party_text-line, words_of}
+use Rattle.noise_vectors.proofs.ReadingLemmas.{interval-plain, prologue-plain, psk-plain}
+use Rattle.noise_vectors.proofs.ToldFiles.{after-block}
+use Rattle.noise_vectors.proofs.UniqueWords.{first-byte, numbers-apart, parted-one}
+use Rattle.noise_vectors.proofs.VectorLemmas.{after_header, after_initiator, after_interval, after_prologue, after_psks, after_responder, initiator-ends, psks-end, responder-ends}
+
+-- ---- what another right file has
+
+psk-stands : (psk rest : List ℕ) → ¬ (starts_with nat_eq (line (psk_words psk) rest) (codes "psk ") ≡ false)
+psk-stands psk rest h = true≢false h
+
+answer-stands : (entry : TableEntry) (rest : List ℕ) → ¬ (starts_with nat_eq (line (answer_words entry) rest) (codes "answer ") ≡ false)
+answer-stands entry rest h = true≢false h
+
+-- after the lines up to the psks' last one
+after-interval : (file other : VectorFile) (rest : List ℕ) → IsVectorFile file → IsVectorFile other → text_of other ≡ up_to_initiator file rest
+    → after_interval other ≡ lines_of psk_words file.psks.items rest
+after-interval file other rest h k e =
+    let psks = lines_of psk_words file.psks.items rest in
+    let here = codes "prologue " ++ hex_of file.prologue.items in
+    let there = codes "interval " ++ decimal file.interval in
+    let after = after-block (is_second file.version) file.protocol file.block other (line here (line there psks)) k h.protocol h.own e in
+    let parts = parted-one 10 (codes "prologue " ++ hex_of other.prologue.items) here (after_prologue other) (line there psks)
+    (prologue-plain other.prologue.items k.prologue) (prologue-plain file.prologue.items h.prologue) after in
+    (parted-one 10 (codes "interval " ++ decimal other.interval) there (after_interval other) psks
+    (interval-plain other.interval k.interval) (interval-plain file.interval h.interval) parts.1).1
+
+pub at-initiator : (file other : VectorFile) (rest : List ℕ) → IsVectorFile file → IsVectorFile other → is_psk_line rest ≡ false
+    → text_of other ≡ up_to_initiator file rest → after_psks other ≡ rest
+at-initiator file other rest h k over e =
+    lines-over psk_lines psk-plain psk-stands other.psks.items file.psks.items (after_psks other) rest k.psks.1 h.psks.1 (psks-end other) over
+    (after-interval file other rest h k e)
+
+-- a psk more is among the other file's
+pub psk-more : (file other : VectorFile) (told rest : List ℕ) → IsVectorFile file → IsVectorFile other → lacks 10 told ≡ true
+    → ¬ (is_psk_line (line told rest) ≡ false) → text_of other ≡ up_to_initiator file (line told rest)
+    → (psk : List ℕ) × IsKey psk × (told ≡ psk_words psk) × (length file.psks.items < length other.psks.items)
+psk-more file other told rest h k plain bad e =
+    goes-on psk_lines psk-plain psk-stands file.psks.items other.psks.items told rest (after_psks other) h.psks.1 k.psks.1 plain (psks-end other) bad
+    (after-interval file other (line told rest) h k e)
+
+first-apart : (x y : List ℕ) → x ≡ y → (get_or x 0 0 == get_or y 0 0) ≡ false → ⊥
+first-apart x y e differ = numbers-apart _ _ (first-byte x y e) differ
+
+keys-goes : (a b : FileKeys) (u v : List ℕ) → AreKeys a → AreKeys b → begins u ≡ false → is_answer_line b v ≡ false
+    → words_of a ≡ words_of b → after_of a u ≡ after_of b v → u ≡ v
+keys-goes (Xor a) (Xor b) u v h k hu hv e after = after
+keys-goes (Table a) (Table b) u v h k hu hv e after =
+    lines-over answer_lines lacks-answer_words answer-stands a.entries b.entries u v h.3 k.3 hu hv after
+keys-goes a b u v h k hu hv e after = absurd (first-apart (words_of a) (words_of b) e refl)
+
+party-parts : (role : Role) (a b : FileKeys) (u v : List ℕ) → AreKeys a → AreKeys b → party_text role a u ≡ party_text role b v
+    → (words_of a ≡ words_of b) × (after_of a u ≡ after_of b v)
+party-parts role a b u v h k e =
+    let lines = sym (party_text-line role a u) ∙ e ∙ party_text-line role b v in
+    let parts = parted-one 10 (role_word role ++ 32 ∷ words_of a) (role_word role ++ 32 ∷ words_of b) (after_of a u) (after_of b v)
+    (lacks-party role a h) (lacks-party role b k) lines in
+    let front = append_cancel_left (role_word role) (32 ∷ words_of a) (32 ∷ words_of b) parts.0 in
+    (cc (front), parts.1)
+
+-- after a party's lines
+pub party-goes : (role : Role) (a b : FileKeys) (u v : List ℕ) → AreKeys a → AreKeys b → begins u ≡ false → is_answer_line b v ≡ false
+    → party_text role a u ≡ party_text role b v → u ≡ v
+party-goes role a b u v h k hu hv e =
+    let parts = party-parts role a b u v h k e in
+    keys-goes a b u v h k hu hv parts.0 parts.1
+
+keys-more : (a : FileKeys) (table : Tables.Table) (u told rest : List ℕ) → AreKeys a → AreKeys (Table table) → begins u ≡ false → lacks 10 told ≡ true
+    → ¬ (begins (line told rest) ≡ false) → words_of a ≡ words_of (Table table) → after_of a u ≡ after_of (Table table) (line told rest)
+    → (entry : TableEntry) × IsEntry entry × (told ≡ answer_words entry) × (length table.entries < 8)
+keys-more (Xor a) table u told rest h k hu plain bad e after = absurd (first-apart (words_of (Xor a)) (words_of (Table table)) e refl)
+keys-more (Table a) table u told rest h k hu plain bad e after =
+    let found = goes-on answer_lines lacks-answer_words answer-stands table.entries a.entries told rest u k.3 h.3 plain hu bad after in
+    let few = h.2 in
+    (found.0, found.1, found.2, omega (arith, found.3, few))
+
+-- an answer more is among the other party's
+pub party-more : (role : Role) (a : FileKeys) (table : Tables.Table) (u told rest : List ℕ) → AreKeys a → AreKeys (Table table) → begins u ≡ false
+    → lacks 10 told ≡ true → ¬ (begins (line told rest) ≡ false) → party_text role a u ≡ party_text role (Table table) (line told rest)
+    → (entry : TableEntry) × IsEntry entry × (told ≡ answer_words entry) × (length table.entries < 8)
+party-more role a table u told rest h k hu plain bad e =
+    let parts = party-parts role a (Table table) u (line told rest) h k e in
+    keys-more a table u told rest h k hu plain bad parts.0 parts.1
+
+initiator-no_psk : (keys : FileKeys) (rest : List ℕ) → is_psk_line (party_text Initiator keys rest) ≡ false
+initiator-no_psk (Xor keys) rest = refl
+initiator-no_psk (Table keys) rest = refl
+
+-- the initiator's lines, with whatever follows them
+pub after-psks : (file other : VectorFile) (rest : List ℕ) → IsVectorFile file → IsVectorFile other → text_of other ≡ up_to_responder file rest
+    → after_psks other ≡ party_text Initiator file.initiator rest
+after-psks file other rest h k e =
+    at-initiator file other (party_text Initiator file.initiator rest) h k (initiator-no_psk file.initiator rest) e
+
+pub at-responder : (file other : VectorFile) (rest : List ℕ) → IsVectorFile file → IsVectorFile other → is_answer_line file.initiator rest ≡ false
+    → text_of other ≡ up_to_responder file rest → after_initiator other ≡ rest
+at-responder file other rest h k over e =
+    party-goes Initiator other.initiator file.initiator (after_initiator other) rest k.initiator h.initiator (initiator-ends other) over
+    (after-psks file other rest h k e)
+
+responder-no_answer : (keys other : FileKeys) (rest : List ℕ) → is_answer_line keys (party_text Responder other rest) ≡ false
+responder-no_answer (Xor keys) other rest = refl
+responder-no_answer (Table keys) (Xor other) rest = refl
+responder-no_answer (Table keys) (Table other) rest = refl
+
+pub after-initiator : (file other : VectorFile) (rest : List ℕ) → IsVectorFile file → IsVectorFile other → text_of other ≡ up_to_events file rest
+    → after_initiator other ≡ party_text Responder file.responder rest
+after-initiator file other rest h k e =
+    at-responder file other (party_text Responder file.responder rest) h k (responder-no_answer file.initiator file.responder rest) e
+
+pub at-events : (file other : VectorFile) (rest : List ℕ) → IsVectorFile file → IsVectorFile other → is_answer_line file.responder rest ≡ false
+    → text_of other ≡ up_to_events file rest → after_responder other ≡ rest
+at-events file other rest h k over e =
+    party-goes Responder other.responder file.responder (after_responder other) rest k.responder h.responder (responder-ends other) over
+    (after-initiator file other rest h k e)
+
+-- the events' lines begin otherwise than an answer
+events-no_answer : (keys : FileKeys) (events : List Event) (rest : List ℕ) → is_answer_line keys rest ≡ false
+    → is_answer_line keys (lines_of event_words events rest) ≡ false
+events-no_answer (Xor keys) events rest h = refl
+events-no_answer (Table keys) [] rest h = h
+events-no_answer (Table keys) (Say role payload cuts ∷ events) rest h = refl
+events-no_answer (Table keys) (Write role payload ∷ events) rest h = refl
+events-no_answer (Table keys) (Deliver role number cuts ∷ events) rest h = refl
+events-no_answer (Table keys) (Raw role bytes ∷ events) rest h = refl
+
+not-same : (m n : ℕ) → ¬ (m ≡ n) → nat_eq m n ≡ false
+not-same m n h = not-true (nat_eq m n) (λ e. h (eqb-true m n e))
+
+other-byte : (x y : ℕ) (text front rest : List ℕ) → nat_eq x y ≡ false → starts_with nat_eq text (x ∷ front) ≡ true → starts_with nat_eq text (y ∷ rest) ≡ false
+other-byte x y [] front rest differ h = absurd (cc h)
+other-byte x y (b ∷ bs) front rest differ h =
+    let first : nat_eq x b ≡ true = (and_parts (nat_eq x b) _ h).0 in
+    let same : x ≡ b = eqb-true x b first in
+    let other : nat_eq y b ≡ false = not-same y b (λ e. true≢false (sym (eq-eqb x y (same ∙ sym e)) ∙ differ)) in
+    rw other refl
+
+-- nor does what follows them
+pub after-no_answer : (keys : FileKeys) (rest : List ℕ) → AfterEvents rest → is_answer_line keys rest ≡ false
+after-no_answer (Xor keys) rest h = refl
+after-no_answer (Table keys) rest (inl none) = rw none refl
+after-no_answer (Table keys) rest (inr (inl begun)) = other-byte 100 97 rest (codes "atagrams ") (codes "nswer ") refl begun
+after-no_answer (Table keys) rest (inr (inr begun)) = other-byte 101 97 rest (codes "xpect ") (codes "nswer ") refl begun
+
+abbrev pub IsRight : AllowedEvents → Event → Type 0
+IsRight allowed event = IsEvent event × IsAllowed allowed event
+
+pub right-plain : (allowed : AllowedEvents) (event : Event) → IsRight allowed event → lacks 10 (event_words event) ≡ true
+right-plain allowed event h = event_words-line event h.0
+
+-- after the events
+pub at-version : (allowed : AllowedEvents) (file other : VectorFile) (rest : List ℕ) → IsVectorFile file → IsVectorFile other
+    → IsAllowedFile allowed file → IsAllowedFile allowed other → AfterEvents rest → text_of other ≡ up_to_version file rest → version_text other.version ≡ rest
+at-version allowed file other rest h k allow also over e =
+    let events = at-events file other (lines_of event_words file.events.items rest) h k
+    (events-no_answer file.responder file.events.items rest (after-no_answer file.responder rest over)) e in
+    lines-over (event_lines allowed) (right-plain allowed) event-stands other.events.items file.events.items (version_text other.version) rest
+    (all-right allowed other.events.items k.events also.0) (all-right allowed file.events.items h.events allow.0) (version-after other.version) over events
+
+-- an event more is among the other file's
+pub event-more : (allowed : AllowedEvents) (file other : VectorFile) (told rest : List ℕ) → IsVectorFile file → IsVectorFile other
+    → IsAllowedFile allowed file → IsAllowedFile allowed other → is_answer_line file.responder (lines_of event_words file.events.items (line told rest)) ≡ false
+    → lacks 10 told ≡ true → ¬ AfterEvents (line told rest) → text_of other ≡ up_to_version file (line told rest)
+    → (event : Event) × IsRight allowed event × (told ≡ event_words event)
+event-more allowed file other told rest h k allow also none plain bad e =
+    let events = at-events file other (lines_of event_words file.events.items (line told rest)) h k none e in
+    let found = goes-on (event_lines allowed) (right-plain allowed) event-stands file.events.items other.events.items told rest (version_text other.version)
+    (all-right allowed file.events.items h.events allow.0) (all-right allowed other.events.items k.events also.0) plain (version-after other.version) bad
+    events in
+    (found.0, found.1, found.2)
+
+second-plain : (second : Bool) → lacks 10 (header_words second) ≡ true
+second-plain true = refl
+second-plain false = refl
+
+-- the header of both is one
+pub same-header : (file other : VectorFile) (rest : List ℕ) → text_of other ≡ line (header_words (is_second file.version)) rest
+    → is_second other.version ≡ is_second file.version
+same-header file other rest e =
+    header-one (is_second other.version) (is_second file.version)
+    (parted-one 10 (header_words (is_second other.version)) (header_words (is_second file.version)) (after_header other) rest
+    (second-plain (is_second other.version)) (second-plain (is_second file.version)) e).0
+
+-- ---- right files that begin with the lines that are read
+
+-- one with nothing after those, of the header's version
+pub record BegunAt (allowed : AllowedEvents) (second : Bool) (text left : List ℕ) (up_to : VectorFile → List ℕ → List ℕ) : Type 0 where
+  pub file : VectorFile
+  pub is_file : IsVectorFile file
+  pub is_allowed : IsAllowedFile allowed file
+  pub which : is_second file.version ≡ second
+  pub bare : version_text file.version ≡ []
+  pub quiet : expected_of file.version ≡ []
+  pub text_is : text ≡ up_to file left
+
+abbrev pub with_initiator : VectorFile → FileKeys → VectorFile
+with_initiator file keys = record file { initiator = keys }
+
+abbrev pub with_responder : VectorFile → FileKeys → VectorFile
+with_responder file keys = record file { responder = keys }
+
+abbrev pub with_events : VectorFile → Vec Event Global → VectorFile
+with_events file events = record file { events = events }
+
+pub initiator-right : (file : VectorFile) (keys : FileKeys) → IsVectorFile file → AreKeys keys → IsVectorFile (with_initiator file keys)
+initiator-right file keys h k = record {
+  protocol = h.protocol;
+  own = h.own;
+  prologue = h.prologue;
+  interval = h.interval;
+  psks = h.psks;
+  initiator = k;
+  responder = h.responder;
+  events = h.events;
+  version = h.version;
+}
+
+pub responder-right : (file : VectorFile) (keys : FileKeys) → IsVectorFile file → AreKeys keys → IsVectorFile (with_responder file keys)
+responder-right file keys h k = record {
+  protocol = h.protocol;
+  own = h.own;
+  prologue = h.prologue;
+  interval = h.interval;
+  psks = h.psks;
+  initiator = h.initiator;
+  responder = k;
+  events = h.events;
+  version = h.version;
+}
+
+pub events-right : (file : VectorFile) (events : Vec Event Global) → IsVectorFile file → All IsEvent events.items → IsVectorFile (with_events file events)
+events-right file events h k = record {
+  protocol = h.protocol;
+  own = h.own;
+  prologue = h.prologue;
+  interval = h.interval;
+  psks = h.psks;
+  initiator = h.initiator;
+  responder = h.responder;
+  events = k;
+  version = h.version;
+}
+
+-- the initiator's lines are read
+abbrev pub past-initiator : (allowed : AllowedEvents) (second : Bool) (text from left : List ℕ) (keys : FileKeys)
+    → BegunAt allowed second text from up_to_initiator → AreKeys keys → from ≡ party_text Initiator keys left
+    → BegunAt allowed second text left up_to_responder
+past-initiator allowed second text from left keys b h e = record {
+  file = with_initiator b.file keys;
+  is_file = initiator-right b.file keys b.is_file h;
+  is_allowed = b.is_allowed;
+  which = b.which;
+  bare = b.bare;
+  quiet = b.quiet;
+  text_is = b.text_is ∙ ap (λ (t : List ℕ). up_to_initiator b.file t) e;
+}
+
+-- the responder's
+abbrev pub past-responder : (allowed : AllowedEvents) (second : Bool) (text from left : List ℕ) (keys : FileKeys)
+    → BegunAt allowed second text from up_to_responder → AreKeys keys → from ≡ party_text Responder keys left
+    → BegunAt allowed second text left up_to_events
+past-responder allowed second text from left keys b h e = record {
+  file = with_responder b.file keys;
+  is_file = responder-right b.file keys b.is_file h;
+  is_allowed = b.is_allowed;
+  which = b.which;
+  bare = b.bare;
+  quiet = b.quiet;
+  text_is = b.text_is ∙ ap (λ (t : List ℕ). up_to_responder b.file t) e;
+}
+
+-- the events'
+pub past-events : (allowed : AllowedEvents) (second : Bool) (text from left : List ℕ) (events : Vec Event Global)
+    → BegunAt allowed second text from up_to_events → All IsEvent events.items → All (IsAllowed allowed) events.items
+    → from ≡ lines_of event_words events.items left → BegunAt allowed second text left up_to_version
+past-events allowed second text from left events b h k e = record {
+  file = with_events b.file events;
+  is_file = events-right b.file events b.is_file h;
+  is_allowed = (k, b.is_allowed.1);
+  which = b.which;
+  bare = b.bare;
+  quiet = b.quiet;
+  text_is = b.text_is ∙ ap (λ (t : List ℕ). up_to_events b.file t) e;
+}
