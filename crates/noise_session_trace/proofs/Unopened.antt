@@ -1,5 +1,5 @@
 -- An end before the last handshake message.
-use Rattle.std.proofs.Common.{◌≡◌, ◌≢◌, ℕ, List, length, None, arith}
+use Rattle.std.proofs.Common.{◌≡◌, ◌≢◌, ℕ, length, None, arith}
 use Rattle.std.proofs.lemmas.Bool.Decides.{nat_tests}
 use Rattle.std.specs.Prelude.{false, ◌==◌}
 use Rattle.noise_session.specs.Ends.{EndView}

@@ -1,11 +1,9 @@
 -- What is held beside an end to show its key schedule.
 use Rattle.std.specs.Prelude.{◌≡◌, ◌≢◌, ℕ, ◌==◌, List, length, Option, Some, None, if◌then◌else◌}
-use Rattle.noise_names.specs.declared.token.Role.{Role}
 use Rattle.noise_names.specs.Tokens.{other}
 use Rattle.noise_keys.specs.declared.keys.Own.{Own}
 use Rattle.noise_trace.specs.Following.{Follows}
 use Rattle.noise_session.specs.Ends.{EndView}
-use Rattle.noise_session_trace.specs.declared.direction.Direction.{Direction}
 use Rattle.noise_session_trace.specs.declared.directions.Directions.{Directions}
 use Rattle.noise_session_trace.specs.declared.trace.EndTrace.{EndTrace}
 use Rattle.noise_session_trace.specs.Directions.{direction}

@@ -1,7 +1,7 @@
 //! The key schedule of one end of a session.
 #![tactic(auto)]
 
-ghost use Rattle.std.specs.Prelude.{◌≡◌, ◌≢◌, ◌+◌, ℕ, List, [], length, IsTrue, Option, Some, None, IfSome};
+ghost use Rattle.std.specs.Prelude.{◌≡◌, ◌≢◌, ◌+◌, ℕ, List, [], length, IsTrue, None};
 ghost use Rattle.noise_handshake.specs.declared.faults.Cause.{Cause};
 ghost use Rattle.noise_handshake.specs.View.{View, Accepts, Refuses};
 ghost use Rattle.noise_handshake.specs.Writing.{Writes, Lacks};
@@ -140,13 +140,6 @@ impl<K: Keys> EndTrace<K> {
         }
     }
 
-    /// How many handshake messages have passed.
-    pub fn messages_passed(&self) -> u64
-        ensures { (v : EndView) → EndFollows K.public_of K.agreement self.now v → result ≡ v.party.passed }
-    {
-        u64::from(self.following.passed())
-    }
-
     /// The two keys that the session opened with, the initiator's first, once it has: those of datagrams too.
     pub fn keys(&self) -> Option<([u8; 32], [u8; 32])>
         ensures { (v : EndView) → EndFollows K.public_of K.agreement self.now v → result ≡ keys_in v.party }
@@ -157,5 +150,12 @@ impl<K: Keys> EndTrace<K> {
             ..
         } = Opening::after(&self.following)?;
         Some((initiator, responder))
+    }
+
+    /// How many handshake messages have passed.
+    pub fn messages_passed(&self) -> u8
+        ensures { (v : EndView) → EndFollows K.public_of K.agreement self.now v → result ≡ v.party.passed }
+    {
+        self.following.passed()
     }
 }

@@ -147,13 +147,6 @@ impl<K: Keys> Following<K> {
         self.passed as usize == self.pattern.pattern().messages().len()
     }
 
-    /// How many messages have passed.
-    pub fn passed(&self) -> u8
-        ensures { (v : View) → Follows K.public_of K.agreement self.now v → result ≡ v.passed }
-    {
-        self.passed
-    }
-
     /// The two keys of the transport, if all messages have passed: that of the messages from the initiator to the responder first (Split).
     pub fn transport_keys(&self) -> ([u8; 32], [u8; 32])
         ensures { (v : View) → Follows K.public_of K.agreement self.now v → result ≡ (initiator_key v.history, responder_key v.history) }
@@ -166,6 +159,13 @@ impl<K: Keys> Following<K> {
         ensures { (v : View) → Follows K.public_of K.agreement self.now v → result ≡ values_of v.history }
     {
         self.before.values()
+    }
+
+    /// How many messages have passed.
+    pub fn passed(&self) -> u8
+        ensures { (v : View) → Follows K.public_of K.agreement self.now v → result ≡ v.passed }
+    {
+        self.passed
     }
 
     /// The role of the party.

@@ -1,4 +1,4 @@
-use Rattle.std.proofs.Common.{◌≡◌, ◌≢◌, List, length, ◌∙◌, sym, subst, ap, arith}
+use Rattle.std.proofs.Common.{◌≢◌, List, length, ◌∙◌, sym, subst, ap, arith}
 use Rattle.noise_handshake.specs.View.{View}
 use Rattle.noise_handshake.specs.Party.{after_own}
 use Rattle.noise_trace.specs.Following.{Follows}
