@@ -19,8 +19,8 @@ pub struct Report {
 }
 
 impl Report {
-    // Before the first event.
-    pub(crate) fn new(alloc: Global) -> Report
+    /// The report before the first event: no frame, and no entry.
+    pub fn new(alloc: Global) -> Report
         ensures initiator { result.initiator.items ≡ [] }
         ensures responder { result.responder.items ≡ [] }
         ensures entries { result.entries.items ≡ [] }
