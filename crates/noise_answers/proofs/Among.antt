@@ -6,14 +6,14 @@ use Rattle.std.specs.Prelude.{Bool, Option, Some, None, is_some, if◌then◌els
 use Rattle.noise_names.specs.declared.token.Token.{Token}
 use Rattle.noise_names.specs.declared.token.Token.TheVariants.{E, S, Ee, Es, Se, Ss, Psk}
 use Rattle.noise_names.specs.declared.token.Role.{Role}
-use Rattle.noise_state.specs.History.{History, cipher_key, piece}
-use Rattle.noise_state.specs.Pieces.{length-piece, piece-same}
+use Rattle.noise_state.specs.History.{History, cipher_key, ciphertext}
+use Rattle.noise_state.specs.Ciphertexts.{length-ciphertext, ciphertext-same}
 use Rattle.noise_keys.specs.declared.keys.Own.{Own}
 use Rattle.noise_handshake.specs.declared.remote.Remote.{Remote}
 use Rattle.noise_handshake.specs.declared.faults.Cause.{Cause}
 use Rattle.noise_handshake.specs.declared.faults.Cause.TheVariants.{Agreement}
-use Rattle.noise_handshake.specs.Line.{token_piece, after_token, front, after_front}
-use Rattle.noise_handshake.specs.View.{Reader, Fits, Fit, known_after, secrets_after, Leads, Reaches, Reads, Stops, Accepts, Refuses, answered, cause_at}
+use Rattle.noise_handshake.specs.Message.{token_bytes, after_token, before_payload, after_tokens}
+use Rattle.noise_handshake.specs.View.{Reader, Fits, Fit, known_after, secrets_after, BeginsAs, CanBegin, Reads, Stops, Accepts, Refuses, answered, cause_at}
 use Rattle.noise_handshake.specs.View.{View, tokens_now}
 use Rattle.noise_handshake.specs.Writing.{Writer, Gives, Given, Writes}
 use Rattle.noise_names.specs.Plan.{has_psk}
@@ -67,18 +67,18 @@ module _ (role : Role) (psks : Bool) (first all : Answers) (among : AreAmong fir
       (fits-all known secrets t x f.0, fit-all (known_after known t x) (secrets_after secrets t) ts xs f.1)
 
   leads-all : (known : Remote) (secrets : List (List ℕ)) (r : History) (ts : List Token) (xs : List (List ℕ)) (m rest : List ℕ)
-      → Leads few known secrets r ts xs m rest → Leads whole known secrets r ts xs m rest
+      → BeginsAs few known secrets r ts xs m rest → BeginsAs whole known secrets r ts xs m rest
   leads-all known secrets r ts xs m rest l = record { fit = fit-all known secrets ts xs l.fit; spelled = l.spelled }
 
   -- a token's text under the first answers is that under all of them, and so is what is after it
   token-apart : (known : Remote) (secrets : List (List ℕ)) (r : History) (t : Token) (x y p q : List ℕ)
-      → Fits few known secrets t x → Fits whole known secrets t y → token_piece r t x ++ p ≡ token_piece r t y ++ q → (x ≡ y) × (p ≡ q)
+      → Fits few known secrets t x → Fits whole known secrets t y → token_bytes r t x ++ p ≡ token_bytes r t y ++ q → (x ≡ y) × (p ≡ q)
   token-apart known secrets r E x y p q f g e = split-apart x y p q (f ∙ sym g) e
   token-apart known secrets r S x y p q f g e =
-      let n : length (piece r x) ≡ length (piece r y) = length-piece r x ∙ ap (λ (k : ℕ). if is_some (cipher_key r) then k + 16 else k) (f ∙ sym g)
-      ∙ sym (length-piece r y) in
-      let h = split-apart (piece r x) (piece r y) p q n e in
-      (piece-same r x y h.0, h.1)
+      let n : length (ciphertext r x) ≡ length (ciphertext r y) = length-ciphertext r x ∙ ap (λ (k : ℕ). if is_some (cipher_key r) then k + 16 else k) (f ∙ sym g)
+      ∙ sym (length-ciphertext r y) in
+      let h = split-apart (ciphertext r x) (ciphertext r y) p q n e in
+      (ciphertext-same r x y h.0, h.1)
   token-apart known secrets r Psk x y p q f g e = (f ∙ sym g, e)
   token-apart known secrets r Ee x y p q f g e = (some-same _ x y (answered-all _ _ x f) g, e)
   token-apart known secrets r Es x y p q f g e = (some-same _ x y (answered-all _ _ x f) g, e)
@@ -86,8 +86,8 @@ module _ (role : Role) (psks : Bool) (first all : Answers) (among : AreAmong fir
   token-apart known secrets r Ss x y p q f g e = (some-same _ x y (answered-all _ _ x f) g, e)
 
   -- What leads one token further with all answers leads there with the first ones, where they lead to that token and it is a key.
-  abbrev LeadsBack : Remote → List (List ℕ) → History → List Token → List ℕ → Type 0
-  LeadsBack known secrets r ts m = (ys : List (List ℕ)) × (rest : List ℕ) × Leads few known secrets r ts ys m rest
+  abbrev BeginsBack : Remote → List (List ℕ) → History → List Token → List ℕ → Type 0
+  BeginsBack known secrets r ts m = (ys : List (List ℕ)) × (rest : List ℕ) × BeginsAs few known secrets r ts ys m rest
 
   module _ (t : Token) (is-key : IsKey t) where
     fits-back : (u : Token) → IsKey u → (known : Remote) (secrets : List (List ℕ)) (x : List ℕ) → Fits whole known secrets u x → Fits few known secrets u x
@@ -100,54 +100,54 @@ module _ (role : Role) (psks : Bool) (first all : Answers) (among : AreAmong fir
     fits-back Ss k known secrets x f = absurd k
 
     back-one : (known : Remote) (secrets : List (List ℕ)) (r : History) (ys : List (List ℕ)) (m rest : List ℕ)
-        → Leads whole known secrets r (t ∷ []) ys m rest → Leads few known secrets r (t ∷ []) ys m rest
+        → BeginsAs whole known secrets r (t ∷ []) ys m rest → BeginsAs few known secrets r (t ∷ []) ys m rest
     back-one known secrets r [] m rest l = absurd l.fit
     back-one known secrets r (y ∷ []) m rest l = record { fit = (fits-back t is-key known secrets y l.fit.0, tt); spelled = l.spelled }
     back-one known secrets r (y ∷ z ∷ zs) m rest l = absurd l.fit.1
 
     back-more : (known : Remote) (secrets : List (List ℕ)) (r : History) (before : List Token) (xs ys : List (List ℕ)) (m p q : List ℕ)
-        → Leads few known secrets r before xs m p → Leads whole known secrets r (before ++ t ∷ []) ys m q
-        → LeadsBack known secrets r (before ++ t ∷ []) m
+        → BeginsAs few known secrets r before xs m p → BeginsAs whole known secrets r (before ++ t ∷ []) ys m q
+        → BeginsBack known secrets r (before ++ t ∷ []) m
     back-more known secrets r [] xs ys m p q a b = (ys, q, back-one known secrets r ys m q b)
     back-more known secrets r (u ∷ before) [] ys m p q a b = absurd a.fit
     back-more known secrets r (u ∷ before) (x ∷ xs) [] m p q a b = absurd b.fit
     back-more known secrets r (u ∷ before) (x ∷ xs) (y ∷ ys) m p q a b =
-        let f : List ℕ = front psks (after_token psks r u x) before xs in
-        let g : List ℕ = front psks (after_token psks r u y) (before ++ t ∷ []) ys in
+        let f : List ℕ = before_payload psks (after_token psks r u x) before xs in
+        let g : List ℕ = before_payload psks (after_token psks r u y) (before ++ t ∷ []) ys in
         let h = token-apart known secrets r u x y (f ++ p) (g ++ q) a.fit.0 b.fit.0
-        (sym (append_assoc (token_piece r u x) f p) ∙ sym a.spelled ∙ b.spelled ∙ append_assoc (token_piece r u y) g q) in
+        (sym (append_assoc (token_bytes r u x) f p) ∙ sym a.spelled ∙ b.spelled ∙ append_assoc (token_bytes r u y) g q) in
         let e : x ≡ y = h.0 in
         let i = back-more (known_after known u x) (secrets_after secrets u) (after_token psks r u x) before xs ys (f ++ p) p q
         (record { fit = a.fit.1; spelled = refl })
         (record {
           fit = subst (λ (z : List ℕ). Fit whole (known_after known u z) (secrets_after secrets u) (before ++ t ∷ []) ys) (sym e) b.fit.1;
-          spelled = h.1 ∙ ap (λ (z : List ℕ). front psks (after_token psks r u z) (before ++ t ∷ []) ys ++ q) (sym e);
+          spelled = h.1 ∙ ap (λ (z : List ℕ). before_payload psks (after_token psks r u z) (before ++ t ∷ []) ys ++ q) (sym e);
         }) in (
           x ∷ i.0,
           i.1,
           record {
             fit = (a.fit.0, i.2.fit);
-            spelled = a.spelled ∙ append_assoc (token_piece r u x) f p ∙ ap (λ (k : List ℕ). token_piece r u x ++ k) i.2.spelled
-                ∙ sym (append_assoc (token_piece r u x) _ i.1);
+            spelled = a.spelled ∙ append_assoc (token_bytes r u x) f p ∙ ap (λ (k : List ℕ). token_bytes r u x ++ k) i.2.spelled
+                ∙ sym (append_assoc (token_bytes r u x) _ i.1);
           },
         )
 
   -- all the texts are determined, and what is left
   front-apart : (known : Remote) (secrets : List (List ℕ)) (r : History) (ts : List Token) (xs ys : List (List ℕ)) (p q : List ℕ)
-      → Fit few known secrets ts xs → Fit whole known secrets ts ys → front psks r ts xs ++ p ≡ front psks r ts ys ++ q → (xs ≡ ys) × (p ≡ q)
+      → Fit few known secrets ts xs → Fit whole known secrets ts ys → before_payload psks r ts xs ++ p ≡ before_payload psks r ts ys ++ q → (xs ≡ ys) × (p ≡ q)
   front-apart known secrets r [] [] [] p q f g e = (refl, e)
   front-apart known secrets r [] [] (y ∷ ys) p q f g e = absurd g
   front-apart known secrets r [] (x ∷ xs) ys p q f g e = absurd f
   front-apart known secrets r (t ∷ ts) [] ys p q f g e = absurd f
   front-apart known secrets r (t ∷ ts) (x ∷ xs) [] p q f g e = absurd g
   front-apart known secrets r (t ∷ ts) (x ∷ xs) (y ∷ ys) p q f g e =
-      let a : List ℕ = front psks (after_token psks r t x) ts xs in
-      let b : List ℕ = front psks (after_token psks r t y) ts ys in
+      let a : List ℕ = before_payload psks (after_token psks r t x) ts xs in
+      let b : List ℕ = before_payload psks (after_token psks r t y) ts ys in
       let h = token-apart known secrets r t x y (a ++ p) (b ++ q) f.0 g.0
-      (sym (append_assoc (token_piece r t x) a p) ∙ e ∙ append_assoc (token_piece r t y) b q) in
+      (sym (append_assoc (token_bytes r t x) a p) ∙ e ∙ append_assoc (token_bytes r t y) b q) in
       let g1 = subst (λ (z : List ℕ). Fit whole (known_after known t z) (secrets_after secrets t) ts ys) (sym h.0) g.1 in
-      let e1 : a ++ p ≡ front psks (after_token psks r t x) ts ys ++ q =
-      h.1 ∙ ap (λ (z : List ℕ). front psks (after_token psks r t z) ts ys ++ q) (sym h.0) in
+      let e1 : a ++ p ≡ before_payload psks (after_token psks r t x) ts ys ++ q =
+      h.1 ∙ ap (λ (z : List ℕ). before_payload psks (after_token psks r t z) ts ys ++ q) (sym h.0) in
       let i = front-apart (known_after known t x) (secrets_after secrets t) (after_token psks r t x) ts xs ys p q f.1 g1 e1 in
       (cons-same x y xs ys h.0 i.0, i.1)
 
@@ -159,9 +159,9 @@ module _ (role : Role) (psks : Bool) (first all : Answers) (among : AreAmong fir
 
   -- the payload that all answers read is one that the first ones read, where they lead to it
   reads-back : (known : Remote) (secrets : List (List ℕ)) (r : History) (ts : List Token) (m : List ℕ) (xs ys : List (List ℕ)) (rest payload : List ℕ)
-      → Leads few known secrets r ts xs m rest → Reads whole known secrets r ts m ys payload → Reads few known secrets r ts m ys payload
+      → BeginsAs few known secrets r ts xs m rest → Reads whole known secrets r ts m ys payload → Reads few known secrets r ts m ys payload
   reads-back known secrets r ts m xs ys rest payload a b =
-      let h = front-apart known secrets r ts xs ys rest (piece (after_front psks r ts ys) payload) a.fit b.fit (sym a.spelled ∙ b.spelled) in
+      let h = front-apart known secrets r ts xs ys rest (ciphertext (after_tokens psks r ts ys) payload) a.fit b.fit (sym a.spelled ∙ b.spelled) in
       record { fit = subst (λ (zs : List (List ℕ)). Fit few known secrets ts zs) h.0 a.fit; spelled = b.spelled }
 
   -- the token at which reading stops
@@ -185,15 +185,15 @@ module _ (role : Role) (psks : Bool) (first all : Answers) (among : AreAmong fir
     carried = s.carried;
     rest = s.rest;
     leads = leads-all known secrets r (take k ts) s.carried m s.rest s.leads;
-    further = λ (h : k < length ts) (reaches : Reaches whole known secrets r (take (suc k) ts) m).
-        let i = key-there (is_some (cipher_key (after_front psks r (take k ts) s.carried))) ts k s.rest cause h mendable s.why in
+    further = λ (h : k < length ts) (reaches : CanBegin whole known secrets r (take (suc k) ts) m).
+        let i = key-there (is_some (cipher_key (after_tokens psks r (take k ts) s.carried))) ts k s.rest cause h mendable s.why in
         let b = back-more i.0 i.1 known secrets r (take k ts) s.carried reaches.carried m s.rest reaches.rest s.leads
-        (subst (λ (us : List Token). Leads whole known secrets r us reaches.carried m reaches.rest) i.2 reaches.leads) in
-        s.further h (subst (λ (us : List Token). Reaches few known secrets r us m) (sym i.2) (record { carried = b.0; rest = b.1; leads = b.2 }));
+        (subst (λ (us : List Token). BeginsAs whole known secrets r us reaches.carried m reaches.rest) i.2 reaches.leads) in
+        s.further h (subst (λ (us : List Token). CanBegin few known secrets r us m) (sym i.2) (record { carried = b.0; rest = b.1; leads = b.2 }));
     unread = λ (e : k ≡ length ts) (ys : List (List ℕ)) (payload : List ℕ) (reads : Reads whole known secrets r ts m ys payload).
         let all-of : take k ts ≡ ts = take_all k ts (omega (arith, e)) in
         s.unread e ys payload (reads-back known secrets r ts m s.carried ys s.rest payload
-        (subst (λ (us : List Token). Leads few known secrets r us s.carried m s.rest) all-of s.leads) reads);
+        (subst (λ (us : List Token). BeginsAs few known secrets r us s.carried m s.rest) all-of s.leads) reads);
     why = s.why;
   }
 

@@ -11,8 +11,8 @@ use Rattle.noise_keys.specs.declared.keys.Own.{Own}
 use Rattle.noise_handshake.specs.declared.remote.Remote.{Remote}
 use Rattle.noise_handshake.specs.declared.faults.Cause.TheVariants.{Short, Tag, Agreement}
 use Rattle.noise_handshake.specs.Counterparts.{is_dh}
-use Rattle.noise_handshake.specs.Line.{token_piece, after_token, front, after_front}
-use Rattle.noise_handshake.specs.View.{View, Reader, reader, Fits, known_after, secrets_after, Leads, Reaches, Stops, answered, cause_of, cause_at, learned}
+use Rattle.noise_handshake.specs.Message.{token_bytes, after_token, before_payload, after_tokens}
+use Rattle.noise_handshake.specs.View.{View, Reader, reader, Fits, known_after, secrets_after, BeginsAs, CanBegin, Stops, answered, cause_of, cause_at, learned}
 use Rattle.noise_handshake.specs.View.{own_at, remote_at, first_secret, tokens_now}
 use Rattle.noise_handshake.specs.Wanting.{StopsFor, WantsToRead}
 use Rattle.noise_answers.proofs.Among.{fit-all}
@@ -64,7 +64,7 @@ abbrev pub secrets_left : List (List ℕ) → List Token → List (List ℕ)
 secrets_left secrets [] = secrets
 secrets_left secrets (t ∷ ts) = secrets_left (secrets_after secrets t) ts
 
-dh-nothing : (t : Token) → is_dh t ≡ true → (r : History) (x : List ℕ) → token_piece r t x ≡ []
+dh-nothing : (t : Token) → is_dh t ≡ true → (r : History) (x : List ℕ) → token_bytes r t x ≡ []
 dh-nothing E d r x = cc
 dh-nothing S d r x = cc
 dh-nothing Psk d r x = refl
@@ -85,8 +85,8 @@ dh-fits w known secrets Ss x d e = e
 
 -- a token that takes no bytes leads on from where those before it lead
 pub leads-on : (w : Reader) (known : Remote) (secrets : List (List ℕ)) (r : History) (before : List Token) (t : Token) (xs : List (List ℕ)) (x m rest : List ℕ)
-    → Leads w known secrets r before xs m rest → Fits w (learned known before xs) (secrets_left secrets before) t x
-    → ((h : History) → token_piece h t x ≡ []) → Leads w known secrets r (before ++ t ∷ []) (xs ++ x ∷ []) m rest
+    → BeginsAs w known secrets r before xs m rest → Fits w (learned known before xs) (secrets_left secrets before) t x
+    → ((h : History) → token_bytes h t x ≡ []) → BeginsAs w known secrets r (before ++ t ∷ []) (xs ++ x ∷ []) m rest
 leads-on w known secrets r [] t [] x m rest l f none = record {
   fit = (f, tt);
   spelled = l.spelled ∙ ap (λ (k : List ℕ). (k ++ []) ++ rest) (sym (none r));
@@ -95,38 +95,38 @@ leads-on w known secrets r [] t (y ∷ xs) x m rest l f none = absurd l.fit
 leads-on w known secrets r (u ∷ before) t [] x m rest l f none = absurd l.fit
 leads-on w known secrets r (u ∷ before) t (y ∷ xs) x m rest l f none =
     let next : History = after_token w.psks r u y in
-    let more : List ℕ = front w.psks next before xs ++ rest in
+    let more : List ℕ = before_payload w.psks next before xs ++ rest in
     let i = leads-on w (known_after known u y) (secrets_after secrets u) next before t xs x more rest (record { fit = l.fit.1; spelled = refl }) f none in
     record {
       fit = (l.fit.0, i.fit);
-      spelled = l.spelled ∙ append_assoc (token_piece r u y) (front w.psks next before xs) rest ∙ ap (λ (k : List ℕ). token_piece r u y ++ k) i.spelled
-          ∙ sym (append_assoc (token_piece r u y) _ rest);
+      spelled = l.spelled ∙ append_assoc (token_bytes r u y) (before_payload w.psks next before xs) rest ∙ ap (λ (k : List ℕ). token_bytes r u y ++ k) i.spelled
+          ∙ sym (append_assoc (token_bytes r u y) _ rest);
     }
 
 -- what leads somewhere leads to each token before
 leads-less : (w : Reader) (known : Remote) (secrets : List (List ℕ)) (r : History) (ts : List Token) (xs : List (List ℕ)) (m rest : List ℕ) (k : ℕ)
-    → Leads w known secrets r ts xs m rest → Reaches w known secrets r (take k ts) m
+    → BeginsAs w known secrets r ts xs m rest → CanBegin w known secrets r (take k ts) m
 leads-less w known secrets r ts xs m rest zero l = record { carried = []; rest = m; leads = record { fit = tt; spelled = refl } }
 leads-less w known secrets r [] xs m rest (suc k) l = record { carried = []; rest = m; leads = record { fit = tt; spelled = refl } }
 leads-less w known secrets r (t ∷ ts) [] m rest (suc k) l = absurd l.fit
 leads-less w known secrets r (t ∷ ts) (x ∷ xs) m rest (suc k) l =
     let next : History = after_token w.psks r t x in
-    let more : List ℕ = front w.psks next ts xs ++ rest in
+    let more : List ℕ = before_payload w.psks next ts xs ++ rest in
     let i = leads-less w (known_after known t x) (secrets_after secrets t) next ts xs more rest k (record { fit = l.fit.1; spelled = refl }) in
     record {
       carried = x ∷ i.carried;
       rest = i.rest;
       leads = record {
         fit = (l.fit.0, i.leads.fit);
-        spelled = l.spelled ∙ append_assoc (token_piece r t x) (front w.psks next ts xs) rest ∙ ap (λ (k : List ℕ). token_piece r t x ++ k) i.leads.spelled
-            ∙ sym (append_assoc (token_piece r t x) _ i.rest);
+        spelled = l.spelled ∙ append_assoc (token_bytes r t x) (before_payload w.psks next ts xs) rest ∙ ap (λ (k : List ℕ). token_bytes r t x ++ k) i.leads.spelled
+            ∙ sym (append_assoc (token_bytes r t x) _ i.rest);
       };
     }
 
 pub reaches-less : (w : Reader) (known : Remote) (secrets : List (List ℕ)) (r : History) (ts : List Token) (m : List ℕ) (i j : ℕ) → i ≤ j
-    → Reaches w known secrets r (take j ts) m → Reaches w known secrets r (take i ts) m
+    → CanBegin w known secrets r (take j ts) m → CanBegin w known secrets r (take i ts) m
 reaches-less w known secrets r ts m i j h a =
-    subst (λ (us : List Token). Reaches w known secrets r us m) (take-take i j ts h) (leads-less w known secrets r (take j ts) a.carried m a.rest i a.leads)
+    subst (λ (us : List Token). CanBegin w known secrets r us m) (take-take i j ts h) (leads-less w known secrets r (take j ts) a.carried m a.rest i a.leads)
 
 -- ---- the token that asks
 
@@ -137,14 +137,14 @@ record Past (first next : Reader) (known : Remote) (secrets : List (List ℕ)) (
   later : List Token
   tokens : ts ≡ before ++ token ∷ later
   dh : is_dh token ≡ true
-  reached : Reaches next known secrets r (take (suc (length before)) ts) m
-  beyond : (j : ℕ) → Reaches first known secrets r (take j ts) m → j ≤ length before
+  reached : CanBegin next known secrets r (take (suc (length before)) ts) m
+  beyond : (j : ℕ) → CanBegin first known secrets r (take j ts) m → j ≤ length before
 
 dh-there : (w : Reader) (known : Remote) (secrets : List (List ℕ)) (r : History) (before later : List Token) (t : Token) (m : List ℕ)
     → (s : Stops w known secrets r (before ++ t ∷ later) m (length before) Agreement) → is_dh t ≡ true
 dh-there w known secrets r before later t m s = by t refl where
   keyed : Bool
-  keyed = is_some (cipher_key (after_front w.psks r (take (length before) (before ++ t ∷ later)) s.carried))
+  keyed = is_some (cipher_key (after_tokens w.psks r (take (length before) (before ++ t ∷ later)) s.carried))
 
   why : Agreement ≡ cause_of keyed t s.rest
   why = s.why ∙ cause-there keyed before later t s.rest
@@ -155,8 +155,8 @@ dh-there w known secrets r before later t m s = by t refl where
     more [] = omega arith
     more (u ∷ us) = omega (arith, more us)
 
-  here : Leads w known secrets r before s.carried m s.rest
-  here = subst (λ (us : List Token). Leads w known secrets r us s.carried m s.rest) (take-append_seam before (t ∷ later)) s.leads
+  here : BeginsAs w known secrets r before s.carried m s.rest
+  here = subst (λ (us : List Token). BeginsAs w known secrets r us s.carried m s.rest) (take-append_seam before (t ∷ later)) s.leads
 
   by : (u : Token) → t ≡ u → is_dh t ≡ true
   by E e = absurd (no-e (why ∙ ap (λ (u : Token). cause_of keyed u s.rest) e)) where
@@ -167,7 +167,7 @@ dh-there w known secrets r before later t m s = by t refl where
       let x : List ℕ = first_secret (secrets_left secrets before) in
       let l = leads-on w known secrets r before Psk s.carried x m s.rest here refl (λ (h : History). refl) in
       absurd (s.further within
-      (subst (λ (us : List Token). Reaches w known secrets r us m)
+      (subst (λ (us : List Token). CanBegin w known secrets r us m)
       (ap (λ (u : Token). before ++ u ∷ []) (sym e) ∙ sym (take-through before later t)) (record { carried = _; rest = s.rest; leads = l })))
   by Ee e = ap is_dh e
   by Es e = ap is_dh e
@@ -182,10 +182,10 @@ past w next known secrets r ts m own key x s handed = record {
   later = s.later;
   tokens = s.tokens;
   dh = d;
-  reached = subst (λ (us : List Token). Reaches (record w { agree = next }) known secrets r us m)
+  reached = subst (λ (us : List Token). CanBegin (record w { agree = next }) known secrets r us m)
       (sym (take-through s.before s.later s.token) ∙ ap (take (suc (length s.before))) (sym s.tokens))
       (record { carried = s.stops.carried ++ x ∷ []; rest = s.stops.rest; leads = on });
-  beyond = λ (j : ℕ) (reaches : Reaches w known secrets r (take j ts) m). at-most j (length s.before) (λ (h : length s.before < j).
+  beyond = λ (j : ℕ) (reaches : CanBegin w known secrets r (take j ts) m). at-most j (length s.before) (λ (h : length s.before < j).
       s.stops.further inside (reaches-less w known secrets r ts m (suc (length s.before)) j (omega (arith, h)) reaches));
 } where
   stops : Stops w known secrets r (s.before ++ s.token ∷ s.later) m (length s.before) Agreement
@@ -200,17 +200,17 @@ past w next known secrets r ts m own key x s handed = record {
     more [] = omega arith
     more (u ∷ us) = omega (arith, more us)
 
-  here : Leads w known secrets r s.before s.stops.carried m s.stops.rest
-  here = subst (λ (us : List Token). Leads w known secrets r us s.stops.carried m s.stops.rest)
+  here : BeginsAs w known secrets r s.before s.stops.carried m s.stops.rest
+  here = subst (λ (us : List Token). BeginsAs w known secrets r us s.stops.carried m s.stops.rest)
       (ap (take (length s.before)) s.tokens ∙ take-append_seam s.before (s.token ∷ s.later)) s.stops.leads
 
   answer : answered next (own_at w.role s.token) (remote_at w.role (learned known s.before s.stops.carried) s.token) ≡ Some x
   answer = ap (answered next (own_at w.role s.token)) s.key_is ∙ ap (λ (o : Own). next o key) (sym s.own_is) ∙ handed.there
 
-  on : Leads (record w { agree = next }) known secrets r (s.before ++ s.token ∷ []) (s.stops.carried ++ x ∷ []) m s.stops.rest
+  on : BeginsAs (record w { agree = next }) known secrets r (s.before ++ s.token ∷ []) (s.stops.carried ++ x ∷ []) m s.stops.rest
   on =
       let w2 : Reader = record w { agree = next } in
-      let l : Leads w2 known secrets r s.before s.stops.carried m s.stops.rest =
+      let l : BeginsAs w2 known secrets r s.before s.stops.carried m s.stops.rest =
       record { fit = fit-all w.role w.psks w.agree next handed.kept known secrets s.before s.stops.carried here.fit; spelled = here.spelled } in
       leads-on w2 known secrets r s.before s.token s.stops.carried x m s.stops.rest l
       (dh-fits w2 (learned known s.before s.stops.carried) (secrets_left secrets s.before) s.token x d answer)
@@ -230,8 +230,8 @@ wants-none w known secrets r ts m own key s = by (w.agree own key) refl where
   more [] = omega arith
   more (u ∷ us) = omega (arith, more us)
 
-  here : Leads w known secrets r s.before s.stops.carried m s.stops.rest
-  here = subst (λ (us : List Token). Leads w known secrets r us s.stops.carried m s.stops.rest)
+  here : BeginsAs w known secrets r s.before s.stops.carried m s.stops.rest
+  here = subst (λ (us : List Token). BeginsAs w known secrets r us s.stops.carried m s.stops.rest)
       (ap (take (length s.before)) s.tokens ∙ take-append_seam s.before (s.token ∷ s.later)) s.stops.leads
 
   by : (o : Option (List ℕ)) → w.agree own key ≡ o → w.agree own key ≡ None
@@ -243,7 +243,7 @@ wants-none w known secrets r ts m own key s = by (w.agree own key) refl where
       (dh-fits w (learned known s.before s.stops.carried) (secrets_left secrets s.before) s.token y d answer)
       (λ (h : History). dh-nothing s.token d h y) in
       absurd (s.stops.further (subst (λ (us : List Token). length s.before < length us) (sym s.tokens) (more s.before))
-      (subst (λ (us : List Token). Reaches w known secrets r us m)
+      (subst (λ (us : List Token). CanBegin w known secrets r us m)
       (sym (take-through s.before s.later s.token) ∙ ap (take (suc (length s.before))) (sym s.tokens))
       (record { carried = _; rest = s.stops.rest; leads = l })))
 
@@ -261,7 +261,7 @@ among-next first next all own key x among is handed o k y e =
     ]
 
 pub asked-few : (v : View) (all : Answers) (m : List ℕ) (first last : Answers) (n j : ℕ) → AskedToRead v all m first n last → AreAmong first all
-    → Reaches (reader (with_answers v first)) v.remote v.secrets v.history (take j (tokens_now v)) m
+    → CanBegin (reader (with_answers v first)) v.remote v.secrets v.history (take j (tokens_now v)) m
     → (n ≤ count_by is_dh (drop j (tokens_now v))) × AreAmong last all
 asked-few v all m first last n j (ready _) among reached = (omega arith, among)
 asked-few v all m first last _ j (asked _ next _ own key x n wants is handed more) among reached =

@@ -9,8 +9,8 @@ use Rattle.noise_keys.specs.declared.keys.Own.{Own}
 use Rattle.noise_handshake.specs.declared.remote.Remote.{Remote}
 use Rattle.noise_handshake.specs.Counterparts.{is_dh}
 use Rattle.noise_handshake.specs.View.{View, answered, own_at, remote_at, first_secret, secrets_after, tokens_now}
-use Rattle.noise_handshake.specs.Wanting.{LacksFor, WantsToWrite}
-use Rattle.noise_handshake.specs.Writing.{Writer, writer, Gives, Given, LacksAt}
+use Rattle.noise_handshake.specs.Wanting.{LacksAnswerFor, WantsToWrite}
+use Rattle.noise_handshake.specs.Writing.{Writer, writer, Gives, Given, LacksAnswerAt}
 use Rattle.noise_answers.specs.Answers.{Answers, AreAmong, AskedToWrite, HasKeys, IsHandedIn, Shows, with_answers}
 use Rattle.noise_answers.specs.Answers.AskedToWrite.{ready, asked}
 use Rattle.noise_answers.proofs.Among.{given-all}
@@ -52,7 +52,7 @@ dh-gives w known secrets Se x d e = e
 dh-gives w known secrets Ss x d e = e
 
 dh-there : (w : Writer) (known : Remote) (secrets : List (List ℕ)) (before later : List Token) (t : Token) → Shows w.own t
-    → LacksAt w known secrets (before ++ t ∷ later) (length before) → is_dh t ≡ true
+    → LacksAnswerAt w known secrets (before ++ t ∷ later) (length before) → is_dh t ≡ true
 dh-there w known secrets before later t shows s = by t shows refl where
   given : Given w known secrets before s.before
   given = subst (λ (us : List Token). Given w known secrets us s.before) (take-append_seam before (t ∷ later)) s.given
@@ -87,7 +87,7 @@ record Past (first next : Writer) (known : Remote) (secrets : List (List ℕ)) (
 
 past : (w : Writer) (next : Answers) (known : Remote) (secrets : List (List ℕ)) (ts : List Token) (own : Own) (key x : List ℕ)
     → ((before later : List Token) (t : Token) → ts ≡ before ++ t ∷ later → Shows w.own t)
-    → LacksFor w known secrets ts own key → IsHandedIn w.agree next own key x → Past w (record w { agree = next }) known secrets ts
+    → LacksAnswerFor w known secrets ts own key → IsHandedIn w.agree next own key x → Past w (record w { agree = next }) known secrets ts
 past w next known secrets ts own key x keys s handed = record {
   before = s.before;
   token = s.token;
@@ -101,7 +101,7 @@ past w next known secrets ts own key x keys s handed = record {
 } where
   d : is_dh s.token ≡ true
   d = dh-there w known secrets s.before s.later s.token (keys s.before s.later s.token s.tokens)
-      (subst (λ (us : List Token). LacksAt w known secrets us (length s.before)) s.tokens s.lacks)
+      (subst (λ (us : List Token). LacksAnswerAt w known secrets us (length s.before)) s.tokens s.lacks)
 
   here : Given w known secrets s.before s.lacks.before
   here = subst (λ (us : List Token). Given w known secrets us s.lacks.before)
@@ -120,12 +120,12 @@ past w next known secrets ts own key x keys s handed = record {
 -- an answer that is asked for isn't there
 pub write-lacks : (v : View) (own : Own) (key : List ℕ) → HasKeys v → WantsToWrite v own key → v.agree own key ≡ None
 write-lacks v own key keys wants = by (v.agree own key) refl where
-  s : LacksFor (writer v) v.remote v.secrets (tokens_now v) own key
+  s : LacksAnswerFor (writer v) v.remote v.secrets (tokens_now v) own key
   s = wants.lacks
 
   d : is_dh s.token ≡ true
   d = dh-there (writer v) v.remote v.secrets s.before s.later s.token (keys s.before s.later s.token s.tokens)
-      (subst (λ (us : List Token). LacksAt (writer v) v.remote v.secrets us (length s.before)) s.tokens s.lacks)
+      (subst (λ (us : List Token). LacksAnswerAt (writer v) v.remote v.secrets us (length s.before)) s.tokens s.lacks)
 
   here : Given (writer v) v.remote v.secrets s.before s.lacks.before
   here = subst (λ (us : List Token). Given (writer v) v.remote v.secrets us s.lacks.before)

@@ -12,7 +12,7 @@ use Rattle.noise_handshake.specs.Held.{Held, ended_as}
 use Rattle.noise_handshake.specs.Late.{with_later, after_late_unread, IsLateWhole}
 use Rattle.noise_keys.specs.Table.{Table}
 use Rattle.noise_handshake.specs.View.{View, Accepts}
-use Rattle.noise_handshake.specs.Party.{Stands, after_message, after_own, after_declined, Declines}
+use Rattle.noise_handshake.specs.Party.{Stands, after_message, after_own, after_not_read, DoesNotRead}
 use Rattle.noise_handshake.specs.Writing.{Writes}
 use Rattle.noise_c.specs.declared.kept.NoiseHandshake.{NoiseHandshake}
 use Rattle.noise_c.specs.Kept.{public_in, agreement_in, text_in, held_in, IsPatternOf, IsUsable, KeepsView, WasRead, WasWritten, WasDeclined}
@@ -41,9 +41,9 @@ module _ (old new : NoiseHandshake) (h h2 : Held Table) (p : Plan) (v : View) (o
       subst (λ (z : ℕ). WasRead p v message (slice_range new_message start z) new) n
       (record { carried = xs; accepts = a; keeps = keeps (after_message v xs (slice_range new_message start end)) s })
 
-  pub was-declined : (message : List ℕ) (fault : ReadFault) (code token : ℕ) → code ≡ read_code fault → token ≡ token_in fault → Declines v message fault → Stands public_in agreement_in (with_later h2 k.later) (after_declined v fault)
+  pub was-declined : (message : List ℕ) (fault : ReadFault) (code token : ℕ) → code ≡ read_code fault → token ≡ token_in fault → DoesNotRead v message fault → Stands public_in agreement_in (with_later h2 k.later) (after_not_read v fault)
       → WasDeclined p v message code token new
-  was-declined message fault code token e t d s = record { fault = fault; code_is = e; token_is = t; declines = d; keeps = keeps (after_declined v fault) s }
+  was-declined message fault code token e t d s = record { fault = fault; code_is = e; token_is = t; declines = d; keeps = keeps (after_not_read v fault) s }
 
   pub was-written : (payload message : List ℕ) (xs : List (List ℕ)) → Writes v payload xs message → Stands public_in agreement_in (with_later h2 k.later) (after_own v xs payload) → WasWritten p v payload message new
   was-written payload message xs w s = record { carried = xs; writes = w; keeps = keeps (after_own v xs payload) s }

@@ -25,7 +25,7 @@ use Rattle.noise_handshake.specs.Late.{with_later, late_fault, IsLateWhole}
 use Rattle.noise_handshake.specs.Setup.{begun}
 use Rattle.noise_handshake.specs.View.{View, Accepts}
 use Rattle.noise_handshake.specs.Writing.{Writes}
-use Rattle.noise_handshake.specs.Party.{Stands, after_message, after_own, Declines, after_declined, Withholds}
+use Rattle.noise_handshake.specs.Party.{Stands, after_message, after_own, DoesNotRead, after_not_read, DoesNotWrite}
 use Rattle.noise_c.specs.declared.kept.NoiseKey.{NoiseKey}
 use Rattle.noise_c.specs.declared.kept.NoiseAnswer.{NoiseAnswer}
 use Rattle.noise_c.specs.declared.kept.NoiseHandshake.{NoiseHandshake}
@@ -143,14 +143,14 @@ pub record WasDeclined (p : Plan) (v : View) (message : List ℕ) (code token : 
   pub fault : ReadFault
   pub code_is : code ≡ read_code fault
   pub token_is : token ≡ token_in fault
-  pub declines : Declines v message fault
-  pub keeps : KeepsView k p (after_declined v fault)
+  pub declines : DoesNotRead v message fault
+  pub keeps : KeepsView k p (after_not_read v fault)
 
 -- A payload of this length was withheld for a fault of this number.
 pub record WasWithheld (v : View) (payload code : ℕ) : Type 0 where
   pub fault : WriteFault
   pub code_is : code ≡ write_code fault
-  pub withholds : Withholds v payload fault
+  pub withholds : DoesNotWrite v payload fault
 
 -- The payload was written as this message, and what is kept stands for the view after it.
 pub record WasWritten (p : Plan) (v : View) (payload message : List ℕ) (k : NoiseHandshake) : Type 0 where

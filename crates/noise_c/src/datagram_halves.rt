@@ -4,7 +4,7 @@
 ghost use Rattle.std.specs.Prelude.{◌≡◌, ◌≢◌, ◌↔◌, ◌<◌, ◌+◌, ◌⊎◌, length, take, drop, slice_range, Ok, Err, true, false};
 ghost use Rattle.noise_session.specs.declared.datagram_fault.DatagramFault.{DatagramFault};
 ghost use Rattle.noise_session.specs.Datagrams.{DatagramView, Opens, datagram, accepting, nonce_named};
-ghost use Rattle.noise_session.specs.DatagramHalves.{SenderPictures, ReceiverPictures};
+ghost use Rattle.noise_session.specs.DatagramHalves.{DatagramSenderStands, DatagramReceiverStands};
 ghost use Rattle.noise_c.specs.TransportCodes.{datagram_code};
 ghost use Rattle.noise_c.specs.KeptDatagramHalves.{is_datagram_sender, datagram_sender_kept_in, datagram_sender_seal_code};
 ghost use Rattle.noise_c.specs.KeptDatagramHalves.{is_datagram_receiver, datagram_receiver_kept_in};
@@ -35,9 +35,9 @@ pub extern "C" fn noise_datagram_sender_seal(
 ) -> u32
     ensures code { result ≡ datagram_sender_seal_code kept.old (length payload.now) (length out.old) }
     ensures place { result ≡ OK → told.new ≡ record told.old { from = 0; len = length payload.now + 24 } }
-    ensures seals { result ≡ OK → (v : DatagramView) → SenderPictures (datagram_sender_kept_in kept.old) v
+    ensures seals { result ≡ OK → (v : DatagramView) → DatagramSenderStands (datagram_sender_kept_in kept.old) v
         → (take (length payload.now + 24) out.new ≡ datagram v.history v.role v.sent payload.now)
-        × SenderPictures (datagram_sender_kept_in kept.new) (record v { sent = v.sent + 1 }) }
+        × DatagramSenderStands (datagram_sender_kept_in kept.new) (record v { sent = v.sent + 1 }) }
     ensures rest { drop (length payload.now + 24) out.new ≡ drop (length payload.now + 24) out.old }
     ensures counted { result ≡ OK → datagram_sender_kept_in kept.new ≡ record (datagram_sender_kept_in kept.old) { nonce = kept.old.nonce + 1 } }
     ensures known { result ≡ OK → is_datagram_sender kept.new ≡ true }
@@ -70,11 +70,11 @@ pub extern "C" fn noise_datagram_receiver_open(
 ) -> u32
     ensures unusable { result ≡ STRUCT ↔ is_datagram_receiver kept.old ≡ false }
     ensures place { result ≡ OK → (told.new ≡ record told.old { from = 8; len = told.new.len }) × (told.new.len + 24 ≡ length datagram.new) }
-    ensures opens { result ≡ OK → (v : DatagramView) → ReceiverPictures (datagram_receiver_kept_in kept.old) v
+    ensures opens { result ≡ OK → (v : DatagramView) → DatagramReceiverStands (datagram_receiver_kept_in kept.old) v
         → Opens v datagram.old (Ok (slice_range datagram.new told.new.from (told.new.from + told.new.len))) (accepting v (nonce_named datagram.old))
-        × ReceiverPictures (datagram_receiver_kept_in kept.new) (accepting v (nonce_named datagram.old)) }
+        × DatagramReceiverStands (datagram_receiver_kept_in kept.new) (accepting v (nonce_named datagram.old)) }
     ensures declined { OK < result → result ≢ STRUCT → (fault : DatagramFault) × (result ≡ datagram_code fault)
-        × ((v : DatagramView) → ReceiverPictures (datagram_receiver_kept_in kept.old) v → Opens v datagram.old (Err fault) v) }
+        × ((v : DatagramView) → DatagramReceiverStands (datagram_receiver_kept_in kept.old) v → Opens v datagram.old (Err fault) v) }
     ensures beyond { result ≡ OK → (take 8 datagram.new ≡ take 8 datagram.old)
         × (drop (8 + told.new.len) datagram.new ≡ drop (8 + told.new.len) datagram.old) }
     ensures same { result ≡ OK → datagram_receiver_kept_in kept.new

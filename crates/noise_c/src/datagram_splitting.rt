@@ -2,8 +2,8 @@
 #![tactic(auto)]
 
 ghost use Rattle.std.specs.Prelude.{◌≡◌, ◌↔◌, ◌<◌, ◌⊎◌, true, false};
-ghost use Rattle.noise_session.specs.Datagrams.{DatagramView, Pictures};
-ghost use Rattle.noise_session.specs.DatagramHalves.{SenderPictures, ReceiverPictures, datagram_sending_half, datagram_receiving_half};
+ghost use Rattle.noise_session.specs.Datagrams.{DatagramView, DatagramsStand};
+ghost use Rattle.noise_session.specs.DatagramHalves.{DatagramSenderStands, DatagramReceiverStands, datagram_sending_half, datagram_receiving_half};
 ghost use Rattle.noise_c.specs.KeptDatagrams.{is_datagrams, datagrams_kept_in, no_datagrams};
 ghost use Rattle.noise_c.specs.KeptDatagramHalves.{is_datagram_sender, datagram_sender_kept_in, is_datagram_receiver, datagram_receiver_kept_in};
 ghost use Rattle.noise_c.specs.declared.codes.TheConstants.{OK, STRUCT};
@@ -37,8 +37,8 @@ pub extern "C" fn noise_datagrams_split(
     ensures unusable { result ≡ STRUCT ↔ is_datagrams kept.old ≡ false }
     ensures sender { result ≡ OK → datagram_sender_kept_in sender.new ≡ datagram_sending_half (datagrams_kept_in kept.old) }
     ensures receiver { result ≡ OK → datagram_receiver_kept_in receiver.new ≡ datagram_receiving_half (datagrams_kept_in kept.old) }
-    ensures stands { result ≡ OK → (v : DatagramView) → Pictures (datagrams_kept_in kept.old) v
-        → SenderPictures (datagram_sender_kept_in sender.new) v × ReceiverPictures (datagram_receiver_kept_in receiver.new) v }
+    ensures stands { result ≡ OK → (v : DatagramView) → DatagramsStand (datagrams_kept_in kept.old) v
+        → DatagramSenderStands (datagram_sender_kept_in sender.new) v × DatagramReceiverStands (datagram_receiver_kept_in receiver.new) v }
     ensures known { result ≡ OK → (is_datagram_sender sender.new ≡ true) × (is_datagram_receiver receiver.new ≡ true) }
     ensures gone { result ≡ OK → kept.new ≡ no_datagrams }
     ensures unchanged { OK < result → (kept.new ≡ kept.old) × (sender.new ≡ sender.old) × (receiver.new ≡ receiver.old) }

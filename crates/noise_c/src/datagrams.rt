@@ -5,7 +5,7 @@ ghost use Rattle.std.specs.Prelude.{◌≡◌, ◌≢◌, ◌↔◌, ◌<◌, �
 ghost use Rattle.noise_names.specs.Plan.{Plan};
 ghost use Rattle.noise_handshake.specs.View.{View};
 ghost use Rattle.noise_session.specs.declared.datagram_fault.DatagramFault.{DatagramFault};
-ghost use Rattle.noise_session.specs.Datagrams.{DatagramView, Pictures, Opens, datagram, datagrams_of, accepting, nonce_named};
+ghost use Rattle.noise_session.specs.Datagrams.{DatagramView, DatagramsStand, Opens, datagram, datagrams_of, accepting, nonce_named};
 ghost use Rattle.noise_state.specs.History.{hash};
 ghost use Rattle.noise_c.specs.Kept.{key_in, held_in, IsUsable, KeepsView};
 ghost use Rattle.noise_c.specs.TransportCodes.{datagram_code};
@@ -52,7 +52,7 @@ pub extern "C" fn noise_finish_datagrams(
     ensures unusable { result ≡ STRUCT ↔ (is_window window ≡ true) × (IsUsable kept.now → ⊥) }
     ensures code { is_window window ≡ true → (u : IsUsable kept.now) → result ≡ finish_code (held_in u.pattern kept.now) }
     ensures stands { result ≡ OK → (p : Plan) (v : View) → KeepsView kept.now p v
-        → Pictures (datagrams_kept_in datagrams.new) (datagrams_of v (window_in window)) }
+        → DatagramsStand (datagrams_kept_in datagrams.new) (datagrams_of v (window_in window)) }
     ensures tells { result ≡ OK → (p : Plan) (v : View) → KeepsView kept.now p v
         → (datagrams.new.hash ≡ hash v.history) × (key_in datagrams.new.remote_static ≡ v.remote.s) }
     ensures known { result ≡ OK → is_datagrams datagrams.new ≡ true }
@@ -89,9 +89,9 @@ pub extern "C" fn noise_datagrams_seal(
 ) -> u32
     ensures code { result ≡ datagrams_seal_code kept.old (length payload.now) (length out.old) }
     ensures place { result ≡ OK → told.new ≡ record told.old { from = 0; len = length payload.now + 24 } }
-    ensures seals { result ≡ OK → (v : DatagramView) → Pictures (datagrams_kept_in kept.old) v
+    ensures seals { result ≡ OK → (v : DatagramView) → DatagramsStand (datagrams_kept_in kept.old) v
         → (take (length payload.now + 24) out.new ≡ datagram v.history v.role v.sent payload.now)
-        × Pictures (datagrams_kept_in kept.new) (record v { sent = v.sent + 1 }) }
+        × DatagramsStand (datagrams_kept_in kept.new) (record v { sent = v.sent + 1 }) }
     ensures rest { drop (length payload.now + 24) out.new ≡ drop (length payload.now + 24) out.old }
     ensures counted { result ≡ OK → datagrams_kept_in kept.new ≡ record (datagrams_kept_in kept.old) { send_nonce = kept.old.send_nonce + 1 } }
     ensures tells { result ≡ OK → (kept.new.hash ≡ kept.old.hash) × (kept.new.remote_static ≡ kept.old.remote_static) }
@@ -131,9 +131,9 @@ pub extern "C" fn noise_datagrams_seal_in_place(
 ) -> u32
     ensures code { result ≡ datagrams_seal_code kept.old payload_len (length buffer.old) }
     ensures place { result ≡ OK → told.new ≡ record told.old { from = 0; len = payload_len + 24 } }
-    ensures seals { result ≡ OK → (v : DatagramView) → Pictures (datagrams_kept_in kept.old) v
+    ensures seals { result ≡ OK → (v : DatagramView) → DatagramsStand (datagrams_kept_in kept.old) v
         → (take (payload_len + 24) buffer.new ≡ datagram v.history v.role v.sent (take payload_len (drop 8 buffer.old)))
-        × Pictures (datagrams_kept_in kept.new) (record v { sent = v.sent + 1 }) }
+        × DatagramsStand (datagrams_kept_in kept.new) (record v { sent = v.sent + 1 }) }
     ensures rest { drop (payload_len + 24) buffer.new ≡ drop (payload_len + 24) buffer.old }
     ensures counted { result ≡ OK → datagrams_kept_in kept.new ≡ record (datagrams_kept_in kept.old) { send_nonce = kept.old.send_nonce + 1 } }
     ensures tells { result ≡ OK → (kept.new.hash ≡ kept.old.hash) × (kept.new.remote_static ≡ kept.old.remote_static) }
@@ -173,11 +173,11 @@ pub extern "C" fn noise_datagrams_open(
 ) -> u32
     ensures unusable { result ≡ STRUCT ↔ is_datagrams kept.old ≡ false }
     ensures place { result ≡ OK → (told.new ≡ record told.old { from = 8; len = told.new.len }) × (told.new.len + 24 ≡ length datagram.new) }
-    ensures opens { result ≡ OK → (v : DatagramView) → Pictures (datagrams_kept_in kept.old) v
+    ensures opens { result ≡ OK → (v : DatagramView) → DatagramsStand (datagrams_kept_in kept.old) v
         → Opens v datagram.old (Ok (slice_range datagram.new told.new.from (told.new.from + told.new.len))) (accepting v (nonce_named datagram.old))
-        × Pictures (datagrams_kept_in kept.new) (accepting v (nonce_named datagram.old)) }
+        × DatagramsStand (datagrams_kept_in kept.new) (accepting v (nonce_named datagram.old)) }
     ensures declined { OK < result → result ≢ STRUCT → (fault : DatagramFault) × (result ≡ datagram_code fault)
-        × ((v : DatagramView) → Pictures (datagrams_kept_in kept.old) v → Opens v datagram.old (Err fault) v) }
+        × ((v : DatagramView) → DatagramsStand (datagrams_kept_in kept.old) v → Opens v datagram.old (Err fault) v) }
     ensures beyond { result ≡ OK → (take 8 datagram.new ≡ take 8 datagram.old)
         × (drop (8 + told.new.len) datagram.new ≡ drop (8 + told.new.len) datagram.old) }
     ensures same { result ≡ OK → datagrams_kept_in kept.new ≡ record (datagrams_kept_in kept.old) { recent = (datagrams_kept_in kept.new).recent } }

@@ -11,7 +11,7 @@ use Rattle.noise_handshake.specs.declared.faults.Cause.TheVariants.{Short, Tag}
 use Rattle.noise_handshake.specs.declared.faults.ReadFault.{ReadFault}
 use Rattle.noise_handshake.specs.declared.faults.ReadFault.TheVariants as read
 use Rattle.noise_handshake.specs.View.{View, Listens, Accepts, Refuses}
-use Rattle.noise_handshake.specs.Party.{Declines}
+use Rattle.noise_handshake.specs.Party.{DoesNotRead}
 use Rattle.noise_session.specs.Transport.{packet}
 use Rattle.noise_session.specs.Steps.{Told}
 use Rattle.noise_session.specs.Steps.Told.{Dropped, Exhausted}
@@ -126,7 +126,7 @@ pub record IsRefused (v : View) (message : List ℕ) (fault : ReadFault) : Type 
   pub is : fault ≡ read.Refused token cause
   pub refuses : Refuses v message token cause
 
-declined : (v : View) (message : List ℕ) (fault : ReadFault) → Listens v → Declines v message fault → IsRefused v message fault
+declined : (v : View) (message : List ℕ) (fault : ReadFault) → Listens v → DoesNotRead v message fault → IsRefused v message fault
 declined v message read.NotYourTurn l d = absurd (other-apart v.role (turn_from Initiator v.passed) l.turn d.turn)
 declined v message read.Done l d = absurd (omega (arith, l.more, d.1))
 declined v message read.Ended l d = absurd (let going = l.going in cc)
@@ -151,7 +151,7 @@ module _ (one : (v : View) (message : List ℕ) (xs ys : List (List ℕ)) (p q :
       → answer ≡ Err (read.Refused token cause) → Refuses v message token cause
   is-refused v message token cause (Ok p) a e = absurd (cc)
   is-refused v message token cause (Err f) a e =
-      subst (λ (g : ReadFault). Declines v message g) (err-same f (read.Refused token cause) (Err f) refl e) a
+      subst (λ (g : ReadFault). DoesNotRead v message g) (err-same f (read.Refused token cause) (Err f) refl e) a
 
   refused-is : (v : View) (message : List ℕ) (token : ℕ) (cause : Cause) (answer : Result (List ℕ) ReadFault) → Listens v → Answers v message answer
       → Refuses v message token cause → answer ≡ Err (read.Refused token cause)

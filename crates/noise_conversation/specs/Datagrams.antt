@@ -11,7 +11,7 @@ use Rattle.noise_duel.specs.Clash.{clash_position}
 use Rattle.noise_duel.specs.Collision.{Collision}
 use Rattle.noise_duel.specs.DatagramAgreement.{HaveOneBeginning}
 use Rattle.noise_duel.specs.DatagramNotes.{DatagramNote, Sealed, Payload}
-use Rattle.noise_duel.specs.DatagramReports.{HeldDatagramDuel, DuelPictures, DatagramReports, datagram_notes_of}
+use Rattle.noise_duel.specs.DatagramReports.{HeldDatagramDuel, DatagramDuelStands, DatagramReports, datagram_notes_of}
 use Rattle.noise_duel.specs.declared.datagram_report.DatagramReport.{DatagramReport}
 use Rattle.noise_duel.specs.DatagramRuns.{DatagramRun}
 use Rattle.noise_duel.specs.DatagramSides.{DatagramSide, DatagramSides, NonceMessage, meeting, of_nonce, whole}
@@ -84,7 +84,7 @@ pub record DatagramKeysMeet (duel : HeldDatagramDuel) : Type 0 where
 
 abbrev pub DatagramKeysCome : Type 0
 DatagramKeysCome = (v w : DatagramView) (events : List DatagramEvent) (notes : List (Role × DatagramNote)) (last : DatagramSides) (duel : HeldDatagramDuel)
-    → HaveOneBeginning v w → DatagramRun (meeting v w) events notes last → DuelPictures duel last → DatagramKeysMeet duel
+    → HaveOneBeginning v w → DatagramRun (meeting v w) events notes last → DatagramDuelStands duel last → DatagramKeysMeet duel
 
 -- The report tells what the run of the events makes of these two parties, and what its entries tell is what each sealed and opened; they agree in both
 -- directions, and so do the keys of the parties left.

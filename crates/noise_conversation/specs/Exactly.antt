@@ -5,7 +5,7 @@ use Rattle.noise_handshake.specs.declared.faults.Cause.TheVariants.{Short, Tag}
 use Rattle.noise_handshake.specs.declared.faults.ReadFault.{ReadFault}
 use Rattle.noise_handshake.specs.declared.faults.ReadFault.TheVariants as read
 use Rattle.noise_handshake.specs.View.{View, Listens, Accepts, Refuses}
-use Rattle.noise_handshake.specs.Party.{Declines}
+use Rattle.noise_handshake.specs.Party.{DoesNotRead}
 use Rattle.noise_session.specs.Transport.{last_nonce}
 use Rattle.noise_session.specs.Steps.{Told}
 use Rattle.noise_session.specs.Steps.Told.{Payload, Dropped, Refused, Exhausted}
@@ -38,7 +38,7 @@ ToldExactly = (v next : EndView) (message : List ℕ) (told : Told) → Judges v
 
 -- What reading answers: a payload that the party accepts, or why it doesn't accept the message.
 abbrev pub Answers : View → List ℕ → Result (List ℕ) ReadFault → Type 0
-Answers v message answer = MatchResult answer (λ payload. (xs : List (List ℕ)) × Accepts v message xs payload) (λ fault. Declines v message fault)
+Answers v message answer = MatchResult answer (λ payload. (xs : List (List ℕ)) × Accepts v message xs payload) (λ fault. DoesNotRead v message fault)
 
 -- The answer of a party to which a message is due.
 pub record IsReadExactly (v : View) (message : List ℕ) (answer : Result (List ℕ) ReadFault) : Type 0 where

@@ -3,7 +3,7 @@ use Rattle.std.specs.Prelude.{◌≡◌, ◌↔◌, ℕ, List, Bool, true, Optio
 use Rattle.noise_keys.specs.declared.keys.Own.{Own}
 use Rattle.noise_handshake.specs.declared.faults.ReadFault.{ReadFault}
 use Rattle.noise_handshake.specs.Held.{Held}
-use Rattle.noise_handshake.specs.Party.{Stands, Declines, after_declined, after_message}
+use Rattle.noise_handshake.specs.Party.{Stands, DoesNotRead, after_not_read, after_message}
 use Rattle.noise_handshake.specs.View.{View, Accepts}
 use Rattle.noise_session.specs.Ends.{EndView, HeldEnd, EndStands}
 use Rattle.noise_session.specs.Steps.{Told}
@@ -25,5 +25,5 @@ module _ {K : Type 0} (public_of : K → Own → Option (List ℕ)) (agreement :
     pub read : Result (List ℕ) ReadFault
     pub reads : MatchResult read
         (λ given. (xs : List (List ℕ)) × Accepts v message xs given × Stands public_of agreement handshake (after_message v xs given))
-        (λ fault. Declines v message fault × Stands public_of agreement handshake (after_declined v fault))
+        (λ fault. DoesNotRead v message fault × Stands public_of agreement handshake (after_not_read v fault))
     pub is : answer ≡ true ↔ read ≡ Ok payload

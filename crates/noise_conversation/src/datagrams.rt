@@ -10,7 +10,7 @@ ghost use Rattle.noise_session.specs.EndDatagrams.{is_datagram_ready};
 ghost use Rattle.noise_events.specs.DatagramEvents.{datagram_events_of};
 ghost use Rattle.noise_events.specs.Events.{Event};
 ghost use Rattle.noise_duel.specs.Conversation.{facing};
-ghost use Rattle.noise_duel.specs.DatagramReports.{DatagramReports, DuelPictures};
+ghost use Rattle.noise_duel.specs.DatagramReports.{DatagramReports, DatagramDuelStands};
 ghost use Rattle.noise_duel.specs.DatagramSides.{meeting};
 ghost use Rattle.noise_duel.specs.HeldDuel.{DuelStands, facing_as};
 ghost use Rattle.noise_duel.specs.Messages.{Start};
@@ -71,7 +71,7 @@ fn go_over<A: Keys, B: Keys>(duel: Duel<A, B>, window: Window) -> DatagramDuel
     requires initiator { is_datagram_ready duel.initiator ≡ true }
     requires responder { is_datagram_ready duel.responder ≡ true }
     ensures { (v w : EndView) → DuelStands A.public_of A.agreement B.public_of B.agreement duel (facing_as v w)
-        → DuelPictures result (meeting (datagrams_of v.party window) (datagrams_of w.party window)) }
+        → DatagramDuelStands result (meeting (datagrams_of v.party window) (datagrams_of w.party window)) }
 {
     match duel.into_datagrams(window) {
         Ok(parties) => parties,

@@ -7,12 +7,12 @@ use Rattle.noise_names.specs.declared.token.Token.{Token}
 use Rattle.noise_names.specs.declared.token.Token.TheVariants.{E, S, Ee, Es, Se, Ss, Psk}
 use Rattle.noise_names.specs.Tokens.{is_psk, same_role, turn_from, other}
 use Rattle.noise_names.specs.Plan.{Plan, has_psk}
-use Rattle.noise_state.specs.History.{History, piece}
-use Rattle.noise_state.specs.Pieces.{piece-same}
+use Rattle.noise_state.specs.History.{History, ciphertext}
+use Rattle.noise_state.specs.Ciphertexts.{ciphertext-same}
 use Rattle.noise_keys.specs.declared.keys.Own.{Own}
 use Rattle.noise_keys.specs.declared.keys.Own.TheVariants.{Ephemeral, Static}
 use Rattle.noise_handshake.specs.declared.remote.Remote.{Remote}
-use Rattle.noise_handshake.specs.Line.{token_piece, after_token, after_front, line, after_line}
+use Rattle.noise_handshake.specs.Message.{token_bytes, after_token, after_tokens, message_bytes, after_payload}
 use Rattle.noise_handshake.specs.View.{View, Reader, Fit, Fits, reader, known_after, learned, secrets_after, tokens_at, tokens_now, answered, own_at}
 use Rattle.noise_handshake.specs.View.{remote_at}
 use Rattle.noise_handshake.specs.Writing.{Writer, Given, Gives, writer}
@@ -155,9 +155,9 @@ module _ (a b : Start) (agrees : KeysAgree a b) where
   module _ (psks : Bool) where
     text-same : (mine : Bool) (ka kb : Remote) (secrets : List (List ℕ)) (r : History) (t : Token) (x y : List ℕ) → Knows ka b.own → Knows kb a.own
         → UsesAt mine Initiator a.own a.agree ka t x → UsesAt (not mine) Responder b.own b.agree kb t y → SecretAt secrets t x → SecretAt secrets t y
-        → token_piece r t x ≡ token_piece r t y → x ≡ y
+        → token_bytes r t x ≡ token_bytes r t y → x ≡ y
     text-same mine ka kb secrets r E x y f g u w m n e = e
-    text-same mine ka kb secrets r S x y f g u w m n e = piece-same r x y e
+    text-same mine ka kb secrets r S x y f g u w m n e = ciphertext-same r x y e
     text-same mine ka kb secrets r Psk x y f g u w m n e = m ∙ sym n
     text-same mine ka kb secrets r Ee x y f g u w m n e = dh-same Ephemeral Ephemeral ka.e kb.e x y f.e g.e u w
     text-same mine ka kb secrets r Es x y f g u w m n e = dh-same Ephemeral Static ka.s kb.e x y f.s g.e u w
@@ -220,16 +220,16 @@ module _ (a b : Start) (agrees : KeysAgree a b) where
       × UsesAll p Responder b.own b.agree (n + 1) (known_after_all z kb ts y.carried) ys) (turns-apart (turn_from Initiator n)) w in
       let here = front-agree (has_psk p) mine ka kb secrets r ts x.carried y.carried f g u.0 turned.0 m.0 k.0 h.0.0 in
       let payload : x.payload ≡ y.payload =
-      piece-same (after_front (has_psk p) r ts x.carried) x.payload y.payload
-      (h.0.1 ∙ ap (λ (zs : List (List ℕ)). piece (after_front (has_psk p) r ts zs) y.payload) (sym here.texts)) in
+      ciphertext-same (after_tokens (has_psk p) r ts x.carried) x.payload y.payload
+      (h.0.1 ∙ ap (λ (zs : List (List ℕ)). ciphertext (after_tokens (has_psk p) r ts zs) y.payload) (sym here.texts)) in
       let message : x.message ≡ y.message =
-      c.0.1 ∙ ap (λ (zs : List (List ℕ)). line (has_psk p) r ts zs x.payload) here.texts ∙ ap (line (has_psk p) r ts y.carried) payload ∙ sym d.0.1 in
+      c.0.1 ∙ ap (λ (zs : List (List ℕ)). message_bytes (has_psk p) r ts zs x.payload) here.texts ∙ ap (message_bytes (has_psk p) r ts y.carried) payload ∙ sym d.0.1 in
       let one : x ≡ y = message-same x y message here.texts payload in
-      let after : after_line (has_psk p) r ts x.carried x.payload ≡ after_line (has_psk p) r ts y.carried y.payload =
-      ap (λ (z : HandshakeMessage). after_line (has_psk p) r ts z.carried z.payload) one in
+      let after : after_payload (has_psk p) r ts x.carried x.payload ≡ after_payload (has_psk p) r ts y.carried y.payload =
+      ap (λ (z : HandshakeMessage). after_payload (has_psk p) r ts z.carried z.payload) one in
       cons-same x y xs ys one
       (all-agree p (n + 1) (known_after_all mine ka ts x.carried) (known_after_all (not mine) kb ts y.carried) (drop (count_by is_psk ts) secrets)
-      (after_line (has_psk p) r ts x.carried x.payload) xs ys
+      (after_payload (has_psk p) r ts x.carried x.payload) xs ys
       here.left here.right u.1 turned.1 m.1 k.1 c.1
       (subst (λ (s : History). AreLines p (n + 1) s ys) (sym after) d.1)
-      (subst (λ (s : History). AllAlike p (n + 1) (after_line (has_psk p) r ts x.carried x.payload) s xs ys) (sym after) h.1))
+      (subst (λ (s : History). AllAlike p (n + 1) (after_payload (has_psk p) r ts x.carried x.payload) s xs ys) (sym after) h.1))

@@ -7,9 +7,9 @@ use Rattle.noise_names.specs.declared.token.Token.TheVariants.{E, S, Ee, Es, Se,
 use Rattle.noise_names.specs.Tokens.{is_psk}
 use Rattle.noise_names.specs.Plan.{Plan, has_psk, pre_of}
 use Rattle.noise_names.specs.Names.{name_bytes}
-use Rattle.noise_state.specs.History.{History, MixHash, and_then, cipher_key, piece}
-use Rattle.noise_state.specs.Pieces.{length-piece, piece-same}
-use Rattle.noise_handshake.specs.Line.{token_piece, after_token, front, after_front, after_line}
+use Rattle.noise_state.specs.History.{History, MixHash, and_then, cipher_key, ciphertext}
+use Rattle.noise_state.specs.Ciphertexts.{length-ciphertext, ciphertext-same}
+use Rattle.noise_handshake.specs.Message.{token_bytes, after_token, before_payload, after_tokens, after_payload}
 use Rattle.noise_handshake.specs.Length.{Carry, Carries}
 use Rattle.noise_handshake.specs.View.{View, secrets_after, tokens_at, with_premessage}
 use Rattle.noise_handshake.specs.Party.{after_own, after_message}
@@ -46,13 +46,13 @@ passes-carry laws v w (p ∷ ps) (took _ _ _ _ here more) =
 token-equal : (r : History) (secrets : List (List ℕ)) (t : Token) (ts : List Token) (x y p q : List ℕ) (xs ys others rest : List (List ℕ)) → Carries t x
     → Carries t y
     → SecretAt secrets t x → SecretAt secrets t y → answers (t ∷ ts) (x ∷ xs) ++ others ≡ answers (t ∷ ts) (y ∷ ys) ++ rest
-    → token_piece r t x ++ p ≡ token_piece r t y ++ q → (x ≡ y) × (p ≡ q) × (answers ts xs ++ others ≡ answers ts ys ++ rest)
+    → token_bytes r t x ++ p ≡ token_bytes r t y ++ q → (x ≡ y) × (p ≡ q) × (answers ts xs ++ others ≡ answers ts ys ++ rest)
 token-equal r secrets E ts x y p q xs ys others rest c d f g h e = let z = split-apart x y p q (c ∙ sym d) e in (z.0, z.1, h)
 token-equal r secrets S ts x y p q xs ys others rest c d f g h e =
-    let n : length (piece r x) ≡ length (piece r y) =
-    length-piece r x ∙ ap (λ (k : ℕ). if is_some (cipher_key r) then k + 16 else k) (c ∙ sym d) ∙ sym (length-piece r y) in
-    let z = split-apart (piece r x) (piece r y) p q n e in
-    (piece-same r x y z.0, z.1, h)
+    let n : length (ciphertext r x) ≡ length (ciphertext r y) =
+    length-ciphertext r x ∙ ap (λ (k : ℕ). if is_some (cipher_key r) then k + 16 else k) (c ∙ sym d) ∙ sym (length-ciphertext r y) in
+    let z = split-apart (ciphertext r x) (ciphertext r y) p q n e in
+    (ciphertext-same r x y z.0, z.1, h)
 token-equal r secrets Psk ts x y p q xs ys others rest c d f g h e = (f ∙ sym g, e, h)
 token-equal r secrets Ee ts x y p q xs ys others rest c d f g h e = (heads x y _ _ h, e, tails x y _ _ h)
 token-equal r secrets Es ts x y p q xs ys others rest c d f g h e = (heads x y _ _ h, e, tails x y _ _ h)
@@ -62,19 +62,19 @@ token-equal r secrets Ss ts x y p q xs ys others rest c d f g h e = (heads x y _
 front-equal : (psks : Bool) (r : History) (secrets : List (List ℕ)) (ts : List Token) (xs ys : List (List ℕ)) (p q : List ℕ) (others rest : List (List ℕ))
     → Carry ts xs → Carry ts ys
     → SecretsFit secrets ts xs → SecretsFit secrets ts ys → answers ts xs ++ others ≡ answers ts ys ++ rest
-    → front psks r ts xs ++ p ≡ front psks r ts ys ++ q → (xs ≡ ys) × (p ≡ q) × (others ≡ rest)
+    → before_payload psks r ts xs ++ p ≡ before_payload psks r ts ys ++ q → (xs ≡ ys) × (p ≡ q) × (others ≡ rest)
 front-equal psks r secrets [] [] [] p q others rest c d f g h e = (refl, e, h)
 front-equal psks r secrets [] [] (y ∷ ys) p q others rest c d f g h e = absurd d
 front-equal psks r secrets [] (x ∷ xs) ys p q others rest c d f g h e = absurd c
 front-equal psks r secrets (t ∷ ts) [] ys p q others rest c d f g h e = absurd c
 front-equal psks r secrets (t ∷ ts) (x ∷ xs) [] p q others rest c d f g h e = absurd d
 front-equal psks r secrets (t ∷ ts) (x ∷ xs) (y ∷ ys) p q others rest c d f g h e =
-    let a : List ℕ = front psks (after_token psks r t x) ts xs in
-    let b : List ℕ = front psks (after_token psks r t y) ts ys in
+    let a : List ℕ = before_payload psks (after_token psks r t x) ts xs in
+    let b : List ℕ = before_payload psks (after_token psks r t y) ts ys in
     let here = token-equal r secrets t ts x y (a ++ p) (b ++ q) xs ys others rest c.0 d.0 f.0 g.0 h
-    (sym (append_assoc (token_piece r t x) a p) ∙ e ∙ append_assoc (token_piece r t y) b q) in
+    (sym (append_assoc (token_bytes r t x) a p) ∙ e ∙ append_assoc (token_bytes r t y) b q) in
     let later = front-equal psks (after_token psks r t x) (secrets_after secrets t) ts xs ys p q others rest c.1 d.1 f.1 g.1 here.2
-    (here.1 ∙ ap (λ (z : List ℕ). front psks (after_token psks r t z) ts ys ++ q) (sym here.0)) in
+    (here.1 ∙ ap (λ (z : List ℕ). before_payload psks (after_token psks r t z) ts ys ++ q) (sym here.0)) in
     (cons-same x y xs ys here.0 later.0, later.1, later.2)
 
 all-equal : (p : Plan) (n : ℕ) (r : History) (secrets : List (List ℕ)) (ps qs : List HandshakeMessage) → messages_of ps ≡ messages_of qs → AllCarry p n ps
@@ -86,17 +86,17 @@ all-equal p n r secrets (m ∷ ms) [] a k l b c f g h = cc
 all-equal p n r secrets (m ∷ ms) (q ∷ qs) a k l b c f g h =
     let ts : List Token = tokens_at p.messages n in
     let bytes : m.message ≡ q.message = heads m.message q.message (messages_of ms) (messages_of qs) a in
-    let here = front-equal (has_psk p) r secrets ts m.carried q.carried (piece (after_front (has_psk p) r ts m.carried) m.payload)
-    (piece (after_front (has_psk p) r ts q.carried) q.payload)
+    let here = front-equal (has_psk p) r secrets ts m.carried q.carried (ciphertext (after_tokens (has_psk p) r ts m.carried) m.payload)
+    (ciphertext (after_tokens (has_psk p) r ts q.carried) q.payload)
     (answers_from p (n + 1) ms) (answers_from p (n + 1) qs) k.0 l.0 f.0 g.0 h (sym b.0.1 ∙ bytes ∙ c.0.1) in
     let payload : m.payload ≡ q.payload =
-    piece-same (after_front (has_psk p) r ts m.carried) m.payload q.payload
-    (here.1 ∙ ap (λ (zs : List (List ℕ)). piece (after_front (has_psk p) r ts zs) q.payload) (sym here.0)) in
+    ciphertext-same (after_tokens (has_psk p) r ts m.carried) m.payload q.payload
+    (here.1 ∙ ap (λ (zs : List (List ℕ)). ciphertext (after_tokens (has_psk p) r ts zs) q.payload) (sym here.0)) in
     let one : m ≡ q = message-same m q bytes here.0 payload in
-    let after : after_line (has_psk p) r ts m.carried m.payload ≡ after_line (has_psk p) r ts q.carried q.payload =
-    ap (λ (z : HandshakeMessage). after_line (has_psk p) r ts z.carried z.payload) one in
+    let after : after_payload (has_psk p) r ts m.carried m.payload ≡ after_payload (has_psk p) r ts q.carried q.payload =
+    ap (λ (z : HandshakeMessage). after_payload (has_psk p) r ts z.carried z.payload) one in
     cons-same m q ms qs one
-    (all-equal p (n + 1) (after_line (has_psk p) r ts m.carried m.payload) (drop (count_by is_psk ts) secrets) ms qs
+    (all-equal p (n + 1) (after_payload (has_psk p) r ts m.carried m.payload) (drop (count_by is_psk ts) secrets) ms qs
     (tails m.message q.message (messages_of ms) (messages_of qs) a) k.1 l.1 b.1
     (subst (λ (s : History). AreLines p (n + 1) s qs) (sym after) c.1) f.1 g.1 here.2)
 

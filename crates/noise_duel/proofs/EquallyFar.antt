@@ -13,7 +13,7 @@ use Rattle.noise_state.specs.History.{History, cipher_key}
 use Rattle.noise_keys.specs.declared.keys.Own.{Own}
 use Rattle.noise_handshake.specs.declared.remote.Remote.{Remote}
 use Rattle.noise_handshake.specs.Length.{Carry}
-use Rattle.noise_handshake.specs.Line.{line, after_line}
+use Rattle.noise_handshake.specs.Message.{message_bytes, after_payload}
 use Rattle.noise_handshake.specs.Passed.{passed_places}
 use Rattle.noise_handshake.specs.View.{View, Speaks, tokens_at, tokens_now}
 use Rattle.noise_handshake.specs.Writing.{Given, writer}
@@ -60,13 +60,13 @@ pub record EquallyFar (w : KeyMaterial) (n : ℕ) (d : Sides) : Type 0 where
 -- the message that is due, by the key material
 abbrev pub due_of : KeyMaterial → View → List ℕ → HandshakeMessage
 due_of w v payload = record {
-  message = line (has_psk v.pattern) v.history (tokens_now v) (carried_by w (turn_from Initiator v.passed) v.secrets (tokens_now v)) payload;
+  message = message_bytes (has_psk v.pattern) v.history (tokens_now v) (carried_by w (turn_from Initiator v.passed) v.secrets (tokens_now v)) payload;
   carried = carried_by w (turn_from Initiator v.passed) v.secrets (tokens_now v);
   payload = payload;
 }
 
 abbrev pub after_due : KeyMaterial → View → List ℕ → History
-after_due w v payload = after_line (has_psk v.pattern) v.history (tokens_now v) (carried_by w (turn_from Initiator v.passed) v.secrets (tokens_now v)) payload
+after_due w v payload = after_payload (has_psk v.pattern) v.history (tokens_now v) (carried_by w (turn_from Initiator v.passed) v.secrets (tokens_now v)) payload
 
 -- what a line leaves
 pub record AfterLine (w : KeyMaterial) (n : ℕ) (role : Role) (payload : List ℕ) (d e : Sides) : Type 0 where
@@ -98,11 +98,11 @@ pub record InTransport (role : Role) (payload : List ℕ) (d e : Sides) : Type 0
 abbrev pub handshake_message : List ℕ → List ℕ → List (List ℕ) → HandshakeMessage
 handshake_message payload message xs = record { message = message; carried = xs; payload = payload }
 
-message-same : (payload m : List ℕ) (xs ys : List (List ℕ)) (v : View) → xs ≡ ys → m ≡ line (has_psk v.pattern) v.history (tokens_now v) xs payload
-    → handshake_message payload m xs ≡ handshake_message payload (line (has_psk v.pattern) v.history (tokens_now v) ys payload) ys
+message-same : (payload m : List ℕ) (xs ys : List (List ℕ)) (v : View) → xs ≡ ys → m ≡ message_bytes (has_psk v.pattern) v.history (tokens_now v) xs payload
+    → handshake_message payload m xs ≡ handshake_message payload (message_bytes (has_psk v.pattern) v.history (tokens_now v) ys payload) ys
 message-same payload m xs ys v e f =
     ap (λ (z : List ℕ). handshake_message payload z xs) f
-    ∙ ap (λ (zs : List (List ℕ)). handshake_message payload (line (has_psk v.pattern) v.history (tokens_now v) zs payload) zs) e
+    ∙ ap (λ (zs : List (List ℕ)). handshake_message payload (message_bytes (has_psk v.pattern) v.history (tokens_now v) zs payload) zs) e
 
 -- what a party's message carries is that of the key material
 carried-is : LawsBelow → (w : KeyMaterial) (v u : View) (role : Role) (xs : List (List ℕ)) → IsValid v.pattern → Counterparts v u → v.role ≡ role
@@ -246,7 +246,7 @@ module _ (laws : LawsBelow) (w : KeyMaterial) (long : (role : Role) (k : Own) �
         pattern = refl;
         count = refl;
         secrets = refl;
-        history = ap (λ (zs : List (List ℕ)). after_line (has_psk p) v.history (tokens_now v) zs payload) is;
+        history = ap (λ (zs : List (List ℕ)). after_payload (has_psk p) v.history (tokens_now v) zs payload) is;
         passed = ap (λ (z : HandshakeMessage). s.passed ++ z ∷ []) same;
         sent = refl;
         sent_there = refl;
@@ -315,7 +315,7 @@ module _ (laws : LawsBelow) (w : KeyMaterial) (long : (role : Role) (k : Own) �
         pattern = refl;
         count = refl;
         secrets = refl;
-        history = ap (λ (zs : List (List ℕ)). after_line (has_psk p) v.history (tokens_now v) zs payload) is;
+        history = ap (λ (zs : List (List ℕ)). after_payload (has_psk p) v.history (tokens_now v) zs payload) is;
         passed = ap (λ (z : HandshakeMessage). t.passed ++ z ∷ []) same;
         sent = refl;
         sent_there = refl;

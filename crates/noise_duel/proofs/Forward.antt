@@ -7,10 +7,10 @@ use Rattle.noise_names.specs.declared.token.Token.TheVariants.{E, S, Ee, Es, Se,
 use Rattle.noise_names.specs.Tokens.{is_psk}
 use Rattle.noise_names.specs.Plan.{Plan, has_psk, pre_of}
 use Rattle.noise_names.specs.Names.{name_bytes}
-use Rattle.noise_state.specs.History.{History, MixHash, and_then, piece}
-use Rattle.noise_state.specs.Pieces.{piece-same}
+use Rattle.noise_state.specs.History.{History, MixHash, and_then, ciphertext}
+use Rattle.noise_state.specs.Ciphertexts.{ciphertext-same}
 use Rattle.noise_handshake.specs.declared.remote.Remote.{Remote}
-use Rattle.noise_handshake.specs.Line.{token_piece, after_token, after_front, line, after_line, with_ephemeral}
+use Rattle.noise_handshake.specs.Message.{token_bytes, after_token, after_tokens, message_bytes, after_payload, with_ephemeral}
 use Rattle.noise_handshake.specs.View.{View, Reader, Fit, Fits, reader, known_after, secrets_after, first_secret, tokens_at, tokens_now, with_premessage}
 use Rattle.noise_handshake.specs.View.{start}
 use Rattle.noise_handshake.specs.Writing.{Writer, Given, Gives, writer}
@@ -82,11 +82,11 @@ passes-secrets v w (p ∷ ps) (took _ _ _ _ here more) =
 
 module _ (psks : Bool) where
   token-on : (r : History) (secrets : List (List ℕ)) (t : Token) (ts : List Token) (x y : List ℕ) (xs ys others rest : List (List ℕ))
-      → token_piece r t x ≡ token_piece r t y
+      → token_bytes r t x ≡ token_bytes r t y
       → SecretAt secrets t x → SecretAt secrets t y → answers (t ∷ ts) (x ∷ xs) ++ others ≡ answers (t ∷ ts) (y ∷ ys) ++ rest
       → (x ≡ y) × (answers ts xs ++ others ≡ answers ts ys ++ rest)
   token-on r secrets E ts x y xs ys others rest e f g h = (e, h)
-  token-on r secrets S ts x y xs ys others rest e f g h = (piece-same r x y e, h)
+  token-on r secrets S ts x y xs ys others rest e f g h = (ciphertext-same r x y e, h)
   token-on r secrets Psk ts x y xs ys others rest e f g h = (f ∙ sym g, h)
   token-on r secrets Ee ts x y xs ys others rest e f g h = (heads x y _ _ h, tails x y _ _ h)
   token-on r secrets Es ts x y xs ys others rest e f g h = (heads x y _ _ h, tails x y _ _ h)
@@ -123,15 +123,15 @@ all-on p n r secrets (m ∷ ms) (q ∷ qs) a b c f g h =
     let ts : List Token = tokens_at p.messages n in
     let here = front-on (has_psk p) r secrets ts m.carried q.carried (answers_from p (n + 1) ms) (answers_from p (n + 1) qs) a.0.0 f.0 g.0 h in
     let payload : m.payload ≡ q.payload =
-    piece-same (after_front (has_psk p) r ts m.carried) m.payload q.payload
-    (a.0.1 ∙ ap (λ (zs : List (List ℕ)). piece (after_front (has_psk p) r ts zs) q.payload) (sym here.0)) in
+    ciphertext-same (after_tokens (has_psk p) r ts m.carried) m.payload q.payload
+    (a.0.1 ∙ ap (λ (zs : List (List ℕ)). ciphertext (after_tokens (has_psk p) r ts zs) q.payload) (sym here.0)) in
     let message : m.message ≡ q.message =
-    b.0.1 ∙ ap (λ (zs : List (List ℕ)). line (has_psk p) r ts zs m.payload) here.0 ∙ ap (line (has_psk p) r ts q.carried) payload ∙ sym c.0.1 in
+    b.0.1 ∙ ap (λ (zs : List (List ℕ)). message_bytes (has_psk p) r ts zs m.payload) here.0 ∙ ap (message_bytes (has_psk p) r ts q.carried) payload ∙ sym c.0.1 in
     let one : m ≡ q = message-same m q message here.0 payload in
-    let after : after_line (has_psk p) r ts m.carried m.payload ≡ after_line (has_psk p) r ts q.carried q.payload =
-    ap (λ (z : HandshakeMessage). after_line (has_psk p) r ts z.carried z.payload) one in
-    let later = all-on p (n + 1) (after_line (has_psk p) r ts m.carried m.payload) (drop (count_by is_psk ts) secrets) ms qs
-    (subst (λ (s : History). AllAlike p (n + 1) (after_line (has_psk p) r ts m.carried m.payload) s ms qs) (sym after) a.1) b.1
+    let after : after_payload (has_psk p) r ts m.carried m.payload ≡ after_payload (has_psk p) r ts q.carried q.payload =
+    ap (λ (z : HandshakeMessage). after_payload (has_psk p) r ts z.carried z.payload) one in
+    let later = all-on p (n + 1) (after_payload (has_psk p) r ts m.carried m.payload) (drop (count_by is_psk ts) secrets) ms qs
+    (subst (λ (s : History). AllAlike p (n + 1) (after_payload (has_psk p) r ts m.carried m.payload) s ms qs) (sym after) a.1) b.1
     (subst (λ (s : History). AreLines p (n + 1) s qs) (sym after) c.1) f.1 g.1 here.1 in
     cons-same m q ms qs one later
 

@@ -4,9 +4,9 @@ use Rattle.std.specs.Prelude.{Bool, true, false, is_some, Option, Some, None, if
 use Rattle.noise_kdf.specs.Hkdf.{second_output}
 use Rattle.noise_names.specs.declared.token.Token.{Token}
 use Rattle.noise_names.specs.declared.token.Token.TheVariants.{E, S, Ee, Es, Se, Ss, Psk}
-use Rattle.noise_state.specs.History.{History, MixHash, and_then, cipher_key, chaining_key, nonce, hash, piece_under, piece}
+use Rattle.noise_state.specs.History.{History, MixHash, and_then, cipher_key, chaining_key, nonce, hash, ciphertext_under, ciphertext}
 use Rattle.noise_handshake.specs.declared.remote.Remote.{Remote}
-use Rattle.noise_handshake.specs.Line.{with_ephemeral, token_piece, after_token, front, after_front, after_line}
+use Rattle.noise_handshake.specs.Message.{with_ephemeral, token_bytes, after_token, before_payload, after_tokens, after_payload}
 use Rattle.noise_handshake.specs.Length.{keyed_after, keyed_after_tokens}
 use Rattle.noise_handshake.specs.View.{with_premessage}
 use Rattle.noise_duel.specs.Collision.{hashed}
@@ -22,9 +22,9 @@ cons-same : {X : Type 0} (x y : X) (xs ys : List X) → x ≡ y → xs ≡ ys �
 cons-same x y xs ys e f = cc
 
 -- without a key a text travels as it is
-plain_piece : (r : History) (x : List ℕ) → is_some (cipher_key r) ≡ false → piece r x ≡ x
+plain_piece : (r : History) (x : List ℕ) → is_some (cipher_key r) ≡ false → ciphertext r x ≡ x
 plain_piece r x e = by (cipher_key r) e where
-  by : (k : Option (List ℕ)) → is_some k ≡ false → piece_under k (nonce r) (hash r) x ≡ x
+  by : (k : Option (List ℕ)) → is_some k ≡ false → ciphertext_under k (nonce r) (hash r) x ≡ x
   by None h = refl
   by (Some key) h = cc
 
@@ -48,7 +48,7 @@ token-keyed psks r Ss x = refl
 token-keyed psks r Psk x = refl
 
 pub front-keyed : (psks : Bool) (r : History) (ts : List Token) (xs : List (List ℕ)) → OneEach ts xs
-    → is_some (cipher_key (after_front psks r ts xs)) ≡ keyed_after_tokens psks (is_some (cipher_key r)) ts
+    → is_some (cipher_key (after_tokens psks r ts xs)) ≡ keyed_after_tokens psks (is_some (cipher_key r)) ts
 front-keyed psks r [] [] h = refl
 front-keyed psks r [] (x ∷ xs) h = refl
 front-keyed psks r (t ∷ ts) [] h = absurd h
@@ -59,7 +59,7 @@ module _ (psks : Bool) where
   -- each token travels as the same bytes
   abbrev pub Alike : History → History → List Token → List (List ℕ) → List (List ℕ) → Type 0
   Alike r s [] [] [] = Unit {0}
-  Alike r s (t ∷ ts) (x ∷ xs) (y ∷ ys) = (token_piece r t x ≡ token_piece s t y) × Alike (after_token psks r t x) (after_token psks s t y) ts xs ys
+  Alike r s (t ∷ ts) (x ∷ xs) (y ∷ ys) = (token_bytes r t x ≡ token_bytes s t y) × Alike (after_token psks r t x) (after_token psks s t y) ts xs ys
   Alike r s _ _ _ = ⊥
 
   -- ---- as many texts
@@ -75,7 +75,7 @@ module _ (psks : Bool) where
   token-many r s Psk x y n = omega (arith, n)
 
   front-many : (r s : History) (ts : List Token) (xs ys : List (List ℕ)) → OneEach ts xs → OneEach ts ys → length (hashed r) ≡ length (hashed s)
-      → length (hashed (after_front psks r ts xs)) ≡ length (hashed (after_front psks s ts ys))
+      → length (hashed (after_tokens psks r ts xs)) ≡ length (hashed (after_tokens psks s ts ys))
   front-many r s [] xs ys f g n = n
   front-many r s (t ∷ ts) [] ys f g n = absurd f
   front-many r s (t ∷ ts) (x ∷ xs) [] f g n = absurd g
@@ -83,7 +83,7 @@ module _ (psks : Bool) where
 
   pub line-many : (r s : History) (ts : List Token) (xs ys : List (List ℕ)) (p q : List ℕ) → OneEach ts xs → OneEach ts ys
       → length (hashed r) ≡ length (hashed s)
-      → length (hashed (after_line psks r ts xs p)) ≡ length (hashed (after_line psks s ts ys q))
+      → length (hashed (after_payload psks r ts xs p)) ≡ length (hashed (after_payload psks s ts ys q))
   line-many r s ts xs ys p q f g n = omega (arith, front-many r s ts xs ys f g n)
 
   pub pre-many : (r s : History) (k l : Remote) (ts : List Token) → length (hashed r) ≡ length (hashed s)
@@ -98,11 +98,11 @@ module _ (psks : Bool) where
   -- ---- back along a message
 
   token-back : (r s : History) (t : Token) (x y : List ℕ) → hashed (after_token psks r t x) ≡ hashed (after_token psks s t y)
-      → (hashed r ≡ hashed s) × (token_piece r t x ≡ token_piece s t y)
+      → (hashed r ≡ hashed s) × (token_bytes r t x ≡ token_bytes s t y)
   token-back r s E x y e =
       let f : (x ∷ hashed r) ≡ (y ∷ hashed s) = sym (ephemeral-hashed psks r x) ∙ e ∙ ephemeral-hashed psks s y in
       (tails x y (hashed r) (hashed s) f, heads x y (hashed r) (hashed s) f)
-  token-back r s S x y e = (tails (piece r x) (piece s y) (hashed r) (hashed s) e, heads (piece r x) (piece s y) (hashed r) (hashed s) e)
+  token-back r s S x y e = (tails (ciphertext r x) (ciphertext s y) (hashed r) (hashed s) e, heads (ciphertext r x) (ciphertext s y) (hashed r) (hashed s) e)
   token-back r s Ee x y e = (e, refl)
   token-back r s Es x y e = (e, refl)
   token-back r s Se x y e = (e, refl)
@@ -110,7 +110,7 @@ module _ (psks : Bool) where
   token-back r s Psk x y e = (tails (second_output (chaining_key r) x) (second_output (chaining_key s) y) (hashed r) (hashed s) e, refl)
 
   front-back : (r s : History) (ts : List Token) (xs ys : List (List ℕ)) → OneEach ts xs → OneEach ts ys
-      → hashed (after_front psks r ts xs) ≡ hashed (after_front psks s ts ys)
+      → hashed (after_tokens psks r ts xs) ≡ hashed (after_tokens psks s ts ys)
       → (hashed r ≡ hashed s) × Alike r s ts xs ys
   front-back r s [] [] [] f g e = (e, tt)
   front-back r s [] [] (y ∷ ys) f g e = absurd g
@@ -124,13 +124,13 @@ module _ (psks : Bool) where
 
   -- what it hashed tells a message's bytes, token by token
   pub line-back : (r s : History) (ts : List Token) (xs ys : List (List ℕ)) (p q : List ℕ) → OneEach ts xs → OneEach ts ys
-      → hashed (after_line psks r ts xs p) ≡ hashed (after_line psks s ts ys q)
-      → (hashed r ≡ hashed s) × Alike r s ts xs ys × (piece (after_front psks r ts xs) p ≡ piece (after_front psks s ts ys) q)
+      → hashed (after_payload psks r ts xs p) ≡ hashed (after_payload psks s ts ys q)
+      → (hashed r ≡ hashed s) × Alike r s ts xs ys × (ciphertext (after_tokens psks r ts xs) p ≡ ciphertext (after_tokens psks s ts ys) q)
   line-back r s ts xs ys p q f g e =
-      let a : List ℕ = piece (after_front psks r ts xs) p in
-      let b : List ℕ = piece (after_front psks s ts ys) q in
-      let more = front-back r s ts xs ys f g (tails a b (hashed (after_front psks r ts xs)) (hashed (after_front psks s ts ys)) e) in
-      (more.0, more.1, heads a b (hashed (after_front psks r ts xs)) (hashed (after_front psks s ts ys)) e)
+      let a : List ℕ = ciphertext (after_tokens psks r ts xs) p in
+      let b : List ℕ = ciphertext (after_tokens psks s ts ys) q in
+      let more = front-back r s ts xs ys f g (tails a b (hashed (after_tokens psks r ts xs)) (hashed (after_tokens psks s ts ys)) e) in
+      (more.0, more.1, heads a b (hashed (after_tokens psks r ts xs)) (hashed (after_tokens psks s ts ys)) e)
 
   pub pre-back : (r s : History) (k l : Remote) (ts : List Token) → hashed (with_premessage psks k ts r) ≡ hashed (with_premessage psks l ts s)
       → (hashed r ≡ hashed s) × (pre_keys k ts ≡ pre_keys l ts)
@@ -150,25 +150,25 @@ module _ (psks : Bool) where
 
   -- ---- what the same bytes tell
 
-  pub front-same : (r s : History) (ts : List Token) (xs ys : List (List ℕ)) → Alike r s ts xs ys → front psks r ts xs ≡ front psks s ts ys
+  pub front-same : (r s : History) (ts : List Token) (xs ys : List (List ℕ)) → Alike r s ts xs ys → before_payload psks r ts xs ≡ before_payload psks s ts ys
   front-same r s [] [] [] h = refl
   front-same r s [] [] (y ∷ ys) h = absurd h
   front-same r s [] (x ∷ xs) ys h = absurd h
   front-same r s (t ∷ ts) [] ys h = absurd h
   front-same r s (t ∷ ts) (x ∷ xs) [] h = absurd h
   front-same r s (t ∷ ts) (x ∷ xs) (y ∷ ys) h =
-      ap (λ (b : List ℕ). b ++ front psks (after_token psks r t x) ts xs) h.0
-      ∙ ap (λ (b : List ℕ). token_piece s t y ++ b) (front-same (after_token psks r t x) (after_token psks s t y) ts xs ys h.1)
+      ap (λ (b : List ℕ). b ++ before_payload psks (after_token psks r t x) ts xs) h.0
+      ∙ ap (λ (b : List ℕ). token_bytes s t y ++ b) (front-same (after_token psks r t x) (after_token psks s t y) ts xs ys h.1)
 
   static-same : (keyed : Bool) (r s : History) (x y : List ℕ) (older others : List (List ℕ)) → is_some (cipher_key r) ≡ keyed → is_some (cipher_key s) ≡ keyed
-      → piece r x ≡ piece s y → older ≡ others
+      → ciphertext r x ≡ ciphertext s y → older ≡ others
       → (if keyed then [] else x ∷ []) ++ older ≡ (if keyed then [] else y ∷ []) ++ others
   static-same true r s x y older others a b e f = f
   static-same false r s x y older others a b e f = cons-same x y older others (sym (plain_piece r x a) ∙ e ∙ plain_piece s y b) f
 
   open-token : (keyed : Bool) (r s : History) (t : Token) (ts : List Token) (x y : List ℕ) (xs ys : List (List ℕ)) → is_some (cipher_key r) ≡ keyed
       → is_some (cipher_key s) ≡ keyed
-      → token_piece r t x ≡ token_piece s t y → clear_keys psks (keyed_after psks keyed t) ts xs ≡ clear_keys psks (keyed_after psks keyed t) ts ys
+      → token_bytes r t x ≡ token_bytes s t y → clear_keys psks (keyed_after psks keyed t) ts xs ≡ clear_keys psks (keyed_after psks keyed t) ts ys
       → clear_keys psks keyed (t ∷ ts) (x ∷ xs) ≡ clear_keys psks keyed (t ∷ ts) (y ∷ ys)
   open-token keyed r s E ts x y xs ys a b e f =
       cons-same x y (clear_keys psks (keyed_after psks keyed E) ts xs) (clear_keys psks (keyed_after psks keyed E) ts ys) e f

@@ -4,7 +4,7 @@ use Rattle.std.specs.Prelude.{false, Err, IsTrue, Option}
 use Rattle.noise_names.specs.declared.token.Role.{Role}
 use Rattle.noise_names.specs.Tokens.{other}
 use Rattle.noise_handshake.specs.View.{Accepts}
-use Rattle.noise_handshake.specs.Writing.{Writes, Lacks}
+use Rattle.noise_handshake.specs.Writing.{Writes, LacksAnswer}
 use Rattle.noise_duel.specs.Below.{LawsBelow}
 use Rattle.noise_session.specs.declared.faults.SendFault.{SendFault}
 use Rattle.noise_session.specs.Frames.{frame, IsPartial}
@@ -32,13 +32,13 @@ use Rattle.noise_duel.proofs.Prefixes.{packet-same}
 -- ---- writing
 
 -- nothing keeps the end from writing
-sends-no-fault : (v next : EndView) (payload : List ℕ) (why : SendFault) → refusal (progress_of v) (length payload) ≡ None → ((k : ℕ) → Lacks v.party k → ⊥)
+sends-no-fault : (v next : EndView) (payload : List ℕ) (why : SendFault) → refusal (progress_of v) (length payload) ≡ None → ((k : ℕ) → LacksAnswer v.party k → ⊥)
     → Sends v payload (Err why) next → ⊥
 sends-no-fault v next payload why e lacks (refuses _ _ _ f) = cc
 sends-no-fault v next payload why e lacks (lacks_answer _ _ k f l) = lacks k l
 
 pub writes-no-fault : (s next : Side) (payload : List ℕ) (why : SendFault) → refusal (progress_of s.view) (length payload) ≡ None
-    → ((k : ℕ) → Lacks s.view.party k → ⊥)
+    → ((k : ℕ) → LacksAnswer s.view.party k → ⊥)
     → SideWrites s payload (WriteFault why) next → ⊥
 writes-no-fault s next payload why e lacks (writes_nothing _ _ _ after sends) = sends-no-fault s.view after payload why e lacks sends
 

@@ -17,7 +17,7 @@ use Rattle.noise_state.specs.History.{History, MixHash, and_then}
 use Rattle.noise_keys.specs.declared.keys.Own.{Own}
 use Rattle.noise_keys.specs.declared.keys.Own.TheVariants.{Ephemeral, Static}
 use Rattle.noise_handshake.specs.declared.remote.Remote.{Remote}
-use Rattle.noise_handshake.specs.Line.{with_ephemeral}
+use Rattle.noise_handshake.specs.Message.{with_ephemeral}
 use Rattle.noise_handshake.specs.View.{View, tokens_now, with_premessage}
 use Rattle.noise_handshake.specs.Setup.{has_before, has_token, token_of, begun, public_keys}
 use Rattle.noise_handshake.specs.Counterparts.{Counterparts, shown_before}

@@ -13,11 +13,11 @@ use Rattle.noise_state.specs.History.{History, cipher_key}
 use Rattle.noise_keys.specs.declared.keys.Own.{Own}
 use Rattle.noise_handshake.specs.declared.remote.Remote.{Remote}
 use Rattle.noise_handshake.specs.declared.faults.Cause.{Cause}
-use Rattle.noise_handshake.specs.Line.{after_line}
+use Rattle.noise_handshake.specs.Message.{after_payload}
 use Rattle.noise_handshake.specs.Length.{Carry}
 use Rattle.noise_handshake.specs.Passed.{passed_places}
 use Rattle.noise_handshake.specs.View.{View, Accepts, Refuses, Speaks, answered, own_at, remote_at, start, tokens_at, tokens_now}
-use Rattle.noise_handshake.specs.Writing.{Writes, Lacks}
+use Rattle.noise_handshake.specs.Writing.{Writes, LacksAnswer}
 use Rattle.noise_handshake.specs.Party.{IsKeyed, after_message, after_own}
 use Rattle.noise_handshake.specs.Setup.{begun, has_before, has_token, public_keys, setup_fault, token_of}
 use Rattle.noise_handshake.specs.Counterparts.{Counterparts, AnswersMeet, IsEquipped, is_dh, keys_if, shown_after, shown_before}
@@ -32,14 +32,14 @@ pub record LawsBelow : Type 0 where
   pub not_refused : (v : View) (message : List ℕ) (xs : List (List ℕ)) (p : List ℕ) (k : ℕ) (c : Cause) → Accepts v message xs p → Refuses v message k c → ⊥
   pub refused_once : (v : View) (message : List ℕ) (k j : ℕ) (c d : Cause) → Refuses v message k c → Refuses v message j d → (k ≡ j) × (c ≡ d)
   pub written_once : (v : View) (payload m n : List ℕ) (xs ys : List (List ℕ)) → Writes v payload xs m → Writes v payload ys n → (xs ≡ ys) × (m ≡ n)
-  pub not_lacking : (v : View) (payload m : List ℕ) (xs : List (List ℕ)) (k : ℕ) → Writes v payload xs m → Lacks v k → ⊥
+  pub not_lacking : (v : View) (payload m : List ℕ) (xs : List (List ℕ)) (k : ℕ) → Writes v payload xs m → LacksAnswer v k → ⊥
   pub sent_once : (v x y : EndView) (payload : List ℕ) (r s : Result (List ℕ) SendFault) → Sends v payload r x → Sends v payload s y → (r ≡ s) × (x ≡ y)
   -- where there is a key, and what a message carries
   pub keyed_first : (name prologue : List ℕ) (p : Plan) (initiator responder : Remote) → IsPattern p
       → is_some (cipher_key (start name p prologue initiator responder)) ≡ has_key p (passed_places p 0)
   pub keyed_next : (p : Plan) (n : ℕ) (r : History) (xs : List (List ℕ)) (payload : List ℕ)
       → n < length p.messages → Carry (tokens_at p.messages n) xs → is_some (cipher_key r) ≡ has_key p (passed_places p n)
-      → is_some (cipher_key (after_line (has_psk p) r (tokens_at p.messages n) xs payload)) ≡ has_key p (passed_places p (n + 1))
+      → is_some (cipher_key (after_payload (has_psk p) r (tokens_at p.messages n) xs payload)) ≡ has_key p (passed_places p (n + 1))
   pub written_carries : (v : View) (payload message : List ℕ) (xs : List (List ℕ)) → Writes v payload xs message → Carry (tokens_now v) xs
   pub accepted_carries : (v : View) (payload message : List ℕ) (xs : List (List ℕ)) → Accepts v message xs payload → Carry (tokens_now v) xs
   -- which tokens are among the places of a pattern

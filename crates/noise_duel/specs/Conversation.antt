@@ -16,7 +16,7 @@ use Rattle.noise_state.specs.History.{History}
 use Rattle.noise_keys.specs.declared.keys.Own.{Own}
 use Rattle.noise_keys.specs.declared.keys.Own.TheVariants.{Ephemeral, Static}
 use Rattle.noise_handshake.specs.declared.remote.Remote.{Remote}
-use Rattle.noise_handshake.specs.Line.{line, after_line}
+use Rattle.noise_handshake.specs.Message.{message_bytes, after_payload}
 use Rattle.noise_handshake.specs.View.{start, tokens_at, first_secret, other_secrets, own_at, remote_at, answered}
 use Rattle.noise_handshake.specs.Setup.{has_before, token_of}
 use Rattle.noise_handshake.specs.Counterparts.{is_dh}
@@ -50,19 +50,19 @@ abbrev pub conversation : KeyMaterial → Plan → ℕ → List (List ℕ) → H
 conversation w p n secrets r [] = []
 conversation w p n secrets r (payload ∷ payloads) =
     record {
-      message = line (has_psk p) r (tokens_at p.messages n) (carried_by w (turn_from Initiator n) secrets (tokens_at p.messages n)) payload;
+      message = message_bytes (has_psk p) r (tokens_at p.messages n) (carried_by w (turn_from Initiator n) secrets (tokens_at p.messages n)) payload;
       carried = carried_by w (turn_from Initiator n) secrets (tokens_at p.messages n);
       payload = payload;
     }
     ∷ conversation w p (n + 1) (drop (count_by is_psk (tokens_at p.messages n)) secrets)
-    (after_line (has_psk p) r (tokens_at p.messages n) (carried_by w (turn_from Initiator n) secrets (tokens_at p.messages n)) payload) payloads
+    (after_payload (has_psk p) r (tokens_at p.messages n) (carried_by w (turn_from Initiator n) secrets (tokens_at p.messages n)) payload) payloads
 
 -- the history after them (Noise 5.3)
 abbrev pub after_conversation : KeyMaterial → Plan → ℕ → List (List ℕ) → History → List (List ℕ) → History
 after_conversation w p n secrets r [] = r
 after_conversation w p n secrets r (payload ∷ payloads) =
     after_conversation w p (n + 1) (drop (count_by is_psk (tokens_at p.messages n)) secrets)
-    (after_line (has_psk p) r (tokens_at p.messages n) (carried_by w (turn_from Initiator n) secrets (tokens_at p.messages n)) payload) payloads
+    (after_payload (has_psk p) r (tokens_at p.messages n) (carried_by w (turn_from Initiator n) secrets (tokens_at p.messages n)) payload) payloads
 
 -- a party's public keys
 abbrev pub public_keys_in : KeyMaterial → Role → Remote

@@ -1,7 +1,7 @@
 -- What a run of two parties' datagrams reports and leaves.
 use Rattle.std.specs.Prelude.{◌&&◌, List, Bool, map}
 use Rattle.noise_names.specs.declared.token.Role.{Role}
-use Rattle.noise_session.specs.Datagrams.{HeldDatagrams, Pictures}
+use Rattle.noise_session.specs.Datagrams.{HeldDatagrams, DatagramsStand}
 use Rattle.noise_session.specs.EndDatagrams.{is_datagram_ready}
 use Rattle.noise_duel.specs.declared.datagram_report.DatagramEntry.{DatagramEntry}
 use Rattle.noise_duel.specs.declared.datagram_report.DatagramEntry.TheVariants as entry
@@ -33,12 +33,12 @@ abbrev pub are_datagram_ready : {A B : Type 0} → HeldDuel A B → Bool
 are_datagram_ready duel = is_datagram_ready duel.initiator && is_datagram_ready duel.responder
 
 -- each holds what its view says
-pub record DuelPictures (duel : HeldDatagramDuel) (d : DatagramSides) : Type 0 where
-  pub initiator : Pictures duel.initiator d.initiator.view
-  pub responder : Pictures duel.responder d.responder.view
+pub record DatagramDuelStands (duel : HeldDatagramDuel) (d : DatagramSides) : Type 0 where
+  pub initiator : DatagramsStand duel.initiator d.initiator.view
+  pub responder : DatagramsStand duel.responder d.responder.view
 
 -- The report tells what a run makes of the two, and those left picture the views after it.
 pub record DatagramReports (d : DatagramSides) (events : List DatagramEvent) (duel : HeldDatagramDuel) (report : DatagramReport) : Type 0 where
   pub last : DatagramSides
   pub run : DatagramRun d events (datagram_notes_of report.entries.items) last
-  pub pictures : DuelPictures duel last
+  pub pictures : DatagramDuelStands duel last

@@ -6,7 +6,7 @@ ghost use Rattle.noise_session.specs.Datagrams.{DatagramView};
 ghost use Rattle.noise_duel.specs.DatagramAgreement.{DatagramsAgree, HaveOneBeginning};
 ghost use Rattle.noise_events.specs.DatagramEvents.{Open, Raw, Seal};
 ghost use Rattle.noise_events.specs.DatagramEvents.{datagram_event_of, datagram_events_of};
-ghost use Rattle.noise_duel.specs.DatagramReports.{DatagramReports, DuelPictures};
+ghost use Rattle.noise_duel.specs.DatagramReports.{DatagramReports, DatagramDuelStands};
 ghost use Rattle.noise_duel.specs.DatagramSides.{DatagramSides, meeting};
 ghost use Rattle.noise_duel.specs.OneDatagram.{AreKept, DatagramHappened};
 
@@ -76,9 +76,9 @@ impl DatagramDuel {
         alloc: Global,
         events: &[DatagramEvent],
     ) -> Result<(DatagramDuel, DatagramReport), AllocError>
-        ensures reports { (v w : DatagramView) → DuelPictures self (meeting v w)
+        ensures reports { (v w : DatagramView) → DatagramDuelStands self (meeting v w)
             → IfOk result (λ r. DatagramReports (meeting v w) (datagram_events_of events.now) r.0 r.1) }
-        ensures agrees { (v w : DatagramView) → DuelPictures self (meeting v w) → HaveOneBeginning v w
+        ensures agrees { (v w : DatagramView) → DatagramDuelStands self (meeting v w) → HaveOneBeginning v w
             → IfOk result (λ r. (left : DatagramReports (meeting v w) (datagram_events_of events.now) r.0 r.1)
             × DatagramsAgree v.history left.last) }
     {
@@ -102,7 +102,7 @@ impl DatagramDuel {
         event: &DatagramEvent,
         sealed: &mut SealedDatagrams,
     ) -> Result<(Role, DatagramEntry), AllocError>
-        ensures { (d : DatagramSides) → DuelPictures self.old d → AreKept sealed.old d
+        ensures { (d : DatagramSides) → DatagramDuelStands self.old d → AreKept sealed.old d
             → IfOk result (λ told. DatagramHappened d (datagram_event_of event.now) told self.new sealed.new) }
     {
         match event {
@@ -129,7 +129,7 @@ impl DatagramDuel {
         payload: &[u8],
         sealed: &mut SealedDatagrams,
     ) -> Result<DatagramEntry, AllocError>
-        ensures { (d : DatagramSides) → DuelPictures self.old d → AreKept sealed.old d
+        ensures { (d : DatagramSides) → DatagramDuelStands self.old d → AreKept sealed.old d
             → IfOk result (λ entry. DatagramHappened d (Seal role payload.now) (role, entry) self.new sealed.new) }
     {
         match role {
@@ -146,7 +146,7 @@ impl DatagramDuel {
         number: usize,
         sealed: &SealedDatagrams,
     ) -> Result<DatagramEntry, AllocError>
-        ensures { (d : DatagramSides) → DuelPictures self.old d → AreKept sealed.now d
+        ensures { (d : DatagramSides) → DatagramDuelStands self.old d → AreKept sealed.now d
             → IfOk result (λ entry. DatagramHappened d (Open role number) (role, entry) self.new sealed.now) }
     {
         match role {
@@ -168,7 +168,7 @@ impl DatagramDuel {
         role: Role,
         bytes: &[u8],
     ) -> Result<DatagramEntry, AllocError>
-        ensures { (d : DatagramSides) (sealed : SealedDatagrams) → DuelPictures self.old d → AreKept sealed d
+        ensures { (d : DatagramSides) (sealed : SealedDatagrams) → DatagramDuelStands self.old d → AreKept sealed d
             → IfOk result (λ entry. DatagramHappened d (Raw role bytes.now) (role, entry) self.new sealed) }
     {
         match role {

@@ -2,7 +2,7 @@
 #![tactic(auto)]
 
 ghost use Rattle.std.specs.Prelude.{◌≡◌, ℕ, List, length, IfOk, slice_get};
-ghost use Rattle.noise_session.specs.Datagrams.{Pictures};
+ghost use Rattle.noise_session.specs.Datagrams.{DatagramsStand};
 ghost use Rattle.noise_duel.specs.DatagramSides.{DatagramSide, datagrams_in};
 ghost use Rattle.noise_duel.specs.Entries.{bytes_of};
 ghost use Rattle.noise_duel.specs.OneDatagram.{HasFound, HasOpened, HasSealed};
@@ -24,7 +24,7 @@ pub(crate) fn seal(
     payload: &[u8],
     sealed: &mut Vec<Vec<u8>>,
 ) -> Result<DatagramEntry, AllocError>
-    ensures { (s : DatagramSide) → Pictures datagrams.old s.view → bytes_of sealed.old.items ≡ datagrams_in s
+    ensures { (s : DatagramSide) → DatagramsStand datagrams.old s.view → bytes_of sealed.old.items ≡ datagrams_in s
         → IfOk result (λ entry. HasSealed s payload.now entry datagrams.new sealed.new.items) }
 {
     let room = if payload.len() > PAYLOAD_MAX {
@@ -51,7 +51,7 @@ pub(crate) fn open(
     datagrams: &mut Datagrams,
     bytes: &[u8],
 ) -> Result<DatagramEntry, AllocError>
-    ensures { (s : DatagramSide) → Pictures datagrams.old s.view → IfOk result (λ entry. HasOpened s bytes.now entry datagrams.new) }
+    ensures { (s : DatagramSide) → DatagramsStand datagrams.old s.view → IfOk result (λ entry. HasOpened s bytes.now entry datagrams.new) }
 {
     let mut datagram = Vec::from_slice(alloc, bytes)?;
     match datagrams.open(datagram.as_mut_slice()) {
@@ -67,7 +67,7 @@ pub(crate) fn open_numbered(
     sealed: &[Vec<u8>],
     number: usize,
 ) -> Result<DatagramEntry, AllocError>
-    ensures { (s : DatagramSide) → Pictures datagrams.old s.view
+    ensures { (s : DatagramSide) → DatagramsStand datagrams.old s.view
         → IfOk result (λ entry. HasFound s number (slice_get (bytes_of sealed.now) number) entry datagrams.new) }
 {
     match sealed.get(number) {

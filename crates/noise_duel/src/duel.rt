@@ -11,7 +11,7 @@ ghost use Rattle.noise_session.specs.EndDatagrams.{is_datagram_ready};
 ghost use Rattle.noise_events.specs.Events.{event_of, events_of};
 ghost use Rattle.noise_duel.specs.Acts.{lines_of};
 ghost use Rattle.noise_duel.specs.Conversation.{KeyMaterial, HaveParts, InTurn, facing, say_events};
-ghost use Rattle.noise_duel.specs.DatagramReports.{DuelPictures};
+ghost use Rattle.noise_duel.specs.DatagramReports.{DatagramDuelStands};
 ghost use Rattle.noise_duel.specs.DatagramSides.{meeting};
 ghost use Rattle.noise_duel.specs.Entries.{bytes_of};
 ghost use Rattle.noise_events.specs.Events.{Deliver, Raw, Say};
@@ -132,7 +132,7 @@ impl<A: Keys, B: Keys> Duel<A, B> {
     pub fn into_datagrams(self, window: Window) -> Result<DatagramDuel, Duel<A, B>>
         ensures when { IsOk result ↔ ((is_datagram_ready self.initiator ≡ true) × (is_datagram_ready self.responder ≡ true)) }
         ensures begun { (v w : EndView) → DuelStands A.public_of A.agreement B.public_of B.agreement self (facing_as v w)
-            → IfOk result (λ duel. DuelPictures duel (meeting (datagrams_of v.party window) (datagrams_of w.party window))) }
+            → IfOk result (λ duel. DatagramDuelStands duel (meeting (datagrams_of v.party window) (datagrams_of w.party window))) }
         ensures back { IfErr result (λ duel. duel ≡ self) }
     {
         if !(self.initiator.datagram_ready() && self.responder.datagram_ready()) {

@@ -5,12 +5,12 @@ use Rattle.std.proofs.Math.Seq.{take-append_seam, drop-append_seam}
 use Rattle.std.specs.Prelude.{Bool, Option, Some, is_some, if◌then◌else◌, nat_lt}
 use Rattle.noise_names.specs.declared.token.Token.{Token}
 use Rattle.noise_names.specs.declared.token.Token.TheVariants.{E, S, Ee, Es, Se, Ss, Psk}
-use Rattle.noise_state.specs.History.{History, cipher_key, piece}
-use Rattle.noise_state.specs.Pieces.{length-piece, piece-same}
+use Rattle.noise_state.specs.History.{History, cipher_key, ciphertext}
+use Rattle.noise_state.specs.Ciphertexts.{length-ciphertext, ciphertext-same}
 use Rattle.noise_handshake.specs.declared.remote.Remote.{Remote}
 use Rattle.noise_handshake.specs.declared.faults.Cause.{Cause}
-use Rattle.noise_handshake.specs.Line.{token_piece, after_token, front, after_front}
-use Rattle.noise_handshake.specs.View.{View, Reader, reader, Fits, Fit, known_after, secrets_after, Leads, Reaches, Reads, Stops, Accepts, cause_of}
+use Rattle.noise_handshake.specs.Message.{token_bytes, after_token, before_payload, after_tokens}
+use Rattle.noise_handshake.specs.View.{View, Reader, reader, Fits, Fit, known_after, secrets_after, BeginsAs, CanBegin, Reads, Stops, Accepts, cause_of}
 use Rattle.noise_handshake.specs.View.{cause_at, learned, tokens_now}
 use Rattle.noise_handshake.specs.inner.Listening.{Fails, StopsKnowing}
 use Rattle.noise_handshake.specs.declared.faults.Cause.TheVariants.{Short, Tag}
@@ -26,13 +26,13 @@ some-same o x y f g = cc
 
 -- a token's text and what is after it are determined
 pub token-apart : (v : Reader) (known : Remote) (secrets : List (List ℕ)) (r : History) (t : Token) (x y p q : List ℕ)
-    → Fits v known secrets t x → Fits v known secrets t y → token_piece r t x ++ p ≡ token_piece r t y ++ q → (x ≡ y) × (p ≡ q)
+    → Fits v known secrets t x → Fits v known secrets t y → token_bytes r t x ++ p ≡ token_bytes r t y ++ q → (x ≡ y) × (p ≡ q)
 token-apart v known secrets r E x y p q f g e = split-apart x y p q (f ∙ sym g) e
 token-apart v known secrets r S x y p q f g e =
-    let n : length (piece r x) ≡ length (piece r y) = length-piece r x ∙ ap (λ (k : ℕ). if is_some (cipher_key r) then k + 16 else k) (f ∙ sym g)
-    ∙ sym (length-piece r y) in
-    let h = split-apart (piece r x) (piece r y) p q n e in
-    (piece-same r x y h.0, h.1)
+    let n : length (ciphertext r x) ≡ length (ciphertext r y) = length-ciphertext r x ∙ ap (λ (k : ℕ). if is_some (cipher_key r) then k + 16 else k) (f ∙ sym g)
+    ∙ sym (length-ciphertext r y) in
+    let h = split-apart (ciphertext r x) (ciphertext r y) p q n e in
+    (ciphertext-same r x y h.0, h.1)
 token-apart v known secrets r Psk x y p q f g e = (f ∙ sym g, e)
 token-apart v known secrets r Ee x y p q f g e = (some-same _ x y f g, e)
 token-apart v known secrets r Es x y p q f g e = (some-same _ x y f g, e)
@@ -44,20 +44,20 @@ cons-same x y xs ys e h = cc
 
 -- all the texts are determined, and what is left
 pub front-apart : (v : Reader) (known : Remote) (secrets : List (List ℕ)) (r : History) (ts : List Token) (xs ys : List (List ℕ)) (p q : List ℕ)
-    → Fit v known secrets ts xs → Fit v known secrets ts ys → front v.psks r ts xs ++ p ≡ front v.psks r ts ys ++ q → (xs ≡ ys) × (p ≡ q)
+    → Fit v known secrets ts xs → Fit v known secrets ts ys → before_payload v.psks r ts xs ++ p ≡ before_payload v.psks r ts ys ++ q → (xs ≡ ys) × (p ≡ q)
 front-apart v known secrets r [] [] [] p q f g e = (refl, e)
 front-apart v known secrets r [] [] (y ∷ ys) p q f g e = absurd g
 front-apart v known secrets r [] (x ∷ xs) ys p q f g e = absurd f
 front-apart v known secrets r (t ∷ ts) [] ys p q f g e = absurd f
 front-apart v known secrets r (t ∷ ts) (x ∷ xs) [] p q f g e = absurd g
 front-apart v known secrets r (t ∷ ts) (x ∷ xs) (y ∷ ys) p q f g e =
-    let a : List ℕ = front v.psks (after_token v.psks r t x) ts xs in
-    let b : List ℕ = front v.psks (after_token v.psks r t y) ts ys in
+    let a : List ℕ = before_payload v.psks (after_token v.psks r t x) ts xs in
+    let b : List ℕ = before_payload v.psks (after_token v.psks r t y) ts ys in
     let h = token-apart v known secrets r t x y (a ++ p) (b ++ q) f.0 g.0
-    (sym (append_assoc (token_piece r t x) a p) ∙ e ∙ append_assoc (token_piece r t y) b q) in
+    (sym (append_assoc (token_bytes r t x) a p) ∙ e ∙ append_assoc (token_bytes r t y) b q) in
     let g1 = subst (λ (z : List ℕ). Fit v (known_after known t z) (secrets_after secrets t) ts ys) (sym h.0) g.1 in
-    let e1 : a ++ p ≡ front v.psks (after_token v.psks r t x) ts ys ++ q =
-    h.1 ∙ ap (λ (z : List ℕ). front v.psks (after_token v.psks r t z) ts ys ++ q) (sym h.0) in
+    let e1 : a ++ p ≡ before_payload v.psks (after_token v.psks r t x) ts ys ++ q =
+    h.1 ∙ ap (λ (z : List ℕ). before_payload v.psks (after_token v.psks r t z) ts ys ++ q) (sym h.0) in
     let i = front-apart v (known_after known t x) (secrets_after secrets t) (after_token v.psks r t x) ts xs ys p q f.1 g1 e1 in
     (cons-same x y xs ys h.0 i.0, i.1)
 
@@ -65,32 +65,32 @@ front-apart v known secrets r (t ∷ ts) (x ∷ xs) (y ∷ ys) p q f g e =
 pub reads-one : (v : Reader) (known : Remote) (secrets : List (List ℕ)) (r : History) (ts : List Token) (m : List ℕ) (xs ys : List (List ℕ)) (p q : List ℕ)
     → Reads v known secrets r ts m xs p → Reads v known secrets r ts m ys q → (xs ≡ ys) × (p ≡ q)
 reads-one v known secrets r ts m xs ys p q a b =
-    let h = front-apart v known secrets r ts xs ys (piece (after_front v.psks r ts xs) p) (piece (after_front v.psks r ts ys) q) a.fit b.fit
+    let h = front-apart v known secrets r ts xs ys (ciphertext (after_tokens v.psks r ts xs) p) (ciphertext (after_tokens v.psks r ts ys) q) a.fit b.fit
     (sym a.spelled ∙ b.spelled) in
-    (h.0, piece-same (after_front v.psks r ts xs) p q (h.1 ∙ ap (λ (zs : List (List ℕ)). piece (after_front v.psks r ts zs) q) (sym h.0)))
+    (h.0, ciphertext-same (after_tokens v.psks r ts xs) p q (h.1 ∙ ap (λ (zs : List (List ℕ)). ciphertext (after_tokens v.psks r ts zs) q) (sym h.0)))
 
 pub accepts-one : (v : View) (m : List ℕ) (xs ys : List (List ℕ)) (p q : List ℕ) → Accepts v m xs p → Accepts v m ys q → (xs ≡ ys) × (p ≡ q)
 accepts-one v m xs ys p q a b = reads-one (reader v) v.remote v.secrets v.history (tokens_now v) m xs ys p q a.reads b.reads
 
 -- ---- how reading goes on
 
-pub leads-none : (v : Reader) (known : Remote) (secrets : List (List ℕ)) (r : History) (m : List ℕ) → Leads v known secrets r [] [] m m
+pub leads-none : (v : Reader) (known : Remote) (secrets : List (List ℕ)) (r : History) (m : List ℕ) → BeginsAs v known secrets r [] [] m m
 leads-none v known secrets r m = record { fit = tt; spelled = refl }
 
 pub leads-more : (v : Reader) (known : Remote) (secrets : List (List ℕ)) (r : History) (t : Token) (x : List ℕ) (ts : List Token) (xs : List (List ℕ))
     (m more rest : List ℕ)
-    → Fits v known secrets t x → m ≡ token_piece r t x ++ more
-    → Leads v (known_after known t x) (secrets_after secrets t) (after_token v.psks r t x) ts xs more rest
-    → Leads v known secrets r (t ∷ ts) (x ∷ xs) m rest
+    → Fits v known secrets t x → m ≡ token_bytes r t x ++ more
+    → BeginsAs v (known_after known t x) (secrets_after secrets t) (after_token v.psks r t x) ts xs more rest
+    → BeginsAs v known secrets r (t ∷ ts) (x ∷ xs) m rest
 leads-more v known secrets r t x ts xs m more rest f e l = record {
   fit = (f, l.fit);
-  spelled = e ∙ ap (λ (k : List ℕ). token_piece r t x ++ k) l.spelled ∙ sym (append_assoc (token_piece r t x) _ rest);
+  spelled = e ∙ ap (λ (k : List ℕ). token_bytes r t x ++ k) l.spelled ∙ sym (append_assoc (token_bytes r t x) _ rest);
 }
 
 leads-fails : (v : Reader) (known : Remote) (secrets : List (List ℕ)) (r : History) (t : Token) (xs : List (List ℕ)) (m rest : List ℕ)
-    → Fails v known secrets r t m → Leads v known secrets r (t ∷ []) xs m rest → ⊥
+    → Fails v known secrets r t m → BeginsAs v known secrets r (t ∷ []) xs m rest → ⊥
 leads-fails v known secrets r t [] m rest bad l = l.fit
-leads-fails v known secrets r t (x ∷ []) m rest bad l = bad x rest l.fit.0 (l.spelled ∙ append_assoc (token_piece r t x) [] rest)
+leads-fails v known secrets r t (x ∷ []) m rest bad l = bad x rest l.fit.0 (l.spelled ∙ append_assoc (token_bytes r t x) [] rest)
 leads-fails v known secrets r t (x ∷ y ∷ ys) m rest bad l = l.fit.1
 
 pub stops-here : (v : Reader) (known : Remote) (secrets : List (List ℕ)) (r : History) (t : Token) (ts : List Token) (m : List ℕ) (cause : Cause)
@@ -111,24 +111,24 @@ stops-here v known secrets r t ts m cause bad why = (
 -- what leads beyond a token leads from after it
 leads-less : (v : Reader) (known : Remote) (secrets : List (List ℕ)) (r : History) (t : Token) (x : List ℕ) (ts : List Token) (xs : List (List ℕ))
     (m more rest : List ℕ)
-    → Fits v known secrets t x → m ≡ token_piece r t x ++ more → Leads v known secrets r (t ∷ ts) xs m rest
-    → Reaches v (known_after known t x) (secrets_after secrets t) (after_token v.psks r t x) ts more
+    → Fits v known secrets t x → m ≡ token_bytes r t x ++ more → BeginsAs v known secrets r (t ∷ ts) xs m rest
+    → CanBegin v (known_after known t x) (secrets_after secrets t) (after_token v.psks r t x) ts more
 leads-less v known secrets r t x ts [] m more rest f e l = absurd l.fit
 leads-less v known secrets r t x ts (y ∷ ys) m more rest f e l =
-    let b : List ℕ = front v.psks (after_token v.psks r t y) ts ys in
-    let h = token-apart v known secrets r t x y more (b ++ rest) f l.fit.0 (sym e ∙ l.spelled ∙ append_assoc (token_piece r t y) b rest) in
+    let b : List ℕ = before_payload v.psks (after_token v.psks r t y) ts ys in
+    let h = token-apart v known secrets r t x y more (b ++ rest) f l.fit.0 (sym e ∙ l.spelled ∙ append_assoc (token_bytes r t y) b rest) in
     record {
       carried = ys;
       rest = rest;
       leads = record {
         fit = subst (λ (z : List ℕ). Fit v (known_after known t z) (secrets_after secrets t) ts ys) (sym h.0) l.fit.1;
-        spelled = h.1 ∙ ap (λ (z : List ℕ). front v.psks (after_token v.psks r t z) ts ys ++ rest) (sym h.0);
+        spelled = h.1 ∙ ap (λ (z : List ℕ). before_payload v.psks (after_token v.psks r t z) ts ys ++ rest) (sym h.0);
       };
     }
 
 pub stops-later : (v : Reader) (known : Remote) (secrets : List (List ℕ)) (r : History) (t : Token) (x : List ℕ) (ts : List Token) (m more : List ℕ)
     (k : ℕ) (cause : Cause) (here : Remote)
-    → k < length ts → Fits v known secrets t x → m ≡ token_piece r t x ++ more
+    → k < length ts → Fits v known secrets t x → m ≡ token_bytes r t x ++ more
     → StopsKnowing v (known_after known t x) (secrets_after secrets t) (after_token v.psks r t x) ts more k cause here
     → StopsKnowing v known secrets r (t ∷ ts) m (suc k) cause here
 stops-later v known secrets r t x ts m more k cause here h f e (s, knows) = (
@@ -151,7 +151,7 @@ cause_at-end keyed (t ∷ ts) rest = cause_at-end keyed ts rest
 -- a stop at the payload
 stops-last : (v : Reader) (known : Remote) (secrets : List (List ℕ)) (r : History) (ts : List Token) (m : List ℕ) (xs : List (List ℕ))
     (rest : List ℕ) (cause : Cause)
-    → Leads v known secrets r ts xs m rest → ((payload : List ℕ) → rest ≡ piece (after_front v.psks r ts xs) payload → ⊥)
+    → BeginsAs v known secrets r ts xs m rest → ((payload : List ℕ) → rest ≡ ciphertext (after_tokens v.psks r ts xs) payload → ⊥)
     → cause ≡ (if nat_lt (length rest) 16 then Short else Tag) → Stops v known secrets r ts m (length ts) cause
 stops-last v known secrets r ts m xs rest cause l bad why =
     let whole : take (length ts) ts ≡ ts = take_all (length ts) ts (omega arith) in
@@ -159,18 +159,18 @@ stops-last v known secrets r ts m xs rest cause l bad why =
       within = omega arith;
       carried = xs;
       rest = rest;
-      leads = subst (λ (us : List Token). Leads v known secrets r us xs m rest) (sym whole) l;
+      leads = subst (λ (us : List Token). BeginsAs v known secrets r us xs m rest) (sym whole) l;
       further = λ h. absurd (omega arith);
       unread = λ e ys payload reads.
-          let h = front-apart v known secrets r ts xs ys rest (piece (after_front v.psks r ts ys) payload) l.fit reads.fit (sym l.spelled ∙ reads.spelled) in
-          bad payload (h.1 ∙ ap (λ (zs : List (List ℕ)). piece (after_front v.psks r ts zs) payload) (sym h.0));
-      why = why ∙ sym (cause_at-end (is_some (cipher_key (after_front v.psks r (take (length ts) ts) xs))) ts rest);
+          let h = front-apart v known secrets r ts xs ys rest (ciphertext (after_tokens v.psks r ts ys) payload) l.fit reads.fit (sym l.spelled ∙ reads.spelled) in
+          bad payload (h.1 ∙ ap (λ (zs : List (List ℕ)). ciphertext (after_tokens v.psks r ts zs) payload) (sym h.0));
+      why = why ∙ sym (cause_at-end (is_some (cipher_key (after_tokens v.psks r (take (length ts) ts) xs))) ts rest);
     }
 
 -- with what is known there
 pub knows-last : (v : Reader) (known here : Remote) (secrets : List (List ℕ)) (r : History) (ts : List Token) (m : List ℕ) (xs : List (List ℕ))
     (rest : List ℕ) (cause : Cause)
-    → Leads v known secrets r ts xs m rest → ((payload : List ℕ) → rest ≡ piece (after_front v.psks r ts xs) payload → ⊥)
+    → BeginsAs v known secrets r ts xs m rest → ((payload : List ℕ) → rest ≡ ciphertext (after_tokens v.psks r ts xs) payload → ⊥)
     → cause ≡ (if nat_lt (length rest) 16 then Short else Tag) → here ≡ learned known ts xs → StopsKnowing v known secrets r ts m (length ts) cause here
 unfolding stops-last
 knows-last v known here secrets r ts m xs rest cause l bad why e =
@@ -178,22 +178,22 @@ knows-last v known here secrets r ts m xs rest cause l bad why e =
 
 pub reads-whole : (v : Reader) (known : Remote) (secrets : List (List ℕ)) (r : History) (ts : List Token) (m : List ℕ) (xs : List (List ℕ))
     (rest payload : List ℕ)
-    → Leads v known secrets r ts xs m rest → rest ≡ piece (after_front v.psks r ts xs) payload → Reads v known secrets r ts m xs payload
+    → BeginsAs v known secrets r ts xs m rest → rest ≡ ciphertext (after_tokens v.psks r ts xs) payload → Reads v known secrets r ts m xs payload
 reads-whole v known secrets r ts m xs rest payload l e = record {
   fit = l.fit;
-  spelled = l.spelled ∙ ap (λ (k : List ℕ). front v.psks r ts xs ++ k) e;
+  spelled = l.spelled ∙ ap (λ (k : List ℕ). before_payload v.psks r ts xs ++ k) e;
 }
 
 -- what is read whole leads as far as one likes
 pub reads-leads : (v : Reader) (known : Remote) (secrets : List (List ℕ)) (r : History) (ts : List Token) (xs : List (List ℕ)) (m rest : List ℕ) (k : ℕ)
-    → Leads v known secrets r ts xs m rest → Reaches v known secrets r (take k ts) m
+    → BeginsAs v known secrets r ts xs m rest → CanBegin v known secrets r (take k ts) m
 reads-leads v known secrets r ts xs m rest zero l = record { carried = []; rest = m; leads = leads-none v known secrets r m }
 reads-leads v known secrets r [] xs m rest (suc k) l = record { carried = []; rest = m; leads = leads-none v known secrets r m }
 reads-leads v known secrets r (t ∷ ts) [] m rest (suc k) l = absurd l.fit
 reads-leads v known secrets r (t ∷ ts) (x ∷ xs) m rest (suc k) l =
     let next : History = after_token v.psks r t x in
-    let more : List ℕ = front v.psks next ts xs ++ rest in
-    let e : m ≡ token_piece r t x ++ more = l.spelled ∙ append_assoc (token_piece r t x) (front v.psks next ts xs) rest in
+    let more : List ℕ = before_payload v.psks next ts xs ++ rest in
+    let e : m ≡ token_bytes r t x ++ more = l.spelled ∙ append_assoc (token_bytes r t x) (before_payload v.psks next ts xs) rest in
     let i = reads-leads v (known_after known t x) (secrets_after secrets t) next ts xs more rest k (record { fit = l.fit.1; spelled = refl }) in
     record {
       carried = x ∷ i.carried;
@@ -212,8 +212,8 @@ pub stops-not : (v : Reader) (known : Remote) (secrets : List (List ℕ)) (r : H
     (xs : List (List ℕ)) (p : List ℕ)
     → Stops v known secrets r ts m k cause → Reads v known secrets r ts m xs p → ⊥
 stops-not v known secrets r ts m k cause xs p s a =
-    let l : Leads v known secrets r ts xs m (piece (after_front v.psks r ts xs) p) = record { fit = a.fit; spelled = a.spelled } in
+    let l : BeginsAs v known secrets r ts xs m (ciphertext (after_tokens v.psks r ts xs) p) = record { fit = a.fit; spelled = a.spelled } in
     elim (at-most k (length ts) s.within) [
-      | inl h ↦ s.further h (reads-leads v known secrets r ts xs m (piece (after_front v.psks r ts xs) p) (suc k) l)
+      | inl h ↦ s.further h (reads-leads v known secrets r ts xs m (ciphertext (after_tokens v.psks r ts xs) p) (suc k) l)
       | inr e ↦ s.unread e xs p a
     ]

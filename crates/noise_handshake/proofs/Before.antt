@@ -6,7 +6,7 @@ use Rattle.noise_handshake.specs.declared.stop.Stop.{Stop}
 use Rattle.noise_handshake.specs.declared.faults.Cause.TheVariants.{Agreement}
 use Rattle.noise_handshake.specs.View.{View, Listens, Refuses, Stops, reader, tokens_now}
 use Rattle.noise_handshake.specs.Wanting.{StopsFor, WantsToRead}
-use Rattle.noise_handshake.specs.inner.Listening.{LeadsBefore}
+use Rattle.noise_handshake.specs.inner.Listening.{BeginsBefore}
 
 wanted : (v : View) (m : List ℕ) (o : Option (Own × List ℕ)) → Listens v
     → MatchOption o ((j : ℕ) → Stops (reader v) v.remote v.secrets v.history (tokens_now v) m j Agreement → ⊥)
@@ -17,11 +17,11 @@ wanted v m (Some want) l h = record { listens = l; stops = h }
 
 -- for a party that listens
 pub before-of : (v : View) (m : List ℕ) (k : ℕ) (o : Result (Option (List ℕ)) Stop) → Listens v
-    → MatchResult o (λ remote. LeadsBefore (reader v) v.remote v.secrets v.history (tokens_now v) m k remote)
+    → MatchResult o (λ remote. BeginsBefore (reader v) v.remote v.secrets v.history (tokens_now v) m k remote)
     (λ stop. (stop.token < k) × Stops (reader v) v.remote v.secrets v.history (tokens_now v) m stop.token stop.cause × MatchOption stop.want
     ((j : ℕ) → Stops (reader v) v.remote v.secrets v.history (tokens_now v) m j Agreement → ⊥)
     (λ want. StopsFor (reader v) v.remote v.secrets v.history (tokens_now v) m want.0 want.1))
-    → MatchResult o (λ remote. LeadsBefore (reader v) v.remote v.secrets v.history (tokens_now v) m k remote)
+    → MatchResult o (λ remote. BeginsBefore (reader v) v.remote v.secrets v.history (tokens_now v) m k remote)
     (λ stop. (stop.token < k) × Refuses v m stop.token stop.cause × MatchOption stop.want
     ((j : ℕ) → Refuses v m j Agreement → ⊥) (λ want. WantsToRead v m want.0 want.1))
 before-of v m k (Ok remote) l h = h

@@ -13,10 +13,10 @@ use Rattle.noise_handshake.specs.declared.remote.Remote.{Remote}
 use Rattle.noise_handshake.specs.declared.faults.Cause.{Cause}
 use Rattle.noise_handshake.specs.declared.layout.PlacedToken.{PlacedToken}
 use Rattle.noise_handshake.specs.Length.{keyed_after}
-use Rattle.noise_handshake.specs.Line.{after_front}
-use Rattle.noise_handshake.specs.View.{Reader, Leads, Reaches, Stops, cause_at, learned}
-use Rattle.noise_handshake.specs.Wanting.{LacksFor}
-use Rattle.noise_handshake.specs.Writing.{Writer, Given, LacksAt}
+use Rattle.noise_handshake.specs.Message.{after_tokens}
+use Rattle.noise_handshake.specs.View.{Reader, BeginsAs, CanBegin, Stops, cause_at, learned}
+use Rattle.noise_handshake.specs.Wanting.{LacksAnswerFor}
+use Rattle.noise_handshake.specs.Writing.{Writer, Given, LacksAnswerAt}
 use Rattle.noise_handshake.specs.inner.Known.{are_known, is_known, e_after, s_after}
 use Rattle.noise_handshake.specs.inner.Layout.{tokens_of, ArePlaced}
 use Rattle.noise_handshake.specs.inner.Listening.{StopsKnowing}
@@ -76,17 +76,17 @@ stops-all v known s r ts m k j cause here h (stop, knows) =
         within = omega (arith, within);
         carried = stop.carried;
         rest = stop.rest;
-        leads = subst (λ (us : List Token). Leads v known s r us stop.carried m stop.rest) first stop.leads;
-        further = λ _ reaches. stop.further h (subst (λ (us : List Token). Reaches v known s r us m) (sym next) reaches);
+        leads = subst (λ (us : List Token). BeginsAs v known s r us stop.carried m stop.rest) first stop.leads;
+        further = λ _ reaches. stop.further h (subst (λ (us : List Token). CanBegin v known s r us m) (sym next) reaches);
         unread = λ e. absurd (omega (arith, e, within));
-        why = stop.why ∙ cause-take (is_some (cipher_key (after_front v.psks r (take j (take k ts)) stop.carried))) ts k j stop.rest less within
-            ∙ ap (λ (us : List Token). cause_at (is_some (cipher_key (after_front v.psks r us stop.carried))) ts j stop.rest) first;
+        why = stop.why ∙ cause-take (is_some (cipher_key (after_tokens v.psks r (take j (take k ts)) stop.carried))) ts k j stop.rest less within
+            ∙ ap (λ (us : List Token). cause_at (is_some (cipher_key (after_tokens v.psks r us stop.carried))) ts j stop.rest) first;
       },
       knows ∙ ap (λ (us : List Token). learned known us stop.carried) first,
     )
 
 -- what the first tokens lack
-pub lacks-all : (w : Writer) (known : Remote) (s : List (List ℕ)) (ts : List Token) (k j : ℕ) → LacksAt w known s (take k ts) j → LacksAt w known s ts j
+pub lacks-all : (w : Writer) (known : Remote) (s : List (List ℕ)) (ts : List Token) (k j : ℕ) → LacksAnswerAt w known s (take k ts) j → LacksAnswerAt w known s ts j
 lacks-all w known s ts k j l =
     let less : j < k = omega (arith, l.within, length-take k ts) in
     record {
@@ -96,8 +96,8 @@ lacks-all w known s ts k j l =
       none = λ xs g. l.none xs (subst (λ (us : List Token). Given w known s us xs) (sym (take-take (suc j) k ts (omega (arith, less)))) g);
     }
 
-pub lacks-first : (w : Writer) (known : Remote) (s : List (List ℕ)) (ts : List Token) (k j : ℕ) → j < k → LacksAt w known s ts j
-    → LacksAt w known s (take k ts) j
+pub lacks-first : (w : Writer) (known : Remote) (s : List (List ℕ)) (ts : List Token) (k j : ℕ) → j < k → LacksAnswerAt w known s ts j
+    → LacksAnswerAt w known s (take k ts) j
 lacks-first w known s ts k j less l = record {
   within = omega (arith, less, l.within, length-take k ts);
   before = l.before;
@@ -106,7 +106,7 @@ lacks-first w known s ts k j less l = record {
 }
 
 pub lacks-for-all : (w : Writer) (known : Remote) (s : List (List ℕ)) (ts : List Token) (k : ℕ) (own : Own) (key : List ℕ)
-    → LacksFor w known s (take k ts) own key → LacksFor w known s ts own key
+    → LacksAnswerFor w known s (take k ts) own key → LacksAnswerFor w known s ts own key
 lacks-for-all w known s ts k own key l = record {
   before = l.before;
   token = l.token;

@@ -6,14 +6,14 @@ use Rattle.noise_names.specs.declared.token.Token.TheVariants.{E, S, Ee, Es, Se,
 use Rattle.noise_names.specs.Plan.{has_psk}
 use Rattle.noise_state.specs.History.{History}
 use Rattle.noise_handshake.specs.declared.remote.Remote.{Remote}
-use Rattle.noise_handshake.specs.Line.{token_piece, after_token, front, after_front, line}
+use Rattle.noise_handshake.specs.Message.{token_bytes, after_token, before_payload, after_tokens, message_bytes}
 use Rattle.noise_handshake.specs.Length.{keyed_after, keyed_after_tokens, tag_width, token_width, tokens_width, added_width}
 use Rattle.noise_handshake.specs.View.{View, secrets_after, tokens_now}
-use Rattle.noise_handshake.specs.Writing.{Writer, writer, Gives, Given, LacksAt, Writes, Lacks}
+use Rattle.noise_handshake.specs.Writing.{Writer, writer, Gives, Given, LacksAnswerAt, Writes, LacksAnswer}
 
 -- one token more in front
 pub lacks-later : (w : Writer) (known : Remote) (secrets : List (List ℕ)) (t : Token) (ts : List Token) (x : List ℕ) (k : ℕ)
-    → Gives w known secrets t x → LacksAt w known (secrets_after secrets t) ts k → LacksAt w known secrets (t ∷ ts) (suc k)
+    → Gives w known secrets t x → LacksAnswerAt w known (secrets_after secrets t) ts k → LacksAnswerAt w known secrets (t ∷ ts) (suc k)
 lacks-later w known secrets t ts x k g l = record {
   within = omega (arith, l.within);
   before = x ∷ l.before;
@@ -45,19 +45,19 @@ module _ (w : Writer) (known : Remote) (secrets others : List (List ℕ)) (r : H
       let later : Given w known (secrets_after secrets t) ts xs = subst (λ (z : List (List ℕ)). Given w known z ts xs) holds h in
       subst (λ (us : List Token). Given w known secrets us (x ∷ xs)) (sym split) (gives, later)
 
-  pub front-on : (xs : List (List ℕ)) (start more : List ℕ) → start ≡ token_piece r t x → more ≡ front w.psks (after_token w.psks r t x) ts xs
-      → start ++ more ≡ front w.psks r tokens (x ∷ xs)
+  pub front-on : (xs : List (List ℕ)) (start more : List ℕ) → start ≡ token_bytes r t x → more ≡ before_payload w.psks (after_token w.psks r t x) ts xs
+      → start ++ more ≡ before_payload w.psks r tokens (x ∷ xs)
   front-on xs start more e f =
-      ap (λ (z : List ℕ). z ++ more) e ∙ ap (λ (z : List ℕ). token_piece r t x ++ z) f ∙ ap (λ (us : List Token). front w.psks r us (x ∷ xs)) (sym split)
+      ap (λ (z : List ℕ). z ++ more) e ∙ ap (λ (z : List ℕ). token_bytes r t x ++ z) f ∙ ap (λ (us : List Token). before_payload w.psks r us (x ∷ xs)) (sym split)
 
   pub after-on : {St : Type 0} (stands : St → History → Type 0) (state : St) (xs : List (List ℕ))
-      → stands state (after_front w.psks (after_token w.psks r t x) ts xs) → stands state (after_front w.psks r tokens (x ∷ xs))
-  after-on stands state xs h = subst (λ (us : List Token). stands state (after_front w.psks r us (x ∷ xs))) (sym split) h
+      → stands state (after_tokens w.psks (after_token w.psks r t x) ts xs) → stands state (after_tokens w.psks r tokens (x ∷ xs))
+  after-on stands state xs h = subst (λ (us : List Token). stands state (after_tokens w.psks r us (x ∷ xs))) (sym split) h
 
-  pub lacks-on : (k : ℕ) → LacksAt w known others ts k → LacksAt w known secrets tokens (k + 1)
+  pub lacks-on : (k : ℕ) → LacksAnswerAt w known others ts k → LacksAnswerAt w known secrets tokens (k + 1)
   lacks-on k l =
-      let later : LacksAt w known (secrets_after secrets t) ts k = subst (λ (z : List (List ℕ)). LacksAt w known z ts k) holds l in
-      rw add-one (subst (λ (us : List Token). LacksAt w known secrets us (suc k)) (sym split) (lacks-later w known secrets t ts x k gives later))
+      let later : LacksAnswerAt w known (secrets_after secrets t) ts k = subst (λ (z : List (List ℕ)). LacksAnswerAt w known z ts k) holds l in
+      rw add-one (subst (λ (us : List Token). LacksAnswerAt w known secrets us (suc k)) (sym split) (lacks-later w known secrets t ts x k gives later))
 
 -- ---- what a party gives is determined
 
@@ -90,8 +90,8 @@ given-front w known secrets [] (x ∷ xs) (suc n) g = absurd g
 given-front w known secrets (t ∷ ts) [] (suc n) g = absurd g
 given-front w known secrets (t ∷ ts) (x ∷ xs) (suc n) g = (g.0, given-front w known (secrets_after secrets t) ts xs n g.1)
 
-not-before : (w : Writer) (known : Remote) (secrets : List (List ℕ)) (ts : List Token) (k j : ℕ) → LacksAt w known secrets ts k
-    → LacksAt w known secrets ts j → k < j → ⊥
+not-before : (w : Writer) (known : Remote) (secrets : List (List ℕ)) (ts : List Token) (k j : ℕ) → LacksAnswerAt w known secrets ts k
+    → LacksAnswerAt w known secrets ts j → k < j → ⊥
 not-before w known secrets ts k j a b h =
     a.none (take (suc k) b.before)
     (subst (λ (us : List Token). Given w known secrets us (take (suc k) b.before)) (take-take (suc k) j ts (omega arith))
@@ -104,15 +104,15 @@ same-place k j f g = grind arith
 pub writes-one : (v : View) (payload m n : List ℕ) (xs ys : List (List ℕ)) → Writes v payload xs m → Writes v payload ys n → (xs ≡ ys) × (m ≡ n)
 writes-one v payload m n xs ys a b =
     let e : xs ≡ ys = given-one (writer v) v.remote v.secrets (tokens_now v) xs ys a.given b.given in
-    (e, a.spelled ∙ ap (λ (zs : List (List ℕ)). line (has_psk v.pattern) v.history (tokens_now v) zs payload) e ∙ sym b.spelled)
+    (e, a.spelled ∙ ap (λ (zs : List (List ℕ)). message_bytes (has_psk v.pattern) v.history (tokens_now v) zs payload) e ∙ sym b.spelled)
 
 -- it lacks an answer at one token
-pub lacks-one : (v : View) (k j : ℕ) → Lacks v k → Lacks v j → k ≡ j
+pub lacks-one : (v : View) (k j : ℕ) → LacksAnswer v k → LacksAnswer v j → k ≡ j
 lacks-one v k j a b =
     same-place k j (not-before (writer v) v.remote v.secrets (tokens_now v) k j a.lacks b.lacks)
     (not-before (writer v) v.remote v.secrets (tokens_now v) j k b.lacks a.lacks)
 
 -- what lacks an answer writes nothing
-pub writes-or : (v : View) (payload m : List ℕ) (xs : List (List ℕ)) (k : ℕ) → Writes v payload xs m → Lacks v k → ⊥
+pub writes-or : (v : View) (payload m : List ℕ) (xs : List (List ℕ)) (k : ℕ) → Writes v payload xs m → LacksAnswer v k → ⊥
 writes-or v payload m xs k a b =
     b.lacks.none (take (suc k) xs) (given-front (writer v) v.remote v.secrets (tokens_now v) xs (suc k) a.given)

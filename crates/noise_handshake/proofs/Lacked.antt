@@ -12,8 +12,8 @@ use Rattle.noise_handshake.specs.declared.remote.Remote.{Remote}
 use Rattle.noise_handshake.specs.Held.{Held, is_turn}
 use Rattle.noise_handshake.specs.Party.{Stands}
 use Rattle.noise_handshake.specs.View.{View, Speaks, own_at, remote_at, secrets_after, tokens_now}
-use Rattle.noise_handshake.specs.Wanting.{LacksFor, WantsToWrite}
-use Rattle.noise_handshake.specs.Writing.{Writer, writer, Gives, Given, LacksAt, Lacks}
+use Rattle.noise_handshake.specs.Wanting.{LacksAnswerFor, WantsToWrite}
+use Rattle.noise_handshake.specs.Writing.{Writer, writer, Gives, Given, LacksAnswerAt, LacksAnswer}
 use Rattle.noise_handshake.specs.inner.Known.{remote_known}
 use Rattle.noise_handshake.specs.inner.Speaking.{Speaking}
 use Rattle.noise_handshake.proofs.Giving.{lacks-later}
@@ -22,7 +22,7 @@ use Rattle.noise_handshake.proofs.Wrote.{for-view}
 
 lacks-tail : (w : Writer) (known : Remote) (secrets : List (List ℕ)) (t : Token) (ts : List Token) (x : List ℕ) (k : ℕ) (xs : List (List ℕ))
     → k < length ts → Gives w known secrets t x → Given w known secrets (take (suc k) (t ∷ ts)) xs
-    → ((ys : List (List ℕ)) → Given w known secrets (take (suc (suc k)) (t ∷ ts)) ys → ⊥) → LacksAt w known (secrets_after secrets t) ts k
+    → ((ys : List (List ℕ)) → Given w known secrets (take (suc (suc k)) (t ∷ ts)) ys → ⊥) → LacksAnswerAt w known (secrets_after secrets t) ts k
 lacks-tail w known secrets t ts x k [] h g given none = absurd given
 lacks-tail w known secrets t ts x k (y ∷ ys) h g given none = record {
   within = h;
@@ -33,15 +33,15 @@ lacks-tail w known secrets t ts x k (y ∷ ys) h g given none = record {
 
 -- where the first token has its text the others lack what all lack
 lacks-after : (w : Writer) (known : Remote) (secrets : List (List ℕ)) (t : Token) (ts : List Token) (x : List ℕ) → Gives w known secrets t x
-    → ((k : ℕ) → LacksAt w known (secrets_after secrets t) ts k → ⊥) → (k : ℕ) → LacksAt w known secrets (t ∷ ts) k → ⊥
+    → ((k : ℕ) → LacksAnswerAt w known (secrets_after secrets t) ts k → ⊥) → (k : ℕ) → LacksAnswerAt w known secrets (t ∷ ts) k → ⊥
 lacks-after w known secrets t ts x g f zero l = l.none (x ∷ []) (g, tt)
 lacks-after w known secrets t ts x g f (suc k) l =
     f k (lacks-tail w known secrets t ts x k l.before (omega (arith, l.within)) g l.given l.none)
 
 later-one : (w : Writer) (known : Remote) (secrets : List (List ℕ)) (t : Token) (ts : List Token) (x : List ℕ) → Gives w known secrets t x
     → (o : Option (Own × List ℕ))
-    → MatchOption o ((k : ℕ) → LacksAt w known (secrets_after secrets t) ts k → ⊥) (λ want. LacksFor w known (secrets_after secrets t) ts want.0 want.1)
-    → MatchOption o ((k : ℕ) → LacksAt w known secrets (t ∷ ts) k → ⊥) (λ want. LacksFor w known secrets (t ∷ ts) want.0 want.1)
+    → MatchOption o ((k : ℕ) → LacksAnswerAt w known (secrets_after secrets t) ts k → ⊥) (λ want. LacksAnswerFor w known (secrets_after secrets t) ts want.0 want.1)
+    → MatchOption o ((k : ℕ) → LacksAnswerAt w known secrets (t ∷ ts) k → ⊥) (λ want. LacksAnswerFor w known secrets (t ∷ ts) want.0 want.1)
 later-one w known secrets t ts x g None h = lacks-after w known secrets t ts x g h
 later-one w known secrets t ts x g (Some want) h = record {
   before = t ∷ h.before;
@@ -56,15 +56,15 @@ later-one w known secrets t ts x g (Some want) h = record {
 -- what the later tokens lack
 pub asked-later : (w : Writer) (known : Remote) (secrets others : List (List ℕ)) (tokens ts : List Token) (t : Token) (x : List ℕ) → tokens ≡ t ∷ ts
     → others ≡ secrets_after secrets t → Gives w known secrets t x → (o : Option (Own × List ℕ))
-    → MatchOption o ((k : ℕ) → LacksAt w known others ts k → ⊥) (λ want. LacksFor w known others ts want.0 want.1)
-    → MatchOption o ((k : ℕ) → LacksAt w known secrets tokens k → ⊥) (λ want. LacksFor w known secrets tokens want.0 want.1)
+    → MatchOption o ((k : ℕ) → LacksAnswerAt w known others ts k → ⊥) (λ want. LacksAnswerFor w known others ts want.0 want.1)
+    → MatchOption o ((k : ℕ) → LacksAnswerAt w known secrets tokens k → ⊥) (λ want. LacksAnswerFor w known secrets tokens want.0 want.1)
 asked-later w known secrets others tokens ts t x e f g o h =
-    let h1 = subst (λ (z : List (List ℕ)). MatchOption o ((k : ℕ) → LacksAt w known z ts k → ⊥) (λ want. LacksFor w known z ts want.0 want.1)) f h in
-    subst (λ (us : List Token). MatchOption o ((k : ℕ) → LacksAt w known secrets us k → ⊥) (λ want. LacksFor w known secrets us want.0 want.1)) (sym e)
+    let h1 = subst (λ (z : List (List ℕ)). MatchOption o ((k : ℕ) → LacksAnswerAt w known z ts k → ⊥) (λ want. LacksAnswerFor w known z ts want.0 want.1)) f h in
+    subst (λ (us : List Token). MatchOption o ((k : ℕ) → LacksAnswerAt w known secrets us k → ⊥) (λ want. LacksAnswerFor w known secrets us want.0 want.1)) (sym e)
     (later-one w known secrets t ts x g o h1)
 
 first-lacks : (w : Writer) (known : Remote) (secrets : List (List ℕ)) (t : Token) (ts : List Token)
-    → ((x : List ℕ) → Gives w known secrets t x → ⊥) → LacksAt w known secrets (t ∷ ts) 0
+    → ((x : List ℕ) → Gives w known secrets t x → ⊥) → LacksAnswerAt w known secrets (t ∷ ts) 0
 first-lacks w known secrets t ts bad = record { within = omega arith; before = []; given = tt; none = no-text }
   where
     no-text : (xs : List (List ℕ)) → Given w known secrets (take 1 (t ∷ ts)) xs → ⊥
@@ -78,7 +78,7 @@ none-some None h e = cc
 first-one : (w : Writer) (known : Remote) (secrets : List (List ℕ)) (t : Token) (ts : List Token) → ((x : List ℕ) → Gives w known secrets t x → ⊥)
     → IsTrue (remote_known w.role (is_some known.e) (is_some known.s) t) → (o : Option (Own × List ℕ))
     → MatchOption o (remote_at w.role known t ≡ None) (λ want. (want.0 ≡ own_at w.role t) × (remote_at w.role known t ≡ Some want.1))
-    → MatchOption o ((k : ℕ) → LacksAt w known secrets (t ∷ ts) k → ⊥) (λ want. LacksFor w known secrets (t ∷ ts) want.0 want.1)
+    → MatchOption o ((k : ℕ) → LacksAnswerAt w known secrets (t ∷ ts) k → ⊥) (λ want. LacksAnswerFor w known secrets (t ∷ ts) want.0 want.1)
 first-one w known secrets t ts bad dh None h = absurd (none-some (remote_at w.role known t) (is_some-remote w.role known t ∙ dh) h)
 first-one w known secrets t ts bad dh (Some want) h = record {
   before = [];
@@ -95,9 +95,9 @@ pub asked-first : (w : Writer) (known : Remote) (secrets : List (List ℕ)) (tok
     → ((x : List ℕ) → Gives w known secrets t x → ⊥)
     → IsTrue (remote_known w.role (is_some known.e) (is_some known.s) t) → (o : Option (Own × List ℕ))
     → MatchOption o (remote_at w.role known t ≡ None) (λ want. (want.0 ≡ own_at w.role t) × (remote_at w.role known t ≡ Some want.1))
-    → MatchOption o ((k : ℕ) → LacksAt w known secrets tokens k → ⊥) (λ want. LacksFor w known secrets tokens want.0 want.1)
+    → MatchOption o ((k : ℕ) → LacksAnswerAt w known secrets tokens k → ⊥) (λ want. LacksAnswerFor w known secrets tokens want.0 want.1)
 asked-first w known secrets tokens ts t e bad dh o h =
-    subst (λ (us : List Token). MatchOption o ((k : ℕ) → LacksAt w known secrets us k → ⊥) (λ want. LacksFor w known secrets us want.0 want.1)) (sym e)
+    subst (λ (us : List Token). MatchOption o ((k : ℕ) → LacksAnswerAt w known secrets us k → ⊥) (λ want. LacksAnswerFor w known secrets us want.0 want.1)) (sym e)
     (first-one w known secrets t ts bad dh o h)
 
 -- ---- whether a message of this party is due
@@ -170,18 +170,18 @@ module _ {K : Type 0} (h : Held K) where
 -- ---- for a party that speaks
 
 wants-of : (v : View) (o : Option (Own × List ℕ)) → Speaks v
-    → MatchOption o ((k : ℕ) → LacksAt (writer v) v.remote v.secrets (tokens_now v) k → ⊥)
-    (λ want. LacksFor (writer v) v.remote v.secrets (tokens_now v) want.0 want.1)
-    → MatchOption o ((k : ℕ) → Lacks v k → ⊥) (λ want. WantsToWrite v want.0 want.1)
+    → MatchOption o ((k : ℕ) → LacksAnswerAt (writer v) v.remote v.secrets (tokens_now v) k → ⊥)
+    (λ want. LacksAnswerFor (writer v) v.remote v.secrets (tokens_now v) want.0 want.1)
+    → MatchOption o ((k : ℕ) → LacksAnswer v k → ⊥) (λ want. WantsToWrite v want.0 want.1)
 wants-of v None l h = λ k lacks. h k lacks.lacks
 wants-of v (Some want) l h = record { speaks = l; lacks = h }
 
 pub wants : (v : View) (o : Option (Own × List ℕ)) (role : Role) (psks : Bool) (own : Own → Option (List ℕ))
     (agree : Own → List ℕ → Option (List ℕ)) (secrets : List (List ℕ)) (known : Remote) (ts : List Token)
     → Speaking v role psks own agree secrets known ts
-    → MatchOption o ((k : ℕ) → LacksAt (record { role = role; psks = psks; own = own; agree = agree }) known secrets ts k → ⊥)
-    (λ want. LacksFor (record { role = role; psks = psks; own = own; agree = agree }) known secrets ts want.0 want.1)
-    → MatchOption o ((k : ℕ) → Lacks v k → ⊥) (λ want. WantsToWrite v want.0 want.1)
+    → MatchOption o ((k : ℕ) → LacksAnswerAt (record { role = role; psks = psks; own = own; agree = agree }) known secrets ts k → ⊥)
+    (λ want. LacksAnswerFor (record { role = role; psks = psks; own = own; agree = agree }) known secrets ts want.0 want.1)
+    → MatchOption o ((k : ℕ) → LacksAnswer v k → ⊥) (λ want. WantsToWrite v want.0 want.1)
 wants v o role psks own agree secrets known ts l h =
     wants-of v o l.speaks (for-view v role psks own agree secrets known ts l
-    (λ w z s us. MatchOption o ((k : ℕ) → LacksAt w z s us k → ⊥) (λ want. LacksFor w z s us want.0 want.1)) h)
+    (λ w z s us. MatchOption o ((k : ℕ) → LacksAnswerAt w z s us k → ⊥) (λ want. LacksAnswerFor w z s us want.0 want.1)) h)

@@ -17,15 +17,15 @@ use Rattle.noise_handshake.specs.declared.faults.WriteFault.{WriteFault}
 use Rattle.noise_handshake.specs.declared.faults.WriteFault.TheVariants as write
 use Rattle.noise_keys.specs.declared.faults.SetupFault.{SetupFault}
 use Rattle.noise_handshake.specs.Late.{with_later, WantsSecretToRead, WantsSecretToWrite}
-use Rattle.noise_handshake.specs.Party.{Stands, Declines, Withholds, after_message, after_own, after_declined, after_withheld, over}
-use Rattle.noise_handshake.specs.View.{View, Accepts, Leads, Listens, Reaches, Refuses, Speaks, learned, reader, tokens_at, tokens_now}
-use Rattle.noise_handshake.specs.Wanting.{LacksFor, WantsToRead, WantsToWrite}
-use Rattle.noise_handshake.specs.Writing.{Writes, Lacks, LacksAt, writer}
+use Rattle.noise_handshake.specs.Party.{Stands, DoesNotRead, DoesNotWrite, after_message, after_own, after_not_read, after_not_written, over}
+use Rattle.noise_handshake.specs.View.{View, Accepts, BeginsAs, Listens, CanBegin, Refuses, Speaks, learned, reader, tokens_at, tokens_now}
+use Rattle.noise_handshake.specs.Wanting.{LacksAnswerFor, WantsToRead, WantsToWrite}
+use Rattle.noise_handshake.specs.Writing.{Writes, LacksAnswer, LacksAnswerAt, writer}
 use Rattle.noise_handshake.specs.Opening.{Opening, Opens}
 use Rattle.noise_handshake.specs.Parts.{IsWhole}
 use Rattle.noise_handshake.proofs.Fronts.{lacks-all, lacks-first, lacks-for-all}
 use Rattle.noise_handshake.specs.inner.Late.{without_last, IsPskAfter}
-use Rattle.noise_handshake.specs.inner.Listening.{LeadsBefore}
+use Rattle.noise_handshake.specs.inner.Listening.{BeginsBefore}
 use Rattle.noise_handshake.proofs.Apart.{front-apart, reads-leads}
 use Rattle.noise_handshake.proofs.Later.{count-take, count-less, given-same, leads-same, reads-same, stops-same, stops-for-same, lacks-same, lacks-for-same}
 use Rattle.noise_handshake.proofs.Keeping.{secrets_of-drop}
@@ -106,7 +106,7 @@ module _ (v : View) (u : List (List ℕ)) (n : ℕ) (e : take n u ≡ take n v.s
     fits = a.fits;
   }
 
-  pub lacks-back : (k : ℕ) → count_by is_psk (take (suc k) (tokens_now v)) ≤ n → Lacks v k → Lacks (holding v u) k
+  pub lacks-back : (k : ℕ) → count_by is_psk (take (suc k) (tokens_now v)) ≤ n → LacksAnswer v k → LacksAnswer (holding v u) k
   lacks-back k c a = record {
     speaks = speaks-back v u a.speaks;
     lacks = lacks-same (writer v) v.remote v.secrets u n (sym e) (tokens_now v) k c a.lacks;
@@ -124,7 +124,7 @@ module _ (v : View) (u : List (List ℕ)) (n : ℕ) (e : take n u ≡ take n v.s
 
 -- where reading comes to it
 pub wants-secret : (v : View) (m : List ℕ) (n k : ℕ) (remote : Option (List ℕ)) → Listens v → IsPskAfter (tokens_now v) n k
-    → LeadsBefore (reader v) v.remote v.secrets v.history (tokens_now v) m k remote → WantsSecretToRead v n m remote
+    → BeginsBefore (reader v) v.remote v.secrets v.history (tokens_now v) m k remote → WantsSecretToRead v n m remote
 wants-secret v m n k remote l a b = record {
   listens = l;
   before = take k (tokens_now v);
@@ -139,10 +139,10 @@ wants-secret v m n k remote l a b = record {
 
 -- the key that it tells is determined
 pub secret-one : (v : View) (m : List ℕ) (n k : ℕ) (remote other : Option (List ℕ)) → IsPskAfter (tokens_now v) n k
-    → LeadsBefore (reader v) v.remote v.secrets v.history (tokens_now v) m k remote → WantsSecretToRead v n m other → remote ≡ other
+    → BeginsBefore (reader v) v.remote v.secrets v.history (tokens_now v) m k remote → WantsSecretToRead v n m other → remote ≡ other
 secret-one v m n k remote other a b w =
     let same : w.before ≡ take k (tokens_now v) = psk-place (tokens_now v) w.before w.later n k a w.tokens w.count in
-    let l = subst (λ (us : List Token). Leads (reader v) v.remote v.secrets v.history us w.carried m w.rest) same w.leads in
+    let l = subst (λ (us : List Token). BeginsAs (reader v) v.remote v.secrets v.history us w.carried m w.rest) same w.leads in
     let one = front-apart (reader v) v.remote v.secrets v.history (take k (tokens_now v)) b.carried w.carried b.rest w.rest b.leads.fit l.fit
     (sym b.leads.spelled ∙ l.spelled) in
     b.remote_is ∙ ap (λ (xs : List (List ℕ)). (learned v.remote (take k (tokens_now v)) xs).s) one.0
@@ -153,10 +153,10 @@ pub secret-not : (v : View) (m : List ℕ) (n k j : ℕ) (cause : Cause) (remote
     → Refuses v m j cause → WantsSecretToRead v n m remote → ⊥
 secret-not v m n k j cause remote a h r w =
     let same : w.before ≡ take k (tokens_now v) = psk-place (tokens_now v) w.before w.later n k a w.tokens w.count in
-    let l = subst (λ (us : List Token). Leads (reader v) v.remote v.secrets v.history us w.carried m w.rest) same w.leads in
+    let l = subst (λ (us : List Token). BeginsAs (reader v) v.remote v.secrets v.history us w.carried m w.rest) same w.leads in
     let reaches = reads-leads (reader v) v.remote v.secrets v.history (take k (tokens_now v)) w.carried m w.rest (suc j) l in
     r.stops.further (omega (arith, h, a.within))
-    (subst (λ (us : List Token). Reaches (reader v) v.remote v.secrets v.history us m) (take-take (suc j) k (tokens_now v) (omega (arith, h))) reaches)
+    (subst (λ (us : List Token). CanBegin (reader v) v.remote v.secrets v.history us m) (take-take (suc j) k (tokens_now v) (omega (arith, h))) reaches)
 
 -- where there are secrets enough
 pub secret-none : (v : View) (m : List ℕ) (n : ℕ) (remote : Option (List ℕ)) → count_by is_psk (tokens_now v) ≤ n → WantsSecretToRead v n m remote → ⊥
@@ -311,8 +311,8 @@ module _ {K : Type 0} (public_of : K → Own → Option (List ℕ)) (agreement :
   pub few-now : count_by is_psk (tokens_at h.pattern.messages h.passed) ≤ n → count_by is_psk (tokens_now v) ≤ n
   few-now c = subst (λ (us : List Token). count_by is_psk us ≤ n) same-tokens c
 
-  pub write-none : count_by is_psk (tokens_at h.pattern.messages h.passed) ≤ n → ((token : ℕ) → Lacks (holding v h.secrets) token → ⊥)
-      → (token : ℕ) → Lacks v token → ⊥
+  pub write-none : count_by is_psk (tokens_at h.pattern.messages h.passed) ≤ n → ((token : ℕ) → LacksAnswer (holding v h.secrets) token → ⊥)
+      → (token : ℕ) → LacksAnswer v token → ⊥
   write-none c f token l =
       f token (lacks-back v h.secrets n (agrees public_of agreement h lacking w v later s) token
       (omega (arith, few-now c, count-take (tokens_now v) (suc token))) l)
@@ -327,20 +327,20 @@ module _ {K : Type 0} (public_of : K → Own → Option (List ℕ)) (agreement :
     pub at-now : IsPskAfter (tokens_now v) n k
     at-now = subst (λ (us : List Token). IsPskAfter us n k) same-tokens at
 
-    first-answer : (own : Own) (key : List ℕ) → LacksFor (writer v) v.remote h.secrets (take k (tokens_now v)) own key
-        → LacksFor (writer v) v.remote v.secrets (take k (tokens_now v)) own key
+    first-answer : (own : Own) (key : List ℕ) → LacksAnswerFor (writer v) v.remote h.secrets (take k (tokens_now v)) own key
+        → LacksAnswerFor (writer v) v.remote v.secrets (take k (tokens_now v)) own key
     first-answer own key l =
         lacks-for-same (writer v) v.remote h.secrets v.secrets n (agrees public_of agreement h lacking w v later s) (take k (tokens_now v)) own key l
         (omega (arith, at-now.count, count-take (take k (tokens_now v)) (suc (length l.before))))
 
-    pub write-before : (own : Own) (key : List ℕ) → Speaks (holding v h.secrets) → LacksFor (writer v) v.remote h.secrets (take k (tokens_now v)) own key
+    pub write-before : (own : Own) (key : List ℕ) → Speaks (holding v h.secrets) → LacksAnswerFor (writer v) v.remote h.secrets (take k (tokens_now v)) own key
         → WantsToWrite v own key
     write-before own key sp l = record {
       speaks = speaks-held v h.secrets sp;
       lacks = lacks-for-all (writer v) v.remote v.secrets (tokens_now v) k own key (first-answer own key l);
     }
 
-    pub write-before-not : (own : Own) (key : List ℕ) → LacksFor (writer v) v.remote h.secrets (take k (tokens_now v)) own key
+    pub write-before-not : (own : Own) (key : List ℕ) → LacksAnswerFor (writer v) v.remote h.secrets (take k (tokens_now v)) own key
         → WantsSecretToWrite v n → ⊥
     write-before-not own key l x =
         let same : x.before ≡ take k (tokens_now v) = psk-place (tokens_now v) x.before x.later n k at-now x.tokens x.count in
@@ -349,7 +349,7 @@ module _ {K : Type 0} (public_of : K → Own → Option (List ℕ)) (agreement :
         (record { speaks = x.speaks; lacks = lacks-all (writer v) v.remote v.secrets (tokens_now v) k (length mine.before) mine.lacks })
 
     pub write-secret : Speaks (holding v h.secrets)
-        → ((token : ℕ) → LacksAt (writer v) v.remote h.secrets (take k (tokens_now v)) token → ⊥) → WantsSecretToWrite v n
+        → ((token : ℕ) → LacksAnswerAt (writer v) v.remote h.secrets (take k (tokens_now v)) token → ⊥) → WantsSecretToWrite v n
     write-secret sp f = record {
       speaks = speaks-held v h.secrets sp;
       before = take k (tokens_now v);
@@ -421,8 +421,8 @@ module _ {K : Type 0} (public_of : K → Own → Option (List ℕ)) (agreement :
         history = s.history;
       })
 
-  pub stands-declined : (h2 : Held K) (fault : ReadFault) → Stands public_of agreement h2 (after_declined (holding v h.secrets) fault)
-      → Stands public_of agreement (with_later (without_last lacking h2) later) (after_declined v fault)
+  pub stands-declined : (h2 : Held K) (fault : ReadFault) → Stands public_of agreement h2 (after_not_read (holding v h.secrets) fault)
+      → Stands public_of agreement (with_later (without_last lacking h2) later) (after_not_read v fault)
   stands-declined h2 read.Ended t = stands-same h2 t
   stands-declined h2 read.Done t = stands-same h2 t
   stands-declined h2 read.NotYourTurn t = stands-same h2 t
@@ -444,15 +444,15 @@ module _ {K : Type 0} (public_of : K → Own → Option (List ℕ)) (agreement :
     pub read-lacks : ((token : ℕ) → Refuses (holding v h.secrets) m token Agreement → ⊥) → (token : ℕ) → Refuses v m token Agreement → ⊥
     read-lacks none token r = none token (refuses-back v h.secrets given-now alike m token Agreement (few-here (suc token)) r)
 
-    declines-held : (fault : ReadFault) → Declines (holding v h.secrets) m fault → Declines v m fault
+    declines-held : (fault : ReadFault) → DoesNotRead (holding v h.secrets) m fault → DoesNotRead v m fault
     declines-held read.Ended d = d
     declines-held read.Done d = d
     declines-held read.NotYourTurn d = speaks-held v h.secrets d
     declines-held (read.Refused token cause) d = refuses-held v h.secrets given-now alike m token cause (few-here (suc token)) d
 
-    pub read-declines : (fault : ReadFault) → Declines (holding v h.secrets) m fault
+    pub read-declines : (fault : ReadFault) → DoesNotRead (holding v h.secrets) m fault
         × ((token : ℕ) → Refuses (holding v h.secrets) m token Agreement → ⊥)
-        → Declines v m fault × ((token : ℕ) → Refuses v m token Agreement → ⊥)
+        → DoesNotRead v m fault × ((token : ℕ) → Refuses v m token Agreement → ⊥)
     read-declines fault d = (
       declines-held fault d.0,
       λ token r. d.1 token (refuses-back v h.secrets given-now alike m token Agreement (few-here (suc token)) r),
@@ -468,8 +468,8 @@ module _ {K : Type 0} (public_of : K → Own → Option (List ℕ)) (agreement :
     few-before : (j : ℕ) → j ≤ k → count_by is_psk (take j (tokens_now v)) ≤ given-now
     few-before j less = omega (arith, at-read.count, count-less (tokens_now v) j k less)
 
-    leads-here : (remote : Option (List ℕ)) → LeadsBefore (reader v) v.remote h.secrets v.history (tokens_now v) m k remote
-        → LeadsBefore (reader v) v.remote v.secrets v.history (tokens_now v) m k remote
+    leads-here : (remote : Option (List ℕ)) → BeginsBefore (reader v) v.remote h.secrets v.history (tokens_now v) m k remote
+        → BeginsBefore (reader v) v.remote v.secrets v.history (tokens_now v) m k remote
     leads-here remote l = record {
       carried = l.carried;
       rest = l.rest;
@@ -479,10 +479,10 @@ module _ {K : Type 0} (public_of : K → Own → Option (List ℕ)) (agreement :
     }
 
     pub before-secret : (remote : Option (List ℕ)) → Listens (holding v h.secrets)
-        → LeadsBefore (reader v) v.remote h.secrets v.history (tokens_now v) m k remote → WantsSecretToRead v given-now m remote
+        → BeginsBefore (reader v) v.remote h.secrets v.history (tokens_now v) m k remote → WantsSecretToRead v given-now m remote
     before-secret remote l b = wants-secret v m given-now k remote (listens-held v h.secrets l) at-read (leads-here remote b)
 
-    pub before-one : (remote other : Option (List ℕ)) → LeadsBefore (reader v) v.remote h.secrets v.history (tokens_now v) m k remote
+    pub before-one : (remote other : Option (List ℕ)) → BeginsBefore (reader v) v.remote h.secrets v.history (tokens_now v) m k remote
         → WantsSecretToRead v given-now m other → remote ≡ other
     before-one remote other b x = secret-one v m given-now k remote other at-read (leads-here remote b) x
 
@@ -545,7 +545,7 @@ pub fault-no-agreement : {K : Type 0} (h : Held K) (payload : ℕ) (f : WriteFau
 fault-no-agreement h payload f e =
     no-agreement h.ended (h.passed == length h.pattern.messages) (is_turn h.role h.passed) (nat_lt 65535 (length_now h payload)) f e
 
-pub written-no-agreement : (v : View) (payload : ℕ) (f : WriteFault) → Withholds v payload f → ((token : ℕ) → Lacks v token → ⊥) → IsAgreement f → ⊥
+pub written-no-agreement : (v : View) (payload : ℕ) (f : WriteFault) → DoesNotWrite v payload f → ((token : ℕ) → LacksAnswer v token → ⊥) → IsAgreement f → ⊥
 written-no-agreement v payload write.Ended w none x = x
 written-no-agreement v payload write.Done w none x = x
 written-no-agreement v payload write.NotYourTurn w none x = x
@@ -553,8 +553,8 @@ written-no-agreement v payload write.TooLong w none x = x
 written-no-agreement v payload (write.Agreement token) w none x = none token w.1
 
 -- a fault of a view with other secrets, which isn't the want of an answer
-pub withholds-held : (v : View) (u : List (List ℕ)) (payload : ℕ) (f : WriteFault) → (IsAgreement f → ⊥) → Withholds (holding v u) payload f
-    → Withholds v payload f
+pub withholds-held : (v : View) (u : List (List ℕ)) (payload : ℕ) (f : WriteFault) → (IsAgreement f → ⊥) → DoesNotWrite (holding v u) payload f
+    → DoesNotWrite v payload f
 withholds-held v u payload write.Ended n w = w
 withholds-held v u payload write.Done n w = w
 withholds-held v u payload write.NotYourTurn n w = listens-held v u w
@@ -577,13 +577,13 @@ write-due-test h payload e =
     going-on h.ended (h.passed == length h.pattern.messages) (is_turn h.role h.passed) (nat_lt 65535 (length_now h payload)) e
 
 pub lacks-held : (v : View) (u : List (List ℕ)) (n : ℕ) → take n u ≡ take n v.secrets → (k : ℕ) → count_by is_psk (take (suc k) (tokens_now v)) ≤ n
-    → Lacks (holding v u) k → Lacks v k
+    → LacksAnswer (holding v u) k → LacksAnswer v k
 lacks-held v u n e k c a = record {
   speaks = speaks-held v u a.speaks;
   lacks = lacks-same (writer v) v.remote u v.secrets n e (tokens_now v) k c a.lacks;
 }
 
-pub withheld-view : (v : View) (f : WriteFault) → (IsAgreement f → ⊥) → after_withheld v f ≡ v
+pub withheld-view : (v : View) (f : WriteFault) → (IsAgreement f → ⊥) → after_not_written v f ≡ v
 withheld-view v write.Ended n = refl
 withheld-view v write.Done n = refl
 withheld-view v write.NotYourTurn n = refl

@@ -9,9 +9,9 @@ use Rattle.noise_state.specs.History.{History}
 use Rattle.noise_keys.specs.declared.keys.Own.{Own}
 use Rattle.noise_handshake.specs.declared.remote.Remote.{Remote}
 use Rattle.noise_handshake.specs.declared.faults.Cause.{Cause}
-use Rattle.noise_handshake.specs.View.{Reader, Fit, Leads, Reaches, Reads, Stops, first_secret, other_secrets, known_after}
-use Rattle.noise_handshake.specs.Wanting.{StopsFor, LacksFor}
-use Rattle.noise_handshake.specs.Writing.{Writer, Given, LacksAt}
+use Rattle.noise_handshake.specs.View.{Reader, Fit, BeginsAs, CanBegin, Reads, Stops, first_secret, other_secrets, known_after}
+use Rattle.noise_handshake.specs.Wanting.{StopsFor, LacksAnswerFor}
+use Rattle.noise_handshake.specs.Writing.{Writer, Given, LacksAnswerAt}
 
 -- ---- psk tokens
 
@@ -87,10 +87,10 @@ given-same w known s u (suc n) (Psk ∷ ts) (x ∷ xs) c e f =
 
 module _ (v : Reader) (known : Remote) (s u : List (List ℕ)) (r : History) (n : ℕ) (e : take n s ≡ take n u) where
   pub leads-same : (ts : List Token) (xs : List (List ℕ)) (m rest : List ℕ) → count_by is_psk ts ≤ n
-      → Leads v known s r ts xs m rest → Leads v known u r ts xs m rest
+      → BeginsAs v known s r ts xs m rest → BeginsAs v known u r ts xs m rest
   leads-same ts xs m rest c l = record { fit = fit-same v known s u n ts xs c e l.fit; spelled = l.spelled }
 
-  pub reaches-same : (ts : List Token) (m : List ℕ) → count_by is_psk ts ≤ n → Reaches v known s r ts m → Reaches v known u r ts m
+  pub reaches-same : (ts : List Token) (m : List ℕ) → count_by is_psk ts ≤ n → CanBegin v known s r ts m → CanBegin v known u r ts m
   reaches-same ts m c l = record { carried = l.carried; rest = l.rest; leads = leads-same ts l.carried m l.rest c l.leads }
 
   pub reads-same : (ts : List Token) (m : List ℕ) (xs : List (List ℕ)) (payload : List ℕ) → count_by is_psk ts ≤ n
@@ -128,7 +128,7 @@ module _ (v : Reader) (known : Remote) (s u : List (List ℕ)) (r : History) (n 
 -- ---- writing
 
 module _ (w : Writer) (known : Remote) (s u : List (List ℕ)) (n : ℕ) (e : take n s ≡ take n u) (ts : List Token) where
-  pub lacks-same : (k : ℕ) → count_by is_psk (take (suc k) ts) ≤ n → LacksAt w known s ts k → LacksAt w known u ts k
+  pub lacks-same : (k : ℕ) → count_by is_psk (take (suc k) ts) ≤ n → LacksAnswerAt w known s ts k → LacksAnswerAt w known u ts k
   lacks-same k c l = record {
     within = l.within;
     before = l.before;
@@ -136,8 +136,8 @@ module _ (w : Writer) (known : Remote) (s u : List (List ℕ)) (n : ℕ) (e : ta
     none = λ xs h. l.none xs (given-same w known u s n (take (suc k) ts) xs c (sym e) h);
   }
 
-  pub lacks-for-same : (own : Own) (key : List ℕ) (l : LacksFor w known s ts own key) → count_by is_psk (take (suc (length l.before)) ts) ≤ n
-      → LacksFor w known u ts own key
+  pub lacks-for-same : (own : Own) (key : List ℕ) (l : LacksAnswerFor w known s ts own key) → count_by is_psk (take (suc (length l.before)) ts) ≤ n
+      → LacksAnswerFor w known u ts own key
   lacks-for-same own key l c = record {
     before = l.before;
     token = l.token;

@@ -5,15 +5,15 @@ use Rattle.noise_names.specs.declared.token.Token.{Token}
 use Rattle.noise_state.specs.History.{History, cipher_key}
 use Rattle.noise_handshake.specs.declared.remote.Remote.{Remote}
 use Rattle.noise_handshake.specs.declared.faults.Cause.{Cause}
-use Rattle.noise_handshake.specs.Line.{after_front}
-use Rattle.noise_handshake.specs.View.{View, Reader, reader, Reaches, Stops, Accepts, Refuses, cause_at, tokens_now}
+use Rattle.noise_handshake.specs.Message.{after_tokens}
+use Rattle.noise_handshake.specs.View.{View, Reader, reader, CanBegin, Stops, Accepts, Refuses, cause_at, tokens_now}
 use Rattle.noise_handshake.proofs.Apart.{front-apart, reads-leads, stops-not}
 
 not-earlier : (v : Reader) (known : Remote) (secrets : List (List ℕ)) (r : History) (ts : List Token) (m : List ℕ) (k j : ℕ) (c d : Cause)
     → Stops v known secrets r ts m k c → Stops v known secrets r ts m j d → k < j → ⊥
 not-earlier v known secrets r ts m k j c d a b h =
     a.further (omega (arith, h, b.within))
-    (subst (λ (us : List Token). Reaches v known secrets r us m) (take-take (suc k) j ts (omega (arith, h)))
+    (subst (λ (us : List Token). CanBegin v known secrets r us m) (take-take (suc k) j ts (omega (arith, h)))
     (reads-leads v known secrets r (take j ts) b.carried m b.rest (suc k) b.leads))
 
 same-place : (k j : ℕ) → (k < j → ⊥) → (j < k → ⊥) → k ≡ j
@@ -24,8 +24,8 @@ same-cause : (v : Reader) (known : Remote) (secrets : List (List ℕ)) (r : Hist
 same-cause v known secrets r ts m k c d a b =
     let h = front-apart v known secrets r (take k ts) a.carried b.carried a.rest b.rest a.leads.fit b.leads.fit (sym a.leads.spelled ∙ b.leads.spelled) in
     a.why
-    ∙ ap (λ (xs : List (List ℕ)). cause_at (is_some (cipher_key (after_front v.psks r (take k ts) xs))) ts k a.rest) h.0
-    ∙ ap (λ (rest : List ℕ). cause_at (is_some (cipher_key (after_front v.psks r (take k ts) b.carried))) ts k rest) h.1
+    ∙ ap (λ (xs : List (List ℕ)). cause_at (is_some (cipher_key (after_tokens v.psks r (take k ts) xs))) ts k a.rest) h.0
+    ∙ ap (λ (rest : List ℕ). cause_at (is_some (cipher_key (after_tokens v.psks r (take k ts) b.carried))) ts k rest) h.1
     ∙ sym b.why
 
 pub stops-one : (v : Reader) (known : Remote) (secrets : List (List ℕ)) (r : History) (ts : List Token) (m : List ℕ) (k j : ℕ) (c d : Cause)

@@ -14,11 +14,11 @@ use Rattle.noise_handshake.specs.declared.remote.Remote.{Remote}
 use Rattle.noise_handshake.specs.declared.faults.Cause.{Cause}
 use Rattle.noise_handshake.specs.declared.faults.ReadFault.{ReadFault}
 use Rattle.noise_handshake.specs.declared.faults.ReadFault.TheVariants as read
-use Rattle.noise_handshake.specs.Line.{after_line}
+use Rattle.noise_handshake.specs.Message.{after_payload}
 use Rattle.noise_handshake.specs.View.{View, Reader, reader, Listens, Reads, Stops, Accepts, Refuses, learned, tokens_at, tokens_now}
 use Rattle.noise_handshake.specs.inner.Listening.{Listening}
 use Rattle.noise_handshake.specs.Held.{Held, read_fault, is_turn}
-use Rattle.noise_handshake.specs.Party.{Stands, Declines, after_declined, after_message, over}
+use Rattle.noise_handshake.specs.Party.{Stands, DoesNotRead, after_not_read, after_message, over}
 
 -- whose turn it is
 same-role : (a b : Role) → same_role a b ≡ true → a ≡ b
@@ -111,7 +111,7 @@ module _ {K : Type 0} (public_of : K → Own → Option (List ℕ)) (agreement :
 
   -- where there is a fault the message is declined for it
   pub faulted : (fault : ReadFault) (m : List ℕ) → h.passed ≤ length h.pattern.messages → read_fault h ≡ Some fault
-      → Declines v m fault × Stands public_of agreement h (after_declined v fault)
+      → DoesNotRead v m fault × Stands public_of agreement h (after_not_read v fault)
   faulted fault m w e =
       declined fault m w
       (subst (Told h.ended (h.passed == length h.pattern.messages) (is_turn h.role h.passed)) e
@@ -119,7 +119,7 @@ module _ {K : Type 0} (public_of : K → Own → Option (List ℕ)) (agreement :
     where
       declined : (fault : ReadFault) (m : List ℕ) → h.passed ≤ length h.pattern.messages
           → Told h.ended (h.passed == length h.pattern.messages) (is_turn h.role h.passed) (Some fault)
-          → Declines v m fault × Stands public_of agreement h (after_declined v fault)
+          → DoesNotRead v m fault × Stands public_of agreement h (after_not_read v fault)
       declined read.Ended m w t = (going-to t, s) where
         going-to : h.ended ≡ true → v.ended ≡ true
         going-to e = sym s.ended ∙ e
@@ -155,7 +155,7 @@ module _ {K : Type 0} (public_of : K → Own → Option (List ℕ)) (agreement :
 
   pub after : (psks : Bool) (tokens : List Token) (xs : List (List ℕ)) (payload : List ℕ) (state : SymmetricState) (remote : Remote)
       (secrets : List (List ℕ)) (passed : ℕ) → psks ≡ has_psk h.pattern → tokens ≡ tokens_now v
-      → secrets ≡ drop (count_by is_psk tokens) h.secrets → passed ≡ h.passed + 1 → StateStands state (after_line psks v.history tokens xs payload)
+      → secrets ≡ drop (count_by is_psk tokens) h.secrets → passed ≡ h.passed + 1 → StateStands state (after_payload psks v.history tokens xs payload)
       → remote ≡ learned v.remote tokens xs
       → Stands public_of agreement (record h { state = state; remote = remote; secrets = secrets; passed = passed }) (after_message v xs payload)
   after psks tokens xs payload state remote secrets passed b e u n k m = record {
@@ -167,8 +167,8 @@ module _ {K : Type 0} (public_of : K → Own → Option (List ℕ)) (agreement :
     remote = m ∙ ap (λ (ts : List Token). learned v.remote ts xs) e;
     passed = n ∙ ap (λ (i : ℕ). i + 1) s.passed;
     ended = s.ended;
-    history = subst (λ (ts : List Token). StateStands state (after_line (has_psk v.pattern) v.history ts xs payload)) e
-        (subst (λ (z : Bool). StateStands state (after_line z v.history tokens xs payload)) (b ∙ ap has_psk s.pattern) k);
+    history = subst (λ (ts : List Token). StateStands state (after_payload (has_psk v.pattern) v.history ts xs payload)) e
+        (subst (λ (z : Bool). StateStands state (after_payload z v.history tokens xs payload)) (b ∙ ap has_psk s.pattern) k);
   }
 
   -- it has ended

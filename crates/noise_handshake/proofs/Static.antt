@@ -2,8 +2,8 @@
 use Rattle.std.proofs.Common.{◌≡◌, ℕ, ◌+◌, ◌<◌, ◌≤◌, List, ◌++◌, length, take, refl, ap, sym, ◌∙◌, arith, rules, length-append, length-take}
 use Rattle.std.proofs.Math.Seq.{take-append_seam}
 use Rattle.std.specs.Prelude.{Bool, true, false, is_some, if◌then◌else◌, nat_lt}
-use Rattle.noise_state.specs.History.{History, cipher_key, piece}
-use Rattle.noise_state.specs.Pieces.{length-piece}
+use Rattle.noise_state.specs.History.{History, cipher_key, ciphertext}
+use Rattle.noise_state.specs.Ciphertexts.{length-ciphertext}
 use Rattle.noise_names.specs.declared.token.Token.TheVariants.{S}
 use Rattle.noise_state.specs.Standing.{StateStands, keyed, keyed-is}
 use Rattle.noise_state.specs.declared.symmetric.SymmetricState.{SymmetricState}
@@ -27,15 +27,15 @@ thin : (k : Bool) (n : ℕ) → (if k then n + 16 else n) ≡ (if k then 48 else
 thin true n e = omega arith
 thin false n e = e
 
-pub length-key : (r : History) (x : List ℕ) → length x ≡ 32 → length (piece r x) ≡ width_of_key r
-length-key r x e = length-piece r x ∙ wide (is_some (cipher_key r)) (length x) e
+pub length-key : (r : History) (x : List ℕ) → length x ≡ 32 → length (ciphertext r x) ≡ width_of_key r
+length-key r x e = length-ciphertext r x ∙ wide (is_some (cipher_key r)) (length x) e
 
-pub length-of_key : (r : History) (x : List ℕ) → length (piece r x) ≡ width_of_key r → length x ≡ 32
-length-of_key r x e = thin (is_some (cipher_key r)) (length x) (sym (length-piece r x) ∙ e)
+pub length-of_key : (r : History) (x : List ℕ) → length (ciphertext r x) ≡ width_of_key r → length x ≡ 32
+length-of_key r x e = thin (is_some (cipher_key r)) (length x) (sym (length-ciphertext r x) ∙ e)
 
 -- the message is too short for any
-pub short-key : (r : History) (m : List ℕ) (n : ℕ) → n ≡ width_of_key r → length m < n → (x rest : List ℕ) → length x ≡ 32 → m ≡ piece r x ++ rest → ⊥
-short-key r m n e h x rest f s = omega (arith, length-key r x f, ap length s, length-append (piece r x) rest)
+pub short-key : (r : History) (m : List ℕ) (n : ℕ) → n ≡ width_of_key r → length m < n → (x rest : List ℕ) → length x ≡ 32 → m ≡ ciphertext r x ++ rest → ⊥
+short-key r m n e h x rest f s = omega (arith, length-key r x f, ap length s, length-append (ciphertext r x) rest)
 
 pub why-short : (r : History) (m : List ℕ) (n : ℕ) → n ≡ width_of_key r → length m < n → Short ≡ (if nat_lt (length m) (width_of_key r) then Short else Tag)
 why-short r m n e h = let t : nat_lt (length m) (width_of_key r) ≡ true = let l : length m < width_of_key r = omega arith in search rules in rw t refl
@@ -44,14 +44,14 @@ pub why-tag : (r : History) (m : List ℕ) (n : ℕ) → n ≡ width_of_key r �
 why-tag r m n e h = let t : nat_lt (length m) (width_of_key r) ≡ false = let l : width_of_key r ≤ length m = omega arith in search rules in rw t refl
 
 -- the first bytes are none
-pub wrong-key : (r : History) (m : List ℕ) (n : ℕ) → n ≡ width_of_key r → ((x : List ℕ) → take n m ≡ piece r x → ⊥) → (x rest : List ℕ)
-    → length x ≡ 32 → m ≡ piece r x ++ rest → ⊥
+pub wrong-key : (r : History) (m : List ℕ) (n : ℕ) → n ≡ width_of_key r → ((x : List ℕ) → take n m ≡ ciphertext r x → ⊥) → (x rest : List ℕ)
+    → length x ≡ 32 → m ≡ ciphertext r x ++ rest → ⊥
 wrong-key r m n e bad x rest f s =
-    bad x (ap (λ (k : ℕ). take k m) (e ∙ sym (length-key r x f)) ∙ ap (take (length (piece r x))) s ∙ take-append_seam (piece r x) rest)
+    bad x (ap (λ (k : ℕ). take k m) (e ∙ sym (length-key r x f)) ∙ ap (take (length (ciphertext r x))) s ∙ take-append_seam (ciphertext r x) rest)
 
 -- what was opened fills the first 32 bytes
 pub opened-key : (r : History) (old new : List ℕ) (n : ℕ) → length old ≡ width_of_key r → length new ≡ length old → n ≤ length new
-    → old ≡ piece r (take n new) → take n new ≡ take 32 new
+    → old ≡ ciphertext r (take n new) → take n new ≡ take 32 new
 opened-key r old new n w same h e =
     let l : length (take n new) ≡ 32 = length-of_key r (take n new) (ap length (sym e) ∙ w) in
     let k : n ≡ 32 = omega (arith, length-take n new) in

@@ -11,8 +11,8 @@ use Rattle.noise_handshake.specs.declared.remote.Remote.{Remote}
 use Rattle.noise_handshake.specs.declared.faults.Cause.{Cause}
 use Rattle.noise_state.specs.Standing.{StateStands}
 use Rattle.noise_state.specs.declared.symmetric.SymmetricState.{SymmetricState}
-use Rattle.noise_handshake.specs.Line.{token_piece, after_token, after_front}
-use Rattle.noise_handshake.specs.View.{Reader, Fits, Leads, known_after, secrets_after, learned, cause_of}
+use Rattle.noise_handshake.specs.Message.{token_bytes, after_token, after_tokens}
+use Rattle.noise_handshake.specs.View.{Reader, Fits, BeginsAs, known_after, secrets_after, learned, cause_of}
 use Rattle.noise_handshake.specs.inner.Listening.{Fails, StopsKnowing}
 use Rattle.noise_handshake.proofs.Apart.{leads-none, leads-more, stops-here, stops-later}
 
@@ -51,17 +51,17 @@ rest-at m buf n len h rest =
         ∙ append-nil buf
 
 module _ (v : Reader) (known known2 : Remote) (secrets secrets2 : List (List ℕ)) (r : History) (tokens ts : List Token) (t : Token) (x m m2 : List ℕ) (n : ℕ)
-    (split : tokens ≡ t ∷ ts) (fits : Fits v known secrets t x) (spelled : m ≡ token_piece r t x ++ drop n m)
+    (split : tokens ≡ t ∷ ts) (fits : Fits v known secrets t x) (spelled : m ≡ token_bytes r t x ++ drop n m)
     (knows : known2 ≡ known_after known t x) (holds : secrets2 ≡ secrets_after secrets t) (goes : m2 ≡ drop n m) where
-  pub led : (xs : List (List ℕ)) (k : ℕ) → Leads v known2 secrets2 (after_token v.psks r t x) ts xs m2 (drop k m2)
-      → Leads v known secrets r tokens (x ∷ xs) m (drop (n + k) m)
+  pub led : (xs : List (List ℕ)) (k : ℕ) → BeginsAs v known2 secrets2 (after_token v.psks r t x) ts xs m2 (drop k m2)
+      → BeginsAs v known secrets r tokens (x ∷ xs) m (drop (n + k) m)
   led xs k l =
-      let l1 = subst (λ (z : Remote). Leads v z secrets2 (after_token v.psks r t x) ts xs m2 (drop k m2)) knows l in
-      let l2 = subst (λ (z : List (List ℕ)). Leads v (known_after known t x) z (after_token v.psks r t x) ts xs m2 (drop k m2)) holds l1 in
-      let l3 = subst (λ (z : List ℕ). Leads v (known_after known t x) (secrets_after secrets t) (after_token v.psks r t x) ts xs z (drop k z)) goes l2 in
+      let l1 = subst (λ (z : Remote). BeginsAs v z secrets2 (after_token v.psks r t x) ts xs m2 (drop k m2)) knows l in
+      let l2 = subst (λ (z : List (List ℕ)). BeginsAs v (known_after known t x) z (after_token v.psks r t x) ts xs m2 (drop k m2)) holds l1 in
+      let l3 = subst (λ (z : List ℕ). BeginsAs v (known_after known t x) (secrets_after secrets t) (after_token v.psks r t x) ts xs z (drop k z)) goes l2 in
       let l4 = leads-more v known secrets r t x ts xs m (drop n m) (drop k (drop n m)) fits spelled l3 in
-      let l5 = subst (λ (z : List ℕ). Leads v known secrets r (t ∷ ts) (x ∷ xs) m z) (drop-drop k n m) l4 in
-      subst (λ (us : List Token). Leads v known secrets r us (x ∷ xs) m (drop (n + k) m)) (sym split) l5
+      let l5 = subst (λ (z : List ℕ). BeginsAs v known secrets r (t ∷ ts) (x ∷ xs) m z) (drop-drop k n m) l4 in
+      subst (λ (us : List Token). BeginsAs v known secrets r us (x ∷ xs) m (drop (n + k) m)) (sym split) l5
 
   pub learned-on : (xs : List (List ℕ)) (known3 : Remote) → known3 ≡ learned known2 ts xs → known3 ≡ learned known tokens (x ∷ xs)
   learned-on xs known3 e = e ∙ ap (λ (z : Remote). learned z ts xs) knows ∙ ap (λ (us : List Token). learned known us (x ∷ xs)) (sym split)
@@ -81,8 +81,8 @@ module _ (v : Reader) (known known2 : Remote) (secrets secrets2 : List (List ℕ
 -- no tokens
 pub led-none : (v : Reader) (known : Remote) (secrets : List (List ℕ)) (r : History) (tokens : List Token) (m : List ℕ) (state : SymmetricState)
     → tokens ≡ [] → StateStands state r
-    → (xs : List (List ℕ)) × Leads v known secrets r tokens xs m m × StateStands state (after_front v.psks r tokens xs) × (known ≡ learned known tokens xs)
+    → (xs : List (List ℕ)) × BeginsAs v known secrets r tokens xs m m × StateStands state (after_tokens v.psks r tokens xs) × (known ≡ learned known tokens xs)
 led-none v known secrets r tokens m state e s =
-    subst (λ (ts : List Token). (xs : List (List ℕ)) × Leads v known secrets r ts xs m m × StateStands state (after_front v.psks r ts xs)
+    subst (λ (ts : List Token). (xs : List (List ℕ)) × BeginsAs v known secrets r ts xs m m × StateStands state (after_tokens v.psks r ts xs)
     × (known ≡ learned known ts xs))
     (sym e) ([], leads-none v known secrets r m, s, refl)

@@ -12,8 +12,8 @@ use Rattle.noise_keys.specs.declared.keys.Own.{Own}
 use Rattle.noise_handshake.specs.declared.remote.Remote.{Remote}
 use Rattle.noise_handshake.specs.declared.faults.Cause.TheVariants.{Short, Tag, Agreement}
 use Rattle.noise_handshake.specs.declared.layout.PlacedToken.{PlacedToken}
-use Rattle.noise_handshake.specs.Line.{token_piece, after_token, front, after_front}
-use Rattle.noise_handshake.specs.View.{View, Reader, reader, Listens, Fit, Leads, Reaches, Stops, Refuses, known_after, secrets_after, learned}
+use Rattle.noise_handshake.specs.Message.{token_bytes, after_token, before_payload, after_tokens}
+use Rattle.noise_handshake.specs.View.{View, Reader, reader, Listens, Fit, BeginsAs, CanBegin, Stops, Refuses, known_after, secrets_after, learned}
 use Rattle.noise_handshake.specs.View.{first_secret, own_at, remote_at, cause_of, cause_at, tokens_now}
 use Rattle.noise_handshake.specs.Wanting.{StopsFor, WantsToRead}
 use Rattle.noise_handshake.specs.inner.Known.{is_known, are_known, e_after, s_after, e_after_tokens, s_after_tokens}
@@ -114,18 +114,18 @@ below k n f = grind arith
 pub stops-within : (v : Reader) (known : Remote) (secrets : List (List ℕ)) (r : History) (ts : List Token) (m : List ℕ) (k : ℕ)
     → Stops v known secrets r ts m k Agreement → k < length ts
 stops-within v known secrets r ts m k s =
-    let keyed : Bool = is_some (cipher_key (after_front v.psks r (take k ts) s.carried)) in
+    let keyed : Bool = is_some (cipher_key (after_tokens v.psks r (take k ts) s.carried)) in
     below k (length ts) (λ h. no-cause (nat_lt (length s.rest) 16) (s.why ∙ cause-end keyed ts k s.rest h))
 
 -- where all tokens are read it stops at none
 pub all-read : (v : Reader) (known : Remote) (secrets : List (List ℕ)) (r : History) (ts : List Token) (xs : List (List ℕ)) (m rest : List ℕ) (k : ℕ)
-    → Leads v known secrets r ts xs m rest → Stops v known secrets r ts m k Agreement → ⊥
+    → BeginsAs v known secrets r ts xs m rest → Stops v known secrets r ts m k Agreement → ⊥
 all-read v known secrets r ts xs m rest k l s =
     s.further (stops-within v known secrets r ts m k s) (reads-leads v known secrets r ts xs m rest (suc k) l)
 
 -- a secret is always there
 psk-goes : (v : Reader) (known : Remote) (secrets : List (List ℕ)) (r : History) (before : List Token) (xs : List (List ℕ)) (m rest : List ℕ)
-    → Leads v known secrets r before xs m rest → Reaches v known secrets r (before ++ Psk ∷ []) m
+    → BeginsAs v known secrets r before xs m rest → CanBegin v known secrets r (before ++ Psk ∷ []) m
 psk-goes v known secrets r [] xs m rest l = record {
   carried = first_secret secrets ∷ [];
   rest = m;
@@ -135,8 +135,8 @@ psk-goes v known secrets r [] xs m rest l = record {
 psk-goes v known secrets r (t ∷ before) [] m rest l = absurd l.fit
 psk-goes v known secrets r (t ∷ before) (x ∷ xs) m rest l =
     let next : History = after_token v.psks r t x in
-    let more : List ℕ = front v.psks next before xs ++ rest in
-    let e : m ≡ token_piece r t x ++ more = l.spelled ∙ append_assoc (token_piece r t x) (front v.psks next before xs) rest in
+    let more : List ℕ = before_payload v.psks next before xs ++ rest in
+    let e : m ≡ token_bytes r t x ++ more = l.spelled ∙ append_assoc (token_bytes r t x) (before_payload v.psks next before xs) rest in
     let i = psk-goes v (known_after known t x) (secrets_after secrets t) next before xs more rest (record { fit = l.fit.1; spelled = refl }) in
     record {
       carried = x ∷ i.carried;
@@ -154,17 +154,17 @@ module _ (v : Reader) (known : Remote) (secrets : List (List ℕ)) (r : History)
     (knows : are_known v.role (is_some known.e) (is_some known.s) (before ++ t ∷ later) ≡ true)
     (s : Stops v known secrets r (before ++ t ∷ later) m (length before) Agreement) where
   abbrev keyed-there : Bool
-  keyed-there = is_some (cipher_key (after_front v.psks r (take (length before) (before ++ t ∷ later)) s.carried))
+  keyed-there = is_some (cipher_key (after_tokens v.psks r (take (length before) (before ++ t ∷ later)) s.carried))
 
-  leads : Leads v known secrets r before s.carried m s.rest
-  leads = subst (λ (us : List Token). Leads v known secrets r us s.carried m s.rest) (take-append_seam before (t ∷ later)) s.leads
+  leads : BeginsAs v known secrets r before s.carried m s.rest
+  leads = subst (λ (us : List Token). BeginsAs v known secrets r us s.carried m s.rest) (take-append_seam before (t ∷ later)) s.leads
 
   why : Agreement ≡ cause_of keyed-there t s.rest
   why = s.why ∙ cause-there keyed-there before later t s.rest
 
-  on : Reaches v known secrets r (before ++ t ∷ []) m → ⊥
+  on : CanBegin v known secrets r (before ++ t ∷ []) m → ⊥
   on h = s.further (stops-within v known secrets r (before ++ t ∷ later) m (length before) s)
-      (subst (λ (us : List Token). Reaches v known secrets r us m) (sym (take-through before later t)) h)
+      (subst (λ (us : List Token). CanBegin v known secrets r us m) (sym (take-through before later t)) h)
 
   here : is_known v.role (is_some (learned known before s.carried).e) (is_some (learned known before s.carried).s) t ≡ true
   here =
@@ -182,7 +182,7 @@ module _ (v : Reader) (known : Remote) (secrets : List (List ℕ)) (r : History)
       ∙ known-dh v.role (is_some (learned known before s.carried).e) (is_some (learned known before s.carried).s) t
       (λ e. no-short (why ∙ ap (λ (u : Token). cause_of keyed-there u s.rest) e))
       (λ e. no-cause (nat_lt (length s.rest) (if keyed-there then 48 else 32)) (why ∙ ap (λ (u : Token). cause_of keyed-there u s.rest) e))
-      (λ e. on (subst (λ (u : Token). Reaches v known secrets r (before ++ u ∷ []) m) (sym e) (psk-goes v known secrets r before s.carried m s.rest leads)))
+      (λ e. on (subst (λ (u : Token). CanBegin v known secrets r (before ++ u ∷ []) m) (sym e) (psk-goes v known secrets r before s.carried m s.rest leads)))
       here)
 
   asked-there : (o : Option (Own × List ℕ))

@@ -11,7 +11,7 @@ use Rattle.noise_keys.specs.declared.keys.Own.{Own}
 use Rattle.noise_handshake.specs.declared.faults.WriteFault.{WriteFault}
 use Rattle.noise_handshake.specs.declared.faults.WriteFault.TheVariants as write
 use Rattle.noise_handshake.specs.Held.{Held, is_turn, length_now, write_fault}
-use Rattle.noise_handshake.specs.Party.{Stands, Withholds}
+use Rattle.noise_handshake.specs.Party.{Stands, DoesNotWrite}
 use Rattle.noise_handshake.specs.View.{View}
 
 -- what a fault says of the tests, and none
@@ -69,7 +69,7 @@ module _ {K : Type 0} (public_of : K → Own → Option (List ℕ)) (agreement :
 
   withheld-by : (f : WriteFault)
       → Said h.ended (h.passed == length h.pattern.messages) (is_turn h.role h.passed) (nat_lt 65535 (length_now h payload)) (Some f)
-      → Withholds v payload f
+      → DoesNotWrite v payload f
   withheld-by write.Ended t = sym s.ended ∙ t
   withheld-by write.Done t = (sym s.ended ∙ t.0, whole t.1)
   withheld-by write.NotYourTurn t =
@@ -80,12 +80,12 @@ module _ {K : Type 0} (public_of : K → Own → Option (List ℕ)) (agreement :
   )
   withheld-by (write.Agreement token) t = absurd t
 
-  pub withholds-of : (f : WriteFault) → write_fault h payload ≡ Some f → Withholds v payload f
+  pub withholds-of : (f : WriteFault) → write_fault h payload ≡ Some f → DoesNotWrite v payload f
   withholds-of f e =
       withheld-by f
       (subst (Said h.ended (h.passed == length h.pattern.messages) (is_turn h.role h.passed) (nat_lt 65535 (length_now h payload))) e
       (said h.ended (h.passed == length h.pattern.messages) (is_turn h.role h.passed) (nat_lt 65535 (length_now h payload))))
 
-  pub withholds-all : (o : Option WriteFault) → o ≡ write_fault h payload → IfSome o (λ f. Withholds v payload f)
+  pub withholds-all : (o : Option WriteFault) → o ≡ write_fault h payload → IfSome o (λ f. DoesNotWrite v payload f)
   withholds-all None e = tt
   withholds-all (Some f) e = withholds-of f (sym e)

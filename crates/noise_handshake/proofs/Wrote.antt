@@ -15,8 +15,8 @@ use Rattle.noise_keys.specs.declared.keys.Own.{Own}
 use Rattle.noise_handshake.specs.declared.faults.WriteFault.{WriteFault}
 use Rattle.noise_handshake.specs.declared.faults.WriteFault.TheVariants as write
 use Rattle.noise_handshake.specs.declared.remote.Remote.{Remote}
-use Rattle.noise_handshake.specs.Writing.{Writer, writer, Given, LacksAt, Writes, Lacks}
-use Rattle.noise_handshake.specs.Line.{line, after_line}
+use Rattle.noise_handshake.specs.Writing.{Writer, writer, Given, LacksAnswerAt, Writes, LacksAnswer}
+use Rattle.noise_handshake.specs.Message.{message_bytes, after_payload}
 use Rattle.noise_handshake.specs.Length.{added_width}
 use Rattle.noise_handshake.specs.View.{View, Speaks, tokens_at, tokens_now}
 use Rattle.noise_handshake.specs.inner.Speaking.{Speaking, has_own}
@@ -113,7 +113,7 @@ module _ {K : Type 0} (public_of : K → Own → Option (List ℕ)) (h : Held K)
     -- after a message of its own
     pub wrote : (psks : Bool) (tokens : List Token) (xs : List (List ℕ)) (payload : List ℕ) (state : SymmetricState) (secrets : List (List ℕ))
         (passed : ℕ) → psks ≡ has_psk h.pattern → tokens ≡ tokens_now v
-        → secrets ≡ drop (count_by is_psk tokens) h.secrets → passed ≡ h.passed + 1 → StateStands state (after_line psks v.history tokens xs payload)
+        → secrets ≡ drop (count_by is_psk tokens) h.secrets → passed ≡ h.passed + 1 → StateStands state (after_payload psks v.history tokens xs payload)
         → Stands public_of agreement (record h { state = state; secrets = secrets; passed = passed }) (after_own v xs payload)
     wrote psks tokens xs payload state secrets passed b e u n k = record {
       pattern = t.pattern;
@@ -124,8 +124,8 @@ module _ {K : Type 0} (public_of : K → Own → Option (List ℕ)) (h : Held K)
       remote = t.remote;
       passed = n ∙ ap (λ (i : ℕ). i + 1) t.passed;
       ended = t.ended;
-      history = subst (λ (ts : List Token). StateStands state (after_line (has_psk v.pattern) v.history ts xs payload)) e
-          (subst (λ (z : Bool). StateStands state (after_line z v.history tokens xs payload)) (b ∙ ap has_psk t.pattern) k);
+      history = subst (λ (ts : List Token). StateStands state (after_payload (has_psk v.pattern) v.history ts xs payload)) e
+          (subst (λ (z : Bool). StateStands state (after_payload z v.history tokens xs payload)) (b ∙ ap has_psk t.pattern) k);
     }
 
 -- what holds of a party's parts holds of the view that it speaks for
@@ -147,15 +147,15 @@ module _ (v : View) (role : Role) (psks : Bool) (own : Own → Option (List ℕ)
       subst (λ (ts : List Token). P (writer v) v.remote v.secrets ts) l.tokens_are h6
 
   pub written : (payload : List ℕ) (xs : List (List ℕ)) (m : List ℕ) → length m ≤ 65535
-      → Given (record { role = role; psks = psks; own = own; agree = agree }) known secrets tokens xs → m ≡ line psks v.history tokens xs payload
+      → Given (record { role = role; psks = psks; own = own; agree = agree }) known secrets tokens xs → m ≡ message_bytes psks v.history tokens xs payload
       → Writes v payload xs m
   written payload xs m fits g e = record {
     speaks = l.speaks;
     given = for-view (λ w z s ts. Given w z s ts xs) g;
-    spelled = e ∙ ap (λ (z : Bool). line z v.history tokens xs payload) l.psks_is
-        ∙ ap (λ (ts : List Token). line (has_psk v.pattern) v.history ts xs payload) l.tokens_are;
+    spelled = e ∙ ap (λ (z : Bool). message_bytes z v.history tokens xs payload) l.psks_is
+        ∙ ap (λ (ts : List Token). message_bytes (has_psk v.pattern) v.history ts xs payload) l.tokens_are;
     fits = fits;
   }
 
-  pub lacking : (k : ℕ) → LacksAt (record { role = role; psks = psks; own = own; agree = agree }) known secrets tokens k → Lacks v k
-  lacking k h = record { speaks = l.speaks; lacks = for-view (λ w z s ts. LacksAt w z s ts k) h }
+  pub lacking : (k : ℕ) → LacksAnswerAt (record { role = role; psks = psks; own = own; agree = agree }) known secrets tokens k → LacksAnswer v k
+  lacking k h = record { speaks = l.speaks; lacks = for-view (λ w z s ts. LacksAnswerAt w z s ts k) h }

@@ -17,11 +17,11 @@ use Rattle.noise_handshake.specs.declared.late_faults.LateUnwritten.{LateUnwritt
 use Rattle.noise_handshake.specs.declared.late_faults.LateUnwritten.TheVariants as unwritten
 use Rattle.noise_handshake.specs.Held.{Held, after_read_fault, after_write_fault, IsRefusal, IsAgreement}
 use Rattle.noise_handshake.specs.Parts.{IsWhole}
-use Rattle.noise_handshake.specs.Party.{Declines, Withholds, after_declined, after_withheld}
+use Rattle.noise_handshake.specs.Party.{DoesNotRead, DoesNotWrite, after_not_read, after_not_written}
 use Rattle.noise_handshake.specs.Setup.{secrets_of, setup_fault}
-use Rattle.noise_handshake.specs.View.{View, Leads, Listens, Refuses, Speaks, learned, reader, tokens_now}
+use Rattle.noise_handshake.specs.View.{View, BeginsAs, Listens, Refuses, Speaks, learned, reader, tokens_now}
 use Rattle.noise_handshake.specs.Wanting.{WantsToRead, WantsToWrite}
-use Rattle.noise_handshake.specs.Writing.{Lacks}
+use Rattle.noise_handshake.specs.Writing.{LacksAnswer}
 
 -- the handshake with these secrets after those that were handed in
 abbrev pub with_later : {K : Type 0} → Held K → List (List ℕ) → Held K
@@ -45,7 +45,7 @@ pub record WantsSecretToRead (v : View) (n : ℕ) (message : List ℕ) (remote :
   pub count : count_by is_psk before ≡ n
   pub carried : List (List ℕ)
   pub rest : List ℕ
-  pub leads : Leads (reader v) v.remote v.secrets v.history before carried message rest
+  pub leads : BeginsAs (reader v) v.remote v.secrets v.history before carried message rest
   pub remote_is : remote ≡ (learned v.remote before carried).s
 
 -- The party's message has a psk token, the first after n others, and the party lacks no DH answer before it.
@@ -55,13 +55,13 @@ pub record WantsSecretToWrite (v : View) (n : ℕ) : Type 0 where
   pub later : List Token
   pub tokens : tokens_now v ≡ before ++ Psk ∷ later
   pub count : count_by is_psk before ≡ n
-  pub answered : (k : ℕ) → k < length before → Lacks v k → ⊥
+  pub answered : (k : ℕ) → k < length before → LacksAnswer v k → ⊥
 
 -- Why the message isn't read, where n secrets have been handed in for the psk tokens that are still to come.
 abbrev pub LeavesLateUnread : View → ℕ → List ℕ → LateUnread → Type 0
 LeavesLateUnread v n message (unread.Wants (Answer own key)) = WantsToRead v message own key
 LeavesLateUnread v n message (unread.Wants (Secret remote)) = WantsSecretToRead v n message remote
-LeavesLateUnread v n message (unread.Declined fault) = Declines v message fault × ((token : ℕ) → Refuses v message token Agreement → ⊥)
+LeavesLateUnread v n message (unread.Declined fault) = DoesNotRead v message fault × ((token : ℕ) → Refuses v message token Agreement → ⊥)
 
 -- what that leaves
 abbrev pub after_late_unread : {K : Type 0} → Held K → LateUnread → Held K
@@ -71,7 +71,7 @@ after_late_unread h (unread.Declined fault) = after_read_fault h fault
 -- and the view after it
 abbrev pub after_late_declined : View → LateUnread → View
 after_late_declined v (unread.Wants want) = v
-after_late_declined v (unread.Declined fault) = after_declined v fault
+after_late_declined v (unread.Declined fault) = after_not_read v fault
 
 -- the fault of a message that was due, or what it wants
 abbrev pub IsLateOfDue : LateUnread → Type 0
@@ -86,7 +86,7 @@ WantsLate v n (Secret remote) = WantsSecretToWrite v n × (remote ≡ v.remote.s
 -- Why a payload of this length isn't written, where n secrets have been handed in; the want of an answer or a secret is no fault.
 abbrev pub LeavesLateUnwritten : View → ℕ → ℕ → LateUnwritten → Type 0
 LeavesLateUnwritten v n payload (unwritten.Wants want) = WantsLate v n want
-LeavesLateUnwritten v n payload (unwritten.Withheld fault) = Withholds v payload fault × (IsAgreement fault → ⊥)
+LeavesLateUnwritten v n payload (unwritten.Withheld fault) = DoesNotWrite v payload fault × (IsAgreement fault → ⊥)
 
 -- what that leaves
 abbrev pub after_late_unwritten : {K : Type 0} → Held K → LateUnwritten → Held K

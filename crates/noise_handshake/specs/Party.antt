@@ -10,10 +10,10 @@ use Rattle.noise_handshake.specs.declared.faults.ReadFault.{ReadFault}
 use Rattle.noise_handshake.specs.declared.faults.ReadFault.TheVariants as read
 use Rattle.noise_handshake.specs.declared.faults.WriteFault.{WriteFault}
 use Rattle.noise_handshake.specs.declared.faults.WriteFault.TheVariants as write
-use Rattle.noise_handshake.specs.Line.{after_line}
+use Rattle.noise_handshake.specs.Message.{after_payload}
 use Rattle.noise_handshake.specs.Passed.{passed_places}
 use Rattle.noise_handshake.specs.View.{View, Listens, Refuses, Speaks, learned, tokens_now}
-use Rattle.noise_handshake.specs.Writing.{Lacks}
+use Rattle.noise_handshake.specs.Writing.{LacksAnswer}
 use Rattle.noise_handshake.specs.Held.{Held}
 
 -- the view after a message that was accepted
@@ -22,7 +22,7 @@ after_message v xs payload = record v {
   secrets = drop (count_by is_psk (tokens_now v)) v.secrets;
   remote = learned v.remote (tokens_now v) xs;
   passed = v.passed + 1;
-  history = after_line (has_psk v.pattern) v.history (tokens_now v) xs payload;
+  history = after_payload (has_psk v.pattern) v.history (tokens_now v) xs payload;
 }
 
 -- the view after a message of its own
@@ -30,7 +30,7 @@ abbrev pub after_own : View → List (List ℕ) → List ℕ → View
 after_own v xs payload = record v {
   secrets = drop (count_by is_psk (tokens_now v)) v.secrets;
   passed = v.passed + 1;
-  history = after_line (has_psk v.pattern) v.history (tokens_now v) xs payload;
+  history = after_payload (has_psk v.pattern) v.history (tokens_now v) xs payload;
 }
 
 -- the view of a party that has ended
@@ -55,26 +55,26 @@ module _ {K : Type 0} (public_of : K → Own → Option (List ℕ)) (agreement :
     pub history : StateStands h.state v.history
 
 -- Why a party doesn't accept a message.
-abbrev pub Declines : View → List ℕ → ReadFault → Type 0
-Declines v message read.Ended = v.ended ≡ true
-Declines v message read.Done = (v.ended ≡ false) × (v.passed ≡ length v.pattern.messages)
-Declines v message read.NotYourTurn = Speaks v
-Declines v message (read.Refused token cause) = Refuses v message token cause
+abbrev pub DoesNotRead : View → List ℕ → ReadFault → Type 0
+DoesNotRead v message read.Ended = v.ended ≡ true
+DoesNotRead v message read.Done = (v.ended ≡ false) × (v.passed ≡ length v.pattern.messages)
+DoesNotRead v message read.NotYourTurn = Speaks v
+DoesNotRead v message (read.Refused token cause) = Refuses v message token cause
 
 -- the view after such a fault: only a refusal of a message that was due ends the handshake
-abbrev pub after_declined : View → ReadFault → View
-after_declined v (read.Refused token cause) = over v
-after_declined v _ = v
+abbrev pub after_not_read : View → ReadFault → View
+after_not_read v (read.Refused token cause) = over v
+after_not_read v _ = v
 
 -- Why a party doesn't write a payload of this length.
-abbrev pub Withholds : View → ℕ → WriteFault → Type 0
-Withholds v payload write.Ended = v.ended ≡ true
-Withholds v payload write.Done = (v.ended ≡ false) × (v.passed ≡ length v.pattern.messages)
-Withholds v payload write.NotYourTurn = Listens v
-Withholds v payload write.TooLong = Speaks v × (65535 < overhead_of v.pattern (v.passed + 1) + payload)
-Withholds v payload (write.Agreement token) = (overhead_of v.pattern (v.passed + 1) + payload ≤ 65535) × Lacks v token
+abbrev pub DoesNotWrite : View → ℕ → WriteFault → Type 0
+DoesNotWrite v payload write.Ended = v.ended ≡ true
+DoesNotWrite v payload write.Done = (v.ended ≡ false) × (v.passed ≡ length v.pattern.messages)
+DoesNotWrite v payload write.NotYourTurn = Listens v
+DoesNotWrite v payload write.TooLong = Speaks v × (65535 < overhead_of v.pattern (v.passed + 1) + payload)
+DoesNotWrite v payload (write.Agreement token) = (overhead_of v.pattern (v.passed + 1) + payload ≤ 65535) × LacksAnswer v token
 
 -- the view after such a fault: only a DH without an answer ends the handshake
-abbrev pub after_withheld : View → WriteFault → View
-after_withheld v (write.Agreement token) = over v
-after_withheld v _ = v
+abbrev pub after_not_written : View → WriteFault → View
+after_not_written v (write.Agreement token) = over v
+after_not_written v _ = v

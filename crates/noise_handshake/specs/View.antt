@@ -11,7 +11,7 @@ use Rattle.noise_handshake.specs.declared.faults.Cause.{Cause}
 use Rattle.noise_handshake.specs.declared.faults.Cause.TheVariants.{Short, Tag, Agreement}
 use Rattle.noise_state.specs.History.{History, MixHash, and_then, cipher_key}
 use Rattle.noise_handshake.specs.declared.remote.Remote.{Remote}
-use Rattle.noise_handshake.specs.Line.{with_ephemeral, front, after_front, line}
+use Rattle.noise_handshake.specs.Message.{with_ephemeral, before_payload, after_tokens, message_bytes}
 use Rattle.noise_names.specs.Tokens.{other, turn_from}
 use Rattle.noise_names.specs.Plan.{Plan, pre_of, has_psk}
 
@@ -135,16 +135,16 @@ pub record Speaks (v : View) : Type 0 where
   pub turn : turn_from Initiator v.passed ≡ v.role
 
 -- The message begins as some sender's tokens would that carry these texts, and this is left of it.
-pub record Leads (v : Reader) (known : Remote) (secrets : List (List ℕ)) (r : History) (ts : List Token) (xs : List (List ℕ))
+pub record BeginsAs (v : Reader) (known : Remote) (secrets : List (List ℕ)) (r : History) (ts : List Token) (xs : List (List ℕ))
     (message rest : List ℕ) : Type 0 where
   pub fit : Fit v known secrets ts xs
-  pub spelled : message ≡ front v.psks r ts xs ++ rest
+  pub spelled : message ≡ before_payload v.psks r ts xs ++ rest
 
 -- It begins as some sender's tokens would.
-pub record Reaches (v : Reader) (known : Remote) (secrets : List (List ℕ)) (r : History) (ts : List Token) (message : List ℕ) : Type 0 where
+pub record CanBegin (v : Reader) (known : Remote) (secrets : List (List ℕ)) (r : History) (ts : List Token) (message : List ℕ) : Type 0 where
   pub carried : List (List ℕ)
   pub rest : List ℕ
-  pub leads : Leads v known secrets r ts carried message rest
+  pub leads : BeginsAs v known secrets r ts carried message rest
 
 -- why reading stops at a token, with this left of the message
 abbrev pub cause_of : Bool → Token → List ℕ → Cause
@@ -162,7 +162,7 @@ cause_at keyed (t ∷ ts) (suc k) rest = cause_at keyed ts k rest
 pub record Reads (v : Reader) (known : Remote) (secrets : List (List ℕ)) (r : History) (ts : List Token) (message : List ℕ)
     (xs : List (List ℕ)) (payload : List ℕ) : Type 0 where
   pub fit : Fit v known secrets ts xs
-  pub spelled : message ≡ line v.psks r ts xs payload
+  pub spelled : message ≡ message_bytes v.psks r ts xs payload
 
 -- Reading stops at token k: some sender's tokens before it lead there, and none's lead further. The payload counts as the token
 -- after the last.
@@ -171,10 +171,10 @@ pub record Stops (v : Reader) (known : Remote) (secrets : List (List ℕ)) (r : 
   pub within : k ≤ length ts
   pub carried : List (List ℕ)
   pub rest : List ℕ
-  pub leads : Leads v known secrets r (take k ts) carried message rest
-  pub further : k < length ts → Reaches v known secrets r (take (suc k) ts) message → ⊥
+  pub leads : BeginsAs v known secrets r (take k ts) carried message rest
+  pub further : k < length ts → CanBegin v known secrets r (take (suc k) ts) message → ⊥
   pub unread : k ≡ length ts → (xs : List (List ℕ)) (payload : List ℕ) → Reads v known secrets r ts message xs payload → ⊥
-  pub why : cause ≡ cause_at (is_some (cipher_key (after_front v.psks r (take k ts) carried))) ts k rest
+  pub why : cause ≡ cause_at (is_some (cipher_key (after_tokens v.psks r (take k ts) carried))) ts k rest
 
 -- The party accepts the message as this payload, where the tokens carry these texts.
 pub record Accepts (v : View) (message : List ℕ) (xs : List (List ℕ)) (payload : List ℕ) : Type 0 where

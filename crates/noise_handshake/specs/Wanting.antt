@@ -6,7 +6,7 @@ use Rattle.noise_handshake.specs.declared.faults.Cause.TheVariants.{Agreement}
 use Rattle.noise_handshake.specs.declared.remote.Remote.{Remote}
 use Rattle.noise_state.specs.History.{History}
 use Rattle.noise_handshake.specs.View.{View, Reader, reader, Listens, Speaks, Stops, learned, own_at, remote_at, tokens_now}
-use Rattle.noise_handshake.specs.Writing.{Writer, writer, LacksAt}
+use Rattle.noise_handshake.specs.Writing.{Writer, writer, LacksAnswerAt}
 
 -- Reading stops at a DH for want of its answer: that of this key pair to this key of the other party, as it is known after the tokens before.
 pub record StopsFor (v : Reader) (known : Remote) (secrets : List (List ℕ)) (r : History) (ts : List Token) (message : List ℕ)
@@ -25,16 +25,16 @@ pub record WantsToRead (v : View) (message : List ℕ) (own : Own) (key : List �
   pub stops : StopsFor (reader v) v.remote v.secrets v.history (tokens_now v) message own key
 
 -- The first token without a text is a DH without its answer: that of this key pair to this key of the other party.
-pub record LacksFor (w : Writer) (known : Remote) (secrets : List (List ℕ)) (ts : List Token) (own : Own) (key : List ℕ) : Type 0 where
+pub record LacksAnswerFor (w : Writer) (known : Remote) (secrets : List (List ℕ)) (ts : List Token) (own : Own) (key : List ℕ) : Type 0 where
   pub before : List Token
   pub token : Token
   pub later : List Token
   pub tokens : ts ≡ before ++ token ∷ later
-  pub lacks : LacksAt w known secrets ts (length before)
+  pub lacks : LacksAnswerAt w known secrets ts (length before)
   pub own_is : own ≡ own_at w.role token
   pub key_is : remote_at w.role known token ≡ Some key
 
 -- The party would not write its message for want of this answer.
 pub record WantsToWrite (v : View) (own : Own) (key : List ℕ) : Type 0 where
   pub speaks : Speaks v
-  pub lacks : LacksFor (writer v) v.remote v.secrets (tokens_now v) own key
+  pub lacks : LacksAnswerFor (writer v) v.remote v.secrets (tokens_now v) own key

@@ -87,7 +87,7 @@ impl<K: Keys> Handshake<K> {
     ghost use Rattle.noise_handshake.specs.inner.Layout.{IsLaid};
     ghost use Rattle.noise_handshake.specs.View.{View, Accepts, Refuses, Speaks, reader, tokens_at, tokens_now};
     ghost use Rattle.noise_handshake.specs.inner.Late.{IsPskAfter};
-    ghost use Rattle.noise_handshake.specs.inner.Listening.{LeadsBefore};
+    ghost use Rattle.noise_handshake.specs.inner.Listening.{BeginsBefore};
     ghost use Rattle.noise_names.specs.Tokens.{is_psk};
     ghost use Rattle.noise_handshake.specs.Held.{is_turn, read_fault, after_read_fault, write_fault, after_write_fault, message_len_of, IsRefusal};
     ghost use Rattle.noise_handshake.specs.Held.{IsAgreement, Advances, IsOfDue, after_unread, ended_as};
@@ -96,10 +96,10 @@ impl<K: Keys> Handshake<K> {
     ghost use Rattle.noise_handshake.specs.Opening.{Opens};
     ghost use Rattle.noise_handshake.specs.Parts.{held_of, HasProgress, IsWhole};
     ghost use Rattle.noise_handshake.specs.Setup.{begun, secrets_of, setup_fault};
-    ghost use Rattle.noise_handshake.specs.Writing.{Writes, Lacks, LacksAt, writer};
-    ghost use Rattle.noise_handshake.specs.Wanting.{WantsToRead, WantsToWrite, LacksFor};
+    ghost use Rattle.noise_handshake.specs.Writing.{Writes, LacksAnswer, LacksAnswerAt, writer};
+    ghost use Rattle.noise_handshake.specs.Wanting.{WantsToRead, WantsToWrite, LacksAnswerFor};
     ghost use Rattle.noise_handshake.specs.declared.faults.Cause.{Cause};
-    ghost use Rattle.noise_handshake.specs.Party.{Stands, after_message, after_own, Declines, after_declined, Withholds, after_withheld};
+    ghost use Rattle.noise_handshake.specs.Party.{Stands, after_message, after_own, DoesNotRead, after_not_read, DoesNotWrite, after_not_written};
 
     /// The handshake of one party before its first message.
     ///
@@ -390,7 +390,7 @@ impl<K: Keys> Handshake<K> {
         ensures reads { (v : View) → Stands K.public_of K.agreement self.old v → MatchResult result
             (λ place. let payload = slice_range message.new place.0 place.1 in (xs : List (List ℕ)) × Accepts v message.old xs payload
             × Stands K.public_of K.agreement self.new (after_message v xs payload))
-            (λ fault. Declines v message.old fault × Stands K.public_of K.agreement self.new (after_declined v fault)) }
+            (λ fault. DoesNotRead v message.old fault × Stands K.public_of K.agreement self.new (after_not_read v fault)) }
     {
         if let Some(fault) = self.read_fault() {
             return Err(fault);
@@ -416,7 +416,7 @@ impl<K: Keys> Handshake<K> {
         ensures state { MatchResult result (λ _. Advances self.old self.new) (λ fault. self.new ≡ after_read_fault self.old fault) }
         ensures reads { (v : View) → Stands K.public_of K.agreement self.old v → MatchResult result
             (λ payload. (xs : List (List ℕ)) × Accepts v message.old xs payload.now × Stands K.public_of K.agreement self.new (after_message v xs payload.now))
-            (λ fault. Declines v message.old fault × Stands K.public_of K.agreement self.new (after_declined v fault)) }
+            (λ fault. DoesNotRead v message.old fault × Stands K.public_of K.agreement self.new (after_not_read v fault)) }
     {
         let (from, to) = self.read_within(message)?;
         Ok(&mut message[from..to])
@@ -517,7 +517,7 @@ impl<K: Keys> Handshake<K> {
     pub(crate) fn withheld(&self, payload_len: usize) -> Option<WriteFault>
         ensures value { result ≡ write_fault self.now payload_len }
         ensures due { result ≡ None → self.now.passed < length self.now.pattern.messages }
-        ensures withholds { (v : View) → Stands K.public_of K.agreement self.now v → IfSome result (λ fault. Withholds v payload_len fault) }
+        ensures withholds { (v : View) → Stands K.public_of K.agreement self.now v → IfSome result (λ fault. DoesNotWrite v payload_len fault) }
     {
         let _ = self.left();
         self.write_fault(payload_len)
@@ -547,7 +547,7 @@ impl<K: Keys> Handshake<K> {
         ensures beyond { IfOk result (λ n. drop n out.new ≡ drop n out.old) }
         ensures writes { (v : View) → Stands K.public_of K.agreement self.old v → MatchResult result
             (λ n. (xs : List (List ℕ)) × Writes v payload.now xs (take n out.new) × Stands K.public_of K.agreement self.new (after_own v xs payload.now))
-            (λ fault. Withholds v (length payload.now) fault × Stands K.public_of K.agreement self.new (after_withheld v fault)) }
+            (λ fault. DoesNotWrite v (length payload.now) fault × Stands K.public_of K.agreement self.new (after_not_written v fault)) }
     {
         if let Some(fault) = self.write_fault(payload.len()) {
             return Err(fault);
@@ -596,7 +596,7 @@ impl<K: Keys> Handshake<K> {
     /// the other. None where a message is due and lacks no answer, and where none is due. Nothing changes.
     pub fn wants_to_write(&self) -> Option<(Own, [u8; 32])>
         ensures { (v : View) → Stands K.public_of K.agreement self.now v → MatchOption result
-            ((token : ℕ) → Lacks v token → ⊥)
+            ((token : ℕ) → LacksAnswer v token → ⊥)
             (λ want. WantsToWrite v want.0 want.1) }
     {
         if !self.speaks() {
@@ -652,7 +652,7 @@ impl<K: Keys> Handshake<K> {
         requires due { read_fault self.now ≡ None }
         requires within { k ≤ length (tokens_at self.now.pattern.messages self.now.passed) }
         ensures { (v : View) → Stands K.public_of K.agreement self.now v → MatchResult result
-            (λ s. LeadsBefore (reader v) v.remote v.secrets v.history (tokens_now v) message.now k s)
+            (λ s. BeginsBefore (reader v) v.remote v.secrets v.history (tokens_now v) message.now k s)
             (λ stop. (stop.token < k) × Refuses v message.now stop.token stop.cause × MatchOption stop.want
             ((token : ℕ) → Refuses v message.now token Cause.Agreement → ⊥) (λ want. WantsToRead v message.now want.0 want.1)) }
     {
@@ -678,8 +678,8 @@ impl<K: Keys> Handshake<K> {
         requires due { (not self.now.ended && not (self.now.passed == length self.now.pattern.messages) && is_turn self.now.role self.now.passed) ≡ true }
         requires within { k ≤ length (tokens_at self.now.pattern.messages self.now.passed) }
         ensures { (v : View) → Stands K.public_of K.agreement self.now v → Speaks v × MatchOption result
-            ((token : ℕ) → LacksAt (writer v) v.remote v.secrets (take k (tokens_now v)) token → ⊥)
-            (λ want. LacksFor (writer v) v.remote v.secrets (take k (tokens_now v)) want.0 want.1) }
+            ((token : ℕ) → LacksAnswerAt (writer v) v.remote v.secrets (take k (tokens_now v)) token → ⊥)
+            (λ want. LacksAnswerFor (writer v) v.remote v.secrets (take k (tokens_now v)) want.0 want.1) }
     {
         let means = Means {
             keys: &self.keys,

@@ -66,7 +66,7 @@ impl<K: Keys> LateHandshake<K> {
     ghost use Rattle.noise_handshake.specs.Parts.{held_of, HasProgress};
     ghost use Rattle.noise_handshake.specs.Party.{Stands, after_message, after_own};
     ghost use Rattle.noise_handshake.specs.Setup.{begun, secrets_of};
-    ghost use Rattle.noise_handshake.specs.Writing.{Writes, Lacks};
+    ghost use Rattle.noise_handshake.specs.Writing.{Writes, LacksAnswer};
     ghost use Rattle.noise_handshake.specs.Late.{with_later, late_fault, IsLateWhole, WantsSecretToRead, WantsSecretToWrite, WantsLate, LeavesLateUnread};
     ghost use Rattle.noise_handshake.specs.Late.{LeavesLateUnwritten, after_late_unread, after_late_declined, after_late_unwritten, IsLateOfDue, IsLateOfTurn, IsLateWant};
 
@@ -315,7 +315,7 @@ impl<K: Keys> LateHandshake<K> {
     /// none is due. Nothing changes.
     pub fn wants_to_write(&self) -> Option<Want>
         ensures wants { (v : View) (later : List (List ℕ)) → Stands K.public_of K.agreement (with_later self.now later) v → MatchOption result
-            ((token : ℕ) → Lacks v token → ⊥) (λ want. WantsLate v (length self.now.secrets) want) }
+            ((token : ℕ) → LacksAnswer v token → ⊥) (λ want. WantsLate v (length self.now.secrets) want) }
         ensures asked { (v : View) (later : List (List ℕ)) → Stands K.public_of K.agreement (with_later self.now later) v
             → WantsSecretToWrite v (length self.now.secrets) → result ≡ Some (Want.Secret self.now.remote.s) }
         ensures few { (not self.now.ended && not (self.now.passed == length self.now.pattern.messages) && is_turn self.now.role self.now.passed) ≡ true

@@ -6,13 +6,13 @@ ghost use Rattle.std.specs.Prelude.{MatchOption, MatchResult, IfOk, IfSome, IfEr
 ghost use Rattle.noise_state.specs.Cipher.{next_nonce};
 ghost use Rattle.noise_state.specs.Standing.{StateStands, keyed, nonce_now};
 ghost use Rattle.noise_handshake.specs.Nonces.{nonce_after, nonce_after_message, nonce_after_tokens};
-ghost use Rattle.noise_state.specs.History.{History, Ciphertext, and_then, piece, cipher_key, nonce};
-ghost use Rattle.noise_handshake.specs.Line.{with_ephemeral, token_piece, after_token, after_front, after_line};
+ghost use Rattle.noise_state.specs.History.{History, Ciphertext, and_then, ciphertext, cipher_key, nonce};
+ghost use Rattle.noise_handshake.specs.Message.{with_ephemeral, token_bytes, after_token, after_tokens, after_payload};
 ghost use Rattle.noise_handshake.specs.inner.Known.{is_known, are_known, e_after, s_after, e_after_tokens, s_after_tokens};
 ghost use Rattle.noise_handshake.specs.Length.{keyed_after, keyed_after_tokens, token_width};
-ghost use Rattle.noise_handshake.specs.View.{Reader, Fits, Leads, Stops, known_after, learned, Reads};
+ghost use Rattle.noise_handshake.specs.View.{Reader, Fits, BeginsAs, Stops, known_after, learned, Reads};
 ghost use Rattle.noise_handshake.specs.View.{cause_of, secrets_after};
-ghost use Rattle.noise_handshake.specs.inner.Listening.{Fails, StopsKnowing, LeadsBefore, width_of_key};
+ghost use Rattle.noise_handshake.specs.inner.Listening.{Fails, StopsKnowing, BeginsBefore, width_of_key};
 ghost use Rattle.noise_names.specs.declared.token.Token.{Token};
 ghost use Rattle.noise_handshake.specs.inner.Layout.{tokens_of, ArePlaced};
 ghost use Rattle.noise_names.specs.Tokens.{is_psk};
@@ -62,8 +62,8 @@ fn open_key(state: &mut SymmetricState, buffer: &mut [u8]) -> Option<[u8; 32]>
     ensures nonce { nonce_now state.new ≤ nonce_now state.old + 1 }
     ensures counted { IfSome result (λ _. nonce_now state.new ≡ next_nonce (keyed state.old) (nonce_now state.old)) }
     ensures opened { (r : History) → StateStands state.old r → length buffer.old ≡ width_of_key r → MatchOption result
-        ((x : List ℕ) → buffer.old ≡ piece r x → ⊥)
-        (λ x. (length x ≡ 32) × (buffer.old ≡ piece r x) × StateStands state.new (and_then r (Ciphertext (piece r x)))) }
+        ((x : List ℕ) → buffer.old ≡ ciphertext r x → ⊥)
+        (λ x. (length x ≡ 32) × (buffer.old ≡ ciphertext r x) × StateStands state.new (and_then r (Ciphertext (ciphertext r x)))) }
 {
     match state.decrypt_and_hash(buffer) {
         Ok(_) => Some(first_32(buffer)),
@@ -98,9 +98,9 @@ fn read_s(
     ensures counted { OnOk result (nonce_now state.new ≡ next_nonce (keyed state.old) (nonce_now state.old)) }
     ensures unchanged { OnErr result (known.new ≡ known.old) }
     ensures read { (r : History) → StateStands state.old r → MatchResult result
-        (λ n. (x : List ℕ) × (length x ≡ 32) × (message.now ≡ piece r x ++ drop n message.now) × StateStands state.new (and_then r (Ciphertext (piece r x)))
+        (λ n. (x : List ℕ) × (length x ≡ 32) × (message.now ≡ ciphertext r x ++ drop n message.now) × StateStands state.new (and_then r (Ciphertext (ciphertext r x)))
         × (known.new ≡ record known.old { s = Some x }))
-        (λ cause. ((x rest : List ℕ) → length x ≡ 32 → message.now ≡ piece r x ++ rest → ⊥) × (cause ≡ cause_of (is_some (cipher_key r)) Token.S message.now)) }
+        (λ cause. ((x rest : List ℕ) → length x ≡ 32 → message.now ≡ ciphertext r x ++ rest → ⊥) × (cause ≡ cause_of (is_some (cipher_key r)) Token.S message.now)) }
 {
     if message.len() < width {
         return Err(Cause::Short);
@@ -140,7 +140,7 @@ fn read_token<K: Keys>(
     ensures unchanged { OnErr result (known.new ≡ known.old) }
     ensures read { (r : History) → StateStands state.old r
         → let v : Reader = record { role = means.now.role; psks = means.now.psks; agree = K.agreement means.now.keys.now } in MatchResult result
-        (λ n. (x : List ℕ) × Fits v known.old secrets.now placed.token x × (message.now ≡ token_piece r placed.token x ++ drop n message.now)
+        (λ n. (x : List ℕ) × Fits v known.old secrets.now placed.token x × (message.now ≡ token_bytes r placed.token x ++ drop n message.now)
         × StateStands state.new (after_token means.now.psks r placed.token x) × (known.new ≡ known_after known.old placed.token x))
         (λ cause. Fails v known.old secrets.now r placed.token message.now × (cause ≡ cause_of (is_some (cipher_key r)) placed.token message.now)) }
 {
@@ -195,8 +195,8 @@ fn read_tokens<K: Keys>(
         → ArePlaced means.now.psks (keyed state.old) place placed.now
         → let v : Reader = record { role = means.now.role; psks = means.now.psks; agree = K.agreement means.now.keys.now } in
         let tokens : List Token = tokens_of placed.now in MatchResult result
-        (λ n. (xs : List (List ℕ)) × Leads v known.old secrets.now r tokens xs (drop place message.now) (drop (place + n) message.now)
-        × StateStands state.new (after_front means.now.psks r tokens xs) × (known.new ≡ learned known.old tokens xs))
+        (λ n. (xs : List (List ℕ)) × BeginsAs v known.old secrets.now r tokens xs (drop place message.now) (drop (place + n) message.now)
+        × StateStands state.new (after_tokens means.now.psks r tokens xs) × (known.new ≡ learned known.old tokens xs))
         (λ stop. StopsKnowing v known.old secrets.now r tokens (drop place message.now) stop.0 stop.1 known.new) }
 {
     let Some((first, later)) = placed.split_first() else {
@@ -297,7 +297,7 @@ pub(crate) fn read_before<K: Keys>(
     ensures { (r : History) → StateStands state.now r
         → let v : Reader = record { role = means.now.role; psks = means.now.psks; agree = K.agreement means.now.keys.now } in
         let tokens : List Token = tokens_of placed.now in MatchResult result
-        (λ s. LeadsBefore v known.now secrets.now r tokens message.now k s)
+        (λ s. BeginsBefore v known.now secrets.now r tokens message.now k s)
         (λ stop. (stop.token < k) × Stops v known.now secrets.now r tokens message.now stop.token stop.cause × MatchOption stop.want
         ((j : ℕ) → Stops v known.now secrets.now r tokens message.now j Agreement → ⊥)
         (λ want. StopsFor v known.now secrets.now r tokens message.now want.0 want.1)) }
@@ -348,7 +348,7 @@ pub(crate) fn read_message<K: Keys>(
         → let v : Reader = record { role = means.now.role; psks = means.now.psks; agree = K.agreement means.now.keys.now } in
         let tokens : List Token = tokens_of placed.now in MatchResult result
         (λ place. let payload = slice_range message.new place.0 place.1 in (xs : List (List ℕ)) × Reads v known.old secrets.now r tokens message.old xs payload
-        × StateStands state.new (after_line means.now.psks r tokens xs payload) × (known.new ≡ learned known.old tokens xs))
+        × StateStands state.new (after_payload means.now.psks r tokens xs payload) × (known.new ≡ learned known.old tokens xs))
         (λ stop. StopsKnowing v known.old secrets.now r tokens message.old stop.0 stop.1 known.new) }
     ensures unchanged { OnErr result (message.new ≡ message.old) }
 {

@@ -8,7 +8,7 @@ ghost use Rattle.noise_handshake.specs.Nonces.{nonce_after};
 ghost use Rattle.noise_state.specs.History.{History};
 ghost use Rattle.noise_handshake.specs.inner.Known.{remote_known};
 ghost use Rattle.noise_handshake.specs.Length.{keyed_after};
-ghost use Rattle.noise_handshake.specs.Line.{with_ephemeral};
+ghost use Rattle.noise_handshake.specs.Message.{with_ephemeral};
 ghost use Rattle.noise_handshake.specs.View.{answered, own_at, remote_at, secrets_after};
 
 use crate::{Keys, Own, Remote};

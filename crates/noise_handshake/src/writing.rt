@@ -7,12 +7,12 @@ ghost use Rattle.std.specs.List.{list_all};
 ghost use Rattle.noise_state.specs.Cipher.{next_nonce};
 ghost use Rattle.noise_state.specs.Standing.{StateStands, keyed, nonce_now};
 ghost use Rattle.noise_handshake.specs.Nonces.{nonce_after, nonce_after_message, nonce_after_tokens};
-ghost use Rattle.noise_state.specs.History.{History, Ciphertext, and_then, piece};
-ghost use Rattle.noise_handshake.specs.Line.{token_piece, after_token, front, after_front, line, after_line, with_ephemeral};
+ghost use Rattle.noise_state.specs.History.{History, Ciphertext, and_then, ciphertext};
+ghost use Rattle.noise_handshake.specs.Message.{token_bytes, after_token, before_payload, after_tokens, message_bytes, after_payload, with_ephemeral};
 ghost use Rattle.noise_handshake.specs.inner.Known.{is_known, remote_known};
 ghost use Rattle.noise_handshake.specs.Length.{keyed_after, keyed_after_tokens, tag_width, token_width, tokens_width, added_width};
-ghost use Rattle.noise_handshake.specs.Writing.{Writer, Gives, Given, LacksAt};
-ghost use Rattle.noise_handshake.specs.Wanting.{LacksFor};
+ghost use Rattle.noise_handshake.specs.Writing.{Writer, Gives, Given, LacksAnswerAt};
+ghost use Rattle.noise_handshake.specs.Wanting.{LacksAnswerFor};
 ghost use Rattle.noise_handshake.specs.inner.Speaking.{has_own};
 ghost use Rattle.noise_names.specs.declared.token.Token.{Token};
 ghost use Rattle.noise_handshake.specs.inner.Layout.{tokens_of};
@@ -53,8 +53,8 @@ fn write_part(state: &mut SymmetricState, text: &[u8], out: &mut [u8]) -> usize
     ensures keyed { keyed state.new ≡ keyed state.old }
     ensures used { nonce_now state.new ≤ nonce_now state.old + 1 }
     ensures counted { nonce_now state.new ≡ next_nonce (keyed state.old) (nonce_now state.old) }
-    ensures written { (r : History) → StateStands state.old r → (take result out.new ≡ piece r text.now)
-        × StateStands state.new (and_then r (Ciphertext (piece r text.now))) }
+    ensures written { (r : History) → StateStands state.old r → (take result out.new ≡ ciphertext r text.now)
+        × StateStands state.new (and_then r (Ciphertext (ciphertext r text.now))) }
 {
     let len = put(text, out);
     let width = len + tag_width(state);
@@ -106,7 +106,7 @@ fn write_token<K: Keys>(
         } in
         MatchOption result
         ((x : List ℕ) → Gives w known.now secrets.now token x → ⊥)
-        (λ n. (x : List ℕ) × Gives w known.now secrets.now token x × (take n out.new ≡ token_piece r token x)
+        (λ n. (x : List ℕ) × Gives w known.now secrets.now token x × (take n out.new ≡ token_bytes r token x)
         × StateStands state.new (after_token means.now.psks r token x)) }
 {
     match token {
@@ -159,9 +159,9 @@ fn write_tokens<K: Keys>(
         } in
         MatchResult result
         (λ n. (xs : List (List ℕ)) × Given w known.now secrets.now (tokens_of placed.now) xs
-        × (take n out.new ≡ front means.now.psks r (tokens_of placed.now) xs)
-        × StateStands state.new (after_front means.now.psks r (tokens_of placed.now) xs))
-        (λ k. LacksAt w known.now secrets.now (tokens_of placed.now) k) }
+        × (take n out.new ≡ before_payload means.now.psks r (tokens_of placed.now) xs)
+        × StateStands state.new (after_tokens means.now.psks r (tokens_of placed.now) xs))
+        (λ k. LacksAnswerAt w known.now secrets.now (tokens_of placed.now) k) }
 {
     let Some((first, later)) = placed.split_first() else {
         return Ok(0);
@@ -220,8 +220,8 @@ pub(crate) fn write_lacking<K: Keys>(
       agree = K.agreement means.now.keys.now;
     } in
         MatchOption result
-        ((k : ℕ) → LacksAt w known.now secrets.now (tokens_of placed.now) k → ⊥)
-        (λ want. LacksFor w known.now secrets.now (tokens_of placed.now) want.0 want.1) }
+        ((k : ℕ) → LacksAnswerAt w known.now secrets.now (tokens_of placed.now) k → ⊥)
+        (λ want. LacksAnswerFor w known.now secrets.now (tokens_of placed.now) want.0 want.1) }
 {
     let (first, later) = placed.split_first()?;
     match text_at(known, means, secrets, first.token) {
@@ -252,8 +252,8 @@ pub(crate) fn write_lacking_before<K: Keys>(
       agree = K.agreement means.now.keys.now;
     } in
         MatchOption result
-        ((j : ℕ) → LacksAt w known.now secrets.now (take k (tokens_of placed.now)) j → ⊥)
-        (λ want. LacksFor w known.now secrets.now (take k (tokens_of placed.now)) want.0 want.1) }
+        ((j : ℕ) → LacksAnswerAt w known.now secrets.now (take k (tokens_of placed.now)) j → ⊥)
+        (λ want. LacksAnswerFor w known.now secrets.now (take k (tokens_of placed.now)) want.0 want.1) }
 {
     write_lacking(known, means, secrets, &placed[..k])
 }
@@ -290,9 +290,9 @@ pub(crate) fn write_message<K: Keys>(
         } in
         MatchResult result
         (λ n. (xs : List (List ℕ)) × Given w known.now secrets.now (tokens_of placed.now) xs
-        × (take n out.new ≡ line means.now.psks r (tokens_of placed.now) xs payload.now)
-        × StateStands state.new (after_line means.now.psks r (tokens_of placed.now) xs payload.now))
-        (λ k. LacksAt w known.now secrets.now (tokens_of placed.now) k) }
+        × (take n out.new ≡ message_bytes means.now.psks r (tokens_of placed.now) xs payload.now)
+        × StateStands state.new (after_payload means.now.psks r (tokens_of placed.now) xs payload.now))
+        (λ k. LacksAnswerAt w known.now secrets.now (tokens_of placed.now) k) }
 {
     let from = match write_tokens(state, known, means, secrets, placed, out) {
         Ok(from) => from,

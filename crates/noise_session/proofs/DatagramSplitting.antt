@@ -7,15 +7,15 @@ use Rattle.noise_session.specs.declared.faults.SendFault.{SendFault}
 use Rattle.noise_session.specs.declared.window.Ring.{Ring}
 use Rattle.noise_events.specs.Windows.{width_of}
 use Rattle.noise_session.specs.Windows.{Recalls}
-use Rattle.noise_session.specs.Datagrams.{HeldDatagrams, DatagramView, Pictures, accepting}
-use Rattle.noise_session.specs.DatagramHalves.{HeldDatagramSender, HeldDatagramReceiver, SenderPictures, ReceiverPictures, datagram_sending_half}
+use Rattle.noise_session.specs.Datagrams.{HeldDatagrams, DatagramView, DatagramsStand, accepting}
+use Rattle.noise_session.specs.DatagramHalves.{HeldDatagramSender, HeldDatagramReceiver, DatagramSenderStands, DatagramReceiverStands, datagram_sending_half}
 
-pub sender-pictures : (d : HeldDatagrams) (v : DatagramView) → Pictures d v → SenderPictures (datagram_sending_half d) v
+pub sender-pictures : (d : HeldDatagrams) (v : DatagramView) → DatagramsStand d v → DatagramSenderStands (datagram_sending_half d) v
 sender-pictures d v p = record { role = p.role; one_way = p.one_way; key = p.send_key; nonce = p.send_nonce }
 
 -- the other half is of the same party
-pub receiver-pictures : (d : HeldDatagrams) (h : HeldDatagramReceiver) (v : DatagramView) → Pictures d v → h.role ≡ d.role → h.one_way ≡ d.one_way
-    → h.key ≡ d.receive_key → h.recent ≡ d.recent → ReceiverPictures h v
+pub receiver-pictures : (d : HeldDatagrams) (h : HeldDatagramReceiver) (v : DatagramView) → DatagramsStand d v → h.role ≡ d.role → h.one_way ≡ d.one_way
+    → h.key ≡ d.receive_key → h.recent ≡ d.recent → DatagramReceiverStands h v
 receiver-pictures d h v p role one_way key recent = record {
   role = role ∙ p.role;
   one_way = one_way ∙ p.one_way;
@@ -25,8 +25,8 @@ receiver-pictures d h v p role one_way key recent = record {
 }
 
 -- the datagrams after one that their half has sealed
-pub datagrams-sealed : (d : HeldDatagrams) (h : HeldDatagramSender) (v : DatagramView) → Pictures d v → SenderPictures h (record v { sent = v.sent + 1 })
-    → Pictures (record d { role = h.role; one_way = h.one_way; send_key = h.key; send_nonce = h.nonce }) (record v { sent = v.sent + 1 })
+pub datagrams-sealed : (d : HeldDatagrams) (h : HeldDatagramSender) (v : DatagramView) → DatagramsStand d v → DatagramSenderStands h (record v { sent = v.sent + 1 })
+    → DatagramsStand (record d { role = h.role; one_way = h.one_way; send_key = h.key; send_nonce = h.nonce }) (record v { sent = v.sent + 1 })
 datagrams-sealed d h v p s = record {
   role = s.role;
   one_way = s.one_way;
@@ -38,8 +38,8 @@ datagrams-sealed d h v p s = record {
 }
 
 -- the datagrams after one that their half has opened
-pub datagrams-opened : (d : HeldDatagrams) (h : HeldDatagramReceiver) (v : DatagramView) (n : ℕ) → Pictures d v → ReceiverPictures h (accepting v n)
-    → Pictures (record d { receive_key = h.key; recent = h.recent }) (accepting v n)
+pub datagrams-opened : (d : HeldDatagrams) (h : HeldDatagramReceiver) (v : DatagramView) (n : ℕ) → DatagramsStand d v → DatagramReceiverStands h (accepting v n)
+    → DatagramsStand (record d { receive_key = h.key; recent = h.recent }) (accepting v n)
 datagrams-opened d h v n p s = record {
   role = p.role;
   one_way = p.one_way;

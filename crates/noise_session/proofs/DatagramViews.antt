@@ -9,7 +9,7 @@ use borrow.Rule.Slice.PartMut.{put_mid}
 use Rattle.noise_names.specs.declared.token.Role.{Role}
 use Rattle.noise_names.specs.declared.token.Role.TheVariants.{Initiator}
 use Rattle.noise_names.specs.Tokens.{same_role}
-use Rattle.noise_state.specs.History.{History, piece_under}
+use Rattle.noise_state.specs.History.{History, ciphertext_under}
 use Rattle.noise_session.specs.declared.datagram_fault.DatagramFault.{DatagramFault}
 use Rattle.noise_session.specs.declared.datagram_fault.DatagramFault.TheVariants as fault
 use Rattle.noise_session.specs.declared.window.Ring.{Ring}
@@ -17,7 +17,7 @@ use Rattle.noise_session.specs.Transport.{split_key, packet, last_nonce}
 use Rattle.noise_events.specs.Windows.{width_of}
 use Rattle.noise_session.specs.Windows.{is_among, is_old, window_fault, Recalls}
 use Rattle.noise_session.specs.Datagrams.{DatagramView, nonce_named, accepting, datagram_fault}
-use Rattle.noise_session.specs.DatagramHalves.{HeldDatagramSender, HeldDatagramReceiver, SenderPictures, ReceiverPictures}
+use Rattle.noise_session.specs.DatagramHalves.{HeldDatagramSender, HeldDatagramReceiver, DatagramSenderStands, DatagramReceiverStands}
 
 -- ---- bytes
 take-after : (p q : List ℕ) (n : ℕ) → length p ≡ 8 → take (8 + n) (p ++ q) ≡ p ++ take n q
@@ -57,9 +57,9 @@ rest-after-nonce bytes written n long rest =
     ∙ drop-drop n 8 bytes
 
 pub piece-packet : (key : Option (List ℕ)) (n m : ℕ) (r : History) (writer : Role) (payload : List ℕ) → key ≡ Some (split_key r writer) → n ≡ m
-    → piece_under key n [] payload ≡ packet r writer 0 m payload
+    → ciphertext_under key n [] payload ≡ packet r writer 0 m payload
 piece-packet key n m r writer payload keyed same =
-    ap (λ (k : Option (List ℕ)). piece_under k n [] payload) keyed ∙ ap (λ (i : ℕ). packet r writer 0 i payload) same
+    ap (λ (k : Option (List ℕ)). ciphertext_under k n [] payload) keyed ∙ ap (λ (i : ℕ). packet r writer 0 i payload) same
 
 -- ---- why nothing is opened
 pub no-fault : {X : Type 0} (b : Bool) (x : X) (rest : Option X) → (if b then Some x else rest) ≡ None → (b ≡ false) × (rest ≡ None)
@@ -82,14 +82,14 @@ young v bytes e =
     let f = no-fault (is_old v.width v.accepted n) fault.Old seen d.1 in
     (f.0, (no-fault (is_among v.accepted n) fault.Repeated None f.1).0)
 
-pub young-here : (h : HeldDatagramReceiver) (v : DatagramView) (bytes : List ℕ) (n : ℕ) → ReceiverPictures h v → datagram_fault v bytes ≡ None
+pub young-here : (h : HeldDatagramReceiver) (v : DatagramView) (bytes : List ℕ) (n : ℕ) → DatagramReceiverStands h v → datagram_fault v bytes ≡ None
     → n ≡ nonce_named bytes → is_old (width_of h.recent.window) v.accepted n ≡ false
 young-here h v bytes n p none same =
     ap (λ (w : ℕ). is_old w v.accepted n) p.width ∙ ap (λ (m : ℕ). is_old v.width v.accepted m) same ∙ (young v bytes none).0
 
 -- ---- views after a call
-pub half-sealed : (h : HeldDatagramSender) (v : DatagramView) (key : Option (List ℕ)) (nonce : ℕ) → SenderPictures h v → key ≡ h.key → nonce ≡ h.nonce + 1
-    → SenderPictures (record h { key = key; nonce = nonce }) (record v { sent = v.sent + 1 })
+pub half-sealed : (h : HeldDatagramSender) (v : DatagramView) (key : Option (List ℕ)) (nonce : ℕ) → DatagramSenderStands h v → key ≡ h.key → nonce ≡ h.nonce + 1
+    → DatagramSenderStands (record h { key = key; nonce = nonce }) (record v { sent = v.sent + 1 })
 half-sealed h v key nonce p same more = record {
   role = p.role;
   one_way = p.one_way;
@@ -97,9 +97,9 @@ half-sealed h v key nonce p same more = record {
   nonce = more ∙ ap (λ (n : ℕ). n + 1) p.nonce;
 }
 
-pub half-opened : (h : HeldDatagramReceiver) (v : DatagramView) (key : Option (List ℕ)) (recent : Ring) (n m : ℕ) → ReceiverPictures h v → key ≡ h.key
+pub half-opened : (h : HeldDatagramReceiver) (v : DatagramView) (key : Option (List ℕ)) (recent : Ring) (n m : ℕ) → DatagramReceiverStands h v → key ≡ h.key
     → recent.window ≡ h.recent.window → n ≡ m → Recalls recent (n ∷ v.accepted)
-    → ReceiverPictures (record h { key = key; recent = recent }) (accepting v m)
+    → DatagramReceiverStands (record h { key = key; recent = recent }) (accepting v m)
 half-opened h v key recent n m p same window named recalls = record {
   role = p.role;
   one_way = p.one_way;

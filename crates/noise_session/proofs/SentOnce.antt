@@ -1,7 +1,7 @@
 -- A payload comes to one thing at an end.
 use Rattle.std.proofs.Common.{◌≡◌, ℕ, List, length, Option, Some, Result, Ok, Err, refl, ap, arith}
 use Rattle.noise_handshake.specs.View.{View}
-use Rattle.noise_handshake.specs.Writing.{Writes, Lacks}
+use Rattle.noise_handshake.specs.Writing.{Writes, LacksAnswer}
 use Rattle.noise_handshake.specs.Party.{after_own}
 use Rattle.noise_session.specs.declared.faults.SendFault.{SendFault}
 use Rattle.noise_session.specs.declared.faults.SendFault.TheVariants as fault
@@ -13,8 +13,8 @@ use Rattle.noise_session.proofs.Views.{open-passed}
 use Rattle.noise_session.specs.Sending.Sends.{refuses, lacks_answer, sends_handshake, sends_transport}
 
 module _ (written-one : (v : View) (payload m n : List ℕ) (xs ys : List (List ℕ)) → Writes v payload xs m → Writes v payload ys n → (xs ≡ ys) × (m ≡ n))
-    (lacks-one : (v : View) (k j : ℕ) → Lacks v k → Lacks v j → k ≡ j)
-    (apart : (v : View) (payload m : List ℕ) (xs : List (List ℕ)) (k : ℕ) → Writes v payload xs m → Lacks v k → ⊥) where
+    (lacks-one : (v : View) (k j : ℕ) → LacksAnswer v k → LacksAnswer v j → k ≡ j)
+    (apart : (v : View) (payload m : List ℕ) (xs : List (List ℕ)) (k : ℕ) → Writes v payload xs m → LacksAnswer v k → ⊥) where
   refused-one : (o : Option SendFault) (a b : SendFault) → o ≡ Some a → o ≡ Some b → a ≡ b
   refused-one o a b e f = cc
 

@@ -1,13 +1,13 @@
 -- A message that isn't decrypted is no packet.
 use Rattle.std.proofs.Common.{◌≡◌, ℕ, List, [], Result, Err}
 use Rattle.std.specs.Prelude.{IsOk}
-use Rattle.noise_state.specs.History.{piece_under}
+use Rattle.noise_state.specs.History.{ciphertext_under}
 use Rattle.noise_session.specs.Halves.{HeldHalf}
 use Rattle.noise_session.specs.HeldTransport.{TransportView, ReceiverStands, due_packet}
 
 -- the packet under the key and at the nonce that the half holds
 pub due_piece : (t : HeldHalf) (v : TransportView) (message payload : List ℕ) → ReceiverStands t v → message ≡ due_packet v payload
-    → message ≡ piece_under t.key t.nonce [] payload
+    → message ≡ ciphertext_under t.key t.nonce [] payload
 due_piece t v message payload s is = rw (s.key, s.nonce) is
 
 pub not_ok : {T E : Type 0} (r : Result T E) (fault : E) → r ≡ Err fault → IsOk r → ⊥

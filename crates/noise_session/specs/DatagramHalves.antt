@@ -30,14 +30,14 @@ abbrev pub datagram_receiving_half : HeldDatagrams → HeldDatagramReceiver
 datagram_receiving_half d = record { role = d.role; one_way = d.one_way; key = d.receive_key; recent = d.recent }
 
 -- The half that seals holds what the view says.
-pub record SenderPictures (h : HeldDatagramSender) (v : DatagramView) : Type 0 where
+pub record DatagramSenderStands (h : HeldDatagramSender) (v : DatagramView) : Type 0 where
   pub role : h.role ≡ v.role
   pub one_way : h.one_way ≡ v.one_way
   pub key : h.key ≡ Some (split_key v.history v.role)
   pub nonce : h.nonce ≡ v.sent
 
 -- The half that opens holds what the view says.
-pub record ReceiverPictures (h : HeldDatagramReceiver) (v : DatagramView) : Type 0 where
+pub record DatagramReceiverStands (h : HeldDatagramReceiver) (v : DatagramView) : Type 0 where
   pub role : h.role ≡ v.role
   pub one_way : h.one_way ≡ v.one_way
   pub key : h.key ≡ Some (split_key v.history (other v.role))

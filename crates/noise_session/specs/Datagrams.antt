@@ -60,7 +60,7 @@ abbrev pub accepting : DatagramView → ℕ → DatagramView
 accepting v nonce = record v { accepted = nonce ∷ v.accepted }
 
 -- The transport holds what the view says.
-pub record Pictures (d : HeldDatagrams) (v : DatagramView) : Type 0 where
+pub record DatagramsStand (d : HeldDatagrams) (v : DatagramView) : Type 0 where
   pub role : d.role ≡ v.role
   pub one_way : d.one_way ≡ v.one_way
   pub send_key : d.send_key ≡ Some (split_key v.history v.role)

@@ -11,7 +11,7 @@ use Rattle.noise_session.specs.Progress.{is_open}
 use Rattle.noise_session.specs.Ends.{EndView, progress_of}
 use Rattle.noise_session.specs.Taking.{Judges}
 
--- The message is one of this payload, at the place where the end stands: once open the packet at the receiving nonce, and before that the line of the
+-- The message is one of this payload, at the place where the end stands: once open the packet at the receiving nonce, and before that the message of the
 -- message that is due, with some public keys that the sender may have (Noise 5.3).
 abbrev pub Encodes : EndView → List ℕ → List ℕ → Type 0
 Encodes v message payload =

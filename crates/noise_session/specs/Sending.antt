@@ -1,6 +1,6 @@
 -- What an end makes of a payload (Noise 5.3, 11.3 and 13).
 use Rattle.std.specs.Prelude.{◌≡◌, ℕ, ◌+◌, List, length, Some, None, Result, Ok, Err, IsTrue, if◌then◌else◌}
-use Rattle.noise_handshake.specs.Writing.{Writes, Lacks}
+use Rattle.noise_handshake.specs.Writing.{Writes, LacksAnswer}
 use Rattle.noise_handshake.specs.Party.{after_own}
 use Rattle.noise_session.specs.declared.faults.SendFault.{SendFault}
 use Rattle.noise_session.specs.declared.faults.SendFault.TheVariants as fault
@@ -18,7 +18,7 @@ after_fault v why = if ends why then closed v else v
 pub data Sends : EndView → List ℕ → Result (List ℕ) SendFault → EndView → Type 0 where
   refuses : (v : EndView) (payload : List ℕ) (why : SendFault) → refusal (progress_of v) (length payload) ≡ Some why
       → Sends v payload (Err why) (after_fault v why)
-  lacks_answer : (v : EndView) (payload : List ℕ) (token : ℕ) → refusal (progress_of v) (length payload) ≡ None → Lacks v.party token
+  lacks_answer : (v : EndView) (payload : List ℕ) (token : ℕ) → refusal (progress_of v) (length payload) ≡ None → LacksAnswer v.party token
       → Sends v payload (Err (fault.Agreement token)) (closed v)
   sends_handshake : (v : EndView) (payload message : List ℕ) (xs : List (List ℕ)) → refusal (progress_of v) (length payload) ≡ None
       → Writes v.party payload xs message

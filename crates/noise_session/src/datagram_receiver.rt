@@ -7,7 +7,7 @@ ghost use Rattle.noise_events.specs.Windows.{width_of};
 ghost use Rattle.noise_session.specs.Transport.{last_nonce};
 ghost use Rattle.noise_session.specs.Windows.{is_ring};
 ghost use Rattle.noise_session.specs.Datagrams.{DatagramView, Opens, nonce_named, accepting, datagram_fault};
-ghost use Rattle.noise_session.specs.DatagramHalves.{ReceiverPictures};
+ghost use Rattle.noise_session.specs.DatagramHalves.{DatagramReceiverStands};
 ghost use Rattle.noise_session.specs.Parts.{datagram_receiver_in};
 
 use crate::parts::key_and_nonce;
@@ -121,7 +121,7 @@ impl DatagramReceiver {
     fn refusal(&self, datagram: &[u8]) -> Option<DatagramFault>
         ensures bounds { IfNone result ((24 ≤ length datagram.now) × (length datagram.now ≤ 65543) × (nonce_named datagram.now ≢ last_nonce)) }
         ensures young { IfNone result (self.now.recent.greatest < nonce_named datagram.now + width_of self.now.recent.window) }
-        ensures told { (v : DatagramView) → ReceiverPictures self.now v → result ≡ datagram_fault v datagram.now }
+        ensures told { (v : DatagramView) → DatagramReceiverStands self.now v → result ≡ datagram_fault v datagram.now }
     {
         if self.one_way && self.role == Role::Initiator {
             return Some(DatagramFault::OneWay);
@@ -148,9 +148,9 @@ impl DatagramReceiver {
         ensures beyond { IfOk result (λ n. (take 8 datagram.new ≡ take 8 datagram.old) × (drop (8 + n) datagram.new ≡ drop (8 + n) datagram.old)) }
         ensures same { self.new ≡ record self.old { recent = self.new.recent } }
         ensures unchanged { OnErr result ((self.new ≡ self.old) × (datagram.new ≡ datagram.old)) }
-        ensures opens { (v : DatagramView) → ReceiverPictures self.old v → MatchResult result
+        ensures opens { (v : DatagramView) → DatagramReceiverStands self.old v → MatchResult result
             (λ n. Opens v datagram.old (Ok (take n (drop 8 datagram.new))) (accepting v (nonce_named datagram.old))
-            × ReceiverPictures self.new (accepting v (nonce_named datagram.old)))
+            × DatagramReceiverStands self.new (accepting v (nonce_named datagram.old)))
             (λ fault. Opens v datagram.old (Err fault) v) }
     {
         if let Some(fault) = self.refusal(datagram) {
@@ -175,9 +175,9 @@ impl DatagramReceiver {
             (payload.ref_ptr ≡ (datagram.entry.ref_ptr.0, datagram.entry.ref_ptr.1 + 8)) × (length payload.now + 24 ≡ length datagram.old)) }
         ensures same { self.new ≡ record self.old { recent = self.new.recent } }
         ensures unchanged { OnErr result (self.new ≡ self.old) }
-        ensures opens { (v : DatagramView) → ReceiverPictures self.old v → MatchResult result
+        ensures opens { (v : DatagramView) → DatagramReceiverStands self.old v → MatchResult result
             (λ payload. Opens v datagram.old (Ok payload.now) (accepting v (nonce_named datagram.old))
-            × ReceiverPictures self.new (accepting v (nonce_named datagram.old)))
+            × DatagramReceiverStands self.new (accepting v (nonce_named datagram.old)))
             (λ fault. Opens v datagram.old (Err fault) v) }
     {
         let len = self.open_within(datagram)?;

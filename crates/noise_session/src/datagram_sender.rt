@@ -4,10 +4,10 @@
 ghost use Rattle.std.specs.Prelude.{◌≡◌, ◌≢◌, ◌≤◌, ◌+◌, ◌++◌, [], length, take, drop, None, Err, IsOk, IsSome, IfOk, OnOk, OnErr, MatchOption};
 ghost use Rattle.std.specs.Int.{w64, to_be_bytes};
 ghost use Rattle.noise_state.specs.Cipher.{key_in, nonce_in};
-ghost use Rattle.noise_state.specs.History.{piece_under};
+ghost use Rattle.noise_state.specs.History.{ciphertext_under};
 ghost use Rattle.noise_session.specs.Transport.{last_nonce};
 ghost use Rattle.noise_session.specs.Datagrams.{DatagramView, datagram, unsealed};
-ghost use Rattle.noise_session.specs.DatagramHalves.{SenderPictures};
+ghost use Rattle.noise_session.specs.DatagramHalves.{DatagramSenderStands};
 ghost use Rattle.noise_session.specs.Parts.{datagram_sender_in};
 
 use crate::parts::key_and_nonce;
@@ -130,9 +130,9 @@ impl DatagramSender {
         ensures rest { IfOk result (λ n. drop n out.new ≡ drop n out.old) }
         ensures counted { OnOk result (self.new ≡ record self.old { nonce = self.old.nonce + 1 }) }
         ensures unchanged { OnErr result ((self.new ≡ self.old) × (out.new ≡ out.old)) }
-        ensures sealed { IfOk result (λ n. take n out.new ≡ to_be_bytes w64 self.old.nonce ++ piece_under self.old.key self.old.nonce [] payload.now) }
-        ensures seals { (v : DatagramView) → SenderPictures self.old v → IfOk result (λ n.
-            (take n out.new ≡ datagram v.history v.role v.sent payload.now) × SenderPictures self.new (record v { sent = v.sent + 1 })) }
+        ensures sealed { IfOk result (λ n. take n out.new ≡ to_be_bytes w64 self.old.nonce ++ ciphertext_under self.old.key self.old.nonce [] payload.now) }
+        ensures seals { (v : DatagramView) → DatagramSenderStands self.old v → IfOk result (λ n.
+            (take n out.new ≡ datagram v.history v.role v.sent payload.now) × DatagramSenderStands self.new (record v { sent = v.sent + 1 })) }
     {
         if let Some(fault) = self.refusal(payload.len()) {
             return Err(fault);
@@ -158,10 +158,10 @@ impl DatagramSender {
         ensures counted { OnOk result (self.new ≡ record self.old { nonce = self.old.nonce + 1 }) }
         ensures unchanged { OnErr result ((self.new ≡ self.old) × (buffer.new ≡ buffer.old)) }
         ensures sealed { IfOk result (λ n.
-            take n buffer.new ≡ to_be_bytes w64 self.old.nonce ++ piece_under self.old.key self.old.nonce [] (take payload_len (drop 8 buffer.old))) }
-        ensures seals { (v : DatagramView) → SenderPictures self.old v → IfOk result (λ n.
+            take n buffer.new ≡ to_be_bytes w64 self.old.nonce ++ ciphertext_under self.old.key self.old.nonce [] (take payload_len (drop 8 buffer.old))) }
+        ensures seals { (v : DatagramView) → DatagramSenderStands self.old v → IfOk result (λ n.
             (take n buffer.new ≡ datagram v.history v.role v.sent (take payload_len (drop 8 buffer.old)))
-            × SenderPictures self.new (record v { sent = v.sent + 1 })) }
+            × DatagramSenderStands self.new (record v { sent = v.sent + 1 })) }
     {
         if let Some(fault) = self.refusal(payload_len) {
             return Err(fault);
@@ -180,7 +180,7 @@ fn encrypt(cipher: &mut CipherState, message: &mut [u8], payload_len: usize) -> 
     requires short { payload_len ≤ 65519 }
     requires room { payload_len + 16 ≤ length message.old }
     ensures len { (result ≡ payload_len + 16) × (result ≤ length message.new) }
-    ensures sealed { take result message.new ≡ piece_under (key_in cipher.old) (nonce_in cipher.old) [] (take payload_len message.old) }
+    ensures sealed { take result message.new ≡ ciphertext_under (key_in cipher.old) (nonce_in cipher.old) [] (take payload_len message.old) }
     ensures rest { drop result message.new ≡ drop result message.old }
     ensures key { key_in cipher.new ≡ key_in cipher.old }
     ensures counted { nonce_in cipher.new ≡ nonce_in cipher.old + 1 }

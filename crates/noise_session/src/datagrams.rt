@@ -4,15 +4,15 @@
 ghost use Rattle.std.specs.Prelude.{◌≡◌, ◌≤◌, ◌+◌, ◌++◌, [], length, take, drop, is_some, true};
 ghost use Rattle.std.specs.Prelude.{None, Ok, Err, IsOk, IfOk, IfSome, OnOk, OnErr, MatchOption, MatchResult};
 ghost use Rattle.std.specs.Int.{w64, to_be_bytes};
-ghost use Rattle.noise_state.specs.History.{piece_under};
+ghost use Rattle.noise_state.specs.History.{ciphertext_under};
 ghost use Rattle.noise_handshake.specs.View.{View};
 ghost use Rattle.noise_handshake.specs.Opening.{Opens as HandshakeOpens};
 ghost use Rattle.noise_session.specs.HeldTransport.{TransportView, TransportStands};
 ghost use Rattle.noise_session.specs.EndDatagrams.{datagrams_after};
 ghost use Rattle.noise_session.specs.Windows.{is_ring};
 ghost use Rattle.noise_session.specs.Parts.{datagrams_in};
-ghost use Rattle.noise_session.specs.Datagrams.{DatagramView, Pictures, Opens, datagram, datagrams_of, nonce_named, accepting, unsealed};
-ghost use Rattle.noise_session.specs.DatagramHalves.{SenderPictures, ReceiverPictures, datagram_sending_half, datagram_receiving_half};
+ghost use Rattle.noise_session.specs.Datagrams.{DatagramView, DatagramsStand, Opens, datagram, datagrams_of, nonce_named, accepting, unsealed};
+ghost use Rattle.noise_session.specs.DatagramHalves.{DatagramSenderStands, DatagramReceiverStands, datagram_sending_half, datagram_receiving_half};
 
 use crate::window::Ring;
 use crate::{
@@ -61,14 +61,14 @@ impl Model for Datagrams {
 impl Datagrams {
     /// The datagrams after a handshake, with a window of 64 nonces: none is sealed or opened yet.
     pub fn new(opened: Opened) -> Datagrams
-        ensures { (v : View) → HandshakeOpens opened v → Pictures result (datagrams_of v Window.W64) }
+        ensures { (v : View) → HandshakeOpens opened v → DatagramsStand result (datagrams_of v Window.W64) }
     {
         Datagrams::with_window(opened, Window::W64)
     }
 
     /// The datagrams after a handshake, with this window: none is sealed or opened yet.
     pub fn with_window(opened: Opened, window: Window) -> Datagrams
-        ensures { (v : View) → HandshakeOpens opened v → Pictures result (datagrams_of v window) }
+        ensures { (v : View) → HandshakeOpens opened v → DatagramsStand result (datagrams_of v window) }
     {
         Datagrams::after(Transport::new(opened, 0), window)
     }
@@ -76,7 +76,7 @@ impl Datagrams {
     // The datagrams of a transport that has sealed and opened nothing.
     pub(crate) fn after(transport: Transport, window: Window) -> Datagrams
         requires { (transport.send_nonce ≡ 0) × (transport.receive_nonce ≡ 0) }
-        ensures { (v : TransportView) → TransportStands transport v → Pictures result (datagrams_after v window) }
+        ensures { (v : TransportView) → TransportStands transport v → DatagramsStand result (datagrams_after v window) }
     {
         let role = transport.role();
         let one_way = transport.one_way();
@@ -131,7 +131,7 @@ impl Datagrams {
     pub fn split(self) -> (DatagramSender, DatagramReceiver)
         ensures sender { result.0 ≡ datagram_sending_half self }
         ensures receiver { result.1 ≡ datagram_receiving_half self }
-        ensures stands { (v : DatagramView) → Pictures self v → SenderPictures result.0 v × ReceiverPictures result.1 v }
+        ensures stands { (v : DatagramView) → DatagramsStand self v → DatagramSenderStands result.0 v × DatagramReceiverStands result.1 v }
     {
         (self.sender, self.receiver)
     }
@@ -156,9 +156,9 @@ impl Datagrams {
         ensures counted { OnOk result (self.new ≡ record self.old { send_nonce = self.old.send_nonce + 1 }) }
         ensures unchanged { OnErr result ((self.new ≡ self.old) × (out.new ≡ out.old)) }
         ensures sealed { IfOk result (λ n.
-            take n out.new ≡ to_be_bytes w64 self.old.send_nonce ++ piece_under self.old.send_key self.old.send_nonce [] payload.now) }
-        ensures seals { (v : DatagramView) → Pictures self.old v → IfOk result (λ n.
-            (take n out.new ≡ datagram v.history v.role v.sent payload.now) × Pictures self.new (record v { sent = v.sent + 1 })) }
+            take n out.new ≡ to_be_bytes w64 self.old.send_nonce ++ ciphertext_under self.old.send_key self.old.send_nonce [] payload.now) }
+        ensures seals { (v : DatagramView) → DatagramsStand self.old v → IfOk result (λ n.
+            (take n out.new ≡ datagram v.history v.role v.sent payload.now) × DatagramsStand self.new (record v { sent = v.sent + 1 })) }
     {
         self.sender.seal(payload, out)
     }
@@ -180,10 +180,10 @@ impl Datagrams {
         ensures counted { OnOk result (self.new ≡ record self.old { send_nonce = self.old.send_nonce + 1 }) }
         ensures unchanged { OnErr result ((self.new ≡ self.old) × (buffer.new ≡ buffer.old)) }
         ensures sealed { IfOk result (λ n.
-            take n buffer.new ≡ to_be_bytes w64 self.old.send_nonce ++ piece_under self.old.send_key self.old.send_nonce [] (take payload_len (drop 8 buffer.old))) }
-        ensures seals { (v : DatagramView) → Pictures self.old v → IfOk result (λ n.
+            take n buffer.new ≡ to_be_bytes w64 self.old.send_nonce ++ ciphertext_under self.old.send_key self.old.send_nonce [] (take payload_len (drop 8 buffer.old))) }
+        ensures seals { (v : DatagramView) → DatagramsStand self.old v → IfOk result (λ n.
             (take n buffer.new ≡ datagram v.history v.role v.sent (take payload_len (drop 8 buffer.old)))
-            × Pictures self.new (record v { sent = v.sent + 1 })) }
+            × DatagramsStand self.new (record v { sent = v.sent + 1 })) }
     {
         self.sender.seal_in_place(buffer, payload_len)
     }
@@ -197,9 +197,9 @@ impl Datagrams {
         ensures beyond { IfOk result (λ n. (take 8 datagram.new ≡ take 8 datagram.old) × (drop (8 + n) datagram.new ≡ drop (8 + n) datagram.old)) }
         ensures same { self.new ≡ record self.old { recent = self.new.recent } }
         ensures unchanged { OnErr result ((self.new ≡ self.old) × (datagram.new ≡ datagram.old)) }
-        ensures opens { (v : DatagramView) → Pictures self.old v → MatchResult result
+        ensures opens { (v : DatagramView) → DatagramsStand self.old v → MatchResult result
             (λ n. Opens v datagram.old (Ok (take n (drop 8 datagram.new))) (accepting v (nonce_named datagram.old))
-            × Pictures self.new (accepting v (nonce_named datagram.old)))
+            × DatagramsStand self.new (accepting v (nonce_named datagram.old)))
             (λ fault. Opens v datagram.old (Err fault) v) }
     {
         self.receiver.open_within(datagram)
@@ -213,9 +213,9 @@ impl Datagrams {
             (payload.ref_ptr ≡ (datagram.entry.ref_ptr.0, datagram.entry.ref_ptr.1 + 8)) × (length payload.now + 24 ≡ length datagram.old)) }
         ensures same { self.new ≡ record self.old { recent = self.new.recent } }
         ensures unchanged { OnErr result (self.new ≡ self.old) }
-        ensures opens { (v : DatagramView) → Pictures self.old v → MatchResult result
+        ensures opens { (v : DatagramView) → DatagramsStand self.old v → MatchResult result
             (λ payload. Opens v datagram.old (Ok payload.now) (accepting v (nonce_named datagram.old))
-            × Pictures self.new (accepting v (nonce_named datagram.old)))
+            × DatagramsStand self.new (accepting v (nonce_named datagram.old)))
             (λ fault. Opens v datagram.old (Err fault) v) }
     {
         let len = self.open_within(datagram)?;

@@ -68,7 +68,7 @@ impl<K: Keys> End<K> {
     ghost use Rattle.noise_session.specs.Sending.{Sends, after_fault};
     ghost use Rattle.noise_session.specs.Inputs.{Receives, is_end, after_receiving};
     ghost use Rattle.noise_session.specs.Outputs.{Puts, after_output};
-    ghost use Rattle.noise_session.specs.Datagrams.{Pictures, datagrams_of};
+    ghost use Rattle.noise_session.specs.Datagrams.{DatagramsStand, datagrams_of};
     ghost use Rattle.noise_session.specs.EndDatagrams.{is_datagram_ready};
 
     /// An end of a session that begins with this handshake, which hasn't ended; it is open at once where all its messages
@@ -277,7 +277,7 @@ impl<K: Keys> End<K> {
     /// whatever its interval is.
     pub fn into_datagrams(self, window: Window) -> Datagrams
         requires { is_datagram_ready self ≡ true }
-        ensures { (v : EndView) → EndStands K.public_of K.agreement self v → Pictures result (datagrams_of v.party window) }
+        ensures { (v : EndView) → EndStands K.public_of K.agreement self v → DatagramsStand result (datagrams_of v.party window) }
     {
         let phase = self.phase;
         match phase {

@@ -24,7 +24,7 @@ pub fn taken_once()
     packet_same();
 }
 
-/// Of a whole message that comes to an end that listens a payload is reported exactly where the message is one of it: in the handshake the line of some public
+/// Of a whole message that comes to an end that listens a payload is reported exactly where the message is one of it: in the handshake the message of some public
 /// keys, once open the packet at the receiving nonce. A handshake message is refused exactly where its first tokens are some sender's and no more are.
 pub fn accepted_exactly()
     ensures { AcceptedExactly }

@@ -4,7 +4,7 @@
 ghost use Rattle.std.specs.Prelude.{◌≡◌, ◌≢◌, ◌≤◌, ◌+◌, ℕ, List, [], length, take, drop, None, Err, IsSome, IfOk, IfErr, OnOk, OnErr};
 ghost use Rattle.std.specs.Prelude.{MatchOption, MatchResult};
 ghost use Rattle.noise_state.specs.Cipher.{key_in, nonce_in};
-ghost use Rattle.noise_state.specs.History.{piece_under};
+ghost use Rattle.noise_state.specs.History.{ciphertext_under};
 ghost use Rattle.noise_session.specs.Halves.{receiver_fault};
 ghost use Rattle.noise_session.specs.HeldTransport.{TransportView, ReceiverStands, due_packet, renewed_key, no_packet};
 ghost use Rattle.noise_session.specs.Parts.{half_in};
@@ -119,8 +119,8 @@ impl Receiver {
         ensures counted { OnOk result (self.new ≡ record self.old { key = self.new.key; nonce = self.old.nonce + 1 }) }
         ensures unchanged { OnErr result ((self.new ≡ self.old) × (message.new ≡ message.old)) }
         ensures opened { MatchResult result
-            (λ n. message.old ≡ piece_under self.old.key self.old.nonce [] (take n message.new))
-            (λ _. receiver_fault self.old ≡ None → (payload : List ℕ) → message.old ≢ piece_under self.old.key self.old.nonce [] payload) }
+            (λ n. message.old ≡ ciphertext_under self.old.key self.old.nonce [] (take n message.new))
+            (λ _. receiver_fault self.old ≡ None → (payload : List ℕ) → message.old ≢ ciphertext_under self.old.key self.old.nonce [] payload) }
         ensures renewed { OnOk result (self.new.key ≡ renewed_key self.old.interval (self.old.nonce + 1) self.old.key) }
         ensures opens { (v : TransportView) → ReceiverStands self.old v → MatchResult result
             (λ n. (message.old ≡ due_packet v (take n message.new)) × ReceiverStands self.new (record v { received = v.received + 1 }))
@@ -151,8 +151,8 @@ impl Receiver {
         ensures counted { OnOk result (self.new ≡ record self.old { key = self.new.key; nonce = self.old.nonce + 1 }) }
         ensures unchanged { OnErr result (self.new ≡ self.old) }
         ensures opened { MatchResult result
-            (λ payload. message.old ≡ piece_under self.old.key self.old.nonce [] payload.now)
-            (λ _. receiver_fault self.old ≡ None → (payload : List ℕ) → message.old ≢ piece_under self.old.key self.old.nonce [] payload) }
+            (λ payload. message.old ≡ ciphertext_under self.old.key self.old.nonce [] payload.now)
+            (λ _. receiver_fault self.old ≡ None → (payload : List ℕ) → message.old ≢ ciphertext_under self.old.key self.old.nonce [] payload) }
         ensures renewed { OnOk result (self.new.key ≡ renewed_key self.old.interval (self.old.nonce + 1) self.old.key) }
         ensures opens { (v : TransportView) → ReceiverStands self.old v → MatchResult result
             (λ payload. (message.old ≡ due_packet v payload.now) × ReceiverStands self.new (record v { received = v.received + 1 }))

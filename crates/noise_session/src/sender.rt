@@ -3,7 +3,7 @@
 
 ghost use Rattle.std.specs.Prelude.{◌≡◌, ◌≤◌, ◌+◌, [], length, take, drop, None, Err, IsOk, IsSome, IfOk, OnOk, OnErr, MatchOption};
 ghost use Rattle.noise_state.specs.Cipher.{key_in, nonce_in};
-ghost use Rattle.noise_state.specs.History.{piece_under};
+ghost use Rattle.noise_state.specs.History.{ciphertext_under};
 ghost use Rattle.noise_session.specs.Halves.{sender_fault};
 ghost use Rattle.noise_session.specs.HeldTransport.{TransportView, SenderStands, next_packet, renewed_key};
 ghost use Rattle.noise_session.specs.Parts.{half_in};
@@ -159,7 +159,7 @@ impl Sender {
         ensures rest { IfOk result (λ n. drop n out.new ≡ drop n out.old) }
         ensures counted { OnOk result (self.new ≡ record self.old { key = self.new.key; nonce = self.old.nonce + 1 }) }
         ensures unchanged { OnErr result ((self.new ≡ self.old) × (out.new ≡ out.old)) }
-        ensures sealed { IfOk result (λ n. take n out.new ≡ piece_under self.old.key self.old.nonce [] payload.now) }
+        ensures sealed { IfOk result (λ n. take n out.new ≡ ciphertext_under self.old.key self.old.nonce [] payload.now) }
         ensures renewed { OnOk result (self.new.key ≡ renewed_key self.old.interval (self.old.nonce + 1) self.old.key) }
         ensures seals { (v : TransportView) → SenderStands self.old v → IfOk result (λ n.
             (take n out.new ≡ next_packet v payload.now) × SenderStands self.new (record v { sent = v.sent + 1 })) }
@@ -186,7 +186,7 @@ impl Sender {
         ensures rest { IfOk result (λ n. drop n buffer.new ≡ drop n buffer.old) }
         ensures counted { OnOk result (self.new ≡ record self.old { key = self.new.key; nonce = self.old.nonce + 1 }) }
         ensures unchanged { OnErr result ((self.new ≡ self.old) × (buffer.new ≡ buffer.old)) }
-        ensures sealed { IfOk result (λ n. take n buffer.new ≡ piece_under self.old.key self.old.nonce [] (take payload_len buffer.old)) }
+        ensures sealed { IfOk result (λ n. take n buffer.new ≡ ciphertext_under self.old.key self.old.nonce [] (take payload_len buffer.old)) }
         ensures renewed { OnOk result (self.new.key ≡ renewed_key self.old.interval (self.old.nonce + 1) self.old.key) }
         ensures seals { (v : TransportView) → SenderStands self.old v → IfOk result (λ n.
             (take n buffer.new ≡ next_packet v (take payload_len buffer.old)) × SenderStands self.new (record v { sent = v.sent + 1 })) }

@@ -4,7 +4,7 @@
 ghost use Rattle.std.specs.Prelude.{◌≡◌, ◌≢◌, ◌≤◌, ◌+◌, ℕ, List, [], length, take, drop, Option, Some, None, IsSome, IsOk, IfOk, IfErr, OnOk, OnErr};
 ghost use Rattle.std.specs.Prelude.{MatchOption, MatchResult};
 ghost use Rattle.noise_state.specs.Cipher.{key_in, nonce_in};
-ghost use Rattle.noise_state.specs.History.{piece_under};
+ghost use Rattle.noise_state.specs.History.{ciphertext_under};
 ghost use Rattle.noise_handshake.specs.View.{View};
 ghost use Rattle.noise_handshake.specs.Opening.{Opens};
 ghost use Rattle.noise_session.specs.Parts.{transport_in};
@@ -209,7 +209,7 @@ impl Transport {
         ensures rest { IfOk result (λ n. drop n out.new ≡ drop n out.old) }
         ensures counted { OnOk result (self.new ≡ record self.old { send_key = self.new.send_key; send_nonce = self.old.send_nonce + 1 }) }
         ensures unchanged { OnErr result ((self.new ≡ self.old) × (out.new ≡ out.old)) }
-        ensures sealed { IfOk result (λ n. take n out.new ≡ piece_under self.old.send_key self.old.send_nonce [] payload.now) }
+        ensures sealed { IfOk result (λ n. take n out.new ≡ ciphertext_under self.old.send_key self.old.send_nonce [] payload.now) }
         ensures renewed { OnOk result (self.new.send_key ≡ renewed_key self.old.interval (self.old.send_nonce + 1) self.old.send_key) }
         ensures seals { (v : TransportView) → TransportStands self.old v → IfOk result (λ n.
             (take n out.new ≡ next_packet v payload.now) × TransportStands self.new (record v { sent = v.sent + 1 })) }
@@ -232,7 +232,7 @@ impl Transport {
         ensures rest { IfOk result (λ n. drop n buffer.new ≡ drop n buffer.old) }
         ensures counted { OnOk result (self.new ≡ record self.old { send_key = self.new.send_key; send_nonce = self.old.send_nonce + 1 }) }
         ensures unchanged { OnErr result ((self.new ≡ self.old) × (buffer.new ≡ buffer.old)) }
-        ensures sealed { IfOk result (λ n. take n buffer.new ≡ piece_under self.old.send_key self.old.send_nonce [] (take payload_len buffer.old)) }
+        ensures sealed { IfOk result (λ n. take n buffer.new ≡ ciphertext_under self.old.send_key self.old.send_nonce [] (take payload_len buffer.old)) }
         ensures renewed { OnOk result (self.new.send_key ≡ renewed_key self.old.interval (self.old.send_nonce + 1) self.old.send_key) }
         ensures seals { (v : TransportView) → TransportStands self.old v → IfOk result (λ n.
             (take n buffer.new ≡ next_packet v (take payload_len buffer.old)) × TransportStands self.new (record v { sent = v.sent + 1 })) }
@@ -252,8 +252,8 @@ impl Transport {
         ensures counted { OnOk result (self.new ≡ record self.old { receive_key = self.new.receive_key; receive_nonce = self.old.receive_nonce + 1 }) }
         ensures unchanged { OnErr result ((self.new ≡ self.old) × (message.new ≡ message.old)) }
         ensures opened { MatchResult result
-            (λ n. message.old ≡ piece_under self.old.receive_key self.old.receive_nonce [] (take n message.new))
-            (λ _. open_fault self.old ≡ None → (payload : List ℕ) → message.old ≢ piece_under self.old.receive_key self.old.receive_nonce [] payload) }
+            (λ n. message.old ≡ ciphertext_under self.old.receive_key self.old.receive_nonce [] (take n message.new))
+            (λ _. open_fault self.old ≡ None → (payload : List ℕ) → message.old ≢ ciphertext_under self.old.receive_key self.old.receive_nonce [] payload) }
         ensures renewed { OnOk result (self.new.receive_key ≡ renewed_key self.old.interval (self.old.receive_nonce + 1) self.old.receive_key) }
         ensures opens { (v : TransportView) → TransportStands self.old v → MatchResult result
             (λ n. (message.old ≡ due_packet v (take n message.new)) × TransportStands self.new (record v { received = v.received + 1 }))
@@ -272,8 +272,8 @@ impl Transport {
         ensures counted { OnOk result (self.new ≡ record self.old { receive_key = self.new.receive_key; receive_nonce = self.old.receive_nonce + 1 }) }
         ensures unchanged { OnErr result (self.new ≡ self.old) }
         ensures opened { MatchResult result
-            (λ payload. message.old ≡ piece_under self.old.receive_key self.old.receive_nonce [] payload.now)
-            (λ _. open_fault self.old ≡ None → (payload : List ℕ) → message.old ≢ piece_under self.old.receive_key self.old.receive_nonce [] payload) }
+            (λ payload. message.old ≡ ciphertext_under self.old.receive_key self.old.receive_nonce [] payload.now)
+            (λ _. open_fault self.old ≡ None → (payload : List ℕ) → message.old ≢ ciphertext_under self.old.receive_key self.old.receive_nonce [] payload) }
         ensures renewed { OnOk result (self.new.receive_key ≡ renewed_key self.old.interval (self.old.receive_nonce + 1) self.old.receive_key) }
         ensures opens { (v : TransportView) → TransportStands self.old v → MatchResult result
             (λ payload. (message.old ≡ due_packet v payload.now) × TransportStands self.new (record v { received = v.received + 1 }))

@@ -4,7 +4,7 @@
 ghost use Rattle.std.specs.Prelude.{◌≡◌, ◌≢◌, ◌+◌, ℕ, List, [], length, IsTrue, None};
 ghost use Rattle.noise_handshake.specs.declared.faults.Cause.{Cause};
 ghost use Rattle.noise_handshake.specs.View.{View, Accepts, Refuses};
-ghost use Rattle.noise_handshake.specs.Writing.{Writes, Lacks};
+ghost use Rattle.noise_handshake.specs.Writing.{Writes, LacksAnswer};
 ghost use Rattle.noise_handshake.specs.Party.{after_message, after_own};
 ghost use Rattle.noise_session.specs.Transport.{last_nonce};
 ghost use Rattle.noise_session.specs.Progress.{is_open, refusal};
@@ -107,7 +107,7 @@ impl<K: Keys> EndTrace<K> {
     /// A handshake message that the end didn't write, for want of a DH answer at this token, counted from 0: the steps of the
     /// tokens before it.
     pub fn withheld(&self, token: u8) -> Moment
-        ensures { (v : EndView) → EndFollows K.public_of K.agreement self.now v → (lacks : Lacks v.party token)
+        ensures { (v : EndView) → EndFollows K.public_of K.agreement self.now v → (lacks : LacksAnswer v.party token)
             → shown result ≡ stopped_moment v token lacks.lacks.before }
     {
         Moment::Message {

@@ -7,7 +7,7 @@ use Rattle.noise_aead.specs.Sealing.{sealed, nonce_of, rekeyed}
 -- one step of a handshake's key schedule, by the name that the standard gives it (Noise 5.2)
 pub data Entry : Type 0 where
   MixHash : (text : List ℕ) → Entry  -- of a text that travels in the clear, or isn't sent
-  Ciphertext : (piece : List ℕ) → Entry  -- EncryptAndHash, DecryptAndHash: of what they make or take; a plain text without a key
+  Ciphertext : (ciphertext : List ℕ) → Entry  -- EncryptAndHash, DecryptAndHash: of what they make or take; a plain text without a key
   MixKey : (input : List ℕ) → Entry
   MixKeyAndHash : (input : List ℕ) → Entry
 
@@ -22,29 +22,29 @@ start_value name = if nat_le (length name) 32 then name ++ replicate (32 - lengt
 abbrev pub chaining_key_of : List ℕ → List Entry → List ℕ
 chaining_key_of name [] = start_value name
 chaining_key_of name (MixHash text ∷ older) = chaining_key_of name older
-chaining_key_of name (Ciphertext piece ∷ older) = chaining_key_of name older
+chaining_key_of name (Ciphertext bytes ∷ older) = chaining_key_of name older
 chaining_key_of name (MixKey input ∷ older) = first_output (chaining_key_of name older) input
 chaining_key_of name (MixKeyAndHash input ∷ older) = first_output (chaining_key_of name older) input
 
 abbrev pub hash_of : List ℕ → List Entry → List ℕ
 hash_of name [] = start_value name
 hash_of name (MixHash text ∷ older) = sha256 (hash_of name older ++ text)
-hash_of name (Ciphertext piece ∷ older) = sha256 (hash_of name older ++ piece)
+hash_of name (Ciphertext bytes ∷ older) = sha256 (hash_of name older ++ bytes)
 hash_of name (MixKey input ∷ older) = hash_of name older
 hash_of name (MixKeyAndHash input ∷ older) = sha256 (hash_of name older ++ second_output (chaining_key_of name older) input)
 
 abbrev pub cipher_key_of : List ℕ → List Entry → Option (List ℕ)
 cipher_key_of name [] = None
 cipher_key_of name (MixHash text ∷ older) = cipher_key_of name older
-cipher_key_of name (Ciphertext piece ∷ older) = cipher_key_of name older
+cipher_key_of name (Ciphertext bytes ∷ older) = cipher_key_of name older
 cipher_key_of name (MixKey input ∷ older) = Some (second_output (chaining_key_of name older) input)
 cipher_key_of name (MixKeyAndHash input ∷ older) = Some (third_output (chaining_key_of name older) input)
 
--- how many pieces stand after the newest key
+-- how many texts were encrypted under the newest key
 abbrev pub nonce_count : List Entry → ℕ
 nonce_count [] = 0
 nonce_count (MixHash text ∷ older) = nonce_count older
-nonce_count (Ciphertext piece ∷ older) = nonce_count older + 1
+nonce_count (Ciphertext bytes ∷ older) = nonce_count older + 1
 nonce_count (MixKey input ∷ older) = 0
 nonce_count (MixKeyAndHash input ∷ older) = 0
 
@@ -65,13 +65,13 @@ abbrev pub and_then : History → Entry → History
 and_then r entry = record { name = r.name; entries = entry ∷ r.entries }
 
 -- how a text travels: as it is without a key, else sealed at the nonce
-abbrev pub piece_under : Option (List ℕ) → ℕ → List ℕ → List ℕ → List ℕ
-piece_under None n ad plain = plain
-piece_under (Some key) n ad plain = sealed key (nonce_of n) ad plain
+abbrev pub ciphertext_under : Option (List ℕ) → ℕ → List ℕ → List ℕ → List ℕ
+ciphertext_under None n ad plain = plain
+ciphertext_under (Some key) n ad plain = sealed key (nonce_of n) ad plain
 
 -- how a text travels after a history: under its key, nonce and hash
-abbrev pub piece : History → List ℕ → List ℕ
-piece r plain = piece_under (cipher_key r) (nonce r) (hash r) plain
+abbrev pub ciphertext : History → List ℕ → List ℕ
+ciphertext r plain = ciphertext_under (cipher_key r) (nonce r) (hash r) plain
 
 -- the keys of Split (Noise 5.2)
 abbrev pub initiator_key : History → List ℕ

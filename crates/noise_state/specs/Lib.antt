@@ -1,6 +1,6 @@
 pub mod Cipher
 pub mod History
-pub mod Pieces
+pub mod Ciphertexts
 pub mod Standing
 pub use Rattle.noise_aead.specs.Sealing
 pub use Rattle.noise_kdf.specs.Hkdf

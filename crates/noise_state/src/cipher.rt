@@ -4,7 +4,7 @@ ghost use Rattle.std.specs.Prelude.{◌≡◌, ◌≤◌, ◌<◌, ◌-◌, ◌+
 ghost use Rattle.std.specs.Prelude.{IfOk, IfErr, IfSome, IfNone, OnOk, OnErr, Some, None};
 ghost use Rattle.std.specs.Option.{option_map};
 ghost use Rattle.noise_aead.specs.Sealing.{sealed, nonce_of, rekeyed};
-ghost use Rattle.noise_state.specs.History.{piece_under};
+ghost use Rattle.noise_state.specs.History.{ciphertext_under};
 
 use noise_aead::{nonce, open_in_place, rekey, seal_in_place};
 
@@ -141,7 +141,7 @@ impl CipherState {
         ensures range { IfOk result (λ n.
             (n ≡ sealed_len (keyed_in self.old) len) × (n ≤ length buf.new)) }
         ensures sealed { IfOk result (λ n. take n buf.new
-            ≡ piece_under (key_in self.old) (nonce_in self.old) ad.now (take len buf.old)) }
+            ≡ ciphertext_under (key_in self.old) (nonce_in self.old) ad.now (take len buf.old)) }
         ensures beyond { IfOk result (λ n. drop n buf.new ≡ drop n buf.old) }
         ensures key { key_in self.new ≡ key_in self.old }
         ensures counted { OnOk result (
@@ -195,13 +195,13 @@ impl CipherState {
         requires ad_fits { length ad.now ≤ 65535 }
         ensures accepts { IsOk result ↔ (HasNonce (keyed_in self.old) (nonce_in self.old)
             × (length buf.old ≤ 65535) × ((plain : List ℕ)
-            × (buf.old ≡ piece_under (key_in self.old) (nonce_in self.old) ad.now plain))) }
+            × (buf.old ≡ ciphertext_under (key_in self.old) (nonce_in self.old) ad.now plain))) }
         ensures refused { IfErr result (λ fault.
             DecryptRefused (keyed_in self.old) (nonce_in self.old) (length buf.old) fault) }
         ensures range { IfOk result (λ n.
             (n ≤ length buf.new) × (sealed_len (keyed_in self.old) n ≡ length buf.old)) }
         ensures opened { IfOk result (λ n. buf.old
-            ≡ piece_under (key_in self.old) (nonce_in self.old) ad.now (take n buf.new)) }
+            ≡ ciphertext_under (key_in self.old) (nonce_in self.old) ad.now (take n buf.new)) }
         ensures beyond { IfOk result (λ n. drop n buf.new ≡ drop n buf.old) }
         ensures key { key_in self.new ≡ key_in self.old }
         ensures counted { OnOk result (

@@ -3,7 +3,7 @@
 ghost use Rattle.std.specs.Prelude.{◌≡◌, ◌≤◌, ◌<◌, ◌-◌, ◌+◌, ◌^◌, ◌++◌, ◌↔◌, ℕ, List, [], length, take, drop, is_some, true, false, IsOk, IsSome};
 ghost use Rattle.std.specs.Prelude.{IfOk, IfErr, OnOk, OnErr, Some};
 ghost use Rattle.sha2.specs.Sha256.{sha256};
-ghost use Rattle.noise_state.specs.History.{History, MixHash, Ciphertext, MixKey, MixKeyAndHash, and_then, piece, piece_under, cipher_key, nonce, hash, start_value};
+ghost use Rattle.noise_state.specs.History.{History, MixHash, Ciphertext, MixKey, MixKeyAndHash, and_then, ciphertext, ciphertext_under, cipher_key, nonce, hash, start_value};
 ghost use Rattle.noise_state.specs.History.{initiator_key, responder_key};
 
 use crate::cipher::{CipherFault, CipherState};
@@ -176,8 +176,8 @@ impl SymmetricState {
         ensures range { IfOk result (λ n.
             (n ≡ sealed_len (keyed self.old) len) × (n ≤ length buf.new)) }
         ensures ok { (r : History) → StateStands self.old r → IfOk result (λ n.
-            (take n buf.new ≡ piece r (take len buf.old))
-            × StateStands self.new (and_then r (Ciphertext (piece r (take len buf.old))))) }
+            (take n buf.new ≡ ciphertext r (take len buf.old))
+            × StateStands self.new (and_then r (Ciphertext (ciphertext r (take len buf.old))))) }
         ensures beyond { IfOk result (λ n. drop n buf.new ≡ drop n buf.old) }
         ensures unchanged { OnErr result (buf.new ≡ buf.old) }
         ensures same { OnErr result (self.new ≡ self.old) }
@@ -198,15 +198,15 @@ impl SymmetricState {
     pub fn decrypt_and_hash(&mut self, buf: &mut [u8]) -> Result<usize, CipherFault>
         ensures success { IsOk result ↔ (HasNonce (keyed self.old) (nonce_now self.old)
             × (length buf.old ≤ 65535) × ((plain : List ℕ)
-            × (buf.old ≡ piece_under (key_now self.old) (nonce_now self.old) (hash_now self.old) plain))) }
+            × (buf.old ≡ ciphertext_under (key_now self.old) (nonce_now self.old) (hash_now self.old) plain))) }
         ensures accepts { (r : History) → StateStands self.old r → IsOk result ↔ (
             (nonce r < 2 ^ 64 - 1) × (length buf.old ≤ 65535)
-            × ((plain : List ℕ) × (buf.old ≡ piece r plain))) }
+            × ((plain : List ℕ) × (buf.old ≡ ciphertext r plain))) }
         ensures refused { IfErr result (λ fault.
             DecryptRefused (keyed self.old) (nonce_now self.old) (length buf.old) fault) }
         ensures text { IfOk result (λ n. sealed_len (keyed self.old) n ≡ length buf.old) }
         ensures ok { (r : History) → StateStands self.old r → IfOk result (λ n.
-            (buf.old ≡ piece r (take n buf.new)) × StateStands self.new (and_then r (Ciphertext buf.old))) }
+            (buf.old ≡ ciphertext r (take n buf.new)) × StateStands self.new (and_then r (Ciphertext buf.old))) }
         ensures beyond { IfOk result (λ n. drop n buf.new ≡ drop n buf.old) }
         ensures unchanged { OnErr result (buf.new ≡ buf.old) }
         ensures same { OnErr result (self.new ≡ self.old) }

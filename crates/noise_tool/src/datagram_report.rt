@@ -1,8 +1,8 @@
 //! The lines of a run of datagrams.
 
 ghost use Rattle.std.specs.Prelude.{◌≡◌, ◌++◌, map, IfOk, IsTrue, OnOk};
-ghost use Rattle.noise_session.specs.Datagrams.{DatagramView, Pictures};
-ghost use Rattle.noise_duel.specs.DatagramReports.{DuelPictures, datagram_note_of, datagram_notes_of};
+ghost use Rattle.noise_session.specs.Datagrams.{DatagramView, DatagramsStand};
+ghost use Rattle.noise_duel.specs.DatagramReports.{DatagramDuelStands, datagram_note_of, datagram_notes_of};
 ghost use Rattle.noise_duel.specs.DatagramSides.{DatagramSides};
 ghost use Rattle.noise_vectors.specs.Expectations.{bytes_of};
 ghost use Rattle.noise_lines.specs.Lines.{line_of, text_in};
@@ -73,7 +73,7 @@ pub fn push_datagram_states(
     duel: &DatagramDuel,
     lines: &mut Vec<Vec<u8>>,
 ) -> Result<(), AllocError>
-    ensures lines { (d : DatagramSides) → DuelPictures duel.now d
+    ensures lines { (d : DatagramSides) → DatagramDuelStands duel.now d
         → OnOk result (bytes_of lines.new.items ≡ bytes_of lines.old.items ++ print.datagram_state_lines d) }
     ensures printed { AreExpected lines.old.items → OnOk result (AreExpected lines.new.items) }
 {
@@ -86,7 +86,7 @@ pub fn push_datagram_states(
 
 // The state of a party.
 fn datagram_state(alloc: Global, role: Role, datagrams: &Datagrams) -> Result<Line, AllocError>
-    ensures { (v : DatagramView) → Pictures datagrams.now v → IfOk result (λ line. text_in line ≡ print.datagram_state_line role v) }
+    ensures { (v : DatagramView) → DatagramsStand datagrams.now v → IfOk result (λ line. text_in line ≡ print.datagram_state_line role v) }
 {
     begun_line(alloc, "state", role)?
         .word("datagrams")?

@@ -10,7 +10,7 @@ use Rattle.noise_state.specs.History.{History}
 use Rattle.noise_handshake.specs.declared.remote.Remote.{Remote}
 use Rattle.noise_handshake.specs.Held.{is_turn}
 use Rattle.noise_handshake.specs.Setup.{secrets_of}
-use Rattle.noise_handshake.specs.Line.{front, line, after_line}
+use Rattle.noise_handshake.specs.Message.{before_payload, message_bytes, after_payload}
 use Rattle.noise_handshake.specs.View.{View, Reader, Fits, Fit, Listens, Speaks, known_after, secrets_after, tokens_at}
 use Rattle.noise_handshake.specs.Writing.{Writer, Gives, Given}
 use Rattle.noise_trace.specs.declared.values.StateValues.{StateValues}
@@ -88,13 +88,13 @@ writes v s = speaks (turn_from Initiator v.passed) v.role s.turn
 
 -- the steps of the tokens and that of the payload are those of the message
 pub message-done : (psks : Bool) (r : History) (ts : List Token) (xs : List (List ℕ)) (payload m : List ℕ) (from : ℕ) (values : StateValues)
-    (before after : List Step) → from ≡ length (front psks r ts xs) → m ≡ line psks r ts xs payload → values ≡ values_of (after_line psks r ts xs payload)
+    (before after : List Step) → from ≡ length (before_payload psks r ts xs) → m ≡ message_bytes psks r ts xs payload → values ≡ values_of (after_payload psks r ts xs payload)
     → before ≡ token_steps psks r 0 ts xs
     → after ≡ before ++ (record { part = part.Payload; from = from; to = length m; state = values }) ∷ []
     → after ≡ message_steps psks r ts xs payload
 message-done psks r ts xs payload m from values before after f s w b a =
     a ∙ ap (λ (z : List Step). z ++ (record { part = part.Payload; from = from; to = length m; state = values }) ∷ []) b
     ∙ ap (λ (n : ℕ). token_steps psks r 0 ts xs ++ (record { part = part.Payload; from = n; to = length m; state = values }) ∷ []) f
-    ∙ ap (λ (z : List ℕ). token_steps psks r 0 ts xs ++ (record { part = part.Payload; from = length (front psks r ts xs); to = length z; state = values }) ∷ []) s
+    ∙ ap (λ (z : List ℕ). token_steps psks r 0 ts xs ++ (record { part = part.Payload; from = length (before_payload psks r ts xs); to = length z; state = values }) ∷ []) s
     ∙ ap (λ (z : StateValues). token_steps psks r 0 ts xs
-    ++ (record { part = part.Payload; from = length (front psks r ts xs); to = length (line psks r ts xs payload); state = z }) ∷ []) w
+    ++ (record { part = part.Payload; from = length (before_payload psks r ts xs); to = length (message_bytes psks r ts xs payload); state = z }) ∷ []) w

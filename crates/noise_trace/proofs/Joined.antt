@@ -4,8 +4,8 @@ use Rattle.std.proofs.Common.{drop, drop-drop, refl, sym, ap, ◌∙◌, arith, 
 use Rattle.std.proofs.lemmas.List.{take_at, drop_at}
 use Rattle.std.specs.Prelude.{Bool, slice_range}
 use Rattle.noise_names.specs.declared.token.Token.{Token}
-use Rattle.noise_state.specs.History.{History, piece}
-use Rattle.noise_handshake.specs.Line.{token_piece, after_token, front, after_front, line}
+use Rattle.noise_state.specs.History.{History, ciphertext}
+use Rattle.noise_handshake.specs.Message.{token_bytes, after_token, before_payload, after_tokens, message_bytes}
 use Rattle.noise_trace.specs.declared.step.Step.{Step}
 use Rattle.noise_trace.specs.Steps.{joined, token_steps, payload_step, message_steps}
 
@@ -21,13 +21,13 @@ part-is m x more from n e w =
     ap (λ (k : ℕ). take k (drop from m)) count ∙ ap (take n) e ∙ take_at x more n (sym w)
 
 joined-tokens : (psks : Bool) (r : History) (ts : List Token) (xs : List (List ℕ)) (from : ℕ) (m more : List ℕ)
-    → drop from m ≡ front psks r ts xs ++ more → joined m (token_steps psks r from ts xs) ≡ front psks r ts xs
+    → drop from m ≡ before_payload psks r ts xs ++ more → joined m (token_steps psks r from ts xs) ≡ before_payload psks r ts xs
 joined-tokens psks r [] xs from m more e = refl
 joined-tokens psks r (t ∷ ts) [] from m more e = refl
 joined-tokens psks r (t ∷ ts) (x ∷ xs) from m more e =
-    let part : List ℕ = token_piece r t x in
+    let part : List ℕ = token_bytes r t x in
     let after : History = after_token psks r t x in
-    let rest : List ℕ = front psks after ts xs in
+    let rest : List ℕ = before_payload psks after ts xs in
     let split : drop from m ≡ part ++ (rest ++ more) = e ∙ append_assoc part rest more in
     let next : drop (from + length part) m ≡ rest ++ more =
     sym (drop-drop (length part) from m) ∙ ap (drop (length part)) split ∙ drop_at part (rest ++ more) (length part) refl in
@@ -36,11 +36,11 @@ joined-tokens psks r (t ∷ ts) (x ∷ xs) from m more e =
 
 -- those of a message are the message
 pub joined-message : (psks : Bool) (r : History) (ts : List Token) (xs : List (List ℕ)) (payload : List ℕ)
-    → joined (line psks r ts xs payload) (message_steps psks r ts xs payload) ≡ line psks r ts xs payload
+    → joined (message_bytes psks r ts xs payload) (message_steps psks r ts xs payload) ≡ message_bytes psks r ts xs payload
 joined-message psks r ts xs payload =
-    let m : List ℕ = line psks r ts xs payload in
-    let first : List ℕ = front psks r ts xs in
-    let last : List ℕ = piece (after_front psks r ts xs) payload in
+    let m : List ℕ = message_bytes psks r ts xs payload in
+    let first : List ℕ = before_payload psks r ts xs in
+    let last : List ℕ = ciphertext (after_tokens psks r ts xs) payload in
     let here : drop (length first) m ≡ last ++ [] = drop_at first last (length first) refl ∙ sym (append-nil last) in
     let ends : slice_range m (length first) (length m) ≡ last =
     ap (λ (k : ℕ). slice_range m (length first) k) (length-append first last)

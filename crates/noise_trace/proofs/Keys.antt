@@ -3,8 +3,8 @@ use Rattle.std.proofs.Common.{◌≡◌, ℕ, ◌≤◌, List, ◌++◌, length,
 use Rattle.std.proofs.lemmas.List.{take_at}
 use Rattle.std.specs.Prelude.{Bool, true, false, is_some, if◌then◌else◌}
 use Rattle.noise_state.specs.Cipher.{sealed_len}
-use Rattle.noise_state.specs.History.{History, cipher_key, piece}
-use Rattle.noise_state.specs.Pieces.{length-piece, piece-same}
+use Rattle.noise_state.specs.History.{History, cipher_key, ciphertext}
+use Rattle.noise_state.specs.Ciphertexts.{length-ciphertext, ciphertext-same}
 
 -- the first 32 bytes are the key
 pub front_is : (x more m : List ℕ) → length x ≡ 32 → m ≡ x ++ more → take 32 m ≡ x
@@ -15,17 +15,17 @@ wide true n e = omega arith
 wide false n e = sym e
 
 -- how many bytes a static key travels as
-pub width-key : (r : History) (x : List ℕ) (k : Bool) → k ≡ is_some (cipher_key r) → length x ≡ 32 → (if k then 48 else 32) ≡ length (piece r x)
-width-key r x k e h = wide k (length x) h ∙ ap (λ (b : Bool). sealed_len b (length x)) e ∙ sym (length-piece r x)
+pub width-key : (r : History) (x : List ℕ) (k : Bool) → k ≡ is_some (cipher_key r) → length x ≡ 32 → (if k then 48 else 32) ≡ length (ciphertext r x)
+width-key r x k e h = wide k (length x) h ∙ ap (λ (b : Bool). sealed_len b (length x)) e ∙ sym (length-ciphertext r x)
 
 pub under : (k : Bool) (n : ℕ) → n ≤ sealed_len k n
 under true n = omega arith
 under false n = omega arith
 
 -- what was opened is the key
-pub opened-is : (r : History) (x old new : List ℕ) (n : ℕ) → length x ≡ 32 → old ≡ piece r x → old ≡ piece r (take n new) → n ≤ length new
+pub opened-is : (r : History) (x old new : List ℕ) (n : ℕ) → length x ≡ 32 → old ≡ ciphertext r x → old ≡ ciphertext r (take n new) → n ≤ length new
     → take 32 new ≡ x
 opened-is r x old new n h e q in_range =
-    let same : take n new ≡ x = piece-same r (take n new) x (sym q ∙ e) in
+    let same : take n new ≡ x = ciphertext-same r (take n new) x (sym q ∙ e) in
     let k : 32 ≡ n = omega (arith, ap length same, length-take n new) in
     ap (λ (j : ℕ). take j new) k ∙ same

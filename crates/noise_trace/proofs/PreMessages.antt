@@ -19,7 +19,7 @@ use Rattle.noise_handshake.specs.Setup.{has_before, has_token, keys_of, public_k
 use Rattle.noise_handshake.specs.View.{with_premessage}
 use Rattle.noise_trace.specs.declared.start_step.StartPart.TheVariants as part
 use Rattle.noise_trace.specs.declared.start_step.StartStep.{StartStep}
-use Rattle.noise_handshake.specs.Line.{with_ephemeral}
+use Rattle.noise_handshake.specs.Message.{with_ephemeral}
 use Rattle.noise_trace.specs.declared.values.StateValues.{StateValues}
 use Rattle.noise_trace.specs.Values.{values_of}
 use Rattle.noise_trace.specs.Start.{start_step, key_steps, pre_steps, named, prologued, start_steps, values_after}

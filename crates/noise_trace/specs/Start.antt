@@ -8,7 +8,7 @@ use Rattle.noise_names.specs.Plan.{Plan, pre_of, has_psk}
 use Rattle.noise_names.specs.Names.{name_bytes}
 use Rattle.noise_state.specs.History.{History, MixHash, and_then}
 use Rattle.noise_handshake.specs.declared.remote.Remote.{Remote}
-use Rattle.noise_handshake.specs.Line.{with_ephemeral}
+use Rattle.noise_handshake.specs.Message.{with_ephemeral}
 use Rattle.noise_handshake.specs.Setup.{keys_of}
 use Rattle.noise_handshake.specs.View.{with_premessage}
 use Rattle.noise_trace.specs.declared.start_step.StartPart.{StartPart}

@@ -2,7 +2,7 @@
 use Rattle.std.specs.Prelude.{ℕ, ◌+◌, List, [], ◌∷◌, ◌++◌, length, Bool, slice_range}
 use Rattle.noise_names.specs.declared.token.Token.{Token}
 use Rattle.noise_state.specs.History.{History}
-use Rattle.noise_handshake.specs.Line.{token_piece, after_token, front, line, after_line}
+use Rattle.noise_handshake.specs.Message.{token_bytes, after_token, before_payload, message_bytes, after_payload}
 use Rattle.noise_trace.specs.declared.step.Part.{Part}
 use Rattle.noise_trace.specs.declared.step.Part.TheVariants as part
 use Rattle.noise_trace.specs.declared.step.Step.{Step}
@@ -17,16 +17,16 @@ abbrev pub token_steps : Bool → History → ℕ → List Token → List (List 
 token_steps psks r from [] xs = []
 token_steps psks r from (t ∷ ts) [] = []
 token_steps psks r from (t ∷ ts) (x ∷ xs) =
-    step (part.Token t) from (length (token_piece r t x)) (after_token psks r t x)
-    ∷ token_steps psks (after_token psks r t x) (from + length (token_piece r t x)) ts xs
+    step (part.Token t) from (length (token_bytes r t x)) (after_token psks r t x)
+    ∷ token_steps psks (after_token psks r t x) (from + length (token_bytes r t x)) ts xs
 
 -- the step of the payload
 abbrev pub payload_step : Bool → History → List Token → List (List ℕ) → List ℕ → Step
 payload_step psks r ts xs payload = record {
   part = part.Payload;
-  from = length (front psks r ts xs);
-  to = length (line psks r ts xs payload);
-  state = values_of (after_line psks r ts xs payload);
+  from = length (before_payload psks r ts xs);
+  to = length (message_bytes psks r ts xs payload);
+  state = values_of (after_payload psks r ts xs payload);
 }
 
 -- the steps of the whole message

@@ -7,8 +7,8 @@ ghost use Rattle.noise_names.specs.Plan.{has_psk};
 ghost use Rattle.noise_state.specs.Standing.{nonce_now};
 ghost use Rattle.noise_handshake.specs.View.{View, Accepts, Refuses, reader, tokens_at, tokens_now};
 ghost use Rattle.noise_handshake.specs.Held.{is_turn};
-ghost use Rattle.noise_handshake.specs.Line.{front, line};
-ghost use Rattle.noise_handshake.specs.Writing.{Lacks, Writes};
+ghost use Rattle.noise_handshake.specs.Message.{before_payload, message_bytes};
+ghost use Rattle.noise_handshake.specs.Writing.{LacksAnswer, Writes};
 ghost use Rattle.noise_handshake.specs.Party.{Stands};
 ghost use Rattle.noise_handshake.specs.declared.faults.Cause.{Cause};
 
@@ -156,7 +156,7 @@ impl BeforeMessage {
         ensures range { IfSome result.end (λ end. end.0 ≤ length message.now) }
         ensures front { (v : View) (xs : List (List ℕ)) (more : List ℕ) → StandsBefore self.now v → K.agreement keys.now ≡ v.agree
             → Carries (not (is_turn v.role v.passed)) (reader v) v.remote v.secrets (take count (tokens_now v)) xs
-            → message.now ≡ front (has_psk v.pattern) v.history (take count (tokens_now v)) xs ++ more
+            → message.now ≡ before_payload (has_psk v.pattern) v.history (take count (tokens_now v)) xs ++ more
             → IsFront result (has_psk v.pattern) v.history (not (is_turn v.role v.passed)) v.remote (take count (tokens_now v)) xs }
     {
         let means = Means {
@@ -185,7 +185,7 @@ impl BeforeMessage {
         ensures nonce { IfSome result.left (λ left. nonce_now left.1 ≤ nonce_now self.now.state + 11) }
         ensures whole { (v : View) (xs : List (List ℕ)) (payload : List ℕ) → StandsBefore self.now v → K.agreement keys.now ≡ v.agree
             → Carries (not (is_turn v.role v.passed)) (reader v) v.remote v.secrets (tokens_now v) xs
-            → message.now ≡ line (has_psk v.pattern) v.history (tokens_now v) xs payload
+            → message.now ≡ message_bytes (has_psk v.pattern) v.history (tokens_now v) xs payload
             → IsWhole result (has_psk v.pattern) v.history (not (is_turn v.role v.passed)) v.remote (tokens_now v) xs payload }
     {
         let Front {
@@ -243,7 +243,7 @@ impl BeforeMessage {
     /// `keys` are those of the handshake. Of other keys or tokens the steps may end early.
     pub fn withheld_steps<K: Keys>(&self, keys: &K, token: u8) -> ArrayVec<Step, 11>
         ensures withheld { (v : View) → StandsBefore self.now v → K.public_of keys.now ≡ v.own → K.agreement keys.now ≡ v.agree
-            → (lacks : Lacks v token)
+            → (lacks : LacksAnswer v token)
             → result.items ≡ token_steps (has_psk v.pattern) v.history 0 (take token (tokens_now v)) lacks.lacks.before }
     {
         let count = self.tokens.len().min(token as usize);

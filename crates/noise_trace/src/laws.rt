@@ -6,7 +6,7 @@ ghost use Rattle.noise_names.specs.declared.token.Token.{Token};
 ghost use Rattle.noise_names.specs.declared.token.Role.{Role};
 ghost use Rattle.noise_names.specs.Plan.{Plan, has_psk};
 ghost use Rattle.noise_state.specs.History.{History};
-ghost use Rattle.noise_handshake.specs.Line.{line};
+ghost use Rattle.noise_handshake.specs.Message.{message_bytes};
 ghost use Rattle.noise_handshake.specs.Party.{after_message, after_own};
 ghost use Rattle.noise_handshake.specs.declared.remote.Remote.{Remote};
 ghost use Rattle.noise_handshake.specs.Setup.{start_of};
@@ -20,7 +20,7 @@ ghost use Rattle.noise_trace.specs.Values.{values_of};
 /// the message, whether it was accepted or written. After the last step of the start they are those before the first message.
 pub fn steps_tell()
     ensures joined { (psks : Bool) (r : History) (ts : List Token) (xs : List (List ℕ)) (payload : List ℕ)
-        → joined (line psks r ts xs payload) (message_steps psks r ts xs payload) ≡ line psks r ts xs payload }
+        → joined (message_bytes psks r ts xs payload) (message_steps psks r ts xs payload) ≡ message_bytes psks r ts xs payload }
     ensures accepted { (v : View) (xs : List (List ℕ)) (payload : List ℕ)
         → (payload_step (has_psk v.pattern) v.history (tokens_now v) xs payload).state ≡ values_of (after_message v xs payload).history }
     ensures start { (p : Plan) (role : Role) (prologue : List ℕ) (own remote : Remote) (before : StateValues)

@@ -4,9 +4,9 @@
 ghost use Rattle.std.specs.Prelude.{◌≡◌, ◌≤◌, ◌<◌, ◌+◌, ◌-◌, ◌*◌, ◌^◌, ◌++◌, ◌∷◌, [], ℕ, List, length, take, count_by, Some, IfSome};
 ghost use Rattle.noise_names.specs.declared.token.Token.{Token};
 ghost use Rattle.noise_names.specs.Tokens.{is_psk};
-ghost use Rattle.noise_state.specs.History.{History, Ciphertext, and_then, piece};
+ghost use Rattle.noise_state.specs.History.{History, Ciphertext, and_then, ciphertext};
 ghost use Rattle.noise_state.specs.Standing.{StateStands, nonce_now};
-ghost use Rattle.noise_handshake.specs.Line.{token_piece, after_token};
+ghost use Rattle.noise_handshake.specs.Message.{token_bytes, after_token};
 ghost use Rattle.noise_handshake.specs.Writing.{Writer, Gives, Given};
 ghost use Rattle.noise_trace.specs.Steps.{token_steps};
 
@@ -42,7 +42,7 @@ fn send_s(state: &mut SymmetricState, key: &[u8; 32]) -> Option<usize>
     ensures nonce { nonce_now state.new ≤ nonce_now state.old + 1 }
     ensures width { IfSome result (λ n. n ≤ 48) }
     ensures sent { (r : History) → StateStands state.old r
-        → (result ≡ Some (length (piece r key.now))) × StateStands state.new (and_then r (Ciphertext (piece r key.now))) }
+        → (result ≡ Some (length (ciphertext r key.now))) × StateStands state.new (and_then r (Ciphertext (ciphertext r key.now))) }
 {
     let mut buffer = with_room(key);
     match state.encrypt_and_hash(&mut buffer, 32) {
@@ -70,7 +70,7 @@ fn give_token<K: Keys>(
           agree = K.agreement means.now.keys.now;
         } in
         Gives w means.now.known secrets.now token x
-        → (result ≡ Some (length (token_piece r token x))) × StateStands state.new (after_token means.now.psks r token x) }
+        → (result ≡ Some (length (token_bytes r token x))) × StateStands state.new (after_token means.now.psks r token x) }
 {
     match token {
         Token::E => {

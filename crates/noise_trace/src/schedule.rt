@@ -6,8 +6,8 @@ ghost use Rattle.noise_state.specs.History.{initiator_key, responder_key};
 ghost use Rattle.noise_names.specs.Plan.{has_psk};
 ghost use Rattle.noise_handshake.specs.View.{View, Accepts, Refuses, reader, tokens_now};
 ghost use Rattle.noise_handshake.specs.Held.{is_turn};
-ghost use Rattle.noise_handshake.specs.Line.{line};
-ghost use Rattle.noise_handshake.specs.Writing.{Lacks, Writes};
+ghost use Rattle.noise_handshake.specs.Message.{message_bytes};
+ghost use Rattle.noise_handshake.specs.Writing.{LacksAnswer, Writes};
 ghost use Rattle.noise_handshake.specs.Party.{Stands, after_message, after_own};
 ghost use Rattle.noise_handshake.specs.declared.faults.Cause.{Cause};
 ghost use Rattle.noise_trace.specs.Values.{values_of};
@@ -73,7 +73,7 @@ impl<K: Keys> Following<K> {
         ensures { (v : View) (xs : List (List ℕ)) (payload : List ℕ) → Follows K.public_of K.agreement self.old v
             → v.passed < length v.pattern.messages
             → Carries (not (is_turn v.role v.passed)) (reader v) v.remote v.secrets (tokens_now v) xs
-            → message.now ≡ line (has_psk v.pattern) v.history (tokens_now v) xs payload
+            → message.now ≡ message_bytes (has_psk v.pattern) v.history (tokens_now v) xs payload
             → (result.items ≡ message_steps (has_psk v.pattern) v.history (tokens_now v) xs payload)
             × Follows K.public_of K.agreement self.new (after_carried v xs payload) }
     {
@@ -134,7 +134,7 @@ impl<K: Keys> Following<K> {
     ///
     /// Of another token the steps may end early.
     pub fn withheld(&self, token: u8) -> ArrayVec<Step, 11>
-        ensures { (v : View) → Follows K.public_of K.agreement self.now v → (lacks : Lacks v token)
+        ensures { (v : View) → Follows K.public_of K.agreement self.now v → (lacks : LacksAnswer v token)
             → result.items ≡ token_steps (has_psk v.pattern) v.history 0 (take token (tokens_now v)) lacks.lacks.before }
     {
         self.before.withheld_steps(&self.keys, token)

@@ -4,9 +4,9 @@
 ghost use Rattle.std.specs.Prelude.{◌≡◌, ◌≤◌, ◌<◌, ◌+◌, ◌-◌, ◌^◌, ◌++◌, ◌∷◌, [], ℕ, List, length, drop, take, count_by, Option, Some, IfSome, if◌then◌else◌};
 ghost use Rattle.noise_names.specs.declared.token.Token.{Token};
 ghost use Rattle.noise_names.specs.Tokens.{is_psk};
-ghost use Rattle.noise_state.specs.History.{History, Ciphertext, and_then, piece};
+ghost use Rattle.noise_state.specs.History.{History, Ciphertext, and_then, ciphertext};
 ghost use Rattle.noise_state.specs.Standing.{StateStands, keyed, nonce_now};
-ghost use Rattle.noise_handshake.specs.Line.{with_ephemeral, token_piece, after_token, front, after_front};
+ghost use Rattle.noise_handshake.specs.Message.{with_ephemeral, token_bytes, after_token, before_payload, after_tokens};
 ghost use Rattle.noise_handshake.specs.View.{Reader, Fits, answered, own_at, remote_at, known_after, secrets_after};
 ghost use Rattle.noise_trace.specs.inner.Carried.{known_next, known_through, Carries};
 ghost use Rattle.noise_trace.specs.declared.step.Part.TheVariants as part;
@@ -106,8 +106,8 @@ fn open_key(state: &mut SymmetricState, buffer: &mut [u8]) -> Option<[u8; 32]>
     requires high { length buffer.old ≤ 48 }
     requires nonces { nonce_now state.old < 2 ^ 64 - 1 }
     ensures nonce { nonce_now state.new ≤ nonce_now state.old + 1 }
-    ensures opened { (r : History) (x : List ℕ) → StateStands state.old r → length x ≡ 32 → buffer.old ≡ piece r x
-        → (result ≡ Some x) × StateStands state.new (and_then r (Ciphertext (piece r x))) }
+    ensures opened { (r : History) (x : List ℕ) → StateStands state.old r → length x ≡ 32 → buffer.old ≡ ciphertext r x
+        → (result ≡ Some x) × StateStands state.new (and_then r (Ciphertext (ciphertext r x))) }
 {
     match state.decrypt_and_hash(buffer) {
         Ok(_) => Some(first_32(buffer)),
@@ -119,7 +119,7 @@ fn open_key(state: &mut SymmetricState, buffer: &mut [u8]) -> Option<[u8; 32]>
 fn width_of_s(state: &SymmetricState) -> usize
     ensures low { 32 ≤ result }
     ensures high { result ≤ 48 }
-    ensures width { (r : History) (x : List ℕ) → StateStands state.now r → length x ≡ 32 → result ≡ length (piece r x) }
+    ensures width { (r : History) (x : List ℕ) → StateStands state.now r → length x ≡ 32 → result ≡ length (ciphertext r x) }
 {
     if state.has_key() { 48 } else { 32 }
 }
@@ -129,8 +129,8 @@ fn take_s(state: &mut SymmetricState, rest: &[u8]) -> Option<(usize, [u8; 32])>
     requires nonces { nonce_now state.old < 2 ^ 64 - 1 }
     ensures nonce { nonce_now state.new ≤ nonce_now state.old + 1 }
     ensures range { IfSome result (λ taken. taken.0 ≤ length rest.now) }
-    ensures taken { (r : History) (x more : List ℕ) → StateStands state.old r → length x ≡ 32 → rest.now ≡ piece r x ++ more
-        → (result ≡ Some (length (piece r x), x)) × StateStands state.new (and_then r (Ciphertext (piece r x))) }
+    ensures taken { (r : History) (x more : List ℕ) → StateStands state.old r → length x ≡ 32 → rest.now ≡ ciphertext r x ++ more
+        → (result ≡ Some (length (ciphertext r x), x)) × StateStands state.new (and_then r (Ciphertext (ciphertext r x))) }
 {
     let width = width_of_s(state);
     if rest.len() < width {
@@ -159,8 +159,8 @@ fn follow_token<K: Keys>(
     ensures range { IfSome result (λ taken. taken.0 ≤ length rest.now) }
     ensures followed { (r : History) (x more : List ℕ) → StateStands state.old r
         → let v : Reader = record { role = means.now.role; psks = means.now.psks; agree = K.agreement means.now.keys.now } in
-        Fits v known.now secrets.now token x → rest.now ≡ token_piece r token x ++ more
-        → (result ≡ Some (length (token_piece r token x), known_after known.now token x))
+        Fits v known.now secrets.now token x → rest.now ≡ token_bytes r token x ++ more
+        → (result ≡ Some (length (token_bytes r token x), known_after known.now token x))
         × StateStands state.new (after_token means.now.psks r token x) }
 {
     match token {
@@ -252,11 +252,11 @@ fn follow_one<K: Keys>(
     ensures range { IfSome result (λ next. next.0 ≤ length means.now.message.now) }
     ensures followed { (r : History) (x more : List ℕ) → StateStands state.old r
         → let v : Reader = record { role = means.now.role; psks = means.now.psks; agree = K.agreement means.now.keys.now } in
-        Fits v known.now secrets.now token x → drop from means.now.message.now ≡ token_piece r token x ++ more
-        → (result ≡ Some (from + length (token_piece r token x), known_next means.now.reads known.now token x))
+        Fits v known.now secrets.now token x → drop from means.now.message.now ≡ token_bytes r token x ++ more
+        → (result ≡ Some (from + length (token_bytes r token x), known_next means.now.reads known.now token x))
         × StateStands state.new (after_token means.now.psks r token x)
         × (steps.new.items ≡ steps.old.items
-        ++ step (part.Token token) from (length (token_piece r token x)) (after_token means.now.psks r token x) ∷ []) }
+        ++ step (part.Token token) from (length (token_bytes r token x)) (after_token means.now.psks r token x) ∷ []) }
 {
     let rest = bytes_from(means.message, from);
     let (width, learned) = follow_token(state, known, means, secrets, token, rest)?;
@@ -292,9 +292,9 @@ pub(crate) fn follow<K: Keys>(
     ensures range { IfSome result (λ end. end.0 ≤ length means.now.message.now) }
     ensures followed { (r : History) (xs : List (List ℕ)) (more : List ℕ) → StateStands state.old r
         → let v : Reader = record { role = means.now.role; psks = means.now.psks; agree = K.agreement means.now.keys.now } in
-        Carries means.now.reads v known.now secrets.now tokens.now xs → drop from means.now.message.now ≡ front means.now.psks r tokens.now xs ++ more
-        → (result ≡ Some (from + length (front means.now.psks r tokens.now xs), known_through means.now.reads known.now tokens.now xs))
-        × StateStands state.new (after_front means.now.psks r tokens.now xs)
+        Carries means.now.reads v known.now secrets.now tokens.now xs → drop from means.now.message.now ≡ before_payload means.now.psks r tokens.now xs ++ more
+        → (result ≡ Some (from + length (before_payload means.now.psks r tokens.now xs), known_through means.now.reads known.now tokens.now xs))
+        × StateStands state.new (after_tokens means.now.psks r tokens.now xs)
         × (steps.new.items ≡ steps.old.items ++ token_steps means.now.psks r from tokens.now xs) }
 {
     let Some((token, later)) = tokens.split_first() else {

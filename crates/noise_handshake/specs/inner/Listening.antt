@@ -7,23 +7,23 @@ use Rattle.noise_state.specs.History.{History, cipher_key}
 use Rattle.noise_keys.specs.declared.keys.Own.{Own}
 use Rattle.noise_handshake.specs.declared.remote.Remote.{Remote}
 use Rattle.noise_handshake.specs.declared.faults.Cause.{Cause}
-use Rattle.noise_handshake.specs.Line.{token_piece}
-use Rattle.noise_handshake.specs.View.{View, Reader, Fits, Leads, Listens, Stops, learned, tokens_now}
+use Rattle.noise_handshake.specs.Message.{token_bytes}
+use Rattle.noise_handshake.specs.View.{View, Reader, Fits, BeginsAs, Listens, Stops, learned, tokens_now}
 
 -- no text of token t fits here
 abbrev pub Fails : Reader → Remote → List (List ℕ) → History → Token → List ℕ → Type 0
-Fails v known secrets r t m = (x rest : List ℕ) → Fits v known secrets t x → m ≡ token_piece r t x ++ rest → ⊥
+Fails v known secrets r t m = (x rest : List ℕ) → Fits v known secrets t x → m ≡ token_bytes r t x ++ rest → ⊥
 
 -- Reading stops at token k for this cause, and these keys of the other party are known there.
 abbrev pub StopsKnowing : Reader → Remote → List (List ℕ) → History → List Token → List ℕ → ℕ → Cause → Remote → Type 0
 StopsKnowing v known secrets r ts m k cause here = (s : Stops v known secrets r ts m k cause) × (here ≡ learned known (take k ts) s.carried)
 
 -- The message begins as some sender's tokens before token k would, and this static key of the other party is known there.
-pub record LeadsBefore (v : Reader) (known : Remote) (secrets : List (List ℕ)) (r : History) (ts : List Token) (m : List ℕ) (k : ℕ)
+pub record BeginsBefore (v : Reader) (known : Remote) (secrets : List (List ℕ)) (r : History) (ts : List Token) (m : List ℕ) (k : ℕ)
     (remote : Option (List ℕ)) : Type 0 where
   pub carried : List (List ℕ)
   pub rest : List ℕ
-  pub leads : Leads v known secrets r (take k ts) carried m rest
+  pub leads : BeginsAs v known secrets r (take k ts) carried m rest
   pub remote_is : remote ≡ (learned known (take k ts) carried).s
 
 -- how many bytes a static key takes

@@ -10,7 +10,7 @@ use Rattle.noise_handshake.specs.declared.late_faults.LateUnread.{LateUnread}
 use Rattle.noise_handshake.specs.declared.late_faults.LateUnread.TheVariants as unread
 use Rattle.noise_handshake.specs.declared.late_faults.Want.{Want}
 use Rattle.noise_handshake.specs.declared.late_faults.Want.TheVariants.{Secret}
-use Rattle.noise_handshake.specs.Party.{Stands, Declines}
+use Rattle.noise_handshake.specs.Party.{Stands, DoesNotRead}
 use Rattle.noise_handshake.specs.View.{View, Refuses}
 use Rattle.noise_c.specs.Codes.{read_code, token_in}
 use Rattle.noise_c.specs.Kept.{public_in, agreement_in, held_in, TellsWant}
@@ -69,7 +69,7 @@ returns-in-Refused-clause-declined c low high p v k =
     (c.read_code-code.ensures.token ∙ ap token_in c.in-Err-Declined.fault-is) r.0.0 r.1
 
 -- the fault of that number
-agreement-of : (v : View) (m : List ℕ) (fault : ReadFault) → read_code fault ≡ 14 → Declines v m fault → (token : ℕ) × Refuses v m token Agreement
+agreement-of : (v : View) (m : List ℕ) (fault : ReadFault) → read_code fault ≡ 14 → DoesNotRead v m fault → (token : ℕ) × Refuses v m token Agreement
 agreement-of v m read.Ended e d = absurd (omega (arith, e))
 agreement-of v m read.Done e d = absurd (omega (arith, e))
 agreement-of v m read.NotYourTurn e d = absurd (omega (arith, e))

@@ -1,5 +1,5 @@
 use Rattle.std.proofs.Common.{◌≡◌, ◌≤◌, ◌∷◌, ◌++◌, ℕ, List, [], arith, length, take, sym, ap, subst, ◌∙◌}
-use Rattle.noise_session.specs.Datagrams.{HeldDatagrams, Pictures}
+use Rattle.noise_session.specs.Datagrams.{HeldDatagrams, DatagramsStand}
 use Rattle.noise_duel.specs.DatagramRuns.PartySeals.{seals_nothing}
 use Rattle.noise_duel.specs.DatagramSides.{datagrams_in, sealing}
 use Rattle.noise_duel.proofs.DatagramHappening.{fault-in-view, no-fault, number-is, one-more-in, seals-as, that-fault}
@@ -33,6 +33,6 @@ returns-in-Err c s p kept = record {
   next = s;
   seals = seals_nothing s c.args.payload.now c.in-Err.fault
       (sym (fault-in-view c.args.datagrams.now s.view (length c.args.payload.now) p) ∙ that-fault _ c.in-Err.fault c.in-Err.ensures.fault);
-  pictures = subst (λ (d : HeldDatagrams). Pictures d s.view) (sym c.in-Err.ensures.unchanged.0) p;
+  pictures = subst (λ (d : HeldDatagrams). DatagramsStand d s.view) (sym c.in-Err.ensures.unchanged.0) p;
   kept = kept;
 }

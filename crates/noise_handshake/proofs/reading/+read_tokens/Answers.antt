@@ -4,8 +4,8 @@ use Rattle.noise_names.specs.declared.token.Token.{Token}
 use Rattle.noise_state.specs.Standing.{StateStands, keyed}
 use Rattle.noise_state.specs.History.{cipher_key}
 use Rattle.noise_handshake.specs.declared.layout.PlacedToken.{PlacedToken}
-use Rattle.noise_handshake.specs.Line.{token_piece, after_token, after_front}
-use Rattle.noise_handshake.specs.View.{Reader, Leads, cause_of}
+use Rattle.noise_handshake.specs.Message.{token_bytes, after_token, after_tokens}
+use Rattle.noise_handshake.specs.View.{Reader, BeginsAs, cause_of}
 use Rattle.noise_handshake.specs.inner.Layout.{tokens_of, ArePlaced}
 use Rattle.noise_handshake.specs.inner.Listening.{Fails}
 use Rattle.noise_handshake.proofs.Layouts.{first-placed}
@@ -126,21 +126,21 @@ returns-in-Ok-read_tokens-clause-read g t c r place s within are =
     subst (λ (b : Bool). ArePlaced psks b (place + first.width) c.in-Some.later.now) (sym c.in-Ok.ensures.key) u.2 in
     let rest : List ℕ = drop place m in
     let d = c.in-Ok.ensures.read r s in
-    let spelled : rest ≡ token_piece r token d.0 ++ drop n rest = subst (λ (z : List ℕ). z ≡ token_piece r token d.0 ++ drop n z) here d.2 in
+    let spelled : rest ≡ token_bytes r token d.0 ++ drop n rest = subst (λ (z : List ℕ). z ≡ token_bytes r token d.0 ++ drop n z) here d.2 in
     let goes : drop (place + first.width) m ≡ drop n rest = ap (λ (k : ℕ). drop (place + k) m) (sym wide) ∙ sym (drop-drop n place m) in
     let more : ℕ = c.in-Ok-read_tokens.more in
     let known2 = c.read_token.new.known in
     let others : List (List ℕ) = c.secrets_after-others.result.now in
     let i = c.in-Ok-read_tokens.ensures.read (after_token psks r token d.0) (place + first.width) d.3 next placed in
-    let leads : Leads v known2 others (after_token psks r token d.0) later i.0 (drop (place + first.width) m) (drop more (drop (place + first.width) m)) =
-    subst (λ (z : List ℕ). Leads v known2 others (after_token psks r token d.0) later i.0 (drop (place + first.width) m) z)
+    let leads : BeginsAs v known2 others (after_token psks r token d.0) later i.0 (drop (place + first.width) m) (drop more (drop (place + first.width) m)) =
+    subst (λ (z : List ℕ). BeginsAs v known2 others (after_token psks r token d.0) later i.0 (drop (place + first.width) m) z)
     (sym (drop-drop more (place + first.width) m)) i.1 in
     let whole = led v c.args.known.now known2 c.args.secrets.now others r (tokens_of c.args.placed.now) later token d.0 rest (drop (place + first.width) m) n
     split d.1 spelled d.4 c.secrets_after-others.ensures goes i.0 more leads in (
       d.0 ∷ i.0,
-      subst (λ (z : List ℕ). Leads v c.args.known.now c.args.secrets.now r (tokens_of c.args.placed.now) (d.0 ∷ i.0) rest z)
+      subst (λ (z : List ℕ). BeginsAs v c.args.known.now c.args.secrets.now r (tokens_of c.args.placed.now) (d.0 ∷ i.0) rest z)
           (drop-drop (n + more) place m) whole,
-      subst (λ (us : List Token). StateStands c.read_tokens.new.state (after_front psks r us (d.0 ∷ i.0))) (sym split) i.2,
+      subst (λ (us : List Token). StateStands c.read_tokens.new.state (after_tokens psks r us (d.0 ∷ i.0))) (sym split) i.2,
       learned-on v c.args.known.now known2 c.args.secrets.now others r (tokens_of c.args.placed.now) later token d.0 rest (drop (place + first.width) m) n
           split d.1 spelled d.4 c.secrets_after-others.ensures goes i.0 c.read_tokens.new.known i.3,
     )
@@ -166,7 +166,7 @@ returns-in-Err-read_tokens-clause-read g t c r place s within are =
     subst (λ (b : Bool). ArePlaced psks b (place + first.width) c.in-Some.later.now) (sym c.in-Ok.ensures.key) u.2 in
     let rest : List ℕ = drop place m in
     let d = c.in-Ok.ensures.read r s in
-    let spelled : rest ≡ token_piece r token d.0 ++ drop n rest = subst (λ (z : List ℕ). z ≡ token_piece r token d.0 ++ drop n z) here d.2 in
+    let spelled : rest ≡ token_bytes r token d.0 ++ drop n rest = subst (λ (z : List ℕ). z ≡ token_bytes r token d.0 ++ drop n z) here d.2 in
     let goes : drop (place + first.width) m ≡ drop n rest = ap (λ (k : ℕ). drop (place + k) m) (sym wide) ∙ sym (drop-drop n place m) in
     let i = c.in-Err-read_tokens.ensures.read (after_token psks r token d.0) (place + first.width) d.3 next placed in
     stopped-later v c.args.known.now c.read_token.new.known c.args.secrets.now c.secrets_after-others.result.now r
@@ -182,7 +182,7 @@ returns-in_default-clause-read g t c r place s within are =
     (ap tokens_of (no-items c.args.placed.now c.in_default.ensures.cases)) s in
     let none : place ≡ place + 0 = omega arith in (
       d.0,
-      subst (λ (k : ℕ). Leads v c.args.known.now c.args.secrets.now r (tokens_of c.args.placed.now) d.0 (drop place m) (drop k m)) none d.1,
+      subst (λ (k : ℕ). BeginsAs v c.args.known.now c.args.secrets.now r (tokens_of c.args.placed.now) d.0 (drop place m) (drop k m)) none d.1,
       d.2,
       d.3,
     )

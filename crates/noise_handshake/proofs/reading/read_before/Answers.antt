@@ -5,7 +5,7 @@ use Rattle.noise_names.specs.Tokens.{is_psk}
 use Rattle.noise_state.specs.Standing.{StateStands, keyed, nonce_now}
 use Rattle.noise_state.specs.declared.symmetric.SymmetricState.{SymmetricState}
 use Rattle.noise_handshake.specs.declared.remote.Remote.{Remote}
-use Rattle.noise_handshake.specs.View.{Reader, Leads, learned}
+use Rattle.noise_handshake.specs.View.{Reader, BeginsAs, learned}
 use Rattle.noise_handshake.specs.inner.Known.{are_known}
 use Rattle.noise_handshake.specs.inner.Layout.{tokens_of, ArePlaced}
 use Rattle.noise_handshake.specs.inner.Listening.{StopsKnowing}
@@ -65,7 +65,7 @@ returns-in-Ok g c r s =
     record {
       carried = i.0;
       rest = drop (0 + c.in-Ok.field-0) c.args.message.now;
-      leads = subst (λ (us : List Token). Leads v c.args.known.now c.args.secrets.now r us i.0 c.args.message.now
+      leads = subst (λ (us : List Token). BeginsAs v c.args.known.now c.args.secrets.now r us i.0 c.args.message.now
           (drop (0 + c.in-Ok.field-0) c.args.message.now)) e i.1;
       remote_is = ap (λ (z : Remote). z.s) i.3 ∙ ap (λ (us : List Token). (learned c.args.known.now us i.0).s) e;
     }

@@ -5,10 +5,10 @@ use Rattle.std.proofs.lemmas.Slice.{take-put_mid_below}
 use borrow.Rule.Slice.PartMut.{put_mid}
 use Rattle.noise_state.specs.Standing.{StateStands, keyed}
 use Rattle.noise_state.specs.Standing.{nonce_now-is}
-use Rattle.noise_state.specs.History.{History, Ciphertext, and_then, piece, nonce}
-use Rattle.noise_handshake.specs.Line.{after_front}
+use Rattle.noise_state.specs.History.{History, Ciphertext, and_then, ciphertext, nonce}
+use Rattle.noise_handshake.specs.Message.{after_tokens}
 use Rattle.noise_names.specs.declared.token.Token.{Token}
-use Rattle.noise_handshake.specs.View.{Reader, Leads}
+use Rattle.noise_handshake.specs.View.{Reader, BeginsAs}
 use Rattle.noise_handshake.specs.inner.Listening.{StopsKnowing}
 use Rattle.noise_handshake.specs.inner.Layout.{tokens_of}
 use Rattle.noise_handshake.specs.declared.faults.Cause.TheVariants.{Short, Tag}
@@ -42,14 +42,14 @@ returns-in-Ok-decrypt_and_hash-clause-read g c r s =
     let payload : List ℕ = slice_range (put_mid n (length m - n) m new) n (n + len) in
     let start = c.in-Ok.ensures.read r 0 s (omega arith) c.requires.placed in
     let none : 0 + n ≡ n = omega arith in
-    let i1 : Leads v c.args.known.now c.args.secrets.now r (tokens_of c.args.placed.now) start.0 m (drop n m) =
-    subst (λ (k : ℕ). Leads v c.args.known.now c.args.secrets.now r (tokens_of c.args.placed.now) start.0 m (drop k m)) none start.1 in
-    let after : History = after_front c.args.means.now.psks r (tokens_of c.args.placed.now) start.0 in
+    let i1 : BeginsAs v c.args.known.now c.args.secrets.now r (tokens_of c.args.placed.now) start.0 m (drop n m) =
+    subst (λ (k : ℕ). BeginsAs v c.args.known.now c.args.secrets.now r (tokens_of c.args.placed.now) start.0 m (drop k m)) none start.1 in
+    let after : History = after_tokens c.args.means.now.psks r (tokens_of c.args.placed.now) start.0 in
     let d = c.in-Ok-decrypt_and_hash.ensures.ok after start.2 in
     let goes : take (length m - n) (drop n m) ≡ drop n m = take_all (length m - n) (drop n m) (omega (arith, length-drop n m)) in
     let q : payload ≡ take len new = written-at m new _ n len (omega (arith, c.in-Ok.ensures.within))
     (omega (arith, sealed_len-tag (keyed c.read_tokens.new.state) len, c.in-Ok-decrypt_and_hash.ensures.text)) in
-    let e : take (length m - n) (drop n m) ≡ piece after payload = d.0 ∙ ap (piece after) (sym q) in (
+    let e : take (length m - n) (drop n m) ≡ ciphertext after payload = d.0 ∙ ap (ciphertext after) (sym q) in (
       start.0,
       reads-whole v c.args.known.now c.args.secrets.now r (tokens_of c.args.placed.now) m start.0 (drop n m) payload i1 (sym goes ∙ e),
       subst (λ (k : List ℕ). StateStands c.decrypt_and_hash.new.self (and_then after (Ciphertext k))) e d.1,
@@ -66,9 +66,9 @@ returns-in-Err-Short-clause-read g c r s =
     let n : ℕ = c.in-Ok.from in
     let start = c.in-Ok.ensures.read r 0 s (omega arith) c.requires.placed in
     let none : 0 + n ≡ n = omega arith in
-    let i1 : Leads v c.args.known.now c.args.secrets.now r (tokens_of c.args.placed.now) start.0 m (drop n m) =
-    subst (λ (k : ℕ). Leads v c.args.known.now c.args.secrets.now r (tokens_of c.args.placed.now) start.0 m (drop k m)) none start.1 in
-    let after : History = after_front c.args.means.now.psks r (tokens_of c.args.placed.now) start.0 in
+    let i1 : BeginsAs v c.args.known.now c.args.secrets.now r (tokens_of c.args.placed.now) start.0 m (drop n m) =
+    subst (λ (k : ℕ). BeginsAs v c.args.known.now c.args.secrets.now r (tokens_of c.args.placed.now) start.0 m (drop k m)) none start.1 in
+    let after : History = after_tokens c.args.means.now.psks r (tokens_of c.args.placed.now) start.0 in
     let nonces : nonce after < 2 ^ 64 - 1 = omega (arith, nonce_now-is c.read_tokens.new.state after start.2, c.read_tokens.ensures.nonce) in
     let fits : length (take (length m - n) (drop n m)) ≤ 65535 = omega (arith, length-drop n m, length-take (length m - n) (drop n m)) in
     let goes : take (length m - n) (drop n m) ≡ drop n m = take_all (length m - n) (drop n m) (omega (arith, length-drop n m)) in

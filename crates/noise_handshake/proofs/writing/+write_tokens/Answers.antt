@@ -3,7 +3,7 @@ use Rattle.std.proofs.Common.{◌≡◌, ap, ℕ, ◌+◌, ◌-◌, ◌≤◌, L
 use Rattle.std.specs.Prelude.{Bool}
 use Rattle.noise_names.specs.declared.token.Token.{Token}
 use Rattle.noise_state.specs.History.{History}
-use Rattle.noise_handshake.specs.Line.{after_token}
+use Rattle.noise_handshake.specs.Message.{after_token}
 use Rattle.noise_handshake.specs.Writing.{Writer}
 use Rattle.noise_handshake.specs.inner.Layout.{tokens_of}
 use Rattle.noise_handshake.proofs.Giving.{widths, given-on, front-on, after-on, lacks-on}

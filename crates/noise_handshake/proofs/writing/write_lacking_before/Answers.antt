@@ -5,8 +5,8 @@ use Rattle.noise_names.specs.declared.token.Token.{Token}
 use Rattle.noise_names.specs.Tokens.{is_psk}
 use Rattle.noise_keys.specs.declared.keys.Own.{Own}
 use Rattle.noise_handshake.specs.declared.remote.Remote.{Remote}
-use Rattle.noise_handshake.specs.Wanting.{LacksFor}
-use Rattle.noise_handshake.specs.Writing.{Writer, LacksAt}
+use Rattle.noise_handshake.specs.Wanting.{LacksAnswerFor}
+use Rattle.noise_handshake.specs.Writing.{Writer, LacksAnswerAt}
 use Rattle.noise_handshake.specs.inner.Known.{is_known}
 use Rattle.noise_handshake.specs.inner.Layout.{tokens_of}
 use Rattle.noise_handshake.specs.inner.Speaking.{has_own}
@@ -38,5 +38,5 @@ returns g c =
       own = g.K.Keys.public_of c.args.means.now.keys.now;
       agree = g.K.Keys.agreement c.args.means.now.keys.now;
     } in
-    subst (λ (us : List Token). MatchOption c.write_lacking.result ((j : ℕ) → LacksAt w c.args.known.now c.args.secrets.now us j → ⊥)
-    (λ want. LacksFor w c.args.known.now c.args.secrets.now us want.0 want.1)) (tokens-take c.args.placed.now c.args.k) c.write_lacking.ensures
+    subst (λ (us : List Token). MatchOption c.write_lacking.result ((j : ℕ) → LacksAnswerAt w c.args.known.now c.args.secrets.now us j → ⊥)
+    (λ want. LacksAnswerFor w c.args.known.now c.args.secrets.now us want.0 want.1)) (tokens-take c.args.placed.now c.args.k) c.write_lacking.ensures

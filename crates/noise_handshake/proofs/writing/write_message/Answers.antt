@@ -1,6 +1,6 @@
 use Rattle.noise_state.specs.Standing.{keyed}
 use Rattle.std.proofs.Common.{ℕ, ◌+◌, ◌-◌, ◌≤◌, List, ◌++◌, length, take, drop, ap, ◌∙◌, arith, length-take, length-drop}
-use Rattle.noise_handshake.specs.Line.{front, after_front}
+use Rattle.noise_handshake.specs.Message.{before_payload, after_tokens}
 use Rattle.noise_handshake.specs.inner.Layout.{tokens_of}
 use Rattle.noise_handshake.proofs.Giving.{widths-last}
 use Rattle.noise_handshake.proofs.Written.{joined, rest-after}
@@ -33,10 +33,10 @@ returns-clause-written g c r s =
     let fits : n ≤ length first = omega (arith, both) in
     let long : k ≤ length second = omega (arith, both, length-take (length first - n) (drop n first), length-drop n first) in
     let a = c.in-Ok.ensures.written r s in
-    let b = c.write_part.ensures.written (after_front c.args.means.now.psks r (tokens_of c.args.placed.now) a.0) a.3 in (
+    let b = c.write_part.ensures.written (after_tokens c.args.means.now.psks r (tokens_of c.args.placed.now) a.0) a.3 in (
       a.0,
       a.1,
       joined first second n k fits long (drop (length first - n) (drop n first))
-          ∙ ap (λ (z : List ℕ). z ++ take k second) a.2 ∙ ap (λ (z : List ℕ). front c.args.means.now.psks r (tokens_of c.args.placed.now) a.0 ++ z) b.0,
+          ∙ ap (λ (z : List ℕ). z ++ take k second) a.2 ∙ ap (λ (z : List ℕ). before_payload c.args.means.now.psks r (tokens_of c.args.placed.now) a.0 ++ z) b.0,
       b.1,
     )

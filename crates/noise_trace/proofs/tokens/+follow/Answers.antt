@@ -4,7 +4,7 @@ use Rattle.std.specs.Prelude.{Bool}
 use Rattle.noise_names.specs.declared.token.Token.{Token}
 use Rattle.noise_state.specs.History.{History}
 use Rattle.noise_handshake.specs.declared.remote.Remote.{Remote}
-use Rattle.noise_handshake.specs.Line.{token_piece, after_token, front}
+use Rattle.noise_handshake.specs.Message.{token_bytes, after_token, before_payload}
 use Rattle.noise_handshake.specs.View.{Reader, secrets_after}
 use Rattle.noise_trace.specs.inner.Carried.{known_next, Carries}
 use Rattle.noise_trace.proofs.Fronts.{some-same, parted, followed-on}
@@ -20,9 +20,9 @@ returns-clause-followed g t c r xs more s carries spelled =
     let token : Token = c.in-Some.token.now in
     let later : List Token = c.in-Some.later.now in
     let p = parted reads v known c.args.secrets.now r c.args.tokens.now token later xs more (drop from m) c.in-Some.ensures.cases.0 carries spelled in
-    let piece : List ℕ = token_piece r token p.first in
+    let piece : List ℕ = token_bytes r token p.first in
     let after : History = after_token v.psks r token p.first in
-    let tail : List ℕ = front v.psks after later p.others ++ more in
+    let tail : List ℕ = before_payload v.psks after later p.others ++ more in
     let d = c.follow_one.ensures.followed r p.first tail s p.fits p.spelled in
     let to : ℕ = c.in_ok-to.to in
     let learned : Remote = c.in_ok-to.learned in

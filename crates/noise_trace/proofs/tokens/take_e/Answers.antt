@@ -1,7 +1,7 @@
 use Rattle.std.proofs.Common.{◌≡◌, ℕ, List, length, sym, ap, subst, ◌∙◌}
 use Rattle.std.specs.Prelude.{Some}
 use Rattle.noise_state.specs.Standing.{StateStands}
-use Rattle.noise_handshake.specs.Line.{with_ephemeral}
+use Rattle.noise_handshake.specs.Message.{with_ephemeral}
 use Rattle.noise_trace.proofs.Keys.{front_is}
 use Rattle.noise_trace.proofs.tokens.take_e.Goals as goal
 

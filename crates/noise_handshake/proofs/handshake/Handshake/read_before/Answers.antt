@@ -8,7 +8,7 @@ use Rattle.noise_handshake.proofs.Knowing.{reading-known}
 use Rattle.noise_handshake.proofs.Layouts.{length-tokens_of, tokens-laid, places-laid}
 use Rattle.noise_handshake.proofs.Standing.{due, tokens-are, listening, listens, for-view}
 use Rattle.noise_handshake.proofs.Before.{before-of}
-use Rattle.noise_handshake.specs.inner.Listening.{LeadsBefore}
+use Rattle.noise_handshake.specs.inner.Listening.{BeginsBefore}
 use Rattle.noise_handshake.specs.View.{Stops}
 use Rattle.noise_handshake.specs.Wanting.{StopsFor}
 use Rattle.noise_handshake.specs.declared.faults.Cause.TheVariants.{Agreement}
@@ -170,7 +170,7 @@ returns g c v s =
     let here : ts ≡ tokens_now v = e ∙ tokens-are P A h v s0 in
     let l = listening P A h v s0 a.psks _ ts (listens P A h v s0 i.2.within none) i.0 d here in
     let q = for-view v a.role a.psks (A a.keys) _ a.remote ts l
-    (λ w z s us. MatchResult c.read_before.result (λ remote. LeadsBefore w z s v.history us c.args.message.now c.args.k remote)
+    (λ w z s us. MatchResult c.read_before.result (λ remote. BeginsBefore w z s v.history us c.args.message.now c.args.k remote)
     (λ stop. (stop.token < c.args.k) × Stops w z s v.history us c.args.message.now stop.token stop.cause × MatchOption stop.want
     ((j : ℕ) → Stops w z s v.history us c.args.message.now j Agreement → ⊥)
     (λ want. StopsFor w z s v.history us c.args.message.now want.0 want.1)))

@@ -4,7 +4,7 @@ use Rattle.noise_handshake.specs.declared.faults.Cause.TheVariants.{Agreement}
 use Rattle.noise_handshake.specs.declared.faults.ReadFault.{ReadFault}
 use Rattle.noise_keys.specs.declared.keys.Own.{Own}
 use Rattle.noise_handshake.specs.Held.{Held, ended_as}
-use Rattle.noise_handshake.specs.Party.{Stands, Declines, after_declined}
+use Rattle.noise_handshake.specs.Party.{Stands, DoesNotRead, after_not_read}
 use Rattle.noise_handshake.specs.View.{Refuses}
 use Rattle.noise_handshake.specs.Wanting.{WantsToRead}
 use Rattle.noise_handshake.proofs.Standing.{faulted, faulted-not, ends}
@@ -37,5 +37,5 @@ returns-in-None-clause-reads g c v s =
     let q = c.in-Err.ensures.reads v s in
     let none = subst (λ (o : Option (Own × List ℕ)). MatchOption o ((token : ℕ) → Refuses v c.args.message.now token Agreement → ⊥)
     (λ want. WantsToRead v c.args.message.now want.0 want.1)) c.in-None.is q.1 in
-    subst (λ (f : ReadFault). (Declines v c.args.message.now f × ((token : ℕ) → Refuses v c.args.message.now token Agreement → ⊥))
-    × Stands P A (ended_as h) (after_declined v f)) (sym c.fault.ensures) ((q.0, none), ends P A h v s0 true refl)
+    subst (λ (f : ReadFault). (DoesNotRead v c.args.message.now f × ((token : ℕ) → Refuses v c.args.message.now token Agreement → ⊥))
+    × Stands P A (ended_as h) (after_not_read v f)) (sym c.fault.ensures) ((q.0, none), ends P A h v s0 true refl)

@@ -7,8 +7,8 @@ use Rattle.noise_handshake.specs.inner.Known.{is_known}
 use Rattle.noise_handshake.proofs.Knowing.{writing-known}
 use Rattle.noise_handshake.proofs.Layouts.{length-tokens_of, tokens-laid}
 use Rattle.noise_handshake.proofs.Wrote.{for-view}
-use Rattle.noise_handshake.specs.Wanting.{LacksFor}
-use Rattle.noise_handshake.specs.Writing.{LacksAt}
+use Rattle.noise_handshake.specs.Wanting.{LacksAnswerFor}
+use Rattle.noise_handshake.specs.Writing.{LacksAnswerAt}
 use Rattle.std.specs.Prelude.{MatchOption}
 use Rattle.noise_handshake.proofs.Standing.{tokens-are}
 use Rattle.noise_handshake.proofs.Lacked.{due-within, due-turn, due-speaking}
@@ -166,6 +166,6 @@ returns g c v s =
     let l = due-speaking h P A v s0 i.2.within due a.psks _ ts i.0 d here in (
       l.speaks,
       for-view v a.role a.psks (P a.keys) (A a.keys) _ a.remote ts l
-          (λ w z s us. MatchOption c.write_lacking_before.result ((j : ℕ) → LacksAt w z s (take c.args.k us) j → ⊥)
-          (λ want. LacksFor w z s (take c.args.k us) want.0 want.1)) c.write_lacking_before.ensures,
+          (λ w z s us. MatchOption c.write_lacking_before.result ((j : ℕ) → LacksAnswerAt w z s (take c.args.k us) j → ⊥)
+          (λ want. LacksAnswerFor w z s (take c.args.k us) want.0 want.1)) c.write_lacking_before.ensures,
     )

@@ -10,7 +10,7 @@ use Rattle.noise_handshake.specs.Asking.{LeavesUnread, after_asked}
 use Rattle.noise_handshake.specs.declared.late_faults.Want.TheVariants.{Secret}
 use Rattle.noise_handshake.specs.Held.{Held, Advances, read_fault}
 use Rattle.noise_handshake.specs.Late.{with_later, WantsSecretToRead}
-use Rattle.noise_handshake.specs.Party.{Stands, Declines, after_declined}
+use Rattle.noise_handshake.specs.Party.{Stands, DoesNotRead, after_not_read}
 use Rattle.noise_handshake.specs.View.{Refuses, tokens_at}
 use Rattle.noise_handshake.specs.Wanting.{WantsToRead}
 use Rattle.noise_handshake.specs.inner.Late.{IsPskAfter, without_last}
@@ -232,8 +232,8 @@ returns-in-None-want-clause-reads g c v later s =
     let none = subst (λ (o : Option (Own × List ℕ)). MatchOption o
     ((token : ℕ) → Refuses (holding v a.filled.secrets) c.args.message.now token Agreement → ⊥)
     (λ want. WantsToRead (holding v a.filled.secrets) c.args.message.now want.0 want.1)) c.in-None-want.is q.2 in
-    subst (λ (f : ReadFault). (Declines v c.args.message.now f × ((token : ℕ) → Refuses v c.args.message.now token Agreement → ⊥))
-    × Stands P A (with_later (without_last a.lacking c.end.new.self) later) (after_declined v f)) (sym c.fault.ensures)
+    subst (λ (f : ReadFault). (DoesNotRead v c.args.message.now f × ((token : ℕ) → Refuses v c.args.message.now token Agreement → ⊥))
+    × Stands P A (with_later (without_last a.lacking c.end.new.self) later) (after_not_read v f)) (sym c.fault.ensures)
     ((before-refused P A a.filled a.lacking c.self.invariant v later s0 c.args.message.now c.in-Some-psk_after.k at c.in-Err.stop.token c.in-Err.stop.cause q.0 q.1, before-declined P A a.filled a.lacking c.self.invariant v later s0 c.args.message.now c.in-Some-psk_after.k at c.in-Err.stop.token c.in-Err.stop.cause q.0 q.1 none), stands-ended P A a.filled a.lacking c.self.invariant v later s0 c.args.message.now c.end.new.self c.end.ensures)
 
 pub returns-in-None-want-clause-asked : goal.returns-in-None-want-clause-asked

@@ -4,7 +4,7 @@ use Rattle.noise_names.specs.Tokens.{is_psk}
 use Rattle.noise_handshake.specs.Held.{Held, Advances, IsAgreement, after_write_fault, is_turn, write_fault}
 use Rattle.noise_handshake.specs.Late.{with_later}
 use Rattle.noise_handshake.specs.Party.{Stands}
-use Rattle.noise_handshake.specs.Writing.{Lacks}
+use Rattle.noise_handshake.specs.Writing.{LacksAnswer}
 use Rattle.noise_handshake.specs.View.{tokens_at, tokens_now}
 use Rattle.noise_handshake.specs.inner.Late.{without_last}
 use Rattle.noise_handshake.proofs.LateViews.{holding, stands-filled, length-given, agrees, few-now, late-advances, lacking-left, after-written, writes-held}
@@ -130,7 +130,7 @@ returns-in-Err-clause-writes g c v later s =
     let s0 = subst (λ (z : Held g.row.K.Denot). Stands P A (with_later z later) v) (sym c.self.view_is) s in
     let st = stands-filled P A a.filled a.lacking c.self.invariant v later s0 in
     let q = c.in-Err.ensures.writes (holding v a.filled.secrets) st in
-    let lacks = subst (λ (o : Option Want). MatchOption o ((token : ℕ) → Lacks v token → ⊥) (λ want. WantsLate v (length c.args.self.now.secrets) want))
+    let lacks = subst (λ (o : Option Want). MatchOption o ((token : ℕ) → LacksAnswer v token → ⊥) (λ want. WantsLate v (length c.args.self.now.secrets) want))
     c.in_default-wants_to_write.is (c.wants_to_write.ensures.wants v later s) in
     let clear : IsAgreement c.in-Err.fault → ⊥ = written-no-agreement (holding v a.filled.secrets) len-is c.in-Err.fault q.0
     (λ token l. lacks token (lacks-held v a.filled.secrets n (agrees P A a.filled a.lacking c.self.invariant v later s0) token

@@ -7,7 +7,7 @@ use Rattle.noise_state.specs.Cipher.{key_in, nonce_in}
 use Rattle.noise_session.specs.Transport.{split_key, packet, last_nonce}
 use Rattle.noise_session.specs.contracts.datagram_receiver.DatagramReceiver.{the_view}
 use Rattle.noise_session.specs.Datagrams.{nonce_named, datagram_fault}
-use Rattle.noise_session.specs.DatagramHalves.{HeldDatagramReceiver, ReceiverPictures}
+use Rattle.noise_session.specs.DatagramHalves.{HeldDatagramReceiver, DatagramReceiverStands}
 use Rattle.noise_session.specs.Datagrams.Opens.{opened, refused, forged}
 use Rattle.noise_session.proofs.Unopened.{not_ok}
 use Rattle.noise_session.proofs.DatagramViews.{after-nonce, rest-after-nonce, piece-packet, young-here, half-opened}
@@ -28,7 +28,7 @@ returns-in-Ok-clause-beyond c =
 pub returns-in-Ok-clause-opens : goal.returns-in-Ok-clause-opens
 returns-in-Ok-clause-opens c v h =
     let d = c.args.datagram.now in
-    let here = subst (λ (h : HeldDatagramReceiver). ReceiverPictures h v) (sym c.self.view_is) h in
+    let here = subst (λ (h : HeldDatagramReceiver). DatagramReceiverStands h v) (sym c.self.view_is) h in
     let none : datagram_fault v d ≡ None = cc (c.in_default.ensures.told v h) in
     let named : c.nonce_of-nonce.result ≡ nonce_named d = c.nonce_of-nonce.ensures in
     let keyed : key_in c.set_nonce.new.self ≡ Some (split_key v.history (other v.role)) = c.set_nonce.ensures.key ∙ here.key in
@@ -52,7 +52,7 @@ returns-in-Ok-clause-opens c v h =
 pub returns-in-Err-clause-opens : goal.returns-in-Err-clause-opens
 returns-in-Err-clause-opens c v h =
     let d = c.args.datagram.now in
-    let here = subst (λ (h : HeldDatagramReceiver). ReceiverPictures h v) (sym c.self.view_is) h in
+    let here = subst (λ (h : HeldDatagramReceiver). DatagramReceiverStands h v) (sym c.self.view_is) h in
     let none : datagram_fault v d ≡ None = cc (c.in_default.ensures.told v h) in
     let named : c.nonce_of-nonce.result ≡ nonce_named d = c.nonce_of-nonce.ensures in
     let keyed : key_in c.set_nonce.new.self ≡ Some (split_key v.history (other v.role)) = c.set_nonce.ensures.key ∙ here.key in

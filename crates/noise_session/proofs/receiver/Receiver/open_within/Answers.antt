@@ -1,14 +1,14 @@
 use Rattle.std.proofs.Common.{◌≡◌, [], length, sym, subst}
 use Rattle.noise_state.specs.declared.cipher.CipherFault.{CipherFault}
 use Rattle.noise_state.specs.Cipher.{DecryptRefused, keyed_in, nonce_in}
-use Rattle.noise_state.specs.History.{piece_under}
+use Rattle.noise_state.specs.History.{ciphertext_under}
 use Rattle.noise_session.specs.Halves.{HeldHalf}
 use Rattle.noise_session.proofs.Unopened.{due_piece, not_ok}
 use Rattle.noise_session.proofs.receiver.Receiver.open_within.Goals as goal
 
 pub returns-in-Err-Short-clause-opens : goal.returns-in-Err-Short-clause-opens
 returns-in-Err-Short-clause-opens c v s listens payload is =
-    let piece = subst (λ (t : HeldHalf). c.args.message.now ≡ piece_under t.key t.nonce [] payload) (sym c.self.view_is)
+    let piece = subst (λ (t : HeldHalf). c.args.message.now ≡ ciphertext_under t.key t.nonce [] payload) (sym c.self.view_is)
     (due_piece c.args.self.now v c.args.message.now payload s is) in
     let refused = subst (λ (f : CipherFault). DecryptRefused (keyed_in c.self.inside.cipher) (nonce_in c.self.inside.cipher)
     (length c.args.message.now) f)
@@ -17,7 +17,7 @@ returns-in-Err-Short-clause-opens c v s listens payload is =
 
 pub returns-in-Err-Tag-clause-opens : goal.returns-in-Err-Tag-clause-opens
 returns-in-Err-Tag-clause-opens c v s listens payload is =
-    let piece = subst (λ (t : HeldHalf). c.args.message.now ≡ piece_under t.key t.nonce [] payload) (sym c.self.view_is)
+    let piece = subst (λ (t : HeldHalf). c.args.message.now ≡ ciphertext_under t.key t.nonce [] payload) (sym c.self.view_is)
     (due_piece c.args.self.now v c.args.message.now payload s is) in
     let refused = subst (λ (f : CipherFault). DecryptRefused (keyed_in c.self.inside.cipher) (nonce_in c.self.inside.cipher)
     (length c.args.message.now) f)
@@ -26,7 +26,7 @@ returns-in-Err-Tag-clause-opens c v s listens payload is =
 
 pub returns-in-Err-Short-clause-opened : goal.returns-in-Err-Short-clause-opened
 returns-in-Err-Short-clause-opened c listens payload is =
-    let piece = subst (λ (t : HeldHalf). c.args.message.now ≡ piece_under t.key t.nonce [] payload) (sym c.self.view_is) is in
+    let piece = subst (λ (t : HeldHalf). c.args.message.now ≡ ciphertext_under t.key t.nonce [] payload) (sym c.self.view_is) is in
     let refused = subst (λ (f : CipherFault). DecryptRefused (keyed_in c.self.inside.cipher) (nonce_in c.self.inside.cipher)
     (length c.args.message.now) f)
     c.in-Err-Short.field-0-is c.in-Err-Short.ensures.refused in
@@ -34,7 +34,7 @@ returns-in-Err-Short-clause-opened c listens payload is =
 
 pub returns-in-Err-Tag-clause-opened : goal.returns-in-Err-Tag-clause-opened
 returns-in-Err-Tag-clause-opened c listens payload is =
-    let piece = subst (λ (t : HeldHalf). c.args.message.now ≡ piece_under t.key t.nonce [] payload) (sym c.self.view_is) is in
+    let piece = subst (λ (t : HeldHalf). c.args.message.now ≡ ciphertext_under t.key t.nonce [] payload) (sym c.self.view_is) is in
     let refused = subst (λ (f : CipherFault). DecryptRefused (keyed_in c.self.inside.cipher) (nonce_in c.self.inside.cipher)
     (length c.args.message.now) f)
     c.in-Err-Tag.field-0-is c.in-Err-Tag.ensures.refused in

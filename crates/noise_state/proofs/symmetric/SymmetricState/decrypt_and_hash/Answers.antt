@@ -1,7 +1,7 @@
 use Rattle.std.proofs.Common.{sym, ◌∙◌}
 use Rattle.noise_state.specs.History.{cipher_key, nonce, hash}
 use Rattle.noise_state.specs.Standing.{keyed-is}
-use Rattle.noise_state.proofs.Pieces.{tagged}
+use Rattle.noise_state.proofs.Ciphertexts.{tagged}
 use Rattle.noise_state.proofs.Standing.{has_nonce}
 use Rattle.noise_state.proofs.symmetric.SymmetricState.decrypt_and_hash.Goals as goal
 

@@ -3,11 +3,11 @@ use Rattle.std.proofs.lemmas.List.{drop_at}
 use Rattle.std.specs.Prelude.{Bool, not, Some}
 use Rattle.noise_names.specs.declared.token.Token.{Token}
 use Rattle.noise_names.specs.Plan.{has_psk}
-use Rattle.noise_state.specs.History.{History, Ciphertext, and_then, piece}
+use Rattle.noise_state.specs.History.{History, Ciphertext, and_then, ciphertext}
 use Rattle.noise_state.specs.Standing.{StateStands}
 use Rattle.noise_handshake.specs.declared.remote.Remote.{Remote}
 use Rattle.noise_handshake.specs.Held.{is_turn}
-use Rattle.noise_handshake.specs.Line.{front, after_front}
+use Rattle.noise_handshake.specs.Message.{before_payload, after_tokens}
 use Rattle.noise_handshake.specs.View.{reader, tokens_now}
 use Rattle.noise_trace.specs.Values.{values_of}
 use Rattle.noise_trace.specs.inner.Carried.{known_through, Carries}
@@ -22,15 +22,15 @@ returns-clause-whole g c v xs payload sb ag carries e =
     let psks : Bool = has_psk v.pattern in
     let m : List ℕ = c.args.message.now in
     let reads : Bool = not (is_turn v.role v.passed) in
-    let first : List ℕ = front psks v.history ts xs in
-    let after : History = after_front psks v.history ts xs in
-    let last : List ℕ = piece after payload in
+    let first : List ℕ = before_payload psks v.history ts xs in
+    let after : History = after_tokens psks v.history ts xs in
+    let last : List ℕ = ciphertext after payload in
     let knows : Remote = known_through reads v.remote ts xs in
     let n : ℕ = c.len.result in
     let all : take n ts ≡ ts = take_all n ts (omega (arith, c.len.ensures.value, ap length sb.tokens)) in
-    let f0 = c.front-steps.ensures.front v xs last sb ag
+    let f0 = c.front-steps.ensures.before_payload v xs last sb ag
     (subst (λ (us : List Token). Carries reads (reader v) v.remote v.secrets us xs) (sym all) carries)
-    (subst (λ (us : List Token). m ≡ front psks v.history us xs ++ piece (after_front psks v.history ts xs) payload) (sym all) e) in
+    (subst (λ (us : List Token). m ≡ before_payload psks v.history us xs ++ ciphertext (after_tokens psks v.history ts xs) payload) (sym all) e) in
     let f : IsFront c.front-steps.result psks v.history reads v.remote ts xs =
     subst (λ (us : List Token). IsFront c.front-steps.result psks v.history reads v.remote us xs) all f0 in
     let same : ◌≡◌ {A = ℕ × Remote} (c.in-Some.from, c.in-Some.remote) (length first, knows) =
@@ -54,11 +54,11 @@ returns-in_default-clause-whole g c v xs payload sb ag carries e =
     let ts : List Token = tokens_now v in
     let psks : Bool = has_psk v.pattern in
     let m : List ℕ = c.args.message.now in
-    let last : List ℕ = piece (after_front psks v.history ts xs) payload in
+    let last : List ℕ = ciphertext (after_tokens psks v.history ts xs) payload in
     let n : ℕ = c.len.result in
     let all : take n ts ≡ ts = take_all n ts (omega (arith, c.len.ensures.value, ap length sb.tokens)) in
-    let f = c.front-steps.ensures.front v xs last sb ag
+    let f = c.front-steps.ensures.before_payload v xs last sb ag
     (subst (λ (us : List Token). Carries (not (is_turn v.role v.passed)) (reader v) v.remote v.secrets us xs) (sym all) carries)
-    (subst (λ (us : List Token). m ≡ front psks v.history us xs ++ piece (after_front psks v.history ts xs) payload) (sym all) e) in
+    (subst (λ (us : List Token). m ≡ before_payload psks v.history us xs ++ ciphertext (after_tokens psks v.history ts xs) payload) (sym all) e) in
     let told = f.end in
     let none = c.in_default.is in absurd (cc)

@@ -7,7 +7,7 @@ use Rattle.noise_state.specs.declared.symmetric.SymmetricState.{SymmetricState}
 use Rattle.noise_state.specs.Standing.{StateStands, nonce_now}
 use Rattle.noise_handshake.specs.declared.remote.Remote.{Remote}
 use Rattle.noise_handshake.specs.Held.{is_turn}
-use Rattle.noise_handshake.specs.Line.{after_line}
+use Rattle.noise_handshake.specs.Message.{after_payload}
 use Rattle.noise_handshake.specs.View.{tokens_at, tokens_now}
 use Rattle.noise_trace.specs.Following.{Followed, Follows}
 use Rattle.noise_trace.specs.inner.Carried.{known_through}
@@ -84,7 +84,7 @@ returns g c v xs payload f0 more carries spelled =
           secrets = c.next-next.ensures.secrets
               ∙ ap (λ (us : List Token). drop (count_by is_psk us) c.self.inside.before.secrets.items) f.before.tokens
               ∙ ap (drop (count_by is_psk ts)) f.before.secrets;
-          history = subst (λ (z : SymmetricState). StateStands z (after_line (has_psk v.pattern) v.history ts xs payload)) (sym left) w.stands;
+          history = subst (λ (z : SymmetricState). StateStands z (after_payload (has_psk v.pattern) v.history ts xs payload)) (sym left) w.stands;
         };
       },
     )

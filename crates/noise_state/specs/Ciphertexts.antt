@@ -1,4 +1,4 @@
--- How long a piece and a hash are, and that no two texts have one piece.
+-- How long a ciphertext and a hash are, and that no two texts have one ciphertext.
 use Rattle.std.specs.Prelude.{◌≡◌, ℕ, ◌-◌, ◌≤◌, List, [], ◌∷◌, ◌++◌, length, replicate, Bool, true, false, Option, Some, None, is_some, nat_le}
 use Rattle.std.specs.Prelude.{if◌then◌else◌, refl}
 use Rattle.std.proofs.Common.{arith, length-append}
@@ -11,23 +11,23 @@ use Rattle.noise_aead.specs.Sealed.{length-sealed, sealed-same}
 use Rattle.noise_kdf.specs.Hkdf.{second_output}
 use Rattle.noise_state.specs.Cipher.{sealed_len}
 use Rattle.noise_state.specs.History.{History, Entry, MixHash, Ciphertext, MixKey, MixKeyAndHash, start_value, chaining_key_of, hash_of, cipher_key, nonce, hash}
-use Rattle.noise_state.specs.History.{piece_under, piece}
+use Rattle.noise_state.specs.History.{ciphertext_under, ciphertext}
 
-pub length-piece_under : (k : Option (List ℕ)) (n : ℕ) (ad x : List ℕ) → length (piece_under k n ad x) ≡ sealed_len (is_some k) (length x)
-length-piece_under None n ad x = refl
-length-piece_under (Some key) n ad x = length-sealed key (nonce_of n) ad x
+pub length-ciphertext_under : (k : Option (List ℕ)) (n : ℕ) (ad x : List ℕ) → length (ciphertext_under k n ad x) ≡ sealed_len (is_some k) (length x)
+length-ciphertext_under None n ad x = refl
+length-ciphertext_under (Some key) n ad x = length-sealed key (nonce_of n) ad x
 
-pub piece_under-same : (k : Option (List ℕ)) (n : ℕ) (ad x y : List ℕ) → piece_under k n ad x ≡ piece_under k n ad y → x ≡ y
-piece_under-same None n ad x y e = e
-piece_under-same (Some key) n ad x y e = sealed-same key (nonce_of n) ad x y e
+pub ciphertext_under-same : (k : Option (List ℕ)) (n : ℕ) (ad x y : List ℕ) → ciphertext_under k n ad x ≡ ciphertext_under k n ad y → x ≡ y
+ciphertext_under-same None n ad x y e = e
+ciphertext_under-same (Some key) n ad x y e = sealed-same key (nonce_of n) ad x y e
 
--- with a key a piece has a tag of 16 bytes
-pub length-piece : (r : History) (x : List ℕ) → length (piece r x) ≡ sealed_len (is_some (cipher_key r)) (length x)
-length-piece r x = length-piece_under (cipher_key r) (nonce r) (hash r) x
+-- with a key a ciphertext has a tag of 16 bytes
+pub length-ciphertext : (r : History) (x : List ℕ) → length (ciphertext r x) ≡ sealed_len (is_some (cipher_key r)) (length x)
+length-ciphertext r x = length-ciphertext_under (cipher_key r) (nonce r) (hash r) x
 
--- no two texts travel as one piece
-pub piece-same : (r : History) (x y : List ℕ) → piece r x ≡ piece r y → x ≡ y
-piece-same r x y e = piece_under-same (cipher_key r) (nonce r) (hash r) x y e
+-- no two texts have one ciphertext
+pub ciphertext-same : (r : History) (x y : List ℕ) → ciphertext r x ≡ ciphertext r y → x ≡ y
+ciphertext-same r x y e = ciphertext_under-same (cipher_key r) (nonce r) (hash r) x y e
 
 padded : (short : Bool) (name : List ℕ) → nat_le (length name) 32 ≡ short → length (if short then name ++ replicate (32 - length name) 0 else sha256 name) ≡ 32
 padded true name e =
