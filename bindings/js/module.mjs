@@ -52,11 +52,14 @@ const NAMES = {
 /** The codes by name, as `code.TAG`. */
 export const code = Object.freeze(Object.fromEntries([['OK', 0], ...Object.entries(NAMES).map(([n, [name]]) => [name, Number(n)])]));
 
-/** What a refused call throws: `code` is the number of include/noise.h, `name` its name there, `token` where a handshake message was refused. */
+/**
+ * What a refused call throws: `code` is the number of include/noise.h, `name` its name there, `token` where a handshake message was refused, `cause`
+ * the error of a connection or a key below, where there was one.
+ */
 export class NoiseError extends Error {
-  constructor(number, token) {
+  constructor(number, { token, cause } = {}) {
     const [name, text] = NAMES[number] ?? ['UNKNOWN', `code ${number}`];
-    super(text);
+    super(text, cause === undefined ? undefined : { cause });
     this.code = number;
     this.name = `NOISE_${name}`;
     this.token = token;
@@ -65,7 +68,7 @@ export class NoiseError extends Error {
 
 /** Throws unless the code is OK. */
 export function must(number, token) {
-  if (number !== 0) throw new NoiseError(number, token);
+  if (number !== 0) throw new NoiseError(number, { token });
 }
 
 const SCRATCH = { name: 512, prologue: 65536, payload: 65536, message: 65552, told: 56, setup: 422, answer: 32, key: 33, number: 16 };
