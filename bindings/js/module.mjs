@@ -46,7 +46,7 @@ const NAMES = {
     + 'node --experimental-wasm-memory64 where Node lacks it, or the native library (docs/C.md)'],
   '-4': ['NOT_LOADED', 'await load() first'],
   '-5': ['KEY', "X25519 fails for the other party's public key, or gives all zeros: close"],
-  '-6': ['CLOSED', 'the other party closed the connection, or it broke, in the middle of a frame or of the handshake'],
+  '-6': ['CLOSED', 'the connection ended in the middle of a frame or of the handshake, or was never made: cause is its error, if it had one'],
   '-7': ['REFUSED', "judge didn't return true for the other party's static key, and the connection was closed"],
   '-8': ['UNAUTHENTICATED', 'nothing says who may be the other party: pass judge, remoteStatic, psks or pskFor, or acceptAnyKey: true'],
 };

@@ -120,6 +120,7 @@ export interface NoiseSocketOptions extends HandshakeOptions {
 export interface NodeStream extends AsyncIterable<Uint8Array> {
   pipe: unknown;
   readonly connecting?: boolean;
+  readonly destroyed?: boolean;
   readonly errored?: Error | null;
   on(event: 'error', listener: (error: Error) => void): unknown;
   write(bytes: Uint8Array, done: (error?: Error | null) => void): boolean;

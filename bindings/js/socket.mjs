@@ -67,7 +67,8 @@ function ofNode(stream) {
     read: () => chunks.next().catch((error) => { throw first ?? error; }),
     write: (bytes) => new Promise((resolve, reject) => { stream.write(bytes, (error) => { if (error) reject(first ?? error); else resolve(); }); }),
     close: async () => {
-      if (!stream.connecting) await new Promise((resolve) => { stream.end(resolve); });
+      // The end of one that was destroyed never calls back.
+      if (!stream.connecting && !stream.destroyed) await new Promise((resolve) => { stream.end(resolve); });
       stream.destroy();
     },
   };

@@ -182,6 +182,13 @@ test('channels', async (t) => {
     await assert.rejects(a.receive(), (error) => error.name === 'NOISE_CLOSED' && error.cause.code === 'ECONNRESET');
   });
 
+  await t.test('a socket that a timeout destroys ends the call of open', async () => {
+    const [here, there] = await overTcp();
+    here.setTimeout(50, () => here.destroy());
+    await assert.rejects(NoiseSocket.open(here, { pattern: 'NN', acceptAnyKey: true }), refused(code.CLOSED));
+    there.destroy();
+  });
+
   await t.test('only a Uint8Array is sent, and a refused payload changes nothing', async () => {
     const [near, far] = pair();
     const options = { pattern: 'NN', acceptAnyKey: true };
