@@ -20,5 +20,5 @@ mod laws;
 mod symmetric;
 
 pub use cipher::{CipherFault, CipherState};
-pub use laws::{length_of_hash, length_of_ciphertext, ciphertext_same};
+pub use laws::{ciphertext_same, length_of_ciphertext, length_of_hash};
 pub use symmetric::{StateParts, SymmetricState};

@@ -41,9 +41,9 @@ returns g c =
     let turns = in-turn p 0 lines c.requires.lines in
     let s : Starts = starts g.K.Keys.public_of g.K.Keys.agreement p text c.args.psks.now c.args.initiator c.args.responder in
     let left = c.in_ok-made.ensures.reports (end_of (begun_as p Initiator a) c.args.interval) (end_of (begun_as p Responder b) c.args.interval)
-        c.in_ok-duel.ensures.stands in
+    c.in_ok-duel.ensures.stands in
     let through : ComeThrough (material_of a b) p text c.args.interval lines left.last =
-        (c.lines_come_through.ensures.come (material_of a b) p text a b c.args.interval lines _ left.last have turns left.run).1 in
+    (c.lines_come_through.ensures.come (material_of a b) p text a b c.args.interval lines _ left.last have turns left.run).1 in
     let origin = c.ends_stand.ensures.stand p a b c.args.interval c.args.interval (say_events lines) _ left.last left.run in
     let first : EndView = left.last.initiator.view in
     let second : EndView = left.last.responder.view in
@@ -52,7 +52,7 @@ returns g c =
     let there : second.party ≡ counterpart first.party second.party.own second.party.agree = through.ends.parties.there in
     let told = hash-told first p r lines pattern through.count through.history in
     let told-there = hash-told second p r lines (ap (λ (v : View). v.pattern) there ∙ pattern) (ap (λ (v : View). v.passed) there ∙ through.count)
-        (ap (λ (v : View). v.history) there ∙ through.history) in
+    (ap (λ (v : View). v.history) there ∙ through.history) in
     let says = c.end_is_told.ensures _ first left.stands.initiator in
     let says-there = c.end_is_told.ensures _ second left.stands.responder in
     let come = c.in_ok-made.ensures.comes_through (material_of a b) p text a b c.args.interval have turns c.in_ok-duel.ensures.stands in
@@ -61,9 +61,11 @@ returns g c =
       initiator_frames = come.initiator_frames;
       responder_frames = come.responder_frames;
       payloads = come.entries;
-      taken = (λ role. subst (λ (notes : List (Role × Note)). untaken role notes ≡ 0) (sym come.entries) (none-untaken role 0 0 lines),
+      taken = (
+        λ role. subst (λ (notes : List (Role × Note)). untaken role notes ≡ 0) (sym come.entries) (none-untaken role 0 0 lines),
         says.held ∙ through.ends.held,
-        says-there.held ∙ through.ends.held_there);
+        says-there.held ∙ through.ends.held_there,
+      );
       ends = record { last = left.last; stands = left.stands; through = through };
       hash = (says.hash ∙ told, says-there.hash ∙ told-there);
       keys_there = come.keys_there;
