@@ -1,5 +1,6 @@
 // A handshake of one party.
 import { NoiseError, code, library, must } from './module.mjs';
+import { bytesOf, copyOf } from './bytes.mjs';
 import { KeyPair } from './keys.mjs';
 import { protocolName } from './patterns.mjs';
 import { Datagrams, Transport } from './transport.mjs';
@@ -14,10 +15,12 @@ function patternBytes(text) {
   return lastPattern.bytes;
 }
 
-function bytesOf(value, what, length) {
-  if (!(value instanceof Uint8Array)) throw new TypeError(`${what} has to be a Uint8Array`);
-  if (length !== undefined && value.length !== length) throw new TypeError(`${what} has to have ${length} bytes`);
-  return value;
+/** A key pair, or undefined where there is none. */
+function keyPairOf(pair, what) {
+  if (pair === undefined) return undefined;
+  if (typeof pair?.agree !== 'function') throw new TypeError(`${what} has to be a key pair, with publicKey and agree: a KeyPair, for example`);
+  bytesOf(pair.publicKey, `publicKey of ${what}`, 32);
+  return pair;
 }
 
 /** One party of a handshake, from its first message to its last. */
@@ -40,13 +43,16 @@ export class Handshake {
     bytesOf(prologue, 'prologue');
     if (prologue.length > 65535) throw new NoiseError(code.LENGTH);
     if (pskFor !== undefined && typeof pskFor !== 'function') throw new TypeError('pskFor has to be a function');
+    if (!Array.isArray(psks)) throw new TypeError('psks has to be an array of Uint8Array');
     if (pskFor && psks.length > 0) throw new TypeError('pass either psks or pskFor');
     if (psks.length > 9) throw new NoiseError(code.PSK_COUNT);
-    for (const psk of psks) bytesOf(psk, 'a psk', 32);
-    for (const key of [staticKey?.publicKey, ephemeralKey?.publicKey, remoteStatic, remoteEphemeral]) if (key) bytesOf(key, 'a public key', 32);
-    this.#options = { pattern: name, responder, prologue: prologue.slice(), remoteStatic, remoteEphemeral, psks: psks.map((psk) => psk.slice()), pskFor };
-    this.#static = staticKey;
-    this.#ephemeral = ephemeralKey;
+    const key = (bytes, what) => (bytes === undefined ? undefined : copyOf(bytes, what, 32));
+    this.#static = keyPairOf(staticKey, 'staticKey');
+    this.#ephemeral = keyPairOf(ephemeralKey, 'ephemeralKey');
+    this.#options = {
+      pattern: name, responder, prologue: copyOf(prologue, 'prologue'), psks: psks.map((psk) => copyOf(psk, 'a psk', 32)), pskFor,
+      remoteStatic: key(remoteStatic, 'remoteStatic'), remoteEphemeral: key(remoteEphemeral, 'remoteEphemeral'),
+    };
     this.#place = library().take('handshake');
     try {
       this.#start(PLACEHOLDER);
@@ -144,15 +150,15 @@ export class Handshake {
     try {
       answer = await (ofStatic ? this.#static : this.#ephemeral).agree(remote);
     } catch (cause) {
-      throw Object.assign(new NoiseError(code.KEY), { cause });
+      throw new NoiseError(code.KEY, { cause });
     }
-    if (!(answer instanceof Uint8Array) || answer.length !== 32 || answer.every((byte) => byte === 0)) throw new NoiseError(code.KEY);
+    if (bytesOf(answer, 'the result of agree', 32).every((byte) => byte === 0)) throw new NoiseError(code.KEY);
     return answer;
   }
 
   /** Writes the next message, with this payload. */
-  write(payload = new Uint8Array(0)) {
-    const own = bytesOf(payload, 'payload').slice();
+  async write(payload = new Uint8Array(0)) {
+    const own = copyOf(payload, 'payload');
     return this.#alone(async () => {
       const lib = library();
       const told = await this.#answered((place) => {
@@ -166,8 +172,8 @@ export class Handshake {
   }
 
   /** Reads the message that is due, and gives its payload. At NOISE_TAG and NOISE_SHORT the handshake has ended. */
-  read(message) {
-    const own = bytesOf(message, 'message').slice();
+  async read(message) {
+    const own = copyOf(message, 'message');
     return this.#alone(async () => {
       const lib = library();
       const told = await this.#answered((place) => lib.x.noise_read(place, ...lib.put('message', own), lib.at.told));

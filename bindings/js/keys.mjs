@@ -1,6 +1,8 @@
 // Key pairs. A handshake asks an object with `publicKey`, 32 bytes, and `agree(remote)`, which gives the answer of X25519 or a promise of it.
 // Those that are made here are WebCrypto's: the private key stays inside the browser.
 
+import { bytesOf } from './bytes.mjs';
+
 const NAME = 'X25519';
 /** What is before a secret key in PKCS #8 (RFC 8410, 7). */
 const PKCS8 = Uint8Array.of(48, 46, 2, 1, 0, 48, 5, 6, 3, 43, 101, 110, 4, 34, 4, 32);
@@ -30,12 +32,12 @@ export class KeyPair {
 
   /** The answer of X25519 for this private key and a public key of 32 bytes. It rejects where the answer would be all zeros. */
   async agree(remote) {
-    return agreed(this.#secret, remote);
+    return agreed(this.#secret, bytesOf(remote, 'a public key', 32));
   }
 
   /** The pair of a secret key of 32 bytes, from a file for example. It isn't extractable from the pair; the bytes stay the caller's to overwrite. */
   static async fromSecret(bytes) {
-    if (!(bytes instanceof Uint8Array) || bytes.length !== 32) throw new TypeError('a secret key has to be a Uint8Array of 32 bytes');
+    bytesOf(bytes, 'a secret key', 32);
     const encoded = new Uint8Array(48);
     encoded.set(PKCS8);
     encoded.set(bytes, 16);

@@ -45,18 +45,23 @@ const NAMES = {
   '-3': ['NO_MEMORY64', 'this engine runs no WebAssembly with 64-bit memory: take a browser of 2025 or later with memory64, '
     + 'node --experimental-wasm-memory64 where Node lacks it, or the native library (docs/C.md)'],
   '-4': ['NOT_LOADED', 'await load() first'],
-  '-5': ['KEY', "X25519 fails for the other party's public key, or gives all zeros; or judge didn't return true: close"],
-  '-6': ['CLOSED', 'the other party closed the connection, or it broke, in the middle of a frame or of the handshake'],
+  '-5': ['KEY', "X25519 fails for the other party's public key, or gives all zeros: close"],
+  '-6': ['CLOSED', 'the connection ended in the middle of a frame or of the handshake, or was never made: cause is its error, if it had one'],
+  '-7': ['REFUSED', "judge didn't return true for the other party's static key, and the connection was closed"],
+  '-8': ['UNAUTHENTICATED', 'nothing says who may be the other party: pass judge, remoteStatic, psks or pskFor, or acceptAnyKey: true'],
 };
 
 /** The codes by name, as `code.TAG`. */
 export const code = Object.freeze(Object.fromEntries([['OK', 0], ...Object.entries(NAMES).map(([n, [name]]) => [name, Number(n)])]));
 
-/** What a refused call throws: `code` is the number of include/noise.h, `name` its name there, `token` where a handshake message was refused. */
+/**
+ * What a refused call throws: `code` is the number of include/noise.h, `name` its name there, `token` where a handshake message was refused, `cause`
+ * the error of a connection or a key below, where there was one.
+ */
 export class NoiseError extends Error {
-  constructor(number, token) {
+  constructor(number, { token, cause } = {}) {
     const [name, text] = NAMES[number] ?? ['UNKNOWN', `code ${number}`];
-    super(text);
+    super(text, cause === undefined ? undefined : { cause });
     this.code = number;
     this.name = `NOISE_${name}`;
     this.token = token;
@@ -65,7 +70,7 @@ export class NoiseError extends Error {
 
 /** Throws unless the code is OK. */
 export function must(number, token) {
-  if (number !== 0) throw new NoiseError(number, token);
+  if (number !== 0) throw new NoiseError(number, { token });
 }
 
 const SCRATCH = { name: 512, prologue: 65536, payload: 65536, message: 65552, told: 56, setup: 422, answer: 32, key: 33, number: 16 };

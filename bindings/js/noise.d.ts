@@ -6,6 +6,8 @@ export class NoiseError extends Error {
   name: string;
   /** At NOISE_SHORT and NOISE_TAG of `Handshake.read`: the token at which the message was refused, from 0 on; the payload comes after the last. */
   token?: number;
+  /** At NOISE_CLOSED: the error of the connection below, as ECONNREFUSED, where there was one. At NOISE_KEY: what `agree` threw. */
+  cause?: unknown;
 }
 export const code: Readonly<Record<string, number>>;
 
@@ -107,21 +109,27 @@ export class Datagrams implements Sealer, Opener {
 export interface NoiseSocketOptions extends HandshakeOptions {
   interval?: bigint | number;
   /**
-   * Called once, as soon as the other party's static key is known, before anything else is sent or read; in a handshake without such a key after the
-   * last message, with undefined. Unless it returns true, the connection is closed, and `open` throws NOISE_KEY.
+   * Called once, as soon as the other party's static key is known, before anything else is sent or read. Unless it returns true itself, the
+   * connection is closed, and `open` throws NOISE_REFUSED. In a pattern in which the other party has no static key it is a TypeError.
    */
-  judge?(remoteStatic: Uint8Array | undefined): boolean | Promise<boolean>;
+  judge?(remoteStatic: Uint8Array): boolean | Promise<boolean>;
+  /** Talks to anybody, where none of `judge`, `remoteStatic`, `psks` and `pskFor` says who it may be. Without it `open` throws NOISE_UNAUTHENTICATED. */
+  acceptAnyKey?: boolean;
 }
 /** What is used of a stream of Node, as a socket of TCP. */
 export interface NodeStream extends AsyncIterable<Uint8Array> {
   pipe: unknown;
-  on(event: 'error', listener: () => void): unknown;
+  readonly connecting?: boolean;
+  readonly destroyed?: boolean;
+  readonly errored?: Error | null;
+  on(event: 'error', listener: (error: Error) => void): unknown;
   write(bytes: Uint8Array, done: (error?: Error | null) => void): boolean;
   end(done: () => void): unknown;
   destroy(): unknown;
 }
 export class NoiseSocket implements AsyncIterable<Uint8Array> {
   private constructor();
+  /** Passes a handshake. Where it throws, the connection is closed. */
   static open(carrier: WebSocket | NodeStream | { readable: ReadableStream<Uint8Array>; writable: WritableStream<Uint8Array> }, options: NoiseSocketOptions): Promise<NoiseSocket>;
   readonly hash: Uint8Array;
   readonly remoteStatic: Uint8Array | undefined;

@@ -1,6 +1,8 @@
 // A channel over what moves bytes: a WebSocket, one message a frame, or a pair of WHATWG streams or a stream of Node, each message after its length.
 import { NoiseError, code } from './module.mjs';
+import { bytesOf } from './bytes.mjs';
 import { Handshake } from './handshake.mjs';
+import { layout } from './layout.mjs';
 
 /** What comes, in order: those who wait are served as it comes. At the end there is undefined, or what was thrown at it. */
 class Queue {
@@ -25,18 +27,28 @@ class Queue {
   }
 }
 
+const closed = (cause) => new NoiseError(code.CLOSED, { cause });
+
 /** Messages over a WebSocket. */
-async function overWebSocket(socket) {
+function overWebSocket(socket) {
   socket.binaryType = 'arraybuffer';
   const queue = new Queue();
+  let cause;    // Node tells it, and a browser doesn't
+  socket.addEventListener('error', ({ error }) => { cause ??= error; });
   socket.addEventListener('message', ({ data }) => {
     // A text frame is no message of Noise: an empty one takes its place, and is refused.
     queue.push(typeof data === 'string' ? new Uint8Array(0) : new Uint8Array(data));
   });
-  socket.addEventListener('close', ({ wasClean }) => queue.end(wasClean === false ? new NoiseError(code.CLOSED) : undefined));
-  if (socket.readyState === 0) await new Promise((resolve) => { for (const event of ['open', 'close', 'error']) socket.addEventListener(event, resolve, { once: true }); });
-  if (socket.readyState !== 1) throw new NoiseError(code.CLOSED);
-  return { send: async (message) => socket.send(message), take: () => queue.take(), close: async () => socket.close() };
+  socket.addEventListener('close', ({ wasClean }) => queue.end(wasClean === false ? closed(cause) : undefined));
+  return {
+    ready: async () => {
+      if (socket.readyState === 0) await new Promise((resolve) => { for (const event of ['open', 'close', 'error']) socket.addEventListener(event, resolve, { once: true }); });
+      if (socket.readyState !== 1) throw closed(cause);
+    },
+    send: async (message) => socket.send(message),
+    take: () => queue.take(),
+    close: async () => socket.close(),
+  };
 }
 
 /** A pair of WHATWG streams, by what is read next, a way to write, and one to close. */
@@ -49,18 +61,20 @@ function ofStreams({ readable, writable }) {
 /** The same of a stream of Node, as a socket of TCP. By Duplex.toWeb of Node 20 an error after the close would end the program. */
 function ofNode(stream) {
   const chunks = stream[Symbol.asyncIterator]();
-  stream.on('error', () => {});
+  let first = stream.errored ?? undefined;    // later ones only say that the stream was destroyed
+  stream.on('error', (error) => { first ??= error; });
   return {
-    read: () => chunks.next(),
-    write: (bytes) => new Promise((resolve, reject) => { stream.write(bytes, (error) => { if (error) reject(error); else resolve(); }); }),
+    read: () => chunks.next().catch((error) => { throw first ?? error; }),
+    write: (bytes) => new Promise((resolve, reject) => { stream.write(bytes, (error) => { if (error) reject(first ?? error); else resolve(); }); }),
     close: async () => {
-      await new Promise((resolve) => { stream.end(resolve); });
+      // The end of one that was destroyed never calls back.
+      if (!stream.connecting && !stream.destroyed) await new Promise((resolve) => { stream.end(resolve); });
       stream.destroy();
     },
   };
 }
 
-const broken = (cause) => { throw Object.assign(new NoiseError(code.CLOSED), { cause }); };
+const broken = (cause) => { throw closed(cause); };
 
 /** Messages over a stream of bytes, each after its length in two bytes, the higher first (Noise, 13). */
 function overStream({ read, write, close }) {
@@ -73,9 +87,8 @@ function overStream({ read, write, close }) {
     while (held < count) {
       const { value, done } = await read().catch(broken);
       if (done && held === 0 && isFirst) return undefined;
-      if (done) throw new NoiseError(code.CLOSED);
-      if (!(value instanceof Uint8Array)) throw new TypeError('the stream has to be one of bytes, as Uint8Array');
-      parts.push(value);
+      if (done) throw closed();
+      parts.push(bytesOf(value, 'what comes from the stream'));
       held += value.length;
     }
     const all = new Uint8Array(held);
@@ -102,8 +115,45 @@ function overStream({ read, write, close }) {
 
 /** What moves the messages of a WebSocket, a pair of WHATWG streams or a stream of Node. */
 function over(carrier) {
-  if (typeof carrier.readable?.getReader === 'function') return overStream(ofStreams(carrier));
-  return typeof carrier.pipe === 'function' ? overStream(ofNode(carrier)) : overWebSocket(carrier);
+  if (typeof carrier?.readable?.getReader === 'function') return overStream(ofStreams(carrier));
+  if (typeof carrier?.pipe === 'function') return overStream(ofNode(carrier));
+  if (typeof carrier?.addEventListener === 'function') return overWebSocket(carrier);
+  throw new TypeError('a channel goes over a WebSocket, { readable, writable } or a stream of Node');
+}
+
+/**
+ * Refuses options that don't say who may be the other party, and a `judge` that would never be called; tells whether it is to be called. The package
+ * for Go decides alike.
+ */
+function hasToJudge({ pattern, responder, remoteStatic, psks = [], pskFor }, judge, acceptAnyKey) {
+  if (judge !== undefined && typeof judge !== 'function') throw new TypeError('judge has to be a function');
+  const isKeyed = layout(pattern).static[responder ? 'initiator' : 'responder'];
+  if (acceptAnyKey !== true) {
+    if (judge && !isKeyed) throw new TypeError('judge would never be called: the other party has no static key in this pattern');
+    if (!judge && !remoteStatic && !pskFor && psks.length === 0) throw new NoiseError(code.UNAUTHENTICATED);
+  }
+  return judge !== undefined && isKeyed;
+}
+
+/** Passes the messages of a handshake. */
+async function pass(channel, handshake, judge) {
+  let isDue = judge !== undefined;
+  for (;;) {
+    const { done, writesNext } = handshake.stage;
+    const { remoteStatic } = handshake;
+    if (isDue && (done || remoteStatic)) {
+      isDue = false;
+      if ((await judge(remoteStatic)) !== true) throw new NoiseError(code.REFUSED);
+    }
+    if (done) return;
+    if (writesNext) {
+      await channel.send(await handshake.write());
+      continue;
+    }
+    const message = await channel.take();
+    if (!message) throw closed();
+    await handshake.read(message);
+  }
 }
 
 /** An open channel: `send` and `receive` move payloads. It closes at the first message that is refused. */
@@ -120,37 +170,26 @@ export class NoiseSocket {
 
   /**
    * Passes a handshake, without payloads, over a WebSocket, over `{readable, writable}`, or over a stream of Node. The options are those of
-   * Handshake, and `interval`. What a WebSocket got before this call isn't seen.
-   * `judge(remoteStatic)` is called once, as soon as the other party's static key is known, before anything else is sent or read; without such a
-   * key after the last message, with undefined. It has to return true: otherwise the connection is closed, and `open` throws NOISE_KEY.
+   * Handshake, and `interval`, `judge` and `acceptAnyKey`. What a WebSocket got before this call isn't seen. Where it throws, the connection is closed.
+   * `judge(remoteStatic)` is called once, as soon as the other party's static key is known, before anything else is sent or read. It has to return
+   * true: otherwise `open` throws NOISE_REFUSED. Without `judge`, `remoteStatic` and secrets it throws NOISE_UNAUTHENTICATED, before anything is
+   * sent, unless `acceptAnyKey` is true.
    */
-  static async open(carrier, { interval = 0n, judge, ...options }) {
-    const handshake = new Handshake(options);
-    let channel;
-    let isDue = Boolean(judge);
+  static async open(carrier, options) {
+    const channel = over(carrier);
+    let handshake;
     try {
-      channel = await over(carrier);
-      for (;;) {
-        const { done, writesNext } = handshake.stage;
-        const { remoteStatic } = handshake;
-        if (isDue && (done || remoteStatic)) {
-          isDue = false;
-          if ((await judge(remoteStatic)) !== true) throw new NoiseError(code.KEY);
-        }
-        if (done) return new NoiseSocket(channel, handshake.finish({ interval }));
-        if (writesNext) {
-          await channel.send(await handshake.write());
-          continue;
-        }
-        const message = await channel.take();
-        if (!message) throw new NoiseError(code.CLOSED);
-        await handshake.read(message);
-      }
+      const { interval = 0n, judge, acceptAnyKey, ...setup } = options;
+      handshake = new Handshake(setup);
+      const isJudged = hasToJudge(setup, judge, acceptAnyKey);
+      await channel.ready?.();
+      await pass(channel, handshake, isJudged ? judge : undefined);
+      return new NoiseSocket(channel, handshake.finish({ interval }));
     } catch (error) {
-      await channel?.close();
+      await channel.close();
       throw error;
     } finally {
-      handshake.dispose();
+      handshake?.dispose();
     }
   }
 

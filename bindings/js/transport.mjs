@@ -1,5 +1,6 @@
 // What follows a handshake: a transport, for a stream, or datagrams, for a network that loses, repeats and reorders.
 import { NoiseError, code, library, must } from './module.mjs';
+import { bytesOf } from './bytes.mjs';
 
 /** What both have: a kept struct, and calls that seal and open. */
 class Sealed {
@@ -28,7 +29,7 @@ class Sealed {
   sealBy(call, payload, overhead) {
     const lib = library();
     const place = this.place;
-    if (payload.length > 65519) throw new NoiseError(code.TOO_LONG);
+    if (bytesOf(payload, 'payload').length > 65519) throw new NoiseError(code.TOO_LONG);
     const number = call(place, ...lib.put('payload', payload), lib.at.message, BigInt(payload.length + overhead), lib.at.told);
     lib.wipe('payload', payload.length);
     must(number);
@@ -38,7 +39,7 @@ class Sealed {
   /** @protected */
   openBy(call, message) {
     const lib = library();
-    must(call(this.place, ...lib.put('message', message), lib.at.told));
+    must(call(this.place, ...lib.put('message', bytesOf(message, 'message')), lib.at.told));
     const told = lib.told();
     const payload = lib.view(lib.at.message + BigInt(told.from), told.len).slice();
     lib.wipe('message', message.length);

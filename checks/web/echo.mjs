@@ -67,7 +67,7 @@ const channel = await NoiseSocket.open(await connection(), {
   staticKey: plan.static[role] ? await keyPair(bytes(secret)) : undefined,
   remoteStatic: plan.before[other].includes('s') ? bytes(peer) : undefined,
   ...secrets(),
-  judge: (key) => key === undefined || Buffer.compare(key, bytes(peer)) === 0,
+  ...(plan.static[other] ? { judge: (key) => Buffer.compare(key, bytes(peer)) === 0 } : { acceptAnyKey: true }),
 });
 if (role === 'responder') {
   const all = await readAll(channel);

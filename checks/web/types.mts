@@ -14,7 +14,7 @@ const message: Uint8Array = await handshake.write(new Uint8Array(3));
 try {
   await handshake.read(message);
 } catch (error) {
-  if (error instanceof NoiseError && error.code === code.TAG) console.log(error.token);
+  if (error instanceof NoiseError && error.code === code.TAG) console.log(error.token, error.cause);
 }
 const transport: Transport = handshake.finish({ interval: 3n });
 const [sender, receiver] = transport.split();
@@ -27,6 +27,6 @@ else if ('rule' in verdict) console.log(verdict.token);
 else console.log(verdict.line);
 console.log(layout('XX').messages[0].pieces[0].kind);
 const { readable, writable } = new TransformStream<Uint8Array, Uint8Array>();
-const channel = await NoiseSocket.open({ readable, writable }, { pattern: 'XX', judge: (key) => key !== undefined });
+const channel = await NoiseSocket.open({ readable, writable }, { pattern: 'XX', judge: (key) => key.length === 32 });
 for await (const payload of channel) await channel.send(payload);
-await NoiseSocket.open(new WebSocket('wss://example.org/'), { pattern: 'XX' });
+await NoiseSocket.open(new WebSocket('wss://example.org/'), { pattern: 'NN', acceptAnyKey: true });

@@ -34,9 +34,10 @@ function keys({ has, knowsEphemeral, psks }) {
 }
 
 function socket(role, facts) {
-  const { has, interval } = facts;
+  const { has, interval, psks } = facts;
   const [reads, writes, other, isOther] = role === 'initiator' ? ['back', 'there', 'server', has.responder] : ['there', 'back', 'client', has.initiator];
-  const more = [interval > 0 && `interval: ${interval}`, isOther && `judge: (key) => String(key) === String(${other}Key.publicKey)`].filter(Boolean);
+  const more = [interval > 0 && `interval: ${interval}`, isOther && `judge: (key) => String(key) === String(${other}Key.publicKey)`,
+    !isOther && psks === 0 && 'acceptAnyKey: true'].filter(Boolean);
   return `  NoiseSocket.open({ readable: ${reads}.readable, writable: ${writes}.writable }, ${object([...options(role, facts), ...more], '  ')}),`;
 }
 

@@ -1,9 +1,37 @@
 import test from 'node:test';
 import assert from 'node:assert/strict';
+import { once } from 'node:events';
+import { connect, createServer } from 'node:net';
 import { KeyPair, NoiseError, NoiseSocket, code, load, protocolName } from '../noise.mjs';
 
 const text = (s) => new TextEncoder().encode(s);
 const refused = (number) => (error) => error instanceof NoiseError && error.code === number;
+
+/** Both ends of a connection over TCP. */
+async function overTcp() {
+  const server = createServer().listen(0, '127.0.0.1');
+  await once(server, 'listening');
+  const here = connect(server.address().port, '127.0.0.1');
+  const [[there]] = await Promise.all([once(server, 'connection'), once(here, 'connect')]);
+  server.close();
+  return [here, there];
+}
+
+/** An address where nobody listens. */
+async function nobody() {
+  const server = createServer().listen(0, '127.0.0.1');
+  await once(server, 'listening');
+  const address = server.address();
+  server.close();
+  await once(server, 'close');
+  return address;
+}
+
+/** Both ends of a pair of WHATWG streams. */
+function pair() {
+  const [up, down] = [new TransformStream(), new TransformStream()];
+  return [{ readable: down.readable, writable: up.writable }, { readable: up.readable, writable: down.writable }];
+}
 
 test('channels', async (t) => {
   await load();
@@ -20,7 +48,7 @@ test('channels', async (t) => {
     Object.assign(two, { other: one });
     setTimeout(() => { one.open(); two.open(); }, 5);
     const pattern = protocolName('NN');
-    const [a, b] = await Promise.all([NoiseSocket.open(one, { pattern }), NoiseSocket.open(two, { pattern, responder: true })]);
+    const [a, b] = await Promise.all([NoiseSocket.open(one, { pattern, acceptAnyKey: true }), NoiseSocket.open(two, { pattern, responder: true, acceptAnyKey: true })]);
     assert.deepEqual(a.hash, b.hash);
     await a.send(text('hello'));
     assert.deepEqual(await b.receive(), text('hello'));
@@ -31,46 +59,40 @@ test('channels', async (t) => {
   });
 
   await t.test('the other party’s key is checked, and a closed connection is reported', async () => {
-    const pair = () => {
-      const [up, down] = [new TransformStream(), new TransformStream()];
-      return [{ readable: down.readable, writable: up.writable }, { readable: up.readable, writable: down.writable }];
-    };
     const pattern = protocolName('XX');
     const [near, far] = pair();
     const [a, b] = await Promise.allSettled([
       NoiseSocket.open(near, { pattern, staticKey: await KeyPair.generate(), judge: () => false }),
-      NoiseSocket.open(far, { pattern, staticKey: await KeyPair.generate(), responder: true }).then((channel) => channel.receive()),
+      NoiseSocket.open(far, { pattern, staticKey: await KeyPair.generate(), responder: true, acceptAnyKey: true }).then((channel) => channel.receive()),
     ]);
-    assert.equal(a.reason.name, 'NOISE_KEY');
+    assert.equal(a.reason.name, 'NOISE_REFUSED');
     assert.match(a.reason.message, /judge didn't return true/u);
     assert.equal(b.reason?.name, 'NOISE_CLOSED'); // no message 3
     const [cut, cutter] = pair();
-    await Promise.all([assert.rejects(NoiseSocket.open(cut, { pattern, staticKey: await KeyPair.generate() }), refused(code.CLOSED)),
+    await Promise.all([assert.rejects(NoiseSocket.open(cut, { pattern, staticKey: await KeyPair.generate(), acceptAnyKey: true }), refused(code.CLOSED)),
       (async () => { const reader = cutter.readable.getReader(); await reader.read(); await cutter.writable.getWriter().close(); })()]);
   });
 
   // Which key `judge` gets, how many messages this party has sent then, and that nothing is sent after a refusal.
-  for (const [pattern, responder, sent] of [['XX', false, 1], ['XX', true, 1], ['IX', false, 1], ['IX', true, 0], ['IK', false, 0], ['IK', true, 0], ['NK', true, 1]]) {
+  for (const [pattern, responder, sent] of [['XX', false, 1], ['XX', true, 1], ['IX', false, 1], ['IX', true, 0], ['IK', false, 0], ['IK', true, 0]]) {
     await t.test(`${pattern}: the ${responder ? 'responder' : 'initiator'} judges as soon as it knows the key`, async () => {
-      for (const verdict of [true, false, 1, 'yes', {}, undefined]) {
+      for (const verdict of [true, false, 1, -1, 'yes', {}, undefined]) {    // as Buffer.compare of two keys that differ returns 1 or -1
         let count = 0;
         const counting = new TransformStream({ transform: (chunk, controller) => { count += 1; controller.enqueue(chunk); } }, undefined, { highWaterMark: 16 });
         const other = new TransformStream(undefined, undefined, { highWaterMark: 16 });
         const [one, two] = [await KeyPair.generate(), await KeyPair.generate()];
         const seen = [];
         const judge = (key) => { seen.push([key, count]); return verdict; };
-        const here = { pattern, responder, judge };
-        const there = { pattern, responder: !responder, staticKey: two };
-        if (pattern !== 'NK') here.staticKey = one;
-        else [here.staticKey, there.staticKey, there.remoteStatic] = [one, undefined, one.publicKey];
+        const here = { pattern, responder, staticKey: one, judge };
+        const there = { pattern, responder: !responder, staticKey: two, acceptAnyKey: true };
         if (pattern === 'IK') [here, there].find((it) => !it.responder).remoteStatic = responder ? one.publicKey : two.publicKey;
         const [a, b] = await Promise.allSettled([
           NoiseSocket.open({ readable: other.readable, writable: counting.writable }, here),
           NoiseSocket.open({ readable: counting.readable, writable: other.writable }, there),
         ]);
-        assert.deepEqual(seen, [[pattern === 'NK' ? undefined : two.publicKey, sent]]);
+        assert.deepEqual(seen, [[two.publicKey, sent]]);
         if (verdict === true) assert.deepEqual([a.status, b.status], ['fulfilled', 'fulfilled']);
-        else assert.deepEqual([a.reason.name, count], ['NOISE_KEY', sent]);
+        else assert.deepEqual([a.reason.name, count], ['NOISE_REFUSED', sent]);
       }
     });
   }
@@ -92,5 +114,88 @@ test('channels', async (t) => {
     }
     await a.close();
     assert.equal(await b.receive(), undefined);
+  });
+
+  await t.test('who may be the other party has to be said, as in the package for Go', async () => {
+    const [staticKey, { publicKey }] = [await KeyPair.generate(), await KeyPair.generate()];
+    const [judge, psk, acceptAnyKey] = [() => true, new Uint8Array(32), true];
+    const unsaid = refused(code.UNAUTHENTICATED);
+    const cases = [
+      [{ pattern: 'XX', staticKey }, unsaid],
+      [{ pattern: 'XX', staticKey, responder: true, psks: [] }, unsaid],
+      [{ pattern: 'XX', staticKey, acceptAnyKey: 'yes' }, unsaid],
+      [{ pattern: 'NN' }, unsaid],
+      [{ pattern: 'NK', staticKey, responder: true }, unsaid],
+      [{ pattern: 'NN', judge }, TypeError],
+      [{ pattern: 'NNpsk0', psks: [psk], judge }, TypeError],
+      [{ pattern: 'NK', staticKey, responder: true, judge }, TypeError],
+      [{ pattern: 'XX', staticKey, judge: 'yes' }, TypeError],
+    ];
+    for (const [options, fault] of cases) {
+      const [near, far] = pair();
+      await assert.rejects(NoiseSocket.open(near, options), fault, JSON.stringify(options));
+      assert.deepEqual(await far.readable.getReader().read(), { value: undefined, done: true });    // closed, and nothing was sent
+    }
+    const said = [
+      [{ pattern: 'NN', acceptAnyKey }, { pattern: 'NN', acceptAnyKey, judge }],
+      [{ pattern: 'NNpsk0', psks: [psk] }, { pattern: 'NNpsk0', psks: [psk] }],
+      [{ pattern: 'NK', remoteStatic: staticKey.publicKey }, { pattern: 'NK', staticKey, acceptAnyKey }],
+      [{ pattern: 'XX', staticKey, judge }, { pattern: 'XX', staticKey, acceptAnyKey }],
+      [{ pattern: 'XXpsk3', staticKey, psks: [psk] }, { pattern: 'XXpsk3', staticKey, pskFor: () => psk }],
+    ];
+    for (const [client, server] of said) {
+      const [near, far] = pair();
+      const [a, b] = await Promise.all([NoiseSocket.open(near, client), NoiseSocket.open(far, { ...server, responder: true })]);
+      assert.deepEqual(a.hash, b.hash);
+    }
+    await assert.rejects(NoiseSocket.open(pair()[0], { pattern: 'NK', staticKey, remoteStatic: publicKey, responder: true }), refused(code.REMOTE_UNEXPECTED));
+  });
+
+  await t.test('wrong options close the connection', async () => {
+    for (const options of [undefined, {}, { pattern: 'QQ', acceptAnyKey: true }, { pattern: 'XX', acceptAnyKey: true }, { pattern: 'NN', acceptAnyKey: true, prologue: 'text' }]) {
+      const [near, far] = pair();
+      await assert.rejects(NoiseSocket.open(near, options));
+      assert.equal((await far.readable.getReader().read()).done, true);
+      const [here, there] = await overTcp();
+      await assert.rejects(NoiseSocket.open(here, options));
+      assert.equal(here.destroyed, true);
+      await once(there.resume(), 'close');
+      const socket = connect(1, '192.0.2.1');    // nobody has this address (RFC 5737): it connects for a long time
+      await assert.rejects(NoiseSocket.open(socket, options));
+      assert.equal(socket.destroyed, true);
+    }
+    await assert.rejects(NoiseSocket.open(undefined, { pattern: 'NN', acceptAnyKey: true }), TypeError);
+  });
+
+  await t.test('the error of the connection is the cause', async () => {
+    const { port } = await nobody();
+    const early = connect(port, '127.0.0.1');
+    const options = { pattern: 'NN', acceptAnyKey: true };
+    const causes = { name: 'NOISE_CLOSED', cause: { code: 'ECONNREFUSED' } };
+    const told = (error) => error.name === causes.name && error.cause?.code === causes.cause.code;
+    await assert.rejects(NoiseSocket.open(early, options), told);
+    await assert.rejects(NoiseSocket.open(early, options), told);    // it was destroyed before
+    await assert.rejects(NoiseSocket.open(connect(port, '127.0.0.1'), { ...options, responder: true }), told);
+    const [here, there] = await overTcp();
+    const [a] = await Promise.all([NoiseSocket.open(here, options), NoiseSocket.open(there, { ...options, responder: true })]);
+    there.resetAndDestroy();
+    await assert.rejects(a.receive(), (error) => error.name === 'NOISE_CLOSED' && error.cause.code === 'ECONNRESET');
+  });
+
+  await t.test('a socket that a timeout destroys ends the call of open', async () => {
+    const [here, there] = await overTcp();
+    here.setTimeout(50, () => here.destroy());
+    await assert.rejects(NoiseSocket.open(here, { pattern: 'NN', acceptAnyKey: true }), refused(code.CLOSED));
+    there.destroy();
+  });
+
+  await t.test('only a Uint8Array is sent, and a refused payload changes nothing', async () => {
+    const [near, far] = pair();
+    const options = { pattern: 'NN', acceptAnyKey: true };
+    const [a, b] = await Promise.all([NoiseSocket.open(near, options), NoiseSocket.open(far, { ...options, responder: true })]);
+    for (const payload of ['text', undefined, null, 5, [1, 2], { length: 2 }, new Uint16Array(2), new DataView(new ArrayBuffer(2)), new ArrayBuffer(2)]) {
+      await assert.rejects(a.send(payload), TypeError);
+    }
+    await Promise.all([a.send(Buffer.from('text')), b.receive().then((got) => assert.deepEqual(got, text('text')))]);
   });
 });

@@ -204,6 +204,57 @@ test('with the module loaded', async (t) => {
     assert.deepEqual(b.nonces, { send: 0n, receive: 1n });
   });
 
+  await t.test('calls take bytes as a Uint8Array, and nothing else', async () => {
+    const pair = await KeyPair.generate();
+    const it = await parties('NN');
+    const bad = ['a'.repeat(32), null, 5, Array(32).fill(1), { length: 32 }, new Uint16Array(32), new DataView(new ArrayBuffer(32)), new ArrayBuffer(32)];
+    for (const wrong of bad) {
+      await assert.rejects(it.initiator.write(wrong), TypeError);
+      await assert.rejects(it.responder.read(wrong), TypeError);
+      for (const options of [
+        { pattern: 'NN', prologue: wrong }, { pattern: 'NNpsk0', psks: [wrong] }, { pattern: 'NK', remoteStatic: wrong },
+        { pattern: 'XX', staticKey: wrong }, { pattern: 'XX', staticKey: { publicKey: wrong, agree: pair.agree } }, { pattern: 'NN', ephemeralKey: wrong },
+        { pattern: 'XX:\n  <- e\n  ...\n  -> e, ee\n', remoteEphemeral: wrong },
+      ]) assert.throws(() => new Handshake(options), TypeError);
+      await assert.rejects(KeyPair.fromSecret(wrong), TypeError);
+      await assert.rejects(pair.agree(wrong), TypeError);
+      const late = new Handshake({ pattern: 'KNpsk2', responder: true, remoteStatic: pair.publicKey, pskFor: () => wrong });
+      const early = new Handshake({ pattern: 'KNpsk2', staticKey: pair, psks: [new Uint8Array(32)] });
+      await late.read(await early.write());
+      await assert.rejects(late.write(), TypeError);
+    }
+    for (const psks of [new Uint8Array(32), 'secret', null]) assert.throws(() => new Handshake({ pattern: 'NNpsk0', psks }), TypeError);
+    const broken = new Handshake({ pattern: 'NN', responder: true, ephemeralKey: { publicKey: pair.publicKey, agree: () => 'x'.repeat(32) } });
+    await broken.read(await it.initiator.write());
+    await assert.rejects(broken.write(), TypeError);
+
+    const whole = await parties('NN');
+    await pass(whole);
+    const [a, b] = [whole.initiator.finish(), whole.responder.finish()];
+    const both = await parties('NN');
+    await pass(both);
+    const datagrams = both.initiator.finishDatagrams();
+    for (const wrong of [...bad, undefined]) {
+      for (const call of [() => a.seal(wrong), () => b.open(wrong), () => datagrams.seal(wrong), () => datagrams.open(wrong)]) assert.throws(call, TypeError);
+    }
+    const [sealer, opener] = a.split();
+    for (const call of [() => sealer.seal('text'), () => opener.open('text')]) assert.throws(call, { message: /TextEncoder/u });
+    assert.deepEqual(b.open(sealer.seal(Buffer.from('as it was'))), text('as it was'));
+  });
+
+  await t.test('what was passed may be changed afterwards, also a Buffer', async () => {
+    const [prologue, payload, psk] = [Buffer.from('a test'), Buffer.from('payload'), Buffer.alloc(32, 1)];
+    const initiator = new Handshake({ pattern: 'NNpsk0', prologue, psks: [psk] });
+    for (const passed of [prologue, psk]) passed.fill(0);
+    const writing = initiator.write(payload);
+    payload.fill(0);
+    const responder = new Handshake({ pattern: 'NNpsk0', responder: true, prologue: text('a test'), psks: [new Uint8Array(32).fill(1)] });
+    const message = Buffer.from(await writing);
+    const reading = responder.read(message);
+    message.fill(0);
+    assert.deepEqual(await reading, text('payload'));
+  });
+
   await t.test('many at once, and again in the places of those that were disposed of', async () => {
     for (let round = 0; round < 3; round += 1) {
       await Promise.all(Array.from({ length: 30 }, async () => {

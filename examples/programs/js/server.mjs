@@ -1,0 +1,34 @@
+// server.mjs: the responder. It takes connections on 127.0.0.1, port 4043, of the client whose key is in client.public,
+// and sends back what it reads.
+import { readFile } from 'node:fs/promises';
+import { createServer } from 'node:net';
+import { KeyPair, NoiseSocket, load } from 'noise-proved';
+
+await load();
+const staticKey = await KeyPair.fromSecret(await readFile('server.key'));
+const client = await readFile('client.public');
+
+async function serve(socket) {
+  const channel = await NoiseSocket.open(socket, {
+    pattern: 'XX',
+    responder: true,
+    prologue: new TextEncoder().encode('echo 1'),
+    staticKey,
+    judge: (remoteStatic) => client.equals(remoteStatic),    // with many clients, whether their list has this key
+  });
+  try {
+    for await (const payload of channel) {
+      await channel.send(payload);
+      if (payload.length === 0) return;    // the client has ended its stream, and this ends the server's
+    }
+    throw new Error('the connection was cut');
+  } finally {
+    await channel.close();
+  }
+}
+
+const server = createServer((socket) => {
+  // Without the catch a client that is refused ends the program.
+  serve(socket).catch((error) => console.error(`server: ${error.message}`));
+});
+server.listen(4043, '127.0.0.1', () => console.log('server: listening'));
