@@ -95,8 +95,12 @@ pub unread : (allowed : AllowedEvents) (known : Option (List ℕ)) (text items :
 unread allowed None text items why h e every told = tt
 unread allowed (Some bytes) text items why h e every told =
     let same : text ≡ bytes = e ∙ h in
-    inr (inl (why, refl, subst (λ (t : List ℕ). IsReadFault allowed t why) same (no-file allowed text why every),
-    subst (λ (t : List ℕ). IsTold allowed t why) same told))
+    inr (inl (
+      why,
+      refl,
+      subst (λ (t : List ℕ). IsReadFault allowed t why) same (no-file allowed text why every),
+      subst (λ (t : List ℕ). IsTold allowed t why) same told,
+    ))
 
 pub unread-or : (allowed : AllowedEvents) (known : Option (List ℕ)) (fault : Fault) (Other : List ℕ → Type 0)
     → IfSome known (λ bytes. IsRunFault allowed bytes fault) → IfSome known (λ bytes. IsRunFault allowed bytes fault ⊎ Other bytes)
