@@ -11,7 +11,7 @@ use Rattle.noise_events.specs.Events.{Event as Act, Say as Said}
 use Rattle.noise_events.specs.declared.event.Event.{Event}
 use Rattle.noise_tool.specs.Conversion.{MeetsItself}
 use Rattle.noise_tool.specs.Ends.{IsStartFault}
-use Rattle.noise_lines.specs.Faults.{status_of}
+use Rattle.noise_lines.specs.Faults.{of_vector, status_of}
 use Rattle.noise_tool.specs.Performing.{HasConverted, HasRun, IsFault, IsOfLines, IsRunFault, IsTooLongConverted, IsUnlike, IsUnmet}
 use Rattle.noise_words.specs.declared.orders.Chosen.{Chosen}
 use Rattle.noise_words.specs.declared.orders.Chosen.TheVariants as order
@@ -23,7 +23,10 @@ use Rattle.noise_lines.specs.declared.faults.Fault.TheVariants as fault
 use Rattle.noise_tool.specs.declared.running.Outcome.{Outcome}
 use Rattle.noise_lines.specs.Told.{LeavesOther, TellsRule}
 use Rattle.noise_vectors.specs.Expectations.{bytes_of}
-use Rattle.noise_vectors.specs.VectorFile.{IsVectorFile, say_of}
+use Rattle.noise_vectors.specs.VectorFile.{IsAllowedFile, IsReadFault, IsVectorFile, say_of}
+use Rattle.noise_vectors.specs.WrongLine.{IsTold}
+use Rattle.noise_vectors.specs.declared.faults.VectorFault.{VectorFault}
+use Rattle.noise_vectors.specs.declared.faults.VectorFault.TheVariants as vector
 use Rattle.noise_vectors.specs.VectorText.{text_of}
 use Rattle.noise_vectors.specs.declared.vector.AllowedEvents.{AllowedEvents}
 use Rattle.noise_vectors.specs.declared.vector.AllowedEvents.TheVariants.{VersionOne}
@@ -77,6 +80,32 @@ pub has-run : (known : Option (List ℕ)) (file : VectorFile) (outcome : Outcome
     → OnOk result (IfSome known (λ bytes. HasRun bytes before after))
 has-run known file outcome before after (Ok u) r printed met = run-known known file outcome before after r printed met
 has-run known file outcome before after (Err fault) r printed met = tt
+
+-- ---- a text that isn't read
+
+no-file : (allowed : AllowedEvents) (text : List ℕ) (why : VectorFault)
+    → ((file : VectorFile) → IsVectorFile file → IsAllowedFile allowed file → text ≡ text_of file → why ≡ vector.Memory) → IsReadFault allowed text why
+no-file allowed text (vector.Line n kind) every = λ file right allow e. let bad = every file right allow e in absurd (cc (bad))
+no-file allowed text vector.Memory every = tt
+
+-- the fault of its reader is one of a run
+pub unread : (allowed : AllowedEvents) (known : Option (List ℕ)) (text items : List ℕ) (why : VectorFault) → IfSome known (λ bytes. items ≡ bytes)
+    → text ≡ items → ((file : VectorFile) → IsVectorFile file → IsAllowedFile allowed file → text ≡ text_of file → why ≡ vector.Memory)
+    → IsTold allowed text why → IfSome known (λ bytes. IsRunFault allowed bytes (of_vector why))
+unread allowed None text items why h e every told = tt
+unread allowed (Some bytes) text items why h e every told =
+    let same : text ≡ bytes = e ∙ h in
+    inr (inl (
+      why,
+      refl,
+      subst (λ (t : List ℕ). IsReadFault allowed t why) same (no-file allowed text why every),
+      subst (λ (t : List ℕ). IsTold allowed t why) same told,
+    ))
+
+pub unread-or : (allowed : AllowedEvents) (known : Option (List ℕ)) (fault : Fault) (Other : List ℕ → Type 0)
+    → IfSome known (λ bytes. IsRunFault allowed bytes fault) → IfSome known (λ bytes. IsRunFault allowed bytes fault ⊎ Other bytes)
+unread-or allowed None fault Other h = tt
+unread-or allowed (Some bytes) fault Other h = inl h
 
 -- a file that has no ends
 pub no-start : (allowed : AllowedEvents) (known : Option (List ℕ)) (text : List ℕ) (file : VectorFile) (fault : Fault) (Other : List ℕ → Type 0)

@@ -13,6 +13,7 @@ use Rattle.noise_tool.specs.Running.{IsMet, IsRunOf, expected_in}
 use Rattle.noise_lines.specs.Converted.{converted_text}
 use Rattle.noise_vectors.specs.Expectations.{IsFirstUnmet, bytes_of}
 use Rattle.noise_vectors.specs.VectorFile.{IsReadFault, IsVectorFile}
+use Rattle.noise_vectors.specs.WrongLine.{IsTold}
 use Rattle.noise_vectors.specs.VectorText.{text_of}
 use Rattle.noise_lines.specs.declared.faults.Fault.{Fault}
 use Rattle.noise_lines.specs.declared.faults.Fault.TheVariants.{TooLong, Unmet}
@@ -74,9 +75,9 @@ IsTooLong text fault = (fault ≡ TooLong) × (4194304 < length text)
 abbrev pub HasNoEnds : List ℕ → Fault → Type 0
 HasNoEnds text fault = (file : VectorFile) × IsVectorFile file × (text ≡ text_of file) × IsStartFault file fault
 
--- why this text isn't read
+-- why this text isn't read, and which of its lines is told
 abbrev pub IsUnread : AllowedEvents → List ℕ → Fault → Type 0
-IsUnread allowed text fault = (why : VectorFault) × (fault ≡ of_vector why) × IsReadFault allowed text why
+IsUnread allowed text fault = (why : VectorFault) × (fault ≡ of_vector why) × IsReadFault allowed text why × IsTold allowed text why
 
 -- why this text of a vector file, of what is allowed, isn't run
 abbrev pub IsRunFault : AllowedEvents → List ℕ → Fault → Type 0

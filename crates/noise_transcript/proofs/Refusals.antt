@@ -143,8 +143,8 @@ IsLeft f before after why = (why ≡ fault.Memory) ⊎ ((why ≡ fault.TooLong) 
 pub left-over : VectorTextsAreUnique → (f : VectorFile) (p : Plan) (lines : List (Role × List ℕ)) (before after : Option (List ℕ)) (why : Fault)
     → HasFittingLines f p lines → IsRunFault SayOnly (text_of f) why ⊎ IsUnmet (text_of f) before after why → IsLeft f before after why
 left-over unique f p lines before after why fits (inl (inl long)) = inr (inl long)
-left-over unique f p lines before after why fits (inl (inr (inl (vector.Memory, e, h)))) = inl e
-left-over unique f p lines before after why fits (inl (inr (inl (vector.Line n k, e, h)))) = absurd (h f fits.right (allowed f p lines fits) refl)
+left-over unique f p lines before after why fits (inl (inr (inl (vector.Memory, e, h, told)))) = inl e
+left-over unique f p lines before after why fits (inl (inr (inl (vector.Line n k, e, h, told)))) = absurd (h f fits.right (allowed f p lines fits) refl)
 left-over unique f p lines before after why fits (inl (inr (inr (g, right, same, start)))) =
     inl (no-start-fault g p lines why (fits-too f g p lines (unique f g fits.right right same) right fits) start)
 left-over unique f p lines before after why fits (inr h) = inr (inr (unmet-of (text_of f) before after why h))

@@ -2,7 +2,7 @@ use Rattle.std.proofs.Common.{arith, inl, rules, ◌≡◌, ◌∙◌, sym, inr}
 use Rattle.std.proofs.lemmas.Result.{err_from_is_err_and}
 use Rattle.noise_vectors.specs.declared.vector.AllowedEvents.TheVariants.{VersionOne}
 use Rattle.noise_vectors.specs.declared.vector.Version.TheVariants.{One}
-use Rattle.noise_tool.proofs.PerformingLemmas.{Ran, convert-fault, has-converted, no-converted, no-start}
+use Rattle.noise_tool.proofs.PerformingLemmas.{unread, unread-or, Ran, convert-fault, has-converted, no-converted, no-start}
 use Rattle.noise_tool.proofs.PrefixLemmas.{converted-prefix}
 use Rattle.noise_tool.specs.Performing.{IsShort}
 use Rattle.noise_tool.proofs.Shortness.{short-of, stays-short, unread-at}
@@ -98,3 +98,9 @@ returns-clause-prefix g c =
     inr (converted-prefix (g.R.Read.remaining c.args.file.now) c.in_ok-vector.vector c.in_ok-outcome.outcome _ _ c.deref-4.result.now ran one meets
     (text ∙ rw (← lines) (c.in_ok-converted.ensures.converted c.in_ok-vector.vector one (c.deref-2.ensures.value ∙ spelled)))
     (rw text c.in_ok-converted.ensures.short) c.print.ensures.prefix)
+
+pub returns-in_err-vector-clause-fault : goal.returns-in_err-vector-clause-fault
+returns-in_err-vector-clause-fault g c =
+    let p = err_from_is_err_and c.from_residual-in_err-vector.result c.from_residual-in_err-vector.ensures.1 in
+    rw (p.1, p.2) (inr (unread-or VersionOne (g.R.Read.remaining c.args.file.now) _ _ (unread VersionOne (g.R.Read.remaining c.args.file.now) c.deref.result.now c.in_ok-text.text.items c.in_err-vector.field-0.0
+    c.in_ok-text.ensures.bytes c.deref.ensures.value c.in_err-vector.ensures.every c.in_err-vector.ensures.told)))

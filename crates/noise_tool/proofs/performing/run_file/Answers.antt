@@ -1,6 +1,6 @@
 use Rattle.std.proofs.Common.{arith, inl, ◌∙◌, sym, inr}
 use Rattle.std.proofs.lemmas.Result.{err_from_is_err_and}
-use Rattle.noise_tool.proofs.PerformingLemmas.{Ran, has-run, no-run, no-start}
+use Rattle.noise_tool.proofs.PerformingLemmas.{unread, unread-or, Ran, has-run, no-run, no-start}
 use Rattle.noise_tool.proofs.PrefixLemmas.{run-prefix}
 use Rattle.noise_tool.specs.Performing.{IsShort}
 use Rattle.noise_tool.proofs.Shortness.{short-of, stays-short, unread-at}
@@ -67,3 +67,9 @@ returns-clause-prefix g c =
       expected = c.in_ok-outcome.ensures.expected;
     } in
     inr (run-prefix (g.R.Read.remaining c.args.file.now) c.in_ok-vector.vector c.in_ok-outcome.outcome _ _ ran c.print_outcome.ensures.prefix)
+
+pub returns-in_err-vector-clause-fault : goal.returns-in_err-vector-clause-fault
+returns-in_err-vector-clause-fault g c =
+    let p = err_from_is_err_and c.from_residual-in_err-vector.result c.from_residual-in_err-vector.ensures.1 in
+    rw (p.1, p.2) (inr (unread-or c.args.allowed (g.R.Read.remaining c.args.file.now) _ _ (unread c.args.allowed (g.R.Read.remaining c.args.file.now) c.deref.result.now c.in_ok-text.text.items c.in_err-vector.field-0.0
+    c.in_ok-text.ensures.bytes c.deref.ensures.value c.in_err-vector.ensures.every c.in_err-vector.ensures.told)))
