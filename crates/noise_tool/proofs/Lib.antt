@@ -2,9 +2,11 @@ pub mod ConversionLemmas
 pub mod EndLemmas
 pub mod OneRunLemmas
 pub mod MetLemmas
+pub mod MomentLemmas
 pub mod PerformingLemmas
 pub mod PrefixLemmas
 pub mod Shortness
 pub mod PrintedLemmas
 pub mod RunningLemmas
 pub mod TestingLemmas
+pub mod TraceLineLemmas

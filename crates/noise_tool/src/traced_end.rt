@@ -1,0 +1,201 @@
+//! The key schedule of one end of a run, and the lines of what comes of its messages.
+
+ghost use Rattle.std.specs.Prelude.{◌≡◌, ◌≤◌, ◌++◌, ℕ, List, IfOk, OnOk, drop, length};
+ghost use Rattle.noise_duel.specs.Entries.{note_of, notes_of};
+ghost use Rattle.noise_duel.specs.Notes.{Judged, Note, held_note, noted_by};
+ghost use Rattle.noise_duel.specs.Runs.{SideReads, SideReceives, SideWrites};
+ghost use Rattle.noise_duel.specs.Sides.{Side};
+ghost use Rattle.noise_session.specs.Ends.{EndView};
+ghost use Rattle.noise_session.specs.Frames.{frame};
+ghost use Rattle.noise_session.specs.Steps.{Told};
+ghost use Rattle.noise_session_trace.specs.Following.{EndFollows};
+ghost use Rattle.noise_session_trace.specs.Moments.{shown};
+ghost use Rattle.noise_vectors.specs.Expectations.{bytes_of};
+ghost use Rattle.noise_vectors.specs.FileKeys.{agreement_of, public_of};
+ghost use Rattle.noise_tool.specs.Moments.{IsCounted};
+ghost use Rattle.noise_tool.specs.Printed.{frame_at};
+ghost use Rattle.noise_tool.specs.TracedEnds.{IsFrameOf, TracedStands, traces_of};
+ghost use Rattle.noise_tool.specs.Tracing.{about, act_of, came_traces, read_moment, read_trace, written_message, written_moment, written_trace};
+
+use crate::moment_lines::{Kept, push_moment};
+use crate::trace_lines::{About, Act};
+use byteorder::{BigEndian, ByteOrder};
+use noise_duel::Entry;
+use noise_names::Role;
+use noise_session::SendFault;
+use noise_session_trace::{EndTrace, Moment, end_is_followed};
+use noise_vectors::FileKeys;
+use std::alloc::{AllocError, Global};
+
+/// The key schedule of one end of a run, and what has come of its next frame.
+#[derive(Drop)]
+pub struct TracedEnd {
+    pub role: Role,
+    /// Whether the pattern has psk tokens.
+    pub psks: bool,
+    pub end: EndTrace<FileKeys>,
+    pub held: Vec<u8>,
+}
+
+impl TracedEnd {
+    // A message of this end.
+    fn about(&self, act: Act) -> About
+        ensures { (v : EndView) → TracedStands self.now v → result ≡ about self.now.role v act }
+    {
+        About {
+            role: self.role,
+            psks: self.psks,
+            act,
+            number: self.end.messages_passed(),
+        }
+    }
+
+    /// The lines of what came of a payload that the end was to write, by its entry; `frame` is the frame that it wrote, or nothing.
+    pub fn write(
+        &mut self,
+        alloc: Global,
+        kept: Kept,
+        frame: &[u8],
+        entry: &Entry,
+    ) -> Result<Vec<Vec<u8>>, AllocError>
+        ensures { (s next : Side) (payload : List ℕ) (note : Note) (w : SideWrites s payload note next) → TracedStands self.old s.view
+            → note_of entry.now ≡ note → IsFrameOf frame.now note next
+            → IfOk result (λ lines. (bytes_of lines.items ≡ written_trace kept self.old.role s next payload note w) × TracedStands self.new next.view
+            × (self.new.role ≡ self.old.role)) }
+    {
+        let about = self.about(Act::Writes);
+        let message = message_in(frame);
+        let moment = written_moment(&mut self.end, message, entry);
+        let mut lines = Vec::new(alloc);
+        push_moment(alloc, kept, about, message, &moment, &mut lines)?;
+        Ok(lines)
+    }
+
+    /// Appends the lines that follow each of these entries, which tell what came of bytes that came to the end.
+    pub fn receive(
+        &mut self,
+        alloc: Global,
+        kept: Kept,
+        bytes: &[u8],
+        entries: &[(Role, Entry)],
+        traces: &mut Vec<Vec<Vec<u8>>>,
+    ) -> Result<(), AllocError>
+        ensures { (s reader : Side) (role : Role) (notes : List Note) (x : SideReceives s bytes.now notes reader) → TracedStands self.old s.view
+            → notes_of entries.now ≡ noted_by role (notes ++ held_note (length reader.view.held))
+            → OnOk result ((traces_of traces.new.items
+            ≡ traces_of traces.old.items ++ came_traces kept self.old.role s reader bytes.now notes x)
+            × TracedStands self.new reader.view × (self.new.role ≡ self.old.role)) }
+    {
+        let mut came = Vec::from_slice(alloc, &self.held)?;
+        came.extend_from_slice(bytes)?;
+        let left = self.read_all(alloc, kept, &came, entries, traces)?;
+        self.held = left;
+        Ok(())
+    }
+
+    // Appends the lines that follow each of these entries, and returns the bytes that are held then.
+    fn read_all(
+        &mut self,
+        alloc: Global,
+        kept: Kept,
+        came: &[u8],
+        entries: &[(Role, Entry)],
+        traces: &mut Vec<Vec<Vec<u8>>>,
+    ) -> Result<Vec<u8>, AllocError> {
+        let mut rest = came;
+        for (_, entry) in entries {
+            let (message, after) = split_entry(rest, entry);
+            let lines = self.read(alloc, kept, message, entry)?;
+            traces.push(lines)?;
+            rest = after;
+        }
+        Ok(Vec::from_slice(alloc, rest)?)
+    }
+
+    // The lines of a message that came, by its entry; of an entry that is about no message, none.
+    fn read(
+        &mut self,
+        alloc: Global,
+        kept: Kept,
+        message: &[u8],
+        entry: &Entry,
+    ) -> Result<Vec<Vec<u8>>, AllocError>
+    {
+        let act = match entry {
+            Entry::Payload(_) => Act::Accepts,
+            _ => Act::Refuses,
+        };
+        let about = self.about(act);
+        let moment = read_moment(&mut self.end, message, entry);
+        let mut lines = Vec::new(alloc);
+        push_moment(alloc, kept, about, message, &moment, &mut lines)?;
+        Ok(lines)
+    }
+}
+
+// The message in a frame.
+fn message_in(frame: &[u8]) -> &[u8]
+    ensures { result.now ≡ drop 2 frame.now }
+{
+    let (_, message) = frame.split_at(frame.len().min(2));
+    message
+}
+
+// What is shown of what came of a payload, by its entry.
+fn written_moment(end: &mut EndTrace<FileKeys>, message: &[u8], entry: &Entry) -> Moment
+    ensures { (s next : Side) (payload : List ℕ) (note : Note) (w : SideWrites s payload note next)
+        → EndFollows public_of agreement_of end.old s.view → note_of entry.now ≡ note
+        → message.now ≡ written_message s next payload note w
+        → (shown result ≡ written_moment s next payload note w) × IsCounted (shown result)
+        × EndFollows public_of agreement_of end.new next.view }
+{
+    end_is_followed::<FileKeys>();
+    match entry {
+        Entry::Wrote(_) => end.wrote(message),
+        Entry::WriteFault(SendFault::Agreement { token }) => end.withheld(*token),
+        _ => Moment::Nothing,
+    }
+}
+
+// What is shown of a message that came, by its entry.
+fn read_moment(end: &mut EndTrace<FileKeys>, message: &[u8], entry: &Entry) -> Moment
+    ensures { (s next : Side) (step : Told) (r : SideReads s message.now step next)
+        → EndFollows public_of agreement_of end.old s.view → note_of entry.now ≡ Judged step
+        → (shown result ≡ read_moment s next message.now step r) × IsCounted (shown result)
+        × EndFollows public_of agreement_of end.new next.view }
+{
+    end_is_followed::<FileKeys>();
+    match entry {
+        Entry::Payload(_) => end.took(message),
+        Entry::Dropped(_) => end.tried(),
+        Entry::Refused { token, .. } => end.refused(message, *token),
+        _ => Moment::Nothing,
+    }
+}
+
+// The message of the first frame in these bytes, and the bytes after it.
+fn split_frame(bytes: &[u8]) -> (&[u8], &[u8])
+    ensures { (message rest : List ℕ) → bytes.now ≡ frame message ++ rest → length message ≤ 65535
+        → (result.0.now ≡ message) × (result.1.now ≡ rest) }
+{
+    if bytes.len() < 2 {
+        return (&[], bytes);
+    }
+    let (front, after) = bytes.split_at(2);
+    let count = usize::from(BigEndian::read_u16(front));
+    after.split_at(count.min(after.len()))
+}
+
+// The bytes that an entry is about, taken from these: a message, or nothing; and the bytes that are left of them.
+fn split_entry<'a>(rest: &'a [u8], entry: &Entry) -> (&'a [u8], &'a [u8]) {
+    match entry {
+        Entry::Payload(_) | Entry::Dropped(_) | Entry::Refused { .. } | Entry::Exhausted => {
+            split_frame(rest)
+        }
+        Entry::Left(_, count) => {
+            let (kept, _) = rest.split_at(rest.len().saturating_sub(*count));
+            (&[], kept)
+        }
+        _ => (&[], rest),
+    }
+}
