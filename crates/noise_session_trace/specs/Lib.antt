@@ -1,0 +1,3 @@
+pub mod Directions
+pub mod Following
+pub mod Moments

@@ -1,0 +1,35 @@
+//! Both directions of a session that is open.
+#![tactic(auto)]
+
+ghost use Rattle.std.specs.Prelude.{◌≡◌, ℕ};
+ghost use Rattle.noise_handshake.specs.View.{View};
+ghost use Rattle.noise_session.specs.Ends.{end_of};
+ghost use Rattle.noise_session_trace.specs.Moments.{opening_of};
+
+use crate::Opening;
+use crate::direction::Direction;
+use noise_names::Role;
+
+// That of the messages that a party writes, and that of those that it opens.
+#[derive(Clone, Copy)]
+pub(crate) struct Directions {
+    pub(crate) sending: Direction,
+    pub(crate) receiving: Direction,
+}
+
+impl Directions {
+    ghost use Rattle.noise_session_trace.specs.Following.{directions_of};
+
+    // Those of a role at the opening.
+    pub(crate) fn new(role: Role, opening: &Opening) -> Directions
+        ensures { (v : View) (interval : ℕ) → role ≡ v.role → opening.now ≡ opening_of v.history → result ≡ directions_of (end_of v interval) }
+    {
+        let initiator = Direction::new(opening.initiator);
+        let responder = Direction::new(opening.responder);
+        let (sending, receiving) = match role {
+            Role::Initiator => (initiator, responder),
+            Role::Responder => (responder, initiator),
+        };
+        Directions { sending, receiving }
+    }
+}

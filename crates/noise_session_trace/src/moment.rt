@@ -1,0 +1,24 @@
+//! What is shown of a call of an end.
+#![tactic(auto)]
+
+use crate::Opening;
+use arrayvec::ArrayVec;
+use noise_trace::Step;
+
+/// What is shown of the key schedule at one call of an end.
+#[derive(Drop)]
+pub enum Moment {
+    /// No key was used.
+    Nothing,
+    /// The steps of a handshake message, and the transport keys if it was the last one.
+    Message {
+        steps: ArrayVec<Step, 11>,
+        opening: Option<Opening>,
+    },
+    /// A transport message's nonce and key, and the key of the messages after it if it is renewed then (Noise, 11.3).
+    Transport {
+        nonce: u64,
+        key: [u8; 32],
+        renewed: Option<[u8; 32]>,
+    },
+}

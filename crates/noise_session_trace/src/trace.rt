@@ -1,0 +1,154 @@
+//! The key schedule of one end of a session.
+#![tactic(auto)]
+
+ghost use Rattle.std.specs.Prelude.{◌≡◌, ◌≢◌, ◌+◌, ℕ, List, [], length, IsTrue, Option, Some, None, IfSome};
+ghost use Rattle.noise_handshake.specs.declared.faults.Cause.{Cause};
+ghost use Rattle.noise_handshake.specs.View.{View, Accepts, Refuses};
+ghost use Rattle.noise_handshake.specs.Writing.{Writes, Lacks};
+ghost use Rattle.noise_handshake.specs.Party.{after_message, after_own};
+ghost use Rattle.noise_session.specs.Transport.{last_nonce};
+ghost use Rattle.noise_session.specs.Progress.{is_open, refusal};
+ghost use Rattle.noise_session.specs.Ends.{EndView, end_of, progress_of};
+
+use crate::directions::Directions;
+use crate::{Moment, Opening};
+use arrayvec::ArrayVec;
+use noise_handshake::Keys;
+use noise_trace::{Following, Step};
+
+/// The key schedule of one end of a session, which follows the messages that the end writes and takes.
+///
+/// It is told each message, and what came of it at the end. It encrypts nothing, and checks nothing: of other messages
+/// than those of the end it shows something else.
+#[derive(Drop)]
+pub struct EndTrace<K: Keys> {
+    following: Following<K>,
+    interval: u64,
+    directions: Option<Directions>,
+}
+
+impl<K: Keys> EndTrace<K> {
+    ghost use Rattle.noise_trace.specs.Following.{Follows};
+    ghost use Rattle.noise_session_trace.specs.Moments.Shown.{Message, Nothing};
+    ghost use Rattle.noise_session_trace.specs.Following.{EndFollows, directions_in};
+    ghost use Rattle.noise_session_trace.specs.Moments.{shown, opening_in, message_moment, stopped_moment, sent_moment, opened_moment, tried_moment, keys_in};
+
+    /// The key schedule of a new end, whose handshake is at the place of this one; `interval` is that of the end.
+    pub fn new(following: Following<K>, interval: u64) -> EndTrace<K>
+        ensures { (party : View) → Follows K.public_of K.agreement following party
+            → EndFollows K.public_of K.agreement result (end_of party interval) }
+    {
+        let directions = match Opening::after(&following) {
+            Some(opening) => Some(Directions::new(following.role(), &opening)),
+            None => None,
+        };
+        EndTrace {
+            following,
+            interval,
+            directions,
+        }
+    }
+
+    /// A message that the end wrote: of the handshake, or of the transport once the session is open. At nonce 2^64 - 1, which no
+    /// message has, nothing is shown and nothing changes.
+    pub fn wrote(&mut self, message: &[u8]) -> Moment
+        ensures handshake { (v : EndView) (xs : List (List ℕ)) (payload : List ℕ) → EndFollows K.public_of K.agreement self.old v
+            → Writes v.party payload xs message.now
+            → (shown result ≡ message_moment v xs payload)
+            × EndFollows K.public_of K.agreement self.new (record v { party = after_own v.party xs payload }) }
+        ensures transport { (v : EndView) (payload : List ℕ) → EndFollows K.public_of K.agreement self.old v
+            → refusal (progress_of v) (length payload) ≡ None → IsTrue (is_open (progress_of v))
+            → (shown result ≡ sent_moment v) × EndFollows K.public_of K.agreement self.new (record v { sent = v.sent + 1 }) }
+        ensures exhausted { (v : EndView) → EndFollows K.public_of K.agreement self.old v → IsTrue (is_open (progress_of v)) → v.sent ≡ last_nonce
+            → (shown result ≡ Nothing) × EndFollows K.public_of K.agreement self.new v }
+    {
+        if let Some(directions) = &mut self.directions {
+            return directions.sending.pass(self.interval);
+        }
+        let steps = self.following.written(message);
+        self.passed(steps)
+    }
+
+    /// A message that the end accepted or opened, as it came: a copy of one that is read in place. At nonce 2^64 - 1, which no
+    /// message has, nothing is shown and nothing changes.
+    pub fn took(&mut self, message: &[u8]) -> Moment
+        ensures handshake { (v : EndView) (xs : List (List ℕ)) (payload : List ℕ) → EndFollows K.public_of K.agreement self.old v
+            → Accepts v.party message.now xs payload
+            → (shown result ≡ message_moment v xs payload)
+            × EndFollows K.public_of K.agreement self.new (record v { party = after_message v.party xs payload; held = [] }) }
+        ensures transport { (v : EndView) → EndFollows K.public_of K.agreement self.old v
+            → IsTrue (is_open (progress_of v)) → v.received ≢ last_nonce
+            → (shown result ≡ opened_moment v) × EndFollows K.public_of K.agreement self.new (record v { received = v.received + 1; held = [] }) }
+        ensures exhausted { (v : EndView) → EndFollows K.public_of K.agreement self.old v → IsTrue (is_open (progress_of v)) → v.received ≡ last_nonce
+            → (shown result ≡ Nothing) × EndFollows K.public_of K.agreement self.new v }
+    {
+        if let Some(directions) = &mut self.directions {
+            return directions.receiving.pass(self.interval);
+        }
+        let steps = self.following.accepted(message);
+        self.passed(steps)
+    }
+
+    // What is shown of a handshake message that has passed. After the last one the session is open.
+    fn passed(&mut self, steps: ArrayVec<Step, 11>) -> Moment
+        ensures same { self.new.following ≡ self.old.following }
+        ensures interval { self.new.interval ≡ self.old.interval }
+        ensures shown { (v : View) → Follows K.public_of K.agreement self.old.following v → shown result ≡ Message steps.items (opening_in v) }
+        ensures directions { (v : EndView) → Follows K.public_of K.agreement self.old.following v.party → self.old.directions ≡ None
+            → v.sent ≡ 0 → v.received ≡ 0 → self.new.directions ≡ directions_in v }
+    {
+        let opening = Opening::after(&self.following);
+        if let Some(opening) = &opening {
+            self.directions = Some(Directions::new(self.following.role(), opening));
+        }
+        Moment::Message { steps, opening }
+    }
+
+    /// A handshake message that the end didn't write, for want of a DH answer at this token, counted from 0: the steps of the
+    /// tokens before it.
+    pub fn withheld(&self, token: u8) -> Moment
+        ensures { (v : EndView) → EndFollows K.public_of K.agreement self.now v → (lacks : Lacks v.party token)
+            → shown result ≡ stopped_moment v token lacks.lacks.before }
+    {
+        Moment::Message {
+            steps: self.following.withheld(token),
+            opening: None,
+        }
+    }
+
+    /// A handshake message that the end refused at this token, counted from 0: the steps of the tokens before it.
+    pub fn refused(&self, message: &[u8], token: u8) -> Moment
+        ensures { (v : EndView) (cause : Cause) → EndFollows K.public_of K.agreement self.now v → (refused : Refuses v.party message.now token cause)
+            → shown result ≡ stopped_moment v token refused.stops.carried }
+    {
+        Moment::Message {
+            steps: self.following.refused(message, token),
+            opening: None,
+        }
+    }
+
+    /// A transport message that the end dropped: the nonce and the key that it was tried with. Before the opening nothing.
+    pub fn tried(&self) -> Moment
+        ensures opened { (v : EndView) → EndFollows K.public_of K.agreement self.now v → IsTrue (is_open (progress_of v))
+            → shown result ≡ tried_moment v }
+        ensures before { (v : EndView) → EndFollows K.public_of K.agreement self.now v → v.party.passed ≢ length v.party.pattern.messages
+            → shown result ≡ Nothing }
+    {
+        match &self.directions {
+            Some(directions) => directions.receiving.now(),
+            None => Moment::Nothing,
+        }
+    }
+
+    /// The two keys that the session opened with, the initiator's first, once it has: those of datagrams too.
+    pub fn keys(&self) -> Option<([u8; 32], [u8; 32])>
+        ensures { (v : EndView) → EndFollows K.public_of K.agreement self.now v → result ≡ keys_in v.party }
+    {
+        let Opening {
+            initiator,
+            responder,
+            ..
+        } = Opening::after(&self.following)?;
+        Some((initiator, responder))
+    }
+}
