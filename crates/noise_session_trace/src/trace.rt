@@ -151,4 +151,11 @@ impl<K: Keys> EndTrace<K> {
         } = Opening::after(&self.following)?;
         Some((initiator, responder))
     }
+
+    /// How many handshake messages have passed.
+    pub fn messages_passed(&self) -> u64
+        ensures { (v : EndView) → EndFollows K.public_of K.agreement self.now v → result ≡ v.party.passed }
+    {
+        self.following.passed()
+    }
 }

@@ -10,3 +10,4 @@ pub mod PrintedLemmas
 pub mod RunningLemmas
 pub mod TestingLemmas
 pub mod TraceLineLemmas
+pub mod ReceivedLemmas

@@ -30,7 +30,7 @@ use Rattle.noise_session_trace.specs.Following.{EndFollows}
 use Rattle.noise_session_trace.specs.Moments.{Shown, message_moment, opened_moment, sent_moment, shown, stopped_moment, tried_moment}
 use Rattle.noise_session_trace.specs.Moments.Shown.{Nothing, Message, Transport}
 use Rattle.noise_duel.specs.Notes.{Note, Wrote, WriteFault, Judged}
-use Rattle.noise_duel.specs.Runs.{SideReads, SideWrites}
+use Rattle.noise_duel.specs.Runs.{GivesNoPayload, SideReads, SideWrites}
 use Rattle.noise_duel.specs.Runs.SideWrites.{writes_nothing, writes_handshake, writes_transport}
 use Rattle.noise_duel.specs.Runs.SideReads.{accepts_handshake, accepts_transport, refuses_message}
 use Rattle.noise_duel.specs.Sides.{Side}
@@ -197,20 +197,21 @@ payload-same x y e = cc
 
 module _ (old new : Trace) (m : Moment) where
   -- a message that was accepted
-  pub took-shown : (message : List ℕ) (bytes : List ℕ)
-      → ((v : EndView) (xs : List (List ℕ)) (payload : List ℕ) → Follow old v → Accepts v.party message xs payload
+  pub took-shown : (given message : List ℕ) (bytes : List ℕ) → given ≡ message
+      → ((v : EndView) (xs : List (List ℕ)) (payload : List ℕ) → Follow old v → Accepts v.party given xs payload
       → (shown m ≡ message_moment v xs payload) × Follow new (record v { party = after_message v.party xs payload; held = [] }))
       → ((v : EndView) → Follow old v → IsTrue (is_open (progress_of v)) → v.received ≢ last_nonce
       → (shown m ≡ opened_moment v) × Follow new (record v { received = v.received + 1; held = [] }))
       → (s next : Side) (step : Told) (r : SideReads s message step next) → Follow old s.view → Judged (Payload bytes) ≡ Judged step
       → Has (shown m) (read_moment s next message step r) new next.view
-  took-shown message bytes handshake transport s next step (accepts_handshake _ _ payload xs accepts) follows told =
-      let done = handshake s.view xs payload follows accepts in (done.0, subst IsCounted (sym done.0) tt, done.1)
-  took-shown message bytes handshake transport s next step (accepts_transport _ _ payload opens more spelled) follows told =
+  took-shown given message bytes is handshake transport s next step (accepts_handshake _ _ payload xs accepts) follows told =
+      let done = handshake s.view xs payload follows (subst (λ (z : List ℕ). Accepts s.view.party z xs payload) (sym is) accepts) in
+      (done.0, subst IsCounted (sym done.0) tt, done.1)
+  took-shown given message bytes is handshake transport s next step (accepts_transport _ _ payload opens more spelled) follows told =
       let done = transport s.view follows opens more in (done.0, subst IsCounted (sym done.0) (counted _ _ _ more), done.1)
-  took-shown message bytes handshake transport s next step (refuses_message _ _ _ after gives judges) follows told =
+  took-shown given message bytes is handshake transport s next step (refuses_message _ _ _ after gives judges) follows told =
       let same : Payload bytes ≡ step = cc in
-      absurd (subst (λ (z : Told). Rattle.noise_duel.specs.Runs.GivesNoPayload z) (sym same) gives)
+      absurd (subst (λ (z : Told). GivesNoPayload z) (sym same) gives)
 
 refused-token : (a b : ℕ) (x y : Cause) → Refused a x ≡ Refused b y → a ≡ b
 refused-token a b x y e = cc
@@ -257,14 +258,16 @@ module _ (t : Trace) (closes : Closes t) (holds : Holds t) where
   dropped-shown m message cause clause s next step (refuses_message _ _ _ after gives judges) follows told =
       judged-dropped m s.view after message step judges cause (cc) follows clause
 
-  pub refused-shown : (m : Moment) (message : List ℕ) (token : ℕ) (cause : Cause)
-      → ((w : EndView) (why : Cause) → Follow t w → (r : Refuses w.party message token why) → shown m ≡ stopped_moment w token r.stops.carried)
+  pub refused-shown : (m : Moment) (given message : List ℕ) (token : ℕ) (cause : Cause) → given ≡ message
+      → ((w : EndView) (why : Cause) → Follow t w → (r : Refuses w.party given token why) → shown m ≡ stopped_moment w token r.stops.carried)
       → (s next : Side) (step : Told) (r : SideReads s message step next) → Follow t s.view → Judged (Refused token cause) ≡ Judged step
       → Has (shown m) (read_moment s next message step r) t next.view
-  refused-shown m message token cause clause s next step (accepts_handshake _ _ payload xs accepts) follows told = absurd (cc told)
-  refused-shown m message token cause clause s next step (accepts_transport _ _ payload opens more spelled) follows told = absurd (cc told)
-  refused-shown m message token cause clause s next step (refuses_message _ _ _ after gives judges) follows told =
-      judged-refused m s.view after message step judges token cause (cc) follows clause
+  refused-shown m given message token cause is clause s next step (accepts_handshake _ _ payload xs accepts) follows told = absurd (cc told)
+  refused-shown m given message token cause is clause s next step (accepts_transport _ _ payload opens more spelled) follows told = absurd (cc told)
+  refused-shown m given message token cause is clause s next step (refuses_message _ _ _ after gives judges) follows told =
+      judged-refused m s.view after message step judges token cause (cc) follows
+      (subst (λ (z : List ℕ). (w : EndView) (why : Cause) → Follow t w → (r : Refuses w.party z token why) → shown m ≡ stopped_moment w token r.stops.carried)
+      is clause)
 
   pub exhausted-shown : (message : List ℕ) (s next : Side) (step : Told) (r : SideReads s message step next) → Follow t s.view
       → Judged Exhausted ≡ Judged step → Has Nothing (read_moment s next message step r) t next.view

@@ -11,26 +11,28 @@ use Rattle.noise_session_trace.specs.Following.{EndFollows}
 use Rattle.noise_duel.specs.declared.report.Report.{Report}
 use Rattle.noise_duel.specs.Entries.{notes_of}
 use Rattle.noise_duel.specs.HeldDuel.{DuelStands, HasFrames, HeldDuel}
-use Rattle.noise_duel.specs.Notes.{Note}
-use Rattle.noise_duel.specs.Notes.{Wrote}
+use Rattle.noise_duel.specs.Notes.{Held, Left, Note}
 use Rattle.noise_duel.specs.Runs.{Run}
-use Rattle.noise_duel.specs.Sides.{Side, Sides}
+use Rattle.noise_duel.specs.Sides.{Sides}
 use Rattle.noise_vectors.specs.Expectations.{bytes_of}
 use Rattle.noise_vectors.specs.FileKeys.{agreement_of, public_of}
 use Rattle.noise_vectors.specs.declared.file_keys.FileKeys.{FileKeys}
 use Rattle.noise_vectors.specs.declared.vector.VectorFile.{VectorFile}
 use Rattle.noise_tool.specs.Ends.{IsPatternOf, facing_in, setup_of}
-use Rattle.noise_tool.specs.Printed.{frame_at}
 use Rattle.noise_tool.specs.Tracing.{run_traces, start_traces}
 use Rattle.noise_tool.specs.declared.moment_lines.Kept.{Kept}
 use Rattle.noise_tool.specs.declared.traced_end.TracedEnd.{TracedEnd}
 use Rattle.noise_tool.specs.declared.traced_ends.TracedEnds.{TracedEnds}
 use Rattle.noise_tool.specs.declared.traced_ends.TracedStart.{TracedStart}
 
--- It shows the end of this view, and holds what has come of its next frame.
-pub record TracedStands (t : TracedEnd) (v : EndView) : Type 0 where
+-- It shows the end of this view.
+pub record Shows (t : TracedEnd) (v : EndView) : Type 0 where
   pub psks : t.psks ≡ has_psk v.party.pattern
   pub follows : EndFollows public_of agreement_of t.end v
+
+-- and holds what has come of its next frame
+pub record TracedStands (t : TracedEnd) (v : EndView) : Type 0 where
+  pub shows : Shows t v
   pub held : t.held.items ≡ v.held
 
 -- so do both
@@ -44,10 +46,11 @@ pub record EndsTraced (ends : TracedEnds) (d : Sides) : Type 0 where
 abbrev pub traces_of : List (Vec (Vec ℕ Global) Global) → List (List (List ℕ))
 traces_of traces = map (λ t. bytes_of t.items) traces
 
--- the frame that a side wrote, where a note says that it wrote one
-abbrev pub IsFrameOf : List ℕ → Note → Side → Type 0
-IsFrameOf bytes (Wrote n) next = bytes ≡ frame_at next n
-IsFrameOf bytes note next = Unit {0}
+-- a note of bytes that make no frame
+abbrev pub IsOfNoFrame : Note → Type 0
+IsOfNoFrame (Left step n) = Unit {0}
+IsOfNoFrame (Held n) = Unit {0}
+IsOfNoFrame note = ⊥
 
 -- the two ends start from what the file says, and so do their key schedules
 pub record AreTracedEnds (kept : Kept) (file : VectorFile) (made : TracedStart) : Type 0 where

@@ -9,6 +9,7 @@ use Rattle.noise_events.specs.Events.{Event, events_of}
 use Rattle.noise_handshake.specs.Setup.{public_keys}
 use Rattle.noise_session.specs.declared.faults.SendFault.{SendFault}
 use Rattle.noise_session.specs.Ends.{EndView}
+use Rattle.noise_session.specs.Frames.{frame}
 use Rattle.noise_session.specs.Sending.{Sends}
 use Rattle.noise_session.specs.Sending.Sends.{refuses, lacks_answer, sends_handshake, sends_transport}
 use Rattle.noise_session.specs.Steps.{Told}
@@ -61,6 +62,12 @@ abbrev pub written_message : (s next : Side) (payload : List ℕ) (note : Note) 
 written_message s next payload note (writes_nothing _ _ why after sends) = []
 written_message s next payload note (writes_handshake _ message _ xs free w) = message
 written_message s next payload note (writes_transport _ message _ free opens is) = message
+
+-- its frame
+abbrev pub written_frame : (s next : Side) (payload : List ℕ) (note : Note) → SideWrites s payload note next → List ℕ
+written_frame s next payload note (writes_nothing _ _ why after sends) = []
+written_frame s next payload note (writes_handshake _ message _ xs free w) = frame message
+written_frame s next payload note (writes_transport _ message _ free opens is) = frame message
 
 -- ---- what is shown of a message that comes
 

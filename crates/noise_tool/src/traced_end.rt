@@ -1,8 +1,8 @@
 //! The key schedule of one end of a run, and the lines of what comes of its messages.
 
-ghost use Rattle.std.specs.Prelude.{◌≡◌, ◌≤◌, ◌++◌, ℕ, List, IfOk, OnOk, drop, length};
+ghost use Rattle.std.specs.Prelude.{◌≡◌, ◌≤◌, ◌-◌, ◌++◌, ℕ, List, [], IfOk, OnOk, drop, length, take};
 ghost use Rattle.noise_duel.specs.Entries.{note_of, notes_of};
-ghost use Rattle.noise_duel.specs.Notes.{Judged, Note, held_note, noted_by};
+ghost use Rattle.noise_duel.specs.Notes.{Held, Judged, Left, Note, WriteFault, held_note, noted_by};
 ghost use Rattle.noise_duel.specs.Runs.{SideReads, SideReceives, SideWrites};
 ghost use Rattle.noise_duel.specs.Sides.{Side};
 ghost use Rattle.noise_session.specs.Ends.{EndView};
@@ -10,12 +10,12 @@ ghost use Rattle.noise_session.specs.Frames.{frame};
 ghost use Rattle.noise_session.specs.Steps.{Told};
 ghost use Rattle.noise_session_trace.specs.Following.{EndFollows};
 ghost use Rattle.noise_session_trace.specs.Moments.{shown};
+ghost use Rattle.noise_session_trace.specs.Moments.Shown.{Nothing};
 ghost use Rattle.noise_vectors.specs.Expectations.{bytes_of};
 ghost use Rattle.noise_vectors.specs.FileKeys.{agreement_of, public_of};
-ghost use Rattle.noise_tool.specs.Moments.{IsCounted};
-ghost use Rattle.noise_tool.specs.Printed.{frame_at};
-ghost use Rattle.noise_tool.specs.TracedEnds.{IsFrameOf, TracedStands, traces_of};
-ghost use Rattle.noise_tool.specs.Tracing.{about, act_of, came_traces, read_moment, read_trace, written_message, written_moment, written_trace};
+ghost use Rattle.noise_tool.specs.Moments.{IsCounted, moment_lines};
+ghost use Rattle.noise_tool.specs.TracedEnds.{IsOfNoFrame, Shows, TracedStands, traces_of};
+ghost use Rattle.noise_tool.specs.Tracing.{about, act_of, came_traces, read_moment, read_trace, written_frame, written_message, written_moment, written_trace};
 
 use crate::moment_lines::{Kept, push_moment};
 use crate::trace_lines::{About, Act};
@@ -40,7 +40,7 @@ pub struct TracedEnd {
 impl TracedEnd {
     // A message of this end.
     fn about(&self, act: Act) -> About
-        ensures { (v : EndView) → TracedStands self.now v → result ≡ about self.now.role v act }
+        ensures { (v : EndView) → Shows self.now v → result ≡ about self.now.role v act }
     {
         About {
             role: self.role,
@@ -58,17 +58,15 @@ impl TracedEnd {
         frame: &[u8],
         entry: &Entry,
     ) -> Result<Vec<Vec<u8>>, AllocError>
-        ensures { (s next : Side) (payload : List ℕ) (note : Note) (w : SideWrites s payload note next) → TracedStands self.old s.view
-            → note_of entry.now ≡ note → IsFrameOf frame.now note next
-            → IfOk result (λ lines. (bytes_of lines.items ≡ written_trace kept self.old.role s next payload note w) × TracedStands self.new next.view
-            × (self.new.role ≡ self.old.role)) }
+        ensures role { self.new.role ≡ self.old.role }
+        ensures lines { (s next : Side) (payload : List ℕ) (note : Note) (w : SideWrites s payload note next) → TracedStands self.old s.view
+            → note_of entry.now ≡ note → frame.now ≡ written_frame s next payload note w
+            → IfOk result (λ lines. (bytes_of lines.items ≡ written_trace kept self.old.role s next payload note w) × TracedStands self.new next.view) }
     {
         let about = self.about(Act::Writes);
         let message = message_in(frame);
         let moment = written_moment(&mut self.end, message, entry);
-        let mut lines = Vec::new(alloc);
-        push_moment(alloc, kept, about, message, &moment, &mut lines)?;
-        Ok(lines)
+        moment_of(alloc, kept, about, message, &moment)
     }
 
     /// Appends the lines that follow each of these entries, which tell what came of bytes that came to the end.
@@ -80,11 +78,11 @@ impl TracedEnd {
         entries: &[(Role, Entry)],
         traces: &mut Vec<Vec<Vec<u8>>>,
     ) -> Result<(), AllocError>
-        ensures { (s reader : Side) (role : Role) (notes : List Note) (x : SideReceives s bytes.now notes reader) → TracedStands self.old s.view
+        ensures role { self.new.role ≡ self.old.role }
+        ensures lines { (s reader : Side) (role : Role) (notes : List Note) (x : SideReceives s bytes.now notes reader) → TracedStands self.old s.view
             → notes_of entries.now ≡ noted_by role (notes ++ held_note (length reader.view.held))
             → OnOk result ((traces_of traces.new.items
-            ≡ traces_of traces.old.items ++ came_traces kept self.old.role s reader bytes.now notes x)
-            × TracedStands self.new reader.view × (self.new.role ≡ self.old.role)) }
+            ≡ traces_of traces.old.items ++ came_traces kept self.old.role s reader bytes.now notes x) × TracedStands self.new reader.view) }
     {
         let mut came = Vec::from_slice(alloc, &self.held)?;
         came.extend_from_slice(bytes)?;
@@ -101,7 +99,15 @@ impl TracedEnd {
         came: &[u8],
         entries: &[(Role, Entry)],
         traces: &mut Vec<Vec<Vec<u8>>>,
-    ) -> Result<Vec<u8>, AllocError> {
+    ) -> Result<Vec<u8>, AllocError>
+        ensures role { self.new.role ≡ self.old.role }
+        ensures lines { (s reader : Side) (role : Role) (bytes : List ℕ) (notes : List Note) (x : SideReceives s bytes notes reader)
+            → Shows self.old s.view → came.now ≡ s.view.held ++ bytes
+            → notes_of entries.now ≡ noted_by role (notes ++ held_note (length reader.view.held))
+            → IfOk result (λ left. (left.items ≡ reader.view.held)
+            × (traces_of traces.new.items ≡ traces_of traces.old.items ++ came_traces kept self.old.role s reader bytes notes x)
+            × Shows self.new reader.view) }
+    {
         let mut rest = came;
         for (_, entry) in entries {
             let (message, after) = split_entry(rest, entry);
@@ -120,17 +126,42 @@ impl TracedEnd {
         message: &[u8],
         entry: &Entry,
     ) -> Result<Vec<Vec<u8>>, AllocError>
+        ensures role { self.new.role ≡ self.old.role }
+        ensures lines { (s next : Side) (text : List ℕ) (step : Told) (r : SideReads s text step next) → Shows self.old s.view → message.now ≡ text
+            → note_of entry.now ≡ Judged step
+            → IfOk result (λ lines. (bytes_of lines.items ≡ read_trace kept self.old.role s next text step r) × Shows self.new next.view) }
+        ensures none { (v : EndView) → Shows self.old v → IsOfNoFrame (note_of entry.now)
+            → IfOk result (λ lines. (bytes_of lines.items ≡ []) × Shows self.new v) }
     {
-        let act = match entry {
-            Entry::Payload(_) => Act::Accepts,
-            _ => Act::Refuses,
-        };
-        let about = self.about(act);
+        let about = self.about(act_of(entry));
         let moment = read_moment(&mut self.end, message, entry);
-        let mut lines = Vec::new(alloc);
-        push_moment(alloc, kept, about, message, &moment, &mut lines)?;
-        Ok(lines)
+        moment_of(alloc, kept, about, message, &moment)
     }
+}
+
+// What an end makes of a message that came, by its entry.
+fn act_of(entry: &Entry) -> Act
+    ensures { (step : Told) → note_of entry.now ≡ Judged step → result ≡ act_of step }
+{
+    match entry {
+        Entry::Payload(_) => Act::Accepts,
+        _ => Act::Refuses,
+    }
+}
+
+// The lines of what is shown of a message.
+fn moment_of(
+    alloc: Global,
+    kept: Kept,
+    about: About,
+    message: &[u8],
+    moment: &Moment,
+) -> Result<Vec<Vec<u8>>, AllocError>
+    ensures { IsCounted (shown moment.now) → IfOk result (λ lines. bytes_of lines.items ≡ moment_lines kept about message.now (shown moment.now)) }
+{
+    let mut lines = Vec::new(alloc);
+    push_moment(alloc, kept, about, message, moment, &mut lines)?;
+    Ok(lines)
 }
 
 // The message in a frame.
@@ -152,17 +183,37 @@ fn written_moment(end: &mut EndTrace<FileKeys>, message: &[u8], entry: &Entry) -
     end_is_followed::<FileKeys>();
     match entry {
         Entry::Wrote(_) => end.wrote(message),
-        Entry::WriteFault(SendFault::Agreement { token }) => end.withheld(*token),
+        Entry::WriteFault(fault) => unsent_moment(end, *fault),
         _ => Moment::Nothing,
+    }
+}
+
+// What is shown of a payload that wasn't written.
+fn unsent_moment(end: &EndTrace<FileKeys>, fault: SendFault) -> Moment
+    ensures { (s next : Side) (payload : List ℕ) (note : Note) (w : SideWrites s payload note next)
+        → EndFollows public_of agreement_of end.now s.view → WriteFault fault ≡ note
+        → (shown result ≡ written_moment s next payload note w) × IsCounted (shown result)
+        × EndFollows public_of agreement_of end.now next.view }
+{
+    end_is_followed::<FileKeys>();
+    match fault {
+        SendFault::Agreement { token } => end.withheld(token),
+        SendFault::NotYourTurn
+        | SendFault::TooLong
+        | SendFault::Ended
+        | SendFault::OneWay
+        | SendFault::Exhausted
+        | SendFault::Output { .. } => Moment::Nothing,
     }
 }
 
 // What is shown of a message that came, by its entry.
 fn read_moment(end: &mut EndTrace<FileKeys>, message: &[u8], entry: &Entry) -> Moment
-    ensures { (s next : Side) (step : Told) (r : SideReads s message.now step next)
-        → EndFollows public_of agreement_of end.old s.view → note_of entry.now ≡ Judged step
-        → (shown result ≡ read_moment s next message.now step r) × IsCounted (shown result)
+    ensures frame { (s next : Side) (text : List ℕ) (step : Told) (r : SideReads s text step next)
+        → EndFollows public_of agreement_of end.old s.view → message.now ≡ text → note_of entry.now ≡ Judged step
+        → (shown result ≡ read_moment s next text step r) × IsCounted (shown result)
         × EndFollows public_of agreement_of end.new next.view }
+    ensures none { IsOfNoFrame (note_of entry.now) → (shown result ≡ Nothing) × (end.new ≡ end.old) }
 {
     end_is_followed::<FileKeys>();
     match entry {
@@ -186,8 +237,13 @@ fn split_frame(bytes: &[u8]) -> (&[u8], &[u8])
     after.split_at(count.min(after.len()))
 }
 
-// The bytes that an entry is about, taken from these: a message, or nothing; and the bytes that are left of them.
-fn split_entry<'a>(rest: &'a [u8], entry: &Entry) -> (&'a [u8], &'a [u8]) {
+// The message that an entry is about, or nothing, and the bytes that are left then of these.
+fn split_entry<'a>(rest: &'a [u8], entry: &Entry) -> (&'a [u8], &'a [u8])
+    ensures frame { (message more : List ℕ) (step : Told) → note_of entry.now ≡ Judged step → rest.now ≡ frame message ++ more
+        → length message ≤ 65535 → (result.0.now ≡ message) × (result.1.now ≡ more) }
+    ensures left { (step : Told) (n : ℕ) → note_of entry.now ≡ Left step n → result.1.now ≡ take (length rest.now - n) rest.now }
+    ensures held { (n : ℕ) → note_of entry.now ≡ Held n → result.1.now ≡ rest.now }
+{
     match entry {
         Entry::Payload(_) | Entry::Dropped(_) | Entry::Refused { .. } | Entry::Exhausted => {
             split_frame(rest)
