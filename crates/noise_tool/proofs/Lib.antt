@@ -11,3 +11,4 @@ pub mod RunningLemmas
 pub mod TestingLemmas
 pub mod TraceLineLemmas
 pub mod ReceivedLemmas
+pub mod EventLemmas

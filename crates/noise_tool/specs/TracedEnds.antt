@@ -1,5 +1,5 @@
 -- What is kept of the key schedules in a run.
-use Rattle.std.specs.Prelude.{◌≡◌, ℕ, List, Vec, ◌++◌, map, None}
+use Rattle.std.specs.Prelude.{◌≡◌, ℕ, List, [], Vec, ◌++◌, length, map, None}
 use Rattle.std.specs.Global.{Global}
 use Rattle.noise_names.specs.declared.token.Role.{Role}
 use Rattle.noise_names.specs.declared.token.Role.TheVariants.{Initiator, Responder}
@@ -11,14 +11,15 @@ use Rattle.noise_session_trace.specs.Following.{EndFollows}
 use Rattle.noise_duel.specs.declared.report.Report.{Report}
 use Rattle.noise_duel.specs.Entries.{notes_of}
 use Rattle.noise_duel.specs.HeldDuel.{DuelStands, HasFrames, HeldDuel}
-use Rattle.noise_duel.specs.Notes.{Held, Left, Note}
+use Rattle.noise_duel.specs.Notes.{Held, Left, Note, Wrote}
 use Rattle.noise_duel.specs.Runs.{Run}
-use Rattle.noise_duel.specs.Sides.{Sides}
+use Rattle.noise_duel.specs.Sides.{Side, Sides}
 use Rattle.noise_vectors.specs.Expectations.{bytes_of}
 use Rattle.noise_vectors.specs.FileKeys.{agreement_of, public_of}
 use Rattle.noise_vectors.specs.declared.file_keys.FileKeys.{FileKeys}
 use Rattle.noise_vectors.specs.declared.vector.VectorFile.{VectorFile}
 use Rattle.noise_tool.specs.Ends.{IsPatternOf, facing_in, setup_of}
+use Rattle.noise_tool.specs.Printed.{frame_at}
 use Rattle.noise_tool.specs.Tracing.{run_traces, start_traces}
 use Rattle.noise_tool.specs.declared.moment_lines.Kept.{Kept}
 use Rattle.noise_tool.specs.declared.traced_end.TracedEnd.{TracedEnd}
@@ -51,6 +52,20 @@ abbrev pub IsOfNoFrame : Note → Type 0
 IsOfNoFrame (Left step n) = Unit {0}
 IsOfNoFrame (Held n) = Unit {0}
 IsOfNoFrame note = ⊥
+
+-- the frame that a side wrote, where a note says that it wrote one
+abbrev pub entry_frame : Side → Note → List ℕ
+entry_frame s (Wrote n) = frame_at s n
+entry_frame s note = []
+
+-- no side has written
+abbrev pub IsNewSides : Sides → Type 0
+IsNewSides d = (d.initiator.frames ≡ []) × (d.responder.frames ≡ [])
+
+-- all handshake messages of both have passed
+abbrev pub AreOver : Sides → Type 0
+AreOver d = (d.initiator.view.party.passed ≡ length d.initiator.view.party.pattern.messages)
+    × (d.responder.view.party.passed ≡ length d.responder.view.party.pattern.messages)
 
 -- the two ends start from what the file says, and so do their key schedules
 pub record AreTracedEnds (kept : Kept) (file : VectorFile) (made : TracedStart) : Type 0 where

@@ -13,6 +13,7 @@ mod trace_file;
 mod trace_lines;
 mod traced_end;
 mod traced_ends;
+mod traced_event;
 mod tracing;
 mod verdict;
 

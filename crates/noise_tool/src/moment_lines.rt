@@ -1,6 +1,6 @@
 //! The lines of a moment of a key schedule.
 
-ghost use Rattle.std.specs.Prelude.{◌≡◌, ◌∷◌, ◌++◌, [], IsTrue, OnOk};
+ghost use Rattle.std.specs.Prelude.{◌≡◌, ◌++◌, OnOk, Some};
 ghost use Rattle.noise_session_trace.specs.Moments.{shown};
 ghost use Rattle.noise_session_trace.specs.Moments.Shown.{Transport};
 ghost use Rattle.noise_vectors.specs.Expectations.{bytes_of};
@@ -90,7 +90,7 @@ fn push_opening(
     opening: &Opening,
     lines: &mut Vec<Vec<u8>>,
 ) -> Result<(), AllocError>
-    ensures { OnOk result (bytes_of lines.new.items ≡ bytes_of lines.old.items ++ opening_shown kept role opening.now) }
+    ensures { OnOk result (bytes_of lines.new.items ≡ bytes_of lines.old.items ++ opening_shown kept role (Some opening.now)) }
 {
     if !kept.keeps_transport(role) {
         return Ok(());

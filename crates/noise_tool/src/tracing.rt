@@ -1,21 +1,18 @@
 //! The run of a vector file with the key schedules of both ends beside it.
 
-ghost use Rattle.std.specs.Prelude.{◌≡◌, ◌++◌, [], ℕ, List, IfErr, IfOk, IsTrue, OnOk};
-ghost use Rattle.noise_duel.specs.Entries.{notes_of};
-ghost use Rattle.noise_duel.specs.HeldDuel.{DuelStands, HasFrames, facing_as};
-ghost use Rattle.noise_duel.specs.Notes.{Note};
-ghost use Rattle.noise_duel.specs.Runs.{Happens};
+ghost use Rattle.std.specs.Prelude.{◌≡◌, ◌&&◌, ◌++◌, [], ℕ, List, IfErr, IfOk, OnOk, is_some, length};
+ghost use Rattle.noise_duel.specs.HeldDuel.{DuelStands};
 ghost use Rattle.noise_duel.specs.Sides.{Sides};
-ghost use Rattle.noise_events.specs.Events.{event_of, events_of};
-ghost use Rattle.noise_names.specs.declared.token.Role.{Role};
+ghost use Rattle.noise_events.specs.Events.{events_of};
+ghost use Rattle.noise_names.specs.declared.token.Role.TheVariants.{Initiator, Responder};
 ghost use Rattle.noise_session.specs.Ends.{EndView};
 ghost use Rattle.noise_vectors.specs.Expectations.{bytes_of};
 ghost use Rattle.noise_vectors.specs.FileKeys.{agreement_of, public_of};
 ghost use Rattle.noise_vectors.specs.SameFile.{SaySame};
 ghost use Rattle.noise_tool.specs.Ends.{IsStartFault};
-ghost use Rattle.noise_tool.specs.Running.{expected_in};
-ghost use Rattle.noise_tool.specs.TracedEnds.{EndsTraced, HasRunTraced, traces_of};
-ghost use Rattle.noise_tool.specs.Tracing.{IsTraceOf, datagram_keys_of, happened_traces, woven};
+ghost use Rattle.noise_tool.specs.Running.{AreLast, are_ready, datagrams_in, expected_in};
+ghost use Rattle.noise_tool.specs.TracedEnds.{AreOver, EndsTraced, HasRunTraced, IsNewSides, Shows, traces_of};
+ghost use Rattle.noise_tool.specs.Tracing.{IsTraceOf, datagram_keys_of, last_traces, woven};
 
 use crate::moment_lines::Kept;
 use crate::report::entry_lines;
@@ -23,9 +20,10 @@ use crate::running::{Outcome, close};
 use crate::trace_lines::push_datagram_key_lines;
 use crate::traced_end::TracedEnd;
 use crate::traced_ends::{TracedEnds, TracedStart, make_traced_ends};
-use noise_duel::{Duel, Entry, Event, Report};
+use crate::traced_event::trace_event;
+use noise_duel::{Duel, Event, Report};
 use noise_lines::Fault;
-use noise_names::Role;
+use noise_session::end_is_told;
 use noise_vectors::{FileKeys, VectorFile, Version};
 use std::alloc::{AllocError, Global};
 
@@ -81,7 +79,11 @@ fn push_datagram_trace(
     version: &Version,
     ends: &TracedEnds,
     traces: &mut Vec<Vec<Vec<u8>>>,
-) -> Result<(), AllocError> {
+) -> Result<(), AllocError>
+    ensures { (d : Sides) → DuelStands public_of agreement_of public_of agreement_of duel.now d → EndsTraced ends.now d
+        → (after : List (List ℕ)) (are_last : AreLast (datagrams_in version.now) d after)
+        → OnOk result (traces_of traces.new.items ≡ traces_of traces.old.items ++ last_traces kept (datagrams_in version.now) d after are_last) }
+{
     if goes_over(duel, version) {
         traces.push(datagram_keys(alloc, kept, ends)?)?;
     }
@@ -89,7 +91,11 @@ fn push_datagram_trace(
 }
 
 // Whether both ends go over to datagrams.
-fn goes_over(duel: &Duel<FileKeys, FileKeys>, version: &Version) -> bool {
+fn goes_over(duel: &Duel<FileKeys, FileKeys>, version: &Version) -> bool
+    ensures { (d : Sides) → DuelStands public_of agreement_of public_of agreement_of duel.now d
+        → result ≡ (is_some (datagrams_in version.now) && are_ready d) }
+{
+    end_is_told::<FileKeys>();
     match version {
         Version::One => false,
         Version::Two(additions) => {
@@ -105,7 +111,10 @@ fn datagram_keys(
     alloc: Global,
     kept: Kept,
     ends: &TracedEnds,
-) -> Result<Vec<Vec<u8>>, AllocError> {
+) -> Result<Vec<Vec<u8>>, AllocError>
+    ensures { (d : Sides) → EndsTraced ends.now d → AreOver d → IfOk result (λ lines. bytes_of lines.items
+        ≡ datagram_keys_of kept Initiator d.initiator.view ++ datagram_keys_of kept Responder d.responder.view) }
+{
     let mut lines = Vec::new(alloc);
     push_datagram_keys(alloc, kept, &ends.initiator, &mut lines)?;
     push_datagram_keys(alloc, kept, &ends.responder, &mut lines)?;
@@ -117,7 +126,10 @@ fn push_datagram_keys(
     kept: Kept,
     traced: &TracedEnd,
     lines: &mut Vec<Vec<u8>>,
-) -> Result<(), AllocError> {
+) -> Result<(), AllocError>
+    ensures { (v : EndView) → Shows traced.now v → v.party.passed ≡ length v.party.pattern.messages
+        → OnOk result (bytes_of lines.new.items ≡ bytes_of lines.old.items ++ datagram_keys_of kept traced.now.role v) }
+{
     if !kept.keeps_transport(traced.role) {
         return Ok(());
     }
@@ -137,7 +149,11 @@ fn run_traced(
     events: &[Event],
     ends: &mut TracedEnds,
     traces: &mut Vec<Vec<Vec<u8>>>,
-) -> Result<(Duel<FileKeys, FileKeys>, Report), AllocError> {
+) -> Result<(Duel<FileKeys, FileKeys>, Report), AllocError>
+    ensures { (d : Sides) → DuelStands public_of agreement_of public_of agreement_of duel d → IsNewSides d → EndsTraced ends.old d
+        → traces_of traces.old.items ≡ []
+        → IfOk result (λ r. HasRunTraced kept d (events_of events.now) r.0 r.1 ends.new (traces_of traces.new.items)) }
+{
     let mut report = Report::new(alloc);
     for event in events {
         let from = report.entries.len();
@@ -146,95 +162,6 @@ fn run_traced(
         trace_event(alloc, kept, event, &report, entries, ends, traces)?;
     }
     Ok((duel, report))
-}
-
-// Appends the lines that follow each of these entries, which tell what came of an event.
-fn trace_event(
-    alloc: Global,
-    kept: Kept,
-    event: &Event,
-    report: &Report,
-    entries: &[(Role, Entry)],
-    ends: &mut TracedEnds,
-    traces: &mut Vec<Vec<Vec<u8>>>,
-) -> Result<(), AllocError> {
-    match event {
-        Event::Write(role, _) => {
-            trace_write(alloc, kept, *role, report, entries, ends, traces)?;
-            Ok(())
-        }
-        Event::Say(role, _, _) => {
-            match trace_write(alloc, kept, *role, report, entries, ends, traces)? {
-                Some((frame, later)) => trace_bytes(alloc, kept, role.other(), frame, later, ends, traces),
-                None => Ok(()),
-            }
-        }
-        Event::Deliver(role, number, _) => match frames_of(report, role.other()).get(*number) {
-            Some(frame) => trace_bytes(alloc, kept, *role, frame, entries, ends, traces),
-            None => {
-                traces.push(Vec::new(alloc))?;
-                Ok(())
-            }
-        },
-        Event::Raw(role, bytes) => trace_bytes(alloc, kept, *role, bytes, entries, ends, traces),
-    }
-}
-
-// The frames that this role wrote.
-fn frames_of(report: &Report, role: Role) -> &[Vec<u8>] {
-    match role {
-        Role::Initiator => report.initiator.as_slice(),
-        Role::Responder => report.responder.as_slice(),
-    }
-}
-
-// Appends the lines that follow the first of these entries, which tells what came of a payload that this role was to write; and returns its frame, if
-// it wrote one, and the other entries.
-fn trace_write<'a>(
-    alloc: Global,
-    kept: Kept,
-    role: Role,
-    report: &'a Report,
-    entries: &'a [(Role, Entry)],
-    ends: &mut TracedEnds,
-    traces: &mut Vec<Vec<Vec<u8>>>,
-) -> Result<Option<(&'a [u8], &'a [(Role, Entry)])>, AllocError> {
-    let Some(((_, entry), later)) = entries.split_first() else {
-        return Ok(None);
-    };
-    let frame = match entry {
-        Entry::Wrote(number) => frames_of(report, role).get(*number),
-        _ => None,
-    };
-    let bytes = match frame {
-        Some(frame) => frame.as_slice(),
-        None => &[],
-    };
-    let lines = match role {
-        Role::Initiator => ends.initiator.write(alloc, kept, bytes, entry)?,
-        Role::Responder => ends.responder.write(alloc, kept, bytes, entry)?,
-    };
-    traces.push(lines)?;
-    match frame {
-        Some(frame) => Ok(Some((frame.as_slice(), later))),
-        None => Ok(None),
-    }
-}
-
-// Appends the lines that follow each of these entries, which tell what came of bytes that came to this role.
-fn trace_bytes(
-    alloc: Global,
-    kept: Kept,
-    role: Role,
-    bytes: &[u8],
-    entries: &[(Role, Entry)],
-    ends: &mut TracedEnds,
-    traces: &mut Vec<Vec<Vec<u8>>>,
-) -> Result<(), AllocError> {
-    match role {
-        Role::Initiator => ends.initiator.receive(alloc, kept, bytes, entries, traces),
-        Role::Responder => ends.responder.receive(alloc, kept, bytes, entries, traces),
-    }
 }
 
 /// The lines of the start, and each line of the run with those that follow it.
