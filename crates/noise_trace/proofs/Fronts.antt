@@ -10,7 +10,7 @@ use Rattle.noise_handshake.specs.Line.{token_piece, after_token, front, after_fr
 use Rattle.noise_handshake.specs.View.{Reader, Fits, secrets_after}
 use Rattle.noise_trace.specs.declared.step.Part.TheVariants as part
 use Rattle.noise_trace.specs.declared.step.Step.{Step}
-use Rattle.noise_trace.specs.inner.Carried.{known_next, Carries}
+use Rattle.noise_trace.specs.inner.Carried.{known_next, known_through, Carries}
 use Rattle.noise_trace.specs.Steps.{step, token_steps}
 
 pub some-same : {A : Type 0} (a b : A) → Some a ≡ Some b → a ≡ b
@@ -48,9 +48,9 @@ parted reads v known secrets r tokens t ts xs more rest split c e =
     (subst (λ (us : List Token). rest ≡ front v.psks r us xs ++ more) split e)
 
 -- what following tokens makes
-abbrev pub Follows : Bool → History → List Token → List (List ℕ) → ℕ → SymmetricState → Option ℕ → List Step → List Step → Type 0
-Follows psks r tokens xs from state result old new =
-    (result ≡ Some (from + length (front psks r tokens xs))) × StateStands state (after_front psks r tokens xs)
+abbrev pub IsFollowed : Bool → History → Bool → Remote → List Token → List (List ℕ) → ℕ → SymmetricState → Option (ℕ × Remote) → List Step → List Step → Type 0
+IsFollowed psks r reads known tokens xs from state result old new =
+    (result ≡ Some (from + length (front psks r tokens xs), known_through reads known tokens xs)) × StateStands state (after_front psks r tokens xs)
     × (new ≡ old ++ token_steps psks r from tokens xs)
 
 -- the step of the first token, and then those of the others
@@ -70,19 +70,24 @@ steps-on psks r tokens ts t xs ys x from to old mid new split parts place pushed
     (subst (λ (zs : List (List ℕ)). new ≡ old ++ token_steps psks r from (t ∷ ts) zs) (sym parts) whole)
 
 -- what following the others makes is what following all of them makes
-pub followed-on : (psks : Bool) (r : History) (tokens ts : List Token) (t : Token) (xs ys : List (List ℕ)) (x : List ℕ) (from to : ℕ)
-    (state : SymmetricState) (result : Option ℕ) (old mid new : List Step)
-    → tokens ≡ t ∷ ts → xs ≡ x ∷ ys → to ≡ from + length (token_piece r t x)
+pub followed-on : (psks : Bool) (r : History) (reads : Bool) (known learned : Remote) (tokens ts : List Token) (t : Token) (xs ys : List (List ℕ)) (x : List ℕ)
+    (from to : ℕ) (state : SymmetricState) (result : Option (ℕ × Remote)) (old mid new : List Step)
+    → tokens ≡ t ∷ ts → xs ≡ x ∷ ys → to ≡ from + length (token_piece r t x) → learned ≡ known_next reads known t x
     → mid ≡ old ++ step (part.Token t) from (length (token_piece r t x)) (after_token psks r t x) ∷ []
-    → Follows psks (after_token psks r t x) ts ys to state result mid new → Follows psks r tokens xs from state result old new
-followed-on psks r tokens ts t xs ys x from to state result old mid new split parts place pushed f =
+    → IsFollowed psks (after_token psks r t x) reads learned ts ys to state result mid new
+    → IsFollowed psks r reads known tokens xs from state result old new
+followed-on psks r reads known learned tokens ts t xs ys x from to state result old mid new split parts place knows pushed f =
     let after : History = after_token psks r t x in
     let piece : List ℕ = token_piece r t x in
     let length-is : to + length (front psks after ts ys) ≡ from + length (piece ++ front psks after ts ys) =
     omega (arith, place, length-append piece (front psks after ts ys)) in
-    let ends : (result ≡ Some (from + length (front psks r (t ∷ ts) (x ∷ ys)))) × StateStands state (after_front psks r (t ∷ ts) (x ∷ ys)) =
-    (f.0 ∙ ap (λ (n : ℕ). Some n) length-is, f.1) in
-    let whole = subst (λ (us : List Token). (result ≡ Some (from + length (front psks r us xs))) × StateStands state (after_front psks r us xs)) (sym split)
-    (subst (λ (zs : List (List ℕ)). (result ≡ Some (from + length (front psks r (t ∷ ts) zs))) × StateStands state (after_front psks r (t ∷ ts) zs))
-    (sym parts) ends) in
+    let Ends : List Token → List (List ℕ) → Type 0 =
+    λ us zs. (result ≡ Some (from + length (front psks r us zs), known_through reads known us zs)) × StateStands state (after_front psks r us zs) in
+    let ends : Ends (t ∷ ts) (x ∷ ys) = (
+      f.0 ∙ ap (λ (n : ℕ). Some (n, known_through reads learned ts ys)) length-is
+          ∙ ap (λ (z : Remote). Some (from + length (piece ++ front psks after ts ys), known_through reads z ts ys)) knows,
+      f.1,
+    ) in
+    let whole : Ends tokens xs =
+    subst (λ (us : List Token). Ends us xs) (sym split) (subst (λ (zs : List (List ℕ)). Ends (t ∷ ts) zs) (sym parts) ends) in
     (whole.0, whole.1, steps-on psks r tokens ts t xs ys x from to old mid new split parts place pushed f.2)

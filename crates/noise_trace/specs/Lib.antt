@@ -1,4 +1,5 @@
 pub mod Before
+pub mod Following
 pub mod Start
 pub mod Steps
 pub mod Values

@@ -1,3 +1,4 @@
 -- What only private functions and proofs of this crate need: no public clause names any of it.
 pub mod Carried
 pub mod Front
+pub mod Kept

@@ -12,10 +12,10 @@ ghost use Rattle.noise_handshake.specs.Writing.{Lacks, Writes};
 ghost use Rattle.noise_handshake.specs.Party.{Stands};
 ghost use Rattle.noise_handshake.specs.declared.faults.Cause.{Cause};
 
-use crate::following::{Means, bytes_from, follow};
 use crate::own::{OwnMeans, give};
+use crate::tokens::{Means, bytes_from, follow, psk_count};
 use crate::values::{mix_piece, values_of};
-use crate::{Part, Step};
+use crate::{Part, StateValues, Step};
 use arrayvec::ArrayVec;
 use noise_handshake::{Handshake, Keys, Remote};
 use noise_names::{Message, Role, Token};
@@ -37,16 +37,24 @@ pub struct BeforeMessage {
     ghost nonces: { nonce_now state + 11 < 2 ^ 64 - 1 },
 }
 
-// The steps of tokens, the state after them, and where the bytes after them begin, if the tokens fit.
+// The steps of tokens, the state after them, and, if the tokens fit, where the bytes after them begin, and the keys of the other party
+// that are known then.
 #[derive(Drop)]
 struct Front {
     steps: ArrayVec<Step, 11>,
     state: SymmetricState,
-    end: Option<usize>,
+    end: Option<(usize, Remote)>,
+}
+
+// The steps of a message, and, if its tokens fit, the keys of the other party that are known after it, and the state.
+#[derive(Drop)]
+pub(crate) struct Whole {
+    pub(crate) steps: ArrayVec<Step, 11>,
+    pub(crate) left: Option<(Remote, SymmetricState)>,
 }
 
 // The tokens of message i, counted from 0; none after the last.
-fn tokens_at(messages: &[Message], i: usize) -> &[Token]
+pub(crate) fn tokens_at(messages: &[Message], i: usize) -> &[Token]
     ensures tokens { result.now ≡ tokens_at messages.now i }
     ensures few { length result.now ≤ 10 }
 {
@@ -60,12 +68,22 @@ fn tokens_at(messages: &[Message], i: usize) -> &[Token]
 impl BeforeMessage {
     ghost use Rattle.noise_trace.specs.Before.{StandsBefore};
     ghost use Rattle.noise_trace.specs.inner.Carried.{Carries};
-    ghost use Rattle.noise_trace.specs.inner.Front.{IsFront};
+    ghost use Rattle.noise_trace.specs.inner.Front.{IsFront, IsWhole};
+    ghost use Rattle.noise_trace.specs.inner.Kept.{IsKept, IsNext};
     ghost use Rattle.noise_trace.specs.Steps.{message_steps, token_steps};
+    ghost use Rattle.noise_trace.specs.Values.{values_of};
 
     /// What is kept of a handshake before its next message.
     pub fn new<K: Keys>(handshake: &Handshake<K>) -> BeforeMessage
         ensures { (v : View) → Stands K.public_of K.agreement handshake.now v → StandsBefore result v }
+    {
+        BeforeMessage::of_handshake(handshake)
+    }
+
+    // The same, before which message it is kept.
+    pub(crate) fn of_handshake<K: Keys>(handshake: &Handshake<K>) -> BeforeMessage
+        ensures stands { (v : View) → Stands K.public_of K.agreement handshake.now v → StandsBefore result v }
+        ensures kept { IsKept handshake.now.pattern handshake.now.passed result }
     {
         let progress = handshake.progress();
         let pattern = handshake.pattern().pattern();
@@ -86,16 +104,60 @@ impl BeforeMessage {
         }
     }
 
+    // What is kept before the message after it, which has these tokens, where it leaves these keys of the other party and this state.
+    pub(crate) fn next(
+        &self,
+        tokens: &[Token],
+        remote: Remote,
+        state: SymmetricState,
+    ) -> BeforeMessage
+        requires few { length tokens.now ≤ 10 }
+        requires secrets { count_by is_psk self.now.tokens.items + count_by is_psk tokens.now ≤ length self.now.secrets.items }
+        requires nonces { nonce_now state + 11 < 2 ^ 64 - 1 }
+        ensures { IsNext self.now result tokens.now remote state }
+    {
+        let taken = psk_count(&self.tokens);
+        let mut secrets = ArrayVec::new();
+        secrets
+            .try_extend_from_slice(&self.secrets[taken..])
+            .unwrap();
+        let mut due = ArrayVec::new();
+        due.try_extend_from_slice(tokens).unwrap();
+        BeforeMessage {
+            role: self.role,
+            psks: self.psks,
+            writes: !self.writes,
+            tokens: due,
+            remote,
+            secrets,
+            state,
+        }
+    }
+
+    // The party's role.
+    pub(crate) fn role(&self) -> Role
+        ensures { result ≡ self.now.role }
+    {
+        self.role
+    }
+
+    // The values of the state.
+    pub(crate) fn values(&self) -> StateValues
+        ensures { (v : View) → StandsBefore self.now v → result ≡ values_of v.history }
+    {
+        values_of(&self.state)
+    }
+
     // Follows the first so many tokens of the message.
     fn front<K: Keys>(&self, keys: &K, message: &[u8], count: usize) -> Front
         requires { count ≤ length self.now.tokens.items }
-        ensures nonce { nonce_now result.state < 2 ^ 64 - 1 }
+        ensures nonce { nonce_now result.state ≤ nonce_now self.now.state + 10 }
         ensures many { length result.steps.items ≤ count }
-        ensures range { IfSome result.end (λ end. end ≤ length message.now) }
+        ensures range { IfSome result.end (λ end. end.0 ≤ length message.now) }
         ensures front { (v : View) (xs : List (List ℕ)) (more : List ℕ) → StandsBefore self.now v → K.agreement keys.now ≡ v.agree
             → Carries (not (is_turn v.role v.passed)) (reader v) v.remote v.secrets (take count (tokens_now v)) xs
             → message.now ≡ front (has_psk v.pattern) v.history (take count (tokens_now v)) xs ++ more
-            → IsFront result (has_psk v.pattern) v.history (take count (tokens_now v)) xs }
+            → IsFront result (has_psk v.pattern) v.history (not (is_turn v.role v.passed)) v.remote (take count (tokens_now v)) xs }
     {
         let means = Means {
             keys,
@@ -118,28 +180,33 @@ impl BeforeMessage {
         Front { steps, state, end }
     }
 
-    // The steps of the whole message.
-    fn all_steps<K: Keys>(&self, keys: &K, message: &[u8]) -> ArrayVec<Step, 11>
-        ensures { (v : View) (xs : List (List ℕ)) (payload : List ℕ) → StandsBefore self.now v → K.agreement keys.now ≡ v.agree
+    // Follows the whole message.
+    pub(crate) fn whole<K: Keys>(&self, keys: &K, message: &[u8]) -> Whole
+        ensures nonce { IfSome result.left (λ left. nonce_now left.1 ≤ nonce_now self.now.state + 11) }
+        ensures whole { (v : View) (xs : List (List ℕ)) (payload : List ℕ) → StandsBefore self.now v → K.agreement keys.now ≡ v.agree
             → Carries (not (is_turn v.role v.passed)) (reader v) v.remote v.secrets (tokens_now v) xs
             → message.now ≡ line (has_psk v.pattern) v.history (tokens_now v) xs payload
-            → result.items ≡ message_steps (has_psk v.pattern) v.history (tokens_now v) xs payload }
+            → IsWhole result (has_psk v.pattern) v.history (not (is_turn v.role v.passed)) v.remote (tokens_now v) xs payload }
     {
         let Front {
             mut steps,
             mut state,
             end,
         } = self.front(keys, message, self.tokens.len());
-        if let Some(from) = end {
-            mix_piece(&mut state, bytes_from(message, from));
-            steps.push(Step {
-                part: Part::Payload,
-                from,
-                to: message.len(),
-                state: values_of(&state),
-            });
+        let Some((from, remote)) = end else {
+            return Whole { steps, left: None };
+        };
+        mix_piece(&mut state, bytes_from(message, from));
+        steps.push(Step {
+            part: Part::Payload,
+            from,
+            to: message.len(),
+            state: values_of(&state),
+        });
+        Whole {
+            steps,
+            left: Some((remote, state)),
         }
-        steps
     }
 
     /// The steps of a message that this party then wrote or accepted: one for each of its tokens, and one for the payload.
@@ -152,7 +219,8 @@ impl BeforeMessage {
         ensures written { (v : View) (xs : List (List ℕ)) (payload : List ℕ) → StandsBefore self.now v → K.agreement keys.now ≡ v.agree
             → Writes v payload xs message.now → result.items ≡ message_steps (has_psk v.pattern) v.history (tokens_now v) xs payload }
     {
-        self.all_steps(keys, message)
+        let Whole { steps, .. } = self.whole(keys, message);
+        steps
     }
 
     /// The steps of a message that this party then refused at this token, counted from 0: those of the tokens before it. Where the

@@ -3,16 +3,18 @@
 #![tactic(auto)]
 
 mod before;
-mod following;
 mod laws;
 mod own;
+mod schedule;
 mod start;
 mod start_step;
 mod step;
+mod tokens;
 mod values;
 
 pub use before::BeforeMessage;
 pub use laws::steps_tell;
+pub use schedule::Following;
 pub use start::start_steps;
 pub use start_step::{StartPart, StartStep};
 pub use step::{Part, Step};

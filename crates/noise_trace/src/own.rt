@@ -10,7 +10,7 @@ ghost use Rattle.noise_handshake.specs.Line.{token_piece, after_token};
 ghost use Rattle.noise_handshake.specs.Writing.{Writer, Gives, Given};
 ghost use Rattle.noise_trace.specs.Steps.{token_steps};
 
-use crate::following::{answer_at, mix_ephemeral, secrets_after};
+use crate::tokens::{answer_at, mix_ephemeral, secrets_after};
 use crate::values::values_of;
 use crate::{Part, Step};
 use arrayvec::ArrayVec;

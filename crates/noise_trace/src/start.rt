@@ -10,7 +10,7 @@ ghost use Rattle.noise_handshake.specs.Setup.{has_token, keys_of, public_keys, s
 ghost use Rattle.noise_handshake.specs.View.{with_premessage};
 ghost use Rattle.noise_trace.specs.Start.{key_steps, pre_steps, start_step, start_steps, named, prologued};
 
-use crate::following::mix_ephemeral;
+use crate::tokens::mix_ephemeral;
 use crate::values::values_of;
 use crate::{StartPart, StartStep};
 use arrayvec::ArrayVec;

@@ -53,7 +53,8 @@ pub(crate) fn values_of(state: &SymmetricState) -> StateValues
 // Mixes what a text travels as into the hash, and counts a nonce where there is a key (EncryptAndHash and DecryptAndHash).
 pub(crate) fn mix_piece(state: &mut SymmetricState, piece: &[u8])
     requires { nonce_now state.old < 2 ^ 64 - 1 }
-    ensures { (r : History) → StateStands state.old r → StateStands state.new (and_then r (Ciphertext piece.now)) }
+    ensures nonce { nonce_now state.new ≤ nonce_now state.old + 1 }
+    ensures mixed { (r : History) → StateStands state.old r → StateStands state.new (and_then r (Ciphertext piece.now)) }
 {
     state.mix_hash(piece);
     let mut parts = state.for_trial().into_parts();

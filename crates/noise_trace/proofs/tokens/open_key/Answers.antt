@@ -3,7 +3,7 @@ use Rattle.std.specs.Prelude.{Some}
 use Rattle.noise_state.specs.Standing.{StateStands, keyed}
 use Rattle.noise_state.specs.History.{Ciphertext, and_then}
 use Rattle.noise_trace.proofs.Keys.{opened-is, under}
-use Rattle.noise_trace.proofs.following.open_key.Goals as goal
+use Rattle.noise_trace.proofs.tokens.open_key.Goals as goal
 
 pub returns-in-Ok-clause-opened : goal.returns-in-Ok-clause-opened
 returns-in-Ok-clause-opened c r x s h e =

@@ -6,7 +6,7 @@ use Rattle.noise_state.specs.Standing.{StateStands}
 use Rattle.noise_handshake.specs.Line.{token_piece, after_token}
 use Rattle.noise_handshake.specs.View.{Reader, Fits, known_after}
 use Rattle.noise_trace.proofs.Fronts.{some-same}
-use Rattle.noise_trace.proofs.following.follow_token.Goals as goal
+use Rattle.noise_trace.proofs.tokens.follow_token.Goals as goal
 
 pub returns-in_err-width-in-E-clause-followed : goal.returns-in_err-width-in-E-clause-followed
 returns-in_err-width-in-E-clause-followed g c r x more s f e =

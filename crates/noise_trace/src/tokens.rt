@@ -8,7 +8,7 @@ ghost use Rattle.noise_state.specs.History.{History, Ciphertext, and_then, piece
 ghost use Rattle.noise_state.specs.Standing.{StateStands, keyed, nonce_now};
 ghost use Rattle.noise_handshake.specs.Line.{with_ephemeral, token_piece, after_token, front, after_front};
 ghost use Rattle.noise_handshake.specs.View.{Reader, Fits, answered, own_at, remote_at, known_after, secrets_after};
-ghost use Rattle.noise_trace.specs.inner.Carried.{known_next, Carries};
+ghost use Rattle.noise_trace.specs.inner.Carried.{known_next, known_through, Carries};
 ghost use Rattle.noise_trace.specs.declared.step.Part.TheVariants as part;
 ghost use Rattle.noise_trace.specs.Steps.{step, token_steps};
 
@@ -214,6 +214,16 @@ pub(crate) fn secrets_after(secrets: &[[u8; 32]], token: Token) -> &[[u8; 32]]
     }
 }
 
+// How many secrets tokens take.
+pub(crate) fn psk_count(tokens: &[Token]) -> usize
+    ensures { result ≡ count_by is_psk tokens.now }
+{
+    tokens
+        .iter()
+        .filter(|token| matches!(**token, Token::Psk))
+        .count()
+}
+
 // The bytes of a message from a place on.
 pub(crate) fn bytes_from(message: &[u8], place: usize) -> &[u8]
     requires { place ≤ length message.now }
@@ -262,7 +272,8 @@ fn follow_one<K: Keys>(
     Some((to, known_next(means.reads, known, learned)))
 }
 
-// Follows tokens from a place in the message on, adds a step for each, and returns where the bytes after them begin.
+// Follows tokens from a place in the message on, adds a step for each, and returns where the bytes after them begin, and the keys of the
+// other party that are known then.
 pub(crate) fn follow<K: Keys>(
     state: &mut SymmetricState,
     known: &Remote,
@@ -271,23 +282,23 @@ pub(crate) fn follow<K: Keys>(
     tokens: &[Token],
     from: usize,
     steps: &mut ArrayVec<Step, 11>,
-) -> Option<usize>
+) -> Option<(usize, Remote)>
     requires secrets { count_by is_psk tokens.now ≤ length secrets.now }
     requires nonces { nonce_now state.old + length tokens.now < 2 ^ 64 - 1 }
     requires room { length steps.old.items + length tokens.now ≤ 11 }
     requires within { from ≤ length means.now.message.now }
     ensures nonce { nonce_now state.new ≤ nonce_now state.old + length tokens.now }
     ensures many { length steps.new.items ≤ length steps.old.items + length tokens.now }
-    ensures range { IfSome result (λ to. to ≤ length means.now.message.now) }
+    ensures range { IfSome result (λ end. end.0 ≤ length means.now.message.now) }
     ensures followed { (r : History) (xs : List (List ℕ)) (more : List ℕ) → StateStands state.old r
         → let v : Reader = record { role = means.now.role; psks = means.now.psks; agree = K.agreement means.now.keys.now } in
         Carries means.now.reads v known.now secrets.now tokens.now xs → drop from means.now.message.now ≡ front means.now.psks r tokens.now xs ++ more
-        → (result ≡ Some (from + length (front means.now.psks r tokens.now xs)))
+        → (result ≡ Some (from + length (front means.now.psks r tokens.now xs), known_through means.now.reads known.now tokens.now xs))
         × StateStands state.new (after_front means.now.psks r tokens.now xs)
         × (steps.new.items ≡ steps.old.items ++ token_steps means.now.psks r from tokens.now xs) }
 {
     let Some((token, later)) = tokens.split_first() else {
-        return Some(from);
+        return Some((from, *known));
     };
     let (to, learned) = follow_one(state, known, means, secrets, *token, from, steps)?;
     let others = secrets_after(secrets, *token);

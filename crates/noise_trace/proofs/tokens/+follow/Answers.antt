@@ -8,7 +8,7 @@ use Rattle.noise_handshake.specs.Line.{token_piece, after_token, front}
 use Rattle.noise_handshake.specs.View.{Reader, secrets_after}
 use Rattle.noise_trace.specs.inner.Carried.{known_next, Carries}
 use Rattle.noise_trace.proofs.Fronts.{some-same, parted, followed-on}
-use Rattle.noise_trace.proofs.following.+follow.Goals as goal
+use Rattle.noise_trace.proofs.tokens.+follow.Goals as goal
 
 pub returns-clause-followed : goal.returns-clause-followed
 returns-clause-followed g t c r xs more s carries spelled =
@@ -34,6 +34,6 @@ returns-clause-followed g t c r xs more s carries spelled =
     ap (λ (n : ℕ). drop n m) place ∙ sym (drop-drop (length piece) from m) ∙ ap (drop (length piece)) p.spelled ∙ drop_at piece tail (length piece) refl in
     let c1 = subst (λ (z : Remote). Carries reads v z (secrets_after c.args.secrets.now token) later p.others) (sym knows) p.carries in
     let c2 = subst (λ (z : List (List ℕ)). Carries reads v learned z later p.others) (sym c.secrets_after-others.ensures) c1 in
-    followed-on v.psks r c.args.tokens.now later token xs p.others p.first from to c.follow.new.state c.follow.result
-    c.args.steps.now.items c.follow_one.new.steps.items c.follow.new.steps.items c.in-Some.ensures.cases.0 p.parts place d.2
+    followed-on v.psks r reads known learned c.args.tokens.now later token xs p.others p.first from to c.follow.new.state c.follow.result
+    c.args.steps.now.items c.follow_one.new.steps.items c.follow.new.steps.items c.in-Some.ensures.cases.0 p.parts place knows d.2
     (c.follow.ensures.followed after p.others more d.1 c2 here)

@@ -2,7 +2,7 @@ use Rattle.std.proofs.Common.{sym, subst}
 use Rattle.std.specs.Prelude.{Bool}
 use Rattle.noise_state.specs.Standing.{StateStands}
 use Rattle.noise_handshake.specs.Line.{with_ephemeral}
-use Rattle.noise_trace.proofs.following.mix_ephemeral.Goals as goal
+use Rattle.noise_trace.proofs.tokens.mix_ephemeral.Goals as goal
 
 pub returns-then-psks-clause-mixed : goal.returns-then-psks-clause-mixed
 returns-then-psks-clause-mixed c r s =

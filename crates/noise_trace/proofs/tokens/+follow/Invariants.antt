@@ -1,5 +1,5 @@
 use Rattle.std.proofs.Common.{length}
-use Rattle.noise_trace.proofs.following.+follow.Given as goal
+use Rattle.noise_trace.proofs.tokens.+follow.Given as goal
 
 abbrev pub decreases-follow : goal.decreases-follow
 decreases-follow g l = length l.tokens.now

@@ -3,7 +3,7 @@ use Rattle.std.specs.Prelude.{Some}
 use Rattle.noise_state.specs.Standing.{StateStands}
 use Rattle.noise_handshake.specs.Line.{with_ephemeral}
 use Rattle.noise_trace.proofs.Keys.{front_is}
-use Rattle.noise_trace.proofs.following.take_e.Goals as goal
+use Rattle.noise_trace.proofs.tokens.take_e.Goals as goal
 
 pub returns-clause-taken : goal.returns-clause-taken
 returns-clause-taken c r x more s h e =
