@@ -153,7 +153,7 @@ impl<K: Keys> EndTrace<K> {
     }
 
     /// How many handshake messages have passed.
-    pub fn messages_passed(&self) -> u64
+    pub fn messages_passed(&self) -> u8
         ensures { (v : EndView) → EndFollows K.public_of K.agreement self.now v → result ≡ v.party.passed }
     {
         self.following.passed()

@@ -12,3 +12,7 @@ pub mod TestingLemmas
 pub mod TraceLineLemmas
 pub mod ReceivedLemmas
 pub mod EventLemmas
+pub mod KeptLemmas
+pub mod FollowLemmas
+pub mod TracedRunLemmas
+pub mod LastTraceLemmas

@@ -1,5 +1,5 @@
 -- What is shown of a message, by what the note of it says.
-use Rattle.std.proofs.Common.{◌≡◌, ◌≢◌, ◌∙◌, ◌+◌, ◌==◌, ◌&&◌, refl, sym, ap, subst, arith, ℕ, Bool, true, false, List, [], ◌∷◌, length, Option, Some, None, Result, Ok, Err, IsTrue, nat_lt, not}
+use Rattle.std.proofs.Common.{◌≡◌, ◌≢◌, ◌∙◌, ◌⊎◌, inl, inr, ◌+◌, ◌==◌, ◌&&◌, refl, sym, ap, subst, arith, ℕ, Bool, true, false, List, [], ◌∷◌, length, Option, Some, None, Result, Ok, Err, IsTrue, Vec, nat_lt, not}
 use Rattle.std.specs.Prelude.{if◌then◌else◌}
 use Rattle.noise_names.specs.declared.token.Role.{Role}
 use Rattle.noise_names.specs.declared.token.Role.TheVariants.{Initiator, Responder}
@@ -29,6 +29,10 @@ use Rattle.noise_session_trace.specs.declared.trace.EndTrace.{EndTrace}
 use Rattle.noise_session_trace.specs.Following.{EndFollows}
 use Rattle.noise_session_trace.specs.Moments.{Shown, message_moment, opened_moment, sent_moment, shown, stopped_moment, tried_moment}
 use Rattle.noise_session_trace.specs.Moments.Shown.{Nothing, Message, Transport}
+use Rattle.std.specs.Global.{Global}
+use Rattle.noise_duel.specs.declared.entry.Entry.{Entry}
+use Rattle.noise_duel.specs.declared.entry.Entry.TheVariants as entry
+use Rattle.noise_duel.specs.Entries.{note_of}
 use Rattle.noise_duel.specs.Notes.{Note, Wrote, WriteFault, Judged}
 use Rattle.noise_duel.specs.Runs.{GivesNoPayload, SideReads, SideWrites}
 use Rattle.noise_duel.specs.Runs.SideWrites.{writes_nothing, writes_handshake, writes_transport}
@@ -275,3 +279,48 @@ module _ (t : Trace) (closes : Closes t) (holds : Holds t) where
   exhausted-shown message s next step (accepts_transport _ _ payload opens more spelled) follows told = absurd (cc told)
   exhausted-shown message s next step (refuses_message _ _ _ after gives judges) follows told =
       judged-exhausted s.view after message step judges (cc) follows
+
+  pub default-shown : (e : Entry) → ((bytes : Vec ℕ Global) → e ≡ entry.Payload bytes → ⊥) → ((cause : Cause) → e ≡ entry.Dropped cause → ⊥)
+      → ((token : ℕ) (cause : Cause) → e ≡ entry.Refused token cause → ⊥)
+      → (message : List ℕ) (s next : Side) (step : Told) (r : SideReads s message step next) → Follow t s.view
+      → note_of e ≡ Judged step → Has Nothing (read_moment s next message step r) t next.view
+  default-shown (entry.Payload bytes) p d q message s next step r follows told = absurd (p bytes refl)
+  default-shown (entry.Dropped cause) p d q message s next step r follows told = absurd (d cause refl)
+  default-shown (entry.Refused token cause) p d q message s next step r follows told = absurd (q token cause refl)
+  default-shown entry.Exhausted p d q message s next step r follows told = exhausted-shown message s next step r follows told
+  default-shown (entry.Wrote n) p d q message s next step r follows told = absurd (cc told)
+  default-shown (entry.WriteFault why) p d q message s next step r follows told = absurd (cc told)
+  default-shown (entry.Left why n) p d q message s next step r follows told = absurd (cc told)
+  default-shown (entry.Missing n) p d q message s next step r follows told = absurd (cc told)
+  default-shown (entry.Held n) p d q message s next step r follows told = absurd (cc told)
+
+-- an entry of a write
+pub neither-written : (x : Entry) → ((n : ℕ) → x ≡ entry.Wrote n → ⊥) → ((why : SendFault) → x ≡ entry.WriteFault why → ⊥)
+    → (s next : Side) (payload : List ℕ) (note : Note) → SideWrites s payload note next → note_of x ≡ note → ⊥
+neither-written (entry.Wrote n) p q s next payload note w told = p n refl
+neither-written (entry.WriteFault why) p q s next payload note w told = q why refl
+neither-written (entry.Payload bytes) p q s next payload note w told = wrote-or-not s next payload note w (λ n e. let bad = told ∙ sym e in cc bad)
+    (λ why e. let bad = told ∙ sym e in cc bad)
+neither-written (entry.Dropped cause) p q s next payload note w told = wrote-or-not s next payload note w (λ n e. let bad = told ∙ sym e in cc bad)
+    (λ why e. let bad = told ∙ sym e in cc bad)
+neither-written (entry.Refused token cause) p q s next payload note w told = wrote-or-not s next payload note w (λ n e. let bad = told ∙ sym e in cc bad)
+    (λ why e. let bad = told ∙ sym e in cc bad)
+neither-written entry.Exhausted p q s next payload note w told = wrote-or-not s next payload note w (λ n e. let bad = told ∙ sym e in cc bad)
+    (λ why e. let bad = told ∙ sym e in cc bad)
+neither-written (entry.Left why n) p q s next payload note w told = wrote-or-not s next payload note w (λ k e. let bad = told ∙ sym e in cc bad)
+    (λ f e. let bad = told ∙ sym e in cc bad)
+neither-written (entry.Missing n) p q s next payload note w told = wrote-or-not s next payload note w (λ k e. let bad = told ∙ sym e in cc bad)
+    (λ why e. let bad = told ∙ sym e in cc bad)
+neither-written (entry.Held n) p q s next payload note w told = wrote-or-not s next payload note w (λ k e. let bad = told ∙ sym e in cc bad)
+    (λ why e. let bad = told ∙ sym e in cc bad)
+
+-- another fault than that of a DH answer
+pub six-others : (f : SendFault)
+    → (f ≡ fault.NotYourTurn) ⊎ (f ≡ fault.TooLong) ⊎ (f ≡ fault.Ended) ⊎ (f ≡ fault.OneWay) ⊎ (f ≡ fault.Exhausted)
+    ⊎ ((n : ℕ) × (f ≡ fault.Output n)) → (token : ℕ) → f ≢ fault.Agreement token
+six-others f (inl is) token e = let bad = sym is ∙ e in cc bad
+six-others f (inr (inl is)) token e = let bad = sym is ∙ e in cc bad
+six-others f (inr (inr (inl is))) token e = let bad = sym is ∙ e in cc bad
+six-others f (inr (inr (inr (inl is)))) token e = let bad = sym is ∙ e in cc bad
+six-others f (inr (inr (inr (inr (inl is))))) token e = let bad = sym is ∙ e in cc bad
+six-others f (inr (inr (inr (inr (inr (n, is)))))) token e = let bad = sym is ∙ e in cc bad

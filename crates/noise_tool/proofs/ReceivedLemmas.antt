@@ -14,7 +14,8 @@ use Rattle.noise_duel.specs.Runs.{SideReads, SideReceives}
 use Rattle.noise_duel.specs.Runs.SideReads.{accepts_handshake, accepts_transport, refuses_message}
 use Rattle.noise_duel.specs.Runs.SideReceives.{is_idle, waits, reads_frame}
 use Rattle.noise_duel.specs.Sides.{Side}
-use Rattle.noise_tool.specs.TracedEnds.{IsOfNoFrame, Shows}
+use Rattle.noise_vectors.specs.Expectations.{bytes_of}
+use Rattle.noise_tool.specs.TracedEnds.{IsOfNoFrame, Shows, traces_of}
 use Rattle.noise_tool.specs.Tracing.{blanks, came_traces, read_trace}
 use Rattle.noise_tool.specs.declared.moment_lines.Kept.{Kept}
 use Rattle.noise_tool.specs.declared.traced_end.TracedEnd.{TracedEnd}
@@ -159,6 +160,11 @@ module _ (kept : Kept) (own role : Role) (reader : Side) (t u : TracedEnd) (rest
         whole_is = grown (read_trace kept own s next text step r) (came_traces kept own next reader later notes tail) made.0 inv;
       })
 
+  pub entry-step : (left : List (Role × Note)) → left ≡ (by, note) ∷ more → Remains kept own role reader t rest left so_far whole
+      → Remains kept own role reader u after more now whole
+  entry-step left is (inl r) = one-entry r.s r.bytes r.heard r.receives r.shows r.rest_is (sym is ∙ r.left_is) r.whole_is
+  entry-step left is (inr f) = let bad = sym is ∙ f.left_is in absurd (cc bad)
+
 -- ---- the end
 
 module _ (kept : Kept) (own role : Role) (reader : Side) (t : TracedEnd) (rest : List ℕ) (so_far whole : Traces) (holds : HoldsAny t) where
@@ -190,3 +196,9 @@ module _ (kept : Kept) (own role : Role) (reader : Side) (t : TracedEnd) (rest :
       → Finished reader t rest [] so_far whole
   all-read left none (inl r) = read-last r.s r.bytes r.heard r.receives r.shows r.rest_is (sym none ∙ r.left_is) r.whole_is
   all-read left none (inr f) = record { shows = f.shows; rest_is = f.rest_is; left_is = refl; whole_is = f.whole_is }
+
+-- the lines of one entry more
+pub traces-push : (traces : List (Vec (Vec ℕ Global) Global)) (v : Vec (Vec ℕ Global) Global)
+    → traces_of (traces ++ v ∷ []) ≡ traces_of traces ++ bytes_of v.items ∷ []
+traces-push [] v = refl
+traces-push (t ∷ ts) v = ap (λ (xs : Traces). bytes_of t.items ∷ xs) (traces-push ts v)

@@ -12,4 +12,5 @@ pub mod Running
 pub mod Testing
 pub mod TraceDone
 pub mod TracedEnds
+pub mod TracedText
 pub mod Tracing

@@ -1,5 +1,5 @@
 -- What is kept of the key schedules in a run.
-use Rattle.std.specs.Prelude.{◌≡◌, ℕ, List, [], Vec, ◌++◌, length, map, None}
+use Rattle.std.specs.Prelude.{◌≡◌, ℕ, Bool, false, List, [], Vec, ◌++◌, length, map, None}
 use Rattle.std.specs.Global.{Global}
 use Rattle.noise_names.specs.declared.token.Role.{Role}
 use Rattle.noise_names.specs.declared.token.Role.TheVariants.{Initiator, Responder}
@@ -7,11 +7,12 @@ use Rattle.noise_names.specs.Plan.{Plan, has_psk}
 use Rattle.noise_names.specs.Validity.{IsValid}
 use Rattle.noise_events.specs.Events.{Event}
 use Rattle.noise_session.specs.Ends.{EndView}
+use Rattle.noise_session.specs.Faults.{ends}
 use Rattle.noise_session_trace.specs.Following.{EndFollows}
 use Rattle.noise_duel.specs.declared.report.Report.{Report}
 use Rattle.noise_duel.specs.Entries.{notes_of}
 use Rattle.noise_duel.specs.HeldDuel.{DuelStands, HasFrames, HeldDuel}
-use Rattle.noise_duel.specs.Notes.{Held, Left, Note, Wrote}
+use Rattle.noise_duel.specs.Notes.{Held, Left, Note, WriteFault, Wrote}
 use Rattle.noise_duel.specs.Runs.{Run}
 use Rattle.noise_duel.specs.Sides.{Side, Sides}
 use Rattle.noise_vectors.specs.Expectations.{bytes_of}
@@ -46,6 +47,11 @@ pub record EndsTraced (ends : TracedEnds) (d : Sides) : Type 0 where
 -- the lines after each note, as code holds them
 abbrev pub traces_of : List (Vec (Vec ℕ Global) Global) → List (List (List ℕ))
 traces_of traces = map (λ t. bytes_of t.items) traces
+
+-- whether a session has ended with what a note says of a write
+abbrev pub note_ends : Note → Bool
+note_ends (WriteFault why) = ends why
+note_ends note = false
 
 -- a note of bytes that make no frame
 abbrev pub IsOfNoFrame : Note → Type 0
@@ -93,9 +99,11 @@ pub record HasTracedTo (kept : Kept) (d : Sides) (events rest : List Event) (due
 -- These events make of the sides the report, and these lines of the key schedules.
 pub record HasRunTraced (kept : Kept) (d : Sides) (events : List Event) (duel : HeldDuel FileKeys FileKeys) (report : Report) (ends : TracedEnds)
     (traces : List (List (List ℕ))) : Type 0 where
+  pub notes : List (Role × Note)
+  pub notes_are : notes_of report.entries.items ≡ notes
   pub last : Sides
-  pub run : Run d events (notes_of report.entries.items) last
-  pub traces_are : traces ≡ run_traces kept d last events (notes_of report.entries.items) run
+  pub run : Run d events notes last
+  pub traces_are : traces ≡ run_traces kept d last events notes run
   pub stands : DuelStands public_of agreement_of public_of agreement_of duel last
   pub frames : HasFrames report last
   pub traced : EndsTraced ends last

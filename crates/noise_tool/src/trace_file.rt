@@ -1,6 +1,6 @@
 //! Printing the trace of a vector file.
 
-ghost use Rattle.std.specs.Prelude.{◌≡◌, ◌⊎◌, ◌≤◌, IfErr, IfSome, MatchResult, OnOk};
+ghost use Rattle.std.specs.Prelude.{◌≡◌, ◌∷◌, ◌⊎◌, ◌≤◌, [], IfErr, IfSome, MatchResult, OnOk, slice_get, unwrap_or};
 ghost use Rattle.std.specs.Io.KnownBytes.{Appends};
 ghost use Rattle.noise_lines.specs.Faults.{status_of};
 ghost use Rattle.noise_lines.specs.Lines.{lines_text};
@@ -8,12 +8,15 @@ ghost use Rattle.noise_lines.specs.Prefixes.{AppendsPrefix};
 ghost use Rattle.noise_vectors.specs.Expectations.{bytes_of};
 ghost use Rattle.noise_vectors.specs.declared.vector.AllowedEvents.TheVariants.{Any};
 ghost use Rattle.noise_tool.specs.Performing.{IsOfLines, IsRunFault, IsShort};
-ghost use Rattle.noise_tool.specs.TraceDone.{HasTraced, IsTraceUnmet, PrintsTracePrefix, keeps_end, keeps_first, keeps_second, keeps_start, kept_of};
+ghost use Rattle.noise_tool.specs.Running.{IsMet};
+ghost use Rattle.noise_tool.specs.TracedEnds.{traces_of};
+ghost use Rattle.noise_tool.specs.TracedText.{IsTraceUnlike, trace_text};
+ghost use Rattle.noise_tool.specs.Tracing.{woven};
+ghost use Rattle.noise_tool.specs.TraceDone.{HasTraced, IsTraceUnmet, PrintsTracePrefix, keeps_end, keeps_first, keeps_second, keeps_start};
 
 use crate::moment_lines::Kept;
-use crate::running::Outcome;
-use crate::tracing::{Traced, trace, weave};
-use noise_lines::{Fault, flush, read_file, write_lines};
+use crate::tracing::{Traced, trace};
+use noise_lines::{Fault, flush, read_file, write, write_lines};
 use noise_vectors::{AllowedEvents, first_unmet, read_vector, vector_texts_are_unique};
 use noise_words::{TracedPart, TracedRole};
 use std::alloc::Global;
@@ -51,30 +54,70 @@ pub fn trace_file<R: Read, O: Write>(
     let again = read_vector(alloc, &text, AllowedEvents::Any)?;
     vector_texts_are_unique();
     let traced = trace(alloc, kept, vector, again)?;
-    print_traced(traced, out)
+    print_traced(&traced, out)
 }
 
 // Prints the lines of a trace, and compares those of the run with what is expected, if any are.
-fn print_traced<O: Write>(traced: Traced, out: &mut O) -> Result<(), Fault> {
-    let Traced {
-        outcome,
-        start,
-        traces,
-    } = traced;
-    let unmet = unmet_in(&outcome);
-    let all = weave(start, outcome.lines, traces)?;
-    write_lines(&all, out)?;
+fn print_traced<O: Write>(traced: &Traced, out: &mut O) -> Result<(), Fault>
+    ensures printed { OnOk result (Appends (O.contents out.old) (O.contents out.new) (trace_text traced.now)) }
+    ensures met { OnOk result (IsMet (bytes_of traced.now.outcome.expected.items) (bytes_of traced.now.outcome.lines.items)) }
+    ensures fault { IfErr result (λ fault. (status_of fault ≡ 3) ⊎ IsTraceUnlike traced.now (O.contents out.old) (O.contents out.new) fault) }
+    ensures prefix { AppendsPrefix (O.contents out.old) (O.contents out.new) (trace_text traced.now) }
+{
+    write_trace(traced, out)?;
     flush(out)?;
-    match unmet {
+    if traced.outcome.expected.is_empty() {
+        return Ok(());
+    }
+    match first_unmet(&traced.outcome.lines, &traced.outcome.expected) {
         Some(number) => Err(Fault::Unmet(number)),
         None => Ok(()),
     }
 }
 
-// The number of the first line that isn't as expected, if lines are expected.
-fn unmet_in(outcome: &Outcome) -> Option<usize> {
-    if outcome.expected.is_empty() {
-        return None;
+// Writes the lines of the start, and then each line of the run and those that follow it.
+fn write_trace<O: Write>(traced: &Traced, out: &mut O) -> Result<(), Fault>
+    ensures written { OnOk result (Appends (O.contents out.old) (O.contents out.new) (trace_text traced.now)) }
+    ensures prefix { AppendsPrefix (O.contents out.old) (O.contents out.new) (trace_text traced.now) }
+    ensures fault { IfErr result (λ fault. status_of fault ≡ 3) }
+{
+    write_lines(&traced.start, out)?;
+    write_woven(&traced.outcome.lines, &traced.traces, out)
+}
+
+// Writes each of these lines, and those that follow it.
+fn write_woven<O: Write>(
+    lines: &[Vec<u8>],
+    traces: &[Vec<Vec<u8>>],
+    out: &mut O,
+) -> Result<(), Fault>
+    ensures written { OnOk result (Appends (O.contents out.old) (O.contents out.new) (lines_text (woven (bytes_of lines.now) (traces_of traces.now)))) }
+    ensures prefix { AppendsPrefix (O.contents out.old) (O.contents out.new) (lines_text (woven (bytes_of lines.now) (traces_of traces.now))) }
+    ensures fault { IfErr result (λ fault. status_of fault ≡ 3) }
+{
+    for (index, line) in lines.iter().enumerate() {
+        write_one(line, trace_at(traces, index), out)?;
     }
-    first_unmet(&outcome.lines, &outcome.expected)
+    Ok(())
+}
+
+// Writes a line, and those that follow it.
+fn write_one<O: Write>(line: &[u8], trace: &[Vec<u8>], out: &mut O) -> Result<(), Fault>
+    ensures written { OnOk result (Appends (O.contents out.old) (O.contents out.new) (lines_text (line.now ∷ bytes_of trace.now))) }
+    ensures prefix { AppendsPrefix (O.contents out.old) (O.contents out.new) (lines_text (line.now ∷ bytes_of trace.now)) }
+    ensures fault { IfErr result (λ fault. status_of fault ≡ 3) }
+{
+    write(line, out)?;
+    write(b"\n".as_slice(), out)?;
+    write_lines(trace, out)
+}
+
+// The lines that follow this line of the run, if there are some.
+fn trace_at(traces: &[Vec<Vec<u8>>], index: usize) -> &[Vec<u8>]
+    ensures { bytes_of result.now ≡ unwrap_or (slice_get (traces_of traces.now) index) [] }
+{
+    match traces.get(index) {
+        Some(trace) => trace,
+        None => &[],
+    }
 }

@@ -1,6 +1,6 @@
 //! The key schedule of one end of a run, and the lines of what comes of its messages.
 
-ghost use Rattle.std.specs.Prelude.{◌≡◌, ◌≤◌, ◌-◌, ◌++◌, ℕ, List, [], IfOk, OnOk, drop, length, take};
+ghost use Rattle.std.specs.Prelude.{◌≡◌, ◌≤◌, ◌-◌, ◌++◌, ℕ, List, [], IfOk, OnOk, drop, if◌then◌else◌, length, take};
 ghost use Rattle.noise_duel.specs.Entries.{note_of, notes_of};
 ghost use Rattle.noise_duel.specs.Notes.{Held, Judged, Left, Note, WriteFault, held_note, noted_by};
 ghost use Rattle.noise_duel.specs.Runs.{SideReads, SideReceives, SideWrites};
@@ -14,7 +14,7 @@ ghost use Rattle.noise_session_trace.specs.Moments.Shown.{Nothing};
 ghost use Rattle.noise_vectors.specs.Expectations.{bytes_of};
 ghost use Rattle.noise_vectors.specs.FileKeys.{agreement_of, public_of};
 ghost use Rattle.noise_tool.specs.Moments.{IsCounted, moment_lines};
-ghost use Rattle.noise_tool.specs.TracedEnds.{IsOfNoFrame, Shows, TracedStands, traces_of};
+ghost use Rattle.noise_tool.specs.TracedEnds.{IsOfNoFrame, Shows, TracedStands, note_ends, traces_of};
 ghost use Rattle.noise_tool.specs.Tracing.{about, act_of, came_traces, read_moment, read_trace, written_frame, written_message, written_moment, written_trace};
 
 use crate::moment_lines::{Kept, push_moment};
@@ -46,7 +46,7 @@ impl TracedEnd {
             role: self.role,
             psks: self.psks,
             act,
-            number: self.end.messages_passed(),
+            number: u64::from(self.end.messages_passed()),
         }
     }
 
@@ -66,7 +66,20 @@ impl TracedEnd {
         let about = self.about(Act::Writes);
         let message = message_in(frame);
         let moment = written_moment(&mut self.end, message, entry);
+        self.let_go(alloc, entry);
         moment_of(alloc, kept, about, message, &moment)
+    }
+
+    // Lets go of what is held, if the session has ended with what an entry says of a write.
+    fn let_go(&mut self, alloc: Global, entry: &Entry)
+        ensures role { self.new.role ≡ self.old.role }
+        ensures psks { self.new.psks ≡ self.old.psks }
+        ensures end { self.new.end ≡ self.old.end }
+        ensures held { self.new.held.items ≡ (if note_ends (note_of entry.now) then [] else self.old.held.items) }
+    {
+        if ends_session(entry) {
+            self.held = Vec::new(alloc);
+        }
     }
 
     /// Appends the lines that follow each of these entries, which tell what came of bytes that came to the end.
@@ -162,6 +175,18 @@ fn moment_of(
     let mut lines = Vec::new(alloc);
     push_moment(alloc, kept, about, message, moment, &mut lines)?;
     Ok(lines)
+}
+
+// Whether a session has ended with what an entry says of a write.
+fn ends_session(entry: &Entry) -> bool
+    ensures { result ≡ note_ends (note_of entry.now) }
+{
+    matches!(
+        entry,
+        Entry::WriteFault(
+            SendFault::Agreement { .. } | SendFault::Exhausted | SendFault::Output { .. }
+        )
+    )
 }
 
 // The message in a frame.

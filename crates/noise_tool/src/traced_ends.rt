@@ -86,8 +86,6 @@ pub fn make_traced_ends(
         (&responder, &of_initiator),
     )?;
     let same = pattern.clone()?;
-    let first_pattern = pattern.clone()?;
-    let second_pattern = pattern.clone()?;
     let first = handshake(
         pattern,
         Role::Initiator,
@@ -110,8 +108,8 @@ pub fn make_traced_ends(
         ..
     } = again;
     let ends = TracedEnds {
-        initiator: follow(alloc, first_pattern, &first, initiator_keys, interval),
-        responder: follow(alloc, second_pattern, &second, responder_keys, interval),
+        initiator: follow(alloc, &first, initiator_keys, interval),
+        responder: follow(alloc, &second, responder_keys, interval),
     };
     let initiator_end = End::new(alloc, first, interval)?;
     let responder_end = End::new(alloc, second, interval)?;
@@ -128,18 +126,17 @@ pub fn make_traced_ends(
 // The key schedule of a handshake before its first message, with keys that are those of the handshake.
 fn follow(
     alloc: Global,
-    pattern: ValidPattern,
     handshake: &Handshake<FileKeys>,
     keys: FileKeys,
     interval: u64,
 ) -> TracedEnd
-    ensures { (v : View) → Stands public_of agreement_of handshake.now v → pattern ≡ v.pattern → public_of keys ≡ v.own
-        → agreement_of keys ≡ v.agree → TracedStands result v.role (end_of v interval) }
+    ensures { (v : View) → Stands public_of agreement_of handshake.now v → public_of keys ≡ v.own → agreement_of keys ≡ v.agree
+        → (result.role ≡ v.role) × TracedStands result (end_of v interval) }
 {
     TracedEnd {
         role: handshake.role(),
-        psks: !pattern.pattern().is_plain(),
-        end: EndTrace::new(Following::new(pattern, handshake, keys), interval),
+        psks: !handshake.pattern().pattern().is_plain(),
+        end: EndTrace::new(Following::new(handshake, keys), interval),
         held: Vec::new(alloc),
     }
 }

@@ -8,8 +8,9 @@ ghost use Rattle.noise_duel.specs.Runs.{Happens, SideReceives, SideWrites};
 ghost use Rattle.noise_duel.specs.Sides.{Side, Sides, side, with_side};
 ghost use Rattle.noise_events.specs.Events.{Say, event_of};
 ghost use Rattle.noise_names.specs.declared.token.Role.{Role as Party};
+ghost use Rattle.noise_vectors.specs.Expectations.{bytes_of};
 ghost use Rattle.noise_tool.specs.TracedEnds.{EndsTraced, entry_frame, traces_of};
-ghost use Rattle.noise_tool.specs.Tracing.{came_traces, happened_traces, written_trace};
+ghost use Rattle.noise_tool.specs.Tracing.{came_traces, happened_traces, written_frame, written_trace};
 
 use crate::moment_lines::Kept;
 use crate::report::frame_at;
@@ -69,11 +70,13 @@ fn trace_say(
         return Ok(());
     };
     trace_write(alloc, kept, role, report, entry, ends, traces)?;
-    if let Entry::Wrote(_) = entry {
-        let frame = frame_of(report, role, entry);
-        trace_bytes(alloc, kept, role.other(), frame, later, ends, traces)?;
+    match entry {
+        Entry::Wrote(number) => {
+            let frame = frame_at(report, role, *number);
+            trace_bytes(alloc, kept, role.other(), frame, later, ends, traces)
+        }
+        _ => Ok(()),
     }
-    Ok(())
 }
 
 // The frames that this role wrote.
@@ -113,12 +116,29 @@ fn trace_write(
         × EndsTraced ends.new (with_side d role next)) }
 {
     let frame = frame_of(report, role, entry);
-    let lines = match role {
-        Role::Initiator => ends.initiator.write(alloc, kept, frame, entry)?,
-        Role::Responder => ends.responder.write(alloc, kept, frame, entry)?,
-    };
+    let lines = write_at(alloc, kept, role, frame, entry, ends)?;
     traces.push(lines)?;
     Ok(())
+}
+
+// The lines of what came of it, with the frame that was written, or nothing.
+fn write_at(
+    alloc: Global,
+    kept: Kept,
+    role: Role,
+    frame: &[u8],
+    entry: &Entry,
+    ends: &mut TracedEnds,
+) -> Result<Vec<Vec<u8>>, AllocError>
+    ensures { (d : Sides) (next : Side) (payload : List ℕ) (note : Note) (w : SideWrites (side d role) payload note next) → EndsTraced ends.old d
+        → note_of entry.now ≡ note → frame.now ≡ written_frame (side d role) next payload note w
+        → IfOk result (λ lines. (bytes_of lines.items ≡ written_trace kept role (side d role) next payload note w)
+        × EndsTraced ends.new (with_side d role next)) }
+{
+    match role {
+        Role::Initiator => ends.initiator.write(alloc, kept, frame, entry),
+        Role::Responder => ends.responder.write(alloc, kept, frame, entry),
+    }
 }
 
 // Appends the lines that follow each of these entries, which tell what came of bytes that came to this role.

@@ -163,22 +163,3 @@ fn run_traced(
     }
     Ok((duel, report))
 }
-
-/// The lines of the start, and each line of the run with those that follow it.
-pub fn weave(
-    start: Vec<Vec<u8>>,
-    lines: Vec<Vec<u8>>,
-    traces: Vec<Vec<Vec<u8>>>,
-) -> Result<Vec<Vec<u8>>, AllocError>
-    ensures { IfOk result (λ all. bytes_of all.items ≡ bytes_of start.items ++ woven (bytes_of lines.items) (traces_of traces.items)) }
-{
-    let mut all = start;
-    let mut traces = traces.into_iter();
-    for line in lines {
-        all.push(line)?;
-        if let Some(mut trace) = traces.next() {
-            all.append(&mut trace)?;
-        }
-    }
-    Ok(all)
-}

@@ -161,6 +161,13 @@ impl<K: Keys> Following<K> {
         self.before.values()
     }
 
+    /// How many messages have passed.
+    pub fn passed(&self) -> u8
+        ensures { (v : View) → Follows K.public_of K.agreement self.now v → result ≡ v.passed }
+    {
+        self.passed
+    }
+
     /// The role of the party.
     pub fn role(&self) -> Role
         ensures { (v : View) → Follows K.public_of K.agreement self.now v → result ≡ v.role }
