@@ -18,6 +18,7 @@ use Rattle.noise_session.specs.Steps.{Told}
 use Rattle.noise_session.specs.Taking.{Judges}
 use Rattle.noise_session.specs.Taking.Judges.{accepted, refused, opened, dropped, exhausted}
 use Rattle.noise_session_trace.specs.declared.trace.EndTrace.{EndTrace}
+use Rattle.noise_session_trace.specs.Following.{EndFollows}
 use Rattle.noise_session_trace.specs.Moments.{Shown}
 use Rattle.noise_duel.specs.Notes.{Note}
 use Rattle.noise_duel.specs.Runs.{SideReads, SideWrites}
@@ -25,9 +26,10 @@ use Rattle.noise_duel.specs.Runs.SideWrites.{writes_nothing, writes_handshake, w
 use Rattle.noise_duel.specs.Runs.SideReads.{accepts_handshake, accepts_transport, refuses_message}
 use Rattle.noise_duel.specs.Sides.{Side}
 use Rattle.noise_vectors.specs.Expectations.{bytes_of}
+use Rattle.noise_vectors.specs.FileKeys.{agreement_of, public_of}
 use Rattle.noise_vectors.specs.declared.file_keys.FileKeys.{FileKeys}
 use Rattle.noise_tool.proofs.MomentLemmas.{Has}
-use Rattle.noise_tool.specs.Moments.{moment_lines}
+use Rattle.noise_tool.specs.Moments.{IsCounted, moment_lines}
 use Rattle.noise_tool.specs.TracedEnds.{Shows, TracedStands, note_ends}
 use Rattle.noise_tool.specs.Tracing.{about, act_of, read_moment, read_trace, written_frame, written_message, written_moment, written_trace}
 use Rattle.noise_tool.specs.declared.moment_lines.Kept.{Kept}
@@ -132,3 +134,26 @@ write-lines kept t end given message m s next payload note w result stands is ab
         follows = seen.2;
       },
     )) made
+
+pub wrote-whole : {E : Type 0} (kept : Kept) (t u : TracedEnd) (end : EndTrace FileKeys) (given : About) (message bytes : List ℕ) (m : Shown) (noted : Note)
+    (s next : Side) (payload : List ℕ) (note : Note) (w : SideWrites s payload note next) (result : Result (Vec (Vec ℕ Global) Global) E)
+    → TracedStands t s.view → noted ≡ note → bytes ≡ written_frame s next payload note w → message ≡ drop 2 bytes
+    → given ≡ about t.role s.view Writing
+    → (EndFollows public_of agreement_of t.end s.view → noted ≡ note → message ≡ written_message s next payload note w
+    → Has m (written_moment s next payload note w) end next.view)
+    → u.role ≡ t.role → u.psks ≡ t.psks → u.end ≡ end → u.held.items ≡ (if note_ends noted then [] else t.held.items)
+    → (IsCounted m → IfOk result (λ lines. bytes_of lines.items ≡ moment_lines kept given message m))
+    → IfOk result (λ lines. (bytes_of lines.items ≡ written_trace kept t.role s next payload note w) × TracedStands u next.view)
+wrote-whole kept t u end given message bytes m noted s next payload note w result stands told framed cut abouts clause role psks ends held made =
+    let text : message ≡ written_message s next payload note w = cut ∙ ap (drop 2) framed ∙ written-text s next payload note w in
+    let seen = clause stands.shows.follows told text in
+    IfOk-weaker result _ _ (λ lines h. (
+      h.0,
+      record {
+        shows = record {
+          psks = psks ∙ h.1.psks;
+          follows = subst (λ (z : EndTrace FileKeys). EndFollows public_of agreement_of z next.view) (sym ends) h.1.follows;
+        };
+        held = held ∙ ap (λ (n : Note). if note_ends n then [] else t.held.items) told ∙ written-held s next payload note w t.held.items stands.held;
+      },
+    )) (write-lines kept t end given message m s next payload note w result stands text abouts seen (made seen.1))

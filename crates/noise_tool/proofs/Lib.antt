@@ -16,3 +16,5 @@ pub mod KeptLemmas
 pub mod FollowLemmas
 pub mod TracedRunLemmas
 pub mod LastTraceLemmas
+pub mod TracePerforming
+pub mod RoleLemmas

@@ -23,11 +23,13 @@ use Rattle.noise_session.specs.Steps.{Told}
 use Rattle.noise_session.specs.Steps.Told.{Payload, Dropped, Refused, Exhausted}
 use Rattle.noise_session.specs.Taking.{Judges}
 use Rattle.noise_session.specs.Taking.Judges.{accepted, refused, opened, dropped, exhausted}
-use Rattle.noise_session.specs.Transport.{last_nonce}
+use Rattle.noise_names.specs.Tokens.{other}
+use Rattle.noise_state.specs.History.{History}
+use Rattle.noise_session.specs.Transport.{last_nonce, transport_key}
 use Rattle.noise_session_trace.specs.declared.moment.Moment.{Moment}
 use Rattle.noise_session_trace.specs.declared.trace.EndTrace.{EndTrace}
 use Rattle.noise_session_trace.specs.Following.{EndFollows}
-use Rattle.noise_session_trace.specs.Moments.{Shown, message_moment, opened_moment, sent_moment, shown, stopped_moment, tried_moment}
+use Rattle.noise_session_trace.specs.Moments.{Shown, message_moment, opened_moment, passed_moment, renewed_after, sent_moment, shown, stopped_moment, tried_moment}
 use Rattle.noise_session_trace.specs.Moments.Shown.{Nothing, Message, Transport}
 use Rattle.std.specs.Global.{Global}
 use Rattle.noise_duel.specs.declared.entry.Entry.{Entry}
@@ -59,6 +61,9 @@ counted : (n : ℕ) (key : List ℕ) (renewed : Option (List ℕ)) → n ≢ las
 counted n key None more = tt
 counted n key (Some next) more = more
 
+counted-passed : (r : History) (writer : Role) (interval n : ℕ) → n ≢ last_nonce → IsCounted (passed_moment r writer interval n)
+counted-passed r writer interval n more = counted n (transport_key r writer interval n) (renewed_after r writer interval n) more
+
 -- the first of three faults
 free-of-third : (a b c : Bool) (x y z : SendFault) → (if a then Some x else if b then Some y else if c then Some z else None) ≡ None → c ≡ false
 free-of-third true b c x y z e = absurd (cc e)
@@ -74,7 +79,7 @@ open-free : (ended passed : Bool) (plan : Plan) (role : Role) (n sent received p
     → IsTrue (is_open (if ended then Closed role else if passed then Open role one_way sent received else Handshaking plan role n))
     → sent ≢ last_nonce
 open-free true passed plan role n sent received payload one_way free opens = absurd (cc free)
-open-free false false plan role n sent received payload one_way free opens = absurd opens
+open-free false false plan role n sent received payload one_way free opens = absurd (cc opens)
 open-free false true plan role n sent received payload one_way free opens = λ last.
     let test : (sent == last_nonce) ≡ true = ap (λ (k : ℕ). k == last_nonce) last ∙ same-test last_nonce in
     let none : (sent == last_nonce) ≡ false =
@@ -125,7 +130,8 @@ module _ (old new : Trace) (m : Moment) where
       (done.0, subst IsCounted (sym done.0) tt, done.1)
   wrote-shown message number handshake transport s next payload note (writes_transport _ text _ free opens spelled) follows told is =
       let done = transport s.view payload follows free opens in
-      (done.0, subst IsCounted (sym done.0) (counted _ _ _ (sent-free s.view (length payload) free opens)), done.1)
+      (done.0, subst IsCounted (sym done.0) 
+      (counted-passed s.view.party.history s.view.party.role s.view.interval s.view.sent (sent-free s.view (length payload) free opens)), done.1)
 
 fault-same : (x y : SendFault) → WriteFault x ≡ WriteFault y → x ≡ y
 fault-same x y e = cc
@@ -150,13 +156,13 @@ module _ (t : Trace) (closes : Closes t) where
       → told ≡ Err (fault.Agreement token) → Follow t v
       → ((w : EndView) → Follow t w → (lacks : Lacks w.party token) → shown m ≡ stopped_moment w token lacks.lacks.before)
       → Has (shown m) (unsent_moment v next payload told sends) t next
-  unsent-lacking m v next payload told (refuses _ _ why refused) token is follows clause =
+  unsent-lacking m v next payload told (refuses _ _ why declined) token is follows clause =
       let same : why ≡ fault.Agreement token = cc in
-      absurd (refusal-other (progress_of v) (length payload) token (refused ∙ ap (λ (f : SendFault). Some f) same))
-  unsent-lacking m v next payload told (lacks_answer _ _ other free lacks) token is follows clause =
-      let same : fault.Agreement token ≡ fault.Agreement other = cc in
-      let here : shown m ≡ stopped_moment v other lacks.lacks.before =
-      subst (λ (k : ℕ). (l : Lacks v.party k) → shown m ≡ stopped_moment v k l.lacks.before) (token-same token other same) (clause v follows) lacks in
+      absurd (refusal-other (progress_of v) (length payload) token (declined ∙ ap (λ (f : SendFault). Some f) same))
+  unsent-lacking m v next payload told (lacks_answer _ _ actual free lacks) token is follows clause =
+      let same : fault.Agreement token ≡ fault.Agreement actual = cc in
+      let here : shown m ≡ stopped_moment v actual lacks.lacks.before =
+      subst (λ (k : ℕ). (l : Lacks v.party k) → shown m ≡ stopped_moment v k l.lacks.before) (token-same token actual same) (clause v follows) lacks in
       (here, subst IsCounted (sym here) tt, closes v follows)
   unsent-lacking m v next payload told (sends_handshake _ _ text xs free w) token is follows clause = absurd (cc is)
   unsent-lacking m v next payload told (sends_transport _ _ free opens) token is follows clause = absurd (cc is)
@@ -164,7 +170,7 @@ module _ (t : Trace) (closes : Closes t) where
   -- a payload that is refused for another cause
   unsent-refused : (v next : EndView) (payload : List ℕ) (told : Result (List ℕ) SendFault) (sends : Sends v payload told next) (why : SendFault)
       → told ≡ Err why → ((token : ℕ) → why ≢ fault.Agreement token) → Follow t v → Has Nothing (unsent_moment v next payload told sends) t next
-  unsent-refused v next payload told (refuses _ _ other refused) why is not_lacking follows = (refl, tt, after-closes v (ends other) follows)
+  unsent-refused v next payload told (refuses _ _ given declined) why is not_lacking follows = (refl, tt, after-closes v (ends given) follows)
   unsent-refused v next payload told (lacks_answer _ _ token free lacks) why is not_lacking follows =
       let same : why ≡ fault.Agreement token = cc in absurd (not_lacking token same)
   unsent-refused v next payload told (sends_handshake _ _ text xs free w) why is not_lacking follows = absurd (cc is)
@@ -212,7 +218,8 @@ module _ (old new : Trace) (m : Moment) where
       let done = handshake s.view xs payload follows (subst (λ (z : List ℕ). Accepts s.view.party z xs payload) (sym is) accepts) in
       (done.0, subst IsCounted (sym done.0) tt, done.1)
   took-shown given message bytes is handshake transport s next step (accepts_transport _ _ payload opens more spelled) follows told =
-      let done = transport s.view follows opens more in (done.0, subst IsCounted (sym done.0) (counted _ _ _ more), done.1)
+      let done = transport s.view follows opens more in (done.0, subst IsCounted (sym done.0) 
+      (counted-passed s.view.party.history (other s.view.party.role) s.view.interval s.view.received more), done.1)
   took-shown given message bytes is handshake transport s next step (refuses_message _ _ _ after gives judges) follows told =
       let same : Payload bytes ≡ step = cc in
       absurd (subst (λ (z : Told). GivesNoPayload z) (sym same) gives)
@@ -236,9 +243,9 @@ module _ (t : Trace) (closes : Closes t) (holds : Holds t) where
       → ((w : EndView) (why : Cause) → Follow t w → (r : Refuses w.party message token why) → shown m ≡ stopped_moment w token r.stops.carried)
       → Has (shown m) (judged_moment v next message step j) t next
   judged-refused m v next message step (accepted _ _ payload xs accepts) token cause is follows clause = absurd (cc is)
-  judged-refused m v next message step (refused _ _ other why r) token cause is follows clause =
-      let here : shown m ≡ stopped_moment v other r.stops.carried =
-      subst (λ (k : ℕ). (z : Refuses v.party message k why) → shown m ≡ stopped_moment v k z.stops.carried) (refused-token token other cause why is)
+  judged-refused m v next message step (refused _ _ actual why r) token cause is follows clause =
+      let here : shown m ≡ stopped_moment v actual r.stops.carried =
+      subst (λ (k : ℕ). (z : Refuses v.party message k why) → shown m ≡ stopped_moment v k z.stops.carried) (refused-token token actual cause why is)
       (clause v why follows) r in
       (here, subst IsCounted (sym here) tt, closes v follows)
   judged-refused m v next message step (opened _ _ payload opens more spelled) token cause is follows clause = absurd (cc is)

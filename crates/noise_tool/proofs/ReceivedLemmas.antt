@@ -77,7 +77,7 @@ first-note role other n m ns ms e =
     rest-of [] = []
     rest-of (x ∷ xs) = xs
 
-module _ (kept : Kept) (own role : Role) (reader : Side) (t u : TracedEnd) (rest message after : List ℕ) (by : Role) (note : Note)
+module _ (kept : Kept) (own role : Role) (t u : TracedEnd) (rest message after : List ℕ) (by : Role) (note : Note)
     (more : List (Role × Note)) (so_far now whole : Traces) (lines : List (List ℕ))
     (holds : HoldsAny u)
     -- what is taken of the bytes
@@ -98,11 +98,11 @@ module _ (kept : Kept) (own role : Role) (reader : Side) (t u : TracedEnd) (rest
       ∙ ap (λ (x : List (List ℕ)). so_far ++ (x ∷ others)) is ∙ inv
 
   -- so many bytes are held, at the end
-  held-last : (s : Side) → (bytes : List ℕ) → Shows t s.view → (held : List ℕ) → rest ≡ held → reader.view ≡ record (s.view) { held = held }
+  held-last : (reader s : Side) → (bytes : List ℕ) → Shows t s.view → (held : List ℕ) → rest ≡ held → reader.view ≡ record (s.view) { held = held }
       → (by, note) ∷ more ≡ noted_by role (held_note (length held)) → so_far ++ blanks (held_note (length held)) ≡ whole
       → Finished reader u after more now whole
-  held-last s bytes shows [] is view left inv = absurd (cc left)
-  held-last s bytes shows (b ∷ bs) is view left inv =
+  held-last reader s bytes shows [] is view left inv = absurd (cc left)
+  held-last reader s bytes shows (b ∷ bs) is view left inv =
       let two = first-note by role note (Held (suc (length bs))) more [] left in
       let no_frame : IsOfNoFrame note = subst IsOfNoFrame (sym two.0) tt in
       let made = none s.view shows no_frame in
@@ -113,13 +113,13 @@ module _ (kept : Kept) (own role : Role) (reader : Side) (t u : TracedEnd) (rest
         whole_is = sym (append-nil now) ∙ grown [] [] made.0 inv;
       }
 
-  idle-step : (s : Side) (bytes : List ℕ) (step : Told) (idle : idle_step (progress_of s.view) ≡ Some step) → reader ≡ s → Shows t s.view
+  idle-step : (reader s : Side) (bytes : List ℕ) (step : Told) (idle : idle_step (progress_of s.view) ≡ Some step) → reader ≡ s → Shows t s.view
       → rest ≡ s.view.held ++ bytes → (by, note) ∷ more ≡ noted_by role (left_note step (length bytes) ++ held_note (length s.view.held))
       → so_far ++ (blanks (left_note step (length bytes)) ++ blanks (held_note (length s.view.held))) ≡ whole
       → Remains kept own role reader u after more now whole
-  idle-step s [] step idle same shows rest_is left inv =
-      inr (held-last s [] shows s.view.held (rest_is ∙ append-nil s.view.held) (ap (λ (r : Side). r.view) same) left inv)
-  idle-step s (b ∷ bs) step idle same shows rest_is left inv =
+  idle-step reader s [] step idle same shows rest_is left inv =
+      inr (held-last reader s [] shows s.view.held (rest_is ∙ append-nil s.view.held) (ap (λ (r : Side). r.view) same) left inv)
+  idle-step reader s (b ∷ bs) step idle same shows rest_is left inv =
       let two = first-note by role note (Left step (suc (length bs))) more (noted_by role (held_note (length s.view.held))) left in
       let no_frame : IsOfNoFrame note = subst IsOfNoFrame (sym two.0) tt in
       let made = none s.view shows no_frame in
@@ -139,13 +139,13 @@ module _ (kept : Kept) (own role : Role) (reader : Side) (t u : TracedEnd) (rest
       }))
 
   -- one entry more
-  pub one-entry : (s : Side) (bytes : List ℕ) (heard : List Note) (x : SideReceives s bytes heard reader) → Shows t s.view
+  pub one-entry : (reader s : Side) (bytes : List ℕ) (heard : List Note) (x : SideReceives s bytes heard reader) → Shows t s.view
       → rest ≡ s.view.held ++ bytes → (by, note) ∷ more ≡ noted_by role (heard ++ held_note (length reader.view.held))
       → so_far ++ came_traces kept own s reader bytes heard x ≡ whole → Remains kept own role reader u after more now whole
-  one-entry s bytes heard (is_idle _ _ step idle) shows rest_is left inv = idle-step s bytes step idle refl shows rest_is left inv
-  one-entry s bytes heard (waits _ _ listens part) shows rest_is left inv =
-      inr (held-last s bytes shows (s.view.held ++ bytes) rest_is refl left inv)
-  one-entry s bytes heard (reads_frame _ next _ _ text later step notes listens cut fits r tail) shows rest_is left inv =
+  one-entry reader s bytes heard (is_idle _ _ step idle) shows rest_is left inv = idle-step reader s bytes step idle refl shows rest_is left inv
+  one-entry reader s bytes heard (waits _ _ listens part) shows rest_is left inv =
+      inr (held-last reader s bytes shows (s.view.held ++ bytes) rest_is refl left inv)
+  one-entry reader s bytes heard (reads_frame _ next _ _ text later step notes listens cut fits r tail) shows rest_is left inv =
       let two = first-note by role note (Judged step) more (noted_by role (notes ++ held_note (length reader.view.held))) left in
       let split = splits text later step two.0 (rest_is ∙ cut) fits in
       let made = reads s next text step r shows split.0 two.0 in
@@ -160,42 +160,42 @@ module _ (kept : Kept) (own role : Role) (reader : Side) (t u : TracedEnd) (rest
         whole_is = grown (read_trace kept own s next text step r) (came_traces kept own next reader later notes tail) made.0 inv;
       })
 
-  pub entry-step : (left : List (Role × Note)) → left ≡ (by, note) ∷ more → Remains kept own role reader t rest left so_far whole
+  pub entry-step : (reader : Side) (left : List (Role × Note)) → left ≡ (by, note) ∷ more → Remains kept own role reader t rest left so_far whole
       → Remains kept own role reader u after more now whole
-  entry-step left is (inl r) = one-entry r.s r.bytes r.heard r.receives r.shows r.rest_is (sym is ∙ r.left_is) r.whole_is
-  entry-step left is (inr f) = let bad = sym is ∙ f.left_is in absurd (cc bad)
+  entry-step reader left is (inl r) = one-entry reader r.s r.bytes r.heard r.receives r.shows r.rest_is (sym is ∙ r.left_is) r.whole_is
+  entry-step reader left is (inr f) = let bad = sym is ∙ f.left_is in absurd (cc bad)
 
 -- ---- the end
 
-module _ (kept : Kept) (own role : Role) (reader : Side) (t : TracedEnd) (rest : List ℕ) (so_far whole : Traces) (holds : HoldsAny t) where
-  waits-last : (s : Side) (held : List ℕ) → Shows t s.view → rest ≡ held → reader.view ≡ record (s.view) { held = held }
+module _ (kept : Kept) (own role : Role) (t : TracedEnd) (rest : List ℕ) (so_far whole : Traces) (holds : HoldsAny t) where
+  waits-last : (reader s : Side) (held : List ℕ) → Shows t s.view → rest ≡ held → reader.view ≡ record (s.view) { held = held }
       → [] ≡ noted_by role (held_note (length held)) → so_far ++ blanks (held_note (length held)) ≡ whole → Finished reader t rest [] so_far whole
-  waits-last s [] shows is view left inv = record {
+  waits-last reader s [] shows is view left inv = record {
     shows = subst (λ (v : EndView). Shows t v) (sym view) (holds s.view [] shows);
     rest_is = is ∙ ap (λ (v : EndView). v.held) (sym view);
     left_is = refl;
     whole_is = sym (append-nil so_far) ∙ inv;
   }
-  waits-last s (b ∷ bs) shows is view left inv = absurd (cc left)
+  waits-last reader s (b ∷ bs) shows is view left inv = absurd (cc left)
 
-  idle-last : (s : Side) (bytes : List ℕ) (step : Told) → reader ≡ s → Shows t s.view → rest ≡ s.view.held ++ bytes
+  idle-last : (reader s : Side) (bytes : List ℕ) (step : Told) → reader ≡ s → Shows t s.view → rest ≡ s.view.held ++ bytes
       → [] ≡ noted_by role (left_note step (length bytes) ++ held_note (length s.view.held))
       → so_far ++ (blanks (left_note step (length bytes)) ++ blanks (held_note (length s.view.held))) ≡ whole → Finished reader t rest [] so_far whole
-  idle-last s [] step same shows rest_is left inv =
-      waits-last s s.view.held shows (rest_is ∙ append-nil s.view.held) (ap (λ (r : Side). r.view) same) left inv
-  idle-last s (b ∷ bs) step same shows rest_is left inv = absurd (cc left)
+  idle-last reader s [] step same shows rest_is left inv =
+      waits-last reader s s.view.held shows (rest_is ∙ append-nil s.view.held) (ap (λ (r : Side). r.view) same) left inv
+  idle-last reader s (b ∷ bs) step same shows rest_is left inv = absurd (cc left)
 
-  read-last : (s : Side) (bytes : List ℕ) (heard : List Note) (x : SideReceives s bytes heard reader) → Shows t s.view
+  read-last : (reader s : Side) (bytes : List ℕ) (heard : List Note) (x : SideReceives s bytes heard reader) → Shows t s.view
       → rest ≡ s.view.held ++ bytes → [] ≡ noted_by role (heard ++ held_note (length reader.view.held))
       → so_far ++ came_traces kept own s reader bytes heard x ≡ whole → Finished reader t rest [] so_far whole
-  read-last s bytes heard (is_idle _ _ step idle) shows rest_is left inv = idle-last s bytes step refl shows rest_is left inv
-  read-last s bytes heard (waits _ _ listens part) shows rest_is left inv = waits-last s (s.view.held ++ bytes) shows rest_is refl left inv
-  read-last s bytes heard (reads_frame _ next _ _ text later step notes listens cut fits r tail) shows rest_is left inv = absurd (cc left)
+  read-last reader s bytes heard (is_idle _ _ step idle) shows rest_is left inv = idle-last reader s bytes step refl shows rest_is left inv
+  read-last reader s bytes heard (waits _ _ listens part) shows rest_is left inv = waits-last reader s (s.view.held ++ bytes) shows rest_is refl left inv
+  read-last reader s bytes heard (reads_frame _ next _ _ text later step notes listens cut fits r tail) shows rest_is left inv = absurd (cc left)
 
-  pub all-read : (left : List (Role × Note)) → left ≡ [] → Remains kept own role reader t rest left so_far whole
+  pub all-read : (reader : Side) (left : List (Role × Note)) → left ≡ [] → Remains kept own role reader t rest left so_far whole
       → Finished reader t rest [] so_far whole
-  all-read left none (inl r) = read-last r.s r.bytes r.heard r.receives r.shows r.rest_is (sym none ∙ r.left_is) r.whole_is
-  all-read left none (inr f) = record { shows = f.shows; rest_is = f.rest_is; left_is = refl; whole_is = f.whole_is }
+  all-read reader left none (inl r) = read-last reader r.s r.bytes r.heard r.receives r.shows r.rest_is (sym none ∙ r.left_is) r.whole_is
+  all-read reader left none (inr f) = record { shows = f.shows; rest_is = f.rest_is; left_is = refl; whole_is = f.whole_is }
 
 -- the lines of one entry more
 pub traces-push : (traces : List (Vec (Vec ℕ Global) Global)) (v : Vec (Vec ℕ Global) Global)

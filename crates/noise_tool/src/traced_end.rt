@@ -121,6 +121,7 @@ impl TracedEnd {
             × (traces_of traces.new.items ≡ traces_of traces.old.items ++ came_traces kept self.old.role s reader bytes notes x)
             × Shows self.new reader.view) }
     {
+        end_is_followed::<FileKeys>();
         let mut rest = came;
         for (_, entry) in entries {
             let (message, after) = split_entry(rest, entry);

@@ -134,9 +134,7 @@ fn push_datagram_keys(
         return Ok(());
     }
     match traced.end.keys() {
-        Some((initiator, responder)) => {
-            push_datagram_key_lines(alloc, traced.role, &initiator, &responder, lines)
-        }
+        Some(keys) => push_datagram_key_lines(alloc, traced.role, &keys.0, &keys.1, lines),
         None => Ok(()),
     }
 }

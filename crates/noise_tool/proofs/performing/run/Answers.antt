@@ -1,4 +1,5 @@
 use Rattle.noise_tool.proofs.PrefixLemmas.{replay-prefix, talk-prefix}
+use Rattle.noise_tool.proofs.TracePerforming.{traced-prefix}
 use Rattle.noise_tool.proofs.performing.run.Goals as goal
 
 pub returns-in-Talk-clause-prefix : goal.returns-in-Talk-clause-prefix
