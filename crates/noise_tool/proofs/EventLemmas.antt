@@ -1,5 +1,5 @@
 -- What an event is, and the lines of it.
-use Rattle.std.proofs.Common.{◌≡◌, ◌≢◌, ◌∙◌, ◌⊎◌, inl, inr, refl, sym, ap, subst, ℕ, List, [], ◌∷◌, ◌++◌, length, Option, Some, None, slice_get, drop, take, append_assoc, append-nil}
+use Rattle.std.proofs.Common.{◌≡◌, ◌≢◌, ◌∙◌, ◌⊎◌, inl, inr, refl, sym, ap, subst, ℕ, List, [], ◌∷◌, ◌++◌, length, Option, Some, None, slice_get, append_assoc, Result, OnOk}
 use Rattle.std.specs.Prelude.{unwrap_or}
 use Rattle.noise_names.specs.declared.token.Role.{Role}
 use Rattle.noise_names.specs.declared.token.Role.TheVariants.{Initiator, Responder}
@@ -7,17 +7,22 @@ use Rattle.noise_names.specs.Tokens.{other}
 use Rattle.noise_events.specs.Events.{Event, Write, Say, Deliver, Raw}
 use Rattle.noise_session.specs.declared.faults.SendFault.{SendFault}
 use Rattle.noise_session.specs.Frames.{frame}
+use Rattle.noise_duel.specs.declared.entry.Entry.{Entry}
+use Rattle.noise_duel.specs.declared.entry.Entry.TheVariants as entry
+use Rattle.noise_duel.specs.Entries.{note_of, notes_of}
 use Rattle.noise_duel.specs.Notes.{Note, Missing, Wrote, WriteFault, held_note, noted_by}
 use Rattle.noise_duel.specs.Runs.{Happens, SideReceives, SideWrites}
 use Rattle.noise_duel.specs.Runs.Happens.{writes, says_nothing, says, delivers, misses, injects}
 use Rattle.noise_duel.specs.Runs.SideWrites.{writes_nothing, writes_handshake, writes_transport}
 use Rattle.noise_duel.specs.Sides.{Side, Sides, side, with_side}
 use Rattle.noise_tool.specs.Printed.{frame_at}
-use Rattle.noise_tool.specs.TracedEnds.{entry_frame}
+use Rattle.noise_tool.specs.TracedEnds.{EndsTraced, entry_frame}
 use Rattle.noise_tool.specs.Tracing.{came_traces, happened_traces, written_frame, written_trace}
 use Rattle.noise_tool.specs.declared.moment_lines.Kept.{Kept}
+use Rattle.noise_tool.specs.declared.traced_ends.TracedEnds.{TracedEnds}
+use Rattle.noise_tool.proofs.RunningLemmas.{on_ok}
 
-abbrev Traces : Type 0
+abbrev pub Traces : Type 0
 Traces = List (List (List ℕ))
 
 -- the lines of an event that is the same
@@ -179,3 +184,121 @@ written-frame s next last payload note (writes_handshake _ message _ xs free w) 
 written-frame s next last payload note (writes_transport _ message _ free opens is) same =
     ap (λ (fs : List (List ℕ)). unwrap_or (slice_get fs (length s.frames)) []) same
     ∙ ap (λ (o : Option (List ℕ)). unwrap_or o []) (last-there s.frames (frame message))
+
+-- ---- a payload that is said, in code
+
+pub none-first : (role : Role) (note : Note) (notes : List (Role × Note)) → [] ≡ (role, note) ∷ notes → ⊥
+none-first role note notes e = cc e
+
+-- no entry
+pub say-none : (kept : Kept) (d next : Sides) (role : Role) (payload : List ℕ) (notes : List (Role × Note)) (h : Happens d (Say role payload) notes next)
+    → [] ≡ notes → ⊥
+say-none kept d next role payload notes h none = at (of-say kept d next role payload notes h) where
+  at : Said-all kept d next role payload notes (happened_traces kept d next (Say role payload) notes h)
+      ⊎ Said-none kept d next role payload notes (happened_traces kept d next (Say role payload) notes h) → ⊥
+  at (inl s) = none-first role (Wrote s.number) _ (none ∙ s.notes_are)
+  at (inr s) = none-first role (WriteFault s.why) _ (none ∙ s.notes_are)
+
+pub head-note : (r s : Role) (m n : Note) (ms ns : List (Role × Note)) → (r, m) ∷ ms ≡ (s, n) ∷ ns → m ≡ n
+head-note r s m n ms ns e = ap (λ (xs : List (Role × Note)). first-of m xs) e where
+  first-of : Note → List (Role × Note) → Note
+  first-of d [] = d
+  first-of d (x ∷ xs) = x.1
+
+rest-notes : (r s : Role) (m n : Note) (ms ns : List (Role × Note)) → (r, m) ∷ ms ≡ (s, n) ∷ ns → ms ≡ ns
+rest-notes r s m n ms ns e = ap rest-of e where
+  rest-of : List (Role × Note) → List (Role × Note)
+  rest-of [] = []
+  rest-of (x ∷ xs) = xs
+
+-- what is known of the write, and of the bytes that come then
+abbrev Writes-on : Kept → Sides → Sides → Role → Note → Traces → Traces → TracedEnds → TracedEnds → Type 0
+Writes-on kept d last role given old one before between = (next : Side) (payload : List ℕ) (note : Note) (w : SideWrites (side d role) payload note next)
+    → EndsTraced before d → (side last role).frames ≡ next.frames → given ≡ note
+    → (one ≡ old ++ written_trace kept role (side d role) next payload note w ∷ []) × EndsTraced between (with_side d role next)
+
+-- nothing was written
+pub say-fault : (kept : Kept) (d next : Sides) (role by : Role) (payload : List ℕ) (notes more : List (Role × Note))
+    (h : Happens d (Say role payload) notes next) (given : Note) (old one : Traces) (before between : TracedEnds) → EndsTraced before d
+    → (by, given) ∷ more ≡ notes → ((n : ℕ) → given ≢ Wrote n) → Writes-on kept d next role given old one before between
+    → (one ≡ old ++ happened_traces kept d next (Say role payload) notes h) × EndsTraced between next
+say-fault kept d next role by payload notes more h given old one before between traced told no_number on = at (of-say kept d next role payload notes h)
+  where
+    at : Said-all kept d next role payload notes (happened_traces kept d next (Say role payload) notes h)
+        ⊎ Said-none kept d next role payload notes (happened_traces kept d next (Say role payload) notes h)
+        → (one ≡ old ++ happened_traces kept d next (Say role payload) notes h) × EndsTraced between next
+    at (inl s) = absurd (no_number s.number (head-note by role given (Wrote s.number) more _ (told ∙ s.notes_are)))
+    at (inr s) =
+        let done = on s.after payload (WriteFault s.why) s.w traced
+        (ap (λ (z : Sides). (side z role).frames) s.next_is ∙ frames-written d role s.after)
+        (head-note by role given (WriteFault s.why) more _ (told ∙ s.notes_are)) in (
+          done.0 ∙ ap (λ (x : Traces). old ++ x) (sym s.traces_are),
+          subst (λ (z : Sides). EndsTraced between z) (sym s.next_is) done.1,
+        )
+
+number-same : (m n : ℕ) → Wrote m ≡ Wrote n → m ≡ n
+number-same m n e = cc
+
+-- a frame was written, and came to the other role
+pub say-frame : {E : Type 0} (kept : Kept) (d next : Sides) (role by : Role) (payload : List ℕ) (notes more : List (Role × Note))
+    (h : Happens d (Say role payload) notes next) (number : ℕ) (frame : List ℕ) (old one new : Traces) (before between after : TracedEnds)
+    (to : Role) (r : Result Unit E) → EndsTraced before d
+    → (by, Wrote number) ∷ more ≡ notes → frame ≡ frame_at (side next role) number → to ≡ other role
+    → Writes-on kept d next role (Wrote number) old one before between
+    → ((e : Sides) (reader : Side) (heard : List Note) (x : SideReceives (side e to) frame heard reader) → EndsTraced between e
+    → more ≡ noted_by to (heard ++ held_note (length reader.view.held))
+    → OnOk r ((new ≡ one ++ came_traces kept to (side e to) reader frame heard x) × EndsTraced after (with_side e to reader)))
+    → OnOk r ((new ≡ old ++ happened_traces kept d next (Say role payload) notes h) × EndsTraced after next)
+say-frame {E = E} kept d next role by payload notes more h number frame old one new before between after to r traced told framed to_is on comes =
+    at (of-say kept d next role payload notes h)
+  where
+    at : Said-all kept d next role payload notes (happened_traces kept d next (Say role payload) notes h)
+        ⊎ Said-none kept d next role payload notes (happened_traces kept d next (Say role payload) notes h)
+        → OnOk r ((new ≡ old ++ happened_traces kept d next (Say role payload) notes h) × EndsTraced after next)
+    at (inr s) =
+        let bad : Wrote number ≡ WriteFault s.why = head-note by role (Wrote number) (WriteFault s.why) more _ (told ∙ s.notes_are) in absurd (cc bad)
+    at (inl s) =
+        let heads : Wrote number ≡ Wrote s.number = head-note by role (Wrote number) (Wrote s.number) more _ (told ∙ s.notes_are) in
+        let tails = rest-notes by role (Wrote number) (Wrote s.number) more _ (told ∙ s.notes_are) in
+        let written : (side next role).frames ≡ s.after.frames =
+        ap (λ (z : Sides). (side z role).frames) s.next_is ∙ frames-said d role s.after s.reader in
+        let done = on s.after payload (Wrote s.number) s.w traced written heads in
+        let text : frame ≡ s.bytes =
+        framed ∙ ap (λ (k : ℕ). unwrap_or (slice_get (side next role).frames k) []) (number-same number s.number heads)
+        ∙ ap (λ (fs : List (List ℕ)). unwrap_or (slice_get fs s.number) []) written ∙ ap (λ (o : Option (List ℕ)). unwrap_or o []) s.got in
+        let came = subst (λ (z : Role). (reader : Side) (heard : List Note) (x : SideReceives (side (with_side d role s.after) z) frame heard reader)
+        → more ≡ noted_by z (heard ++ held_note (length reader.view.held))
+        → OnOk r ((new ≡ one ++ came_traces kept z (side (with_side d role s.after) z) reader frame heard x)
+        × EndsTraced after (with_side (with_side d role s.after) z reader))) to_is
+        (λ reader heard x noted. comes (with_side d role s.after) reader heard x done.1 noted) in
+        let read = subst (λ (z : Side). (reader : Side) (heard : List Note) (x : SideReceives z frame heard reader)
+        → more ≡ noted_by (other role) (heard ++ held_note (length reader.view.held))
+        → OnOk r ((new ≡ one ++ came_traces kept (other role) z reader frame heard x)
+        × EndsTraced after (with_side (with_side d role s.after) (other role) reader))) (reader-kept d role s.after) came in
+        let last = subst (λ (z : List ℕ). (reader : Side) (heard : List Note) (x : SideReceives (side d (other role)) z heard reader)
+        → more ≡ noted_by (other role) (heard ++ held_note (length reader.view.held))
+        → OnOk r ((new ≡ one ++ came_traces kept (other role) (side d (other role)) reader z heard x)
+        × EndsTraced after (with_side (with_side d role s.after) (other role) reader))) text read in
+        on_ok r _ _ (λ both. (
+          both.0 ∙ ap (λ (x : Traces). x ++ came_traces kept (other role) (side d (other role)) s.reader s.bytes s.heard s.x) done.0
+              ∙ append_assoc old (written_trace kept role (side d role) s.after payload (Wrote s.number) s.w ∷ [])
+              (came_traces kept (other role) (side d (other role)) s.reader s.bytes s.heard s.x)
+              ∙ ap (λ (x : Traces). old ++ x) (sym s.traces_are),
+          subst (λ (z : Sides). EndsTraced after z) (sym s.next_is) both.1,
+        )) (last s.reader s.heard s.x tails)
+
+-- an entry that tells of no frame
+pub note-number : (e : Entry) → ((n : ℕ) → e ≡ entry.Wrote n → ⊥) → (n : ℕ) → note_of e ≢ Wrote n
+note-number (entry.Wrote m) none n e = none m refl
+note-number (entry.WriteFault why) none n e = cc e
+note-number (entry.Payload bytes) none n e = cc e
+note-number (entry.Dropped cause) none n e = cc e
+note-number (entry.Refused token cause) none n e = cc e
+note-number entry.Exhausted none n e = cc e
+note-number (entry.Left why m) none n e = cc e
+note-number (entry.Missing m) none n e = cc e
+note-number (entry.Held m) none n e = cc e
+
+pub no-entries : (entries : List (Role × Entry)) → length entries ≡ 0 → [] ≡ notes_of entries
+no-entries [] e = refl
+no-entries (x ∷ xs) e = absurd (cc e)

@@ -18,3 +18,4 @@ pub mod TracedRunLemmas
 pub mod LastTraceLemmas
 pub mod TracePerforming
 pub mod RoleLemmas
+pub mod WovenLemmas

@@ -1,6 +1,6 @@
 //! The lines that follow the entries of an event.
 
-ghost use Rattle.std.specs.Prelude.{◌≡◌, ◌∷◌, ◌++◌, [], ℕ, List, IfOk, OnOk, length};
+ghost use Rattle.std.specs.Prelude.{◌≡◌, ◌∷◌, ◌++◌, [], ℕ, List, IfOk, MatchOption, None, OnOk, Some, length, slice_get};
 ghost use Rattle.noise_duel.specs.Entries.{bytes_of as frames_in, note_of, notes_of};
 ghost use Rattle.noise_duel.specs.HeldDuel.{HasFrames};
 ghost use Rattle.noise_duel.specs.Notes.{Note, held_note, noted_by};
@@ -35,12 +35,12 @@ pub fn trace_event(
         × EndsTraced ends.new next) }
 {
     match event {
-        Event::Write(role, _) => match entries.first() {
-            Some((_, entry)) => trace_write(alloc, kept, *role, report, entry, ends, traces),
+        Event::Write(role, _) => match entries.split_first() {
+            Some((first, _)) => trace_write(alloc, kept, *role, report, &first.1, ends, traces),
             None => Ok(()),
         },
         Event::Say(role, _, _) => trace_say(alloc, kept, *role, report, entries, ends, traces),
-        Event::Deliver(role, number, _) => match frames_of(report, role.other()).get(*number) {
+        Event::Deliver(role, number, _) => match delivered(report, role.other(), *number) {
             Some(frame) => trace_bytes(alloc, kept, *role, frame, entries, ends, traces),
             None => {
                 traces.push(Vec::new(alloc))?;
@@ -66,11 +66,11 @@ fn trace_say(
         → OnOk result ((traces_of traces.new.items ≡ traces_of traces.old.items ++ happened_traces kept d next (Say role payload) notes h)
         × EndsTraced ends.new next) }
 {
-    let Some(((_, entry), later)) = entries.split_first() else {
+    let Some((first, later)) = entries.split_first() else {
         return Ok(());
     };
-    trace_write(alloc, kept, role, report, entry, ends, traces)?;
-    match entry {
+    trace_write(alloc, kept, role, report, &first.1, ends, traces)?;
+    match &first.1 {
         Entry::Wrote(number) => {
             let frame = frame_at(report, role, *number);
             trace_bytes(alloc, kept, role.other(), frame, later, ends, traces)
@@ -86,6 +86,17 @@ fn frames_of(report: &Report, role: Role) -> &[Vec<u8>]
     match role {
         Role::Initiator => report.initiator.as_slice(),
         Role::Responder => report.responder.as_slice(),
+    }
+}
+
+// The frame of this number that this role wrote, if there is one.
+fn delivered(report: &Report, role: Role, number: usize) -> Option<&[u8]>
+    ensures { (d : Sides) → HasFrames report.now d → MatchOption result (slice_get (side d role).frames number ≡ None)
+        (λ frame. slice_get (side d role).frames number ≡ Some frame.now) }
+{
+    match frames_of(report, role).get(number) {
+        Some(frame) => Some(frame.as_slice()),
+        None => None,
     }
 }
 

@@ -1,6 +1,6 @@
 //! The run of a vector file with the key schedules of both ends beside it.
 
-ghost use Rattle.std.specs.Prelude.{◌≡◌, ◌&&◌, ◌++◌, [], ℕ, List, IfErr, IfOk, OnOk, is_some, length};
+ghost use Rattle.std.specs.Prelude.{◌≡◌, ◌&&◌, ◌++◌, [], ℕ, List, IfErr, IfOk, OnOk, drop, is_some, length};
 ghost use Rattle.noise_duel.specs.HeldDuel.{DuelStands};
 ghost use Rattle.noise_duel.specs.Sides.{Sides};
 ghost use Rattle.noise_events.specs.Events.{events_of};
@@ -21,8 +21,9 @@ use crate::trace_lines::push_datagram_key_lines;
 use crate::traced_end::TracedEnd;
 use crate::traced_ends::{TracedEnds, TracedStart, make_traced_ends};
 use crate::traced_event::trace_event;
-use noise_duel::{Duel, Event, Report};
+use noise_duel::{Duel, Entry, Event, Report};
 use noise_lines::Fault;
+use noise_names::Role;
 use noise_session::end_is_told;
 use noise_vectors::{FileKeys, VectorFile, Version};
 use std::alloc::{AllocError, Global};
@@ -156,8 +157,16 @@ fn run_traced(
     for event in events {
         let from = report.entries.len();
         duel.apply(alloc, event, &mut report)?;
-        let (_, entries) = report.entries.split_at(from);
+        let entries = entries_from(&report, from);
         trace_event(alloc, kept, event, &report, entries, ends, traces)?;
     }
     Ok((duel, report))
+}
+
+// The entries of a report from this place on.
+fn entries_from(report: &Report, from: usize) -> &[(Role, Entry)]
+    ensures { result.now ≡ drop from report.now.entries.items }
+{
+    let (_, later) = report.entries.split_at(from.min(report.entries.len()));
+    later
 }
