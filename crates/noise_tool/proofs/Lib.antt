@@ -19,3 +19,4 @@ pub mod LastTraceLemmas
 pub mod TracePerforming
 pub mod RoleLemmas
 pub mod WovenLemmas
+pub mod TracedWhole

@@ -32,7 +32,7 @@ notes-after : (before after : List (Role × Entry)) (notes : Noted) → notes_of
     → notes_of (drop (length before) after) ≡ notes
 notes-after [] after notes e = e
 notes-after (b ∷ bs) [] notes e = absurd (cc e)
-notes-after (b ∷ bs) (a ∷ as) notes e = notes-after bs as notes (ap rest-of e)
+notes-after (b ∷ bs) (a ∷ more) notes e = notes-after bs more notes (ap rest-of e)
   where
     rest-of : Noted → Noted
     rest-of [] = []

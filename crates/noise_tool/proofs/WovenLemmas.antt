@@ -1,10 +1,12 @@
 -- The text of a trace, written line by line.
-use Rattle.std.proofs.Common.{◌≡◌, ◌∙◌, refl, sym, ap, subst, ℕ, zero, suc, ◌+◌, List, [], ◌∷◌, ◌++◌, Option, Some, None, drop, length, slice_get, append_assoc, append-nil, add-one}
+use Rattle.std.proofs.Common.{◌≡◌, ◌∙◌, refl, sym, ap, subst, ℕ, zero, suc, ◌+◌, List, [], ◌∷◌, ◌++◌, Option, Some, None, Vec, drop, slice_get, append_assoc, append-nil, add-one}
+use Rattle.std.specs.Global.{Global}
 use Rattle.std.specs.Prelude.{unwrap_or}
 use Rattle.std.specs.Io.KnownBytes.{Appends}
 use Rattle.std.proofs.KnownBytes.{Appends-trans}
 use Rattle.noise_lines.specs.Lines.{lines_text}
 use Rattle.noise_lines.specs.Prefixes.{AppendsPrefix}
+use Rattle.noise_vectors.specs.Expectations.{bytes_of}
 use Rattle.noise_tool.specs.Tracing.{woven}
 
 pub prefix-whole : (a b : Option (List ℕ)) (text : List ℕ) → Appends a b text → AppendsPrefix a b text
@@ -90,3 +92,24 @@ pub written-all : (before now : Option (List ℕ)) (lines : List (List ℕ)) (tr
 written-all before now lines traces i w none =
     subst (λ (t : List ℕ). Appends before now t)
     (sym (w.whole ∙ ap (λ (ls : List (List ℕ)). w.done ++ lines_text (woven ls (drop i traces))) none ∙ append-nil w.done)) w.appended
+
+appends-none : (a : Option (List ℕ)) → Appends a a []
+appends-none None = tt
+appends-none (Some xs) = sym (append-nil xs)
+
+pub none-written : (a : Option (List ℕ)) (lines : List (List ℕ)) (traces : List (List (List ℕ))) → Written a a lines traces 0
+none-written a lines traces = record { done = []; appended = appends-none a; whole = refl }
+
+pub drop-bytes : (lines : List (Vec ℕ Global)) (i : ℕ) → drop i (bytes_of lines) ≡ bytes_of (drop i lines)
+drop-bytes [] zero = refl
+drop-bytes [] (suc i) = refl
+drop-bytes (l ∷ ls) zero = refl
+drop-bytes (l ∷ ls) (suc i) = drop-bytes ls i
+
+-- the line that a loop has come to
+pub line-here : (lines : List (Vec ℕ Global)) (i : ℕ) (x : Vec ℕ Global) (text : List ℕ) → drop i lines ≡ x ∷ drop (i + 1) lines → text ≡ x.items
+    → drop i (bytes_of lines) ≡ text ∷ drop (i + 1) (bytes_of lines)
+line-here lines i x text here is =
+    drop-bytes lines i ∙ ap bytes_of here
+    ∙ ap (λ (t : List ℕ). t ∷ bytes_of (drop (i + 1) lines)) (sym is)
+    ∙ ap (λ (ls : List (List ℕ)). text ∷ ls) (sym (drop-bytes lines (i + 1)))

@@ -6,6 +6,7 @@ use Rattle.noise_names.specs.Plan.{Plan, has_psk}
 use Rattle.noise_names.specs.Tokens.{other}
 use Rattle.noise_names.specs.Validity.{IsValid}
 use Rattle.noise_events.specs.Events.{Event, events_of}
+use Rattle.noise_handshake.specs.declared.remote.Remote.{Remote}
 use Rattle.noise_handshake.specs.Setup.{public_keys}
 use Rattle.noise_session.specs.declared.faults.SendFault.{SendFault}
 use Rattle.noise_session.specs.Ends.{EndView}
@@ -29,6 +30,7 @@ use Rattle.noise_duel.specs.Runs.Run.{ends, begins}
 use Rattle.noise_duel.specs.Sides.{Side, Sides}
 use Rattle.noise_trace.specs.Start.{start_steps}
 use Rattle.noise_vectors.specs.FileKeys.{public_of}
+use Rattle.noise_vectors.specs.declared.file_keys.FileKeys.{FileKeys}
 use Rattle.noise_vectors.specs.declared.vector.FileDatagrams.{FileDatagrams}
 use Rattle.noise_vectors.specs.declared.vector.VectorFile.{VectorFile}
 use Rattle.noise_tool.specs.Ends.{IsPatternOf, facing_in, keys_in as file_keys, known_to, setup_of}
@@ -133,11 +135,15 @@ run_traces kept d last events notes (begins _ next _ event more here later h res
 
 -- ---- before the events, and after them
 
--- the start of each end
-abbrev pub start_of_role : Kept → VectorFile → Plan → Role → List (List ℕ)
-start_of_role kept file plan role = only_if (keeps_handshake kept role) (start_lines_from role (has_psk plan) 0
-    (start_steps plan role file.prologue.items (public_keys (public_of (file_keys file role))) (known_to file plan role)))
+-- the start of an end of this role, with these keys, and these of the other party that it knows
+abbrev pub start_lines_of : Kept → Role → Plan → List ℕ → FileKeys → Remote → List (List ℕ)
+start_lines_of kept role plan prologue keys remote = only_if (keeps_handshake kept role)
+    (start_lines_from role (has_psk plan) 0 (start_steps plan role prologue (public_keys (public_of keys)) remote))
 
+abbrev pub start_of_role : Kept → VectorFile → Plan → Role → List (List ℕ)
+start_of_role kept file plan role = start_lines_of kept role plan file.prologue.items (file_keys file role) (known_to file plan role)
+
+-- of each end
 abbrev pub start_traces : Kept → VectorFile → Plan → List (List ℕ)
 start_traces kept file plan = start_of_role kept file plan Initiator ++ start_of_role kept file plan Responder
 

@@ -2,19 +2,16 @@
 
 ghost use Rattle.std.specs.Prelude.{◌≡◌, ◌≤◌, ◌++◌, ℕ, List, None, IfErr, IfOk, OnOk, length};
 ghost use Rattle.noise_handshake.specs.Party.{Stands};
-ghost use Rattle.noise_handshake.specs.Setup.{public_keys, setup_fault};
+ghost use Rattle.noise_handshake.specs.Setup.{setup_fault};
 ghost use Rattle.noise_handshake.specs.View.{View};
-ghost use Rattle.noise_names.specs.Plan.{has_psk};
 ghost use Rattle.noise_names.specs.declared.token.Role.TheVariants.{Initiator, Responder};
 ghost use Rattle.noise_session.specs.Ends.{end_of};
-ghost use Rattle.noise_trace.specs.Start.{start_steps};
 ghost use Rattle.noise_vectors.specs.Expectations.{bytes_of};
 ghost use Rattle.noise_vectors.specs.FileKeys.{agreement_of, public_of};
 ghost use Rattle.noise_vectors.specs.SameFile.{SaySame};
 ghost use Rattle.noise_tool.specs.Ends.{IsStartFault};
-ghost use Rattle.noise_tool.specs.Kept.{keeps_handshake, only_if};
-ghost use Rattle.noise_tool.specs.PrintedTrace.{start_lines_from};
 ghost use Rattle.noise_tool.specs.TracedEnds.{AreTracedEnds, TracedStands};
+ghost use Rattle.noise_tool.specs.Tracing.{start_lines_of};
 
 use crate::ends::{handshake, known_before, valid_pattern};
 use crate::moment_lines::Kept;
@@ -82,8 +79,10 @@ pub fn make_traced_ends(
         kept,
         &pattern,
         &prologue,
-        (&initiator, &of_responder),
-        (&responder, &of_initiator),
+        &initiator,
+        &of_responder,
+        &responder,
+        &of_initiator,
     )?;
     let same = pattern.clone()?;
     let first = handshake(
@@ -147,9 +146,17 @@ fn start_lines(
     kept: Kept,
     pattern: &ValidPattern,
     prologue: &[u8],
-    initiator: (&FileKeys, &Remote),
-    responder: (&FileKeys, &Remote),
-) -> Result<Vec<Vec<u8>>, AllocError> {
+    initiator: &FileKeys,
+    of_responder: &Remote,
+    responder: &FileKeys,
+    of_initiator: &Remote,
+) -> Result<Vec<Vec<u8>>, AllocError>
+    ensures { (secrets : ℕ) → setup_fault pattern.now Initiator (public_of initiator.now) of_responder.now secrets ≡ None
+        → setup_fault pattern.now Responder (public_of responder.now) of_initiator.now secrets ≡ None
+        → IfOk result (λ lines. bytes_of lines.items
+        ≡ start_lines_of kept Initiator pattern.now prologue.now initiator.now of_responder.now
+        ++ start_lines_of kept Responder pattern.now prologue.now responder.now of_initiator.now) }
+{
     let mut lines = Vec::new(alloc);
     push_start(
         alloc,
@@ -157,8 +164,8 @@ fn start_lines(
         pattern,
         Role::Initiator,
         prologue,
-        initiator.0,
-        initiator.1,
+        initiator,
+        of_responder,
         &mut lines,
     )?;
     push_start(
@@ -167,8 +174,8 @@ fn start_lines(
         pattern,
         Role::Responder,
         prologue,
-        responder.0,
-        responder.1,
+        responder,
+        of_initiator,
         &mut lines,
     )?;
     Ok(lines)
@@ -186,8 +193,7 @@ fn push_start(
     lines: &mut Vec<Vec<u8>>,
 ) -> Result<(), AllocError>
     ensures { (secrets : ℕ) → setup_fault pattern.now role (public_of keys.now) remote.now secrets ≡ None
-        → OnOk result (bytes_of lines.new.items ≡ bytes_of lines.old.items ++ only_if (keeps_handshake kept role) (start_lines_from role (has_psk pattern.now) 0
-        (start_steps pattern.now role prologue.now (public_keys (public_of keys.now)) remote.now))) }
+        → OnOk result (bytes_of lines.new.items ≡ bytes_of lines.old.items ++ start_lines_of kept role pattern.now prologue.now keys.now remote.now) }
 {
     if !kept.keeps_handshake(role) {
         return Ok(());

@@ -1,4 +1,6 @@
-use Rattle.std.proofs.Common.{◌≡◌, ◌++◌, ◌∷◌, ◌∙◌, [], List, ℕ, OnOk, ap, refl, slice_get, subst, sym}
+use Rattle.std.proofs.Common.{◌≡◌, ◌++◌, ◌∷◌, ◌∙◌, [], List, ℕ, OnOk, ap, refl, slice_get, subst, sym, Vec}
+use Rattle.std.specs.Global.{Global}
+use Rattle.noise_vectors.specs.Expectations.{bytes_of}
 use Rattle.noise_duel.specs.Entries.{note_of, notes_of}
 use Rattle.noise_duel.specs.Sides.{Sides, side}
 use Rattle.noise_events.specs.Events.{Deliver, Raw, Say, Write, event_of}
@@ -70,6 +72,7 @@ returns-in_ok-push-in-None-delivered c = λ d next notes h traced frames told.
     (λ w. let s = of-missing kept d next role c.in-Deliver.number notes w
     (ap (λ z. slice_get (side next z).frames c.in-Deliver.number) (sym c.other.ensures) ∙ c.in-None-delivered.ensures next frames) in (
       ap traces_of c.in_ok-push-in-None-delivered.ensures.items ∙ traces-push c.args.traces.now.items c.new.result
+          ∙ ap (λ (v : List (Vec ℕ Global)). old ++ bytes_of v ∷ []) c.new.ensures.items
           ∙ ap (λ (x : Traces). old ++ x) (sym s.1),
       subst (λ (z : Sides). EndsTraced c.args.ends.now z) (sym s.0) traced,
     )) h
@@ -78,10 +81,10 @@ pub returns-in-Raw : goal.returns-in-Raw
 returns-in-Raw c = λ d next notes h traced frames told.
     let kept = c.args.kept in
     let role = c.in-Raw.role in
-    let bytes = c.in-Raw.bytes.items in
+    let bytes = c.deref.result.now in
     let old = traces_of c.args.traces.now.items in
     let new = traces_of c.trace_bytes-in-Raw.new.traces.items in
-    event-same kept d next notes (event_of c.args.event.now) (Raw role bytes) (ap event_of c.in-Raw.is)
+    event-same kept d next notes (event_of c.args.event.now) (Raw role bytes) (ap event_of c.in-Raw.is ∙ ap (λ (z : List ℕ). Raw role z) (sym c.deref.ensures.value))
     (λ x. OnOk c.trace_bytes-in-Raw.result ((new ≡ old ++ x) × EndsTraced c.trace_bytes-in-Raw.new.ends next))
     (λ w. let s = of-raw kept d next role bytes notes w in
     on_ok c.trace_bytes-in-Raw.result _ _ (λ done. (

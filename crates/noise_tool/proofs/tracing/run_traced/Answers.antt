@@ -1,4 +1,4 @@
-use Rattle.std.proofs.Common.{◌+◌, ◌≤◌, ◌∷◌, ◌∙◌, arith, length, drop, ap, sym}
+use Rattle.std.proofs.Common.{◌≡◌, ◌+◌, ◌≤◌, ◌∷◌, ◌∙◌, arith, length, drop, ap, sym}
 use Rattle.std.proofs.lemmas.List.{drop_all, drop_more}
 use Rattle.noise_events.specs.Events.{event_of, events_of}
 use Rattle.noise_tool.specs.TracedEnds.{traces_of}
@@ -16,8 +16,10 @@ loop-event-preserved c = λ d st new tr none.
     let e = c.in_ok-apply.ensures h.now h.stands h.frames in
     let events = c.args.events.now in
     let i = c.loop-event.event-index in
+    let count : c.len-from.result ≡ length c.loop-event.report.entries.items =
+    omega (arith, c.len-from.ensures, c.loop-event.report.entries.ok.0) in
     let noted = new-notes c.loop-event.report.entries.items c.apply.new.report.entries.items c.entries_from-entries.result.now e.notes c.len-from.result
-    c.len-from.ensures c.entries_from-entries.ensures e.entries in
+    count c.entries_from-entries.ensures e.entries in
     one-traced c.args.kept d (events_of events) (events_of (drop i events)) (events_of (drop (i + 1) events)) (event_of c.event-item.result)
     c.loop-event.duel c.apply.new.self c.loop-event.report c.apply.new.report c.loop-event.ends c.trace_event.new.ends
     (traces_of c.loop-event.traces.items) (traces_of c.trace_event.new.traces.items)
