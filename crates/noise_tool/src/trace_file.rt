@@ -12,31 +12,88 @@ ghost use Rattle.noise_tool.specs.Running.{IsMet};
 ghost use Rattle.noise_tool.specs.TracedEnds.{traces_of};
 ghost use Rattle.noise_tool.specs.TracedText.{IsTraceUnlike, trace_text};
 ghost use Rattle.noise_tool.specs.Tracing.{woven};
-ghost use Rattle.noise_tool.specs.TraceDone.{HasTraced, IsTraceUnmet, PrintsTracePrefix, keeps_end, keeps_first, keeps_second, keeps_start};
+ghost use Rattle.noise_tool.specs.TraceDone.{HasTraced, IsTraceUnmet, PrintsTracePrefix, keeps_end, keeps_first, keeps_second, keeps_start, kept_of};
 
 use crate::moment_lines::Kept;
 use crate::tracing::{Traced, trace};
 use noise_lines::{Fault, flush, read_file, write, write_lines};
 use noise_vectors::{AllowedEvents, first_unmet, read_vector, vector_texts_are_unique};
-use noise_words::{TracedPart, TracedRole};
+use noise_words::{Traced as ChosenTrace, TracedPart, TracedRole};
 use std::alloc::Global;
 use std::io::{Read, Write};
 
-/// The lines that a command keeps.
-pub fn kept(only: Option<TracedPart>, role: Option<TracedRole>) -> Kept
-    ensures { result ≡ record { handshake = keeps_start only; transport = keeps_end only; initiator = keeps_first role; responder = keeps_second role } }
+/// Prints the trace of a vector file as it is asked for: what `replay` prints, and the lines of the key schedules that are kept.
+pub fn trace_chosen<R: Read, O: Write>(
+    alloc: Global,
+    chosen: &ChosenTrace,
+    file: &mut R,
+    out: &mut O,
+) -> Result<(), Fault>
+    ensures done { OnOk result (IfSome (R.remaining file.old) (λ text. HasTraced (kept_of chosen.now) text (O.contents out.old) (O.contents out.new))) }
+    ensures fault { IfErr result (λ fault. (status_of fault ≡ 3) ⊎ IfSome (R.remaining file.old)
+        (λ text. IsRunFault Any text fault ⊎ IsTraceUnmet (kept_of chosen.now) text (O.contents out.old) (O.contents out.new) fault)) }
+    ensures long { MatchResult result (λ _. IsShort (R.remaining file.old)) (λ fault. (2 ≤ status_of fault) ⊎ IsShort (R.remaining file.old)) }
+    ensures unwritten { IfErr result (λ fault. (status_of fault ≡ 3) ⊎ IsOfLines fault ⊎ (out.new ≡ out.old)) }
+    ensures prefix { (out.new ≡ out.old) ⊎ PrintsTracePrefix (kept_of chosen.now) (R.remaining file.old) (O.contents out.old) (O.contents out.new) }
+{
+    trace_file(alloc, kept(chosen), file, out)
+}
+
+// The lines that are kept.
+fn kept(chosen: &ChosenTrace) -> Kept
+    ensures { result ≡ kept_of chosen.now }
 {
     Kept {
-        handshake: !matches!(only, Some(TracedPart::Transport)),
-        transport: !matches!(only, Some(TracedPart::Handshake)),
-        initiator: !matches!(role, Some(TracedRole::Responder)),
-        responder: !matches!(role, Some(TracedRole::Initiator)),
+        handshake: keeps_start(chosen.only),
+        transport: keeps_end(chosen.only),
+        initiator: keeps_first(chosen.role),
+        responder: keeps_second(chosen.role),
     }
 }
 
-/// Runs two ends on a vector file, prints what they do and these lines of their key schedules, and compares the lines of the run with what the file
-/// expects.
-pub fn trace_file<R: Read, O: Write>(
+fn keeps_start(only: Option<TracedPart>) -> bool
+    ensures { result ≡ keeps_start only }
+{
+    match only {
+        Some(TracedPart::Transport) => false,
+        Some(TracedPart::Handshake) => true,
+        None => true,
+    }
+}
+
+fn keeps_end(only: Option<TracedPart>) -> bool
+    ensures { result ≡ keeps_end only }
+{
+    match only {
+        Some(TracedPart::Handshake) => false,
+        Some(TracedPart::Transport) => true,
+        None => true,
+    }
+}
+
+fn keeps_first(role: Option<TracedRole>) -> bool
+    ensures { result ≡ keeps_first role }
+{
+    match role {
+        Some(TracedRole::Responder) => false,
+        Some(TracedRole::Initiator) => true,
+        None => true,
+    }
+}
+
+fn keeps_second(role: Option<TracedRole>) -> bool
+    ensures { result ≡ keeps_second role }
+{
+    match role {
+        Some(TracedRole::Initiator) => false,
+        Some(TracedRole::Responder) => true,
+        None => true,
+    }
+}
+
+// Runs two ends on a vector file, prints what they do and these lines of their key schedules, and compares the lines of the run with what the file
+// expects.
+fn trace_file<R: Read, O: Write>(
     alloc: Global,
     kept: Kept,
     file: &mut R,

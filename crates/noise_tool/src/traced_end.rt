@@ -5,11 +5,13 @@ ghost use Rattle.noise_duel.specs.Entries.{note_of, notes_of};
 ghost use Rattle.noise_duel.specs.Notes.{Held, Judged, Left, Note, WriteFault, held_note, noted_by};
 ghost use Rattle.noise_duel.specs.Runs.{SideReads, SideReceives, SideWrites};
 ghost use Rattle.noise_duel.specs.Sides.{Side};
+ghost use Rattle.noise_handshake.specs.View.{Refuses};
+ghost use Rattle.noise_handshake.specs.declared.faults.Cause.{Cause};
 ghost use Rattle.noise_session.specs.Ends.{EndView};
 ghost use Rattle.noise_session.specs.Frames.{frame};
 ghost use Rattle.noise_session.specs.Steps.{Told};
 ghost use Rattle.noise_session_trace.specs.Following.{EndFollows};
-ghost use Rattle.noise_session_trace.specs.Moments.{shown};
+ghost use Rattle.noise_session_trace.specs.Moments.{shown, stopped_moment};
 ghost use Rattle.noise_session_trace.specs.Moments.Shown.{Nothing};
 ghost use Rattle.noise_vectors.specs.Expectations.{bytes_of};
 ghost use Rattle.noise_vectors.specs.FileKeys.{agreement_of, public_of};
@@ -233,6 +235,14 @@ fn unsent_moment(end: &EndTrace<FileKeys>, fault: SendFault) -> Moment
     }
 }
 
+// What is shown of a message that was refused at this token.
+fn refused_moment(end: &EndTrace<FileKeys>, message: &[u8], token: u8) -> Moment
+    ensures { (v : EndView) (cause : Cause) → EndFollows public_of agreement_of end.now v → (refused : Refuses v.party message.now token cause)
+        → shown result ≡ stopped_moment v token refused.stops.carried }
+{
+    end.refused(message, token)
+}
+
 // What is shown of a message that came, by its entry.
 fn read_moment(end: &mut EndTrace<FileKeys>, message: &[u8], entry: &Entry) -> Moment
     ensures frame { (s next : Side) (text : List ℕ) (step : Told) (r : SideReads s text step next)
@@ -245,7 +255,7 @@ fn read_moment(end: &mut EndTrace<FileKeys>, message: &[u8], entry: &Entry) -> M
     match entry {
         Entry::Payload(_) => end.took(message),
         Entry::Dropped(_) => end.tried(),
-        Entry::Refused { token, .. } => end.refused(message, *token),
+        Entry::Refused { token, .. } => refused_moment(end, message, *token),
         _ => Moment::Nothing,
     }
 }

@@ -15,8 +15,8 @@ returns-in-Dropped-clause-frame c = λ s next text step r follows is told.
 
 pub returns-in-Refused-clause-frame : goal.returns-in-Refused-clause-frame
 returns-in-Refused-clause-frame c = λ s next text step r follows is told.
-    refused-shown c.args.end.now (c.end_is_followed.ensures.closed c.args.end.now) (c.end_is_followed.ensures.held c.args.end.now) c.refused.result
-    c.args.message.now text c.in-Refused.token c.in-Refused.cause is c.refused.ensures s next step r follows (sym (ap note_of c.in-Refused.is) ∙ told)
+    refused-shown c.args.end.now (c.end_is_followed.ensures.closed c.args.end.now) (c.end_is_followed.ensures.held c.args.end.now) c.refused_moment.result
+    c.args.message.now text c.in-Refused.token c.in-Refused.cause is c.refused_moment.ensures s next step r follows (sym (ap note_of c.in-Refused.is) ∙ told)
 
 pub returns-in_default : goal.returns-in_default
 returns-in_default c = record {
