@@ -9,4 +9,4 @@ pub returns-in-Replay-clause-prefix : goal.returns-in-Replay-clause-prefix
 returns-in-Replay-clause-prefix g c = rw c.in-Replay.is (replay-prefix c.in-Replay.field-0 _ _ _ _ _ c.run_file-in-Replay.ensures.prefix)
 
 pub returns-in-Trace-clause-prefix : goal.returns-in-Trace-clause-prefix
-returns-in-Trace-clause-prefix g c = rw c.in-Trace.is (traced-prefix c.in-Trace.field-0 _ _ _ _ _ c.trace_chosen.ensures.prefix)
+returns-in-Trace-clause-prefix g c = rw c.in-Trace.is (traced-prefix c.in-Trace.traced _ _ _ _ _ c.trace_chosen.ensures.prefix)
