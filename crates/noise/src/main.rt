@@ -41,6 +41,7 @@ fn run(rt: &HostRuntime, command: &Chosen) -> u8 {
         Chosen::List | Chosen::Show(_) => run_on(rt, command, &mut io::empty()),
         Chosen::Check(name) | Chosen::Talk(name) | Chosen::Replay(name) | Chosen::Convert(name) =>
             run_on_file(rt, command, name.as_str()),
+        Chosen::Trace(traced) => run_on_file(rt, command, traced.file.as_str()),
     }
 }
 

@@ -22,6 +22,8 @@ use Rattle.noise_lines.specs.declared.faults.Fault.{Fault}
 use Rattle.noise_lines.specs.declared.faults.Fault.TheVariants as fault
 use Rattle.noise_tool.specs.declared.running.Outcome.{Outcome}
 use Rattle.noise_lines.specs.Told.{LeavesOther, TellsRule}
+use Rattle.noise_tool.specs.TraceDone.{kept_of}
+use Rattle.noise_tool.proofs.TracePerforming.{trace-after}
 use Rattle.noise_vectors.specs.Expectations.{bytes_of}
 use Rattle.noise_vectors.specs.VectorFile.{IsAllowedFile, IsReadFault, IsVectorFile, say_of}
 use Rattle.noise_vectors.specs.WrongLine.{IsTold}
@@ -242,6 +244,8 @@ fault-after (order.Talk path) None before middle after why same h = h
 fault-after (order.Talk path) (Some bytes) before middle after why same h = either-after _ bytes before middle after why same h
 fault-after (order.Replay path) None before middle after why same h = h
 fault-after (order.Replay path) (Some bytes) before middle after why same h = either-after _ bytes before middle after why same h
+fault-after (order.Trace given) None before middle after why same h = h
+fault-after (order.Trace given) (Some bytes) before middle after why same h = trace-after (kept_of given) _ bytes before middle after why same h
 fault-after (order.Convert path) known before middle after why same h = h
 
 -- after lines the output is left as it is

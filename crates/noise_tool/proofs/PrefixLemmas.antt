@@ -107,6 +107,9 @@ rule-anywhere (order.Replay path) None a b c e f h = tt
 rule-anywhere (order.Replay path) (Some bytes) a b c e f (inl h) = inl h
 rule-anywhere (order.Replay path) (Some bytes) a b c e f (inr h) = absurd h
 rule-anywhere (order.Convert path) known a b c e f h = h
+rule-anywhere (order.Trace given) None a b c e f h = tt
+rule-anywhere (order.Trace given) (Some bytes) a b c e f (inl h) = inl h
+rule-anywhere (order.Trace given) (Some bytes) a b c e f (inr h) = absurd h
 
 rule-is : (f : RuleFault) (P : Type 0) → (status_of (fault.Rule f) ≡ 3) ⊎ P → P
 rule-is f P (inl three) = absurd (cc three)

@@ -1,9 +1,16 @@
 pub mod Conversion
 pub mod Ends
+pub mod Kept
+pub mod Moments
 pub mod OneRun
 pub mod Performing
 pub mod Prefixes
 pub mod Printed
 pub mod PrintedDatagrams
+pub mod PrintedTrace
 pub mod Running
 pub mod Testing
+pub mod TraceDone
+pub mod TracedEnds
+pub mod TracedText
+pub mod Tracing

@@ -10,6 +10,7 @@ use Rattle.noise_lines.specs.Faults.{of_vector}
 use Rattle.noise_lines.specs.Output.{IsCheckFault, IsShowFault, NamesPattern, check_text, list_text, show_text}
 use Rattle.noise_lines.specs.Lines.{lines_text}
 use Rattle.noise_tool.specs.Running.{IsMet, IsRunOf, expected_in}
+use Rattle.noise_tool.specs.TraceDone.{HasTraced, IsTraceUnmet, kept_of}
 use Rattle.noise_lines.specs.Converted.{converted_text}
 use Rattle.noise_vectors.specs.Expectations.{IsFirstUnmet, bytes_of}
 use Rattle.noise_vectors.specs.VectorFile.{IsReadFault, IsVectorFile}
@@ -19,7 +20,7 @@ use Rattle.noise_lines.specs.declared.faults.Fault.{Fault}
 use Rattle.noise_lines.specs.declared.faults.Fault.TheVariants.{TooLong, Unmet}
 use Rattle.noise_tool.specs.declared.running.Outcome.{Outcome}
 use Rattle.noise_words.specs.declared.orders.Chosen.{Chosen}
-use Rattle.noise_words.specs.declared.orders.Chosen.TheVariants.{List as Listing, Show, Check, Talk, Replay, Convert}
+use Rattle.noise_words.specs.declared.orders.Chosen.TheVariants.{List as Listing, Show, Check, Talk, Replay, Convert, Trace}
 use Rattle.noise_vectors.specs.declared.faults.VectorFault.{VectorFault}
 use Rattle.noise_vectors.specs.declared.vector.AllowedEvents.{AllowedEvents}
 use Rattle.noise_vectors.specs.declared.vector.AllowedEvents.TheVariants.{SayOnly, Any, VersionOne}
@@ -57,6 +58,7 @@ IsDone (Check path) file before after = IfSome file (λ text. (p : Plan) × Spel
 IsDone (Talk path) file before after = IfSome file (λ text. HasRun text before after)
 IsDone (Replay path) file before after = IfSome file (λ text. HasRun text before after)
 IsDone (Convert path) file before after = IfSome file (λ text. HasConverted text before after)
+IsDone (Trace traced) file before after = IfSome file (λ text. HasTraced (kept_of traced) text before after)
 
 -- the bytes of a file, where they are known, are at most 4194304
 abbrev pub IsShort : Option (List ℕ) → Type 0
@@ -119,6 +121,7 @@ IsFault (Check path) file before after fault = IfSome file (λ text. IsTooLong t
 IsFault (Talk path) file before after fault = IfSome file (λ text. IsRunFault SayOnly text fault ⊎ IsUnmet text before after fault)
 IsFault (Replay path) file before after fault = IfSome file (λ text. IsRunFault Any text fault ⊎ IsUnmet text before after fault)
 IsFault (Convert path) file before after fault = IfSome file (λ text. IsRunFault VersionOne text fault ⊎ IsTooLongConverted text fault)
+IsFault (Trace traced) file before after fault = IfSome file (λ text. IsRunFault Any text fault ⊎ IsTraceUnmet (kept_of traced) text before after fault)
 
 -- `list` and `show` leave the file as it was
 abbrev pub LeavesFile : {R : Type 0} → Chosen → R → R → Type 0

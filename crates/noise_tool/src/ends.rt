@@ -68,7 +68,7 @@ pub fn make_ends(
 }
 
 // The pattern that a file spells, or else that of its protocol's name.
-fn valid_pattern(block: Option<Pattern>, name: &ProtocolName) -> Result<ValidPattern, Fault>
+pub(crate) fn valid_pattern(block: Option<Pattern>, name: &ProtocolName) -> Result<ValidPattern, Fault>
     ensures pattern { IfOk result (λ pattern. IsPatternOf block name.now pattern) }
     ensures valid { IfOk result (λ pattern. IsValid pattern) }
     ensures fault { IfErr result (λ fault. IsPatternFault block name.now fault) }
@@ -84,7 +84,7 @@ fn valid_pattern(block: Option<Pattern>, name: &ProtocolName) -> Result<ValidPat
 }
 
 // Of a party's public keys those of its pre-message, which the other party knows before the first message.
-fn known_before(pattern: &Pattern, party: Role, keys: &FileKeys) -> Remote
+pub(crate) fn known_before(pattern: &Pattern, party: Role, keys: &FileKeys) -> Remote
     ensures { result ≡ known_before pattern.now party (public_of keys.now) }
 {
     let pre = pattern.pre(party);
@@ -103,7 +103,7 @@ fn known_before(pattern: &Pattern, party: Role, keys: &FileKeys) -> Remote
 }
 
 // The handshake of one party, before any message.
-fn handshake(
+pub(crate) fn handshake(
     pattern: ValidPattern,
     role: Role,
     prologue: &[u8],

@@ -4,10 +4,17 @@
 mod datagram_report;
 mod ends;
 mod laws;
+mod moment_lines;
 mod performing;
 mod report;
 mod running;
 mod testing;
+mod trace_file;
+mod trace_lines;
+mod traced_end;
+mod traced_ends;
+mod traced_event;
+mod tracing;
 mod verdict;
 
 pub use laws::{conversions_meet_themselves, file_run_once};

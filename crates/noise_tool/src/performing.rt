@@ -16,6 +16,7 @@ ghost use Rattle.noise_lines.specs.declared.faults.Fault.{Fault};
 
 use crate::laws::conversions_meet_themselves;
 use crate::running::{Outcome, replay, run_vector};
+use crate::trace_file::trace_chosen;
 use noise_lines::{Fault, check, convert, flush, list, read_file, show, tell, write, write_lines};
 use noise_vectors::{AllowedEvents, first_unmet, read_vector};
 use noise_words::Chosen;
@@ -81,6 +82,7 @@ fn run<R: Read, O: Write>(
         Chosen::Talk(_) => run_file(alloc, AllowedEvents::SayOnly, file, out),
         Chosen::Replay(_) => run_file(alloc, AllowedEvents::Any, file, out),
         Chosen::Convert(_) => convert_file(alloc, file, out),
+        Chosen::Trace(traced) => trace_chosen(alloc, traced, file, out),
     }
 }
 

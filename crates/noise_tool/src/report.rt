@@ -84,7 +84,7 @@ pub fn entry_line(
 }
 
 // The frame of this number that this role wrote; it is in the report wherever an entry reports it.
-fn frame_at(report: &Report, role: Role, number: usize) -> &[u8]
+pub(crate) fn frame_at(report: &Report, role: Role, number: usize) -> &[u8]
     ensures { (d : Sides) → HasFrames report.now d → result.now ≡ print.frame_at (side d role) number }
 {
     let frames = match role {

@@ -106,7 +106,7 @@ fn run_events(
 }
 
 // What comes of a run whose events have left these lines and this duel.
-fn close(
+pub(crate) fn close(
     alloc: Global,
     duel: Duel<FileKeys, FileKeys>,
     mut lines: Vec<Vec<u8>>,

@@ -1,19 +1,20 @@
 -- From a parse's matches to the order that they state.
-use Rattle.std.proofs.Common.{◌≡◌, ap, ap₂, sym, refl, codes, List, [], ◌∷◌, Option, Some, None, option_map}
-use Rattle.std.specs.Prelude.{Box, Bool, true, false}
+use Rattle.std.proofs.Common.{◌≡◌, ◌∙◌, ap, ap₂, sym, refl, codes, List, [], ◌∷◌, Option, Some, None, option_map}
+use Rattle.std.specs.Prelude.{Box, Bool, true, false, option_and_then}
 use Rattle.std.specs.Str.{bytes_eq}
 use Rattle.std.proofs.lemmas.Slice.Eq.{bytes_eq-Decides}
 use Rattle.std.specs.Box.{box_value}
-use Rattle.clap.specs.Walk.{Row, Text}
+use Rattle.clap.specs.Walk.{Row, Text, first_of, rows_of}
+use Rattle.clap.proofs.WalkLemmas.{first_value-rows}
 use Rattle.clap.specs.Kinds.{IsAmong, Kinds}
 use Rattle.clap.specs.declared.error.kind.ErrorKind.{ErrorKind}
-use Rattle.clap.specs.Matches.{subcommand_name_of}
+use Rattle.clap.specs.Matches.{first_value, found_of, subcommand_name_of}
 use Rattle.clap.specs.Simple.{subcommand_rows, subcommand_rows_of, subcommand_of}
 use Rattle.clap.specs.Faults.{fault_of}
 use Rattle.clap.specs.declared.parser.matches.ArgMatches.{ArgMatches}
 use Rattle.clap.specs.declared.parser.matches.SubCommand.{SubCommand}
 use Rattle.clap.specs.declared.parser.matches.ArgMatches.TheViews.{out-ArgMatches, out-SubCommand}
-use Rattle.noise_words.specs.CommandLine.{asked, asked_without, noise, stated_by, stated_in}
+use Rattle.noise_words.specs.CommandLine.{Choice, Named, asked, asked_without, choice_in, chosen_of, noise, part_choice, role_choice, stated_by, stated_in}
 
 -- the name that a parse found is that of its rows
 name_of-rows : {Z : Type 0} (o : Option (Box SubCommand Z))
@@ -38,12 +39,12 @@ pub asked-stated : (words : List Text) → fault_of noise words ≡ [] → asked
 asked-stated words e = ap (λ (kinds : Kinds). asked_without kinds (stated_in (subcommand_of noise words))) e
 
 -- a kind is among those of no empty list
-pub asked_without-among : (k : ErrorKind) (kinds : Kinds) (o : Option (Text × List Text)) → IsAmong k kinds → asked_without kinds o ≡ None
+pub asked_without-among : (k : ErrorKind) (kinds : Kinds) (o : Option Named) → IsAmong k kinds → asked_without kinds o ≡ None
 asked_without-among k [] o h = absurd h
 asked_without-among k (x ∷ xs) o h = refl
 
 -- a text is not equal to another one
-differs : (x name : Text) → (name ≡ x → ⊥) → bytes_eq x name ≡ false
+pub differs : (x name : Text) → (name ≡ x → ⊥) → bytes_eq x name ≡ false
 differs x name other = at (bytes_eq x name) refl where
   at : (b : Bool) → bytes_eq x name ≡ b → bytes_eq x name ≡ false
   at true same = absurd (other (sym ((bytes_eq-Decides x name).0 same)))
@@ -51,8 +52,9 @@ differs x name other = at (bytes_eq x name) refl where
 
 -- no other name states an order
 pub stated_by-unknown : (name : Text) (rows : List Row) → (name ≡ codes "list" → ⊥) → (name ≡ codes "show" → ⊥) → (name ≡ codes "check" → ⊥)
-    → (name ≡ codes "talk" → ⊥) → (name ≡ codes "replay" → ⊥) → (name ≡ codes "convert" → ⊥) → (name ≡ codes "test" → ⊥) → stated_by name rows ≡ None
-stated_by-unknown name rows list show check talk replay convert test =
+    → (name ≡ codes "talk" → ⊥) → (name ≡ codes "replay" → ⊥) → (name ≡ codes "convert" → ⊥) → (name ≡ codes "test" → ⊥) → (name ≡ codes "trace" → ⊥)
+    → stated_by name rows ≡ None
+stated_by-unknown name rows list show check talk replay convert test trace =
     let no_list = differs (codes "list") name list in
     let no_show = differs (codes "show") name show in
     let no_check = differs (codes "check") name check in
@@ -60,4 +62,28 @@ stated_by-unknown name rows list show check talk replay convert test =
     let no_replay = differs (codes "replay") name replay in
     let no_convert = differs (codes "convert") name convert in
     let no_test = differs (codes "test") name test in
-    rw (no_list, no_show, no_check, no_talk, no_replay, no_convert, no_test) refl
+    let no_trace = differs (codes "trace") name trace in
+    rw (no_list, no_show, no_check, no_talk, no_replay, no_convert, no_test, no_trace) refl
+
+-- what the matches have for an option, by what a parse found for it
+pub choice_in-found : (m : ArgMatches) (choice : Choice) (o : Option Text) → o ≡ first_value (found_of m) choice.0
+    → chosen_of choice.1 o ≡ choice_in (rows_of (found_of m)) choice
+choice_in-found m choice o e = ap (chosen_of choice.1) (e ∙ first_value-rows (found_of m) choice.0)
+
+-- another text than these two is no value of an option
+pub chosen_of-other : (a b text : Text) → (text ≡ a → ⊥) → (text ≡ b → ⊥) → None ≡ chosen_of (a ∷ b ∷ []) (Some text)
+chosen_of-other a b text not_a not_b =
+    let no_a = differs a text not_a in
+    let no_b = differs b text not_b in
+    rw (no_a, no_b) refl
+
+-- the order for a trace, by what the matches have for its options and its file
+abbrev pub traced_by : Option (Option Text) → Option (Option Text) → Option Text → Option Named
+traced_by part role file =
+    option_and_then (λ chosen. option_map (λ text. (codes "trace", text ∷ [], chosen)) file)
+    (option_and_then (λ first. option_map (λ more. first ∷ more) (option_and_then (λ second. Some (second ∷ [])) role)) part)
+
+pub stated_by-trace : (rows : List Row) (part role : Option (Option Text)) (file : Option Text) → part ≡ choice_in rows part_choice
+    → role ≡ choice_in rows role_choice → file ≡ first_of (codes "FILE") rows → traced_by part role file ≡ stated_by (codes "trace") rows
+stated_by-trace rows part role file part_is role_is file_is =
+    ap₂ (λ p r. traced_by p r file) part_is role_is ∙ ap (traced_by (choice_in rows part_choice) (choice_in rows role_choice)) file_is

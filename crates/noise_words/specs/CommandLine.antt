@@ -1,22 +1,43 @@
 -- The command line, as `clap` sees it, and the command that its matches state.
 use Rattle.std.specs.Prelude.{List, [], ◌∷◌, Option, Some, None, true, false, map, codes, find, option_map, option_and_then, string_bytes, if◌then◌else◌}
+use Rattle.std.specs.List.{list_any}
 use Rattle.std.specs.Str.{bytes_eq}
 use Rattle.noise_words.specs.declared.help.Subcommand.{Subcommand}
 use Rattle.noise_words.specs.declared.orders.Chosen.{Chosen}
 use Rattle.noise_words.specs.declared.orders.Chosen.TheVariants as chosen
 use Rattle.noise_words.specs.declared.orders.Order.{Order}
 use Rattle.noise_words.specs.declared.orders.Order.TheVariants.{Command, Test}
+use Rattle.noise_words.specs.declared.orders.Traced.{Traced}
+use Rattle.noise_words.specs.declared.orders.TracedPart.{TracedPart}
+use Rattle.noise_words.specs.declared.orders.TracedPart.TheVariants.{Handshake, Transport}
+use Rattle.noise_words.specs.declared.orders.TracedRole.{TracedRole}
+use Rattle.noise_words.specs.declared.orders.TracedRole.TheVariants.{Initiator, Responder}
 use Rattle.clap.specs.Lexer.{usize_max}
 use Rattle.clap.specs.Walk.{Row, Rule, Text, all_of, first_of}
 use Rattle.clap.specs.Kinds.{Kinds}
 use Rattle.clap.specs.Simple.{App, Shape, new_rule, new_shape, subcommand_of}
 use Rattle.clap.specs.Faults.{fault_of}
 
--- the values that a command wants, by this name: none, one, or at least one
+-- an option, which may be left out: its name, and the values that it may have
+abbrev pub Choice : Type 0
+Choice = Text × List Text
+
+-- the values that a command wants, by this name: none, one, at least one, or one beside these options
 pub data Wants : Type 0 where
   Nothing : Wants
   One : Text → Wants
   Several : Text → Wants
+  OneWith : Text → List Choice → Wants
+
+-- the options of `trace`
+abbrev pub part_choice : Choice
+part_choice = (codes "only", codes "handshake" ∷ codes "transport" ∷ [])
+
+abbrev pub role_choice : Choice
+role_choice = (codes "role", codes "initiator" ∷ codes "responder" ∷ [])
+
+abbrev pub trace : Text × Wants
+trace = (codes "trace", OneWith (codes "FILE") (part_choice ∷ role_choice ∷ []))
 
 -- the commands, each with the values that it wants
 abbrev pub commands : List (Text × Wants)
@@ -28,6 +49,7 @@ commands =
     ∷ (codes "replay", One (codes "FILE"))
     ∷ (codes "convert", One (codes "FILE"))
     ∷ (codes "test", Several (codes "FILE"))
+    ∷ trace
     ∷ []
 
 -- a value that has to be there
@@ -38,10 +60,15 @@ wanted value = record (new_rule value) { required = true }
 abbrev pub several : Text → Rule
 several value = record (wanted value) { range = Some (record { start_inclusive = 1; end_inclusive = usize_max }) }
 
+-- an option with one value
+abbrev pub optional : Choice → Rule
+optional choice = record (new_rule choice.0) { long = Some choice.0; value_names = 1 }
+
 abbrev pub rules_for : Wants → List Rule
 rules_for Nothing = []
 rules_for (One value) = wanted value ∷ []
 rules_for (Several value) = several value ∷ []
+rules_for (OneWith value choices) = wanted value ∷ map optional choices
 
 abbrev pub subcommand : Text × Wants → Shape
 subcommand (name, wants) = record (new_shape name) { rules = rules_for wants }
@@ -57,37 +84,68 @@ noise = record {
   subs = map subcommand commands;
 }
 
--- a command and its values, as texts
-abbrev pub words_of : Chosen → Text × List Text
-words_of chosen.List = (codes "list", [])
-words_of (chosen.Show name) = (codes "show", string_bytes name ∷ [])
-words_of (chosen.Check file) = (codes "check", string_bytes file ∷ [])
-words_of (chosen.Talk file) = (codes "talk", string_bytes file ∷ [])
-words_of (chosen.Replay file) = (codes "replay", string_bytes file ∷ [])
-words_of (chosen.Convert file) = (codes "convert", string_bytes file ∷ [])
+-- what an order names, as texts: a command, its values, and for each of its options the value, if it is given
+abbrev pub Named : Type 0
+Named = Text × List Text × List (Option Text)
 
-abbrev pub order_of : Order → Text × List Text
+abbrev pub part_text : TracedPart → Text
+part_text Handshake = codes "handshake"
+part_text Transport = codes "transport"
+
+abbrev pub role_text : TracedRole → Text
+role_text Initiator = codes "initiator"
+role_text Responder = codes "responder"
+
+abbrev pub named_trace : Traced → Named
+named_trace traced = (codes "trace", string_bytes traced.file ∷ [], option_map part_text traced.only ∷ option_map role_text traced.role ∷ [])
+
+abbrev pub words_of : Chosen → Named
+words_of chosen.List = (codes "list", [], [])
+words_of (chosen.Show name) = (codes "show", string_bytes name ∷ [], [])
+words_of (chosen.Check file) = (codes "check", string_bytes file ∷ [], [])
+words_of (chosen.Talk file) = (codes "talk", string_bytes file ∷ [], [])
+words_of (chosen.Replay file) = (codes "replay", string_bytes file ∷ [], [])
+words_of (chosen.Convert file) = (codes "convert", string_bytes file ∷ [], [])
+words_of (chosen.Trace traced) = named_trace traced
+
+abbrev pub order_of : Order → Named
 order_of (Command c) = words_of c
-order_of (Test files) = (codes "test", map string_bytes files.items)
+order_of (Test files) = (codes "test", map string_bytes files.items, [])
+
+-- what is chosen of these values, where it is left out or is one of them
+abbrev pub chosen_of : List Text → Option Text → Option (Option Text)
+chosen_of names None = Some None
+chosen_of names (Some text) = if list_any (λ name. bytes_eq name text) names then Some (Some text) else None
+
+-- what the matches have for an option, where that is right
+abbrev pub choice_in : List Row → Choice → Option (Option Text)
+choice_in rows choice = chosen_of choice.1 (first_of choice.0 rows)
+
+-- the same for each of several options
+abbrev pub choices_in : List Row → List Choice → Option (List (Option Text))
+choices_in rows [] = Some []
+choices_in rows (choice ∷ rest) = option_and_then (λ first. option_map (λ more. first ∷ more) (choices_in rows rest)) (choice_in rows choice)
 
 -- the order for a command, where its matches have the values that it wants
-abbrev pub order_with : List Row → Text × Wants → Option (Text × List Text)
-order_with rows (name, Nothing) = Some (name, [])
-order_with rows (name, One value) = option_map (λ text. (name, text ∷ [])) (first_of value rows)
-order_with rows (name, Several value) = option_map (λ texts. (name, texts)) (all_of value rows)
+abbrev pub order_with : List Row → Text × Wants → Option Named
+order_with rows (name, Nothing) = Some (name, [], [])
+order_with rows (name, One value) = option_map (λ text. (name, text ∷ [], [])) (first_of value rows)
+order_with rows (name, Several value) = option_map (λ texts. (name, texts, [])) (all_of value rows)
+order_with rows (name, OneWith value choices) =
+    option_and_then (λ chosen. option_map (λ text. (name, text ∷ [], chosen)) (first_of value rows)) (choices_in rows choices)
 
 -- the order that a subcommand with these matches is
-abbrev pub stated_by : Text → List Row → Option (Text × List Text)
+abbrev pub stated_by : Text → List Row → Option Named
 stated_by name rows = option_and_then (order_with rows) (find (λ command. bytes_eq command.0 name) commands)
 
-abbrev pub stated_in : Option (Text × List Row) → Option (Text × List Text)
+abbrev pub stated_in : Option (Text × List Row) → Option Named
 stated_in None = None
 stated_in (Some p) = stated_by p.0 p.1
 
-abbrev pub asked_without : Kinds → Option (Text × List Text) → Option (Text × List Text)
+abbrev pub asked_without : Kinds → Option Named → Option Named
 asked_without [] order = order
 asked_without (k ∷ ks) order = None
 
--- the order that these words are, none where `clap` finds a fault
-abbrev pub asked : List Text → Option (Text × List Text)
+-- the order that these words are; none where `clap` finds a fault, or an option has a value that it may not have
+abbrev pub asked : List Text → Option Named
 asked words = asked_without (fault_of noise words) (stated_in (subcommand_of noise words))

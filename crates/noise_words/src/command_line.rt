@@ -4,9 +4,10 @@ ghost use Rattle.std.specs.Prelude.{◌≡◌, ◌≢◌, ◌⊎◌, ◌∷◌, 
 ghost use Rattle.clap.specs.Simple.{with_subcommand};
 ghost use Rattle.clap.specs.Words.{all_of, app_of, first_of, found_of, kind_of, rows_of, rule_of, shape_of, subcommand_rows_of};
 ghost use Rattle.clap.specs.declared.builder.command.Command.TheViews.{out-Command};
-ghost use Rattle.noise_words.specs.CommandLine.{Nothing, asked, noise, order_of, rules_for, stated_by, stated_in, subcommand, wanted_by, words_of};
+ghost use Rattle.noise_words.specs.CommandLine.{Nothing, asked, noise, optional, order_of, rules_for, stated_by, stated_in, subcommand, trace, wanted_by, words_of};
 
-use crate::help::{Subcommand, WITH_VALUE};
+use crate::choices::{traced, wrong_choice};
+use crate::help::{ONLY, ROLE, Subcommand, TRACE, ValueOption, WITH_VALUE};
 use crate::orders::{Chosen, LineFault, Order};
 use clap::error::ErrorKind;
 use clap::{Arg, ArgMatches, Command};
@@ -34,12 +35,21 @@ fn stated<'a>(
     match whole.try_get_matches_from_mut(words) {
         Ok(matches) => match order(alloc, &matches)? {
             Some(order) => Ok(order),
-            None => {
-                let error = whole.error(ErrorKind::MissingRequiredArgument, "a value is missing")?;
-                Err(LineFault::Line(error))
-            }
+            None => Err(LineFault::Line(unstated(alloc, whole, &matches)?)),
         },
         Err(error) => Err(line_fault(error)),
+    }
+}
+
+// What is wrong where a parse states no order.
+fn unstated(
+    alloc: Global,
+    whole: &mut Command<'_>,
+    matches: &ArgMatches<'_>,
+) -> Result<clap::Error, AllocError> {
+    match wrong_choice(alloc, matches)? {
+        Some(text) => whole.error(ErrorKind::InvalidValue, text.as_str()),
+        None => whole.error(ErrorKind::MissingRequiredArgument, "a value is missing"),
     }
 }
 
@@ -47,7 +57,35 @@ fn stated<'a>(
 fn command<'a>(alloc: Global) -> Result<Command<'a>, AllocError>
     ensures { IfOk result (λ c. app_of c ≡ noise) }
 {
-    adding(alloc, with_list(alloc)?, &WITH_VALUE)
+    with_trace(alloc, adding(alloc, with_list(alloc)?, &WITH_VALUE)?)
+}
+
+// With the subcommand that has options, too.
+fn with_trace<'a>(alloc: Global, whole: Command<'a>) -> Result<Command<'a>, AllocError>
+    ensures { IfOk result (λ c. app_of c ≡ with_subcommand (app_of whole.entry) (subcommand trace)) }
+{
+    whole.subcommand(with_options(alloc)?)
+}
+
+// The subcommand that has options.
+fn with_options<'a>(alloc: Global) -> Result<Command<'a>, AllocError>
+    ensures shape { IfOk result (λ c. shape_of c ≡ subcommand trace) }
+    ensures local { IfOk result (λ c. (out-Command c).has_globals ≡ false) }
+{
+    let whole = with_value(alloc, &TRACE)?;
+    let whole = whole.arg(option_of(alloc, &ONLY))?;
+    whole.arg(option_of(alloc, &ROLE))
+}
+
+// The argument of an option.
+fn option_of<'a>(alloc: Global, option: &ValueOption<'a>) -> Arg<'a>
+    ensures rule { (names : _) → rule_of result ≡ optional (option.now.name.now, names) }
+    ensures local { result.global ≡ false }
+{
+    Arg::new(alloc, option.name)
+        .long(option.name)
+        .value_name(option.value)
+        .help(option.meaning)
 }
 
 // The command itself, with its subcommand that has no value.
@@ -143,12 +181,17 @@ fn command_order(
         "talk" => Ok(value(alloc, found, "FILE")?.map(Chosen::Talk)),
         "replay" => Ok(value(alloc, found, "FILE")?.map(Chosen::Replay)),
         "convert" => Ok(value(alloc, found, "FILE")?.map(Chosen::Convert)),
+        "trace" => Ok(traced(alloc, found)?.map(Chosen::Trace)),
         _ => Ok(None),
     }
 }
 
 // The value that a parse found for an argument.
-fn value(alloc: Global, matches: &ArgMatches<'_>, id: &str) -> Result<Option<String>, AllocError>
+pub(crate) fn value(
+    alloc: Global,
+    matches: &ArgMatches<'_>,
+    id: &str,
+) -> Result<Option<String>, AllocError>
     ensures { IfOk result (λ found. option_map string_bytes found ≡ first_of id.now (rows_of (found_of matches.now))) }
 {
     match matches.get_str(id) {

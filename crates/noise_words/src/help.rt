@@ -1,4 +1,4 @@
-//! The subcommands that have a value, and the texts of their help.
+//! The subcommands that have a value, their options, and the texts of their help.
 
 /// A subcommand that has a value, and what its help says.
 #[derive(Clone, Copy)]
@@ -68,3 +68,38 @@ pub const WITH_VALUE: [Subcommand<'static>; 6] = [
         example: "Example: noise test examples/vectors/xx.vector examples/vectors/ik.vector",
     },
 ];
+
+/// The subcommand that has a value and options.
+pub const TRACE: Subcommand<'static> = Subcommand {
+    name: "trace",
+    value: "FILE",
+    several: false,
+    about: "Run two ends on a vector file as replay does and print each end's key schedule, all secrets of it",
+    meaning: "A vector file as replay takes it, with keys that are for tests alone",
+    example: "Example: noise trace --role responder examples/vectors/nnpsk2.vector",
+};
+
+/// An option that has a value, and what its help says.
+#[derive(Clone, Copy)]
+pub struct ValueOption<'a> {
+    /// Its name.
+    pub name: &'a str,
+    /// What help calls its value.
+    pub value: &'a str,
+    /// What it does, by its values.
+    pub meaning: &'a str,
+}
+
+/// The part whose lines alone are printed of a key schedule.
+pub const ONLY: ValueOption<'static> = ValueOption {
+    name: "only",
+    value: "PART",
+    meaning: "Print the key schedule of this part alone: handshake or transport",
+};
+
+/// The party whose lines alone are printed of a key schedule.
+pub const ROLE: ValueOption<'static> = ValueOption {
+    name: "role",
+    value: "ROLE",
+    meaning: "Print the key schedule of this party alone: initiator or responder",
+};

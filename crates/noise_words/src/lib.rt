@@ -1,9 +1,10 @@
 //! The words of the command line, and the command that they name.
 #![tactic(auto)]
 
+mod choices;
 mod command_line;
 mod help;
 mod orders;
 
 pub use command_line::chosen;
-pub use orders::{Chosen, LineFault, Order};
+pub use orders::{Chosen, LineFault, Order, Traced, TracedPart, TracedRole};

@@ -5,6 +5,35 @@ ghost use Rattle.noise_words.specs.declared.orders.LineFault.TheVariants.{Memory
 
 use std::alloc::AllocError;
 
+/// A part of a run, whose lines of a trace may be wanted alone.
+#[derive(Clone, Copy, PartialEq, Eq)]
+pub enum TracedPart {
+    /// The start and the handshake messages.
+    Handshake,
+    /// The transport keys, and the messages or datagrams after the handshake.
+    Transport,
+}
+
+/// A party of a run, whose lines of a trace may be wanted alone.
+#[derive(Clone, Copy, PartialEq, Eq)]
+pub enum TracedRole {
+    /// The initiator.
+    Initiator,
+    /// The responder.
+    Responder,
+}
+
+/// What is traced.
+#[derive(Drop, PartialEq, Eq)]
+pub struct Traced {
+    /// The name of the vector file.
+    pub file: String,
+    /// The part whose lines alone are wanted, or None where those of both are.
+    pub only: Option<TracedPart>,
+    /// The party whose lines alone are wanted, or None where those of both are.
+    pub role: Option<TracedRole>,
+}
+
 /// A command on at most one file, with its value.
 #[derive(Drop, PartialEq, Eq)]
 pub enum Chosen {
@@ -20,6 +49,8 @@ pub enum Chosen {
     Replay(String),
     /// Print the version 1 vector file of this name as one of version 2 that expects what its run prints.
     Convert(String),
+    /// Run two ends on a vector file as `Replay` does, and print the key schedule of each end too, or a part of it.
+    Trace(Traced),
 }
 
 /// What the words of a command line ask for.

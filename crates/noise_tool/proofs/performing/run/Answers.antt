@@ -1,4 +1,5 @@
 use Rattle.noise_tool.proofs.PrefixLemmas.{replay-prefix, talk-prefix}
+use Rattle.noise_tool.proofs.TracePerforming.{traced-prefix}
 use Rattle.noise_tool.proofs.performing.run.Goals as goal
 
 pub returns-in-Talk-clause-prefix : goal.returns-in-Talk-clause-prefix
@@ -6,3 +7,6 @@ returns-in-Talk-clause-prefix g c = rw c.in-Talk.is (talk-prefix c.in-Talk.field
 
 pub returns-in-Replay-clause-prefix : goal.returns-in-Replay-clause-prefix
 returns-in-Replay-clause-prefix g c = rw c.in-Replay.is (replay-prefix c.in-Replay.field-0 _ _ _ _ _ c.run_file-in-Replay.ensures.prefix)
+
+pub returns-in-Trace-clause-prefix : goal.returns-in-Trace-clause-prefix
+returns-in-Trace-clause-prefix g c = rw c.in-Trace.is (traced-prefix c.in-Trace.traced _ _ _ _ _ c.trace_chosen.ensures.prefix)

@@ -1,4 +1,4 @@
-use Rattle.std.proofs.Common.{rules, ◌≡◌, ◌≢◌, ◌∙◌, ap, sym, codes, option_map, List}
+use Rattle.std.proofs.Common.{rules, ◌≢◌, ◌∙◌, ap, sym, codes, option_map, List}
 use Rattle.clap.specs.Walk.{Row, rows_of}
 use Rattle.clap.specs.Matches.{found_of}
 use Rattle.clap.specs.Simple.{subcommand_rows_of}

@@ -1,0 +1,304 @@
+-- What an event is, and the lines of it.
+use Rattle.std.proofs.Common.{◌≡◌, ◌≢◌, ◌∙◌, ◌⊎◌, inl, inr, refl, sym, ap, subst, ℕ, List, [], ◌∷◌, ◌++◌, length, Option, Some, None, slice_get, append_assoc, Result, OnOk}
+use Rattle.std.specs.Prelude.{unwrap_or}
+use Rattle.noise_names.specs.declared.token.Role.{Role}
+use Rattle.noise_names.specs.declared.token.Role.TheVariants.{Initiator, Responder}
+use Rattle.noise_names.specs.Tokens.{other}
+use Rattle.noise_events.specs.Events.{Event, Write, Say, Deliver, Raw}
+use Rattle.noise_session.specs.declared.faults.SendFault.{SendFault}
+use Rattle.noise_session.specs.Frames.{frame}
+use Rattle.noise_duel.specs.declared.entry.Entry.{Entry}
+use Rattle.noise_duel.specs.declared.entry.Entry.TheVariants as entry
+use Rattle.noise_duel.specs.Entries.{note_of, notes_of}
+use Rattle.noise_duel.specs.Notes.{Note, Missing, Wrote, WriteFault, held_note, noted_by}
+use Rattle.noise_duel.specs.Runs.{Happens, SideReceives, SideWrites}
+use Rattle.noise_duel.specs.Runs.Happens.{writes, says_nothing, says, delivers, misses, injects}
+use Rattle.noise_duel.specs.Runs.SideWrites.{writes_nothing, writes_handshake, writes_transport}
+use Rattle.noise_duel.specs.Sides.{Side, Sides, side, with_side}
+use Rattle.noise_tool.specs.Printed.{frame_at}
+use Rattle.noise_tool.specs.TracedEnds.{EndsTraced, entry_frame}
+use Rattle.noise_tool.specs.Tracing.{came_traces, happened_traces, written_frame, written_trace}
+use Rattle.noise_tool.specs.declared.moment_lines.Kept.{Kept}
+use Rattle.noise_tool.specs.declared.traced_ends.TracedEnds.{TracedEnds}
+use Rattle.noise_tool.proofs.RunningLemmas.{on_ok}
+
+abbrev pub Traces : Type 0
+Traces = List (List (List ℕ))
+
+-- the lines of an event that is the same
+pub event-same : (kept : Kept) (d next : Sides) (notes : List (Role × Note)) (e f : Event) → e ≡ f → (P : Traces → Type 0)
+    → ((h : Happens d f notes next) → P (happened_traces kept d next f notes h)) → (h : Happens d e notes next) → P (happened_traces kept d next e notes h)
+event-same kept d next notes e f same P at =
+    subst (λ (z : Event). (h : Happens d z notes next) → P (happened_traces kept d next z notes h)) (sym same) at
+
+-- ---- a write
+
+pub record Wrote-only (kept : Kept) (d next : Sides) (role : Role) (payload : List ℕ) (notes : List (Role × Note)) (traces : Traces) : Type 0 where
+  pub note : Note
+  pub after : Side
+  pub w : SideWrites (side d role) payload note after
+  pub notes_are : notes ≡ (role, note) ∷ []
+  pub next_is : next ≡ with_side d role after
+  pub traces_are : traces ≡ written_trace kept role (side d role) after payload note w ∷ []
+
+pub of-write : (kept : Kept) (d next : Sides) (role : Role) (payload : List ℕ) (notes : List (Role × Note)) (h : Happens d (Write role payload) notes next)
+    → Wrote-only kept d next role payload notes (happened_traces kept d next (Write role payload) notes h)
+of-write kept d next role payload notes (writes _ _ _ note after w) = record {
+  note = note;
+  after = after;
+  w = w;
+  notes_are = refl;
+  next_is = refl;
+  traces_are = refl;
+}
+
+-- the frames that a role has written after its write are not changed by the other role
+pub frames-written : (d : Sides) (role : Role) (s : Side) → (side (with_side d role s) role).frames ≡ s.frames
+frames-written d Initiator s = refl
+frames-written d Responder s = refl
+
+pub frames-said : (d : Sides) (role : Role) (s reader : Side) → (side (with_side (with_side d role s) (other role) reader) role).frames ≡ s.frames
+frames-said d Initiator s reader = refl
+frames-said d Responder s reader = refl
+
+pub frames-kept : (d : Sides) (role : Role) (reader : Side) → (side (with_side d role reader) (other role)).frames ≡ (side d (other role)).frames
+frames-kept d Initiator reader = refl
+frames-kept d Responder reader = refl
+
+pub reader-kept : (d : Sides) (role : Role) (s : Side) → side (with_side d role s) (other role) ≡ side d (other role)
+reader-kept d Initiator s = refl
+reader-kept d Responder s = refl
+
+-- ---- a payload that is said
+
+pub record Said-all (kept : Kept) (d next : Sides) (role : Role) (payload : List ℕ) (notes : List (Role × Note)) (traces : Traces) : Type 0 where
+  pub number : ℕ
+  pub bytes : List ℕ
+  pub heard : List Note
+  pub after : Side
+  pub reader : Side
+  pub w : SideWrites (side d role) payload (Wrote number) after
+  pub got : slice_get after.frames number ≡ Some bytes
+  pub x : SideReceives (side d (other role)) bytes heard reader
+  pub notes_are : notes ≡ (role, Wrote number) ∷ noted_by (other role) (heard ++ held_note (length reader.view.held))
+  pub next_is : next ≡ with_side (with_side d role after) (other role) reader
+  pub traces_are : traces ≡ written_trace kept role (side d role) after payload (Wrote number) w
+      ∷ came_traces kept (other role) (side d (other role)) reader bytes heard x
+
+pub record Said-none (kept : Kept) (d next : Sides) (role : Role) (payload : List ℕ) (notes : List (Role × Note)) (traces : Traces) : Type 0 where
+  pub why : SendFault
+  pub after : Side
+  pub w : SideWrites (side d role) payload (WriteFault why) after
+  pub notes_are : notes ≡ (role, WriteFault why) ∷ []
+  pub next_is : next ≡ with_side d role after
+  pub traces_are : traces ≡ written_trace kept role (side d role) after payload (WriteFault why) w ∷ []
+
+pub of-say : (kept : Kept) (d next : Sides) (role : Role) (payload : List ℕ) (notes : List (Role × Note)) (h : Happens d (Say role payload) notes next)
+    → Said-all kept d next role payload notes (happened_traces kept d next (Say role payload) notes h)
+    ⊎ Said-none kept d next role payload notes (happened_traces kept d next (Say role payload) notes h)
+of-say kept d next role payload notes (says_nothing _ _ _ why after w) = inr (record {
+  why = why;
+  after = after;
+  w = w;
+  notes_are = refl;
+  next_is = refl;
+  traces_are = refl;
+})
+of-say kept d next role payload notes (says _ _ _ bytes n heard after reader w got x) = inl (record {
+  number = n;
+  bytes = bytes;
+  heard = heard;
+  after = after;
+  reader = reader;
+  w = w;
+  got = got;
+  x = x;
+  notes_are = refl;
+  next_is = refl;
+  traces_are = refl;
+})
+
+-- ---- bytes that come
+
+pub record Came (kept : Kept) (d next : Sides) (role : Role) (bytes : List ℕ) (notes : List (Role × Note)) (traces : Traces) : Type 0 where
+  pub heard : List Note
+  pub reader : Side
+  pub x : SideReceives (side d role) bytes heard reader
+  pub notes_are : notes ≡ noted_by role (heard ++ held_note (length reader.view.held))
+  pub next_is : next ≡ with_side d role reader
+  pub traces_are : traces ≡ came_traces kept role (side d role) reader bytes heard x
+
+pub of-raw : (kept : Kept) (d next : Sides) (role : Role) (bytes : List ℕ) (notes : List (Role × Note)) (h : Happens d (Raw role bytes) notes next)
+    → Came kept d next role bytes notes (happened_traces kept d next (Raw role bytes) notes h)
+of-raw kept d next role bytes notes (injects _ _ _ heard reader x) = record {
+  heard = heard;
+  reader = reader;
+  x = x;
+  notes_are = refl;
+  next_is = refl;
+  traces_are = refl;
+}
+
+some-of-none : (o : Option (List ℕ)) (x : List ℕ) → o ≡ Some x → o ≡ None → ⊥
+some-of-none o x e f = cc
+
+some-is : (x y : List ℕ) → Some x ≡ Some y → x ≡ y
+some-is x y e = cc
+
+pub of-deliver : (kept : Kept) (d next : Sides) (role : Role) (n : ℕ) (notes : List (Role × Note)) (h : Happens d (Deliver role n) notes next)
+    → (frame : List ℕ) → slice_get (side next (other role)).frames n ≡ Some frame
+    → Came kept d next role frame notes (happened_traces kept d next (Deliver role n) notes h)
+of-deliver kept d next role n notes (delivers _ _ _ bytes heard reader got x) frame found =
+    let same : bytes ≡ frame = some-is bytes frame
+    (sym got ∙ ap (λ (fs : List (List ℕ)). slice_get fs n) (sym (frames-kept d role reader)) ∙ found) in
+    subst (λ (z : List ℕ). Came kept d (with_side d role reader) role z (noted_by role (heard ++ held_note (length reader.view.held)))
+    (came_traces kept role (side d role) reader bytes heard x)) same (record {
+      heard = heard;
+      reader = reader;
+      x = x;
+      notes_are = refl;
+      next_is = refl;
+      traces_are = refl;
+    })
+of-deliver kept d next role n notes (misses _ _ _ none) frame found = absurd (some-of-none _ frame found none)
+
+pub of-missing : (kept : Kept) (d next : Sides) (role : Role) (n : ℕ) (notes : List (Role × Note)) (h : Happens d (Deliver role n) notes next)
+    → slice_get (side next (other role)).frames n ≡ None
+    → (next ≡ d) × (happened_traces kept d next (Deliver role n) notes h ≡ [] ∷ [])
+of-missing kept d next role n notes (delivers _ _ _ bytes heard reader got x) none =
+    absurd (some-of-none _ bytes got (ap (λ (fs : List (List ℕ)). slice_get fs n) (sym (frames-kept d role reader)) ∙ none))
+of-missing kept d next role n notes (misses _ _ _ gone) none = (refl, refl)
+
+-- ---- the frame of a write
+
+last-there : (fs : List (List ℕ)) (f : List ℕ) → slice_get (fs ++ f ∷ []) (length fs) ≡ Some f
+last-there [] f = refl
+last-there (x ∷ fs) f = last-there fs f
+
+pub written-frame : (s next last : Side) (payload : List ℕ) (note : Note) (w : SideWrites s payload note next) → last.frames ≡ next.frames
+    → entry_frame last note ≡ written_frame s next payload note w
+written-frame s next last payload note (writes_nothing _ _ why after sends) same = refl
+written-frame s next last payload note (writes_handshake _ message _ xs free w) same =
+    ap (λ (fs : List (List ℕ)). unwrap_or (slice_get fs (length s.frames)) []) same
+    ∙ ap (λ (o : Option (List ℕ)). unwrap_or o []) (last-there s.frames (frame message))
+written-frame s next last payload note (writes_transport _ message _ free opens is) same =
+    ap (λ (fs : List (List ℕ)). unwrap_or (slice_get fs (length s.frames)) []) same
+    ∙ ap (λ (o : Option (List ℕ)). unwrap_or o []) (last-there s.frames (frame message))
+
+-- ---- a payload that is said, in code
+
+pub none-first : (role : Role) (note : Note) (notes : List (Role × Note)) → [] ≡ (role, note) ∷ notes → ⊥
+none-first role note notes e = cc e
+
+-- no entry
+pub say-none : (kept : Kept) (d next : Sides) (role : Role) (payload : List ℕ) (notes : List (Role × Note)) (h : Happens d (Say role payload) notes next)
+    → [] ≡ notes → ⊥
+say-none kept d next role payload notes h none = at (of-say kept d next role payload notes h) where
+  at : Said-all kept d next role payload notes (happened_traces kept d next (Say role payload) notes h)
+      ⊎ Said-none kept d next role payload notes (happened_traces kept d next (Say role payload) notes h) → ⊥
+  at (inl s) = none-first role (Wrote s.number) _ (none ∙ s.notes_are)
+  at (inr s) = none-first role (WriteFault s.why) _ (none ∙ s.notes_are)
+
+pub head-note : (r s : Role) (m n : Note) (ms ns : List (Role × Note)) → (r, m) ∷ ms ≡ (s, n) ∷ ns → m ≡ n
+head-note r s m n ms ns e = ap (λ (xs : List (Role × Note)). first-of m xs) e where
+  first-of : Note → List (Role × Note) → Note
+  first-of d [] = d
+  first-of d (x ∷ xs) = x.1
+
+rest-notes : (r s : Role) (m n : Note) (ms ns : List (Role × Note)) → (r, m) ∷ ms ≡ (s, n) ∷ ns → ms ≡ ns
+rest-notes r s m n ms ns e = ap rest-of e where
+  rest-of : List (Role × Note) → List (Role × Note)
+  rest-of [] = []
+  rest-of (x ∷ xs) = xs
+
+-- what is known of the write, and of the bytes that come then
+abbrev Writes-on : Kept → Sides → Sides → Role → Note → Traces → Traces → TracedEnds → TracedEnds → Type 0
+Writes-on kept d last role given old one before between = (next : Side) (payload : List ℕ) (note : Note) (w : SideWrites (side d role) payload note next)
+    → EndsTraced before d → (side last role).frames ≡ next.frames → given ≡ note
+    → (one ≡ old ++ written_trace kept role (side d role) next payload note w ∷ []) × EndsTraced between (with_side d role next)
+
+-- nothing was written
+pub say-fault : (kept : Kept) (d next : Sides) (role by : Role) (payload : List ℕ) (notes more : List (Role × Note))
+    (h : Happens d (Say role payload) notes next) (given : Note) (old one : Traces) (before between : TracedEnds) → EndsTraced before d
+    → (by, given) ∷ more ≡ notes → ((n : ℕ) → given ≢ Wrote n) → Writes-on kept d next role given old one before between
+    → (one ≡ old ++ happened_traces kept d next (Say role payload) notes h) × EndsTraced between next
+say-fault kept d next role by payload notes more h given old one before between traced told no_number on = at (of-say kept d next role payload notes h)
+  where
+    at : Said-all kept d next role payload notes (happened_traces kept d next (Say role payload) notes h)
+        ⊎ Said-none kept d next role payload notes (happened_traces kept d next (Say role payload) notes h)
+        → (one ≡ old ++ happened_traces kept d next (Say role payload) notes h) × EndsTraced between next
+    at (inl s) = absurd (no_number s.number (head-note by role given (Wrote s.number) more _ (told ∙ s.notes_are)))
+    at (inr s) =
+        let done = on s.after payload (WriteFault s.why) s.w traced
+        (ap (λ (z : Sides). (side z role).frames) s.next_is ∙ frames-written d role s.after)
+        (head-note by role given (WriteFault s.why) more _ (told ∙ s.notes_are)) in (
+          done.0 ∙ ap (λ (x : Traces). old ++ x) (sym s.traces_are),
+          subst (λ (z : Sides). EndsTraced between z) (sym s.next_is) done.1,
+        )
+
+number-same : (m n : ℕ) → Wrote m ≡ Wrote n → m ≡ n
+number-same m n e = cc
+
+-- a frame was written, and came to the other role
+pub say-frame : {E : Type 0} (kept : Kept) (d next : Sides) (role by : Role) (payload : List ℕ) (notes more : List (Role × Note))
+    (h : Happens d (Say role payload) notes next) (number : ℕ) (frame : List ℕ) (old one new : Traces) (before between after : TracedEnds)
+    (to : Role) (r : Result Unit E) → EndsTraced before d
+    → (by, Wrote number) ∷ more ≡ notes → frame ≡ frame_at (side next role) number → to ≡ other role
+    → Writes-on kept d next role (Wrote number) old one before between
+    → ((e : Sides) (reader : Side) (heard : List Note) (x : SideReceives (side e to) frame heard reader) → EndsTraced between e
+    → more ≡ noted_by to (heard ++ held_note (length reader.view.held))
+    → OnOk r ((new ≡ one ++ came_traces kept to (side e to) reader frame heard x) × EndsTraced after (with_side e to reader)))
+    → OnOk r ((new ≡ old ++ happened_traces kept d next (Say role payload) notes h) × EndsTraced after next)
+say-frame {E = E} kept d next role by payload notes more h number frame old one new before between after to r traced told framed to_is on comes =
+    at (of-say kept d next role payload notes h)
+  where
+    at : Said-all kept d next role payload notes (happened_traces kept d next (Say role payload) notes h)
+        ⊎ Said-none kept d next role payload notes (happened_traces kept d next (Say role payload) notes h)
+        → OnOk r ((new ≡ old ++ happened_traces kept d next (Say role payload) notes h) × EndsTraced after next)
+    at (inr s) =
+        let bad : Wrote number ≡ WriteFault s.why = head-note by role (Wrote number) (WriteFault s.why) more _ (told ∙ s.notes_are) in absurd (cc bad)
+    at (inl s) =
+        let heads : Wrote number ≡ Wrote s.number = head-note by role (Wrote number) (Wrote s.number) more _ (told ∙ s.notes_are) in
+        let tails = rest-notes by role (Wrote number) (Wrote s.number) more _ (told ∙ s.notes_are) in
+        let written : (side next role).frames ≡ s.after.frames =
+        ap (λ (z : Sides). (side z role).frames) s.next_is ∙ frames-said d role s.after s.reader in
+        let done = on s.after payload (Wrote s.number) s.w traced written heads in
+        let text : frame ≡ s.bytes =
+        framed ∙ ap (λ (k : ℕ). unwrap_or (slice_get (side next role).frames k) []) (number-same number s.number heads)
+        ∙ ap (λ (fs : List (List ℕ)). unwrap_or (slice_get fs s.number) []) written ∙ ap (λ (o : Option (List ℕ)). unwrap_or o []) s.got in
+        let came = subst (λ (z : Role). (reader : Side) (heard : List Note) (x : SideReceives (side (with_side d role s.after) z) frame heard reader)
+        → more ≡ noted_by z (heard ++ held_note (length reader.view.held))
+        → OnOk r ((new ≡ one ++ came_traces kept z (side (with_side d role s.after) z) reader frame heard x)
+        × EndsTraced after (with_side (with_side d role s.after) z reader))) to_is
+        (λ reader heard x noted. comes (with_side d role s.after) reader heard x done.1 noted) in
+        let read = subst (λ (z : Side). (reader : Side) (heard : List Note) (x : SideReceives z frame heard reader)
+        → more ≡ noted_by (other role) (heard ++ held_note (length reader.view.held))
+        → OnOk r ((new ≡ one ++ came_traces kept (other role) z reader frame heard x)
+        × EndsTraced after (with_side (with_side d role s.after) (other role) reader))) (reader-kept d role s.after) came in
+        let last = subst (λ (z : List ℕ). (reader : Side) (heard : List Note) (x : SideReceives (side d (other role)) z heard reader)
+        → more ≡ noted_by (other role) (heard ++ held_note (length reader.view.held))
+        → OnOk r ((new ≡ one ++ came_traces kept (other role) (side d (other role)) reader z heard x)
+        × EndsTraced after (with_side (with_side d role s.after) (other role) reader))) text read in
+        on_ok r _ _ (λ both. (
+          both.0 ∙ ap (λ (x : Traces). x ++ came_traces kept (other role) (side d (other role)) s.reader s.bytes s.heard s.x) done.0
+              ∙ append_assoc old (written_trace kept role (side d role) s.after payload (Wrote s.number) s.w ∷ [])
+              (came_traces kept (other role) (side d (other role)) s.reader s.bytes s.heard s.x)
+              ∙ ap (λ (x : Traces). old ++ x) (sym s.traces_are),
+          subst (λ (z : Sides). EndsTraced after z) (sym s.next_is) both.1,
+        )) (last s.reader s.heard s.x tails)
+
+-- an entry that tells of no frame
+pub note-number : (e : Entry) → ((n : ℕ) → e ≡ entry.Wrote n → ⊥) → (n : ℕ) → note_of e ≢ Wrote n
+note-number (entry.Wrote m) none n e = none m refl
+note-number (entry.WriteFault why) none n e = cc e
+note-number (entry.Payload bytes) none n e = cc e
+note-number (entry.Dropped cause) none n e = cc e
+note-number (entry.Refused token cause) none n e = cc e
+note-number entry.Exhausted none n e = cc e
+note-number (entry.Left why m) none n e = cc e
+note-number (entry.Missing m) none n e = cc e
+note-number (entry.Held m) none n e = cc e
+
+pub no-entries : (entries : List (Role × Entry)) → length entries ≡ 0 → [] ≡ notes_of entries
+no-entries [] e = refl
+no-entries (x ∷ xs) e = absurd (cc e)

@@ -1,0 +1,76 @@
+-- The lines of the key schedules after the events.
+use Rattle.std.proofs.Common.{◌≡◌, ◌∙◌, ◌&&◌, ◌==◌, refl, sym, ap, subst, arith, ℕ, Bool, true, false, List, [], ◌∷◌, ◌++◌, length, Option, Some, None, is_some, Vec, append-nil, append_assoc}
+use Rattle.std.specs.Prelude.{if◌then◌else◌}
+use Rattle.std.proofs.lemmas.Bool.Decides.{nat_tests}
+use Rattle.noise_names.specs.declared.token.Role.{Role}
+use Rattle.noise_names.specs.declared.token.Role.TheVariants.{Initiator, Responder}
+use Rattle.noise_names.specs.Plan.{Plan, is_one_way}
+use Rattle.noise_session.specs.Ends.{EndView, progress_of}
+use Rattle.noise_session.specs.EndDatagrams.{is_untouched}
+use Rattle.noise_session.specs.Progress.Progress.{Handshaking, Open, Closed}
+use Rattle.noise_duel.specs.Sides.{Sides}
+use Rattle.noise_state.specs.History.{initiator_key, responder_key}
+use Rattle.noise_handshake.specs.View.{View}
+use Rattle.noise_session_trace.specs.Moments.{keys_in}
+use Rattle.noise_vectors.specs.declared.vector.FileDatagrams.{FileDatagrams}
+use Rattle.noise_tool.specs.Running.{AreLast, are_ready, is_ready}
+use Rattle.noise_tool.specs.Running.AreLast.{without, unready, ready}
+use Rattle.noise_tool.specs.TracedEnds.{AreOver}
+use Rattle.noise_tool.specs.Tracing.{datagram_keys_of, last_traces}
+use Rattle.noise_tool.specs.declared.moment_lines.Kept.{Kept}
+
+pub last-goes : (kept : Kept) (over : Option FileDatagrams) (d : Sides) (after : List (List ℕ)) (a : AreLast over d after)
+    → (is_some over && are_ready d) ≡ true
+    → last_traces kept over d after a ≡ (datagram_keys_of kept Initiator d.initiator.view ++ datagram_keys_of kept Responder d.responder.view) ∷ []
+last-goes kept over d after (without _) e = absurd (cc e)
+last-goes kept over d after (unready _ _ not_ready) e = let bad = sym not_ready ∙ e in absurd (cc bad)
+last-goes kept over d after (ready _ _ notes last are run) e = refl
+
+pub last-stays : (kept : Kept) (over : Option FileDatagrams) (d : Sides) (after : List (List ℕ)) (a : AreLast over d after)
+    → (is_some over && are_ready d) ≡ false → last_traces kept over d after a ≡ []
+last-stays kept over d after (without _) e = refl
+last-stays kept over d after (unready _ _ not_ready) e = refl
+last-stays kept over d after (ready _ _ notes last are run) e = let bad = sym are ∙ e in absurd (cc bad)
+
+-- ---- ends that are ready have passed the handshake
+
+and-left : (a b : Bool) → (a && b) ≡ true → a ≡ true
+and-left true b e = refl
+and-left false b e = absurd (cc e)
+
+and-right : (a b : Bool) → (a && b) ≡ true → b ≡ true
+and-right true b e = e
+and-right false b e = absurd (cc e)
+
+passed-test : (ended passed : Bool) (plan : Plan) (role : Role) (n sent received : ℕ) (one_way : Bool)
+    → is_untouched (if ended then Closed role else if passed then Open role one_way sent received else Handshaking plan role n) ≡ true → passed ≡ true
+passed-test true passed plan role n sent received one_way e = absurd (cc e)
+passed-test false true plan role n sent received one_way e = refl
+passed-test false false plan role n sent received one_way e = absurd (cc e)
+
+test-same : (m n : ℕ) → (m == n) ≡ true → m ≡ n
+test-same m n e = grind (arith, nat_tests)
+
+ready-passed : (v : EndView) → is_ready v ≡ true → v.party.passed ≡ length v.party.pattern.messages
+ready-passed v e =
+    test-same v.party.passed (length v.party.pattern.messages)
+    (passed-test v.party.ended (v.party.passed == length v.party.pattern.messages) v.party.pattern v.party.role v.party.passed v.sent v.received
+    (is_one_way v.party.pattern) (and-left (is_untouched (progress_of v)) (length v.held == 0) e))
+
+pub ready-over : (over : Option FileDatagrams) (d : Sides) → (is_some over && are_ready d) ≡ true → AreOver d
+ready-over over d e =
+    let both = and-right (is_some over) (are_ready d) e in (
+      ready-passed d.initiator.view (and-left (is_ready d.initiator.view) (is_ready d.responder.view) both),
+      ready-passed d.responder.view (and-right (is_ready d.initiator.view) (is_ready d.responder.view) both),
+    )
+
+-- ---- the keys of a session that has opened
+
+same-test : (n : ℕ) → (n == n) ≡ true
+same-test n = grind (arith, nat_tests)
+
+pub keys-there : (v : View) → v.passed ≡ length v.pattern.messages → keys_in v ≡ Some (initiator_key v.history, responder_key v.history)
+keys-there v e =
+    let test : (v.passed == length v.pattern.messages) ≡ true =
+    ap (λ (k : ℕ). k == length v.pattern.messages) e ∙ same-test (length v.pattern.messages) in
+    ap (λ (b : Bool). if b then Some (initiator_key v.history, responder_key v.history) else None) test

@@ -1,0 +1,160 @@
+-- What `trace` has done, and why it hasn't.
+use Rattle.std.proofs.Common.{◌≡◌, ◌∙◌, refl, sym, ap, subst, ◌⊎◌, inl, inr, ℕ, List, [], ◌∷◌, Option, Some, None, Result, Ok, Err, OnOk, String}
+use Rattle.std.specs.Global.{Global}
+use Rattle.std.specs.Prelude.{IfErr, IfSome}
+use Rattle.std.specs.Io.KnownBytes.{Appends}
+use Rattle.noise_lines.specs.Faults.{status_of}
+use Rattle.noise_lines.specs.Lines.{lines_text}
+use Rattle.noise_lines.specs.Prefixes.{AppendsPrefix}
+use Rattle.noise_lines.specs.declared.faults.Fault.{Fault}
+use Rattle.noise_lines.specs.declared.faults.Fault.TheVariants as fault
+use Rattle.noise_vectors.specs.Expectations.{IsFirstUnmet, bytes_of}
+use Rattle.noise_vectors.specs.VectorFile.{IsVectorFile}
+use Rattle.noise_vectors.specs.VectorText.{text_of}
+use Rattle.noise_vectors.specs.declared.vector.AllowedEvents.TheVariants.{Any}
+use Rattle.noise_vectors.specs.declared.vector.VectorFile.{VectorFile}
+use Rattle.noise_words.specs.declared.orders.Chosen.TheVariants as order
+use Rattle.noise_words.specs.declared.orders.Traced.{Traced as Order}
+use Rattle.noise_tool.specs.Performing.{IsOfLines, IsRunFault}
+use Rattle.noise_tool.specs.Prefixes.{PrintsPrefix}
+use Rattle.noise_tool.specs.Running.{IsMet, expected_in}
+use Rattle.noise_tool.specs.TraceDone.{HasTraceUnmet, HasTraced, IsTraceUnmet, PrintsTrace, PrintsTracePrefix, kept_of}
+use Rattle.noise_tool.specs.TracedText.{IsTraceUnlike, trace_lines, trace_text}
+use Rattle.noise_tool.specs.Tracing.{IsTraceOf}
+use Rattle.noise_tool.specs.declared.moment_lines.Kept.{Kept}
+use Rattle.noise_tool.specs.declared.tracing.Traced.{Traced}
+use Rattle.noise_tool.proofs.MetLemmas.{met-or-unmet}
+
+-- The text that was read is a right file's, and this came of its trace.
+pub record RanTraced (kept : Kept) (known : Option (List ℕ)) (file : VectorFile) (traced : Traced) : Type 0 where
+  pub text : List ℕ
+  pub bytes : IfSome known (λ bytes. text ≡ bytes)
+  pub right : IsVectorFile file
+  pub spelled : text ≡ text_of file
+  pub run : IsTraceOf kept file (bytes_of traced.outcome.lines.items) (trace_lines traced)
+  pub expected : bytes_of traced.outcome.expected.items ≡ expected_in file.version
+
+traced-known : (kept : Kept) (known : Option (List ℕ)) (file : VectorFile) (traced : Traced) (before after : Option (List ℕ))
+    → RanTraced kept known file traced → Appends before after (trace_text traced)
+    → IsMet (bytes_of traced.outcome.expected.items) (bytes_of traced.outcome.lines.items) → IfSome known (λ bytes. HasTraced kept bytes before after)
+traced-known kept None file traced before after r printed met = tt
+traced-known kept (Some bytes) file traced before after r printed met = record {
+  file = file;
+  right = r.right;
+  text_is = sym r.bytes ∙ r.spelled;
+  lines = bytes_of traced.outcome.lines.items;
+  traced = trace_lines traced;
+  run = r.run;
+  printed = printed;
+  met = subst (λ (expected : List (List ℕ)). IsMet expected (bytes_of traced.outcome.lines.items)) r.expected met;
+}
+
+pub has-traced : (kept : Kept) (known : Option (List ℕ)) (file : VectorFile) (traced : Traced) (before after : Option (List ℕ)) (result : Result Unit Fault)
+    → RanTraced kept known file traced → OnOk result (Appends before after (trace_text traced))
+    → OnOk result (IsMet (bytes_of traced.outcome.expected.items) (bytes_of traced.outcome.lines.items))
+    → OnOk result (IfSome known (λ bytes. HasTraced kept bytes before after))
+has-traced kept known file traced before after (Ok u) r printed met = traced-known kept known file traced before after r printed met
+has-traced kept known file traced before after (Err why) r printed met = tt
+
+unlike-is : (traced : Traced) (before after : Option (List ℕ)) (why : Fault) → IsTraceUnlike traced before after why
+    → (n : ℕ) × (why ≡ fault.Unmet n) × IsTraceUnlike traced before after (fault.Unmet n)
+unlike-is traced before after (fault.Unmet n) h = (n, refl, h)
+unlike-is traced before after (fault.Rule f) h = absurd h
+unlike-is traced before after (fault.Place f) h = absurd h
+unlike-is traced before after (fault.Setup role f) h = absurd h
+unlike-is traced before after (fault.Name f) h = absurd h
+unlike-is traced before after fault.UnknownPattern h = absurd h
+unlike-is traced before after (fault.Text f) h = absurd h
+unlike-is traced before after (fault.Line n kind) h = absurd h
+unlike-is traced before after fault.TooLong h = absurd h
+unlike-is traced before after fault.Unreadable h = absurd h
+unlike-is traced before after fault.Unwritable h = absurd h
+unlike-is traced before after fault.Memory h = absurd h
+
+unmet-known : (kept : Kept) (known : Option (List ℕ)) (file : VectorFile) (traced : Traced) (before after : Option (List ℕ)) (n : ℕ)
+    → RanTraced kept known file traced → IsTraceUnlike traced before after (fault.Unmet n)
+    → IfSome known (λ bytes. IsRunFault Any bytes (fault.Unmet n) ⊎ IsTraceUnmet kept bytes before after (fault.Unmet n))
+unmet-known kept None file traced before after n r h = tt
+unmet-known kept (Some bytes) file traced before after n r h = inr (record {
+  file = file;
+  right = r.right;
+  text_is = sym r.bytes ∙ r.spelled;
+  lines = bytes_of traced.outcome.lines.items;
+  traced = trace_lines traced;
+  run = r.run;
+  printed = h.0;
+  some = λ none. h.1 (r.expected ∙ none);
+  unmet = rw (← r.expected) h.2;
+})
+
+unlike-of : (kept : Kept) (known : Option (List ℕ)) (file : VectorFile) (traced : Traced) (before after : Option (List ℕ)) (why : Fault)
+    → RanTraced kept known file traced → (status_of why ≡ 3) ⊎ IsTraceUnlike traced before after why
+    → (status_of why ≡ 3) ⊎ IfSome known (λ bytes. IsRunFault Any bytes why ⊎ IsTraceUnmet kept bytes before after why)
+unlike-of kept known file traced before after why r (inl outside) = inl outside
+unlike-of kept known file traced before after why r (inr h) =
+    let (n, is, unlike) = unlike-is traced before after why h in
+    inr (rw is (unmet-known kept known file traced before after n r unlike))
+
+pub no-trace : (kept : Kept) (known : Option (List ℕ)) (file : VectorFile) (traced : Traced) (before after : Option (List ℕ)) (result : Result Unit Fault)
+    → RanTraced kept known file traced → IfErr result (λ why. (status_of why ≡ 3) ⊎ IsTraceUnlike traced before after why)
+    → IfErr result (λ why. (status_of why ≡ 3) ⊎ IfSome known (λ bytes. IsRunFault Any bytes why ⊎ IsTraceUnmet kept bytes before after why))
+no-trace kept known file traced before after (Ok u) r h = tt
+no-trace kept known file traced before after (Err why) r h = unlike-of kept known file traced before after why r h
+
+-- ---- prefixes
+
+trace-whole : (kept : Kept) (bytes : List ℕ) (file : VectorFile) (traced : Traced) → RanTraced kept (Some bytes) file traced → (expected : List (List ℕ))
+    → expected_in file.version ≡ expected → PrintsTrace kept bytes (trace_text traced)
+trace-whole kept bytes file traced r [] is =
+    inl (has-traced kept (Some bytes) file traced (Some []) (Some (trace_text traced)) (Ok tt) r refl (inl (r.expected ∙ is)))
+trace-whole kept bytes file traced r (e ∷ es) is = of-two (met-or-unmet (bytes_of traced.outcome.lines.items) (expected_in file.version))
+  where
+    of-two : (bytes_of traced.outcome.lines.items ≡ expected_in file.version)
+        ⊎ ((n : ℕ) × IsFirstUnmet (bytes_of traced.outcome.lines.items) (expected_in file.version) n) → PrintsTrace kept bytes (trace_text traced)
+    of-two (inl same) =
+        inl (has-traced kept (Some bytes) file traced (Some []) (Some (trace_text traced)) (Ok tt) r refl (inr (same ∙ sym r.expected)))
+    of-two (inr (n, unmet)) = inr (
+      n,
+      record {
+        file = file;
+        right = r.right;
+        text_is = sym r.bytes ∙ r.spelled;
+        lines = bytes_of traced.outcome.lines.items;
+        traced = trace_lines traced;
+        run = r.run;
+        printed = refl;
+        some = λ none. let bad = sym is ∙ none in cc bad;
+        unmet = unmet;
+      },
+    )
+
+pub trace-prefix : (kept : Kept) (known : Option (List ℕ)) (file : VectorFile) (traced : Traced) (a b : Option (List ℕ))
+    → RanTraced kept known file traced → AppendsPrefix a b (trace_text traced) → PrintsTracePrefix kept known a b
+trace-prefix kept None file traced a b r grown = (trace_text traced, tt, grown)
+trace-prefix kept (Some bytes) file traced a b r grown =
+    (trace_text traced, trace-whole kept bytes file traced r (expected_in file.version) refl, grown)
+
+pub traced-prefix : {O : Type 0} (given : Order) (known a b : Option (List ℕ)) (old new : O) → (new ≡ old) ⊎ PrintsTracePrefix (kept_of given) known a b
+    → (new ≡ old) ⊎ PrintsPrefix (order.Trace given) known a b
+traced-prefix given known a b old new (inl same) = inl same
+traced-prefix given None a b old new (inr (text, h, grown)) = inr (text, inl tt, grown)
+traced-prefix given (Some bytes) a b old new (inr (text, inl met, grown)) = inr (text, inl met, grown)
+traced-prefix given (Some bytes) a b old new (inr (text, inr (n, unmet), grown)) = inr (text, inr (fault.Unmet n, inr unmet), grown)
+
+-- ---- what is reported after a run
+
+pub trace-after : (kept : Kept) (P : Type 0) (bytes : List ℕ) (before middle after : Option (List ℕ)) (why : Fault) → (IsOfLines why → after ≡ middle)
+    → P ⊎ IsTraceUnmet kept bytes before middle why → P ⊎ IsTraceUnmet kept bytes before after why
+trace-after kept P bytes before middle after why same (inl p) = inl p
+trace-after kept P bytes before middle after (fault.Unmet n) same (inr h) = inr (rw (same tt) h)
+trace-after kept P bytes before middle after (fault.Rule f) same (inr h) = absurd h
+trace-after kept P bytes before middle after (fault.Place f) same (inr h) = absurd h
+trace-after kept P bytes before middle after (fault.Setup role f) same (inr h) = absurd h
+trace-after kept P bytes before middle after (fault.Name f) same (inr h) = absurd h
+trace-after kept P bytes before middle after fault.UnknownPattern same (inr h) = absurd h
+trace-after kept P bytes before middle after (fault.Text f) same (inr h) = absurd h
+trace-after kept P bytes before middle after (fault.Line n kind) same (inr h) = absurd h
+trace-after kept P bytes before middle after fault.TooLong same (inr h) = absurd h
+trace-after kept P bytes before middle after fault.Unreadable same (inr h) = absurd h
+trace-after kept P bytes before middle after fault.Unwritable same (inr h) = absurd h
+trace-after kept P bytes before middle after fault.Memory same (inr h) = absurd h

@@ -1,0 +1,25 @@
+use Rattle.std.proofs.Common.{◌∷◌, [], codes, decimal, refl}
+use Rattle.std.proofs.lemmas.Result.{IfOk-weaker}
+use Rattle.noise_vectors.specs.HexWord.{hex_of}
+use Rattle.noise_vectors.specs.VectorText.{role_word}
+use Rattle.noise_tool.specs.PrintedTrace.{none_word}
+use Rattle.noise_tool.proofs.TraceLineLemmas.{said-added, words-added}
+use Rattle.noise_tool.proofs.trace_lines.datagram_key_line.Goals as goal
+
+pub returns : goal.returns
+returns c =
+    let a = codes "trace" in
+    let n = decimal c.args.number in
+    let w = role_word c.args.writer in
+    let k = hex_of c.args.key.now in
+    let front = role_word c.args.role ∷ codes "datagrams" ∷ [] in
+    let one = words-added _ _ a front n [] c.in_ok-begun_trace.ensures c.in_ok-number.ensures in
+    let two = said-added _ _ a (role_word c.args.role ∷ codes "datagrams" ∷ n ∷ []) _ w c.role_word.ensures.text one c.in_ok-line.ensures in
+    let three = words-added _ _ a (role_word c.args.role ∷ codes "datagrams" ∷ n ∷ w ∷ []) none_word (none_word ∷ none_word ∷ []) two c.in_ok-line-2.ensures in
+    let four = words-added _ _ a (role_word c.args.role ∷ codes "datagrams" ∷ n ∷ w ∷ none_word ∷ none_word ∷ none_word ∷ []) none_word (none_word ∷ []) three
+    c.in_ok-add_nothing.ensures in
+    let five = words-added _ _ a (role_word c.args.role ∷ codes "datagrams" ∷ n ∷ w ∷ none_word ∷ none_word ∷ none_word ∷ none_word ∷ none_word ∷ []) k [] four
+    c.in_ok-hex.ensures in
+    IfOk-weaker c.word-2.result _ _ (λ line h.
+    words-added _ _ a (role_word c.args.role ∷ codes "datagrams" ∷ n ∷ w ∷ none_word ∷ none_word ∷ none_word ∷ none_word ∷ none_word ∷ k ∷ []) none_word []
+    five h) c.word-2.ensures

@@ -1,0 +1,20 @@
+use Rattle.std.proofs.Common.{◌≡◌, ◌++◌, ℕ, List, drop, length}
+use Rattle.noise_names.specs.declared.token.Role.{Role}
+use Rattle.noise_duel.specs.Entries.{notes_of}
+use Rattle.noise_duel.specs.Notes.{Note, held_note, noted_by}
+use Rattle.noise_duel.specs.Runs.{SideReceives}
+use Rattle.noise_duel.specs.Sides.{Side}
+use Rattle.noise_tool.specs.TracedEnds.{Shows, traces_of}
+use Rattle.noise_tool.specs.Tracing.{came_traces}
+use Rattle.noise_tool.proofs.ReceivedLemmas.{Remains}
+use Rattle.noise_tool.proofs.traced_end.TracedEnd.read_all.Given as goal
+
+-- what is left of the bytes and of the entries
+abbrev pub invariant-loop-entry : goal.invariant-loop-entry
+invariant-loop-entry l = record {
+  role : l.self.role ≡ l.fn.self.role;
+  goes : (s reader : Side) (role : Role) (bytes : List ℕ) (notes : List Note) (x : SideReceives s bytes notes reader) → Shows l.fn.self s.view
+      → l.came ≡ s.view.held ++ bytes → notes_of l.entries ≡ noted_by role (notes ++ held_note (length reader.view.held))
+      → Remains l.kept l.fn.self.role role reader l.self l.rest (notes_of (drop l.entry-index l.entries)) (traces_of l.traces.items)
+      (traces_of l.fn.traces.items ++ came_traces l.kept l.fn.self.role s reader bytes notes x);
+}

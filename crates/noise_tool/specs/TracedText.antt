@@ -1,0 +1,23 @@
+-- The text of a trace that is held.
+use Rattle.std.specs.Prelude.{◌≡◌, ◌≢◌, ℕ, List, [], ◌++◌, Option}
+use Rattle.std.specs.Io.KnownBytes.{Appends}
+use Rattle.noise_lines.specs.Lines.{lines_text}
+use Rattle.noise_lines.specs.declared.faults.Fault.{Fault}
+use Rattle.noise_lines.specs.declared.faults.Fault.TheVariants.{Unmet}
+use Rattle.noise_vectors.specs.Expectations.{IsFirstUnmet, bytes_of}
+use Rattle.noise_tool.specs.TracedEnds.{traces_of}
+use Rattle.noise_tool.specs.Tracing.{woven}
+use Rattle.noise_tool.specs.declared.tracing.Traced.{Traced}
+
+-- all of its lines
+abbrev pub trace_lines : Traced → List (List ℕ)
+trace_lines t = bytes_of t.start.items ++ woven (bytes_of t.outcome.lines.items) (traces_of t.traces.items)
+
+abbrev pub trace_text : Traced → List ℕ
+trace_text t = lines_text (trace_lines t)
+
+-- its lines were printed, and this is the first line of the run that differs from what is expected
+abbrev pub IsTraceUnlike : Traced → Option (List ℕ) → Option (List ℕ) → Fault → Type 0
+IsTraceUnlike t before after (Unmet number) = Appends before after (trace_text t) × (bytes_of t.outcome.expected.items ≢ [])
+    × IsFirstUnmet (bytes_of t.outcome.lines.items) (bytes_of t.outcome.expected.items) number
+IsTraceUnlike t before after fault = ⊥

@@ -1,0 +1,89 @@
+//! The options of `trace`, whose values are judged here.
+
+ghost use Rattle.std.specs.Prelude.{◌≡◌, IfOk, codes, option_map};
+ghost use Rattle.clap.specs.Words.{found_of, rows_of};
+ghost use Rattle.noise_words.specs.CommandLine.{choice_in, named_trace, part_choice, part_text, role_choice, role_text, stated_by};
+
+use crate::command_line::value;
+use crate::help::{ONLY, ROLE};
+use crate::orders::{Traced, TracedPart, TracedRole};
+use clap::ArgMatches;
+use std::alloc::{AllocError, Global};
+
+/// What is traced, where the matches of `trace` have a file, and no option has a value that it may not have.
+pub fn traced(alloc: Global, found: &ArgMatches<'_>) -> Result<Option<Traced>, AllocError>
+    ensures { IfOk result (λ t. option_map named_trace t ≡ stated_by (codes "trace") (rows_of (found_of found.now))) }
+{
+    let Some(only) = part_in(found) else {
+        return Ok(None);
+    };
+    let Some(role) = role_in(found) else {
+        return Ok(None);
+    };
+    match value(alloc, found, "FILE")? {
+        Some(file) => Ok(Some(Traced { file, only, role })),
+        None => Ok(None),
+    }
+}
+
+// The part that `--only` names, if it is given, or None where it names no part.
+fn part_in(found: &ArgMatches<'_>) -> Option<Option<TracedPart>>
+    ensures { option_map (option_map part_text) result ≡ choice_in (rows_of (found_of found.now)) part_choice }
+{
+    match found.get_str(ONLY.name) {
+        None => Some(None),
+        Some("handshake") => Some(Some(TracedPart::Handshake)),
+        Some("transport") => Some(Some(TracedPart::Transport)),
+        Some(_) => None,
+    }
+}
+
+// The role that `--role` names, if it is given, or None where it names no role.
+fn role_in(found: &ArgMatches<'_>) -> Option<Option<TracedRole>>
+    ensures { option_map (option_map role_text) result ≡ choice_in (rows_of (found_of found.now)) role_choice }
+{
+    match found.get_str(ROLE.name) {
+        None => Some(None),
+        Some("initiator") => Some(Some(TracedRole::Initiator)),
+        Some("responder") => Some(Some(TracedRole::Responder)),
+        Some(_) => None,
+    }
+}
+
+/// What is wrong with the value of an option of `trace`, as `clap` says it, where one is wrong.
+pub fn wrong_choice(alloc: Global, matches: &ArgMatches<'_>) -> Result<Option<String>, AllocError> {
+    let Some((_, found)) = matches.subcommand() else {
+        return Ok(None);
+    };
+    if part_in(found).is_none() {
+        return wrong(
+            alloc,
+            found.get_str(ONLY.name),
+            "--only <PART>",
+            "handshake, transport",
+        );
+    }
+    if role_in(found).is_none() {
+        return wrong(
+            alloc,
+            found.get_str(ROLE.name),
+            "--role <ROLE>",
+            "initiator, responder",
+        );
+    }
+    Ok(None)
+}
+
+fn wrong(
+    alloc: Global,
+    given: Option<&str>,
+    option: &str,
+    values: &str,
+) -> Result<Option<String>, AllocError> {
+    match given {
+        Some(word) => Ok(Some(format!(in alloc;
+            "invalid value '{word}' for '{option}'\n  [possible values: {values}]"
+        )?)),
+        None => Ok(None),
+    }
+}
