@@ -191,7 +191,7 @@ class End:
                 if answer is None:
                     self.phase = "ended"
                     self.say(f"unwritten {self.role} agreement {number}")
-                    self.show_steps(shown)
+                    self.show_steps([(*step[:4], b"", step[5]) for step in shown])    # no message is there to show bytes of
                     return None
                 state.mix_key(answer)
             shown.append((number, token, call, len(message), piece, state.copy()))
