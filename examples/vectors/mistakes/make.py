@@ -105,9 +105,10 @@ class Party:
         is_padded = len(name) <= 32 and mistake != "name-hashed"
         self.hash = name.ljust(32, b"\0") if is_padded else hashlib.sha256(name).digest()
         self.chaining_key = self.hash
+        self.write_log("name")
         if mistake != "empty-prologue":
             self.mix_hash(b"")
-        self.write_log("start")
+        self.write_log("prologue")
 
     def write_log(self, token: str) -> None:
         """A line of the log: the token, h, ck, k (or -), n."""
