@@ -10,7 +10,7 @@ use Rattle.noise_handshake.specs.declared.faults.Cause.{Cause}
 use Rattle.noise_handshake.specs.Held.{is_turn}
 use Rattle.noise_handshake.specs.Party.{after_message, after_own}
 use Rattle.noise_handshake.specs.View.{Accepts, Refuses}
-use Rattle.noise_handshake.specs.Writing.{Lacks, Writes}
+use Rattle.noise_handshake.specs.Writing.{LacksAnswer, Writes}
 use Rattle.noise_session.specs.declared.faults.SendFault.{SendFault}
 use Rattle.noise_session.specs.declared.faults.SendFault.TheVariants as fault
 use Rattle.noise_session.specs.Ends.{EndView, closed, progress_of}
@@ -129,9 +129,12 @@ module _ (old new : Trace) (m : Moment) where
       let done = handshake s.view xs payload follows (subst (λ (z : List ℕ). Writes s.view.party payload xs z) (sym is) w) in
       (done.0, subst IsCounted (sym done.0) tt, done.1)
   wrote-shown message number handshake transport s next payload note (writes_transport _ text _ free opens spelled) follows told is =
-      let done = transport s.view payload follows free opens in
-      (done.0, subst IsCounted (sym done.0) 
-      (counted-passed s.view.party.history s.view.party.role s.view.interval s.view.sent (sent-free s.view (length payload) free opens)), done.1)
+      let done = transport s.view payload follows free opens in (
+        done.0,
+        subst IsCounted (sym done.0)
+            (counted-passed s.view.party.history s.view.party.role s.view.interval s.view.sent (sent-free s.view (length payload) free opens)),
+        done.1,
+      )
 
 fault-same : (x y : SendFault) → WriteFault x ≡ WriteFault y → x ≡ y
 fault-same x y e = cc
@@ -154,7 +157,7 @@ module _ (t : Trace) (closes : Closes t) where
   -- a payload for which there is no DH answer
   unsent-lacking : (m : Moment) (v next : EndView) (payload : List ℕ) (told : Result (List ℕ) SendFault) (sends : Sends v payload told next) (token : ℕ)
       → told ≡ Err (fault.Agreement token) → Follow t v
-      → ((w : EndView) → Follow t w → (lacks : Lacks w.party token) → shown m ≡ stopped_moment w token lacks.lacks.before)
+      → ((w : EndView) → Follow t w → (lacks : LacksAnswer w.party token) → shown m ≡ stopped_moment w token lacks.lacks.before)
       → Has (shown m) (unsent_moment v next payload told sends) t next
   unsent-lacking m v next payload told (refuses _ _ why declined) token is follows clause =
       let same : why ≡ fault.Agreement token = cc in
@@ -162,7 +165,7 @@ module _ (t : Trace) (closes : Closes t) where
   unsent-lacking m v next payload told (lacks_answer _ _ actual free lacks) token is follows clause =
       let same : fault.Agreement token ≡ fault.Agreement actual = cc in
       let here : shown m ≡ stopped_moment v actual lacks.lacks.before =
-      subst (λ (k : ℕ). (l : Lacks v.party k) → shown m ≡ stopped_moment v k l.lacks.before) (token-same token actual same) (clause v follows) lacks in
+      subst (λ (k : ℕ). (l : LacksAnswer v.party k) → shown m ≡ stopped_moment v k l.lacks.before) (token-same token actual same) (clause v follows) lacks in
       (here, subst IsCounted (sym here) tt, closes v follows)
   unsent-lacking m v next payload told (sends_handshake _ _ text xs free w) token is follows clause = absurd (cc is)
   unsent-lacking m v next payload told (sends_transport _ _ free opens) token is follows clause = absurd (cc is)
@@ -177,7 +180,7 @@ module _ (t : Trace) (closes : Closes t) where
   unsent-refused v next payload told (sends_transport _ _ free opens) why is not_lacking follows = absurd (cc is)
 
   pub withheld-shown : (m : Moment) (token : ℕ)
-      → ((w : EndView) → Follow t w → (lacks : Lacks w.party token) → shown m ≡ stopped_moment w token lacks.lacks.before)
+      → ((w : EndView) → Follow t w → (lacks : LacksAnswer w.party token) → shown m ≡ stopped_moment w token lacks.lacks.before)
       → (s next : Side) (payload : List ℕ) (note : Note) (w : SideWrites s payload note next) → Follow t s.view
       → WriteFault (fault.Agreement token) ≡ note → Has (shown m) (written_moment s next payload note w) t next.view
   withheld-shown m token clause s next payload note (writes_nothing _ _ why after sends) follows told =
@@ -218,8 +221,12 @@ module _ (old new : Trace) (m : Moment) where
       let done = handshake s.view xs payload follows (subst (λ (z : List ℕ). Accepts s.view.party z xs payload) (sym is) accepts) in
       (done.0, subst IsCounted (sym done.0) tt, done.1)
   took-shown given message bytes is handshake transport s next step (accepts_transport _ _ payload opens more spelled) follows told =
-      let done = transport s.view follows opens more in (done.0, subst IsCounted (sym done.0) 
-      (counted-passed s.view.party.history (other s.view.party.role) s.view.interval s.view.received more), done.1)
+      let done = transport s.view follows opens more in (
+        done.0,
+        subst IsCounted (sym done.0)
+            (counted-passed s.view.party.history (other s.view.party.role) s.view.interval s.view.received more),
+        done.1,
+      )
   took-shown given message bytes is handshake transport s next step (refuses_message _ _ _ after gives judges) follows told =
       let same : Payload bytes ≡ step = cc in
       absurd (subst (λ (z : Told). GivesNoPayload z) (sym same) gives)

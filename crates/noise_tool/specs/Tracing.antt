@@ -182,4 +182,4 @@ pub record IsTraceOf (kept : Kept) (file : VectorFile) (lines traced : List (Lis
   pub lines_are : lines ≡ map (note_line last) notes ++ after
   pub traced_are : traced ≡ start_traces kept file plan
       ++ woven lines (run_traces kept (facing_in file plan) last (events_of file.events.items) notes run
-          ++ last_traces kept (datagrams_in file.version) last after are_last)
+      ++ last_traces kept (datagrams_in file.version) last after are_last)
