@@ -145,7 +145,12 @@ impl<A: Keys, B: Keys> Duel<A, B> {
 
     /// Runs one event, and adds what comes of it to the report of the events before it: frames that are written, and entries. Where memory runs out,
     /// part of both may be there.
-    pub fn apply(&mut self, alloc: Global, event: &Event, report: &mut Report) -> Result<(), AllocError>
+    pub fn apply(
+        &mut self,
+        alloc: Global,
+        event: &Event,
+        report: &mut Report,
+    ) -> Result<(), AllocError>
         ensures { (d : Sides) → DuelStands A.public_of A.agreement B.public_of B.agreement self.old d → HasFrames report.old d
             → OnOk result (HasHappened A.public_of A.agreement B.public_of B.agreement d (event_of event.now) self.new report.old report.new) }
     {

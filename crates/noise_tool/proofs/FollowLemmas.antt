@@ -1,12 +1,11 @@
 -- The key schedule of an end after a message.
-use Rattle.std.proofs.Common.{◌≡◌, ◌∙◌, refl, sym, ap, ap₂, subst, ℕ, Bool, true, false, List, [], ◌∷◌, Vec, Result, Ok, Err, IfOk, drop, length}
+use Rattle.std.proofs.Common.{◌≡◌, ◌∙◌, refl, sym, ap, ap₂, subst, ℕ, Bool, true, false, List, [], Vec, Result, Err, IfOk, drop, length}
 use Rattle.std.specs.Global.{Global}
 use Rattle.std.specs.Prelude.{if◌then◌else◌}
 use Rattle.std.proofs.lemmas.Result.{IfOk-weaker}
 use Rattle.std.proofs.lemmas.List.{drop_at}
 use Rattle.byteorder.specs.Endian.{big_bytes}
-use Rattle.noise_names.specs.Plan.{Plan, has_psk}
-use Rattle.noise_names.specs.declared.token.Role.{Role}
+use Rattle.noise_names.specs.Plan.{has_psk}
 use Rattle.noise_session.specs.declared.faults.SendFault.{SendFault}
 use Rattle.noise_session.specs.declared.faults.SendFault.TheVariants.{Agreement}
 use Rattle.noise_session.specs.Ends.{EndView, closed}
@@ -110,8 +109,8 @@ pub read-lines : {E : Type 0} (kept : Kept) (t : TracedEnd) (end : EndTrace File
 read-lines kept t end given act message text m s next step r result shows is acts abouts seen made =
     IfOk-weaker result _ _ (λ lines h. (
       h
-      ∙ ap₂ (λ (a : About) (z : List ℕ). moment_lines kept a z m) (abouts ∙ ap (λ (x : Act). about t.role s.view x) acts) is
-      ∙ ap (λ (x : Shown). moment_lines kept (about t.role s.view (act_of step)) text x) seen.0,
+          ∙ ap₂ (λ (a : About) (z : List ℕ). moment_lines kept a z m) (abouts ∙ ap (λ (x : Act). about t.role s.view x) acts) is
+          ∙ ap (λ (x : Shown). moment_lines kept (about t.role s.view (act_of step)) text x) seen.0,
       record {
         psks = shows.psks ∙ ap has_psk (sym (read-pattern s next text step r));
         follows = seen.2;
@@ -127,8 +126,8 @@ pub write-lines : {E : Type 0} (kept : Kept) (t : TracedEnd) (end : EndTrace Fil
 write-lines kept t end given message m s next payload note w result stands is abouts seen made =
     IfOk-weaker result _ _ (λ lines h. (
       h
-      ∙ ap₂ (λ (a : About) (z : List ℕ). moment_lines kept a z m) abouts is
-      ∙ ap (λ (x : Shown). moment_lines kept (about t.role s.view Writing) (written_message s next payload note w) x) seen.0,
+          ∙ ap₂ (λ (a : About) (z : List ℕ). moment_lines kept a z m) abouts is
+          ∙ ap (λ (x : Shown). moment_lines kept (about t.role s.view Writing) (written_message s next payload note w) x) seen.0,
       record {
         psks = stands.shows.psks ∙ ap has_psk (sym (written-pattern s next payload note w));
         follows = seen.2;

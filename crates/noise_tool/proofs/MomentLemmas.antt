@@ -1,8 +1,8 @@
 -- What is shown of a message, by what the note of it says.
-use Rattle.std.proofs.Common.{◌≡◌, ◌≢◌, ◌∙◌, ◌⊎◌, inl, inr, ◌+◌, ◌==◌, ◌&&◌, refl, sym, ap, subst, arith, ℕ, Bool, true, false, List, [], ◌∷◌, length, Option, Some, None, Result, Ok, Err, IsTrue, Vec, nat_lt, not}
+use Rattle.std.proofs.Common.{◌≡◌, ◌≢◌, ◌∙◌, ◌⊎◌, inl, inr, ◌+◌, ◌==◌, ◌&&◌, refl, sym, ap, subst, arith, ℕ, Bool, true, false, List, [], length, Option, Some, None, Result, Err, IsTrue, Vec, nat_lt, not}
 use Rattle.std.specs.Prelude.{if◌then◌else◌}
 use Rattle.noise_names.specs.declared.token.Role.{Role}
-use Rattle.noise_names.specs.declared.token.Role.TheVariants.{Initiator, Responder}
+use Rattle.noise_names.specs.declared.token.Role.TheVariants.{Responder}
 use Rattle.noise_names.specs.Plan.{Plan, is_one_way}
 use Rattle.noise_names.specs.Tokens.{same_role}
 use Rattle.noise_names.specs.Overhead.{overhead_of}
@@ -17,7 +17,7 @@ use Rattle.noise_session.specs.Ends.{EndView, closed, progress_of}
 use Rattle.noise_session.specs.Faults.{ends}
 use Rattle.noise_session.specs.Progress.{Progress, is_open, refusal}
 use Rattle.noise_session.specs.Progress.Progress.{Handshaking, Open, Closed}
-use Rattle.noise_session.specs.Sending.{Sends, after_fault}
+use Rattle.noise_session.specs.Sending.{Sends}
 use Rattle.noise_session.specs.Sending.Sends.{refuses, lacks_answer, sends_handshake, sends_transport}
 use Rattle.noise_session.specs.Steps.{Told}
 use Rattle.noise_session.specs.Steps.Told.{Payload, Dropped, Refused, Exhausted}
@@ -30,7 +30,7 @@ use Rattle.noise_session_trace.specs.declared.moment.Moment.{Moment}
 use Rattle.noise_session_trace.specs.declared.trace.EndTrace.{EndTrace}
 use Rattle.noise_session_trace.specs.Following.{EndFollows}
 use Rattle.noise_session_trace.specs.Moments.{Shown, message_moment, opened_moment, passed_moment, renewed_after, sent_moment, shown, stopped_moment, tried_moment}
-use Rattle.noise_session_trace.specs.Moments.Shown.{Nothing, Message, Transport}
+use Rattle.noise_session_trace.specs.Moments.Shown.{Nothing, Transport}
 use Rattle.std.specs.Global.{Global}
 use Rattle.noise_duel.specs.declared.entry.Entry.{Entry}
 use Rattle.noise_duel.specs.declared.entry.Entry.TheVariants as entry
@@ -129,9 +129,12 @@ module _ (old new : Trace) (m : Moment) where
       let done = handshake s.view xs payload follows (subst (λ (z : List ℕ). Writes s.view.party payload xs z) (sym is) w) in
       (done.0, subst IsCounted (sym done.0) tt, done.1)
   wrote-shown message number handshake transport s next payload note (writes_transport _ text _ free opens spelled) follows told is =
-      let done = transport s.view payload follows free opens in
-      (done.0, subst IsCounted (sym done.0) 
-      (counted-passed s.view.party.history s.view.party.role s.view.interval s.view.sent (sent-free s.view (length payload) free opens)), done.1)
+      let done = transport s.view payload follows free opens in (
+        done.0,
+        subst IsCounted (sym done.0)
+            (counted-passed s.view.party.history s.view.party.role s.view.interval s.view.sent (sent-free s.view (length payload) free opens)),
+        done.1,
+      )
 
 fault-same : (x y : SendFault) → WriteFault x ≡ WriteFault y → x ≡ y
 fault-same x y e = cc
@@ -218,8 +221,12 @@ module _ (old new : Trace) (m : Moment) where
       let done = handshake s.view xs payload follows (subst (λ (z : List ℕ). Accepts s.view.party z xs payload) (sym is) accepts) in
       (done.0, subst IsCounted (sym done.0) tt, done.1)
   took-shown given message bytes is handshake transport s next step (accepts_transport _ _ payload opens more spelled) follows told =
-      let done = transport s.view follows opens more in (done.0, subst IsCounted (sym done.0) 
-      (counted-passed s.view.party.history (other s.view.party.role) s.view.interval s.view.received more), done.1)
+      let done = transport s.view follows opens more in (
+        done.0,
+        subst IsCounted (sym done.0)
+            (counted-passed s.view.party.history (other s.view.party.role) s.view.interval s.view.received more),
+        done.1,
+      )
   took-shown given message bytes is handshake transport s next step (refuses_message _ _ _ after gives judges) follows told =
       let same : Payload bytes ≡ step = cc in
       absurd (subst (λ (z : Told). GivesNoPayload z) (sym same) gives)

@@ -1,5 +1,5 @@
 -- Bytes that come to an end, entry by entry.
-use Rattle.std.proofs.Common.{◌≡◌, ◌∙◌, ◌+◌, ◌-◌, ◌≤◌, ◌⊎◌, inl, inr, refl, sym, ap, ap₂, subst, arith, ℕ, suc, List, [], ◌∷◌, ◌++◌, length, take, map, Vec, append_assoc, append-nil, length-append, Some, None}
+use Rattle.std.proofs.Common.{◌≡◌, ◌∙◌, ◌+◌, ◌-◌, ◌≤◌, ◌⊎◌, inl, inr, refl, sym, ap, ap₂, subst, arith, ℕ, suc, List, [], ◌∷◌, ◌++◌, length, take, Vec, append_assoc, append-nil, length-append, Some}
 use Rattle.std.specs.Global.{Global}
 use Rattle.std.proofs.lemmas.List.{take_at}
 use Rattle.noise_names.specs.declared.token.Role.{Role}
@@ -73,6 +73,7 @@ first-note role other n m ns ms e =
     note-of : Note → List (Role × Note) → Note
     note-of d [] = d
     note-of d (x ∷ xs) = x.1
+
     rest-of : List (Role × Note) → List (Role × Note)
     rest-of [] = []
     rest-of (x ∷ xs) = xs
@@ -82,88 +83,88 @@ module _ (kept : Kept) (own role : Role) (t u : TracedEnd) (rest message after :
     (holds : HoldsAny u)
     -- what is taken of the bytes
     (splits : (text later : List ℕ) (step : Told) → note ≡ Judged step → rest ≡ frame text ++ later → length text ≤ 65535
-      → (message ≡ text) × (after ≡ later))
+    → (message ≡ text) × (after ≡ later))
     (drops : (step : Told) (n : ℕ) → note ≡ Left step n → after ≡ take (length rest - n) rest)
     (keeps : (n : ℕ) → note ≡ Held n → after ≡ rest)
     -- the lines
     (reads : (s next : Side) (text : List ℕ) (step : Told) (r : SideReads s text step next) → Shows t s.view → message ≡ text → note ≡ Judged step
-      → (lines ≡ read_trace kept own s next text step r) × Shows u next.view)
+    → (lines ≡ read_trace kept own s next text step r) × Shows u next.view)
     (none : (v : EndView) → Shows t v → IsOfNoFrame note → (lines ≡ []) × Shows u v)
     (pushed : now ≡ so_far ++ lines ∷ [])
-    where
-  -- the lines of the first of those that are left
-  grown : (first : List (List ℕ)) (others : Traces) → lines ≡ first → so_far ++ (first ∷ others) ≡ whole → now ++ others ≡ whole
-  grown first others is inv =
-      ap (λ (xs : Traces). xs ++ others) pushed ∙ append_assoc so_far (lines ∷ []) others
-      ∙ ap (λ (x : List (List ℕ)). so_far ++ (x ∷ others)) is ∙ inv
+  where
+    -- the lines of the first of those that are left
+    grown : (first : List (List ℕ)) (others : Traces) → lines ≡ first → so_far ++ (first ∷ others) ≡ whole → now ++ others ≡ whole
+    grown first others is inv =
+        ap (λ (xs : Traces). xs ++ others) pushed ∙ append_assoc so_far (lines ∷ []) others
+        ∙ ap (λ (x : List (List ℕ)). so_far ++ (x ∷ others)) is ∙ inv
 
-  -- so many bytes are held, at the end
-  held-last : (reader s : Side) → (bytes : List ℕ) → Shows t s.view → (held : List ℕ) → rest ≡ held → reader.view ≡ record (s.view) { held = held }
-      → (by, note) ∷ more ≡ noted_by role (held_note (length held)) → so_far ++ blanks (held_note (length held)) ≡ whole
-      → Finished reader u after more now whole
-  held-last reader s bytes shows [] is view left inv = absurd (cc left)
-  held-last reader s bytes shows (b ∷ bs) is view left inv =
-      let two = first-note by role note (Held (suc (length bs))) more [] left in
-      let no_frame : IsOfNoFrame note = subst IsOfNoFrame (sym two.0) tt in
-      let made = none s.view shows no_frame in
-      record {
-        shows = subst (λ (v : EndView). Shows u v) (sym view) (holds s.view (b ∷ bs) made.1);
-        rest_is = keeps (suc (length bs)) two.0 ∙ is ∙ ap (λ (v : EndView). v.held) (sym view);
-        left_is = two.1;
-        whole_is = sym (append-nil now) ∙ grown [] [] made.0 inv;
-      }
+    -- so many bytes are held, at the end
+    held-last : (reader s : Side) → (bytes : List ℕ) → Shows t s.view → (held : List ℕ) → rest ≡ held → reader.view ≡ record (s.view) { held = held }
+        → (by, note) ∷ more ≡ noted_by role (held_note (length held)) → so_far ++ blanks (held_note (length held)) ≡ whole
+        → Finished reader u after more now whole
+    held-last reader s bytes shows [] is view left inv = absurd (cc left)
+    held-last reader s bytes shows (b ∷ bs) is view left inv =
+        let two = first-note by role note (Held (suc (length bs))) more [] left in
+        let no_frame : IsOfNoFrame note = subst IsOfNoFrame (sym two.0) tt in
+        let made = none s.view shows no_frame in
+        record {
+          shows = subst (λ (v : EndView). Shows u v) (sym view) (holds s.view (b ∷ bs) made.1);
+          rest_is = keeps (suc (length bs)) two.0 ∙ is ∙ ap (λ (v : EndView). v.held) (sym view);
+          left_is = two.1;
+          whole_is = sym (append-nil now) ∙ grown [] [] made.0 inv;
+        }
 
-  idle-step : (reader s : Side) (bytes : List ℕ) (step : Told) (idle : idle_step (progress_of s.view) ≡ Some step) → reader ≡ s → Shows t s.view
-      → rest ≡ s.view.held ++ bytes → (by, note) ∷ more ≡ noted_by role (left_note step (length bytes) ++ held_note (length s.view.held))
-      → so_far ++ (blanks (left_note step (length bytes)) ++ blanks (held_note (length s.view.held))) ≡ whole
-      → Remains kept own role reader u after more now whole
-  idle-step reader s [] step idle same shows rest_is left inv =
-      inr (held-last reader s [] shows s.view.held (rest_is ∙ append-nil s.view.held) (ap (λ (r : Side). r.view) same) left inv)
-  idle-step reader s (b ∷ bs) step idle same shows rest_is left inv =
-      let two = first-note by role note (Left step (suc (length bs))) more (noted_by role (held_note (length s.view.held))) left in
-      let no_frame : IsOfNoFrame note = subst IsOfNoFrame (sym two.0) tt in
-      let made = none s.view shows no_frame in
-      let long : length rest ≡ length s.view.held + suc (length bs) = ap length rest_is ∙ length-append s.view.held (b ∷ bs) in
-      let count : length rest - suc (length bs) ≡ length s.view.held = omega arith in
-      let taken : after ≡ s.view.held =
-      drops step (suc (length bs)) two.0 ∙ ap₂ take count rest_is ∙ take_at s.view.held (b ∷ bs) (length s.view.held) refl in
-      inl (subst (λ (r : Side). Reading kept own role r u after more now whole) (sym same) (record {
-        s = s;
-        bytes = [];
-        heard = [];
-        receives = is_idle s [] step idle;
-        shows = made.1;
-        rest_is = taken ∙ sym (append-nil s.view.held);
-        left_is = two.1;
-        whole_is = grown [] (blanks (held_note (length s.view.held))) made.0 inv;
-      }))
+    idle-step : (reader s : Side) (bytes : List ℕ) (step : Told) (idle : idle_step (progress_of s.view) ≡ Some step) → reader ≡ s → Shows t s.view
+        → rest ≡ s.view.held ++ bytes → (by, note) ∷ more ≡ noted_by role (left_note step (length bytes) ++ held_note (length s.view.held))
+        → so_far ++ (blanks (left_note step (length bytes)) ++ blanks (held_note (length s.view.held))) ≡ whole
+        → Remains kept own role reader u after more now whole
+    idle-step reader s [] step idle same shows rest_is left inv =
+        inr (held-last reader s [] shows s.view.held (rest_is ∙ append-nil s.view.held) (ap (λ (r : Side). r.view) same) left inv)
+    idle-step reader s (b ∷ bs) step idle same shows rest_is left inv =
+        let two = first-note by role note (Left step (suc (length bs))) more (noted_by role (held_note (length s.view.held))) left in
+        let no_frame : IsOfNoFrame note = subst IsOfNoFrame (sym two.0) tt in
+        let made = none s.view shows no_frame in
+        let long : length rest ≡ length s.view.held + suc (length bs) = ap length rest_is ∙ length-append s.view.held (b ∷ bs) in
+        let count : length rest - suc (length bs) ≡ length s.view.held = omega arith in
+        let taken : after ≡ s.view.held =
+        drops step (suc (length bs)) two.0 ∙ ap₂ take count rest_is ∙ take_at s.view.held (b ∷ bs) (length s.view.held) refl in
+        inl (subst (λ (r : Side). Reading kept own role r u after more now whole) (sym same) (record {
+          s = s;
+          bytes = [];
+          heard = [];
+          receives = is_idle s [] step idle;
+          shows = made.1;
+          rest_is = taken ∙ sym (append-nil s.view.held);
+          left_is = two.1;
+          whole_is = grown [] (blanks (held_note (length s.view.held))) made.0 inv;
+        }))
 
-  -- one entry more
-  pub one-entry : (reader s : Side) (bytes : List ℕ) (heard : List Note) (x : SideReceives s bytes heard reader) → Shows t s.view
-      → rest ≡ s.view.held ++ bytes → (by, note) ∷ more ≡ noted_by role (heard ++ held_note (length reader.view.held))
-      → so_far ++ came_traces kept own s reader bytes heard x ≡ whole → Remains kept own role reader u after more now whole
-  one-entry reader s bytes heard (is_idle _ _ step idle) shows rest_is left inv = idle-step reader s bytes step idle refl shows rest_is left inv
-  one-entry reader s bytes heard (waits _ _ listens part) shows rest_is left inv =
-      inr (held-last reader s bytes shows (s.view.held ++ bytes) rest_is refl left inv)
-  one-entry reader s bytes heard (reads_frame _ next _ _ text later step notes listens cut fits r tail) shows rest_is left inv =
-      let two = first-note by role note (Judged step) more (noted_by role (notes ++ held_note (length reader.view.held))) left in
-      let split = splits text later step two.0 (rest_is ∙ cut) fits in
-      let made = reads s next text step r shows split.0 two.0 in
-      inl (record {
-        s = next;
-        bytes = later;
-        heard = notes;
-        receives = tail;
-        shows = made.1;
-        rest_is = split.1 ∙ ap (λ (h : List ℕ). h ++ later) (sym (read-empties s next text step r));
-        left_is = two.1;
-        whole_is = grown (read_trace kept own s next text step r) (came_traces kept own next reader later notes tail) made.0 inv;
-      })
+    -- one entry more
+    pub one-entry : (reader s : Side) (bytes : List ℕ) (heard : List Note) (x : SideReceives s bytes heard reader) → Shows t s.view
+        → rest ≡ s.view.held ++ bytes → (by, note) ∷ more ≡ noted_by role (heard ++ held_note (length reader.view.held))
+        → so_far ++ came_traces kept own s reader bytes heard x ≡ whole → Remains kept own role reader u after more now whole
+    one-entry reader s bytes heard (is_idle _ _ step idle) shows rest_is left inv = idle-step reader s bytes step idle refl shows rest_is left inv
+    one-entry reader s bytes heard (waits _ _ listens part) shows rest_is left inv =
+        inr (held-last reader s bytes shows (s.view.held ++ bytes) rest_is refl left inv)
+    one-entry reader s bytes heard (reads_frame _ next _ _ text later step notes listens cut fits r tail) shows rest_is left inv =
+        let two = first-note by role note (Judged step) more (noted_by role (notes ++ held_note (length reader.view.held))) left in
+        let split = splits text later step two.0 (rest_is ∙ cut) fits in
+        let made = reads s next text step r shows split.0 two.0 in
+        inl (record {
+          s = next;
+          bytes = later;
+          heard = notes;
+          receives = tail;
+          shows = made.1;
+          rest_is = split.1 ∙ ap (λ (h : List ℕ). h ++ later) (sym (read-empties s next text step r));
+          left_is = two.1;
+          whole_is = grown (read_trace kept own s next text step r) (came_traces kept own next reader later notes tail) made.0 inv;
+        })
 
-  pub entry-step : (reader : Side) (left : List (Role × Note)) → left ≡ (by, note) ∷ more → Remains kept own role reader t rest left so_far whole
-      → Remains kept own role reader u after more now whole
-  entry-step reader left is (inl r) = one-entry reader r.s r.bytes r.heard r.receives r.shows r.rest_is (sym is ∙ r.left_is) r.whole_is
-  entry-step reader left is (inr f) = let bad = sym is ∙ f.left_is in absurd (cc bad)
+    pub entry-step : (reader : Side) (left : List (Role × Note)) → left ≡ (by, note) ∷ more → Remains kept own role reader t rest left so_far whole
+        → Remains kept own role reader u after more now whole
+    entry-step reader left is (inl r) = one-entry reader r.s r.bytes r.heard r.receives r.shows r.rest_is (sym is ∙ r.left_is) r.whole_is
+    entry-step reader left is (inr f) = let bad = sym is ∙ f.left_is in absurd (cc bad)
 
 -- ---- the end
 

@@ -68,7 +68,10 @@ pub fn make_ends(
 }
 
 // The pattern that a file spells, or else that of its protocol's name.
-pub(crate) fn valid_pattern(block: Option<Pattern>, name: &ProtocolName) -> Result<ValidPattern, Fault>
+pub(crate) fn valid_pattern(
+    block: Option<Pattern>,
+    name: &ProtocolName,
+) -> Result<ValidPattern, Fault>
     ensures pattern { IfOk result (λ pattern. IsPatternOf block name.now pattern) }
     ensures valid { IfOk result (λ pattern. IsValid pattern) }
     ensures fault { IfErr result (λ fault. IsPatternFault block name.now fault) }

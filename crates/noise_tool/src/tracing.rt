@@ -108,11 +108,7 @@ fn goes_over(duel: &Duel<FileKeys, FileKeys>, version: &Version) -> bool
 }
 
 // The lines of the keys of datagrams.
-fn datagram_keys(
-    alloc: Global,
-    kept: Kept,
-    ends: &TracedEnds,
-) -> Result<Vec<Vec<u8>>, AllocError>
+fn datagram_keys(alloc: Global, kept: Kept, ends: &TracedEnds) -> Result<Vec<Vec<u8>>, AllocError>
     ensures { (d : Sides) → EndsTraced ends.now d → AreOver d → IfOk result (λ lines. bytes_of lines.items
         ≡ datagram_keys_of kept Initiator d.initiator.view ++ datagram_keys_of kept Responder d.responder.view) }
 {

@@ -110,12 +110,12 @@ returns-clause-ends c =
       };
       lines =
           c.in_ok-lines.ensures (length file.psks.items)
-              (ap (λ (r : Remote). setup_fault plan Initiator (public_of file.initiator) r (length file.psks.items)) known ∙ none)
-              (ap (λ (r : Remote). setup_fault plan Responder (public_of file.responder) r (length file.psks.items)) known-2 ∙ none-2)
+          (ap (λ (r : Remote). setup_fault plan Initiator (public_of file.initiator) r (length file.psks.items)) known ∙ none)
+          (ap (λ (r : Remote). setup_fault plan Responder (public_of file.responder) r (length file.psks.items)) known-2 ∙ none-2)
           ∙ ap₂ (λ (t : List ℕ) (r : Remote). start_lines_of c.args.kept Initiator plan t file.initiator r
-              ++ start_lines_of c.args.kept Responder plan t file.responder c.known_before-of_initiator.result) shown known
+          ++ start_lines_of c.args.kept Responder plan t file.responder c.known_before-of_initiator.result) shown known
           ∙ ap (λ (r : Remote). start_lines_of c.args.kept Initiator plan file.prologue.items file.initiator (known_before plan Responder (public_of file.responder))
-              ++ start_lines_of c.args.kept Responder plan file.prologue.items file.responder r) known-2;
+          ++ start_lines_of c.args.kept Responder plan file.prologue.items file.responder r) known-2;
       events = refl;
       version = refl;
     }
