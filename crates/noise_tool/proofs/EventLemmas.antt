@@ -10,7 +10,7 @@ use Rattle.noise_session.specs.Frames.{frame}
 use Rattle.noise_duel.specs.declared.entry.Entry.{Entry}
 use Rattle.noise_duel.specs.declared.entry.Entry.TheVariants as entry
 use Rattle.noise_duel.specs.Entries.{note_of, notes_of}
-use Rattle.noise_duel.specs.Notes.{Note, Missing, Wrote, WriteFault, held_note, noted_by}
+use Rattle.noise_duel.specs.Notes.{Note, Wrote, WriteFault, held_note, noted_by}
 use Rattle.noise_duel.specs.Runs.{Happens, SideReceives, SideWrites}
 use Rattle.noise_duel.specs.Runs.Happens.{writes, says_nothing, says, delivers, misses, injects}
 use Rattle.noise_duel.specs.Runs.SideWrites.{writes_nothing, writes_handshake, writes_transport}

@@ -1,5 +1,5 @@
 -- The lines that are kept.
-use Rattle.std.proofs.Common.{◌≡◌, ◌≢◌, ◌∙◌, ◌+◌, ◌-◌, ◌<◌, ◌^◌, refl, sym, ap, ap₂, subst, arith, ℕ, Bool, true, List, [], ◌∷◌, ◌++◌, Option, Some, None, codes, append_assoc, append-nil}
+use Rattle.std.proofs.Common.{◌≡◌, ◌≢◌, ◌∙◌, ◌+◌, sym, ap, ap₂, ℕ, Bool, true, List, [], ◌∷◌, ◌++◌, Option, Some, None, codes, append_assoc}
 use Rattle.noise_session.specs.Transport.{last_nonce}
 use Rattle.noise_session_trace.specs.Moments.Shown.{Transport}
 use Rattle.noise_tool.specs.Kept.{keeps_transport, only_if}

@@ -1,8 +1,8 @@
 -- What is shown of a message, by what the note of it says.
-use Rattle.std.proofs.Common.{◌≡◌, ◌≢◌, ◌∙◌, ◌⊎◌, inl, inr, ◌+◌, ◌==◌, ◌&&◌, refl, sym, ap, subst, arith, ℕ, Bool, true, false, List, [], ◌∷◌, length, Option, Some, None, Result, Ok, Err, IsTrue, Vec, nat_lt, not}
+use Rattle.std.proofs.Common.{◌≡◌, ◌≢◌, ◌∙◌, ◌⊎◌, inl, inr, ◌+◌, ◌==◌, ◌&&◌, refl, sym, ap, subst, arith, ℕ, Bool, true, false, List, [], length, Option, Some, None, Result, Err, IsTrue, Vec, nat_lt, not}
 use Rattle.std.specs.Prelude.{if◌then◌else◌}
 use Rattle.noise_names.specs.declared.token.Role.{Role}
-use Rattle.noise_names.specs.declared.token.Role.TheVariants.{Initiator, Responder}
+use Rattle.noise_names.specs.declared.token.Role.TheVariants.{Responder}
 use Rattle.noise_names.specs.Plan.{Plan, is_one_way}
 use Rattle.noise_names.specs.Tokens.{same_role}
 use Rattle.noise_names.specs.Overhead.{overhead_of}
@@ -17,7 +17,7 @@ use Rattle.noise_session.specs.Ends.{EndView, closed, progress_of}
 use Rattle.noise_session.specs.Faults.{ends}
 use Rattle.noise_session.specs.Progress.{Progress, is_open, refusal}
 use Rattle.noise_session.specs.Progress.Progress.{Handshaking, Open, Closed}
-use Rattle.noise_session.specs.Sending.{Sends, after_fault}
+use Rattle.noise_session.specs.Sending.{Sends}
 use Rattle.noise_session.specs.Sending.Sends.{refuses, lacks_answer, sends_handshake, sends_transport}
 use Rattle.noise_session.specs.Steps.{Told}
 use Rattle.noise_session.specs.Steps.Told.{Payload, Dropped, Refused, Exhausted}
@@ -30,7 +30,7 @@ use Rattle.noise_session_trace.specs.declared.moment.Moment.{Moment}
 use Rattle.noise_session_trace.specs.declared.trace.EndTrace.{EndTrace}
 use Rattle.noise_session_trace.specs.Following.{EndFollows}
 use Rattle.noise_session_trace.specs.Moments.{Shown, message_moment, opened_moment, passed_moment, renewed_after, sent_moment, shown, stopped_moment, tried_moment}
-use Rattle.noise_session_trace.specs.Moments.Shown.{Nothing, Message, Transport}
+use Rattle.noise_session_trace.specs.Moments.Shown.{Nothing, Transport}
 use Rattle.std.specs.Global.{Global}
 use Rattle.noise_duel.specs.declared.entry.Entry.{Entry}
 use Rattle.noise_duel.specs.declared.entry.Entry.TheVariants as entry

@@ -1,5 +1,5 @@
 -- Bytes that come to an end, entry by entry.
-use Rattle.std.proofs.Common.{◌≡◌, ◌∙◌, ◌+◌, ◌-◌, ◌≤◌, ◌⊎◌, inl, inr, refl, sym, ap, ap₂, subst, arith, ℕ, suc, List, [], ◌∷◌, ◌++◌, length, take, map, Vec, append_assoc, append-nil, length-append, Some, None}
+use Rattle.std.proofs.Common.{◌≡◌, ◌∙◌, ◌+◌, ◌-◌, ◌≤◌, ◌⊎◌, inl, inr, refl, sym, ap, ap₂, subst, arith, ℕ, suc, List, [], ◌∷◌, ◌++◌, length, take, Vec, append_assoc, append-nil, length-append, Some}
 use Rattle.std.specs.Global.{Global}
 use Rattle.std.proofs.lemmas.List.{take_at}
 use Rattle.noise_names.specs.declared.token.Role.{Role}

@@ -1,7 +1,6 @@
 -- Lines of a key schedule, made word by word.
-use Rattle.std.proofs.Common.{◌≡◌, ◌∙◌, refl, sym, ap, ap₂, arith, ℕ, ◌+◌, ◌<◌, ◌≤◌, Vec, List, [], ◌∷◌, ◌++◌, length, drop, append_assoc, append-nil, Some, get_or, slice_get}
+use Rattle.std.proofs.Common.{◌≡◌, ◌∙◌, refl, sym, ap, ℕ, ◌+◌, Vec, List, [], ◌∷◌, ◌++◌, drop, append_assoc}
 use Rattle.std.specs.Global.{Global}
-use Rattle.std.proofs.lemmas.List.{drop_all, drop_more}
 use Rattle.noise_lines.specs.Lines.{line_of}
 use Rattle.noise_vectors.specs.Expectations.{bytes_of}
 use Rattle.noise_tool.proofs.PrintedLemmas.{bytes-push}

@@ -1,10 +1,8 @@
 -- What `trace` has done, and why it hasn't.
-use Rattle.std.proofs.Common.{◌≡◌, ◌∙◌, refl, sym, ap, subst, ◌⊎◌, inl, inr, ℕ, List, [], ◌∷◌, Option, Some, None, Result, Ok, Err, OnOk, String}
-use Rattle.std.specs.Global.{Global}
+use Rattle.std.proofs.Common.{◌≡◌, ◌∙◌, refl, sym, subst, ◌⊎◌, inl, inr, ℕ, List, [], ◌∷◌, Option, Some, None, Result, Ok, Err, OnOk}
 use Rattle.std.specs.Prelude.{IfErr, IfSome}
 use Rattle.std.specs.Io.KnownBytes.{Appends}
 use Rattle.noise_lines.specs.Faults.{status_of}
-use Rattle.noise_lines.specs.Lines.{lines_text}
 use Rattle.noise_lines.specs.Prefixes.{AppendsPrefix}
 use Rattle.noise_lines.specs.declared.faults.Fault.{Fault}
 use Rattle.noise_lines.specs.declared.faults.Fault.TheVariants as fault
@@ -18,7 +16,7 @@ use Rattle.noise_words.specs.declared.orders.Traced.{Traced as Order}
 use Rattle.noise_tool.specs.Performing.{IsOfLines, IsRunFault}
 use Rattle.noise_tool.specs.Prefixes.{PrintsPrefix}
 use Rattle.noise_tool.specs.Running.{IsMet, expected_in}
-use Rattle.noise_tool.specs.TraceDone.{HasTraceUnmet, HasTraced, IsTraceUnmet, PrintsTrace, PrintsTracePrefix, kept_of}
+use Rattle.noise_tool.specs.TraceDone.{HasTraced, IsTraceUnmet, PrintsTrace, PrintsTracePrefix, kept_of}
 use Rattle.noise_tool.specs.TracedText.{IsTraceUnlike, trace_lines, trace_text}
 use Rattle.noise_tool.specs.Tracing.{IsTraceOf}
 use Rattle.noise_tool.specs.declared.moment_lines.Kept.{Kept}

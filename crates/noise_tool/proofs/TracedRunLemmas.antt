@@ -1,11 +1,11 @@
 -- A run, event by event, with the lines of the key schedules.
-use Rattle.std.proofs.Common.{◌≡◌, ◌∙◌, refl, sym, ap, subst, ℕ, List, [], ◌∷◌, ◌++◌, length, drop, map, append_assoc, append-nil}
+use Rattle.std.proofs.Common.{◌≡◌, ◌∙◌, sym, ap, subst, ℕ, List, [], ◌∷◌, ◌++◌, length, drop, append_assoc, append-nil}
 use Rattle.noise_names.specs.declared.token.Role.{Role}
 use Rattle.noise_events.specs.Events.{Event}
 use Rattle.noise_duel.specs.declared.entry.Entry.{Entry}
 use Rattle.noise_duel.specs.declared.report.Report.{Report}
-use Rattle.noise_duel.specs.Entries.{bytes_of as frames_in, note_of, notes_of}
-use Rattle.noise_duel.specs.HeldDuel.{DuelStands, HasFrames, HeldDuel}
+use Rattle.noise_duel.specs.Entries.{bytes_of as frames_in, notes_of}
+use Rattle.noise_duel.specs.HeldDuel.{DuelStands, HeldDuel}
 use Rattle.noise_duel.specs.Notes.{Note}
 use Rattle.noise_duel.specs.OneEvent.{HasHappened}
 use Rattle.noise_duel.specs.Runs.{Run}

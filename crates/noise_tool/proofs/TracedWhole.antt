@@ -1,13 +1,11 @@
 -- The trace of a file, from its parts.
-use Rattle.std.proofs.Common.{◌≡◌, ◌∙◌, refl, sym, ap, ap₂, subst, ℕ, List, [], ◌∷◌, ◌++◌, map, Option}
+use Rattle.std.proofs.Common.{◌≡◌, ◌∙◌, refl, sym, ap, ap₂, subst, ℕ, List, ◌++◌, map, Option}
 use Rattle.noise_names.specs.declared.token.Role.{Role}
 use Rattle.noise_events.specs.Events.{Event as Act, events_of}
-use Rattle.noise_events.specs.declared.event.Event.{Event}
 use Rattle.noise_duel.specs.declared.report.Report.{Report}
 use Rattle.noise_duel.specs.Entries.{notes_of}
 use Rattle.noise_duel.specs.HeldDuel.{HeldDuel}
 use Rattle.noise_duel.specs.Notes.{Note}
-use Rattle.noise_duel.specs.Runs.{Run}
 use Rattle.noise_duel.specs.Sides.{Sides}
 use Rattle.noise_vectors.specs.declared.file_keys.FileKeys.{FileKeys}
 use Rattle.noise_vectors.specs.declared.vector.FileDatagrams.{FileDatagrams}
@@ -16,7 +14,7 @@ use Rattle.noise_tool.specs.Ends.{facing_in}
 use Rattle.noise_tool.specs.Printed.{note_line}
 use Rattle.noise_tool.specs.Running.{AreLast, datagrams_in}
 use Rattle.noise_tool.specs.TracedEnds.{AreTracedEnds, HasRunTraced}
-use Rattle.noise_tool.specs.Tracing.{IsTraceOf, last_traces, run_traces, start_traces, woven}
+use Rattle.noise_tool.specs.Tracing.{IsTraceOf, last_traces, start_traces, woven}
 use Rattle.noise_tool.specs.declared.moment_lines.Kept.{Kept}
 use Rattle.noise_tool.specs.declared.traced_ends.TracedEnds.{TracedEnds}
 use Rattle.noise_tool.specs.declared.traced_ends.TracedStart.{TracedStart}

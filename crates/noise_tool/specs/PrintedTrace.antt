@@ -1,5 +1,5 @@
 -- The words of the lines that `trace` prints of a key schedule: twelve in each, and a hyphen where there is nothing.
-use Rattle.std.specs.Prelude.{ℕ, ◌+◌, List, [], ◌∷◌, Bool, true, false, Option, None, Some, codes, decimal, slice_range}
+use Rattle.std.specs.Prelude.{ℕ, ◌+◌, List, [], ◌∷◌, Bool, true, Option, None, Some, codes, decimal, slice_range}
 use Rattle.noise_names.specs.declared.token.Role.{Role}
 use Rattle.noise_names.specs.declared.token.Role.TheVariants.{Initiator, Responder}
 use Rattle.noise_names.specs.declared.token.Token.{Token}

@@ -1,5 +1,5 @@
 -- What `trace` has printed, and which lines a command keeps.
-use Rattle.std.specs.Prelude.{◌≡◌, ◌≢◌, ◌⊎◌, ℕ, Bool, true, false, List, [], Option, Some, None, IfSome}
+use Rattle.std.specs.Prelude.{◌≡◌, ◌≢◌, ◌⊎◌, ℕ, Bool, true, false, List, [], Option, Some, IfSome}
 use Rattle.std.specs.Io.KnownBytes.{Appends}
 use Rattle.noise_lines.specs.Lines.{lines_text}
 use Rattle.noise_lines.specs.Prefixes.{AppendsPrefix}

@@ -1,5 +1,5 @@
 -- What is shown of the key schedules in a run, along what happens in it, and the lines of it.
-use Rattle.std.specs.Prelude.{◌≡◌, ℕ, List, [], ◌∷◌, ◌++◌, map, length, Option, Some, None, Result}
+use Rattle.std.specs.Prelude.{◌≡◌, ℕ, List, [], ◌∷◌, ◌++◌, map, length, Option, None, Result}
 use Rattle.noise_names.specs.declared.token.Role.{Role}
 use Rattle.noise_names.specs.declared.token.Role.TheVariants.{Initiator, Responder}
 use Rattle.noise_names.specs.Plan.{Plan, has_psk}
@@ -17,7 +17,7 @@ use Rattle.noise_session.specs.Steps.{Told}
 use Rattle.noise_session.specs.Steps.Told.{Payload}
 use Rattle.noise_session.specs.Taking.{Judges}
 use Rattle.noise_session.specs.Taking.Judges.{accepted, refused, opened, dropped, exhausted}
-use Rattle.noise_session_trace.specs.Moments.{Shown, keys_in, message_moment, opened_moment, sent_moment, stopped_moment, tried_moment}
+use Rattle.noise_session_trace.specs.Moments.{Shown, message_moment, opened_moment, sent_moment, stopped_moment, tried_moment}
 use Rattle.noise_session_trace.specs.Moments.Shown.{Nothing}
 use Rattle.noise_state.specs.History.{initiator_key, responder_key}
 use Rattle.noise_duel.specs.Notes.{Note, held_note, left_note}

@@ -1,5 +1,5 @@
-use Rattle.std.proofs.Common.{◌∙◌, ◌+◌, ◌∷◌, ◌≤◌, ap, arith, drop, length, sym}
-use Rattle.std.proofs.lemmas.List.{drop_all, drop_more}
+use Rattle.std.proofs.Common.{◌∙◌, ◌+◌, ◌∷◌, ap, drop, sym}
+use Rattle.std.proofs.lemmas.List.{drop_more}
 use Rattle.noise_vectors.specs.Expectations.{bytes_of}
 use Rattle.noise_tool.specs.TracedEnds.{traces_of}
 use Rattle.noise_tool.proofs.WovenLemmas.{line-here, written-cut, written-more}

@@ -1,4 +1,4 @@
-use Rattle.std.proofs.Common.{◌∷◌, [], codes, decimal, refl}
+use Rattle.std.proofs.Common.{◌∷◌, [], codes, decimal}
 use Rattle.std.proofs.lemmas.Result.{IfOk-weaker}
 use Rattle.noise_vectors.specs.HexWord.{hex_of}
 use Rattle.noise_vectors.specs.VectorText.{role_word}

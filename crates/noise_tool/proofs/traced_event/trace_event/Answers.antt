@@ -1,4 +1,4 @@
-use Rattle.std.proofs.Common.{◌≡◌, ◌++◌, ◌∷◌, ◌∙◌, [], List, ℕ, OnOk, ap, refl, slice_get, subst, sym, Vec}
+use Rattle.std.proofs.Common.{◌≡◌, ◌++◌, ◌∷◌, ◌∙◌, [], List, ℕ, OnOk, ap, slice_get, subst, sym, Vec}
 use Rattle.std.specs.Global.{Global}
 use Rattle.noise_vectors.specs.Expectations.{bytes_of}
 use Rattle.noise_duel.specs.Entries.{note_of, notes_of}

@@ -1,7 +1,5 @@
 use Rattle.std.proofs.Common.{◌++◌, ◌∷◌, ◌∙◌, [], ap, List, ℕ}
-use Rattle.noise_duel.specs.Entries.{note_of}
 use Rattle.noise_duel.specs.Sides.{side}
-use Rattle.noise_vectors.specs.Expectations.{bytes_of}
 use Rattle.noise_tool.specs.TracedEnds.{entry_frame, traces_of}
 use Rattle.noise_tool.proofs.EventLemmas.{written-frame}
 use Rattle.noise_tool.proofs.ReceivedLemmas.{traces-push}

@@ -1,10 +1,3 @@
-use Rattle.std.proofs.Common.{◌≡◌, ◌∙◌, ap, ap₂, sym, subst, ℕ, List}
-use Rattle.std.proofs.lemmas.Result.{IfOk-weaker}
-use Rattle.noise_session_trace.specs.Moments.{Shown}
-use Rattle.noise_tool.specs.Moments.{moment_lines}
-use Rattle.noise_tool.specs.Tracing.{about, read_moment}
-use Rattle.noise_tool.specs.declared.trace_lines.About.{About}
-use Rattle.noise_tool.specs.declared.trace_lines.Act.{Act}
 use Rattle.noise_tool.proofs.FollowLemmas.{read-lines}
 use Rattle.noise_tool.proofs.traced_end.TracedEnd.read.Goals as goal
 

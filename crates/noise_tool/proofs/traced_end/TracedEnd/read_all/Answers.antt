@@ -1,4 +1,4 @@
-use Rattle.std.proofs.Common.{◌≡◌, ◌≤◌, ◌+◌, ◌∙◌, ◌∷◌, ◌++◌, inl, refl, sym, ap, arith, length, drop}
+use Rattle.std.proofs.Common.{◌≤◌, ◌+◌, ◌∙◌, ◌∷◌, ◌++◌, inl, refl, sym, ap, arith, length, drop}
 use Rattle.std.proofs.lemmas.List.{drop_all, drop_more}
 use Rattle.noise_duel.specs.Entries.{note_of, notes_of}
 use Rattle.noise_vectors.specs.Expectations.{bytes_of}

@@ -1,9 +1,4 @@
-use Rattle.std.proofs.Common.{◌≡◌, ◌∙◌, ap, sym, subst, ◌++◌, List, ℕ}
-use Rattle.std.specs.Prelude.{if◌then◌else◌}
-use Rattle.std.proofs.lemmas.Result.{IfOk-weaker}
 use Rattle.noise_duel.specs.Entries.{note_of}
-use Rattle.noise_duel.specs.Notes.{Note}
-use Rattle.noise_tool.specs.TracedEnds.{note_ends}
 use Rattle.noise_tool.proofs.FollowLemmas.{wrote-whole}
 use Rattle.noise_tool.proofs.traced_end.TracedEnd.write.Goals as goal
 
