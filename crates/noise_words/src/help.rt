@@ -74,7 +74,7 @@ pub const TRACE: Subcommand<'static> = Subcommand {
     name: "trace",
     value: "FILE",
     several: false,
-    about: "Run two ends on a vector file as replay does and print each end's key schedule, all secrets of it",
+    about: "Run two ends as replay does and print each end's key schedule: what it prints are secrets",
     meaning: "A vector file as replay takes it, with keys that are for tests alone",
     example: "Example: noise trace --role responder examples/vectors/nnpsk2.vector",
 };
