@@ -20,7 +20,7 @@ returns g c = record {
       let same : take c.args.token ts ≡ take n ts = ap (λ (k : ℕ). take k ts) count in
       let carries = subst (λ (b : Bool). Carries b (reader v) v.remote v.secrets (take c.args.token ts) xs) (sym (reads v r.listens))
       (fit-carries (reader v) v.remote v.secrets (take c.args.token ts) xs r.stops.leads.fit) in
-      let f = c.front-steps.ensures.before_payload v xs r.stops.rest sb ag
+      let f = c.front-steps.ensures.front v xs r.stops.rest sb ag
       (subst (λ (us : List Token). Carries (not (is_turn v.role v.passed)) (reader v) v.remote v.secrets us xs) same carries)
       (subst (λ (us : List Token). c.args.message.now ≡ before_payload (has_psk v.pattern) v.history us xs ++ r.stops.rest) same r.stops.leads.spelled) in
       f.steps ∙ ap (λ (us : List Token). token_steps (has_psk v.pattern) v.history 0 us xs) (sym same);

@@ -28,7 +28,7 @@ returns-clause-whole g c v xs payload sb ag carries e =
     let knows : Remote = known_through reads v.remote ts xs in
     let n : ℕ = c.len.result in
     let all : take n ts ≡ ts = take_all n ts (omega (arith, c.len.ensures.value, ap length sb.tokens)) in
-    let f0 = c.front-steps.ensures.before_payload v xs last sb ag
+    let f0 = c.front-steps.ensures.front v xs last sb ag
     (subst (λ (us : List Token). Carries reads (reader v) v.remote v.secrets us xs) (sym all) carries)
     (subst (λ (us : List Token). m ≡ before_payload psks v.history us xs ++ ciphertext (after_tokens psks v.history ts xs) payload) (sym all) e) in
     let f : IsFront c.front-steps.result psks v.history reads v.remote ts xs =
@@ -57,7 +57,7 @@ returns-in_default-clause-whole g c v xs payload sb ag carries e =
     let last : List ℕ = ciphertext (after_tokens psks v.history ts xs) payload in
     let n : ℕ = c.len.result in
     let all : take n ts ≡ ts = take_all n ts (omega (arith, c.len.ensures.value, ap length sb.tokens)) in
-    let f = c.front-steps.ensures.before_payload v xs last sb ag
+    let f = c.front-steps.ensures.front v xs last sb ag
     (subst (λ (us : List Token). Carries (not (is_turn v.role v.passed)) (reader v) v.remote v.secrets us xs) (sym all) carries)
     (subst (λ (us : List Token). m ≡ before_payload psks v.history us xs ++ ciphertext (after_tokens psks v.history ts xs) payload) (sym all) e) in
     let told = f.end in
