@@ -2,7 +2,7 @@ use Rattle.std.proofs.Common.{arith, inl, inr, ◌∙◌, sym}
 use Rattle.std.proofs.lemmas.Result.{err_from_is_err_and}
 use Rattle.noise_vectors.specs.declared.vector.AllowedEvents.TheVariants.{Any}
 use Rattle.noise_tool.specs.Performing.{IsShort}
-use Rattle.noise_tool.proofs.PerformingLemmas.{no-start}
+use Rattle.noise_tool.proofs.PerformingLemmas.{no-start, unread, unread-or}
 use Rattle.noise_tool.proofs.Shortness.{short-of, stays-short, unread-at}
 use Rattle.noise_tool.proofs.TracePerforming.{RanTraced, has-traced, no-trace, trace-prefix}
 use Rattle.noise_tool.proofs.trace_file.trace_file.Goals as goal
@@ -77,3 +77,15 @@ returns-clause-prefix g c =
       expected = c.in_ok-traced.ensures.expected;
     } in
     inr (trace-prefix c.args.kept (g.R.Read.remaining c.args.file.now) c.in_ok-vector.vector c.in_ok-traced.traced _ _ ran c.print_traced.ensures.prefix)
+
+pub returns-in_err-vector-clause-fault : goal.returns-in_err-vector-clause-fault
+returns-in_err-vector-clause-fault g c =
+    let p = err_from_is_err_and c.from_residual-in_err-vector.result c.from_residual-in_err-vector.ensures.1 in
+    rw (p.1, p.2) (inr (unread-or Any (g.R.Read.remaining c.args.file.now) _ _ (unread Any (g.R.Read.remaining c.args.file.now) c.deref.result.now c.in_ok-text.text.items c.in_err-vector.field-0.0
+    c.in_ok-text.ensures.bytes c.deref.ensures.value c.in_err-vector.ensures.every c.in_err-vector.ensures.told)))
+
+pub returns-in_err-again-clause-fault : goal.returns-in_err-again-clause-fault
+returns-in_err-again-clause-fault g c =
+    let p = err_from_is_err_and c.from_residual-in_err-again.result c.from_residual-in_err-again.ensures.1 in
+    rw (p.1, p.2) (inr (unread-or Any (g.R.Read.remaining c.args.file.now) _ _ (unread Any (g.R.Read.remaining c.args.file.now) c.deref-2.result.now c.in_ok-text.text.items c.in_err-again.field-0.0
+    c.in_ok-text.ensures.bytes c.deref-2.ensures.value c.in_err-again.ensures.every c.in_err-again.ensures.told)))
