@@ -60,6 +60,7 @@ MISTAKES = {
     "psk-ephemeral": Mistake("NNpsk0", "initiator", "refused responder 2 tag"),
     "es-se": Mistake("IX", "responder", "refused initiator 3 tag"),
     "nonce-half": Mistake("XX", "initiator", "refused responder 0 tag"),
+    "nonce-kept": Mistake("XX", "responder", "refused initiator 4 tag"),
     "third-output": Mistake("NNpsk2", "responder", "refused initiator 3 tag"),
     "old-hash": Mistake("XX", "responder", "refused initiator 4 tag"),
     "split-order": Mistake("NN", "initiator", "dropped responder tag", 1),
@@ -121,7 +122,8 @@ class Party:
     def mix_key(self, text: bytes) -> None:
         """MixKey (5.2)."""
         self.chaining_key, self.key = hkdf(self.chaining_key, text, 2)
-        self.nonce = 0
+        if self.mistake != "nonce-kept":
+            self.nonce = 0
 
     def mix_key_and_hash(self, text: bytes) -> None:
         """MixKeyAndHash (5.2)."""
