@@ -63,6 +63,7 @@ MISTAKES = {
     "nonce-kept": Mistake("XX", "responder", "refused initiator 4 tag"),
     "third-output": Mistake("NNpsk2", "responder", "refused initiator 3 tag"),
     "old-hash": Mistake("XX", "responder", "refused initiator 4 tag"),
+    "tag-unhashed": Mistake("XX", "responder", "refused initiator 4 tag"),
     "split-order": Mistake("NN", "initiator", "dropped responder tag", 1),
     "rekey-nonce": Mistake("NN", "initiator", "dropped responder tag", 3, 2),
     "length-hashed": Mistake("NN", "responder", "refused initiator 2 tag"),
@@ -145,8 +146,12 @@ class Party:
         if self.key:
             text = ChaCha20Poly1305(self.key).encrypt(self.nonce_bytes(self.nonce), plaintext, associated)
             self.nonce += 1
-        self.mix_hash(text)
+        self.mix_ciphertext(text, len(plaintext))
         return text
+
+    def mix_ciphertext(self, text: bytes, length: int) -> None:
+        """MixHash of a ciphertext, of which so many bytes come before its tag."""
+        self.mix_hash(text[:length] if self.mistake == "tag-unhashed" else text)
 
     def decrypt(self, text: bytes, token: int) -> bytes:
         """DecryptAndHash (5.2), with the refusal at this token."""
@@ -157,7 +162,7 @@ class Party:
             except InvalidTag:
                 raise RefusedError(f"{token} tag") from None
             self.nonce += 1
-        self.mix_hash(text)
+        self.mix_ciphertext(text, len(plaintext))
         return plaintext
 
     def agree(self, token: str) -> None:
