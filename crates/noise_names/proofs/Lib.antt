@@ -1,6 +1,8 @@
 pub mod Checking
 pub mod Fundamentals
+pub mod Judging
 pub mod Lengths
+pub mod Lines
 pub mod Modifiers
 pub mod Numbers
 pub mod OneText
@@ -9,4 +11,5 @@ pub mod PskTokens
 pub mod Reading
 pub mod Sections
 pub mod TextLengths
+pub mod WordLists
 pub mod Writing

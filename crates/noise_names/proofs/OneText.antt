@@ -27,7 +27,7 @@ apart : (xs ys : List ℕ) (i : ℕ) → xs ≡ ys → get_or xs i 0 < get_or ys
 apart xs ys i e h = let same : get_or xs i 0 ≡ get_or ys i 0 = ap (λ (k : List ℕ). get_or k i 0) e in omega arith
 
 -- words
-word_lower : (t : Token) → list_all is_lower (word_of t) ≡ true
+pub word_lower : (t : Token) → list_all is_lower (word_of t) ≡ true
 word_lower E = refl
 word_lower S = refl
 word_lower Ee = refl
@@ -36,7 +36,7 @@ word_lower Se = refl
 word_lower Ss = refl
 word_lower Psk = refl
 
-word_named : (t : Token) → token_named (word_of t) ≡ Some t
+pub word_named : (t : Token) → token_named (word_of t) ≡ Some t
 word_named E = refl
 word_named S = refl
 word_named Ee = refl
@@ -45,7 +45,7 @@ word_named Se = refl
 word_named Ss = refl
 word_named Psk = refl
 
-first_word_same : (t u : Token) (b c : ℕ) (x y : List ℕ) → is_lower b ≡ false → is_lower c ≡ false → word_of t ++ b ∷ x ≡ word_of u ++ c ∷ y
+pub first_word_same : (t u : Token) (b c : ℕ) (x y : List ℕ) → is_lower b ≡ false → is_lower c ≡ false → word_of t ++ b ∷ x ≡ word_of u ++ c ∷ y
     → (t ≡ u) × (b ∷ x ≡ c ∷ y)
 first_word_same t u b c x y hb hc e =
     let word : word_of t ≡ word_of u =

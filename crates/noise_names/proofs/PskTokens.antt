@@ -20,7 +20,7 @@ neither : (x y : Bool) → x || y ≡ false → (x ≡ false) × (y ≡ false)
 neither true y h = absurd (cc)
 neither false y h = (refl, h)
 
-own-append : (xs ys : List Token) → own_tokens (xs ++ ys) ≡ own_tokens xs ++ own_tokens ys
+pub own-append : (xs ys : List Token) → own_tokens (xs ++ ys) ≡ own_tokens xs ++ own_tokens ys
 own-append [] ys = refl
 own-append (x ∷ xs) ys = at (not (is_psk x)) (own-append xs ys) where
   at : (b : Bool) → own_tokens (xs ++ ys) ≡ own_tokens xs ++ own_tokens ys

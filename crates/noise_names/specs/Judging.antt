@@ -1,15 +1,28 @@
 -- What is judged of the lines of a text, for the parts of the search for its first fault. No public contract cites this file.
-use Rattle.std.specs.Prelude.{◌≡◌, ◌≢◌, ◌⊎◌, ◌↔◌, ℕ, ◌+◌, ◌≤◌, Bool, List, [], ◌∷◌, ◌++◌, length, IsTrue, IsFalse, if◌then◌else◌}
+use Rattle.std.specs.Prelude.{◌≡◌, ◌≢◌, ◌⊎◌, ◌↔◌, ℕ, ◌+◌, ◌≤◌, Bool, List, [], ◌∷◌, ◌++◌, length, IsTrue, IsFalse, take, true, false, if◌then◌else◌}
 use Rattle.std.specs.List.{list_all}
+use Rattle.noise_names.specs.declared.text.fault.Judged.{Judged}
+use Rattle.noise_names.specs.declared.text.fault.Words.{Words}
 use Rattle.noise_names.specs.declared.faults.TextFaultKind.{TextFaultKind}
 use Rattle.noise_names.specs.declared.faults.TextFaultKind.TheVariants as kinds
 use Rattle.noise_names.specs.declared.token.Role.{Role}
 use Rattle.noise_names.specs.declared.token.Role.TheVariants.{Initiator, Responder}
 use Rattle.noise_names.specs.declared.token.Token.{Token}
 use Rattle.noise_names.specs.Limits.{HavePsksAt, has_few_tokens, is_pre_message, with_psk_tokens}
-use Rattle.noise_names.specs.Text.{message_lines, pre_line, pre_lines, words}
+use Rattle.noise_names.specs.Text.{line, message_lines, pre_line, pre_lines, words}
 use Rattle.noise_names.specs.Tokens.{own_tokens, turn_from}
 use Rattle.noise_names.specs.WrongText.{IsTokens, arrow_then, dots, is_within}
+
+-- the tokens of a list, as many as are kept of them
+pub record HasTokens (w : Words) (tokens : List Token) : Type 0 where
+  pub some : tokens ≢ []
+  pub first : w.first.items ≡ take 11 tokens
+  pub own : w.own.items ≡ take 9 (own_tokens tokens)
+
+-- a text is its first line, its line feed where it has one, and what follows
+abbrev pub IsFirstLine : List ℕ → List ℕ → Bool → List ℕ → Type 0
+IsFirstLine text bytes true after = text ≡ line bytes ++ after
+IsFirstLine text bytes false after = (text ≡ bytes) × (after ≡ [])
 
 -- the right lines so far: the tokens of the pre-messages and messages, and whether the line after the pre-messages is still ahead
 pub record Passed : Type 0 where
@@ -54,3 +67,21 @@ IsWrong places s line kinds.PskPlace =
 IsWrong places s line kinds.Heading = ⊥
 IsWrong places s line kinds.NameTaken = ⊥
 IsWrong places s line kinds.Ending = ⊥
+
+-- what was judged stands for the lines passed
+abbrev pub is_some : {A : Type 0} → List A → Bool
+is_some [] = false
+is_some (x ∷ xs) = true
+
+pub record Stands (j : Judged) (s : Passed) : Type 0 where
+  pub ahead : j.dots_ahead ≡ s.ahead
+  pub initiator : j.initiator ≡ is_some s.initiator
+  pub responder : j.responder ≡ is_some s.responder
+  pub messages : j.messages ≡ length s.messages
+
+-- one more right line
+pub record IsNextOf (places : List ℕ) (dotted : Bool) (s : Passed) (bytes : List ℕ) (j : Judged) : Type 0 where
+  pub passed : Passed
+  pub stands : Stands j passed
+  pub are_right : IsPassed places dotted passed
+  pub lines : passed_lines passed ≡ passed_lines s ++ line bytes
