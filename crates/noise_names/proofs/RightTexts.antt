@@ -1,6 +1,6 @@
 -- Lines that were judged right begin the text of a right pattern, and are its whole text where no psk place is beyond the messages.
-use Rattle.std.proofs.Common.{◌≡◌, ◌≢◌, ◌⊎◌, ◌↔◌, inl, inr, ℕ, suc, zero, ◌+◌, ◌-◌, ◌≤◌, Bool, true, false, ◌&&◌, leb, List, [], ◌∷◌, ◌++◌, None, refl, ap, sym, ◌∙◌, subst}
-use Rattle.std.proofs.Common.{append_assoc, length, length-append, arith, replicate}
+use Rattle.std.proofs.Common.{◌≡◌, ◌≢◌, ◌⊎◌, ◌↔◌, inl, inr, ℕ, suc, zero, ◌+◌, ◌-◌, ◌≤◌, Bool, true, false, ◌&&◌, leb, List, [], ◌∷◌, ◌++◌, None}
+use Rattle.std.proofs.Common.{refl, ap, sym, ◌∙◌, subst, append_assoc, length, length-append, arith, replicate}
 use Rattle.std.specs.Prelude.{IsTrue, IsFalse}
 use Rattle.std.specs.List.{list_all, list_any}
 use Rattle.std.proofs.lemmas.Bool.Decides.{nat_tests}
@@ -127,6 +127,7 @@ filled_pattern places i r ms rising pi pr high sizes psks =
 
 -- ---- lines that were judged right
 
+-- a right pattern that begins with the lines
 pub record IsExtended (places : List ℕ) (dotted : Bool) (s : Passed) : Type 0 where
   pub p : Plan
   pub is_pattern : IsPattern p
@@ -136,6 +137,7 @@ pub record IsExtended (places : List ℕ) (dotted : Bool) (s : Passed) : Type 0 
   pub begun : (rest : List ℕ) × (body_of p ≡ passed_lines s ++ rest)
   pub same : IsFalse s.ahead → (p.initiator ≡ s.initiator) × (p.responder ≡ s.responder)
 
+-- a right pattern that has these lines and no others
 pub record IsWhole (places : List ℕ) (dotted : Bool) (s : Passed) : Type 0 where
   pub p : Plan
   pub is_pattern : IsPattern p
