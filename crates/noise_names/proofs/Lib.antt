@@ -9,6 +9,7 @@ pub mod OneText
 pub mod ProtocolNames
 pub mod PskTokens
 pub mod Reading
+pub mod RightTexts
 pub mod Sections
 pub mod TextLengths
 pub mod WordLists
