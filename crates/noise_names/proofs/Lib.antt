@@ -7,6 +7,7 @@ pub mod OneText
 pub mod ProtocolNames
 pub mod PskTokens
 pub mod Reading
+pub mod Rows
 pub mod Sections
 pub mod TextLengths
 pub mod Writing
