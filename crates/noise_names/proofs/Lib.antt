@@ -2,6 +2,7 @@ pub mod Checking
 pub mod Fundamentals
 pub mod Lengths
 pub mod Modifiers
+pub mod NextLines
 pub mod Numbers
 pub mod OneText
 pub mod ProtocolNames
