@@ -12,3 +12,4 @@ pub mod Rows
 pub mod Sections
 pub mod TextLengths
 pub mod Writing
+pub mod WrongLines

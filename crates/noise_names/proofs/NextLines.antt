@@ -101,10 +101,10 @@ pub record IsBegun (places : List ℕ) (dotted : Bool) (s : Passed) (told rest :
 
 at_messages : (places : List ℕ) (dotted : Bool) (s : Passed) (told rest : List ℕ) (q : Plan) → IsBegun places dotted s told rest q → s.ahead ≡ false
     → IsNextLine s q told
-at_messages places dotted s told rest q b passed_pre =
+at_messages places dotted s told rest q b none_ahead =
     let before : List Row = all_rows s.initiator s.responder s.messages in
     let rows : List Row = all_rows q.initiator q.responder q.messages in
-    let lines : passed_lines s ≡ lines_of before = rw passed_pre (sym (all_lines s.initiator s.responder s.messages)) in
+    let lines : passed_lines s ≡ lines_of before = rw none_ahead (sym (all_lines s.initiator s.responder s.messages)) in
     let begun : lines_of rows ≡ lines_of before ++ (line told ++ rest) =
     all_lines q.initiator q.responder q.messages ∙ b.begins ∙ ap (λ (text : List ℕ). text ++ (line told ++ rest)) lines in
     let next : IsNextRow told before rows =
@@ -120,11 +120,11 @@ at_messages places dotted s told rest q b passed_pre =
       right = next.right;
       told_is = next.told_is;
       message = λ f. next_message Initiator s.messages q.messages next.row next.more messages;
-      pre_message = λ f. absurd (let bad : false ≡ true = sym passed_pre ∙ f in cc);
+      pre_message = λ f. absurd (let bad : false ≡ true = sym none_ahead ∙ f in cc);
     }
   where
     not_ahead : (s.ahead ≡ true) ⊎ (pre_lines s.initiator s.responder ≢ []) → pre_lines s.initiator s.responder ≢ []
-    not_ahead (inl f) = absurd (let bad : false ≡ true = sym passed_pre ∙ f in cc)
+    not_ahead (inl f) = absurd (let bad : false ≡ true = sym none_ahead ∙ f in cc)
     not_ahead (inr f) = f
 
 at_pre_messages : (places : List ℕ) (dotted : Bool) (s : Passed) (told rest : List ℕ) (q : Plan) → IsBegun places dotted s told rest q → s.ahead ≡ true
