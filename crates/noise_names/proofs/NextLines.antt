@@ -1,18 +1,17 @@
 -- The next line of a pattern's text after right lines.
-use Rattle.std.proofs.Common.{◌≡◌, ◌≢◌, ◌⊎◌, ℕ, suc, zero, ◌+◌, Bool, true, false, List, [], ◌∷◌, ◌++◌, refl, ap, sym, ◌∙◌, append_assoc, length, inl, inr, ◌↔◌}
+use Rattle.std.proofs.Common.{◌≡◌, ◌≢◌, ◌⊎◌, ℕ, Bool, true, false, List, [], ◌∷◌, ◌++◌, refl, ap, sym, ◌∙◌, append_assoc, length, inl, inr, ◌↔◌}
 use Rattle.std.proofs.Common.{IsTrue}
-use Rattle.std.specs.List.{list_all}
 use Rattle.noise_names.specs.declared.token.Role.{Role}
 use Rattle.noise_names.specs.declared.token.Role.TheVariants.{Initiator, Responder}
 use Rattle.noise_names.specs.declared.token.Token.{Token}
 use Rattle.noise_names.specs.Judging.{IsPassed, Passed, passed_lines}
-use Rattle.noise_names.specs.Limits.{IsPattern, has_few_tokens, is_pre_message}
+use Rattle.noise_names.specs.Limits.{IsPattern, is_pre_message}
 use Rattle.noise_names.specs.Plan.{Plan}
-use Rattle.noise_names.specs.Text.{line, message_lines, pre_line, pre_lines}
+use Rattle.noise_names.specs.Text.{line, pre_lines}
 use Rattle.noise_names.specs.Tokens.{other, turn_from}
 use Rattle.noise_names.specs.WrongText.{body_of}
 use Rattle.noise_names.proofs.Rows.{IsNextRow, Row, all_lines, all_right, all_rows, content, ending, first_lines, first_right, first_rows, is_row, lines_of}
-use Rattle.noise_names.proofs.Rows.{message_rows, next_row, no_feed, pre_row, pre_rows, tokens_of}
+use Rattle.noise_names.proofs.Rows.{message_rows, next_row, no_feed, pre_rows, tokens_of}
 
 some_responder : (t : Token) (ts : List Token) → pre_lines [] (t ∷ ts) ≢ []
 some_responder t ts e = cc

@@ -1,6 +1,6 @@
--- The lines after the heading of a text as rows, and what a row begins with.
-use Rattle.std.proofs.Common.{◌≡◌, ℕ, suc, ◌+◌, ◌<◌, Bool, true, false, ◌&&◌, not, eqb, List, [], ◌∷◌, ◌++◌, refl, ap, sym, ◌∙◌, append_assoc, append-nil}
-use Rattle.std.proofs.Common.{length, length-append, arith}
+-- The lines after the heading of a text as rows: the line after the pre-messages, or a party and its tokens. Each row has one line.
+use Rattle.std.proofs.Common.{◌≡◌, ℕ, Bool, true, false, not, eqb, List, [], ◌∷◌, ◌++◌, refl, ap, sym, ◌∙◌, append_assoc, append-nil}
+use Rattle.std.proofs.Common.{arith}
 use Rattle.std.specs.Prelude.{codes}
 use Rattle.std.specs.List.{list_all}
 use Rattle.std.proofs.lemmas.Bool.Decides.{nat_tests}
@@ -10,13 +10,13 @@ use Rattle.noise_names.specs.declared.token.Role.TheVariants.{Initiator, Respond
 use Rattle.noise_names.specs.declared.token.Token.{Token}
 use Rattle.noise_names.specs.Limits.{has_few_tokens}
 use Rattle.noise_names.specs.Reading.{is_lower}
-use Rattle.noise_names.specs.Text.{arrow_of, line, message_lines, pre_line, pre_lines, token_line, word_of, words}
+use Rattle.noise_names.specs.Text.{line, message_lines, pre_line, pre_lines, token_line, word_of, words}
 use Rattle.noise_names.specs.Tokens.{other}
 use Rattle.noise_names.specs.WrongText.{arrow_then, dots}
 use Rattle.noise_names.proofs.OneText.{IsSameLine, apart, both, heading_same, line_same, word_lower}
 use Rattle.noise_names.proofs.Sections.{all_weaker}
 
--- the line after the pre-messages, or a party and its tokens
+-- the line after the pre-messages, or a party's line
 pub data Row : Type 0 where
   ending : Row
   tokens_of : Role → List Token → Row
@@ -83,7 +83,7 @@ no_line : (a x : List ℕ) → [] ≡ line a ++ x → ⊥
 no_line [] x e = cc
 no_line (b ∷ a) x e = cc
 
--- rows begin with others, and then is the row of a line
+-- the rows begin with those before, and the next row has this line
 pub record IsNextRow (told : List ℕ) (before rows : List Row) : Type 0 where
   pub row : Row
   pub more : List Row

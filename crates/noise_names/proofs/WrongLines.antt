@@ -1,6 +1,7 @@
 -- A line that is wrong after right lines is in no right text after those.
-use Rattle.std.proofs.Common.{◌≡◌, ◌≢◌, ◌⊎◌, ◌↔◌, ℕ, suc, zero, ◌+◌, ◌≤◌, Bool, true, false, ◌&&◌, not, eqb, leb, List, [], ◌∷◌, ◌++◌, refl, ap, sym, ◌∙◌}
-use Rattle.std.proofs.Common.{IsTrue, IsFalse, append_assoc, length, length-append, inl, inr, subst, arith}
+use Rattle.std.specs.Prelude.{◌==◌}
+use Rattle.std.proofs.Common.{◌≡◌, ◌≢◌, ◌⊎◌, ◌↔◌, ℕ, suc, zero, ◌+◌, Bool, true, false, ◌&&◌, not, leb, List, [], ◌∷◌, ◌++◌, refl, ap, sym, ◌∙◌}
+use Rattle.std.proofs.Common.{IsTrue, length, length-append, inl, inr, subst, arith}
 use Rattle.std.specs.List.{list_all}
 use Rattle.std.proofs.lemmas.Bool.Decides.{nat_tests}
 use Rattle.std.proofs.lemmas.List.Folds.{list_all-append}
@@ -189,9 +190,9 @@ wrong_line places s told kinds.Heading q h same n w = w
 wrong_line places s told kinds.NameTaken q h same n w = w
 wrong_line places s told kinds.Ending q h same n w = w
 
--- A line that is wrong after right lines is in no right text after those, of these psk places and with or without the line after the pre-messages.
+-- It is in no right text of these psk places that has the line after the pre-messages exactly if this text has it.
 pub excluded : (places : List ℕ) (dotted : Bool) (s : Passed) (told : List ℕ) (kind : TextFaultKind) → IsPassed places dotted s → IsWrong places s told kind
-    → list_all (λ b. not (eqb b 10)) told ≡ true → (q : Plan) → IsPattern q → q.places ≡ places
+    → list_all (λ b. not (b == 10)) told ≡ true → (q : Plan) → IsPattern q → q.places ≡ places
     → (pre_lines q.initiator q.responder ≢ [] ↔ IsTrue dotted) → (rest : List ℕ) → ¬ (body_of q ≡ passed_lines s ++ (line told ++ rest))
 excluded places dotted s told kind passed wrong feedless q right same form rest e =
     let begun : IsBegun places dotted s told rest q =
