@@ -53,7 +53,12 @@ next_message party (m ∷ ms) (k ∷ ks) row more e =
     let first : k ≡ m = cc in
     let rest : message_rows (other party) ks ≡ message_rows (other party) ms ++ row ∷ more = cc in
     let next : IsNextMessage (other party) ms ks row = next_message (other party) ms ks row more rest in
-    record { message = next.message; more = next.more; messages_are = begins {ys = ms ++ next.message ∷ next.more} first next.messages_are; row_is = next.row_is }
+    record {
+      message = next.message;
+      more = next.more;
+      messages_are = begins {ys = ms ++ next.message ∷ next.more} first next.messages_are;
+      row_is = next.row_is;
+    }
   where
     begins : {x y : List Token} {xs ys : List (List Token)} → x ≡ y → xs ≡ ys → x ∷ xs ≡ y ∷ ys
     begins p q = cc
