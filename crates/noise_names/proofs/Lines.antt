@@ -5,6 +5,8 @@ use Rattle.std.proofs.lemmas.List.Elements.{All-nil, All-cons}
 use Rattle.std.specs.Prelude.{codes, bytes_eq, count_by}
 use Rattle.std.specs.List.{list_all, list_any, slice_split}
 use Rattle.std.proofs.lemmas.Bool.Decides.{nat_tests}
+use Rattle.std.proofs.lemmas.List.Sums.{take_while-cons}
+use Rattle.noise_names.proofs.Sections.{take-front}
 use Rattle.std.proofs.lemmas.List.Splits.{slice_split_none, slice_split_at}
 use Rattle.noise_names.specs.Judging.{IsFirstLine}
 use Rattle.noise_names.specs.Text.{line}
@@ -13,18 +15,10 @@ use Rattle.noise_names.specs.WrongText.{line_feeds, IsEnded, first_line, dots, h
 abbrev pub is_other : ℕ → Bool
 is_other b = not (eqb b 10)
 
--- the front that passes a test is as long as what is taken
-pub take-while : (p : ℕ → Bool) (xs : List ℕ) → take (length (take_while p xs)) xs ≡ take_while p xs
-take-while p [] = refl
-take-while p (x ∷ xs) = at (p x) (take-while p xs) where
-  at : (b : Bool) → take (length (take_while p xs)) xs ≡ take_while p xs
-      → take (length (cond b (x ∷ take_while p xs) [])) (x ∷ xs) ≡ cond b (x ∷ take_while p xs) []
-  at true more = ap (λ (ys : List ℕ). x ∷ ys) more
-  at false more = refl
-
+-- the front that passes a test
 pub take-while-all : (p : ℕ → Bool) (xs : List ℕ) → list_all p (take_while p xs) ≡ true
 take-while-all p [] = refl
-take-while-all p (x ∷ xs) = at (p x) refl (take-while-all p xs) where
+take-while-all p (x ∷ xs) = subst (λ (ys : List ℕ). list_all p ys ≡ true) (sym (take_while-cons p x xs)) (at (p x) refl (take-while-all p xs)) where
   at : (b : Bool) → p x ≡ b → list_all p (take_while p xs) ≡ true → list_all p (cond b (x ∷ take_while p xs) []) ≡ true
   at true e more = rw e more
   at false e more = refl
@@ -32,17 +26,19 @@ take-while-all p (x ∷ xs) = at (p x) refl (take-while-all p xs) where
 -- what follows that front begins with an element that does not pass
 pub drop-while : (p : ℕ → Bool) (xs : List ℕ) (y : ℕ) (ys : List ℕ) → drop (length (take_while p xs)) xs ≡ y ∷ ys → p y ≡ false
 drop-while p [] y ys e = absurd (cc)
-drop-while p (x ∷ xs) y ys e = at (p x) refl e (drop-while p xs y ys) where
-  at : (b : Bool) → p x ≡ b → drop (length (cond b (x ∷ take_while p xs) [])) (x ∷ xs) ≡ y ∷ ys
-      → (drop (length (take_while p xs)) xs ≡ y ∷ ys → p y ≡ false) → p y ≡ false
-  at true h f more = more f
-  at false h f more = let same : x ≡ y = cc in ap p (sym same) ∙ h
+drop-while p (x ∷ xs) y ys e =
+    at (p x) refl (subst (λ (zs : List ℕ). drop (length zs) (x ∷ xs) ≡ y ∷ ys) (take_while-cons p x xs) e) (drop-while p xs y ys)
+  where
+    at : (b : Bool) → p x ≡ b → drop (length (cond b (x ∷ take_while p xs) [])) (x ∷ xs) ≡ y ∷ ys
+        → (drop (length (take_while p xs)) xs ≡ y ∷ ys → p y ≡ false) → p y ≡ false
+    at true h f more = more f
+    at false h f more = let same : x ≡ y = cc in ap p (sym same) ∙ h
 
 pub feed-is : (b : ℕ) → not (eqb b 10) ≡ false → b ≡ 10
 feed-is b h = grind (arith, nat_tests)
 
 pub line-bytes : (text bytes : List ℕ) (n : ℕ) → n ≡ length (first_line text) → bytes ≡ take n text → bytes ≡ first_line text
-line-bytes text bytes n count front = front ∙ ap (λ (k : ℕ). take k text) count ∙ take-while is_other text
+line-bytes text bytes n count front = front ∙ ap (λ (k : ℕ). take k text) count ∙ take-front is_other text
 
 pub line-ended : (text bytes back after : List ℕ) (b n : ℕ) → n ≡ length (first_line text) → bytes ≡ take n text → back ≡ drop n text → back ≡ b ∷ after
     → text ≡ line bytes ++ after

@@ -1,14 +1,16 @@
 -- Lists of words of which some were read.
-use Rattle.std.proofs.Common.{◌≡◌, ◌≢◌, ℕ, ◌+◌, ◌<◌, suc, zero, Bool, true, false, cond, List, [], ◌∷◌, ◌++◌, refl, ap, sym, ◌∙◌, append_assoc, append-nil}
-use Rattle.std.proofs.Common.{length, length-append, arith, take, drop, Option, Some, None, eqb}
+use Rattle.std.proofs.Common.{◌≡◌, ◌≢◌, ℕ, ◌+◌, ◌<◌, suc, zero, Bool, true, false, not, cond, List, [], ◌∷◌, ◌++◌, refl, ap, sym, ◌∙◌, append_assoc, append-nil}
+use Rattle.std.proofs.Common.{length, length-append, arith, take, drop, Option, Some, None, eqb, leb, ◌≤◌, ◌&&◌, ◌⊎◌, inl, inr, min}
 use Rattle.std.specs.Prelude.{codes, bytes_eq}
-use Rattle.std.proofs.lemmas.Bool.Decides.{Decides-eqb}
+use Rattle.std.proofs.lemmas.Bool.Decides.{Decides-eqb, nat_tests}
 use Rattle.std.proofs.lemmas.Slice.Eq.{slice_eq-Decides}
 use Rattle.noise_names.specs.declared.token.Token.{Token}
 use Rattle.noise_names.specs.declared.token.Token.TheVariants.{E, S, Ee, Es, Se, Ss, Psk}
 use Rattle.noise_names.specs.declared.text.fault.Words.{Words}
 use Rattle.noise_names.specs.Judging.{HasTokens}
-use Rattle.noise_names.specs.Tokens.{own_tokens}
+use Rattle.noise_names.specs.Limits.{has_few_tokens, is_pre_message}
+use Rattle.std.proofs.lemmas.List.{length-take}
+use Rattle.noise_names.specs.Tokens.{is_psk, own_tokens}
 use Rattle.noise_names.specs.Text.{word_of, words}
 use Rattle.noise_names.specs.Reading.{is_lower, token_named}
 use Rattle.noise_names.proofs.OneText.{first_word_same}
@@ -77,14 +79,18 @@ read-start list first own e f = record { read = []; list_is = refl; first_is = e
 first-more : (read first first' : List Token) (t : Token) → first ≡ take 11 read → first' ≡ take 11 (first ++ t ∷ []) → first' ≡ take 11 (read ++ t ∷ [])
 first-more read first first' t e f = f ∙ ap (λ (ts : List Token). take 11 (ts ++ t ∷ [])) e ∙ take-take 11 read (t ∷ [])
 
-own-more : (read own own' : List Token) (t : Token) → own ≡ take 9 (own_tokens read) → own' ≡ take 9 (own ++ own_tokens (t ∷ []))
-    → own' ≡ take 9 (own_tokens (read ++ t ∷ []))
-own-more read own own' t e f =
-    f ∙ ap (λ (ts : List Token). take 9 (ts ++ own_tokens (t ∷ []))) e ∙ take-take 9 (own_tokens read) (own_tokens (t ∷ []))
-    ∙ ap (λ (ts : List Token). take 9 ts) (sym (own-append read (t ∷ [])))
+-- a token is kept among those that are no psk
+abbrev pub kept_own : List Token → Token → List Token
+kept_own own t = cond (is_psk t) own (take 9 (own ++ t ∷ []))
+
+own-more : (read own own' : List Token) (t : Token) → own ≡ take 9 (own_tokens read) → own' ≡ kept_own own t → own' ≡ take 9 (own_tokens (read ++ t ∷ []))
+own-more read own own' t e f = f ∙ at (is_psk t) ∙ ap (λ (ts : List Token). take 9 ts) (sym (own-append read (t ∷ []))) where
+  at : (b : Bool) → cond b own (take 9 (own ++ t ∷ [])) ≡ take 9 (own_tokens read ++ cond (not b) (t ∷ []) [])
+  at true = e ∙ ap (λ (ts : List Token). take 9 ts) (sym (append-nil (own_tokens read)))
+  at false = ap (λ (ts : List Token). take 9 (ts ++ t ∷ [])) e ∙ take-take 9 (own_tokens read) (t ∷ [])
 
 pub read-more : (list left after rest : List ℕ) (first own first' own' : List Token) (t : Token) → IsRead list left first own → left ≡ word_of t ++ after
-    → after ≡ codes ", " ++ rest → first' ≡ take 11 (first ++ t ∷ []) → own' ≡ take 9 (own ++ own_tokens (t ∷ [])) → IsRead list rest first' own'
+    → after ≡ codes ", " ++ rest → first' ≡ take 11 (first ++ t ∷ []) → own' ≡ kept_own own t → IsRead list rest first' own'
 read-more list left after rest first own first' own' t r e f g h = record {
   read = r.read ++ t ∷ [];
   list_is = r.list_is ∙ ap (λ (x : List ℕ). with_commas r.read ++ x) (e ∙ ap (λ (x : List ℕ). word_of t ++ x) f) ∙ sym (commas-push r.read t rest);
@@ -93,7 +99,7 @@ read-more list left after rest first own first' own' t r e f g h = record {
 }
 
 pub read-end : (list left after : List ℕ) (first own : List Token) (w : Words) (t : Token) → IsRead list left first own → left ≡ word_of t ++ after
-    → length after ≡ 0 → w.first.items ≡ take 11 (first ++ t ∷ []) → w.own.items ≡ take 9 (own ++ own_tokens (t ∷ []))
+    → length after ≡ 0 → w.first.items ≡ take 11 (first ++ t ∷ []) → w.own.items ≡ kept_own own t
     → (tokens : List Token) × HasTokens w tokens × (list ≡ words tokens)
 read-end list left after first own w t r e none g h = (
   r.read ++ t ∷ [],
@@ -156,3 +162,76 @@ word-of-named w t e = at (bytes_eq w (codes "e")) (bytes_eq w (codes "s")) (byte
     at false false false false false true b7 h1 h2 h3 h4 h5 h6 h7 f = let same : Ss ≡ t = cc in h6 refl ∙ ap word_of same
     at false false false false false false true h1 h2 h3 h4 h5 h6 h7 f = let same : Psk ≡ t = cc in h7 refl ∙ ap word_of same
     at false false false false false false false h1 h2 h3 h4 h5 h6 h7 f = absurd (cc)
+
+-- the tokens of a pre-message are few enough that all are kept
+pre-three : (t u v : Token) (ts : List Token) → is_pre_message (t ∷ u ∷ v ∷ ts) ≡ false
+pre-three E E v ts = refl
+pre-three E S v ts = refl
+pre-three E Ee v ts = refl
+pre-three E Es v ts = refl
+pre-three E Se v ts = refl
+pre-three E Ss v ts = refl
+pre-three E Psk v ts = refl
+pre-three S u v ts = refl
+pre-three Ee u v ts = refl
+pre-three Es u v ts = refl
+pre-three Se u v ts = refl
+pre-three Ss u v ts = refl
+pre-three Psk u v ts = refl
+
+pub pre-kept : (w : Words) (tokens : List Token) (b : Bool) → HasTokens w tokens → b ≡ is_pre_message w.first.items → b ≡ is_pre_message tokens
+pre-kept w tokens b h e = e ∙ ap is_pre_message h.first ∙ at tokens where
+  at : (ts : List Token) → is_pre_message (take 11 ts) ≡ is_pre_message ts
+  at [] = refl
+  at (t ∷ []) = refl
+  at (t ∷ u ∷ []) = refl
+  at (t ∷ u ∷ v ∷ ts) = pre-three t u v (take 8 ts) ∙ sym (pre-three t u v ts)
+
+-- a list that is cut where it is too long
+pub cut-few : (w : Words) (tokens : List Token) (few : Bool) → HasTokens w tokens
+    → few ≡ not (eqb (length w.own.items) 0) && not (eqb (length w.own.items) 9) → few ≡ has_few_tokens tokens
+cut-few w tokens few h e =
+    let count : length w.own.items ≡ min 9 (length (own_tokens tokens)) = ap length h.own ∙ length-take 9 (own_tokens tokens) in
+    e ∙ at (length w.own.items) (length (own_tokens tokens)) count
+  where
+    at : (m n : ℕ) → m ≡ min 9 n → not (eqb m 0) && not (eqb m 9) ≡ leb 1 n && leb n 8
+    at m n e = grind (arith, nat_tests)
+
+take-short : (xs : List Token) (n : ℕ) → length xs ≤ n → take n xs ≡ xs
+take-short [] zero h = refl
+take-short [] (suc n) h = refl
+take-short (x ∷ xs) zero h = absurd (omega arith)
+take-short (x ∷ xs) (suc n) h = ap (λ (ys : List Token). x ∷ ys) (take-short xs n (omega arith))
+
+whole-or-long : (xs : List Token) → (take 11 xs ≡ xs) ⊎ (length (take 11 xs) ≡ 11)
+whole-or-long xs = at (leb (length xs) 11) refl where
+  le : leb (length xs) 11 ≡ true → length xs ≤ 11
+  le h = grind (arith, nat_tests)
+
+  eleven : leb (length xs) 11 ≡ false → min 11 (length xs) ≡ 11
+  eleven h = grind (arith, nat_tests)
+
+  at : (b : Bool) → leb (length xs) 11 ≡ b → (take 11 xs ≡ xs) ⊎ (length (take 11 xs) ≡ 11)
+  at true h = inl (take-short xs 11 (le h))
+  at false h = inr (length-take 11 xs ∙ eleven h)
+
+-- tokens are those of a message that is no longer than what is kept, if what is kept is that message
+pub kept-same : (w : Words) (tokens message : List Token) → HasTokens w tokens → length message ≤ 10 → message ≡ w.first.items → tokens ≡ message
+kept-same w tokens message h few e = elim (whole-or-long tokens) [
+  | inl same ↦ sym (e ∙ h.first ∙ same)
+  | inr long ↦ absurd (let count : length message ≡ length (take 11 tokens) = ap length (e ∙ h.first) in omega arith)
+]
+
+pub same-kept : (w : Words) (tokens message : List Token) → HasTokens w tokens → length message ≤ 10 → tokens ≡ message → message ≡ w.first.items
+same-kept w tokens message h few e = elim (whole-or-long tokens) [
+  | inl same ↦ sym (h.first ∙ same ∙ e)
+  | inr long ↦ absurd (let count : length tokens ≡ length message = ap length e in let less = length-take 11 tokens in omega arith)
+]
+
+-- the tokens of a list whose tokens other than psk are all kept
+pub own-kept : (w : Words) (tokens : List Token) → HasTokens w tokens → length w.own.items ≤ 8 → w.own.items ≡ own_tokens tokens
+own-kept w tokens h few = h.own ∙ at (own_tokens tokens) 9 (let count = ap length h.own in omega arith) where
+  at : (xs : List Token) (n : ℕ) → length (take n xs) < n → take n xs ≡ xs
+  at xs zero lt = absurd (omega arith)
+  at [] (suc n) lt = refl
+  at (x ∷ xs) (suc n) lt = ap (λ (ys : List Token). x ∷ ys) (at xs n (omega arith))

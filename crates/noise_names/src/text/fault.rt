@@ -7,10 +7,10 @@ ghost use Rattle.arrayvec.specs.ArrayVec.{array_vec_len};
 ghost use Rattle.noise_names.specs.declared.token.Token.{Token};
 ghost use Rattle.noise_names.specs.declared.token.Role.TheVariants.{Initiator};
 ghost use Rattle.noise_names.specs.declared.faults.TextFaultKind.TheVariants as kinds;
-ghost use Rattle.noise_names.specs.Limits.{with_psk_tokens};
+ghost use Rattle.noise_names.specs.Limits.{has_few_tokens, with_psk_tokens};
 ghost use Rattle.noise_names.specs.Names.{Section, IsSection, are_places};
 ghost use Rattle.noise_names.specs.Text.{line, words};
-ghost use Rattle.noise_names.specs.Tokens.{own_tokens, turn_from};
+ghost use Rattle.noise_names.specs.Tokens.{is_psk, own_tokens, turn_from};
 ghost use Rattle.noise_names.specs.WrongText.{IsTextFault, arrow_then, dots, first_line, has_dots, heading_of};
 ghost use Rattle.noise_names.specs.Judging.{HasTokens, IsFirstLine, IsNextOf, IsPassed, IsWrong, Passed, Stands};
 
@@ -223,10 +223,10 @@ impl Judged {
             → MatchResult result (λ j. IsNextOf places.now dotted s (arrow_then role (words tokens)) j)
               (λ kind. IsWrong places.now s (arrow_then role (words tokens)) kind) }
     {
-        if role != self.turn() {
+        if !self.is_turn(role) {
             return Err(TextFaultKind::Turn);
         }
-        if self.messages >= 8 || list.own.is_empty() || list.own.is_full() {
+        if self.messages >= 8 || !list.has_few() {
             return Err(TextFaultKind::Limit);
         }
         let messages = self.messages + 1;
@@ -237,14 +237,14 @@ impl Judged {
         }
     }
 
-    // Whose turn it is.
-    fn turn(self) -> Role
-        ensures { result ≡ turn_from Initiator self.messages }
+    // Whether it is the party's turn.
+    fn is_turn(self, role: Role) -> bool
+        ensures turn { IsTrue result → role ≡ turn_from Initiator self.messages }
+        ensures other { IsFalse result → role ≡ turn_from Initiator (self.messages + 1) }
     {
-        if self.messages % 2 == 0 {
-            Role::Initiator
-        } else {
-            Role::Responder
+        match role {
+            Role::Initiator => self.messages % 2 == 0,
+            Role::Responder => self.messages % 2 != 0,
         }
     }
 
@@ -256,12 +256,19 @@ impl Judged {
     {
         if self.messages == 0 {
             fault(number, TextFaultKind::Ending)
-        } else if places.iter().all(|n| *n <= self.messages) {
+        } else if are_within(places, self.messages) {
             fault(1, TextFaultKind::NameTaken)
         } else {
             fault(1, TextFaultKind::PskPlace)
         }
     }
+}
+
+// Whether no place is beyond so many messages.
+fn are_within(places: &[u8], messages: u8) -> bool
+    ensures { result ≡ list_all (λ n. nat_le n messages) places.now }
+{
+    places.iter().all(|n| *n <= messages)
 }
 
 // The tokens of a line: the first eleven, and the first nine of those that are no psk. A message has fewer of both.
@@ -294,12 +301,21 @@ impl Words {
 
     fn add(&mut self, token: Token)
         ensures first { self.new.first.items ≡ take 11 (self.old.first.items ++ token ∷ []) }
-        ensures own { self.new.own.items ≡ take 9 (self.old.own.items ++ own_tokens (token ∷ [])) }
+        ensures own { self.new.own.items ≡ (if is_psk token then self.old.own.items else take 9 (self.old.own.items ++ token ∷ [])) }
     {
         push_if_room(&mut self.first, token);
-        if token != Token::Psk {
-            push_if_room(&mut self.own, token);
+        if let Token::Psk = token {
+            return;
         }
+        push_if_room(&mut self.own, token);
+    }
+
+    // Whether the tokens other than psk are those of a message: one to eight.
+    fn has_few(&self) -> bool
+        ensures few { (tokens : List Token) → HasTokens self.now tokens → result ≡ has_few_tokens tokens }
+        ensures kept { IsTrue result → array_vec_len self.now.own ≤ 8 }
+    {
+        !self.own.is_empty() && !self.own.is_full()
     }
 
     // Whether these have the psk tokens of the message of this number, and no others.
@@ -307,8 +323,14 @@ impl Words {
         requires { array_vec_len self.now.own ≤ 8 }
         ensures { (tokens : List Token) → HasTokens self.now tokens → IsTrue result ↔ (tokens ≡ with_psk_tokens places.now number (own_tokens tokens)) }
     {
-        message_with_psks(&self.own, number, places).tokens() == self.first.as_slice()
+        are_same(message_with_psks(&self.own, number, places).tokens(), &self.first)
     }
+}
+
+fn are_same(tokens: &[Token], others: &[Token]) -> bool
+    ensures { IsTrue result ↔ (tokens.now ≡ others.now) }
+{
+    tokens == others
 }
 
 // Appends the token if there is room.

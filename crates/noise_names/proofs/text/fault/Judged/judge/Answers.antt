@@ -1,21 +1,14 @@
-use Rattle.std.proofs.Common.{rules, ◌≡◌, ◌≢◌, ◌⊎◌, ◌↔◌, ◌≤◌, ◌<◌, ◌+◌, ◌++◌, ◌∷◌, ◌==◌, ℕ, List, [], Bool, IsTrue, IsFalse, IfNone, IfSome, MatchResult, false, length, take, bytes_eq, nat_le, if◌then◌else◌, ◌-◌, ◌*◌, ◌/◌, ◌%◌, true, nat_eq, nat_lt, slice_index_or, slice_set, bit_and, bit_or, Fits, w8, w32, w64, Bor, MutBor}
-use Rattle.std.specs.List.{list_all}
-use Rattle.arrayvec.specs.ArrayVec.{array_vec_len}
-use Rattle.noise_names.specs.declared.token.Token.{Token}
-use Rattle.noise_names.specs.declared.token.Role.TheVariants.{Initiator}
-use Rattle.noise_names.specs.declared.faults.TextFaultKind.TheVariants as kinds
-use Rattle.noise_names.specs.Limits.{with_psk_tokens}
-use Rattle.noise_names.specs.Names.{Section, IsSection, are_places}
-use Rattle.noise_names.specs.Text.{line, words}
-use Rattle.noise_names.specs.Tokens.{own_tokens, turn_from}
-use Rattle.noise_names.specs.WrongText.{IsTextFault, arrow_then, dots, first_line, has_dots, heading_of}
-use Rattle.noise_names.specs.Judging.{HasTokens, IsFirstLine, IsNextOf, IsPassed, IsWrong, Passed, Stands}
+use Rattle.noise_names.proofs.Judging.{arrow-line, judged-line}
 use Rattle.noise_names.proofs.text.fault.Judged.judge.Goals as goal
 
--- src/text/fault.rt:149:5
 pub returns-then-self : goal.returns-then-self
-returns-then-self c = ?
+returns-then-self c = λ s dotted st p.
+    let read = c.in-Some-read.ensures.some in
+    judged-line _ dotted s _ _ _ (arrow-line _ _ _ read.0 c.in-Some.ensures.front read.2)
+    (c.judge_pre_message.ensures _ s dotted read.0 st p read.1)
 
--- src/text/fault.rt:149:5
 pub returns-else-self : goal.returns-else-self
-returns-else-self c = ?
+returns-else-self c = λ s dotted st p.
+    let read = c.in-Some-read.ensures.some in
+    judged-line _ dotted s _ _ _ (arrow-line _ _ _ read.0 c.in-Some.ensures.front read.2)
+    (c.judge_message.ensures s dotted read.0 st p read.1)

@@ -1,29 +1,14 @@
-use Rattle.std.proofs.Common.{rules, ◌≡◌, ◌≢◌, ◌⊎◌, ◌↔◌, ◌≤◌, ◌<◌, ◌+◌, ◌++◌, ◌∷◌, ◌==◌, ℕ, List, [], Bool, IsTrue, IsFalse, IfNone, IfSome, MatchResult, false, length, take, bytes_eq, nat_le, if◌then◌else◌, ◌-◌, ◌*◌, ◌/◌, ◌%◌, true, nat_eq, nat_lt, slice_index_or, slice_set, bit_and, bit_or, Fits, w8, w32, w64, Bor, MutBor}
-use Rattle.std.specs.List.{list_all}
-use Rattle.arrayvec.specs.ArrayVec.{array_vec_len}
-use Rattle.noise_names.specs.declared.token.Token.{Token}
-use Rattle.noise_names.specs.declared.token.Role.TheVariants.{Initiator}
-use Rattle.noise_names.specs.declared.faults.TextFaultKind.TheVariants as kinds
-use Rattle.noise_names.specs.Limits.{with_psk_tokens}
-use Rattle.noise_names.specs.Names.{Section, IsSection, are_places}
-use Rattle.noise_names.specs.Text.{line, words}
-use Rattle.noise_names.specs.Tokens.{own_tokens, turn_from}
-use Rattle.noise_names.specs.WrongText.{IsTextFault, arrow_then, dots, first_line, has_dots, heading_of}
-use Rattle.noise_names.specs.Judging.{HasTokens, IsFirstLine, IsNextOf, IsPassed, IsWrong, Passed, Stands}
+use Rattle.std.proofs.Common.{◌∙◌, sym}
+use Rattle.noise_names.proofs.Judging.{next-message, wrong-psks}
 use Rattle.noise_names.proofs.text.fault.Judged.judge_message.Goals as goal
 
--- src/text/fault.rt:227:13
-pub returns-then-ne : goal.returns-then-ne
-returns-then-ne c = ?
-
--- src/text/fault.rt:230:13
-pub returns-then-self-ge8 : goal.returns-then-self-ge8
-returns-then-self-ge8 c = ?
-
--- src/text/fault.rt:220:5
 pub returns-then-have_psks : goal.returns-then-have_psks
-returns-then-have_psks c = ?
+returns-then-have_psks c = λ s dotted tokens st p h.
+    next-message c.args.places.now s dotted tokens c.args.role c.args.self c.requires (c.is_turn.ensures.turn c.if-not-is_turn.false) c.if-self-ge8.false
+    h.some (sym (c.has_few.ensures.few tokens h) ∙ c.if-not-has_few.false) ((c.have_psks.ensures tokens h).0 c.if-have_psks.true) st p
 
--- src/text/fault.rt:220:5
 pub returns-else-have_psks : goal.returns-else-have_psks
-returns-else-have_psks c = ?
+returns-else-have_psks c = λ s dotted tokens st p h.
+    wrong-psks c.args.places.now s tokens c.args.role c.args.self c.requires (c.is_turn.ensures.turn c.if-not-is_turn.false) c.if-self-ge8.false
+    h.some (sym (c.has_few.ensures.few tokens h) ∙ c.if-not-has_few.false)
+    (λ e. absurd (let bad = (c.have_psks.ensures tokens h).1 e in let no = c.if-have_psks.false in cc)) st

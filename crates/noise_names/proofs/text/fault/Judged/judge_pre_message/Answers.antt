@@ -1,21 +1,28 @@
-use Rattle.std.proofs.Common.{rules, ◌≡◌, ◌≢◌, ◌⊎◌, ◌↔◌, ◌≤◌, ◌<◌, ◌+◌, ◌++◌, ◌∷◌, ◌==◌, ℕ, List, [], Bool, IsTrue, IsFalse, IfNone, IfSome, MatchResult, false, length, take, bytes_eq, nat_le, if◌then◌else◌, ◌-◌, ◌*◌, ◌/◌, ◌%◌, true, nat_eq, nat_lt, slice_index_or, slice_set, bit_and, bit_or, Fits, w8, w32, w64, Bor, MutBor}
-use Rattle.std.specs.List.{list_all}
-use Rattle.arrayvec.specs.ArrayVec.{array_vec_len}
-use Rattle.noise_names.specs.declared.token.Token.{Token}
-use Rattle.noise_names.specs.declared.token.Role.TheVariants.{Initiator}
-use Rattle.noise_names.specs.declared.faults.TextFaultKind.TheVariants as kinds
-use Rattle.noise_names.specs.Limits.{with_psk_tokens}
-use Rattle.noise_names.specs.Names.{Section, IsSection, are_places}
-use Rattle.noise_names.specs.Text.{line, words}
-use Rattle.noise_names.specs.Tokens.{own_tokens, turn_from}
-use Rattle.noise_names.specs.WrongText.{IsTextFault, arrow_then, dots, first_line, has_dots, heading_of}
-use Rattle.noise_names.specs.Judging.{HasTokens, IsFirstLine, IsNextOf, IsPassed, IsWrong, Passed, Stands}
+use Rattle.std.proofs.Common.{◌≡◌, ◌∙◌, sym, ap, inl, inr, true, ◌∷◌, ◌++◌, []}
+use Rattle.noise_names.specs.declared.token.Role.{Role}
+use Rattle.noise_names.specs.Judging.{IsNextOf}
+use Rattle.noise_names.specs.Limits.{is_pre_message}
+use Rattle.noise_names.specs.Text.{words}
+use Rattle.noise_names.specs.WrongText.{arrow_then}
+use Rattle.noise_names.proofs.Judging.{next-first, next-second, next-of-role}
+use Rattle.noise_names.proofs.WordLists.{pre-kept}
 use Rattle.noise_names.proofs.text.fault.Judged.judge_pre_message.Goals as goal
 
--- src/text/fault.rt:190:5
 pub returns-in-Initiator : goal.returns-in-Initiator
-returns-in-Initiator c = ?
+returns-in-Initiator c = λ places s dotted tokens st p h.
+    let pre : true ≡ is_pre_message tokens = pre-kept c.args.list.now tokens true h
+    (sym c.if-not-is_pre_message.false ∙ c.is_pre_message.ensures ∙ ap is_pre_message c.deref.ensures.0) in
+    next-of-role places dotted s tokens _ _ _ (sym c.in-Initiator.is)
+    (next-first places s dotted tokens c.args.self c.requires
+    (λ e. absurd (let bad = c.is_barred.ensures.1 (inr (c.in-Initiator.is, e)) in let no = c.if-is_barred.false in cc))
+    (λ e. absurd (let bad = c.is_barred.ensures.1 (inl e) in let no = c.if-is_barred.false in cc))
+    h.some (sym pre) st p)
 
--- src/text/fault.rt:190:5
 pub returns-in-Responder : goal.returns-in-Responder
-returns-in-Responder c = ?
+returns-in-Responder c = λ places s dotted tokens st p h.
+    let pre : true ≡ is_pre_message tokens = pre-kept c.args.list.now tokens true h
+    (sym c.if-not-is_pre_message.false ∙ c.is_pre_message.ensures ∙ ap is_pre_message c.deref.ensures.0) in
+    next-of-role places dotted s tokens _ _ _ (sym c.in-Responder.is)
+    (next-second places s dotted tokens c.args.self c.requires
+    (λ e. absurd (let bad = c.is_barred.ensures.1 (inl e) in let no = c.if-is_barred.false in cc))
+    h.some (sym pre) st p)

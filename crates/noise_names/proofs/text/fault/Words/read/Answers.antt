@@ -1,29 +1,28 @@
-use Rattle.std.proofs.Common.{rules, ◌≡◌, ◌≢◌, ◌⊎◌, ◌↔◌, ◌≤◌, ◌<◌, ◌+◌, ◌++◌, ◌∷◌, ◌==◌, ℕ, List, [], Bool, IsTrue, IsFalse, IfNone, IfSome, MatchResult, false, length, take, bytes_eq, nat_le, if◌then◌else◌, ◌-◌, ◌*◌, ◌/◌, ◌%◌, true, nat_eq, nat_lt, slice_index_or, slice_set, bit_and, bit_or, Fits, w8, w32, w64, Bor, MutBor}
-use Rattle.std.specs.List.{list_all}
-use Rattle.arrayvec.specs.ArrayVec.{array_vec_len}
+use Rattle.std.specs.Prelude.{codes, IfNone, IfSome}
+use Rattle.std.proofs.Common.{◌≡◌, ◌≢◌, List, ℕ}
 use Rattle.noise_names.specs.declared.token.Token.{Token}
-use Rattle.noise_names.specs.declared.token.Role.TheVariants.{Initiator}
-use Rattle.noise_names.specs.declared.faults.TextFaultKind.TheVariants as kinds
-use Rattle.noise_names.specs.Limits.{with_psk_tokens}
-use Rattle.noise_names.specs.Names.{Section, IsSection, are_places}
-use Rattle.noise_names.specs.Text.{line, words}
-use Rattle.noise_names.specs.Tokens.{own_tokens, turn_from}
-use Rattle.noise_names.specs.WrongText.{IsTextFault, arrow_then, dots, first_line, has_dots, heading_of}
-use Rattle.noise_names.specs.Judging.{HasTokens, IsFirstLine, IsNextOf, IsPassed, IsWrong, Passed, Stands}
+use Rattle.noise_names.specs.Text.{words}
+use Rattle.noise_names.proofs.Reading.{stripped, not-stripped, equal_from_test, differ_from_test}
+use Rattle.noise_names.proofs.WordLists.{no-word, no-comma, read-end, read-more}
 use Rattle.noise_names.proofs.text.fault.Words.read.Goals as goal
 
--- src/text/fault.rt:286:34
 pub returns-in_err-token-clause-none : goal.returns-in_err-token-clause-none
-returns-in_err-token-clause-none c = ?
+returns-in_err-token-clause-none c =
+    rw c.from_residual.ensures
+    (no-word _ _ _ _ c.loop-token.invariant (λ t b more low e. c.in_err-token.ensures.every t b more low e tt) (λ t e. c.in_err-token.ensures.last t e tt))
 
--- src/text/fault.rt:289:17
 pub returns-then-is_empty-clause-some : goal.returns-then-is_empty-clause-some
-returns-then-is_empty-clause-some c = ?
+returns-then-is_empty-clause-some c =
+    read-end _ _ _ _ _ _ _ c.loop-token.invariant c.in_ok-token.ensures.some (equal_from_test _ _ 0 c.is_empty.ensures c.if-is_empty.true)
+    c.add.ensures.first c.add.ensures.own
 
--- src/text/fault.rt:291:20
 pub returns-in_err-left-clause-none : goal.returns-in_err-left-clause-none
-returns-in_err-left-clause-none c = ?
+returns-in_err-left-clause-none c =
+    rw c.from_residual-in_err-left.ensures
+    (no-comma _ _ _ _ _ _ c.loop-token.invariant c.in_ok-token.ensures.every c.in_ok-token.ensures.last
+    (differ_from_test _ _ 0 c.is_empty.ensures c.if-is_empty.false) (not-stripped _ (codes ", ") c.in_err-left.ensures.cases))
 
--- src/text/fault.rt:285:9
 pub loop-token-preserved : goal.loop-token-preserved
-loop-token-preserved c = ?
+loop-token-preserved c =
+    read-more _ _ _ _ _ _ _ _ _ c.loop-token.invariant c.in_ok-token.ensures.some (stripped _ (codes ", ") c.in_ok-left.left c.in_ok-left.ensures.cases)
+    c.add.ensures.first c.add.ensures.own
