@@ -3,6 +3,7 @@ use Rattle.std.proofs.Common.{◌≡◌, ◌≢◌, ◌⊎◌, ◌↔◌, ℕ, s
 use Rattle.std.proofs.Common.{append_assoc, append-nil, length, length-append, arith, inl, inr, subst, None}
 use Rattle.std.specs.Prelude.{codes, IsTrue, IsFalse, bytes_eq, count_by}
 use Rattle.std.specs.List.{list_all}
+use Rattle.std.proofs.lemmas.List.Sums.{sum_by-append}
 use Rattle.std.proofs.lemmas.Bool.Decides.{nat_tests}
 use Rattle.noise_names.specs.declared.text.fault.Judged.{Judged}
 use Rattle.noise_names.specs.declared.faults.TextFault.{TextFault}
@@ -57,7 +58,7 @@ like-lines places lines body dotted s x d e = record {
   pre_messages = subst (λ (b : Bool). pre_lines x.p.initiator x.p.responder ≢ [] ↔ IsTrue b) (d ∙ ap has_dots e) x.pre_messages;
 }
 
-begins-right : (s : Section) (lines rest : List ℕ) (number : ℕ) (j : Judged) → IsSection s → (r : AreRight s.places lines rest number j)
+abbrev begins-right : (s : Section) (lines rest : List ℕ) (number : ℕ) (j : Judged) → IsSection s → (r : AreRight s.places lines rest number j)
     → IsExtended s.places (has_dots lines) r.passed → BeginsRight (text_with s lines) (passed_lines r.passed) rest
 begins-right s lines rest number j h r x = record {
   heading = s;
@@ -78,7 +79,7 @@ at-message places dotted s x h =
 
 -- ---- a wrong line
 
-wrong-line : (s : Section) (lines rest : List ℕ) (number : ℕ) (j : Judged) (kind : TextFaultKind) → IsSection s
+abbrev wrong-line : (s : Section) (lines rest : List ℕ) (number : ℕ) (j : Judged) (kind : TextFaultKind) → IsSection s
     → (r : AreRight s.places lines rest number j) → IsExtended s.places (has_dots lines) r.passed
     → rest ≢ [] → IsWrong s.places r.passed (first_line rest) kind → IsWrongLine (text_with s lines) number
 wrong-line s lines rest number j kind h r x some w = record {
@@ -149,14 +150,14 @@ cut-in-line s lines rest bytes number j next h r some is cut n =
 -- ---- one more right line
 
 feeds-append : (xs ys : List ℕ) → line_feeds (xs ++ ys) ≡ line_feeds xs + line_feeds ys
-feeds-append xs ys = count_by-append (λ b. eqb b 10) xs ys
+feeds-append xs ys = sum_by-append (λ b. cond (eqb b 10) 1 0) xs ys
 
 feeds-none : (xs : List ℕ) → list_all is_other xs ≡ true → line_feeds xs ≡ 0
 feeds-none [] h = refl
-feeds-none (x ∷ xs) h = at (eqb x 10) h (feeds-none xs) where
-  at : (b : Bool) → not b && list_all is_other xs ≡ true → (list_all is_other xs ≡ true → line_feeds xs ≡ 0) → cond b (suc (line_feeds xs)) (line_feeds xs) ≡ 0
+feeds-none (x ∷ xs) h = feeds-append (x ∷ []) xs ∙ at (eqb x 10) h (feeds-none xs) where
+  at : (b : Bool) → not b && list_all is_other xs ≡ true → (list_all is_other xs ≡ true → line_feeds xs ≡ 0) → (0 + cond b 1 0) + line_feeds xs ≡ 0
   at true k more = absurd (let bad : false ≡ true = k in cc)
-  at false k more = more k
+  at false k more = let none : line_feeds xs ≡ 0 = more k in omega arith
 
 pub line-more : (places lines rest bytes after : List ℕ) (number : ℕ) (j next : Judged) (r : AreRight places lines rest number j) → bytes ≡ first_line rest
     → rest ≡ line bytes ++ after → IsNextOf places (has_dots lines) r.passed bytes next → AreRight places lines after (number + 1) next
@@ -295,3 +296,82 @@ right-start places lines j e =
       counted = ap (λ (y : List ℕ). line_feeds y + 2) (sym (none b));
       ended = inl (none b);
     }
+
+-- ---- the same, where the psk places are those of the heading
+
+pub line-fault : (places : List ℕ) (s : Section) (lines rest bytes : List ℕ) (number : ℕ) (j : Judged) (kind : TextFaultKind) (fault : TextFault) → IsSection s
+    → s.places ≡ places → (r : AreRight places lines rest number j) → length rest ≢ 0 → bytes ≡ first_line rest → IsWrong places r.passed bytes kind
+    → fault ≡ fault_at number kind → IsTextFault (text_with s lines) fault
+line-fault places s lines rest bytes number j kind fault h same r some is w e =
+    subst (λ (f : TextFault). IsTextFault (text_with s lines) f) (sym e)
+    (subst (λ (ns : List ℕ). (q : AreRight ns lines rest number j) → IsWrong ns q.passed (first_line rest) kind → IsTextFaultAt (text_with s lines) number kind)
+    same
+    (λ q v. fault-in-line s lines rest number j kind h q (extended s.places (has_dots lines) q.passed h.places q.are) (λ f. some (ap length f)) v)
+    r (subst (λ (b : List ℕ). IsWrong places r.passed b kind) is w))
+
+cut-line : (text bytes after : List ℕ) (ended : Bool) → IsFirstLine text bytes ended after → ended ≡ false → text ≡ bytes
+cut-line text bytes after true whole e = absurd (cc)
+cut-line text bytes after false whole e = whole.0
+
+pub cut-fault : (places : List ℕ) (s : Section) (lines rest bytes after : List ℕ) (ended : Bool) (number : ℕ) (j next : Judged) (fault : TextFault)
+    → IsSection s → s.places ≡ places → (r : AreRight places lines rest number j) → length rest ≢ 0 → bytes ≡ first_line rest
+    → IsFirstLine rest bytes ended after → ended ≡ false → IsNextOf places (has_dots lines) r.passed bytes next
+    → fault ≡ fault_at number kinds.Ending → IsTextFault (text_with s lines) fault
+cut-fault places s lines rest bytes after ended number j next fault h same r some is whole no_end n e =
+    subst (λ (f : TextFault). IsTextFault (text_with s lines) f) (sym e)
+    (subst (λ (ns : List ℕ). (q : AreRight ns lines rest number j) → IsNextOf ns (has_dots lines) q.passed bytes next
+        → IsTextFaultAt (text_with s lines) number kinds.Ending)
+    same
+    (λ q m. cut-in-line s lines rest bytes number j next h q (λ f. some (ap length f)) is (cut-line rest bytes after ended whole no_end) m)
+    r n)
+
+ended-line : (text bytes after : List ℕ) (ended : Bool) → IsFirstLine text bytes ended after → ended ≡ true → text ≡ line bytes ++ after
+ended-line text bytes after true whole e = whole
+ended-line text bytes after false whole e = absurd (cc)
+
+pub next-right : (places lines rest bytes after : List ℕ) (ended : Bool) (number : ℕ) (j next : Judged) (r : AreRight places lines rest number j)
+    → bytes ≡ first_line rest → IsFirstLine rest bytes ended after → ended ≡ true → IsNextOf places (has_dots lines) r.passed bytes next
+    → AreRight places lines after (number + 1) next
+next-right places lines rest bytes after ended number j next r is whole end n =
+    line-more places lines rest bytes after number j next r is (ended-line rest bytes after ended whole end) n
+
+pub all-fault : (places : List ℕ) (s : Section) (lines rest : List ℕ) (number : ℕ) (j : Judged) (fault : TextFault) → IsSection s → s.places ≡ places
+    → AreRight places lines rest number j → length rest ≡ 0
+    → fault ≡ cond (eqb j.messages 0) (fault_at number kinds.Ending)
+        (cond (list_all (λ n. leb n j.messages) places) (fault_at 1 kinds.NameTaken) (fault_at 1 kinds.PskPlace))
+    → IsTextFault (text_with s lines) fault
+all-fault places s lines rest number j fault h same r none e =
+    fault-of-all s lines number j fault h
+    (subst (λ (ns : List ℕ). AreRight ns lines [] number j) (sym same) (subst (λ (y : List ℕ). AreRight places lines y number j) (none-of rest none) r))
+    (e ∙ ap (λ (ns : List ℕ). cond (eqb j.messages 0) (fault_at number kinds.Ending)
+    (cond (list_all (λ n. leb n j.messages) ns) (fault_at 1 kinds.NameTaken) (fault_at 1 kinds.PskPlace))) (sym same))
+
+-- ---- the heading
+
+-- what reading the heading answers
+abbrev pub IsHeading : List ℕ → Section → List ℕ → Type 0
+IsHeading text name after = (s : Section) (rest : List ℕ) → IsSection s → text ≡ heading_of s ++ rest → (name ≡ s) × (after ≡ rest)
+
+pub no-heading : (text : List ℕ) (fault : TextFault) → ((s : Section) (rest : List ℕ) → IsSection s → text ≡ heading_of s ++ rest → ⊥)
+    → fault ≡ fault_at 1 kinds.Heading → IsTextFault text fault
+no-heading text fault none e =
+    subst (λ (f : TextFault). IsTextFault text f) (sym e)
+    (refl, λ s h. (
+      λ f. none s [] h (f ∙ sym (append-nil (heading_of s))),
+      λ rest f. none s (10 ∷ rest) h (f ∙ append_assoc (heading_of s) (10 ∷ []) rest),
+    ))
+
+pub wrong-heading : (text : List ℕ) (name : Section) (after : List ℕ) (fault : TextFault) → IsHeading text name after → length after ≢ 0
+    → ((rest : List ℕ) → after ≢ codes "\n" ++ rest) → fault ≡ fault_at 1 kinds.Heading → IsTextFault text fault
+wrong-heading text name after fault every some no_feed e =
+    subst (λ (f : TextFault). IsTextFault text f) (sym e)
+    (refl, λ s h. (
+      λ f. some (ap length (every s [] h (f ∙ sym (append-nil (heading_of s)))).1),
+      λ rest f. no_feed rest (every s (10 ∷ rest) h (f ∙ append_assoc (heading_of s) (10 ∷ []) rest)).1,
+    ))
+
+pub after-heading : (text : List ℕ) (name : Section) (after lines : List ℕ) (fault : TextFault) → text ≡ heading_of name ++ after
+    → after ≡ codes "\n" ++ lines → IsTextFault (text_with name lines) fault → IsTextFault text fault
+after-heading text name after lines fault e f told =
+    subst (λ (y : List ℕ). IsTextFault y fault)
+    (append_assoc (heading_of name) (10 ∷ []) lines ∙ ap (λ (y : List ℕ). heading_of name ++ y) (sym f) ∙ sym e) told
