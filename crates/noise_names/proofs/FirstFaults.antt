@@ -1,7 +1,7 @@
 -- The first fault of a text, from what was judged of its lines.
-use Rattle.std.proofs.Common.{◌≡◌, ◌≢◌, ◌⊎◌, ◌↔◌, ℕ, suc, zero, ◌+◌, ◌≤◌, ◌<◌, Bool, true, false, ◌&&◌, ◌||◌, not, leb, eqb, List, [], ◌∷◌, ◌++◌, refl, ap, sym, ◌∙◌, cond}
-use Rattle.std.proofs.Common.{append_assoc, append-nil, length, length-append, arith, inl, inr, subst, None}
-use Rattle.std.specs.Prelude.{codes, IsTrue, IsFalse, bytes_eq, count_by}
+use Rattle.std.proofs.Common.{◌≡◌, ◌≢◌, ◌⊎◌, ◌↔◌, ℕ, ◌+◌, Bool, true, false, ◌&&◌, not, leb, eqb, List, [], ◌∷◌, ◌++◌, refl, ap, sym, ◌∙◌, cond}
+use Rattle.std.proofs.Common.{append_assoc, append-nil, length, arith, inl, inr, subst}
+use Rattle.std.specs.Prelude.{codes, IsTrue}
 use Rattle.std.specs.List.{list_all}
 use Rattle.std.proofs.lemmas.List.Sums.{sum_by-append}
 use Rattle.std.proofs.lemmas.Bool.Decides.{nat_tests}
@@ -12,16 +12,14 @@ use Rattle.noise_names.specs.declared.faults.TextFaultKind.TheVariants as kinds
 use Rattle.noise_names.specs.declared.token.Role.{Role}
 use Rattle.noise_names.specs.declared.token.Role.TheVariants.{Initiator, Responder}
 use Rattle.noise_names.specs.declared.token.Token.{Token}
-use Rattle.noise_names.specs.Judging.{IsFirstLine, IsNextOf, IsPassed, IsWrong, Passed, Stands, passed_lines}
-use Rattle.noise_names.specs.Limits.{IsPattern}
-use Rattle.noise_names.specs.Names.{Section, IsSection, are_places, section_bytes}
-use Rattle.noise_names.specs.Plan.{Plan}
-use Rattle.noise_names.specs.Text.{line, message_lines, pre_line, pre_lines, text_of, words}
-use Rattle.noise_names.specs.WrongText.{BeginsRight, IsAfter, IsCutShort, IsEnded, IsLike, IsTextFault, IsTextFaultAt, IsWrongLine, HasPlaceBeyond}
-use Rattle.noise_names.specs.WrongText.{arrow_then, body_of, dots, first_line, has_dots, heading_of, line_feeds}
+use Rattle.noise_names.specs.Judging.{IsFirstLine, IsNextOf, IsWrong, Passed, Stands, passed_lines}
+use Rattle.noise_names.specs.Names.{Section, IsSection, section_bytes}
+use Rattle.noise_names.specs.Text.{line, message_lines, pre_line, pre_lines, words}
+use Rattle.noise_names.specs.WrongText.{BeginsRight, IsAfter, IsLike, IsTextFault, IsTextFaultAt, IsWrongLine}
+use Rattle.noise_names.specs.WrongText.{arrow_then, body_of, first_line, has_dots, heading_of, line_feeds}
 use Rattle.noise_names.proofs.Judging.{AreRight, after-lines, ahead-lines}
 use Rattle.noise_names.proofs.Lines.{dots-line, is_other, take-while-all}
-use Rattle.noise_names.proofs.RightTexts.{IsExtended, IsWhole, extended, whole}
+use Rattle.noise_names.proofs.RightTexts.{IsExtended, extended, whole}
 use Rattle.noise_names.proofs.Rows.{no_feed-row, tokens_of}
 use Rattle.noise_names.proofs.WrongLines.{excluded}
 
@@ -199,8 +197,11 @@ no-message s lines number j h r x none =
       it = begins-right s lines [] number j h r x;
       last = refl;
       counted = r.counted;
-      next = inr (refl, subst (λ (ms : List (List Token)). IsAfter x.p ms (passed_lines r.passed)) empty
-          (at-message s.places (has_dots lines) r.passed x (behind s.places lines number j r)));
+      next = inr (
+        refl,
+        subst (λ (ms : List (List Token)). IsAfter x.p ms (passed_lines r.passed)) empty
+            (at-message s.places (has_dots lines) r.passed x (behind s.places lines number j r)),
+      );
     })
 
 within-count : (j : Judged) (s : Passed) (places : List ℕ) (b : Bool) → Stands j s → list_all (λ n. leb n j.messages) places ≡ b
@@ -213,14 +214,17 @@ some-messages j s st some e = some (st.messages ∙ ap length e)
 place-beyond : (s : Section) (lines : List ℕ) (number : ℕ) (j : Judged) → IsSection s → (r : AreRight s.places lines [] number j)
     → IsExtended s.places (has_dots lines) r.passed → j.messages ≢ 0 → list_all (λ n. leb n j.messages) s.places ≡ false
     → IsTextFaultAt (text_with s lines) 1 kinds.PskPlace
-place-beyond s lines number j h r x some beyond = inr (refl, record {
-  body = passed_lines r.passed;
-  it = begins-right s lines [] number j h r x;
-  messages = r.passed.messages;
-  some = some-messages j r.passed r.stands some;
-  are = at-message s.places (has_dots lines) r.passed x (behind s.places lines number j r);
-  beyond = within-count j r.passed s.places false r.stands beyond;
-})
+place-beyond s lines number j h r x some beyond = inr (
+  refl,
+  record {
+    body = passed_lines r.passed;
+    it = begins-right s lines [] number j h r x;
+    messages = r.passed.messages;
+    some = some-messages j r.passed r.stands some;
+    are = at-message s.places (has_dots lines) r.passed x (behind s.places lines number j r);
+    beyond = within-count j r.passed s.places false r.stands beyond;
+  },
+)
 
 name-taken : (s : Section) (lines : List ℕ) (number : ℕ) (j : Judged) → IsSection s → (r : AreRight s.places lines [] number j)
     → j.messages ≢ 0 → list_all (λ n. leb n j.messages) s.places ≡ true → IsTextFaultAt (text_with s lines) 1 kinds.NameTaken
@@ -229,18 +233,27 @@ name-taken s lines number j h r some within =
     (within-count j r.passed s.places true r.stands within) in
     let body : lines ≡ body_of w.p = r.lines_are ∙ append-nil (passed_lines r.passed) ∙ sym w.body_is in
     let heading : line (section_bytes s.base s.places ++ codes ":") ≡ line (section_bytes s.base w.p.places ++ codes ":") =
-    ap (λ (ns : List ℕ). line (section_bytes s.base ns ++ codes ":")) (sym w.places_are) in
-    (refl, (w.p, s.base, w.is_pattern, w.own_name, h.base, ap (λ (y : List ℕ). line (heading_of s) ++ y) body
-    ∙ ap (λ (y : List ℕ). y ++ body_of w.p) heading
-    ∙ sym (append_assoc (line (section_bytes s.base w.p.places ++ codes ":")) (pre_lines w.p.initiator w.p.responder)
-    (message_lines Initiator w.p.messages))))
+    ap (λ (ns : List ℕ). line (section_bytes s.base ns ++ codes ":")) (sym w.places_are) in (
+      refl,
+      (
+        w.p,
+        s.base,
+        w.is_pattern,
+        w.own_name,
+        h.base,
+        ap (λ (y : List ℕ). line (heading_of s) ++ y) body
+            ∙ ap (λ (y : List ℕ). y ++ body_of w.p) heading
+            ∙ sym (append_assoc (line (section_bytes s.base w.p.places ++ codes ":")) (pre_lines w.p.initiator w.p.responder)
+            (message_lines Initiator w.p.messages)),
+      ),
+    )
 
 abbrev fault_at : ℕ → TextFaultKind → TextFault
 fault_at number kind = record { line = number; kind = kind }
 
 pub fault-of-all : (s : Section) (lines : List ℕ) (number : ℕ) (j : Judged) (fault : TextFault) → IsSection s → AreRight s.places lines [] number j
     → fault ≡ cond (eqb j.messages 0) (fault_at number kinds.Ending)
-        (cond (list_all (λ n. leb n j.messages) s.places) (fault_at 1 kinds.NameTaken) (fault_at 1 kinds.PskPlace))
+    (cond (list_all (λ n. leb n j.messages) s.places) (fault_at 1 kinds.NameTaken) (fault_at 1 kinds.PskPlace))
     → IsTextFault (text_with s lines) fault
 fault-of-all s lines number j fault h r e =
     subst (λ (f : TextFault). IsTextFault (text_with s lines) f) (sym e)
@@ -276,7 +289,7 @@ right-start places lines j e =
     no-lines h = h refl
 
     form : (b : Bool) → IsTrue b ↔ (IsTrue b ⊎ (pre_lines [] [] ≢ []))
-    form b = (λ t. inl t, λ t. elim t [ | inl u ↦ u | inr u ↦ absurd (u refl) ])
+    form b = (λ t. inl t, λ t. elim t [ inl u ↦ u | inr u ↦ absurd (u refl) ])
 
     at : (b : Bool) → has_dots lines ≡ b
         → AreRight places lines lines 2 (record { dots_ahead = b; initiator = false; responder = false; messages = 0 })
@@ -320,7 +333,7 @@ pub cut-fault : (places : List ℕ) (s : Section) (lines rest bytes after : List
 cut-fault places s lines rest bytes after ended number j next fault h same r some is whole no_end n e =
     subst (λ (f : TextFault). IsTextFault (text_with s lines) f) (sym e)
     (subst (λ (ns : List ℕ). (q : AreRight ns lines rest number j) → IsNextOf ns (has_dots lines) q.passed bytes next
-        → IsTextFaultAt (text_with s lines) number kinds.Ending)
+    → IsTextFaultAt (text_with s lines) number kinds.Ending)
     same
     (λ q m. cut-in-line s lines rest bytes number j next h q (λ f. some (ap length f)) is (cut-line rest bytes after ended whole no_end) m)
     r n)
@@ -338,7 +351,7 @@ next-right places lines rest bytes after ended number j next r is whole end n =
 pub all-fault : (places : List ℕ) (s : Section) (lines rest : List ℕ) (number : ℕ) (j : Judged) (fault : TextFault) → IsSection s → s.places ≡ places
     → AreRight places lines rest number j → length rest ≡ 0
     → fault ≡ cond (eqb j.messages 0) (fault_at number kinds.Ending)
-        (cond (list_all (λ n. leb n j.messages) places) (fault_at 1 kinds.NameTaken) (fault_at 1 kinds.PskPlace))
+    (cond (list_all (λ n. leb n j.messages) places) (fault_at 1 kinds.NameTaken) (fault_at 1 kinds.PskPlace))
     → IsTextFault (text_with s lines) fault
 all-fault places s lines rest number j fault h same r none e =
     fault-of-all s lines number j fault h
@@ -355,20 +368,24 @@ IsHeading text name after = (s : Section) (rest : List ℕ) → IsSection s → 
 pub no-heading : (text : List ℕ) (fault : TextFault) → ((s : Section) (rest : List ℕ) → IsSection s → text ≡ heading_of s ++ rest → ⊥)
     → fault ≡ fault_at 1 kinds.Heading → IsTextFault text fault
 no-heading text fault none e =
-    subst (λ (f : TextFault). IsTextFault text f) (sym e)
-    (refl, λ s h. (
-      λ f. none s [] h (f ∙ sym (append-nil (heading_of s))),
-      λ rest f. none s (10 ∷ rest) h (f ∙ append_assoc (heading_of s) (10 ∷ []) rest),
-    ))
+    subst (λ (f : TextFault). IsTextFault text f) (sym e) (
+      refl,
+      λ s h. (
+        λ f. none s [] h (f ∙ sym (append-nil (heading_of s))),
+        λ rest f. none s (10 ∷ rest) h (f ∙ append_assoc (heading_of s) (10 ∷ []) rest),
+      ),
+    )
 
 pub wrong-heading : (text : List ℕ) (name : Section) (after : List ℕ) (fault : TextFault) → IsHeading text name after → length after ≢ 0
     → ((rest : List ℕ) → after ≢ codes "\n" ++ rest) → fault ≡ fault_at 1 kinds.Heading → IsTextFault text fault
 wrong-heading text name after fault every some no_feed e =
-    subst (λ (f : TextFault). IsTextFault text f) (sym e)
-    (refl, λ s h. (
-      λ f. some (ap length (every s [] h (f ∙ sym (append-nil (heading_of s)))).1),
-      λ rest f. no_feed rest (every s (10 ∷ rest) h (f ∙ append_assoc (heading_of s) (10 ∷ []) rest)).1,
-    ))
+    subst (λ (f : TextFault). IsTextFault text f) (sym e) (
+      refl,
+      λ s h. (
+        λ f. some (ap length (every s [] h (f ∙ sym (append-nil (heading_of s)))).1),
+        λ rest f. no_feed rest (every s (10 ∷ rest) h (f ∙ append_assoc (heading_of s) (10 ∷ []) rest)).1,
+      ),
+    )
 
 pub after-heading : (text : List ℕ) (name : Section) (after lines : List ℕ) (fault : TextFault) → text ≡ heading_of name ++ after
     → after ≡ codes "\n" ++ lines → IsTextFault (text_with name lines) fault → IsTextFault text fault

@@ -1,7 +1,7 @@
 -- What is judged of one more line.
-use Rattle.std.proofs.Common.{◌≡◌, ◌≢◌, ◌⊎◌, ◌↔◌, ℕ, suc, zero, ◌+◌, ◌≤◌, ◌<◌, ◌%◌, Bool, true, false, ◌&&◌, not, leb, List, [], ◌∷◌, ◌++◌, refl, ap, sym, ◌∙◌, cond}
-use Rattle.std.proofs.Common.{append_assoc, append-nil, length, length-append, arith, inl, inr, subst, Result, eqb}
-use Rattle.std.specs.Prelude.{codes, IsTrue, IsFalse, MatchResult}
+use Rattle.std.proofs.Common.{◌≡◌, ◌≢◌, ◌⊎◌, ℕ, suc, zero, ◌+◌, ◌≤◌, ◌<◌, ◌%◌, Bool, true, false, ◌&&◌, leb, List, [], ◌∷◌, ◌++◌, refl, ap, sym, ◌∙◌, cond}
+use Rattle.std.proofs.Common.{append_assoc, append-nil, length, length-append, arith, inl, inr, subst, Result}
+use Rattle.std.specs.Prelude.{codes, MatchResult}
 use Rattle.std.specs.List.{list_all}
 use Rattle.std.proofs.lemmas.Bool.Decides.{nat_tests}
 use Rattle.std.proofs.lemmas.List.Folds.{list_all-append}
@@ -11,11 +11,11 @@ use Rattle.noise_names.specs.declared.faults.TextFaultKind.TheVariants as kinds
 use Rattle.noise_names.specs.declared.token.Role.{Role}
 use Rattle.noise_names.specs.declared.token.Role.TheVariants.{Initiator, Responder}
 use Rattle.noise_names.specs.declared.token.Token.{Token}
-use Rattle.noise_names.specs.Judging.{IsBarred, IsNextOf, IsPassed, IsWrong, Passed, Stands, is_some, passed_lines}
-use Rattle.noise_names.specs.Limits.{HavePsksAt, has_few_tokens, is_pre_message, with_psk_tokens}
+use Rattle.noise_names.specs.Judging.{IsNextOf, IsPassed, IsWrong, Passed, Stands, is_some, passed_lines}
+use Rattle.noise_names.specs.Limits.{has_few_tokens, is_pre_message, with_psk_tokens}
 use Rattle.noise_names.specs.Text.{arrow_of, line, message_lines, pre_line, pre_lines, token_line, words}
 use Rattle.noise_names.specs.Tokens.{other, own_tokens, turn_from}
-use Rattle.noise_names.specs.WrongText.{IsEnded, IsTokens, has_dots, line_feeds, arrow_then, dots, is_within}
+use Rattle.noise_names.specs.WrongText.{IsEnded, has_dots, line_feeds, arrow_then, dots}
 use Rattle.noise_names.proofs.RightTexts.{have_psks-append, message_lines-append}
 
 -- whose turn it is
@@ -213,11 +213,16 @@ pub wrong-psks : (places : List ℕ) (s : Passed) (tokens : List Token) (role : 
 wrong-psks places s tokens role j ahead turn less some few psks st =
     let same : j.messages ≡ length s.messages = st.messages in (
       sym st.ahead ∙ ahead,
-      (tokens, (
-        some,
-        ap (λ (r : Role). arrow_then r (words tokens)) (turn ∙ ap (turn_from Initiator) same),
-      ), both (leb (length s.messages + 1) 8) (has_few_tokens tokens) (le_test (length s.messages + 1) 8 (omega arith)) few, λ e.
-          psks (e ∙ ap (λ (n : ℕ). with_psk_tokens places (n + 1) (own_tokens tokens)) (sym same))),
+      (
+        tokens,
+        (
+          some,
+          ap (λ (r : Role). arrow_then r (words tokens)) (turn ∙ ap (turn_from Initiator) same),
+        ),
+        both (leb (length s.messages + 1) 8) (has_few_tokens tokens) (le_test (length s.messages + 1) 8 (omega arith)) few,
+        λ e.
+            psks (e ∙ ap (λ (n : ℕ). with_psk_tokens places (n + 1) (own_tokens tokens)) (sym same)),
+      ),
     )
   where
     le_test : (m n : ℕ) → m ≤ n → leb m n ≡ true

@@ -1,16 +1,16 @@
 -- The first line of a text, and the lines that end the pre-messages.
-use Rattle.std.proofs.Common.{◌≡◌, ◌≢◌, ℕ, ◌+◌, ◌≤◌, ◌<◌, Bool, true, false, not, ◌||◌, cond, eqb, List, [], ◌∷◌, ◌++◌, refl, ap, sym, ◌∙◌, append_assoc, append-nil}
-use Rattle.std.proofs.Common.{length, length-append, arith, take, drop, take-append-drop, take_while, subst, inl, inr, ◌⊎◌, ◌&&◌, All}
+use Rattle.std.proofs.Common.{◌≡◌, ◌≢◌, ℕ, ◌<◌, Bool, true, false, not, ◌||◌, cond, eqb, List, [], ◌∷◌, ◌++◌, refl, ap, sym, ◌∙◌, append_assoc, append-nil}
+use Rattle.std.proofs.Common.{length, length-append, arith, take, drop, take-append-drop, take_while, subst, ◌&&◌, All}
 use Rattle.std.proofs.lemmas.List.Elements.{All-nil, All-cons}
-use Rattle.std.specs.Prelude.{codes, bytes_eq, count_by}
-use Rattle.std.specs.List.{list_all, list_any, slice_split}
+use Rattle.std.specs.Prelude.{bytes_eq}
+use Rattle.std.specs.List.{list_all, list_any}
 use Rattle.std.proofs.lemmas.Bool.Decides.{nat_tests}
 use Rattle.std.proofs.lemmas.List.Sums.{take_while-cons}
 use Rattle.noise_names.proofs.Sections.{take-front}
 use Rattle.std.proofs.lemmas.List.Splits.{slice_split_none, slice_split_at}
 use Rattle.noise_names.specs.Judging.{IsFirstLine}
 use Rattle.noise_names.specs.Text.{line}
-use Rattle.noise_names.specs.WrongText.{line_feeds, IsEnded, first_line, dots, has_dots}
+use Rattle.noise_names.specs.WrongText.{first_line, dots, has_dots}
 
 abbrev pub is_other : ℕ → Bool
 is_other b = not (eqb b 10)
@@ -88,7 +88,8 @@ pub dots-first : (text bytes after : List ℕ) (ended : Bool) → bytes ≡ firs
     → has_dots text ≡ bytes_eq bytes dots || has_dots after
 dots-first text bytes after true is whole = ap has_dots whole ∙ dots-line bytes after (ap (list_all is_other) is ∙ take-while-all is_other text)
 dots-first text bytes after false is whole =
-    ap has_dots (whole.0) ∙ dots-last bytes (ap (list_all is_other) is ∙ take-while-all is_other text) ∙ or_none (bytes_eq bytes dots) ∙ ap (λ (x : List ℕ). bytes_eq bytes dots || has_dots x) (sym whole.1)
+    ap has_dots (whole.0) ∙ dots-last bytes (ap (list_all is_other) is ∙ take-while-all is_other text) ∙ or_none (bytes_eq bytes dots)
+    ∙ ap (λ (x : List ℕ). bytes_eq bytes dots || has_dots x) (sym whole.1)
   where
     or_none : (x : Bool) → x ≡ x || false
     or_none true = refl

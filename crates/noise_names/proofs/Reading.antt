@@ -1,6 +1,7 @@
 -- What is read of a written text.
 use Rattle.std.proofs.Common.{◌≡◌, ◌≢◌, ℕ, ◌+◌, ◌<◌, ◌≤◌, Bool, true, false, not, cond, List, [], ◌∷◌, ◌++◌, refl, ap, sym, ◌∙◌, append_assoc, append-nil}
-use Rattle.std.proofs.Common.{length, length-append, arith, map, subst, get_or, take, drop, take-append-drop, eqb, suc, Some, None, Bor, ◌⊎◌, inl, inr, ◌&&◌, leb, ltb, Result}
+use Rattle.std.proofs.Common.{length, length-append, arith, map, subst, get_or, take, drop, take-append-drop, eqb, suc, Some, None, Bor, ◌⊎◌, inl, inr, ◌&&◌, leb, ltb}
+use Rattle.std.proofs.Common.{Result}
 use Rattle.std.proofs.Common.{Ok, Err}
 use Rattle.std.specs.Cmp.Lexicographic.{pointwise}
 use Rattle.std.proofs.lemmas.Bool.Decides.{Decides-eqb, nat_tests}

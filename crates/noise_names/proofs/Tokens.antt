@@ -1,5 +1,5 @@
 -- Tokens are compared.
-use Rattle.std.proofs.Common.{◌≡◌, Bool, true, refl, subst, rules}
+use Rattle.std.proofs.Common.{◌≡◌, true, refl, subst, rules}
 use Rattle.std.specs.Bool.{Decides}
 use denote.Enum.Bare.{same_true}
 use Rattle.noise_names.specs.declared.token.Token.{Token}

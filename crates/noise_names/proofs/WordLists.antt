@@ -1,6 +1,6 @@
 -- Lists of words of which some were read.
-use Rattle.std.proofs.Common.{◌≡◌, ◌≢◌, ℕ, ◌+◌, ◌<◌, suc, zero, Bool, true, false, not, cond, List, [], ◌∷◌, ◌++◌, refl, ap, sym, ◌∙◌, append_assoc, append-nil}
-use Rattle.std.proofs.Common.{length, length-append, arith, take, drop, Option, Some, None, eqb, leb, ◌≤◌, ◌&&◌, ◌⊎◌, inl, inr, min}
+use Rattle.std.proofs.Common.{◌≡◌, ◌≢◌, ℕ, ◌<◌, suc, zero, Bool, true, false, not, cond, List, [], ◌∷◌, ◌++◌, refl, ap, sym, ◌∙◌, append_assoc, append-nil}
+use Rattle.std.proofs.Common.{length, arith, take, Some, None, eqb, leb, ◌≤◌, ◌&&◌, ◌⊎◌, inl, inr, min}
 use Rattle.std.specs.Prelude.{codes, bytes_eq}
 use Rattle.std.proofs.lemmas.Bool.Decides.{Decides-eqb, nat_tests}
 use Rattle.std.proofs.lemmas.Slice.Eq.{slice_eq-Decides}
@@ -152,7 +152,7 @@ word-of-named w t e = at (bytes_eq w (codes "e")) (bytes_eq w (codes "s")) (byte
     at : (b1 b2 b3 b4 b5 b6 b7 : Bool) → (b1 ≡ true → w ≡ codes "e") → (b2 ≡ true → w ≡ codes "s") → (b3 ≡ true → w ≡ codes "ee")
         → (b4 ≡ true → w ≡ codes "es") → (b5 ≡ true → w ≡ codes "se") → (b6 ≡ true → w ≡ codes "ss") → (b7 ≡ true → w ≡ codes "psk")
         → cond b1 (Some E) (cond b2 (Some S) (cond b3 (Some Ee) (cond b4 (Some Es) (cond b5 (Some Se) (cond b6 (Some Ss) (cond b7 (Some Psk) None))))))
-            ≡ Some t
+        ≡ Some t
         → w ≡ word_of t
     at true b2 b3 b4 b5 b6 b7 h1 h2 h3 h4 h5 h6 h7 f = let same : E ≡ t = cc in h1 refl ∙ ap word_of same
     at false true b3 b4 b5 b6 b7 h1 h2 h3 h4 h5 h6 h7 f = let same : S ≡ t = cc in h2 refl ∙ ap word_of same

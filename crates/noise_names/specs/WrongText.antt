@@ -1,5 +1,5 @@
 -- Which line of a wrong pattern text is reported, and for what.
-use Rattle.std.specs.Prelude.{◌≡◌, ◌≢◌, ◌⊎◌, ◌↔◌, ℕ, ◌+◌, ◌==◌, ◌&&◌, Bool, not, List, [], ◌∷◌, ◌++◌, length, codes, count_by, take_while}
+use Rattle.std.specs.Prelude.{◌≡◌, ◌≢◌, ◌⊎◌, ◌↔◌, ℕ, ◌+◌, ◌==◌, ◌&&◌, Bool, not, List, [], ◌++◌, length, codes, count_by, take_while}
 use Rattle.std.specs.Prelude.{bytes_eq, nat_le, None, IsTrue, IsFalse}
 use Rattle.std.specs.List.{list_all, list_any, slice_split}
 use Rattle.noise_names.specs.declared.faults.TextFault.{TextFault}

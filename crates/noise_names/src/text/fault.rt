@@ -1,7 +1,7 @@
 #![tactic(auto)]
 
-ghost use Rattle.std.specs.Prelude.{◌≡◌, ◌≢◌, ◌⊎◌, ◌↔◌, ◌≤◌, ◌<◌, ◌+◌, ◌++◌, ◌∷◌, ◌==◌, ℕ, List, [], Bool, IsTrue, IsFalse, IfNone, IfSome, MatchResult, false, length, take};
-ghost use Rattle.std.specs.Prelude.{bytes_eq, nat_le, if◌then◌else◌};
+ghost use Rattle.std.specs.Prelude.{◌≡◌, ◌≢◌, ◌⊎◌, ◌↔◌, ◌≤◌, ◌+◌, ◌++◌, ◌∷◌, ◌==◌, ℕ, List, [], Bool, IsTrue, IsFalse, IfNone, IfSome, MatchResult};
+ghost use Rattle.std.specs.Prelude.{false, length, take, bytes_eq, nat_le, if◌then◌else◌};
 ghost use Rattle.std.specs.List.{list_all};
 ghost use Rattle.arrayvec.specs.ArrayVec.{array_vec_len};
 ghost use Rattle.noise_names.specs.declared.token.Token.{Token};
@@ -190,7 +190,8 @@ impl Judged {
     fn judge_pre_message(self, role: Role, list: &Words) -> Result<Judged, TextFaultKind>
         requires { IsTrue self.dots_ahead }
         ensures { (places : List ℕ) (s : Passed) (dotted : Bool) (tokens : List Token) → Stands self s → IsPassed places dotted s → HasTokens list.now tokens
-            → MatchResult result (λ j. IsNextOf places dotted s (arrow_then role (words tokens)) j) (λ kind. IsWrong places s (arrow_then role (words tokens)) kind) }
+            → MatchResult result (λ j. IsNextOf places dotted s (arrow_then role (words tokens)) j)
+            (λ kind. IsWrong places s (arrow_then role (words tokens)) kind) }
     {
         if self.is_barred(role) || !is_pre_message(&list.first) {
             return Err(TextFaultKind::PreMessage);
@@ -221,7 +222,7 @@ impl Judged {
         requires { IsFalse self.dots_ahead }
         ensures { (s : Passed) (dotted : Bool) (tokens : List Token) → Stands self s → IsPassed places.now dotted s → HasTokens list.now tokens
             → MatchResult result (λ j. IsNextOf places.now dotted s (arrow_then role (words tokens)) j)
-              (λ kind. IsWrong places.now s (arrow_then role (words tokens)) kind) }
+            (λ kind. IsWrong places.now s (arrow_then role (words tokens)) kind) }
     {
         if !self.is_turn(role) {
             return Err(TextFaultKind::Turn);
@@ -271,7 +272,8 @@ fn are_within(places: &[u8], messages: u8) -> bool
     places.iter().all(|n| *n <= messages)
 }
 
-// The tokens of a line: the first eleven, and the first nine of those that are no psk. A message has fewer of both.
+// The tokens of a list: the first eleven, and the first nine that are no psk. A message has at most ten, and at most eight
+// that are no psk.
 #[derive(Drop)]
 struct Words {
     first: ArrayVec<Token, 11>,
@@ -323,7 +325,10 @@ impl Words {
         requires { array_vec_len self.now.own ≤ 8 }
         ensures { (tokens : List Token) → HasTokens self.now tokens → IsTrue result ↔ (tokens ≡ with_psk_tokens places.now number (own_tokens tokens)) }
     {
-        are_same(message_with_psks(&self.own, number, places).tokens(), &self.first)
+        are_same(
+            message_with_psks(&self.own, number, places).tokens(),
+            &self.first,
+        )
     }
 }
 

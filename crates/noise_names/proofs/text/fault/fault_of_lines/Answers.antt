@@ -1,4 +1,3 @@
-use Rattle.std.proofs.Common.{sym, ◌∙◌}
 use Rattle.noise_names.proofs.FirstFaults.{right-start, next-right, line-fault, cut-fault, all-fault}
 use Rattle.noise_names.proofs.Reading.{differ_from_test, equal_from_test}
 use Rattle.noise_names.proofs.text.fault.fault_of_lines.Goals as goal

@@ -1,5 +1,3 @@
-use Rattle.std.proofs.Common.{◌≡◌, ◌∙◌, ap, take}
-use Rattle.noise_names.specs.WrongText.{first_line}
 use Rattle.noise_names.proofs.Lines.{line-bytes, line-ended, line-cut}
 use Rattle.noise_names.proofs.text.fault.first_line.Goals as goal
 

@@ -27,5 +27,6 @@ returns-in-Err-clause-every c = λ s after h e.
 
 pub returns-in-Ok-clause-some : goal.returns-in-Ok-clause-some
 returns-in-Ok-clause-some c =
-    heading-spelled c.args.text.now c.split_at.result.0.now c.split_at.result.1.now c.in_ok-after.after.now _ c.in-Ok.name c.split_at.ensures.front c.split_at.ensures.back
+    heading-spelled c.args.text.now c.split_at.result.0.now c.split_at.result.1.now c.in_ok-after.after.now _ c.in-Ok.name c.split_at.ensures.front
+    c.split_at.ensures.back
     (stripped _ (codes ":") c.in_ok-after.after c.in_ok-after.ensures.cases) (sym c.parse_section.ensures ∙ c.in-Ok.is)

@@ -1,6 +1,6 @@
-use Rattle.std.proofs.Common.{◌∙◌, ◌≡◌, ◌≢◌, ◌%◌, ℕ, Bool, true, false, not, eqb, sym, arith}
+use Rattle.std.proofs.Common.{◌∙◌, ◌≡◌, ◌≢◌, ℕ, Bool, true, false, not, eqb, sym, arith}
 use Rattle.std.proofs.lemmas.Bool.Decides.{nat_tests}
-use Rattle.noise_names.specs.declared.token.Role.TheVariants.{Initiator, Responder}
+use Rattle.noise_names.specs.declared.token.Role.TheVariants.{Initiator}
 use Rattle.noise_names.proofs.Judging.{turns-even, turns-odd, turn-more}
 use Rattle.noise_names.proofs.text.fault.Judged.is_turn.Goals as goal
 

@@ -1,9 +1,5 @@
-use Rattle.std.proofs.Common.{◌≡◌, ◌∙◌, sym, ap, inl, inr, true, ◌∷◌, ◌++◌, []}
-use Rattle.noise_names.specs.declared.token.Role.{Role}
-use Rattle.noise_names.specs.Judging.{IsNextOf}
+use Rattle.std.proofs.Common.{◌≡◌, ◌∙◌, sym, ap, inl, inr, true}
 use Rattle.noise_names.specs.Limits.{is_pre_message}
-use Rattle.noise_names.specs.Text.{words}
-use Rattle.noise_names.specs.WrongText.{arrow_then}
 use Rattle.noise_names.proofs.Judging.{next-first, next-second, next-of-role}
 use Rattle.noise_names.proofs.WordLists.{pre-kept}
 use Rattle.noise_names.proofs.text.fault.Judged.judge_pre_message.Goals as goal

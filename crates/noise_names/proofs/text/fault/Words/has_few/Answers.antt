@@ -1,4 +1,4 @@
-use Rattle.std.proofs.Common.{◌≡◌, ◌∙◌, sym, false, not, eqb, length, ◌&&◌, refl, Bool}
+use Rattle.std.proofs.Common.{◌≡◌, ◌∙◌, sym, false, not, ◌&&◌, refl, Bool}
 use Rattle.noise_names.proofs.WordLists.{cut-few}
 use Rattle.noise_names.proofs.text.fault.Words.has_few.Goals as goal
 

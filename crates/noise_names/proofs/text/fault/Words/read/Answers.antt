@@ -1,7 +1,4 @@
-use Rattle.std.specs.Prelude.{codes, IfNone, IfSome}
-use Rattle.std.proofs.Common.{◌≡◌, ◌≢◌, List, ℕ}
-use Rattle.noise_names.specs.declared.token.Token.{Token}
-use Rattle.noise_names.specs.Text.{words}
+use Rattle.std.specs.Prelude.{codes}
 use Rattle.noise_names.proofs.Reading.{stripped, not-stripped, equal_from_test, differ_from_test}
 use Rattle.noise_names.proofs.WordLists.{no-word, no-comma, read-end, read-more}
 use Rattle.noise_names.proofs.text.fault.Words.read.Goals as goal
