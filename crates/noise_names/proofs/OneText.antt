@@ -18,16 +18,16 @@ use Rattle.noise_names.specs.Reading.{is_lower, token_named}
 use Rattle.noise_names.specs.Facts.{section_bytes-all}
 use Rattle.noise_names.proofs.Sections.{all_weaker, front_is, one_section}
 
-both : (x y : Bool) → x && y ≡ true → (x ≡ true) × (y ≡ true)
+pub both : (x y : Bool) → x && y ≡ true → (x ≡ true) × (y ≡ true)
 both true y h = (refl, h)
 both false y h = absurd (cc)
 
 -- two texts that differ at a place
-apart : (xs ys : List ℕ) (i : ℕ) → xs ≡ ys → get_or xs i 0 < get_or ys i 0 → ⊥
+pub apart : (xs ys : List ℕ) (i : ℕ) → xs ≡ ys → get_or xs i 0 < get_or ys i 0 → ⊥
 apart xs ys i e h = let same : get_or xs i 0 ≡ get_or ys i 0 = ap (λ (k : List ℕ). get_or k i 0) e in omega arith
 
 -- words
-word_lower : (t : Token) → list_all is_lower (word_of t) ≡ true
+pub word_lower : (t : Token) → list_all is_lower (word_of t) ≡ true
 word_lower E = refl
 word_lower S = refl
 word_lower Ee = refl
@@ -36,7 +36,7 @@ word_lower Se = refl
 word_lower Ss = refl
 word_lower Psk = refl
 
-word_named : (t : Token) → token_named (word_of t) ≡ Some t
+pub word_named : (t : Token) → token_named (word_of t) ≡ Some t
 word_named E = refl
 word_named S = refl
 word_named Ee = refl
@@ -45,7 +45,7 @@ word_named Se = refl
 word_named Ss = refl
 word_named Psk = refl
 
-first_word_same : (t u : Token) (b c : ℕ) (x y : List ℕ) → is_lower b ≡ false → is_lower c ≡ false → word_of t ++ b ∷ x ≡ word_of u ++ c ∷ y
+pub first_word_same : (t u : Token) (b c : ℕ) (x y : List ℕ) → is_lower b ≡ false → is_lower c ≡ false → word_of t ++ b ∷ x ≡ word_of u ++ c ∷ y
     → (t ≡ u) × (b ∷ x ≡ c ∷ y)
 first_word_same t u b c x y hb hc e =
     let word : word_of t ≡ word_of u =
@@ -86,7 +86,7 @@ pub record IsSameLine (r s : Role) (ts us : List Token) (x y : List ℕ) : Type 
   pub tokens : ts ≡ us
   pub rest : x ≡ y
 
-line_same : (r s : Role) (t u : Token) (ts us : List Token) (x y : List ℕ) → token_line r (t ∷ ts) ++ x ≡ token_line s (u ∷ us) ++ y
+pub line_same : (r s : Role) (t u : Token) (ts us : List Token) (x y : List ℕ) → token_line r (t ∷ ts) ++ x ≡ token_line s (u ∷ us) ++ y
     → IsSameLine r s (t ∷ ts) (u ∷ us) x y
 line_same Initiator Initiator t u ts us x y e =
     let list : (words (t ∷ ts) ++ 10 ∷ []) ++ x ≡ (words (u ∷ us) ++ 10 ∷ []) ++ y = cc in
@@ -212,7 +212,7 @@ lines_same (t ∷ ts) r (u ∷ us) s ms ks h k e =
     (same.0, same.1, messages_same Initiator ms ks h k same.2)
 
 -- the heading ends at the first line feed
-heading_same : (a b : List ℕ) (x y : List ℕ) → list_all (λ c. not (eqb c 10)) a ≡ true → list_all (λ c. not (eqb c 10)) b ≡ true → a ++ 10 ∷ x ≡ b ++ 10 ∷ y
+pub heading_same : (a b : List ℕ) (x y : List ℕ) → list_all (λ c. not (eqb c 10)) a ≡ true → list_all (λ c. not (eqb c 10)) b ≡ true → a ++ 10 ∷ x ≡ b ++ 10 ∷ y
     → (a ≡ b) × (x ≡ y)
 heading_same a b x y all other e =
     let same : a ≡ b = sym (front_is (λ c. not (eqb c 10)) a 10 x all refl) ∙ ap (take_while (λ c. not (eqb c 10))) e

@@ -1,6 +1,7 @@
 -- What is read of a written text.
 use Rattle.std.proofs.Common.{◌≡◌, ◌≢◌, ℕ, ◌+◌, ◌<◌, ◌≤◌, Bool, true, false, not, cond, List, [], ◌∷◌, ◌++◌, refl, ap, sym, ◌∙◌, append_assoc, append-nil}
-use Rattle.std.proofs.Common.{length, length-append, arith, map, subst, get_or, take, drop, eqb, suc, Some, None, Bor, ◌⊎◌, inl, inr, ◌&&◌, leb, ltb, Result}
+use Rattle.std.proofs.Common.{length, length-append, arith, map, subst, get_or, take, drop, take-append-drop, eqb, suc, Some, None, Bor, ◌⊎◌, inl, inr, ◌&&◌, leb, ltb}
+use Rattle.std.proofs.Common.{Result}
 use Rattle.std.proofs.Common.{Ok, Err}
 use Rattle.std.specs.Cmp.Lexicographic.{pointwise}
 use Rattle.std.proofs.lemmas.Bool.Decides.{Decides-eqb, nat_tests}
@@ -15,7 +16,7 @@ use Rattle.noise_names.specs.Fundamental.{fundamental_of, fundamentals}
 use Rattle.noise_names.specs.Limits.{IsPattern, HavePsks, HavePsksAt, Placed, first_beyond, with_psk_tokens, has_few_tokens, is_pre_message}
 use Rattle.noise_names.proofs.Fundamentals.{found_map, fundamentals_plain, plain_messages}
 use Rattle.noise_names.proofs.PskTokens.{no_psk_own, own_of_plain}
-use Rattle.noise_names.proofs.Sections.{all_weaker, front_is, section_read-every}
+use Rattle.noise_names.proofs.Sections.{all_weaker, front_is, section_read-every, section_read-spelled}
 use Rattle.std.specs.Prelude.{codes, take_while, find, bytes_eq, ⊤}
 use Rattle.std.proofs.Math.Seq.{take-append_seam, drop-append_seam}
 use Rattle.std.proofs.lemmas.Option.{MatchOption-at_some}
@@ -309,6 +310,15 @@ heading-parts text section beyond front back n all e n_is f b =
 
 pub heading-rest : (back beyond rest : List ℕ) → back ≡ codes ":" ++ beyond → back ≡ codes ":" ++ rest → rest ≡ beyond
 heading-rest back beyond rest e f = let same : codes ":" ++ beyond ≡ codes ":" ++ rest = sym e ∙ f in cc
+
+-- a heading that is read is that of the section
+pub heading-spelled : (text front back after : List ℕ) (n : ℕ) (s : Section) → front ≡ take n text → back ≡ drop n text → back ≡ codes ":" ++ after
+    → section_read front ≡ Ok s → text ≡ (section_bytes s.base s.places ++ codes ":") ++ after
+heading-spelled text front back after n s f b e read =
+    let spelled : front ≡ section_bytes s.base s.places = section_read-spelled front s read in
+    sym (take-append-drop n text) ∙ ap (λ (x : List ℕ). x ++ drop n text) (sym f ∙ spelled)
+    ∙ ap (λ (x : List ℕ). section_bytes s.base s.places ++ x) (sym b ∙ e)
+    ∙ sym (append_assoc (section_bytes s.base s.places) (codes ":") after)
 
 -- the bytes of a section give it back
 pub section-of : (s : Section) (front : List ℕ) (read : Result Section NameFault) → IsSection s → front ≡ section_bytes s.base s.places

@@ -149,6 +149,13 @@ unless_section_ok section result x e =
     (not (rises (map digit_of (pieces_of (after_base section))))) result x e in
     ((not_false _ h.0, not_false _ h.1, not_false _ h.2), h.3)
 
+-- a section without a fault spells what is read of it
+pub section_read-spelled : (section : List ℕ) (s : Section) → section_read section ≡ Ok s → section ≡ section_bytes s.base s.places
+section_read-spelled section s e =
+    let h = unless_section_ok section (Ok (section_in section)) s e in
+    let same : section_in section ≡ s = cc in
+    (kept_section section h.0).1 ∙ ap (λ (t : Section). section_bytes t.base t.places) same
+
 -- the parts of what a section spells
 front_of : (s : Section) → IsSection s → base_front (section_bytes s.base s.places) ≡ s.base
 front_of s h = modifiers_begin s.places s.base (base_all s.base h.base)

@@ -4,6 +4,8 @@ pub mod Names
 pub mod Sections
 pub mod Limits
 pub mod Text
+pub mod WrongText
+pub mod Judging
 pub mod Fundamental
 pub mod Validity
 pub mod Overhead

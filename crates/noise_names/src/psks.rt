@@ -53,7 +53,7 @@ fn with_psks(messages: &[Message], places: &[u8]) -> ArrayVec<Message, 8>
 }
 
 // A message with its psk tokens.
-fn message_with_psks(tokens: &[Token], number: u8, places: &[u8]) -> Message
+pub(crate) fn message_with_psks(tokens: &[Token], number: u8, places: &[u8]) -> Message
     requires { length tokens.now ≤ 8 }
     ensures { result ≡ with_psk_tokens places.now number tokens.now }
 {

@@ -9,15 +9,17 @@ use crate::{Pattern, TextFault};
 use std::alloc::AllocError;
 
 impl Pattern {
-    ghost use Rattle.std.specs.Prelude.{◌≡◌, ◌≤◌, ◌<◌, ◌+◌, ◌++◌, ℕ, List, length, vec_len, vec_capacity, OnOk, OnErr, IfOk, Ok};
+    ghost use Rattle.std.specs.Prelude.{◌≡◌, ◌≤◌, ◌<◌, ◌+◌, ◌++◌, ℕ, List, length, vec_len, vec_capacity, OnOk, OnErr, IfOk, IfErr, Ok};
     ghost use Rattle.noise_names.specs.Plan.{Plan};
     ghost use Rattle.noise_names.specs.Text.{text_of, Spells};
+    ghost use Rattle.noise_names.specs.WrongText.{IsTextFault};
 
     /// The pattern that the text spells, within the limits of [`Pattern`]. A pattern has exactly one text. Else the first line
     /// with a fault is reported, counted from 1, and what is wrong in it.
     pub fn parse_text(text: &[u8]) -> Result<Pattern, TextFault>
         ensures spelled { IfOk result (λ pattern. Spells text.now pattern) }
         ensures every { (pattern : Plan) → Spells text.now pattern → result ≡ Ok pattern }
+        ensures told { IfErr result (IsTextFault text.now) }
     {
         match read::read(text) {
             Some(pattern) => Ok(pattern),

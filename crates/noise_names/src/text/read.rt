@@ -44,6 +44,7 @@ pub(crate) fn read(text: &[u8]) -> Option<Pattern>
 // The name that a heading gives, and what follows its colon.
 pub(super) fn read_heading(text: &[u8]) -> Option<(ProtocolName, &[u8])>
     ensures section { IfSome result (λ r. IsSection r.0) }
+    ensures some { IfSome result (λ r. text.now ≡ (section_bytes r.0.base r.0.places ++ codes ":") ++ r.1.now) }
     ensures every { (s : Section) (after : List ℕ) → IsSection s → text.now ≡ (section_bytes s.base s.places ++ codes ":") ++ after
         → MatchOption result (Unit {0} → ⊥) (λ r. (r.0 ≡ s) × (r.1.now ≡ after)) }
 {
@@ -219,6 +220,8 @@ pub(super) fn first_word(list: &[u8]) -> Option<(Token, &[u8])>
     ensures shorter { IfSome result (λ r. length r.1.now ≤ length list.now) }
     ensures every { (t : Token) (b : ℕ) (more : List ℕ) → is_lower b ≡ false → list.now ≡ word_of t ++ b ∷ more
         → MatchOption result (Unit {0} → ⊥) (λ r. (r.0 ≡ t) × (r.1.now ≡ b ∷ more)) }
+    ensures last { (t : Token) → list.now ≡ word_of t → MatchOption result (Unit {0} → ⊥) (λ r. (r.0 ≡ t) × (r.1.now ≡ [])) }
+    ensures some { IfSome result (λ r. list.now ≡ word_of r.0 ++ r.1.now) }
 {
     let (word, after) = list.split_at(word_len(list));
     Some((Token::named(word)?, after))

@@ -1,7 +1,8 @@
 use Rattle.std.specs.Prelude.{codes}
+use Rattle.std.proofs.Common.{sym, ◌∙◌}
 use Rattle.noise_names.specs.Names.{section_bytes}
 use Rattle.noise_names.specs.Facts.{section_bytes-all}
-use Rattle.noise_names.proofs.Reading.{heading-parts, heading-rest, section-of, stripped, not-stripped, ok-same, ok-not-err}
+use Rattle.noise_names.proofs.Reading.{heading-spelled, heading-parts, heading-rest, section-of, stripped, not-stripped, ok-same, ok-not-err}
 use Rattle.noise_names.proofs.text.read.read_heading.Goals as goal
 
 pub returns-in_err-after-clause-every : goal.returns-in_err-after-clause-every
@@ -23,3 +24,9 @@ returns-in-Err-clause-every c = λ s after h e.
     let parts = heading-parts c.args.text.now (section_bytes s.base s.places) after _ _ _ (section_bytes-all s h) e c.section_len.ensures
     c.split_at.ensures.front c.split_at.ensures.back in
     absurd (ok-not-err c.parse_section.result c.in-Err.field-0 s c.in-Err.is (section-of s _ _ h parts.0 c.parse_section.ensures))
+
+pub returns-in-Ok-clause-some : goal.returns-in-Ok-clause-some
+returns-in-Ok-clause-some c =
+    heading-spelled c.args.text.now c.split_at.result.0.now c.split_at.result.1.now c.in_ok-after.after.now _ c.in-Ok.name c.split_at.ensures.front
+    c.split_at.ensures.back
+    (stripped _ (codes ":") c.in_ok-after.after c.in_ok-after.ensures.cases) (sym c.parse_section.ensures ∙ c.in-Ok.is)

@@ -1,0 +1,252 @@
+-- What is judged of one more line.
+use Rattle.std.proofs.Common.{◌≡◌, ◌≢◌, ◌⊎◌, ℕ, suc, zero, ◌+◌, ◌≤◌, ◌<◌, ◌%◌, Bool, true, false, ◌&&◌, leb, List, [], ◌∷◌, ◌++◌, refl, ap, sym, ◌∙◌, cond}
+use Rattle.std.proofs.Common.{append_assoc, append-nil, length, length-append, arith, inl, inr, subst, Result}
+use Rattle.std.specs.Prelude.{codes, MatchResult}
+use Rattle.std.specs.List.{list_all}
+use Rattle.std.proofs.lemmas.Bool.Decides.{nat_tests}
+use Rattle.std.proofs.lemmas.List.Folds.{list_all-append}
+use Rattle.noise_names.specs.declared.text.fault.Judged.{Judged}
+use Rattle.noise_names.specs.declared.faults.TextFaultKind.{TextFaultKind}
+use Rattle.noise_names.specs.declared.faults.TextFaultKind.TheVariants as kinds
+use Rattle.noise_names.specs.declared.token.Role.{Role}
+use Rattle.noise_names.specs.declared.token.Role.TheVariants.{Initiator, Responder}
+use Rattle.noise_names.specs.declared.token.Token.{Token}
+use Rattle.noise_names.specs.Judging.{IsNextOf, IsPassed, IsWrong, Passed, Stands, is_some, passed_lines}
+use Rattle.noise_names.specs.Limits.{has_few_tokens, is_pre_message, with_psk_tokens}
+use Rattle.noise_names.specs.Text.{arrow_of, line, message_lines, pre_line, pre_lines, token_line, words}
+use Rattle.noise_names.specs.Tokens.{other, own_tokens, turn_from}
+use Rattle.noise_names.specs.WrongText.{IsEnded, has_dots, line_feeds, arrow_then, dots}
+use Rattle.noise_names.proofs.RightTexts.{have_psks-append, message_lines-append}
+
+-- whose turn it is
+pub turns-even : (n : ℕ) → n % 2 ≡ 0 → (turn_from Initiator n ≡ Initiator) × (turn_from Responder n ≡ Responder)
+turns-even zero h = (refl, refl)
+turns-even (suc zero) h = absurd (omega arith)
+turns-even (suc (suc n)) h = turns-even n (omega arith)
+
+pub turns-odd : (n : ℕ) → n % 2 ≢ 0 → (turn_from Initiator n ≡ Responder) × (turn_from Responder n ≡ Initiator)
+turns-odd zero h = absurd (h refl)
+turns-odd (suc zero) h = (refl, refl)
+turns-odd (suc (suc n)) h = turns-odd n (λ e. h (omega arith))
+
+one_on : (n : ℕ) → n + 1 ≡ suc n
+one_on n = omega arith
+
+pub turn-more : (n : ℕ) (party : Role) → turn_from (other party) n ≡ turn_from party (n + 1)
+turn-more n party = ap (turn_from party) (sym (one_on n))
+
+-- the parts of what was passed
+pub some-is : {A : Type 0} (xs : List A) → is_some xs ≡ true → xs ≢ []
+some-is [] h e = absurd (cc)
+some-is (x ∷ xs) h e = cc
+
+pub none-is : {A : Type 0} (xs : List A) → is_some xs ≡ false → xs ≡ []
+none-is [] h = refl
+none-is (x ∷ xs) h = absurd (cc)
+
+pub is-some : {A : Type 0} (xs : List A) → xs ≢ [] → is_some xs ≡ true
+is-some [] h = absurd (h refl)
+is-some (x ∷ xs) h = refl
+
+not-true : (b : Bool) → (b ≡ true → ⊥) → b ≡ false
+not-true true h = absurd (h refl)
+not-true false h = refl
+
+pub ahead-lines : (s : Passed) → s.ahead ≡ true → passed_lines s ≡ pre_line Initiator s.initiator ++ pre_line Responder s.responder
+ahead-lines s h =
+    ap (λ (b : Bool). cond b (pre_line Initiator s.initiator ++ pre_line Responder s.responder)
+    (pre_lines s.initiator s.responder ++ message_lines Initiator s.messages)) h
+
+pub after-lines : (s : Passed) → s.ahead ≡ false → passed_lines s ≡ pre_lines s.initiator s.responder ++ message_lines Initiator s.messages
+after-lines s h =
+    ap (λ (b : Bool). cond b (pre_line Initiator s.initiator ++ pre_line Responder s.responder)
+    (pre_lines s.initiator s.responder ++ message_lines Initiator s.messages)) h
+
+pre-some : (i r : List Token) → (i ≢ []) ⊎ (r ≢ []) → pre_lines i r ≡ (pre_line Initiator i ++ pre_line Responder r) ++ line dots
+pre-some [] [] (inl h) = absurd (h refl)
+pre-some [] [] (inr h) = absurd (h refl)
+pre-some [] (u ∷ us) h = refl
+pre-some (t ∷ ts) r h = refl
+
+pub pre-filled : (i r : List Token) → (i ≢ []) ⊎ (r ≢ []) → pre_lines i r ≢ []
+pre-filled i r h e =
+    let count : length (pre_lines i r) ≡ length (pre_line Initiator i ++ pre_line Responder r) + length (line dots) =
+    ap length (pre-some i r h) ∙ length-append (pre_line Initiator i ++ pre_line Responder r) (line dots) in
+    let none : length (pre_lines i r) ≡ 0 = ap length e in
+    absurd (omega arith)
+
+pre-line-some : (party : Role) (tokens : List Token) → tokens ≢ [] → pre_line party tokens ≡ token_line party tokens
+pre-line-some party [] h = absurd (h refl)
+pre-line-some party (t ∷ ts) h = refl
+
+-- what stands for those parts
+abbrev judged : Bool → Bool → Bool → ℕ → Judged
+judged ahead initiator responder messages = record { dots_ahead = ahead; initiator = initiator; responder = responder; messages = messages }
+
+-- the line that ends the pre-messages
+pub next-dots : (places : List ℕ) (s : Passed) (dotted : Bool) (j : Judged) → j.dots_ahead ≡ true → (j.initiator ≡ true) ⊎ (j.responder ≡ true)
+    → Stands j s → IsPassed places dotted s → IsNextOf places dotted s dots (judged false j.initiator j.responder j.messages)
+next-dots places s dotted j ahead begun st p =
+    let is_ahead : s.ahead ≡ true = sym st.ahead ∙ ahead in
+    let some : (s.initiator ≢ []) ⊎ (s.responder ≢ []) = elim begun [
+      | inl e ↦ inl (some-is s.initiator (sym st.initiator ∙ e))
+      | inr e ↦ inr (some-is s.responder (sym st.responder ∙ e))
+    ] in
+    record {
+      passed = record { ahead = false; initiator = s.initiator; responder = s.responder; messages = s.messages };
+      stands = record { ahead = refl; initiator = st.initiator; responder = st.responder; messages = st.messages };
+      are_right = record {
+        initiator = p.initiator;
+        responder = p.responder;
+        none = λ e. absurd (cc);
+        count = p.count;
+        sizes = p.sizes;
+        psks = p.psks;
+        form = (λ d. inr (pre-filled s.initiator s.responder some), λ x. p.form.1 (inl is_ahead));
+      };
+      lines = ap (λ (ms : List (List Token)). pre_lines s.initiator s.responder ++ message_lines Initiator ms) (p.none is_ahead)
+          ∙ append-nil (pre_lines s.initiator s.responder) ∙ pre-some s.initiator s.responder some
+          ∙ ap (λ (x : List ℕ). x ++ line dots) (sym (ahead-lines s is_ahead));
+    }
+
+-- a pre-message of the initiator
+pub next-first : (places : List ℕ) (s : Passed) (dotted : Bool) (tokens : List Token) (j : Judged) → j.dots_ahead ≡ true
+    → (j.initiator ≡ true → ⊥) → (j.responder ≡ true → ⊥) → tokens ≢ [] → is_pre_message tokens ≡ true
+    → Stands j s → IsPassed places dotted s → IsNextOf places dotted s (arrow_then Initiator (words tokens)) (judged j.dots_ahead true j.responder j.messages)
+next-first places s dotted tokens j ahead no_first no_second some pre st p =
+    let is_ahead : s.ahead ≡ true = sym st.ahead ∙ ahead in
+    let first : s.initiator ≡ [] = none-is s.initiator (sym st.initiator ∙ not-true j.initiator no_first) in
+    let second : s.responder ≡ [] = none-is s.responder (sym st.responder ∙ not-true j.responder no_second) in
+    let next : Passed = record { ahead = s.ahead; initiator = tokens; responder = s.responder; messages = s.messages } in
+    let before : passed_lines s ≡ [] = ahead-lines s is_ahead
+    ∙ ap (λ (ts : List Token). pre_line Initiator ts ++ pre_line Responder s.responder) first ∙ ap (pre_line Responder) second in
+    record {
+      passed = next;
+      stands = record { ahead = st.ahead; initiator = sym (is-some tokens some); responder = st.responder; messages = st.messages };
+      are_right = record {
+        initiator = pre;
+        responder = p.responder;
+        none = p.none;
+        count = p.count;
+        sizes = p.sizes;
+        psks = p.psks;
+        form = (λ d. inl is_ahead, λ x. p.form.1 (inl is_ahead));
+      };
+      lines = ahead-lines next is_ahead ∙ ap (λ (ts : List Token). pre_line Initiator tokens ++ pre_line Responder ts) second
+          ∙ append-nil (pre_line Initiator tokens) ∙ pre-line-some Initiator tokens some
+          ∙ ap (λ (x : List ℕ). x ++ token_line Initiator tokens) (sym before);
+    }
+
+-- a pre-message of the responder
+pub next-second : (places : List ℕ) (s : Passed) (dotted : Bool) (tokens : List Token) (j : Judged) → j.dots_ahead ≡ true → (j.responder ≡ true → ⊥)
+    → tokens ≢ [] → is_pre_message tokens ≡ true
+    → Stands j s → IsPassed places dotted s → IsNextOf places dotted s (arrow_then Responder (words tokens)) (judged j.dots_ahead j.initiator true j.messages)
+next-second places s dotted tokens j ahead no_second some pre st p =
+    let is_ahead : s.ahead ≡ true = sym st.ahead ∙ ahead in
+    let second : s.responder ≡ [] = none-is s.responder (sym st.responder ∙ not-true j.responder no_second) in
+    let next : Passed = record { ahead = s.ahead; initiator = s.initiator; responder = tokens; messages = s.messages } in
+    let before : passed_lines s ≡ pre_line Initiator s.initiator = ahead-lines s is_ahead
+    ∙ ap (λ (ts : List Token). pre_line Initiator s.initiator ++ pre_line Responder ts) second ∙ append-nil (pre_line Initiator s.initiator) in
+    record {
+      passed = next;
+      stands = record { ahead = st.ahead; initiator = st.initiator; responder = sym (is-some tokens some); messages = st.messages };
+      are_right = record {
+        initiator = p.initiator;
+        responder = pre;
+        none = p.none;
+        count = p.count;
+        sizes = p.sizes;
+        psks = p.psks;
+        form = (λ d. inl is_ahead, λ x. p.form.1 (inl is_ahead));
+      };
+      lines = ahead-lines next is_ahead ∙ ap (λ (x : List ℕ). pre_line Initiator s.initiator ++ x) (pre-line-some Responder tokens some)
+          ∙ ap (λ (x : List ℕ). x ++ token_line Responder tokens) (sym before);
+    }
+
+both : (x y : Bool) → x ≡ true → y ≡ true → x && y ≡ true
+both x y e f = rw (e, f) refl
+
+-- a message
+pub next-message : (places : List ℕ) (s : Passed) (dotted : Bool) (tokens : List Token) (role : Role) (j : Judged) → j.dots_ahead ≡ false
+    → role ≡ turn_from Initiator j.messages → j.messages < 8 → tokens ≢ [] → has_few_tokens tokens ≡ true
+    → tokens ≡ with_psk_tokens places (j.messages + 1) (own_tokens tokens) → Stands j s → IsPassed places dotted s
+    → IsNextOf places dotted s (arrow_then role (words tokens)) (judged j.dots_ahead j.initiator j.responder (j.messages + 1))
+next-message places s dotted tokens role j ahead turn less some few psks st p =
+    let is_behind : s.ahead ≡ false = sym st.ahead ∙ ahead in
+    let ms : List (List Token) = s.messages ++ tokens ∷ [] in
+    let next : Passed = record { ahead = s.ahead; initiator = s.initiator; responder = s.responder; messages = ms } in
+    let count : length ms ≡ length s.messages + 1 = length-append s.messages (tokens ∷ []) in
+    let same : j.messages ≡ length s.messages = st.messages in
+    let here : turn_from Initiator (length s.messages) ≡ role = ap (turn_from Initiator) (sym same) ∙ sym turn in
+    let number : j.messages + 1 ≡ 1 + length s.messages = omega arith in
+    record {
+      passed = next;
+      stands = record { ahead = st.ahead; initiator = st.initiator; responder = st.responder; messages = omega arith };
+      are_right = record {
+        initiator = p.initiator;
+        responder = p.responder;
+        none = λ e. absurd (let bad : true ≡ false = sym e ∙ is_behind in cc);
+        count = omega arith;
+        sizes = list_all-append has_few_tokens s.messages (tokens ∷ [])
+            ∙ both (list_all has_few_tokens s.messages) (has_few_tokens tokens && true) p.sizes (both (has_few_tokens tokens) true few refl);
+        psks = have_psks-append places 1 s.messages (tokens ∷ []) p.psks
+            (subst (λ (n : ℕ). tokens ≡ with_psk_tokens places n (own_tokens tokens)) number psks, tt);
+        form = p.form;
+      };
+      lines = after-lines next is_behind
+          ∙ ap (λ (x : List ℕ). pre_lines s.initiator s.responder ++ x) (message_lines-append Initiator s.messages (tokens ∷ [])
+          ∙ ap (λ (x : List ℕ). message_lines Initiator s.messages ++ x) (append-nil (token_line (turn_from Initiator (length s.messages)) tokens)
+          ∙ ap (λ (r : Role). token_line r tokens) here))
+          ∙ sym (append_assoc (pre_lines s.initiator s.responder) (message_lines Initiator s.messages) (token_line role tokens))
+          ∙ ap (λ (x : List ℕ). x ++ token_line role tokens) (sym (after-lines s is_behind));
+    }
+
+-- with the party of the line
+pub next-of-role : (places : List ℕ) (dotted : Bool) (s : Passed) (tokens : List Token) (j : Judged) (party role : Role) → party ≡ role
+    → IsNextOf places dotted s (arrow_then party (words tokens)) j → IsNextOf places dotted s (arrow_then role (words tokens)) j
+next-of-role places dotted s tokens j party role e n = subst (λ (r : Role). IsNextOf places dotted s (arrow_then r (words tokens)) j) e n
+
+-- a message with other psk tokens
+pub wrong-psks : (places : List ℕ) (s : Passed) (tokens : List Token) (role : Role) (j : Judged) → j.dots_ahead ≡ false
+    → role ≡ turn_from Initiator j.messages → j.messages < 8 → tokens ≢ [] → has_few_tokens tokens ≡ true
+    → tokens ≢ with_psk_tokens places (j.messages + 1) (own_tokens tokens) → Stands j s → IsWrong places s (arrow_then role (words tokens)) kinds.PskPlace
+wrong-psks places s tokens role j ahead turn less some few psks st =
+    let same : j.messages ≡ length s.messages = st.messages in (
+      sym st.ahead ∙ ahead,
+      (
+        tokens,
+        (
+          some,
+          ap (λ (r : Role). arrow_then r (words tokens)) (turn ∙ ap (turn_from Initiator) same),
+        ),
+        both (leb (length s.messages + 1) 8) (has_few_tokens tokens) (le_test (length s.messages + 1) 8 (omega arith)) few,
+        λ e.
+            psks (e ∙ ap (λ (n : ℕ). with_psk_tokens places (n + 1) (own_tokens tokens)) (sym same)),
+      ),
+    )
+  where
+    le_test : (m n : ℕ) → m ≤ n → leb m n ≡ true
+    le_test m n h = grind (arith, nat_tests)
+
+-- the line with its arrow and its list
+pub arrow-line : (bytes list : List ℕ) (role : Role) (tokens : List Token) → bytes ≡ codes "  " ++ (arrow_of role ++ (codes " " ++ list)) → list ≡ words tokens
+    → arrow_then role (words tokens) ≡ bytes
+arrow-line bytes list role tokens e f = at role ∙ ap (λ (x : List ℕ). codes "  " ++ (arrow_of role ++ (codes " " ++ x))) (sym f) ∙ sym e where
+  at : (role : Role) → arrow_then role (words tokens) ≡ codes "  " ++ (arrow_of role ++ (codes " " ++ words tokens))
+  at Initiator = refl
+  at Responder = refl
+
+pub judged-line : (places : List ℕ) (dotted : Bool) (s : Passed) (r : Result Judged TextFaultKind) (a b : List ℕ) → a ≡ b
+    → MatchResult r (λ j. IsNextOf places dotted s a j) (λ kind. IsWrong places s a kind)
+    → MatchResult r (λ j. IsNextOf places dotted s b j) (λ kind. IsWrong places s b kind)
+judged-line places dotted s r a b e h =
+    subst (λ (x : List ℕ). MatchResult r (λ j. IsNextOf places dotted s x j) (λ kind. IsWrong places s x kind)) e h
+
+-- ---- the lines after the heading, of which some were judged right
+pub record AreRight (places lines rest : List ℕ) (number : ℕ) (j : Judged) : Type 0 where
+  pub passed : Passed
+  pub stands : Stands j passed
+  pub are : IsPassed places (has_dots lines) passed
+  pub lines_are : lines ≡ passed_lines passed ++ rest
+  pub counted : number ≡ line_feeds (passed_lines passed) + 2
+  pub ended : IsEnded (passed_lines passed)

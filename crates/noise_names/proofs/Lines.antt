@@ -1,0 +1,108 @@
+-- The first line of a text, and the lines that end the pre-messages.
+use Rattle.std.proofs.Common.{◌≡◌, ◌≢◌, ℕ, ◌<◌, Bool, true, false, not, ◌||◌, cond, eqb, List, [], ◌∷◌, ◌++◌, refl, ap, sym, ◌∙◌, append_assoc, append-nil}
+use Rattle.std.proofs.Common.{length, length-append, arith, take, drop, take-append-drop, take_while, subst, ◌&&◌, All}
+use Rattle.std.proofs.lemmas.List.Elements.{All-nil, All-cons}
+use Rattle.std.specs.Prelude.{bytes_eq}
+use Rattle.std.specs.List.{list_all, list_any}
+use Rattle.std.proofs.lemmas.Bool.Decides.{nat_tests}
+use Rattle.std.proofs.lemmas.List.Sums.{take_while-cons}
+use Rattle.noise_names.proofs.Sections.{take-front}
+use Rattle.std.proofs.lemmas.List.Splits.{slice_split_none, slice_split_at}
+use Rattle.noise_names.specs.Judging.{IsFirstLine}
+use Rattle.noise_names.specs.Text.{line}
+use Rattle.noise_names.specs.WrongText.{first_line, dots, has_dots}
+
+abbrev pub is_other : ℕ → Bool
+is_other b = not (eqb b 10)
+
+-- the front that passes a test
+pub take-while-all : (p : ℕ → Bool) (xs : List ℕ) → list_all p (take_while p xs) ≡ true
+take-while-all p [] = refl
+take-while-all p (x ∷ xs) = subst (λ (ys : List ℕ). list_all p ys ≡ true) (sym (take_while-cons p x xs)) (at (p x) refl (take-while-all p xs)) where
+  at : (b : Bool) → p x ≡ b → list_all p (take_while p xs) ≡ true → list_all p (cond b (x ∷ take_while p xs) []) ≡ true
+  at true e more = rw e more
+  at false e more = refl
+
+-- what follows that front begins with an element that does not pass
+pub drop-while : (p : ℕ → Bool) (xs : List ℕ) (y : ℕ) (ys : List ℕ) → drop (length (take_while p xs)) xs ≡ y ∷ ys → p y ≡ false
+drop-while p [] y ys e = absurd (cc)
+drop-while p (x ∷ xs) y ys e =
+    at (p x) refl (subst (λ (zs : List ℕ). drop (length zs) (x ∷ xs) ≡ y ∷ ys) (take_while-cons p x xs) e) (drop-while p xs y ys)
+  where
+    at : (b : Bool) → p x ≡ b → drop (length (cond b (x ∷ take_while p xs) [])) (x ∷ xs) ≡ y ∷ ys
+        → (drop (length (take_while p xs)) xs ≡ y ∷ ys → p y ≡ false) → p y ≡ false
+    at true h f more = more f
+    at false h f more = let same : x ≡ y = cc in ap p (sym same) ∙ h
+
+pub feed-is : (b : ℕ) → not (eqb b 10) ≡ false → b ≡ 10
+feed-is b h = grind (arith, nat_tests)
+
+pub line-bytes : (text bytes : List ℕ) (n : ℕ) → n ≡ length (first_line text) → bytes ≡ take n text → bytes ≡ first_line text
+line-bytes text bytes n count front = front ∙ ap (λ (k : ℕ). take k text) count ∙ take-front is_other text
+
+pub line-ended : (text bytes back after : List ℕ) (b n : ℕ) → n ≡ length (first_line text) → bytes ≡ take n text → back ≡ drop n text → back ≡ b ∷ after
+    → text ≡ line bytes ++ after
+line-ended text bytes back after b n count front rest cut =
+    let here : drop (length (first_line text)) text ≡ b ∷ after = ap (λ (k : ℕ). drop k text) (sym count) ∙ sym rest ∙ cut in
+    let feed : b ≡ 10 = feed-is b (drop-while is_other text b after here) in
+    let parts : take n text ++ drop n text ≡ bytes ++ 10 ∷ after =
+    ap (λ (x : List ℕ). x ++ drop n text) (sym front) ∙ ap (λ (x : List ℕ). bytes ++ x) (sym rest ∙ cut ∙ ap (λ (k : ℕ). k ∷ after) feed) in
+    sym (take-append-drop n text) ∙ parts ∙ sym (append_assoc bytes (10 ∷ []) after)
+
+pub line-cut : (text bytes back : List ℕ) (n : ℕ) → n ≡ length (first_line text) → bytes ≡ take n text → back ≡ drop n text → length back ≡ 0
+    → (text ≡ bytes) × (back ≡ [])
+line-cut text bytes back n count front rest none =
+    let empty : back ≡ [] = length_zero back none in
+    let parts : take n text ++ drop n text ≡ bytes ++ [] = ap (λ (x : List ℕ). x ++ drop n text) (sym front)
+    ∙ ap (λ (x : List ℕ). bytes ++ x) (sym rest ∙ empty) in
+    (sym (take-append-drop n text) ∙ parts ∙ append-nil bytes, empty)
+  where
+    length_zero : (xs : List ℕ) → length xs ≡ 0 → xs ≡ []
+    length_zero [] e = refl
+    length_zero (x ∷ xs) e = absurd (omega arith)
+
+-- whether the lines are among those of a text
+none_feeds : (bytes : List ℕ) → list_all is_other bytes ≡ true → All (λ b. eqb b 10 ≡ false) bytes
+none_feeds [] h = All-nil (λ b. eqb b 10 ≡ false)
+none_feeds (b ∷ bs) h = at (eqb b 10) refl h (none_feeds bs) where
+  at : (t : Bool) → eqb b 10 ≡ t → not t && list_all is_other bs ≡ true → (list_all is_other bs ≡ true → All (λ x. eqb x 10 ≡ false) bs)
+      → All (λ x. eqb x 10 ≡ false) (b ∷ bs)
+  at true e k more = absurd (let bad : false ≡ true = k in cc)
+  at false e k more = All-cons (λ x. eqb x 10 ≡ false) b bs e (more k)
+
+pub dots-line : (bytes after : List ℕ) → list_all is_other bytes ≡ true → has_dots (line bytes ++ after) ≡ bytes_eq bytes dots || has_dots after
+dots-line bytes after h =
+    ap has_dots (append_assoc bytes (10 ∷ []) after)
+    ∙ ap (list_any (λ words. bytes_eq words dots)) (slice_split_at (λ b. eqb b 10) bytes 10 after (none_feeds bytes h) refl)
+
+pub dots-last : (bytes : List ℕ) → list_all is_other bytes ≡ true → has_dots bytes ≡ bytes_eq bytes dots
+dots-last bytes h =
+    ap (list_any (λ words. bytes_eq words dots)) (slice_split_none (λ b. eqb b 10) bytes (none_feeds bytes h)) ∙ or_false (bytes_eq bytes dots)
+  where
+    or_false : (x : Bool) → x || false ≡ x
+    or_false true = refl
+    or_false false = refl
+
+-- what a first line adds
+pub dots-first : (text bytes after : List ℕ) (ended : Bool) → bytes ≡ first_line text → IsFirstLine text bytes ended after
+    → has_dots text ≡ bytes_eq bytes dots || has_dots after
+dots-first text bytes after true is whole = ap has_dots whole ∙ dots-line bytes after (ap (list_all is_other) is ∙ take-while-all is_other text)
+dots-first text bytes after false is whole =
+    ap has_dots (whole.0) ∙ dots-last bytes (ap (list_all is_other) is ∙ take-while-all is_other text) ∙ or_none (bytes_eq bytes dots)
+    ∙ ap (λ (x : List ℕ). bytes_eq bytes dots || has_dots x) (sym whole.1)
+  where
+    or_none : (x : Bool) → x ≡ x || false
+    or_none true = refl
+    or_none false = refl
+
+pub shorter : (text bytes after : List ℕ) (ended : Bool) → IsFirstLine text bytes ended after → length text ≢ 0 → length after < length text
+shorter text bytes after true whole some = let count = simp length-append at (ap length whole) in omega arith
+shorter text bytes after false whole some = let count : length after ≡ 0 = ap length whole.1 in omega arith
+
+pub dots-more : (text rest bytes after : List ℕ) (ended : Bool) → bytes ≡ first_line rest → IsFirstLine rest bytes ended after
+    → has_dots text ≡ has_dots rest → bytes_eq bytes dots ≡ false → has_dots text ≡ has_dots after
+dots-more text rest bytes after ended is whole so none = so ∙ dots-first rest bytes after ended is whole ∙ ap (λ (b : Bool). b || has_dots after) none
+
+pub dots-found : (text rest bytes after : List ℕ) (ended : Bool) → bytes ≡ first_line rest → IsFirstLine rest bytes ended after
+    → has_dots text ≡ has_dots rest → bytes_eq bytes dots ≡ true → true ≡ has_dots text
+dots-found text rest bytes after ended is whole so here = sym (so ∙ dots-first rest bytes after ended is whole ∙ ap (λ (b : Bool). b || has_dots after) here)

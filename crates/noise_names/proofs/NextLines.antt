@@ -1,0 +1,157 @@
+-- The next line of a pattern's text after right lines.
+use Rattle.std.proofs.Common.{◌≡◌, ◌≢◌, ◌⊎◌, ℕ, Bool, true, false, List, [], ◌∷◌, ◌++◌, refl, ap, sym, ◌∙◌, append_assoc, length, inl, inr, ◌↔◌}
+use Rattle.std.proofs.Common.{IsTrue}
+use Rattle.noise_names.specs.declared.token.Role.{Role}
+use Rattle.noise_names.specs.declared.token.Role.TheVariants.{Initiator, Responder}
+use Rattle.noise_names.specs.declared.token.Token.{Token}
+use Rattle.noise_names.specs.Judging.{IsPassed, Passed, passed_lines}
+use Rattle.noise_names.specs.Limits.{IsPattern, is_pre_message}
+use Rattle.noise_names.specs.Plan.{Plan}
+use Rattle.noise_names.specs.Text.{line, pre_lines}
+use Rattle.noise_names.specs.Tokens.{other, turn_from}
+use Rattle.noise_names.specs.WrongText.{body_of}
+use Rattle.noise_names.proofs.Rows.{IsNextRow, Row, all_lines, all_right, all_rows, content, ending, first_lines, first_right, first_rows, is_row, lines_of}
+use Rattle.noise_names.proofs.Rows.{message_rows, next_row, no_feed, pre_rows, tokens_of}
+
+some_responder : (t : Token) (ts : List Token) → pre_lines [] (t ∷ ts) ≢ []
+some_responder t ts e = cc
+
+some_initiator : (t : Token) (ts r : List Token) → pre_lines (t ∷ ts) r ≢ []
+some_initiator t ts r e = cc
+
+-- the rows after those of the pre-messages
+after_both : (i r j s : List Token) (xs ys : List Row) → (pre_lines i r ≢ [] → pre_lines j s ≢ []) → (pre_lines j s ≢ [] → pre_lines i r ≢ [])
+    → pre_rows j s ++ ys ≡ pre_rows i r ++ xs → ys ≡ xs
+after_both [] [] [] [] xs ys h k e = e
+after_both [] [] [] (v ∷ vs) xs ys h k e = absurd (k (some_responder v vs) refl)
+after_both [] [] (u ∷ us) s xs ys h k e = absurd (k (some_initiator u us s) refl)
+after_both [] (t ∷ ts) [] [] xs ys h k e = absurd (h (some_responder t ts) refl)
+after_both (t ∷ ts) r [] [] xs ys h k e = absurd (h (some_initiator t ts r) refl)
+after_both [] (t ∷ ts) [] (v ∷ vs) xs ys h k e = cc
+after_both [] (t ∷ ts) (u ∷ us) [] xs ys h k e = absurd (cc)
+after_both [] (t ∷ ts) (u ∷ us) (v ∷ vs) xs ys h k e = absurd (cc)
+after_both (t ∷ ts) [] [] (v ∷ vs) xs ys h k e = absurd (cc)
+after_both (t ∷ ts) (x ∷ r) [] (v ∷ vs) xs ys h k e = absurd (cc)
+after_both (t ∷ ts) [] (u ∷ us) [] xs ys h k e = cc
+after_both (t ∷ ts) [] (u ∷ us) (v ∷ vs) xs ys h k e = absurd (cc)
+after_both (t ∷ ts) (x ∷ r) (u ∷ us) [] xs ys h k e = absurd (cc)
+after_both (t ∷ ts) (x ∷ r) (u ∷ us) (v ∷ vs) xs ys h k e = cc
+
+-- the row after those of some messages is the next message
+pub record IsNextMessage (party : Role) (before messages : List (List Token)) (row : Row) : Type 0 where
+  pub message : List Token
+  pub more : List (List Token)
+  pub messages_are : messages ≡ before ++ message ∷ more
+  pub row_is : row ≡ tokens_of (turn_from party (length before)) message
+
+next_message : (party : Role) (before messages : List (List Token)) (row : Row) (more : List Row)
+    → message_rows party messages ≡ message_rows party before ++ row ∷ more → IsNextMessage party before messages row
+next_message party [] [] row more e = absurd (cc)
+next_message party [] (k ∷ ks) row more e = record { message = k; more = ks; messages_are = refl; row_is = cc }
+next_message party (m ∷ ms) [] row more e = absurd (cc)
+next_message party (m ∷ ms) (k ∷ ks) row more e =
+    let first : k ≡ m = cc in
+    let rest : message_rows (other party) ks ≡ message_rows (other party) ms ++ row ∷ more = cc in
+    let next : IsNextMessage (other party) ms ks row = next_message (other party) ms ks row more rest in
+    record {
+      message = next.message;
+      more = next.more;
+      messages_are = begins {ys = ms ++ next.message ∷ next.more} first next.messages_are;
+      row_is = next.row_is;
+    }
+  where
+    begins : {x y : List Token} {xs ys : List (List Token)} → x ≡ y → xs ≡ ys → x ∷ xs ≡ y ∷ ys
+    begins p q = cc
+
+-- The row after those of some pre-messages, where the line after the pre-messages is ahead: that line, after one pre-message at least, or the
+-- pre-message of a party of which there was none.
+abbrev pub IsNextPre : List Token → List Token → Row → Type 0
+IsNextPre i r row =
+    ((row ≡ ending) × (i ≡ [] → r ≡ [] → ⊥))
+    ⊎ ((party : Role) × (tokens : List Token) × (row ≡ tokens_of party tokens) × (is_pre_message tokens ≡ true) × (r ≡ []) × (party ≡ Initiator → i ≡ []))
+
+next_pre : (i r j s : List Token) (rest more : List Row) (row : Row) → is_pre_message j ≡ true → is_pre_message s ≡ true → pre_lines j s ≢ []
+    → pre_rows j s ++ rest ≡ first_rows i r ++ row ∷ more → IsNextPre i r row
+next_pre i r [] [] rest more row pj ps some e = absurd (some refl)
+next_pre [] [] [] (v ∷ vs) rest more row pj ps some e = inr (Responder, v ∷ vs, cc, ps, refl, λ f. refl)
+next_pre [] [] (u ∷ us) [] rest more row pj ps some e = inr (Initiator, u ∷ us, cc, pj, refl, λ f. refl)
+next_pre [] [] (u ∷ us) (v ∷ vs) rest more row pj ps some e = inr (Initiator, u ∷ us, cc, pj, refl, λ f. refl)
+next_pre [] (t ∷ ts) [] (v ∷ vs) rest more row pj ps some e = inl (cc, λ f g. cc)
+next_pre [] (t ∷ ts) (u ∷ us) [] rest more row pj ps some e = absurd (cc)
+next_pre [] (t ∷ ts) (u ∷ us) (v ∷ vs) rest more row pj ps some e = absurd (cc)
+next_pre (t ∷ ts) [] [] (v ∷ vs) rest more row pj ps some e = absurd (cc)
+next_pre (t ∷ ts) [] (u ∷ us) [] rest more row pj ps some e = inl (cc, λ f g. cc)
+next_pre (t ∷ ts) [] (u ∷ us) (v ∷ vs) rest more row pj ps some e = inr (Responder, v ∷ vs, cc, ps, refl, λ f. absurd (cc))
+next_pre (t ∷ ts) (x ∷ r) [] (v ∷ vs) rest more row pj ps some e = absurd (cc)
+next_pre (t ∷ ts) (x ∷ r) (u ∷ us) [] rest more row pj ps some e = absurd (cc)
+next_pre (t ∷ ts) (x ∷ r) (u ∷ us) (v ∷ vs) rest more row pj ps some e = inl (cc, λ f g. cc)
+
+-- the next line of a right text after right lines
+pub record IsNextLine (s : Passed) (q : Plan) (told : List ℕ) : Type 0 where
+  pub row : Row
+  pub right : is_row row ≡ true
+  pub told_is : told ≡ content row
+  pub message : s.ahead ≡ false → IsNextMessage Initiator s.messages q.messages row
+  pub pre_message : s.ahead ≡ true → IsNextPre s.initiator s.responder row
+
+-- a right text begins with these lines
+pub record IsBegun (places : List ℕ) (dotted : Bool) (s : Passed) (told rest : List ℕ) (q : Plan) : Type 0 where
+  pub passed : IsPassed places dotted s
+  pub feedless : no_feed told ≡ true
+  pub right : IsPattern q
+  pub places_are : q.places ≡ places
+  pub form : pre_lines q.initiator q.responder ≢ [] ↔ IsTrue dotted
+  pub begins : body_of q ≡ passed_lines s ++ (line told ++ rest)
+
+at_messages : (places : List ℕ) (dotted : Bool) (s : Passed) (told rest : List ℕ) (q : Plan) → IsBegun places dotted s told rest q → s.ahead ≡ false
+    → IsNextLine s q told
+at_messages places dotted s told rest q b none_ahead =
+    let before : List Row = all_rows s.initiator s.responder s.messages in
+    let rows : List Row = all_rows q.initiator q.responder q.messages in
+    let lines : passed_lines s ≡ lines_of before = rw none_ahead (sym (all_lines s.initiator s.responder s.messages)) in
+    let begun : lines_of rows ≡ lines_of before ++ (line told ++ rest) =
+    all_lines q.initiator q.responder q.messages ∙ b.begins ∙ ap (λ (text : List ℕ). text ++ (line told ++ rest)) lines in
+    let next : IsNextRow told before rows =
+    next_row told rest b.feedless before rows (all_right s.initiator s.responder s.messages b.passed.sizes)
+    (all_right q.initiator q.responder q.messages b.right.sizes) begun in
+    let there : pre_lines s.initiator s.responder ≢ [] → pre_lines q.initiator q.responder ≢ [] = λ f. b.form.1 (b.passed.form.1 (inr f)) in
+    let back : pre_lines q.initiator q.responder ≢ [] → pre_lines s.initiator s.responder ≢ [] = λ f. not_ahead (b.passed.form.0 (b.form.0 f)) in
+    let messages : message_rows Initiator q.messages ≡ message_rows Initiator s.messages ++ next.row ∷ next.more =
+    after_both s.initiator s.responder q.initiator q.responder (message_rows Initiator s.messages ++ next.row ∷ next.more) (message_rows Initiator q.messages)
+    there back (next.rows_are ∙ append_assoc (pre_rows s.initiator s.responder) (message_rows Initiator s.messages) (next.row ∷ next.more)) in
+    record {
+      row = next.row;
+      right = next.right;
+      told_is = next.told_is;
+      message = λ f. next_message Initiator s.messages q.messages next.row next.more messages;
+      pre_message = λ f. absurd (let bad : false ≡ true = sym none_ahead ∙ f in cc);
+    }
+  where
+    not_ahead : (s.ahead ≡ true) ⊎ (pre_lines s.initiator s.responder ≢ []) → pre_lines s.initiator s.responder ≢ []
+    not_ahead (inl f) = absurd (let bad : false ≡ true = sym none_ahead ∙ f in cc)
+    not_ahead (inr f) = f
+
+at_pre_messages : (places : List ℕ) (dotted : Bool) (s : Passed) (told rest : List ℕ) (q : Plan) → IsBegun places dotted s told rest q → s.ahead ≡ true
+    → IsNextLine s q told
+at_pre_messages places dotted s told rest q b ahead =
+    let before : List Row = first_rows s.initiator s.responder in
+    let rows : List Row = all_rows q.initiator q.responder q.messages in
+    let lines : passed_lines s ≡ lines_of before = rw ahead (sym (first_lines s.initiator s.responder)) in
+    let begun : lines_of rows ≡ lines_of before ++ (line told ++ rest) =
+    all_lines q.initiator q.responder q.messages ∙ b.begins ∙ ap (λ (text : List ℕ). text ++ (line told ++ rest)) lines in
+    let next : IsNextRow told before rows =
+    next_row told rest b.feedless before rows (first_right s.initiator s.responder) (all_right q.initiator q.responder q.messages b.right.sizes) begun in
+    record {
+      row = next.row;
+      right = next.right;
+      told_is = next.told_is;
+      message = λ f. absurd (let bad : false ≡ true = sym f ∙ ahead in cc);
+      pre_message = λ f. next_pre s.initiator s.responder q.initiator q.responder (message_rows Initiator q.messages) next.more next.row b.right.initiator
+          b.right.responder (b.form.1 (b.passed.form.1 (inl ahead))) next.rows_are;
+    }
+
+pub next_line : (places : List ℕ) (dotted : Bool) (s : Passed) (told rest : List ℕ) (q : Plan) → IsBegun places dotted s told rest q → IsNextLine s q told
+next_line places dotted s told rest q b = at s.ahead refl where
+  at : (ahead : Bool) → s.ahead ≡ ahead → IsNextLine s q told
+  at true h = at_pre_messages places dotted s told rest q b h
+  at false h = at_messages places dotted s told rest q b h

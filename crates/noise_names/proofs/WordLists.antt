@@ -1,0 +1,237 @@
+-- Lists of words of which some were read.
+use Rattle.std.proofs.Common.{◌≡◌, ◌≢◌, ℕ, ◌<◌, suc, zero, Bool, true, false, not, cond, List, [], ◌∷◌, ◌++◌, refl, ap, sym, ◌∙◌, append_assoc, append-nil}
+use Rattle.std.proofs.Common.{length, arith, take, Some, None, eqb, leb, ◌≤◌, ◌&&◌, ◌⊎◌, inl, inr, min}
+use Rattle.std.specs.Prelude.{codes, bytes_eq}
+use Rattle.std.proofs.lemmas.Bool.Decides.{Decides-eqb, nat_tests}
+use Rattle.std.proofs.lemmas.Slice.Eq.{slice_eq-Decides}
+use Rattle.noise_names.specs.declared.token.Token.{Token}
+use Rattle.noise_names.specs.declared.token.Token.TheVariants.{E, S, Ee, Es, Se, Ss, Psk}
+use Rattle.noise_names.specs.declared.text.fault.Words.{Words}
+use Rattle.noise_names.specs.Judging.{HasTokens}
+use Rattle.noise_names.specs.Limits.{has_few_tokens, is_pre_message}
+use Rattle.std.proofs.lemmas.List.{length-take}
+use Rattle.noise_names.specs.Tokens.{is_psk, own_tokens}
+use Rattle.noise_names.specs.Text.{word_of, words}
+use Rattle.noise_names.specs.Reading.{is_lower, token_named}
+use Rattle.noise_names.proofs.OneText.{first_word_same}
+use Rattle.noise_names.proofs.PskTokens.{own-append}
+
+-- words, each with a comma and a space after it
+abbrev pub with_commas : List Token → List ℕ
+with_commas [] = []
+with_commas (t ∷ ts) = word_of t ++ 44 ∷ 32 ∷ with_commas ts
+
+words-cons : (r : Token) (ys : List Token) → ys ≢ [] → words (r ∷ ys) ≡ word_of r ++ 44 ∷ 32 ∷ words ys
+words-cons r [] some = absurd (some refl)
+words-cons r (y ∷ ys) some = append_assoc (word_of r) (codes ", ") (words (y ∷ ys))
+
+some-append : (xs : List Token) (t : Token) (ys : List Token) → xs ++ t ∷ ys ≢ []
+some-append [] t ys e = cc
+some-append (x ∷ xs) t ys e = cc
+
+words-more : (read : List Token) (t : Token) (others : List Token) → with_commas read ++ words (t ∷ others) ≡ words (read ++ t ∷ others)
+words-more [] t others = refl
+words-more (r ∷ rs) t others =
+    append_assoc (word_of r) (44 ∷ 32 ∷ with_commas rs) (words (t ∷ others))
+    ∙ ap (λ (x : List ℕ). word_of r ++ 44 ∷ 32 ∷ x) (words-more rs t others)
+    ∙ sym (words-cons r (rs ++ t ∷ others) (some-append rs t others))
+
+commas-push : (read : List Token) (t : Token) (x : List ℕ) → with_commas (read ++ t ∷ []) ++ x ≡ with_commas read ++ (word_of t ++ 44 ∷ 32 ∷ x)
+commas-push [] t x = append_assoc (word_of t) (44 ∷ 32 ∷ []) x
+commas-push (r ∷ rs) t x =
+    append_assoc (word_of r) (44 ∷ 32 ∷ with_commas (rs ++ t ∷ [])) x
+    ∙ ap (λ (y : List ℕ). word_of r ++ 44 ∷ 32 ∷ y) (commas-push rs t x)
+    ∙ sym (append_assoc (word_of r) (44 ∷ 32 ∷ with_commas rs) (word_of t ++ 44 ∷ 32 ∷ x))
+
+-- what is left of words is words
+rest-is : (read : List Token) (left : List ℕ) (t : Token) (ts : List Token) → with_commas read ++ left ≡ words (t ∷ ts)
+    → (u : Token) × (us : List Token) × (left ≡ words (u ∷ us))
+rest-is [] left t ts e = (t, ts, e)
+rest-is (r ∷ rs) left t [] e =
+    let f : word_of r ++ 44 ∷ ((32 ∷ (with_commas rs ++ left)) ++ 10 ∷ []) ≡ word_of t ++ 10 ∷ [] =
+    sym (append_assoc (word_of r) (44 ∷ 32 ∷ (with_commas rs ++ left)) (10 ∷ []))
+    ∙ ap (λ (x : List ℕ). x ++ 10 ∷ []) (sym (append_assoc (word_of r) (44 ∷ 32 ∷ with_commas rs) left) ∙ e) in
+    let h : 44 ∷ ((32 ∷ (with_commas rs ++ left)) ++ 10 ∷ []) ≡ 10 ∷ [] =
+    (first_word_same r t 44 10 ((32 ∷ (with_commas rs ++ left)) ++ 10 ∷ []) [] refl refl f).1 in
+    absurd (cc)
+rest-is (r ∷ rs) left t (v ∷ vs) e =
+    let f : word_of r ++ 44 ∷ (32 ∷ (with_commas rs ++ left)) ≡ word_of t ++ 44 ∷ (32 ∷ words (v ∷ vs)) =
+    sym (append_assoc (word_of r) (44 ∷ 32 ∷ with_commas rs) left) ∙ e ∙ append_assoc (word_of t) (codes ", ") (words (v ∷ vs)) in
+    let h : 44 ∷ 32 ∷ (with_commas rs ++ left) ≡ 44 ∷ 32 ∷ words (v ∷ vs) =
+    (first_word_same r t 44 44 (32 ∷ (with_commas rs ++ left)) (32 ∷ words (v ∷ vs)) refl refl f).1 in
+    rest-is rs left v vs (cc)
+
+take-take : {A : Type 0} (n : ℕ) (xs ys : List A) → take n (take n xs ++ ys) ≡ take n (xs ++ ys)
+take-take zero xs ys = refl
+take-take (suc n) [] ys = refl
+take-take (suc n) (x ∷ xs) ys = ap (λ zs. x ∷ zs) (take-take n xs ys)
+
+-- some words of a list were read, and what is kept of them
+pub record IsRead (list left : List ℕ) (first own : List Token) : Type 0 where
+  pub read : List Token
+  pub list_is : list ≡ with_commas read ++ left
+  pub first_is : first ≡ take 11 read
+  pub own_is : own ≡ take 9 (own_tokens read)
+
+pub read-start : (list : List ℕ) (first own : List Token) → first ≡ [] → own ≡ [] → IsRead list list first own
+read-start list first own e f = record { read = []; list_is = refl; first_is = e; own_is = f }
+
+first-more : (read first first' : List Token) (t : Token) → first ≡ take 11 read → first' ≡ take 11 (first ++ t ∷ []) → first' ≡ take 11 (read ++ t ∷ [])
+first-more read first first' t e f = f ∙ ap (λ (ts : List Token). take 11 (ts ++ t ∷ [])) e ∙ take-take 11 read (t ∷ [])
+
+-- a token is kept among those that are no psk
+abbrev pub kept_own : List Token → Token → List Token
+kept_own own t = cond (is_psk t) own (take 9 (own ++ t ∷ []))
+
+own-more : (read own own' : List Token) (t : Token) → own ≡ take 9 (own_tokens read) → own' ≡ kept_own own t → own' ≡ take 9 (own_tokens (read ++ t ∷ []))
+own-more read own own' t e f = f ∙ at (is_psk t) ∙ ap (λ (ts : List Token). take 9 ts) (sym (own-append read (t ∷ []))) where
+  at : (b : Bool) → cond b own (take 9 (own ++ t ∷ [])) ≡ take 9 (own_tokens read ++ cond (not b) (t ∷ []) [])
+  at true = e ∙ ap (λ (ts : List Token). take 9 ts) (sym (append-nil (own_tokens read)))
+  at false = ap (λ (ts : List Token). take 9 (ts ++ t ∷ [])) e ∙ take-take 9 (own_tokens read) (t ∷ [])
+
+pub read-more : (list left after rest : List ℕ) (first own first' own' : List Token) (t : Token) → IsRead list left first own → left ≡ word_of t ++ after
+    → after ≡ codes ", " ++ rest → first' ≡ take 11 (first ++ t ∷ []) → own' ≡ kept_own own t → IsRead list rest first' own'
+read-more list left after rest first own first' own' t r e f g h = record {
+  read = r.read ++ t ∷ [];
+  list_is = r.list_is ∙ ap (λ (x : List ℕ). with_commas r.read ++ x) (e ∙ ap (λ (x : List ℕ). word_of t ++ x) f) ∙ sym (commas-push r.read t rest);
+  first_is = first-more r.read first first' t r.first_is g;
+  own_is = own-more r.read own own' t r.own_is h;
+}
+
+pub read-end : (list left after : List ℕ) (first own : List Token) (w : Words) (t : Token) → IsRead list left first own → left ≡ word_of t ++ after
+    → length after ≡ 0 → w.first.items ≡ take 11 (first ++ t ∷ []) → w.own.items ≡ kept_own own t
+    → (tokens : List Token) × HasTokens w tokens × (list ≡ words tokens)
+read-end list left after first own w t r e none g h = (
+  r.read ++ t ∷ [],
+  record {
+    some = some-append r.read t [];
+    first = first-more r.read first w.first.items t r.first_is g;
+    own = own-more r.read own w.own.items t r.own_is h;
+  },
+  r.list_is ∙ ap (λ (x : List ℕ). with_commas r.read ++ x) (e ∙ ap (λ (x : List ℕ). word_of t ++ x) (length_zero after none) ∙ append-nil (word_of t))
+      ∙ words-more r.read t [],
+) where
+  length_zero : (xs : List ℕ) → length xs ≡ 0 → xs ≡ []
+  length_zero [] e = refl
+  length_zero (x ∷ xs) e = absurd (omega arith)
+
+-- what stands at the front of what is left
+left-is : (list left : List ℕ) (first own : List Token) (tokens : List Token) → IsRead list left first own → tokens ≢ [] → list ≡ words tokens
+    → (u : Token) × (us : List Token) × (left ≡ words (u ∷ us))
+left-is list left first own [] r some e = absurd (some refl)
+left-is list left first own (t ∷ ts) r some e = rest-is r.read left t ts (sym r.list_is ∙ e)
+
+pub no-word : (list left : List ℕ) (first own : List Token) → IsRead list left first own
+    → ((t : Token) (b : ℕ) (more : List ℕ) → is_lower b ≡ false → left ≡ word_of t ++ b ∷ more → ⊥) → ((t : Token) → left ≡ word_of t → ⊥)
+    → (tokens : List Token) → tokens ≢ [] → list ≢ words tokens
+no-word list left first own r every last tokens some e = let h = left-is list left first own tokens r some e in at h.0 h.1 h.2 where
+  at : (u : Token) (us : List Token) → left ≡ words (u ∷ us) → ⊥
+  at u [] f = last u f
+  at u (v ∷ vs) f = every u 44 (32 ∷ words (v ∷ vs)) refl (f ∙ append_assoc (word_of u) (codes ", ") (words (v ∷ vs)))
+
+pub no-comma : (list left after : List ℕ) (first own : List Token) (token : Token) → IsRead list left first own
+    → ((t : Token) (b : ℕ) (more : List ℕ) → is_lower b ≡ false → left ≡ word_of t ++ b ∷ more → (token ≡ t) × (after ≡ b ∷ more))
+    → ((t : Token) → left ≡ word_of t → (token ≡ t) × (after ≡ [])) → length after ≢ 0 → ((rest : List ℕ) → after ≢ codes ", " ++ rest)
+    → (tokens : List Token) → tokens ≢ [] → list ≢ words tokens
+no-comma list left after first own token r every last filled no_comma tokens some e =
+    let h = left-is list left first own tokens r some e in at h.0 h.1 h.2 where
+      at : (u : Token) (us : List Token) → left ≡ words (u ∷ us) → ⊥
+      at u [] f = filled (ap length (last u f).1)
+      at u (v ∷ vs) f =
+          no_comma (words (v ∷ vs)) (every u 44 (32 ∷ words (v ∷ vs)) refl (f ∙ append_assoc (word_of u) (codes ", ") (words (v ∷ vs)))).1
+
+-- a word and its token
+pub word-of-named : (w : List ℕ) (t : Token) → token_named w ≡ Some t → w ≡ word_of t
+word-of-named w t e = at (bytes_eq w (codes "e")) (bytes_eq w (codes "s")) (bytes_eq w (codes "ee")) (bytes_eq w (codes "es")) (bytes_eq w (codes "se"))
+    (bytes_eq w (codes "ss")) (bytes_eq w (codes "psk")) (is w (codes "e")) (is w (codes "s")) (is w (codes "ee")) (is w (codes "es")) (is w (codes "se"))
+    (is w (codes "ss")) (is w (codes "psk")) e
+  where
+    is : (w x : List ℕ) → bytes_eq w x ≡ true → w ≡ x
+    is w x h = (slice_eq-Decides Decides-eqb w x _ refl).0 h
+
+    at : (b1 b2 b3 b4 b5 b6 b7 : Bool) → (b1 ≡ true → w ≡ codes "e") → (b2 ≡ true → w ≡ codes "s") → (b3 ≡ true → w ≡ codes "ee")
+        → (b4 ≡ true → w ≡ codes "es") → (b5 ≡ true → w ≡ codes "se") → (b6 ≡ true → w ≡ codes "ss") → (b7 ≡ true → w ≡ codes "psk")
+        → cond b1 (Some E) (cond b2 (Some S) (cond b3 (Some Ee) (cond b4 (Some Es) (cond b5 (Some Se) (cond b6 (Some Ss) (cond b7 (Some Psk) None))))))
+        ≡ Some t
+        → w ≡ word_of t
+    at true b2 b3 b4 b5 b6 b7 h1 h2 h3 h4 h5 h6 h7 f = let same : E ≡ t = cc in h1 refl ∙ ap word_of same
+    at false true b3 b4 b5 b6 b7 h1 h2 h3 h4 h5 h6 h7 f = let same : S ≡ t = cc in h2 refl ∙ ap word_of same
+    at false false true b4 b5 b6 b7 h1 h2 h3 h4 h5 h6 h7 f = let same : Ee ≡ t = cc in h3 refl ∙ ap word_of same
+    at false false false true b5 b6 b7 h1 h2 h3 h4 h5 h6 h7 f = let same : Es ≡ t = cc in h4 refl ∙ ap word_of same
+    at false false false false true b6 b7 h1 h2 h3 h4 h5 h6 h7 f = let same : Se ≡ t = cc in h5 refl ∙ ap word_of same
+    at false false false false false true b7 h1 h2 h3 h4 h5 h6 h7 f = let same : Ss ≡ t = cc in h6 refl ∙ ap word_of same
+    at false false false false false false true h1 h2 h3 h4 h5 h6 h7 f = let same : Psk ≡ t = cc in h7 refl ∙ ap word_of same
+    at false false false false false false false h1 h2 h3 h4 h5 h6 h7 f = absurd (cc)
+
+-- the tokens of a pre-message are few enough that all are kept
+pre-three : (t u v : Token) (ts : List Token) → is_pre_message (t ∷ u ∷ v ∷ ts) ≡ false
+pre-three E E v ts = refl
+pre-three E S v ts = refl
+pre-three E Ee v ts = refl
+pre-three E Es v ts = refl
+pre-three E Se v ts = refl
+pre-three E Ss v ts = refl
+pre-three E Psk v ts = refl
+pre-three S u v ts = refl
+pre-three Ee u v ts = refl
+pre-three Es u v ts = refl
+pre-three Se u v ts = refl
+pre-three Ss u v ts = refl
+pre-three Psk u v ts = refl
+
+pub pre-kept : (w : Words) (tokens : List Token) (b : Bool) → HasTokens w tokens → b ≡ is_pre_message w.first.items → b ≡ is_pre_message tokens
+pre-kept w tokens b h e = e ∙ ap is_pre_message h.first ∙ at tokens where
+  at : (ts : List Token) → is_pre_message (take 11 ts) ≡ is_pre_message ts
+  at [] = refl
+  at (t ∷ []) = refl
+  at (t ∷ u ∷ []) = refl
+  at (t ∷ u ∷ v ∷ ts) = pre-three t u v (take 8 ts) ∙ sym (pre-three t u v ts)
+
+-- a list that is cut where it is too long
+pub cut-few : (w : Words) (tokens : List Token) (few : Bool) → HasTokens w tokens
+    → few ≡ not (eqb (length w.own.items) 0) && not (eqb (length w.own.items) 9) → few ≡ has_few_tokens tokens
+cut-few w tokens few h e =
+    let count : length w.own.items ≡ min 9 (length (own_tokens tokens)) = ap length h.own ∙ length-take 9 (own_tokens tokens) in
+    e ∙ at (length w.own.items) (length (own_tokens tokens)) count
+  where
+    at : (m n : ℕ) → m ≡ min 9 n → not (eqb m 0) && not (eqb m 9) ≡ leb 1 n && leb n 8
+    at m n e = grind (arith, nat_tests)
+
+take-short : (xs : List Token) (n : ℕ) → length xs ≤ n → take n xs ≡ xs
+take-short [] zero h = refl
+take-short [] (suc n) h = refl
+take-short (x ∷ xs) zero h = absurd (omega arith)
+take-short (x ∷ xs) (suc n) h = ap (λ (ys : List Token). x ∷ ys) (take-short xs n (omega arith))
+
+whole-or-long : (xs : List Token) → (take 11 xs ≡ xs) ⊎ (length (take 11 xs) ≡ 11)
+whole-or-long xs = at (leb (length xs) 11) refl where
+  le : leb (length xs) 11 ≡ true → length xs ≤ 11
+  le h = grind (arith, nat_tests)
+
+  eleven : leb (length xs) 11 ≡ false → min 11 (length xs) ≡ 11
+  eleven h = grind (arith, nat_tests)
+
+  at : (b : Bool) → leb (length xs) 11 ≡ b → (take 11 xs ≡ xs) ⊎ (length (take 11 xs) ≡ 11)
+  at true h = inl (take-short xs 11 (le h))
+  at false h = inr (length-take 11 xs ∙ eleven h)
+
+-- tokens are those of a message that is no longer than what is kept, if what is kept is that message
+pub kept-same : (w : Words) (tokens message : List Token) → HasTokens w tokens → length message ≤ 10 → message ≡ w.first.items → tokens ≡ message
+kept-same w tokens message h few e = elim (whole-or-long tokens) [
+  | inl same ↦ sym (e ∙ h.first ∙ same)
+  | inr long ↦ absurd (let count : length message ≡ length (take 11 tokens) = ap length (e ∙ h.first) in omega arith)
+]
+
+pub same-kept : (w : Words) (tokens message : List Token) → HasTokens w tokens → length message ≤ 10 → tokens ≡ message → message ≡ w.first.items
+same-kept w tokens message h few e = elim (whole-or-long tokens) [
+  | inl same ↦ sym (h.first ∙ same ∙ e)
+  | inr long ↦ absurd (let count : length tokens ≡ length message = ap length e in let less = length-take 11 tokens in omega arith)
+]
+
+-- the tokens of a list whose tokens other than psk are all kept
+pub own-kept : (w : Words) (tokens : List Token) → HasTokens w tokens → length w.own.items ≤ 8 → w.own.items ≡ own_tokens tokens
+own-kept w tokens h few = h.own ∙ at (own_tokens tokens) 9 (let count = ap length h.own in omega arith) where
+  at : (xs : List Token) (n : ℕ) → length (take n xs) < n → take n xs ≡ xs
+  at xs zero lt = absurd (omega arith)
+  at [] (suc n) lt = refl
+  at (x ∷ xs) (suc n) lt = ap (λ (ys : List Token). x ∷ ys) (at xs n (omega arith))

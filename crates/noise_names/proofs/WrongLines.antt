@@ -1,0 +1,200 @@
+-- A line that is wrong after right lines is in no right text after those.
+use Rattle.std.specs.Prelude.{◌==◌}
+use Rattle.std.proofs.Common.{◌≡◌, ◌≢◌, ◌⊎◌, ◌↔◌, ℕ, suc, zero, ◌+◌, Bool, true, false, ◌&&◌, not, leb, List, [], ◌∷◌, ◌++◌, refl, ap, sym, ◌∙◌}
+use Rattle.std.proofs.Common.{IsTrue, length, length-append, inl, inr, subst, arith}
+use Rattle.std.specs.List.{list_all}
+use Rattle.std.proofs.lemmas.Bool.Decides.{nat_tests}
+use Rattle.std.proofs.lemmas.List.Folds.{list_all-append}
+use Rattle.noise_names.specs.declared.faults.TextFaultKind.{TextFaultKind}
+use Rattle.noise_names.specs.declared.faults.TextFaultKind.TheVariants as kinds
+use Rattle.noise_names.specs.declared.token.Role.{Role}
+use Rattle.noise_names.specs.declared.token.Role.TheVariants.{Initiator, Responder}
+use Rattle.noise_names.specs.declared.token.Token.{Token}
+use Rattle.noise_names.specs.Judging.{IsBarred, IsPassed, IsWrong, Passed, passed_lines}
+use Rattle.noise_names.specs.Limits.{HavePsksAt, IsPattern, has_few_tokens, is_pre_message, with_psk_tokens}
+use Rattle.noise_names.specs.Plan.{Plan}
+use Rattle.noise_names.specs.Text.{line, pre_lines, words}
+use Rattle.noise_names.specs.Tokens.{other, own_tokens, turn_from}
+use Rattle.noise_names.specs.WrongText.{IsTokens, arrow_then, body_of, dots, is_within}
+use Rattle.noise_names.proofs.NextLines.{IsBegun, IsNextLine, IsNextMessage, IsNextPre, next_line}
+use Rattle.noise_names.proofs.OneText.{apart, both}
+use Rattle.noise_names.proofs.Rows.{Row, content, ending, is_row, row_same, tokens_of}
+
+-- what an arrow and a token list are
+row_arrow : (row : Row) → is_row row ≡ true → content row ≢ dots → ((party : Role) (list : List ℕ) → content row ≢ arrow_then party list) → ⊥
+row_arrow ending h other_line none = other_line refl
+row_arrow (tokens_of party tokens) h other_line none = none party (words tokens) refl
+
+not_dots : (party : Role) (list : List ℕ) → dots ≢ arrow_then party list
+not_dots Initiator list e = apart _ _ 2 (sym e) (omega arith)
+not_dots Responder list e = apart _ _ 2 e (omega arith)
+
+list_same : (r s : Role) (xs ys : List ℕ) → arrow_then r xs ≡ arrow_then s ys → xs ≡ ys
+list_same Initiator Initiator xs ys e = cc
+list_same Responder Responder xs ys e = cc
+list_same Initiator Responder xs ys e = absurd (apart _ _ 2 e (omega arith))
+list_same Responder Initiator xs ys e = absurd (apart _ _ 2 (sym e) (omega arith))
+
+row_list : (row : Row) (party : Role) (list : List ℕ) → is_row row ≡ true → content row ≡ arrow_then party list
+    → ((tokens : List Token) → tokens ≢ [] → list ≢ words tokens) → ⊥
+row_list ending party list h e none = not_dots party list e
+row_list (tokens_of role []) party list h e none = absurd (let bad : false ≡ true = h in cc)
+row_list (tokens_of role (t ∷ ts)) party list h e none = none (t ∷ ts) (λ f. cc) (sym (list_same role party (words (t ∷ ts)) list e))
+
+-- the row of a line
+row_ending : (row : Row) (told : List ℕ) → is_row row ≡ true → told ≡ content row → told ≡ dots → row ≡ ending
+row_ending row told h e f = row_same row ending h refl (sym e ∙ f)
+
+row_tokens : (row : Row) (told : List ℕ) (party : Role) (tokens : List Token) → is_row row ≡ true → told ≡ content row → IsTokens party tokens told
+    → row ≡ tokens_of party tokens
+row_tokens row told party tokens h e f = row_same row (tokens_of party tokens) h (some tokens f.0) (sym e ∙ f.1) where
+  some : (ts : List Token) → ts ≢ [] → is_row (tokens_of party ts) ≡ true
+  some [] g = absurd (g refl)
+  some (t ∷ ts) g = refl
+
+not_ending : (party : Role) (tokens : List Token) → ending ≢ tokens_of party tokens
+not_ending party tokens e = cc
+
+party_same : (r s : Role) (ts us : List Token) → tokens_of r ts ≡ tokens_of s us → r ≡ s
+party_same r s ts us e = cc
+
+tokens_same : (r s : Role) (ts us : List Token) → tokens_of r ts ≡ tokens_of s us → ts ≡ us
+tokens_same r s ts us e = cc
+
+-- turns
+turn_apart : (n : ℕ) (party : Role) → turn_from (other party) n ≢ turn_from party n
+turn_apart zero Initiator e = absurd (cc)
+turn_apart zero Responder e = absurd (cc)
+turn_apart (suc n) party e = turn_apart n (other party) e
+
+next_turn : (n : ℕ) → turn_from Initiator n ≢ turn_from Initiator (n + 1)
+next_turn n e = turn_apart n Initiator (sym (e ∙ ap (λ (k : ℕ). turn_from Initiator k) (one_more n))) where
+  one_more : (n : ℕ) → n + 1 ≡ suc n
+  one_more n = omega arith
+
+-- what is right in a message of a pattern
+within : (q : Plan) (before more : List (List Token)) (m : List Token) → IsPattern q → q.messages ≡ before ++ m ∷ more → is_within before m ≡ true
+within q before more m h e =
+    let count : length q.messages ≡ length before + suc (length more) = ap length e ∙ length-append before (m ∷ more) in
+    let few : leb (length before + 1) 8 ≡ true =
+    one_more (length q.messages) (length before) (length more) count (both (leb 1 (length q.messages)) (leb (length q.messages) 8) h.count).1 in
+    let all : (list_all has_few_tokens before && list_all has_few_tokens (m ∷ more)) ≡ true =
+    sym (ap (λ (ms : List (List Token)). list_all has_few_tokens ms) e ∙ list_all-append has_few_tokens before (m ∷ more)) ∙ h.sizes in
+    let rest : list_all has_few_tokens (m ∷ more) ≡ true = (both (list_all has_few_tokens before) (list_all has_few_tokens (m ∷ more)) all).1 in
+    let here : has_few_tokens m ≡ true = (both (has_few_tokens m) (list_all has_few_tokens more) rest).0 in
+    rw (few, here) refl
+  where
+    one_more : (n b k : ℕ) → n ≡ b + suc k → leb n 8 ≡ true → leb (b + 1) 8 ≡ true
+    one_more n b k e t = grind (arith, nat_tests)
+
+psks_at : (places : List ℕ) (n : ℕ) (before more : List (List Token)) (m : List Token) → HavePsksAt places n (before ++ m ∷ more)
+    → m ≡ with_psk_tokens places (length before + n) (own_tokens m)
+psks_at places n [] more m h = h.0 ∙ ap (λ (k : ℕ). with_psk_tokens places k (own_tokens m)) (none_more n) where
+  none_more : (n : ℕ) → n ≡ 0 + n
+  none_more n = omega arith
+psks_at places n (x ∷ before) more m h =
+    psks_at places (n + 1) before more m h.1 ∙ ap (λ (k : ℕ). with_psk_tokens places k (own_tokens m)) (moved (length before) n)
+  where
+    moved : (k n : ℕ) → k + (n + 1) ≡ suc k + n
+    moved k n = omega arith
+
+-- ---- each kind of wrong line, where the next line of a right text is this
+
+no_arrow : (s : Passed) (q : Plan) (told : List ℕ) → IsNextLine s q told → told ≢ dots → ((party : Role) (list : List ℕ) → told ≢ arrow_then party list) → ⊥
+no_arrow s q told n other_line none = row_arrow n.row n.right (λ e. other_line (n.told_is ∙ e)) (λ party list e. none party list (n.told_is ∙ e))
+
+no_token : (s : Passed) (q : Plan) (told : List ℕ) (party : Role) (list : List ℕ) → IsNextLine s q told → told ≡ arrow_then party list
+    → ((tokens : List Token) → tokens ≢ [] → list ≢ words tokens) → ⊥
+no_token s q told party list n e none = row_list n.row party list n.right (sym n.told_is ∙ e) none
+
+no_dots : (s : Passed) (q : Plan) (told : List ℕ) → IsNextLine s q told → told ≡ dots → (s.ahead ≡ false) ⊎ ((s.initiator ≡ []) × (s.responder ≡ [])) → ⊥
+no_dots s q told n e where_it_is = at s.ahead refl where_it_is where
+  is : n.row ≡ ending
+  is = row_ending n.row told n.right n.told_is e
+
+  before_none : IsNextPre s.initiator s.responder n.row → (s.initiator ≡ []) × (s.responder ≡ []) → ⊥
+  before_none (inl h) none = h.1 none.0 none.1
+  before_none (inr h) none = not_ending h.0 h.1 (sym is ∙ h.2)
+
+  at : (ahead : Bool) → s.ahead ≡ ahead → (s.ahead ≡ false) ⊎ ((s.initiator ≡ []) × (s.responder ≡ [])) → ⊥
+  at false h k = not_ending _ _ (sym is ∙ (n.message h).row_is)
+  at true h (inl k) = let bad : true ≡ false = sym h ∙ k in cc
+  at true h (inr k) = before_none (n.pre_message h) k
+
+no_pre_message : (s : Passed) (q : Plan) (told : List ℕ) (party : Role) (tokens : List Token) → IsNextLine s q told → s.ahead ≡ true
+    → IsTokens party tokens told → (is_pre_message tokens ≡ false) ⊎ IsBarred party s → ⊥
+no_pre_message s q told party tokens n ahead are wrong = at (n.pre_message ahead) wrong where
+  is : n.row ≡ tokens_of party tokens
+  is = row_tokens n.row told party tokens n.right n.told_is are
+
+  at : IsNextPre s.initiator s.responder n.row → (is_pre_message tokens ≡ false) ⊎ IsBarred party s → ⊥
+  at (inl h) k = not_ending party tokens (sym h.0 ∙ is)
+  at (inr (role, own, row_is, pre, none, first)) (inl k) =
+      let same : own ≡ tokens = tokens_same role party own tokens (sym row_is ∙ is) in
+      let bad : true ≡ false = sym pre ∙ ap is_pre_message same ∙ k in
+      cc
+  at (inr (role, own, row_is, pre, none, first)) (inr (inl k)) = k none
+  at (inr (role, own, row_is, pre, none, first)) (inr (inr k)) = k.1 (first (party_same role party own tokens (sym row_is ∙ is) ∙ k.0))
+
+-- the line of a message
+pub record IsMessageAt (s : Passed) (q : Plan) (party : Role) (tokens : List Token) : Type 0 where
+  pub more : List (List Token)
+  pub messages_are : q.messages ≡ s.messages ++ tokens ∷ more
+  pub turn : party ≡ turn_from Initiator (length s.messages)
+
+message_at : (s : Passed) (q : Plan) (told : List ℕ) (party : Role) (tokens : List Token) → IsNextLine s q told → s.ahead ≡ false → IsTokens party tokens told
+    → IsMessageAt s q party tokens
+message_at s q told party tokens n none_ahead are =
+    let next : IsNextMessage Initiator s.messages q.messages n.row = n.message none_ahead in
+    let same : tokens_of party tokens ≡ tokens_of (turn_from Initiator (length s.messages)) next.message =
+    sym (row_tokens n.row told party tokens n.right n.told_is are) ∙ next.row_is in
+    let is : tokens ≡ next.message = tokens_same party (turn_from Initiator (length s.messages)) tokens next.message same in
+    record {
+      more = next.more;
+      messages_are = next.messages_are ∙ ap (λ (m : List Token). s.messages ++ m ∷ next.more) (sym is);
+      turn = party_same party (turn_from Initiator (length s.messages)) tokens next.message same;
+    }
+
+no_turn : (s : Passed) (q : Plan) (told : List ℕ) (tokens : List Token) → IsNextLine s q told → s.ahead ≡ false
+    → IsTokens (turn_from Initiator (length s.messages + 1)) tokens told → ⊥
+no_turn s q told tokens n none_ahead are =
+    next_turn (length s.messages) (sym (message_at s q told (turn_from Initiator (length s.messages + 1)) tokens n none_ahead are).turn)
+
+no_limit : (s : Passed) (q : Plan) (told : List ℕ) (tokens : List Token) → IsPattern q → IsNextLine s q told → s.ahead ≡ false
+    → IsTokens (turn_from Initiator (length s.messages)) tokens told → is_within s.messages tokens ≡ false → ⊥
+no_limit s q told tokens h n none_ahead are wrong =
+    let at = message_at s q told (turn_from Initiator (length s.messages)) tokens n none_ahead are in
+    let bad : true ≡ false = sym (within q s.messages at.more tokens h at.messages_are) ∙ wrong in
+    cc
+
+no_psk : (places : List ℕ) (s : Passed) (q : Plan) (told : List ℕ) (tokens : List Token) → IsPattern q → q.places ≡ places → IsNextLine s q told
+    → s.ahead ≡ false → IsTokens (turn_from Initiator (length s.messages)) tokens told
+    → tokens ≢ with_psk_tokens places (length s.messages + 1) (own_tokens tokens) → ⊥
+no_psk places s q told tokens h same n none_ahead are wrong =
+    let at = message_at s q told (turn_from Initiator (length s.messages)) tokens n none_ahead are in
+    let psks : HavePsksAt q.places 1 (s.messages ++ tokens ∷ at.more) =
+    subst (λ (ms : List (List Token)). HavePsksAt q.places 1 ms) at.messages_are h.psks.tokens in
+    wrong (psks_at q.places 1 s.messages at.more tokens psks
+    ∙ ap (λ (ns : List ℕ). with_psk_tokens ns (length s.messages + 1) (own_tokens tokens)) same)
+
+wrong_line : (places : List ℕ) (s : Passed) (told : List ℕ) (kind : TextFaultKind) (q : Plan) → IsPattern q → q.places ≡ places → IsNextLine s q told
+    → IsWrong places s told kind → ⊥
+wrong_line places s told kinds.Arrow q h same n w = no_arrow s q told n w.0 w.1
+wrong_line places s told kinds.Token q h same n (party, list, e, none) = no_token s q told party list n e none
+wrong_line places s told kinds.PreMessage q h same n (inl w) = no_dots s q told n w.0 w.1
+wrong_line places s told kinds.PreMessage q h same n (inr (ahead, (party, tokens, are, w))) = no_pre_message s q told party tokens n ahead are w
+wrong_line places s told kinds.Turn q h same n (none_ahead, (tokens, are)) = no_turn s q told tokens n none_ahead are
+wrong_line places s told kinds.Limit q h same n (none_ahead, (tokens, are, w)) = no_limit s q told tokens h n none_ahead are w
+wrong_line places s told kinds.PskPlace q h same n (none_ahead, (tokens, are, limits, w)) = no_psk places s q told tokens h same n none_ahead are w
+wrong_line places s told kinds.Heading q h same n w = w
+wrong_line places s told kinds.NameTaken q h same n w = w
+wrong_line places s told kinds.Ending q h same n w = w
+
+-- It is in no right text of these psk places that has the line after the pre-messages exactly if this text has it.
+pub excluded : (places : List ℕ) (dotted : Bool) (s : Passed) (told : List ℕ) (kind : TextFaultKind) → IsPassed places dotted s → IsWrong places s told kind
+    → list_all (λ b. not (b == 10)) told ≡ true → (q : Plan) → IsPattern q → q.places ≡ places
+    → (pre_lines q.initiator q.responder ≢ [] ↔ IsTrue dotted) → (rest : List ℕ) → ¬ (body_of q ≡ passed_lines s ++ (line told ++ rest))
+excluded places dotted s told kind passed wrong feedless q right same form rest e =
+    let begun : IsBegun places dotted s told rest q =
+    record { passed = passed; feedless = feedless; right = right; places_are = same; form = form; begins = e } in
+    wrong_line places s told kind q right same (next_line places dotted s told rest q begun) wrong
