@@ -1,5 +1,5 @@
 -- The heading of a name, with which the text of a pattern begins.
-use Rattle.std.proofs.Common.{arith, ◌≡◌, ◌∙◌, ◌+◌, ◌==◌, ◌↔◌, ◌&&◌, ap, refl, sym, not, true, false, true≢false, Bool, ℕ, List, [], ◌∷◌, ◌++◌, codes, drop}
+use Rattle.std.proofs.Common.{arith, ◌≡◌, ◌∙◌, ◌==◌, ◌↔◌, ◌&&◌, ap, refl, sym, not, true, false, true≢false, Bool, ℕ, List, [], ◌∷◌, ◌++◌, codes, drop}
 use Rattle.std.specs.Bool.{nat_eq}
 use Rattle.std.specs.Prelude.{bytes_eq}
 use Rattle.std.specs.List.{starts_with}
@@ -50,7 +50,8 @@ heading-one p name text h k e rest begun =
     name-one own name right k (ap (λ (s : List ℕ). prefix ++ s ++ suffix) sections)
 
 -- it is the section, a colon and a line feed
-pub heading-parts : (name : Section) (text rest : List ℕ) → text ≡ line (heading_of name) rest → text ≡ section_bytes name.base name.places ++ (codes ":\n" ++ rest)
+pub heading-parts : (name : Section) (text rest : List ℕ) → text ≡ line (heading_of name) rest
+    → text ≡ section_bytes name.base name.places ++ (codes ":\n" ++ rest)
 heading-parts name text rest e = e ∙ append_assoc (section_bytes name.base name.places) (codes ":") (10 ∷ rest)
 
 -- a text that begins with the section begins with the heading where a colon and a line feed follow

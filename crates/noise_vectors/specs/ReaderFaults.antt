@@ -1,5 +1,5 @@
 -- What the readers of a file's parts tell.
-use Rattle.std.specs.Prelude.{⊤, ◌≡◌, ◌⊎◌, ◌+◌, ◌<◌, ◌≤◌, ◌^◌, IsFalse, IsTrue, ℕ, List, [], ◌∷◌, ◌++◌, Bool, true, false, codes, decimal, length, nat_eq, IfSome, Option, None}
+use Rattle.std.specs.Prelude.{◌≡◌, ◌⊎◌, ◌+◌, ◌<◌, ◌≤◌, ◌^◌, IsFalse, IsTrue, ℕ, List, [], ◌∷◌, ◌++◌, Bool, true, false, codes, decimal, length, nat_eq, IfSome, Option, None}
 use Rattle.std.specs.List.{All, starts_with}
 use Rattle.noise_events.specs.declared.datagram_event.DatagramEvent.{DatagramEvent}
 use Rattle.noise_events.specs.declared.event.Event.{Event}

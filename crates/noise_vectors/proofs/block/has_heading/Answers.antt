@@ -1,4 +1,4 @@
-use Rattle.std.proofs.Common.{◌∙◌, ap, refl, sym, ℕ, List, ◌∷◌, ◌++◌, Some, None, codes}
+use Rattle.std.proofs.Common.{◌∙◌, ap, refl, sym, ℕ, List, ◌++◌, Some, None, codes}
 use Rattle.std.specs.Bool.{nat_eq}
 use Rattle.std.specs.List.{starts_with}
 use Rattle.std.proofs.lemmas.Bool.Decides.{Decides-eqb}
