@@ -227,7 +227,7 @@ TellsOpen from total fault =
     (fault ≡ Line (total + 1) kinds.Ending)
     × ((before : List (List ℕ)) (rest : List ℕ) → All IsInner before → ¬ (from ≡ lines_of itself before (line (codes "end") rest)))
 
--- a line before it is wrong
+-- a line of the pattern of this name is wrong
 pub record IsWrongBlock (name : Section) (from : List ℕ) (total : ℕ) (fault : VectorFault) : Type 0 where
   pub block : Block from
   pub place : ℕ
