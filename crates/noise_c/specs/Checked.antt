@@ -1,8 +1,11 @@
 -- What a check of a pattern text tells.
 use Rattle.std.specs.Prelude.{◌≡◌, ℕ, List, Some}
+use Rattle.noise_names.specs.declared.faults.TextFaultKind.{TextFaultKind}
 use Rattle.noise_names.specs.Plan.{Plan}
 use Rattle.noise_names.specs.Text.{Spells}
 use Rattle.noise_names.specs.Validity.{IsValid, first_fault}
+use Rattle.noise_names.specs.WrongText.{IsTextFaultAt}
+use Rattle.noise_c.specs.Codes.{text_code}
 use Rattle.noise_c.specs.declared.kept.NoisePatternTold.{NoisePatternTold}
 
 -- the text of a valid pattern
@@ -16,6 +19,10 @@ pub record IsBrokenText (text : List ℕ) : Type 0 where
   pub pattern : Plan
   pub spelled : Spells text pattern
   pub broken : IsValid pattern → ⊥
+
+-- The code and the line are those that are reported of a text that no pattern has.
+abbrev pub TellsText : List ℕ → ℕ → ℕ → Type 0
+TellsText text code number = (kind : TextFaultKind) × (code ≡ text_code kind) × IsTextFaultAt text number kind
 
 -- The pattern's first fault was reported, and nothing else.
 pub record TellsRule (p : Plan) (old new : NoisePatternTold) : Type 0 where

@@ -5,7 +5,7 @@ ghost use Rattle.std.specs.Prelude.{◌≡◌, ◌≤◌, ◌⊎◌, ◌↔◌, 
 ghost use Rattle.noise_names.specs.Plan.{Plan};
 ghost use Rattle.noise_names.specs.Text.{Spells};
 ghost use Rattle.noise_names.specs.Validity.{IsValid};
-ghost use Rattle.noise_c.specs.Checked.{IsValidText, IsBrokenText, TellsRule};
+ghost use Rattle.noise_c.specs.Checked.{IsValidText, IsBrokenText, TellsRule, TellsText};
 ghost use Rattle.noise_c.specs.declared.codes.TheConstants.{ENDING, HEADING, OK, RULE};
 
 use crate::codes::{OK, RULE, text_code};
@@ -46,6 +46,7 @@ pub extern "C" fn noise_check_pattern(text: &[u8], told: &mut NoisePatternTold) 
     ensures rule { result ≡ RULE → (p : Plan) → Spells text.now p → TellsRule p told.old told.new }
     ensures none { HEADING ≤ result → result ≤ ENDING → (p : Plan) → Spells text.now p → ⊥ }
     ensures line { HEADING ≤ result → result ≤ ENDING → told.new ≡ record told.old { line = told.new.line } }
+    ensures told { HEADING ≤ result → result ≤ ENDING → TellsText text.now result told.new.line }
     ensures codes { (result ≡ OK) ⊎ ((HEADING ≤ result) × (result ≤ RULE)) }
 {
     Pattern::texts_are_unique();

@@ -7,6 +7,7 @@ use Rattle.noise_names.specs.Fundamental.{fundamentals}
 use Rattle.noise_names.specs.Overhead.{overhead_of}
 use Rattle.noise_names.specs.Text.{Spells, line, text_of}
 use Rattle.noise_names.specs.Validity.{IsFirstFault}
+use Rattle.noise_names.specs.WrongText.{IsTextFault}
 use Rattle.noise_lines.specs.declared.faults.Fault.{Fault}
 use Rattle.noise_lines.specs.declared.faults.Fault.TheVariants.{Rule, Name, Text, Memory}
 use Rattle.noise_lines.specs.Named.{IsNamed, IsUnnamed}
@@ -41,7 +42,7 @@ IsShowFault bytes fault = (name : Section) × Names bytes name × IsUnnamed name
 
 -- why `check` ends without a valid pattern
 abbrev pub IsCheckFault : List ℕ → Fault → Type 0
-IsCheckFault text (Text fault) = (p : Plan) → Spells text p → ⊥
+IsCheckFault text (Text fault) = ((p : Plan) → Spells text p → ⊥) × IsTextFault text fault
 IsCheckFault text (Rule fault) = (p : Plan) × Spells text p × IsFirstFault p fault
 IsCheckFault text Memory = ⊤
 IsCheckFault text _ = ⊥

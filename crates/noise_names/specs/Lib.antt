@@ -12,5 +12,6 @@ pub mod Overhead
 pub mod Checking
 pub mod Reading
 pub mod Facts
+pub mod FaultLines
 pub mod Rules
 pub mod Examples

@@ -1,11 +1,11 @@
 -- The text of a pattern as lines none of which is `end`, and such lines as they are read.
-use Rattle.std.proofs.Common.{arith, ◌≡◌, ◌∙◌, ◌+◌, ◌-◌, ◌==◌, not, Bool, true, ap, refl, sym, ℕ, List, [], ◌∷◌, ◌++◌, codes, length, take}
+use Rattle.std.proofs.Common.{arith, ◌≡◌, ◌∙◌, ◌+◌, ◌-◌, ◌==◌, not, Bool, true, false, ap, refl, subst, sym, ℕ, List, [], ◌∷◌, ◌++◌, codes, length, take}
 use Rattle.std.specs.List.{All, list_all}
 use Rattle.std.proofs.Math.Seq.{take-append_seam}
 use Rattle.std.proofs.lemmas.Bool.{and_parts}
 use Rattle.std.proofs.lemmas.Bool.Decides.{nat_tests}
 use Rattle.std.proofs.lemmas.List.{append_assoc, length-append}
-use Rattle.std.proofs.lemmas.List.Elements.{All-append, All-cons, All-head, All-nil, All-tail}
+use Rattle.std.proofs.lemmas.List.Elements.{All-append, All-cons, All-head, All-nil, All-push, All-tail}
 use Rattle.noise_names.specs.declared.token.Role.{Role}
 use Rattle.noise_names.specs.declared.token.Role.TheVariants.{Initiator, Responder}
 use Rattle.noise_names.specs.declared.token.Token.{Token}
@@ -20,7 +20,10 @@ use Rattle.noise_names.specs.Facts.{section_bytes-all}
 use Rattle.noise_vectors.specs.Block.{IsInner, itself}
 use Rattle.noise_vectors.specs.VectorText.{line, lines_of}
 use Rattle.noise_vectors.specs.Words.{lacks}
+use Rattle.noise_vectors.specs.WrongLine.{Block, IsFirstLine}
 use Rattle.noise_vectors.proofs.LackLemmas.{all_weaker, lacks-append}
+use Rattle.noise_vectors.proofs.LineLemmas.{lines_of-more}
+use Rattle.noise_vectors.proofs.ToldLemmas.{first-line}
 
 -- ---- lists of lines
 
@@ -110,14 +113,14 @@ not_end (b ∷ bs) h e =
     let bad : is_section_byte 101 ≡ true = rw first at parts.0 in
     cc (bad)
 
+pub heading-plain : (s : Section) → IsSection s → lacks 10 (section_bytes s.base s.places ++ codes ":") ≡ true
+heading-plain s h =
+    let plain = all_weaker is_section_byte (λ b. not (b == 10)) (section_bytes s.base s.places) not_feed (section_bytes-all s h) in
+    lacks-append 10 (section_bytes s.base s.places) (codes ":") plain refl
+
 lined-heading : (s : Section) → IsSection s → Lined ((section_bytes s.base s.places ++ codes ":") ++ 10 ∷ [])
 lined-heading s h =
-    let bytes = section_bytes-all s h in
-    let plain = all_weaker is_section_byte (λ b. not (b == 10)) (section_bytes s.base s.places) not_feed bytes in
-    lined-one (section_bytes s.base s.places ++ codes ":") (
-      lacks-append 10 (section_bytes s.base s.places) (codes ":") plain refl,
-      not_end (section_bytes s.base s.places) bytes,
-    )
+    lined-one (section_bytes s.base s.places ++ codes ":") (heading-plain s h, not_end (section_bytes s.base s.places) (section_bytes-all s h))
 
 -- the text of a pattern is that of such lines
 pub lined-pattern : (p : Plan) → IsPattern p → Lined (pattern_text p)
@@ -196,14 +199,50 @@ pub Left-step : (rest left text after : List ℕ) (is_ended : Bool) → Left res
     → Left rest after × (is_ended ≡ true)
 Left-step rest left text after is_ended l next is = step-of rest left text after is_ended l.others l.inner l.left_is next is
 
--- what comes before the rest's last line is the text of the lines before it
-pub front-is : (text left rest : List ℕ) (before : List (List ℕ)) → text ≡ lines_of itself before (line (codes "end") rest)
-    → left ≡ line (codes "end") rest → take (length text - length left) text ≡ lines_of itself before []
-front-is text left rest before e is =
-    let whole : text ≡ lines_of itself before [] ++ left =
-    e ∙ sym (lines_of-after before [] (line (codes "end") rest)) ∙ ap (λ (t : List ℕ). lines_of itself before [] ++ t) (sym is) in
+-- what comes before the rest is the text of the lines before it
+front-before : (text left : List ℕ) (before : List (List ℕ)) → text ≡ lines_of itself before left
+    → take (length text - length left) text ≡ lines_of itself before []
+front-before text left before e =
+    let whole : text ≡ lines_of itself before [] ++ left = e ∙ sym (lines_of-after before [] left) in
     let len : length text ≡ length (lines_of itself before []) + length left = ap length whole ∙ length-append (lines_of itself before []) left in
     let n : length text - length left ≡ length (lines_of itself before []) = omega arith in
     let front : take (length (lines_of itself before [])) text ≡ lines_of itself before [] =
     ap (take (length (lines_of itself before []))) whole ∙ take-append_seam (lines_of itself before []) left in
     rw n front
+
+pub front-is : (text left rest : List ℕ) (before : List (List ℕ)) → text ≡ lines_of itself before (line (codes "end") rest)
+    → left ≡ line (codes "end") rest → take (length text - length left) text ≡ lines_of itself before []
+front-is text left rest before e is = front-before text left before (e ∙ ap (lines_of itself before) (sym is))
+
+-- ---- the lines that were read
+
+-- none of these lines is the block's last one
+pub record Read (start left : List ℕ) : Type 0 where
+  pub lines : List (List ℕ)
+  pub inner : All IsInner lines
+  pub start_is : start ≡ lines_of itself lines left
+
+pub Read-none : (start : List ℕ) → Read start start
+Read-none start = record { lines = []; inner = All-nil IsInner; start_is = refl }
+
+pub Read-step : (start left words after : List ℕ) → Read start left → IsInner words → left ≡ line words after → Read start after
+Read-step start left words after r h e = record {
+  lines = r.lines ++ words ∷ [];
+  inner = All-push IsInner r.lines words r.inner h;
+  start_is = lines_of-more itself start left words after r.lines words r.start_is e refl;
+}
+
+-- with `end` after them they are the block's
+pub Read-end : (start left words after : List ℕ) (is_ended : Bool) → Read start left → (is_ended ≡ true → left ≡ line words after)
+    → (is_ended ≡ false → left ≡ words) → lacks 10 words ≡ true → words ≡ codes "end"
+    → (block : Block start) × (take (length start - length left) start ≡ lines_of itself block.lines [])
+Read-end start left words after is_ended r ended last plain is = (
+  record {
+    lines = r.lines;
+    inner = r.inner;
+    after = left;
+    ends = subst (λ (t : List ℕ). IsFirstLine t left) is (first-line left words after is_ended ended last plain);
+    left_is = r.start_is;
+  },
+  front-before start left r.lines r.start_is,
+)

@@ -5,6 +5,7 @@ pub mod CutLemmas
 pub mod EventLemmas
 pub mod ExpectationLemmas
 pub mod FrontLemmas
+pub mod HeadingLemmas
 pub mod HeldLemmas
 pub mod HexWordLemmas
 pub mod KeyLemmas

@@ -1,20 +1,23 @@
 -- What a reader of lines of one kind tells.
-use Rattle.std.proofs.Common.{arith, ◌≡◌, ◌∙◌, ◌+◌, ◌<◌, ◌^◌, inl, inr, ap, refl, subst, sym, true, false, Bool, ℕ, List, [], ◌∷◌, ◌++◌, codes, get_or, length}
+use Rattle.std.proofs.Common.{arith, ◌≡◌, ◌∙◌, ◌+◌, ◌-◌, ◌<◌, ◌≤◌, ◌^◌, min, inl, inr, ap, refl, subst, sym, true, false, Bool, ℕ, List, [], ◌∷◌, ◌++◌, codes, get_or, length}
 use Rattle.std.specs.List.{All}
+use Rattle.std.proofs.Math.Nat.{min-eq_left}
 use Rattle.std.proofs.lemmas.List.{append_assoc, length-append}
 use Rattle.std.proofs.lemmas.List.Elements.{All-head, All-push, All-tail}
+use Rattle.noise_names.specs.FaultLines.{fault-line}
+use Rattle.noise_names.specs.Names.{Section}
 use Rattle.noise_vectors.specs.Block.{IsInner, itself}
-use Rattle.noise_vectors.specs.ReaderFaults.{Listed, TellsAfter, TellsBlock, TellsLine}
+use Rattle.noise_vectors.specs.ReaderFaults.{IsWrongBlock, Listed, TellsAfter, TellsLine, TellsOpen}
 use Rattle.noise_vectors.specs.VectorText.{header_words, line, lines_of}
 use Rattle.noise_vectors.specs.Words.{lacks}
-use Rattle.noise_vectors.specs.WrongLine.{line_feeds}
+use Rattle.noise_vectors.specs.WrongLine.{Block, IsWrongIn, line_feeds}
 use Rattle.noise_vectors.specs.declared.faults.LineKind.{LineKind}
 use Rattle.noise_vectors.specs.declared.faults.LineKind.TheVariants as kinds
 use Rattle.noise_vectors.specs.declared.faults.VectorFault.{VectorFault}
 use Rattle.noise_vectors.specs.declared.faults.VectorFault.TheVariants.{Line}
 use Rattle.noise_vectors.proofs.LineLemmas.{lines_of-push}
 use Rattle.noise_vectors.proofs.UniqueWords.{numbers-apart, parted-one}
-use Rattle.noise_vectors.proofs.ToldLemmas.{counted-here, counted-last, counted-none, first-line}
+use Rattle.noise_vectors.proofs.ToldLemmas.{counted-here, counted-last, counted-none, feeds-append, first-line}
 
 pub not-true : (b : Bool) → ¬ (b ≡ true) → b ≡ false
 not-true true h = absurd (h refl)
@@ -78,8 +81,33 @@ line-cut IsGood rest words total kind fault is_ended number next same low step l
 
 pub block-ending : (from : List ℕ) (total number : ℕ) (fault : VectorFault) → fault ≡ Line number kinds.Ending → number ≡ total + 1
     → ((before : List (List ℕ)) (rest : List ℕ) → All IsInner before → ¬ (from ≡ lines_of itself before (line (codes "end") rest)))
-    → TellsBlock from total fault
-block-ending from total number fault is n none = subst (TellsBlock from total) (sym is) (n, none)
+    → TellsOpen from total fault
+block-ending from total number fault is n none = (is ∙ ap (λ (k : ℕ). Line k kinds.Ending) n, none)
+
+-- a line that is told of the block is one of its lines, or the next
+place-few : (name : Section) (text : List ℕ) (place : ℕ) → IsWrongIn name text place → place ≤ line_feeds text + 1
+place-few name text place (inl (none, one)) = omega (arith, one)
+place-few name text place (inr (begun, (fault, tells, is))) = let few = fault-line text fault tells in omega (arith, few, is)
+
+-- its number in the file is as many more as lines were read before
+pub block-wrong : (name : Section) (from text : List ℕ) (total before place number : ℕ) → before + line_feeds from ≡ total → total < 2 ^ 63
+    → number ≡ min (before + place) (2 ^ 64 - 1) → (block : Block from) × (text ≡ lines_of itself block.lines []) → IsWrongIn name text place
+    → IsWrongBlock name from total (Line number kinds.Pattern)
+block-wrong name from text total before place number all low sum (block, is) wrong =
+    let whole : from ≡ text ++ block.after =
+    block.left_is ∙ sym (lines_of-after itself block.lines [] block.after) ∙ ap (λ (t : List ℕ). t ++ block.after) (sym is) in
+    let feeds = ap line_feeds whole ∙ feeds-append text block.after in
+    let few = place-few name text place wrong in
+    let small : before + place ≤ 2 ^ 64 - 1 = omega (arith, feeds, few, all, low) in
+    let same : number ≡ before + place = sum ∙ min-eq_left small in
+    record {
+      block = block;
+      place = place;
+      wrong = subst (λ (t : List ℕ). IsWrongIn name t place) is wrong;
+      number = number;
+      counted = omega (arith, same, all);
+      fault_is = refl;
+    }
 
 -- ---- what a reader of several tells
 

@@ -17,7 +17,7 @@ use Rattle.noise_vectors.specs.SameFile.{expected_of}
 use Rattle.noise_vectors.specs.WrongLine.{IsCutShort, IsEnded, IsOpenBlock, IsTold, line_feeds, up_to_interval, up_to_prologue, up_to_protocol}
 use Rattle.noise_vectors.specs.VectorFile.{ArePsks, IsAllowed, IsAllowedFile, IsAllowedVersion, IsEvent, IsExpected, IsOwn, IsShort, IsVectorFile, IsVersion}
 use Rattle.noise_vectors.specs.VectorText.{block_text, header_words, is_second, line, lines_of, text_of, version_text}
-use Rattle.noise_vectors.specs.Words.{IsKey}
+use Rattle.noise_vectors.specs.Words.{IsKey, lacks}
 use Rattle.noise_vectors.specs.declared.faults.LineKind.TheVariants as kinds
 use Rattle.noise_vectors.specs.declared.faults.VectorFault.{VectorFault}
 use Rattle.noise_vectors.specs.declared.faults.VectorFault.TheVariants.{Line, Memory}
@@ -31,6 +31,7 @@ use Rattle.noise_vectors.specs.declared.vector.Version.TheVariants.{One, Two}
 use Rattle.noise_vectors.proofs.AdditionLemmas.{no-second}
 use Rattle.noise_vectors.proofs.FrontLemmas.{cut-before, cut-within, ended-block, ended-line, front-interval, front-line, front-prologue, front-protocol, told-line}
 use Rattle.noise_vectors.proofs.ReadingLemmas.{interval-plain, prologue-plain, protocol-plain}
+use Rattle.noise_vectors.proofs.ToldLemmas.{feeds-line}
 use Rattle.noise_vectors.proofs.UniqueTexts.{blocks-after, header-plain}
 use Rattle.noise_vectors.proofs.UniqueWords.{name-one, parted-one}
 use Rattle.noise_vectors.proofs.VectorLemmas.{after_block, after_header, after_interval, after_prologue, after_protocol}
@@ -355,19 +356,31 @@ interval-told alloc allowed text left second name block prologue short total fau
 
 -- ---- the pattern
 
+header-lacks : (second : Bool) → lacks 10 (header_words second) ≡ true
+header-lacks true = refl
+header-lacks false = refl
+
 -- a fault of the block comes of a name whose pattern a file spells
 pub block-told : (allowed : AllowedEvents) (text left : List ℕ) (second : Bool) (name : Section) (total : ℕ) (fault : VectorFault)
     → text ≡ line (header_words second) (line (codes "protocol " ++ name_bytes name) left)
     → (allowed ≡ VersionOne → second ≡ false) → IsSection name → fundamental_of name.base ≡ None → total ≡ line_feeds text
-    → TellsBlock left total fault → IsTold allowed text fault
-block-told allowed text left second name total (Line n kinds.Pattern) e one h unknown all tells =
-    record { second = second; is_allowed = one; name = name; is_section = h; unknown = unknown; left = left; text_is = e }
-block-told allowed text left second name total (Line n kinds.Ending) e one h unknown all tells =
-    inr (record {
+    → TellsBlock name left total fault → IsTold allowed text fault
+block-told allowed text left second name total fault e one h unknown all (inl tells) =
+    told-of allowed text fault (Line (total + 1) kinds.Ending) tells.0 (inr (record {
       whole = text;
       whole_is = inl refl;
       it = record { second = second; is_allowed = one; name = name; is_section = h; unknown = unknown; left = left; text_is = e };
       open_ = tells.1;
-      counted = tells.0 ∙ next-number text total all;
+      counted = next-number text total all;
+    }))
+block-told allowed text left second name total fault e one h unknown all (inr it) =
+    let whole = ap line_feeds e in
+    let header = feeds-line (header_words second) (line (codes "protocol " ++ name_bytes name) left) (header-lacks second) in
+    let protocol = feeds-line (codes "protocol " ++ name_bytes name) left (protocol-plain name h) in
+    told-of allowed text fault (Line it.number kinds.Pattern) it.fault_is (record {
+      it = record { second = second; is_allowed = one; name = name; is_section = h; unknown = unknown; left = left; text_is = e };
+      block = it.block;
+      place = it.place;
+      wrong = it.wrong;
+      counted = omega (arith, it.counted, all, whole, header, protocol);
     })
-block-told allowed text left second name total fault e one h unknown all tells = absurd tells

@@ -1,5 +1,5 @@
 -- What the readers of a file's parts tell.
-use Rattle.std.specs.Prelude.{⊤, ◌≡◌, ◌⊎◌, ◌+◌, ◌<◌, ◌≤◌, ◌^◌, IsFalse, IsTrue, ℕ, List, [], ◌∷◌, ◌++◌, Bool, true, false, codes, decimal, length, nat_eq, IfSome, Option, None}
+use Rattle.std.specs.Prelude.{◌≡◌, ◌⊎◌, ◌+◌, ◌<◌, ◌≤◌, ◌^◌, IsFalse, IsTrue, ℕ, List, [], ◌∷◌, ◌++◌, Bool, true, false, codes, decimal, length, nat_eq, IfSome, Option, None}
 use Rattle.std.specs.List.{All, starts_with}
 use Rattle.noise_events.specs.declared.datagram_event.DatagramEvent.{DatagramEvent}
 use Rattle.noise_events.specs.declared.event.Event.{Event}
@@ -14,7 +14,7 @@ use Rattle.noise_vectors.specs.VectorFile.{AreKeys, IsAllowed, IsDatagramEvent, 
 use Rattle.noise_vectors.specs.VectorText.{AfterDatagrams, AfterEvents, answer_words, datagram_event_words, datagrams_text, event_words, expect_line}
 use Rattle.noise_vectors.specs.VectorText.{header_words, line, lines_of, party_text, psk_words, window_words}
 use Rattle.noise_vectors.specs.Words.{IsKey}
-use Rattle.noise_vectors.specs.WrongLine.{IsFirstLine, line_feeds}
+use Rattle.noise_vectors.specs.WrongLine.{Block, IsFirstLine, IsWrongIn, line_feeds}
 use Rattle.noise_vectors.specs.declared.faults.LineKind.{LineKind}
 use Rattle.noise_vectors.specs.declared.faults.LineKind.TheVariants as kinds
 use Rattle.noise_vectors.specs.declared.faults.VectorFault.{VectorFault}
@@ -221,10 +221,20 @@ TellsVersion allowed second from total fault =
 
 -- ---- the pattern
 
--- a fault of the pattern that a file spells, or the text's end where no line `end` with its line feed is left
-abbrev pub TellsBlock : List ℕ → ℕ → VectorFault → Type 0
-TellsBlock from total (Line number kinds.Pattern) = ⊤
-TellsBlock from total (Line number kinds.Ending) =
-    (number ≡ total + 1)
+-- the text ends where no line `end` with its line feed is left
+abbrev pub TellsOpen : List ℕ → ℕ → VectorFault → Type 0
+TellsOpen from total fault =
+    (fault ≡ Line (total + 1) kinds.Ending)
     × ((before : List (List ℕ)) (rest : List ℕ) → All IsInner before → ¬ (from ≡ lines_of itself before (line (codes "end") rest)))
-TellsBlock from total fault = ⊥
+
+-- a line of the pattern of this name is wrong
+pub record IsWrongBlock (name : Section) (from : List ℕ) (total : ℕ) (fault : VectorFault) : Type 0 where
+  pub block : Block from
+  pub place : ℕ
+  pub wrong : IsWrongIn name (lines_of itself block.lines []) place
+  pub number : ℕ
+  pub counted : number + line_feeds from ≡ total + place
+  pub fault_is : fault ≡ Line number kinds.Pattern
+
+abbrev pub TellsBlock : Section → List ℕ → ℕ → VectorFault → Type 0
+TellsBlock name from total fault = TellsOpen from total fault ⊎ IsWrongBlock name from total fault

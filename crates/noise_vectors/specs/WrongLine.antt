@@ -1,9 +1,11 @@
--- Which line of a wrong file is told; the pattern that a file spells has a rule of its own.
+-- Which line of a wrong file is told. A line of the pattern that a file spells is told as it is of a pattern text.
 use Rattle.std.specs.Prelude.{⊤, ◌≡◌, ◌≢◌, ◌⊎◌, ◌+◌, ◌==◌, IsFalse, IsTrue, ℕ, List, [], ◌∷◌, ◌++◌, Bool, false, codes, count_by, decimal, nat_eq, None}
 use Rattle.std.specs.List.{All, starts_with}
+use Rattle.noise_names.specs.declared.faults.TextFault.{TextFault}
 use Rattle.noise_names.specs.declared.token.Role.TheVariants.{Initiator, Responder}
 use Rattle.noise_names.specs.Fundamental.{fundamental_of}
 use Rattle.noise_names.specs.Names.{IsSection, Section, name_bytes}
+use Rattle.noise_names.specs.WrongText.{IsTextFault, heading_of}
 use Rattle.noise_vectors.specs.Block.{IsInner, itself}
 use Rattle.noise_vectors.specs.HexWord.{hex_of}
 use Rattle.noise_vectors.specs.SameFile.{expected_of}
@@ -139,11 +141,36 @@ pub record IsOpenBlock (allowed : AllowedEvents) (text : List ℕ) (number : ℕ
   pub open_ : (before : List (List ℕ)) (rest : List ℕ) → All IsInner before → ¬ (it.left ≡ lines_of itself before (line (codes "end") rest))
   pub counted : number ≡ line_feeds text + 1
 
+-- The lines of that pattern: those before the next line `end`. This may be the text's last one, without a line feed.
+pub record Block (left : List ℕ) : Type 0 where
+  pub lines : List (List ℕ)
+  pub inner : All IsInner lines
+  pub after : List ℕ  -- the text from the line `end` on
+  pub ends : IsFirstLine (codes "end") after
+  pub left_is : left ≡ lines_of itself lines after
+
+-- the first of them is the pattern section of the name, and a colon
+abbrev pub HasHeading : Section → List ℕ → Type 0
+HasHeading name block = (rest : List ℕ) × (block ≡ line (heading_of name) rest)
+
+-- Which of them is wrong, counted from 1: the first, if it isn't that heading; else the one that is reported of them as the text of a pattern.
+abbrev pub IsWrongIn : Section → List ℕ → ℕ → Type 0
+IsWrongIn name block number =
+    (¬ HasHeading name block × (number ≡ 1)) ⊎ (HasHeading name block × ((fault : TextFault) × IsTextFault block fault × (number ≡ fault.line)))
+
+-- A line of that pattern is wrong. The header and the line of the protocol stand before its lines.
+pub record IsToldPattern (allowed : AllowedEvents) (text : List ℕ) (number : ℕ) : Type 0 where
+  pub it : HasOwnName allowed text
+  pub block : Block it.left
+  pub place : ℕ
+  pub wrong : IsWrongIn it.name (lines_of itself block.lines []) place
+  pub counted : number ≡ 2 + place
+
 -- what a fault tells of the text
 abbrev pub IsTold : AllowedEvents → List ℕ → VectorFault → Type 0
 IsTold allowed text (Line number kinds.Header) = IsToldLine allowed text number (λ file rest. rest)
 IsTold allowed text (Line number kinds.Protocol) = IsToldLine allowed text number up_to_protocol
-IsTold allowed text (Line number kinds.Pattern) = HasOwnName allowed text
+IsTold allowed text (Line number kinds.Pattern) = IsToldPattern allowed text number
 IsTold allowed text (Line number kinds.Prologue) = IsToldLine allowed text number up_to_prologue
 IsTold allowed text (Line number kinds.Interval) = IsToldLine allowed text number up_to_interval
 IsTold allowed text (Line number kinds.Psk) = (it : IsToldLine allowed text number up_to_initiator) × IsTrue (is_psk_line it.told)

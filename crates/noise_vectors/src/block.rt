@@ -1,14 +1,15 @@
 //! The pattern that a file spells itself.
 
-ghost use Rattle.std.specs.Prelude.{◌≡◌, ◌+◌, ◌<◌, ◌^◌, ◌++◌, [], ℕ, List, IfErr, IfOk, IsFalse, IsTrue, MatchResult, Ok, codes};
+ghost use Rattle.std.specs.Prelude.{◌≡◌, ◌↔◌, ◌+◌, ◌<◌, ◌^◌, ◌++◌, [], ℕ, List, IfErr, IfOk, IsFalse, IsTrue, MatchResult, Ok, codes};
 ghost use Rattle.std.specs.List.{All};
 ghost use Rattle.noise_names.specs.Limits.{IsPattern};
+ghost use Rattle.noise_names.specs.Names.{IsSection};
 ghost use Rattle.noise_names.specs.Plan.{Plan};
 ghost use Rattle.noise_names.specs.Text.{text_of as pattern_text};
 ghost use Rattle.noise_vectors.specs.Block.{IsInner, itself};
-ghost use Rattle.noise_vectors.specs.ReaderFaults.{TellsBlock};
+ghost use Rattle.noise_vectors.specs.ReaderFaults.{TellsBlock, TellsOpen};
 ghost use Rattle.noise_vectors.specs.VectorText.{line, lines_of};
-ghost use Rattle.noise_vectors.specs.WrongLine.{line_feeds};
+ghost use Rattle.noise_vectors.specs.WrongLine.{Block, HasHeading, IsWrongIn, line_feeds};
 ghost use Rattle.noise_vectors.specs.OwnPattern.{HasName};
 
 use crate::faults::{LineKind, VectorFault};
@@ -26,8 +27,8 @@ pub(crate) fn read_block(
     ensures named { IfOk result (λ pattern. HasName pattern protocol.now) }
     ensures counted { lines.old.number + line_feeds lines.old.rest.now < 2 ^ 63
         → IfOk result (λ pattern. lines.new.number + line_feeds lines.new.rest.now ≡ lines.old.number + line_feeds lines.old.rest.now) }
-    ensures told { lines.old.number + line_feeds lines.old.rest.now < 2 ^ 63
-        → IfErr result (TellsBlock lines.old.rest.now (lines.old.number + line_feeds lines.old.rest.now)) }
+    ensures told { lines.old.number + line_feeds lines.old.rest.now < 2 ^ 63 → IsSection protocol.now
+        → IfErr result (TellsBlock protocol.now lines.old.rest.now (lines.old.number + line_feeds lines.old.rest.now)) }
     ensures every { (pattern : Plan) (rest : List ℕ) → IsPattern pattern → HasName pattern protocol.now
         → lines.old.rest.now ≡ pattern_text pattern ++ line (codes "end") rest
         → MatchResult result (λ read. (read ≡ pattern) × (lines.new.rest.now ≡ rest)) (λ fault. ⊥) }
@@ -46,12 +47,13 @@ pub(crate) fn read_block(
 // The lines before the next line `end`, which is read too.
 fn take_block<'a>(lines: &mut Lines<'a>) -> Result<&'a [u8], VectorFault>
     ensures text { IfOk result (λ text. IsTrue lines.new.is_ended → lines.old.rest.now ≡ text.now ++ line (codes "end") lines.new.rest.now) }
+    ensures block { IfOk result (λ text. (block : Block lines.old.rest.now) × (text.now ≡ lines_of itself block.lines [])) }
     ensures counted { lines.old.number + line_feeds lines.old.rest.now < 2 ^ 63
         → IfOk result (λ text. IsTrue lines.new.is_ended → lines.new.number + line_feeds lines.new.rest.now ≡ lines.old.number + line_feeds lines.old.rest.now) }
     ensures last { lines.old.number + line_feeds lines.old.rest.now < 2 ^ 63
         → IfOk result (λ text. IsFalse lines.new.is_ended → lines.new.number ≡ lines.old.number + line_feeds lines.old.rest.now + 1) }
     ensures told { lines.old.number + line_feeds lines.old.rest.now < 2 ^ 63
-        → IfErr result (TellsBlock lines.old.rest.now (lines.old.number + line_feeds lines.old.rest.now)) }
+        → IfErr result (TellsOpen lines.old.rest.now (lines.old.number + line_feeds lines.old.rest.now)) }
     ensures every { (before : List (List ℕ)) (rest : List ℕ) → All IsInner before
         → lines.old.rest.now ≡ lines_of itself before (line (codes "end") rest)
         → MatchResult result (λ text. (text.now ≡ lines_of itself before []) × (lines.new.rest.now ≡ rest) × IsTrue lines.new.is_ended) (λ fault. ⊥) }
@@ -66,13 +68,14 @@ fn take_block<'a>(lines: &mut Lines<'a>) -> Result<&'a [u8], VectorFault>
     }
 }
 
-// The pattern of this name that the text spells, or the number of the text's first line with a fault.
+// The pattern of this name that the text spells, or the number of the line in it that is wrong, counted from 1.
 fn pattern_of(text: &[u8], protocol: &ProtocolName) -> Result<Pattern, usize>
     ensures spelled { IfOk result (λ pattern. text.now ≡ pattern_text pattern) }
     ensures right { IfOk result IsPattern }
     ensures named { IfOk result (λ pattern. HasName pattern protocol.now) }
     ensures every { (pattern : Plan) → IsPattern pattern → HasName pattern protocol.now → text.now ≡ pattern_text pattern
         → result ≡ Ok pattern }
+    ensures told { IsSection protocol.now → IfErr result (IsWrongIn protocol.now text.now) }
 {
     match Pattern::parse_text(text) {
         Ok(pattern) if pattern.name() == *protocol => Ok(pattern),
@@ -82,7 +85,9 @@ fn pattern_of(text: &[u8], protocol: &ProtocolName) -> Result<Pattern, usize>
 }
 
 // Whether the first line is the pattern section of this name, which stands between its first two `_`, and a colon.
-fn has_heading(text: &[u8], protocol: &ProtocolName) -> bool {
+fn has_heading(text: &[u8], protocol: &ProtocolName) -> bool
+    ensures { IsSection protocol.now → IsTrue result ↔ HasHeading protocol.now text.now }
+{
     let name = protocol.write();
     let Some((_, after)) = split_once(&name, b'_') else {
         return false;

@@ -145,8 +145,8 @@ fn read_own_pattern(
     ensures right { IfOk result (IsOwn protocol.now) }
     ensures counted { lines.old.number + line_feeds lines.old.rest.now < 2 ^ 63
         → IfOk result (λ block. lines.new.number + line_feeds lines.new.rest.now ≡ lines.old.number + line_feeds lines.old.rest.now) }
-    ensures told { lines.old.number + line_feeds lines.old.rest.now < 2 ^ 63
-        → IfErr result (TellsBlock lines.old.rest.now (lines.old.number + line_feeds lines.old.rest.now)) }
+    ensures told { lines.old.number + line_feeds lines.old.rest.now < 2 ^ 63 → IsSection protocol.now
+        → IfErr result (TellsBlock protocol.now lines.old.rest.now (lines.old.number + line_feeds lines.old.rest.now)) }
     ensures own { IfErr result (λ fault. fundamental_of protocol.now.base ≡ None) }
     ensures every { (block : Option Plan) (rest : List ℕ) → IsOwn protocol.now block
         → lines.old.rest.now ≡ block_text block rest

@@ -1,8 +1,8 @@
-use Rattle.std.proofs.Common.{◌∙◌, ◌+◌, refl, sym}
+use Rattle.std.proofs.Common.{◌∙◌, ◌+◌, inl, inr, refl, sym}
 use Rattle.noise_vectors.proofs.BlockLemmas.{block-lines, lined-pattern}
 use Rattle.std.proofs.lemmas.Result.{err_from_is_err_and}
 use Rattle.noise_vectors.specs.WrongLine.{line_feeds}
-use Rattle.noise_vectors.proofs.PartLemmas.{block-ending, not-true}
+use Rattle.noise_vectors.proofs.PartLemmas.{block-ending, block-wrong, not-true}
 use Rattle.noise_vectors.proofs.block.read_block.Goals as goal
 
 pub returns-in_err-text-clause-every : goal.returns-in_err-text-clause-every
@@ -36,15 +36,21 @@ returns-in_ok-end-in-Ok-clause-counted c = λ low. c.in_ok-text.ensures.counted 
 
 pub returns-in_err-text-clause-told : goal.returns-in_err-text-clause-told
 returns-in_err-text-clause-told c =
-    let p = err_from_is_err_and c.from_residual.result c.from_residual.ensures.1 in λ low.
-    rw (p.1, p.2) (c.in_err-text.ensures.told low)
+    let p = err_from_is_err_and c.from_residual.result c.from_residual.ensures.1 in λ low right.
+    rw (p.1, p.2) (inl (c.in_err-text.ensures.told low))
 
 pub returns-in_err-end-in-Ok-clause-told : goal.returns-in_err-end-in-Ok-clause-told
 returns-in_err-end-in-Ok-clause-told c =
-    let p = err_from_is_err_and c.from_residual-in_err-end-in-Ok.result c.from_residual-in_err-end-in-Ok.ensures.1 in λ low.
-    rw (p.1, p.2) (block-ending c.args.lines.now.rest.now (c.args.lines.now.number + line_feeds c.args.lines.now.rest.now) c.take_block.new.lines.number _ c.in_err-end-in-Ok.ensures.fault
+    let p = err_from_is_err_and c.from_residual-in_err-end-in-Ok.result c.from_residual-in_err-end-in-Ok.ensures.1 in λ low right.
+    rw (p.1, p.2) (inl (block-ending c.args.lines.now.rest.now (c.args.lines.now.number + line_feeds c.args.lines.now.rest.now) c.take_block.new.lines.number _ c.in_err-end-in-Ok.ensures.fault
     (c.in_ok-text.ensures.last low (not-true c.take_block.new.lines.is_ended (λ yes. let bad = c.in_err-end-in-Ok.ensures.ended.1 yes in cc (bad))))
     (λ before rest h e.
     let read = c.in_ok-text.ensures.every before rest h e in
     let ended = c.in_err-end-in-Ok.ensures.ended.1 read.2 in
-    cc (ended)))
+    cc (ended))))
+
+pub returns-in-Err-clause-told : goal.returns-in-Err-clause-told
+returns-in-Err-clause-told c = λ low right.
+    inr (block-wrong c.args.protocol.now c.args.lines.now.rest.now c.in_ok-text.text.now
+    (c.args.lines.now.number + line_feeds c.args.lines.now.rest.now) c.args.lines.now.number c.in-Err.number c.saturating_add.result refl low
+    c.saturating_add.ensures c.in_ok-text.ensures.block (c.in-Err.ensures.told right))

@@ -2,7 +2,7 @@ use Rattle.std.proofs.Common.{rules, ◌≡◌, ◌∙◌, ◌+◌, ◌-◌, ap,
 use Rattle.std.specs.Prelude.{IsTrue}
 use Rattle.std.proofs.lemmas.Slice.Eq.{bytes_eq-Decides}
 use Rattle.noise_vectors.specs.VectorText.{line}
-use Rattle.noise_vectors.proofs.BlockLemmas.{front-is, Left-last, Left-next, Left-start, Left-step}
+use Rattle.noise_vectors.proofs.BlockLemmas.{front-is, Left-last, Left-next, Left-start, Left-step, Read-end, Read-none, Read-step}
 use Rattle.noise_vectors.proofs.LineLemmas.{Ends-after, Ends-whole}
 use Rattle.noise_vectors.specs.WrongLine.{line_feeds}
 use Rattle.noise_vectors.proofs.PartLemmas.{block-ending, not-true}
@@ -11,7 +11,7 @@ use Rattle.noise_vectors.proofs.ToldLemmas.{counted-last, counted-none, counted-
 use Rattle.noise_vectors.proofs.block.take_block.Goals as goal
 
 pub loop-lines-init : goal.loop-lines-init
-loop-lines-init c = (([], refl), λ before rest h e. Left-start rest before c.args.lines.now.rest.now h e, λ low. refl)
+loop-lines-init c = (([], refl), λ before rest h e. Left-start rest before c.args.lines.now.rest.now h e, λ low. refl, Read-none c.args.lines.now.rest.now)
 
 pub returns-in_err-next-clause-every : goal.returns-in_err-next-clause-every
 returns-in_err-next-clause-every c = λ before rest h e.
@@ -25,6 +25,12 @@ returns-then-eq-clause-text c =
     λ ended. Ends-whole text left c.loop-lines.invariant.0
     ∙ ap (λ (t : List ℕ). take (length text - length left) text ++ t)
     (c.in_ok-next.ensures.ended ended ∙ ap (λ (t : List ℕ). line t c.next.new.self.rest.now) last)
+
+pub returns-then-eq-clause-block : goal.returns-then-eq-clause-block
+returns-then-eq-clause-block c =
+    let last : c.in_ok-next.field-0.now ≡ codes "end" = search rules in
+    Read-end c.args.lines.now.rest.now c.loop-lines.lines.rest.now c.in_ok-next.field-0.now c.next.new.self.rest.now c.next.new.self.is_ended
+    c.loop-lines.invariant.3 c.in_ok-next.ensures.ended c.in_ok-next.ensures.last c.in_ok-next.ensures.plain last
 
 pub returns-then-eq-clause-every : goal.returns-then-eq-clause-every
 returns-then-eq-clause-every c =
@@ -60,6 +66,8 @@ loop-lines-preserved c =
           (c.loop-lines.invariant.1 before rest h e) c.in_ok-next.ensures.every other in
           l.0,
       λ low. counted-step c.loop-lines.lines.number c.next.new.self.number (c.args.lines.now.number + line_feeds c.args.lines.now.rest.now) c.loop-lines.lines.rest.now c.in_ok-next.field-0.now c.next.new.self.rest.now low (c.loop-lines.invariant.2 low) c.next.ensures.number c.in_ok-next.ensures.plain (c.in_ok-next.ensures.ended ended),
+      Read-step c.args.lines.now.rest.now c.loop-lines.lines.rest.now c.in_ok-next.field-0.now c.next.new.self.rest.now c.loop-lines.invariant.3
+          (c.in_ok-next.ensures.plain, other) (c.in_ok-next.ensures.ended ended),
     )
 
 pub returns-then-eq-clause-counted : goal.returns-then-eq-clause-counted

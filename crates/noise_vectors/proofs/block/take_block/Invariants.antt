@@ -3,7 +3,7 @@ use Rattle.std.specs.List.{All}
 use Rattle.noise_vectors.specs.Block.{IsInner, itself}
 use Rattle.noise_vectors.specs.WrongLine.{line_feeds}
 use Rattle.noise_vectors.specs.VectorText.{line, lines_of}
-use Rattle.noise_vectors.proofs.BlockLemmas.{Left}
+use Rattle.noise_vectors.proofs.BlockLemmas.{Left, Read}
 use Rattle.noise_vectors.proofs.LineLemmas.{Ends}
 use Rattle.noise_vectors.proofs.block.take_block.Given as goal
 
@@ -14,6 +14,7 @@ invariant-loop-lines l =
     → Left rest l.lines.rest.now)
     × (l.fn.lines.number + line_feeds l.fn.lines.rest.now < 2 ^ 63
     → l.lines.number + line_feeds l.lines.rest.now ≡ l.fn.lines.number + line_feeds l.fn.lines.rest.now)
+    × Read l.fn.lines.rest.now l.lines.rest.now
 
 abbrev pub decreases-loop-lines : goal.decreases-loop-lines
 decreases-loop-lines l = length l.lines.rest.now
