@@ -104,7 +104,7 @@ pub struct Flag<'a> {
 /// Whether the trace of each file that differs is printed.
 pub const TRACES: Flag<'static> = Flag {
     name: "trace",
-    meaning: "Print of each file that differs its trace too, up to the line that differs: these lines are secrets",
+    meaning: "Print the trace of each file that differs, up to the line that differs: what it prints are secrets",
 };
 
 /// The part whose lines alone are printed of a key schedule.
