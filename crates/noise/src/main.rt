@@ -5,7 +5,7 @@ ghost use Rattle.std.specs.Prelude.{◌≡◌, IfErr, None};
 ghost use Rattle.noise_lines.specs.Faults.{status_of};
 
 use noise_tool::{
-    Chosen, Fault, FilesByName, LineFault, Order, chosen, perform, read_file, tell, test,
+    Chosen, Fault, FilesByName, LineFault, Order, Tested, chosen, perform, read_file, tell, test,
 };
 use std::alloc::Global;
 use std::env;
@@ -18,7 +18,7 @@ fn main(rt: HostRuntime) -> ExitCode {
     let status = match words(&rt) {
         Ok(words) => match chosen(alloc, words) {
             Ok(Order::Command(command)) => run(&rt, &command),
-            Ok(Order::Test(names)) => run_test(&rt, &names),
+            Ok(Order::Test(tested)) => run_test(&rt, &tested),
             Err(LineFault::Memory) => ends_with(&rt, Fault::Memory),
             Err(LineFault::Line(error)) => print_line_fault(&rt, &error),
         },
@@ -74,12 +74,13 @@ fn run_on<R: Read>(rt: &HostRuntime, command: &Chosen, file: &mut R) -> u8 {
     }
 }
 
-// The same for the files of several names.
-fn run_test(rt: &HostRuntime, names: &[String]) -> u8 {
+// Tests files.
+fn run_test(rt: &HostRuntime, tested: &Tested) -> u8 {
     match BufWriter::new(rt.alloc(), rt.stdout()) {
         Ok(mut out) => test(
             rt.alloc(),
-            names,
+            &tested.files,
+            tested.traces,
             &Opened { rt },
             &mut out,
             &mut rt.stderr(),

@@ -14,6 +14,7 @@ pub mod ReceivedLemmas
 pub mod EventLemmas
 pub mod KeptLemmas
 pub mod FollowLemmas
+pub mod FrontLemmas
 pub mod TracedRunLemmas
 pub mod LastTraceLemmas
 pub mod TracePerforming

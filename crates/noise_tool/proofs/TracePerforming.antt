@@ -18,7 +18,8 @@ use Rattle.noise_tool.specs.Prefixes.{PrintsPrefix}
 use Rattle.noise_tool.specs.Running.{IsMet, expected_in}
 use Rattle.noise_tool.specs.TraceDone.{HasTraced, IsTraceUnmet, PrintsTrace, PrintsTracePrefix, kept_of}
 use Rattle.noise_tool.specs.TracedText.{IsTraceUnlike, trace_lines, trace_text}
-use Rattle.noise_tool.specs.Tracing.{IsTraceOf}
+use Rattle.noise_tool.specs.Tracing.{HasTraces, IsTraceOf}
+use Rattle.noise_tool.specs.TracedEnds.{traces_of}
 use Rattle.noise_tool.specs.declared.moment_lines.Kept.{Kept}
 use Rattle.noise_tool.specs.declared.tracing.Traced.{Traced}
 use Rattle.noise_tool.proofs.MetLemmas.{met-or-unmet}
@@ -29,8 +30,19 @@ pub record RanTraced (kept : Kept) (known : Option (List ℕ)) (file : VectorFil
   pub bytes : IfSome known (λ bytes. text ≡ bytes)
   pub right : IsVectorFile file
   pub spelled : text ≡ text_of file
-  pub run : IsTraceOf kept file (bytes_of traced.outcome.lines.items) (trace_lines traced)
+  pub run : HasTraces kept file (bytes_of traced.outcome.lines.items) (bytes_of traced.start.items) (traces_of traced.traces.items)
   pub expected : bytes_of traced.outcome.expected.items ≡ expected_in file.version
+
+-- all lines of the trace
+trace-of : (kept : Kept) (file : VectorFile) (traced : Traced)
+    → HasTraces kept file (bytes_of traced.outcome.lines.items) (bytes_of traced.start.items) (traces_of traced.traces.items)
+    → IsTraceOf kept file (bytes_of traced.outcome.lines.items) (trace_lines traced)
+trace-of kept file traced shown = record {
+  start = bytes_of traced.start.items;
+  traces = traces_of traced.traces.items;
+  shown = shown;
+  traced_are = refl;
+}
 
 traced-known : (kept : Kept) (known : Option (List ℕ)) (file : VectorFile) (traced : Traced) (before after : Option (List ℕ))
     → RanTraced kept known file traced → Appends before after (trace_text traced)
@@ -42,7 +54,7 @@ traced-known kept (Some bytes) file traced before after r printed met = record {
   text_is = sym r.bytes ∙ r.spelled;
   lines = bytes_of traced.outcome.lines.items;
   traced = trace_lines traced;
-  run = r.run;
+  run = trace-of kept file traced r.run;
   printed = printed;
   met = subst (λ (expected : List (List ℕ)). IsMet expected (bytes_of traced.outcome.lines.items)) r.expected met;
 }
@@ -79,7 +91,7 @@ unmet-known kept (Some bytes) file traced before after n r h = inr (record {
   text_is = sym r.bytes ∙ r.spelled;
   lines = bytes_of traced.outcome.lines.items;
   traced = trace_lines traced;
-  run = r.run;
+  run = trace-of kept file traced r.run;
   printed = h.0;
   some = λ none. h.1 (r.expected ∙ none);
   unmet = rw (← r.expected) h.2;
@@ -119,7 +131,7 @@ trace-whole kept bytes file traced r (e ∷ es) is = of-two (met-or-unmet (bytes
         text_is = sym r.bytes ∙ r.spelled;
         lines = bytes_of traced.outcome.lines.items;
         traced = trace_lines traced;
-        run = r.run;
+        run = trace-of kept file traced r.run;
         printed = refl;
         some = λ none. let bad = sym is ∙ none in cc bad;
         unmet = unmet;

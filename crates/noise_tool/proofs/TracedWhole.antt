@@ -14,7 +14,7 @@ use Rattle.noise_tool.specs.Ends.{facing_in}
 use Rattle.noise_tool.specs.Printed.{note_line}
 use Rattle.noise_tool.specs.Running.{AreLast, datagrams_in}
 use Rattle.noise_tool.specs.TracedEnds.{AreTracedEnds, HasRunTraced}
-use Rattle.noise_tool.specs.Tracing.{IsTraceOf, last_traces, start_traces, woven}
+use Rattle.noise_tool.specs.Tracing.{HasTraces, last_traces, start_traces}
 use Rattle.noise_tool.specs.declared.moment_lines.Kept.{Kept}
 use Rattle.noise_tool.specs.declared.traced_ends.TracedEnds.{TracedEnds}
 use Rattle.noise_tool.specs.declared.traced_ends.TracedStart.{TracedStart}
@@ -51,7 +51,7 @@ pub traced-whole : (kept : Kept) (file : VectorFile) (made : TracedStart) (a : A
     → ((after : Lines) (are_last : AreLast (datagrams_in made.version) r.last after)
     → pushed ≡ traces ++ last_traces kept (datagrams_in made.version) r.last after are_last)
     → (after : Lines) × AreLast (datagrams_in made.version) r.last after × (whole ≡ lines ++ after)
-    → IsTraceOf kept file whole (start ++ woven whole pushed)
+    → HasTraces kept file whole start pushed
 traced-whole kept file made a events duel report ends traces pushed start lines whole same r start_is lines_is keys closes =
     let closed : Closed kept (datagrams_in file.version) r.last lines whole traces pushed =
     subst (λ (o : Option FileDatagrams). Closed kept o r.last lines whole traces pushed) (ap datagrams_in a.version)
@@ -60,7 +60,7 @@ traced-whole kept file made a events duel report ends traces pushed start lines 
   where
     of-parts : Closed kept (datagrams_in file.version) r.last lines whole traces pushed
         → (q : HasRunTraced kept (facing_in file a.plan) (events_of file.events.items) duel report ends traces) × (q.last ≡ r.last)
-        → IsTraceOf kept file whole (start ++ woven whole pushed)
+        → HasTraces kept file whole start pushed
     of-parts closed (q, last_is) =
         let here : Closed kept (datagrams_in file.version) q.last lines whole traces pushed =
         subst (λ (z : Sides). Closed kept (datagrams_in file.version) z lines whole traces pushed) (sym last_is) closed in
@@ -76,6 +76,6 @@ traced-whole kept file made a events duel report ends traces pushed start lines 
           are_last = here.are_last;
           lines_are = here.whole_is ∙ ap (λ (z : Lines). z ++ here.after)
               (lines_is ∙ ap₂ (λ (d : Sides) (ns : List (Role × Note)). map (note_line d) ns) (sym last_is) q.notes_are);
-          traced_are = ap₂ (λ (x : Lines) (y : Traces). x ++ woven whole y) start_is
-              (here.pushed_is ∙ ap (λ (z : Traces). z ++ last_traces kept (datagrams_in file.version) q.last here.after here.are_last) q.traces_are);
+          start_is = start_is;
+          traces_are = here.pushed_is ∙ ap (λ (z : Traces). z ++ last_traces kept (datagrams_in file.version) q.last here.after here.are_last) q.traces_are;
         }

@@ -4,6 +4,10 @@ use Rattle.noise_names.specs.declared.token.Role.{Role}
 use Rattle.noise_names.specs.declared.token.Role.TheVariants.{Initiator, Responder}
 use Rattle.noise_tool.specs.declared.moment_lines.Kept.{Kept}
 
+-- all lines, of both parts and both roles
+abbrev pub all_kept : Kept
+all_kept = record { handshake = true; transport = true; initiator = true; responder = true }
+
 abbrev pub keeps_role : Kept → Role → Bool
 keeps_role kept Initiator = kept.initiator
 keeps_role kept Responder = kept.responder

@@ -1,11 +1,12 @@
 -- What `test` prints of vector files, and its exit status.
-use Rattle.std.specs.Prelude.{◌≡◌, ◌≢◌, ◌⊎◌, ◌≤◌, ◌-◌, ◌==◌, if◌then◌else◌, ℕ, Bool, true, false, not, List, [], ◌∷◌, ◌++◌, Option, Some, None, IfSome}
+use Rattle.std.specs.Prelude.{⊤, ◌≡◌, ◌≢◌, ◌⊎◌, ◌≤◌, ◌-◌, ◌==◌, if◌then◌else◌, ℕ, Bool, true, false, not, List, [], ◌∷◌, ◌++◌, Option, Some, None, IfSome}
 use Rattle.std.specs.Prelude.{Vec, codes, count_by, decimal, flat_map, length, map, option_map, slice_get}
 use Rattle.std.specs.Global.{Global}
 use Rattle.std.specs.List.{All}
 use Rattle.std.specs.Io.KnownBytes.{Appends}
 use Rattle.noise_names.specs.Text.{line}
 use Rattle.noise_lines.specs.Faults.{status_of}
+use Rattle.noise_lines.specs.Lines.{lines_text}
 use Rattle.noise_lines.specs.Told.{fault_line}
 use Rattle.noise_lines.specs.declared.faults.Fault.TheVariants.{Unreadable}
 use Rattle.noise_vectors.specs.Expectations.{IsFirstUnmet, bytes_of}
@@ -13,9 +14,12 @@ use Rattle.noise_vectors.specs.VectorFile.{IsVectorFile}
 use Rattle.noise_vectors.specs.VectorText.{text_of}
 use Rattle.noise_vectors.specs.declared.vector.AllowedEvents.TheVariants.{Any}
 use Rattle.noise_vectors.specs.declared.vector.VectorFile.{VectorFile}
+use Rattle.noise_tool.specs.Kept.{all_kept}
 use Rattle.noise_tool.specs.Performing.{IsRunFault}
 use Rattle.noise_tool.specs.Running.{IsRunOf, expected_in}
-use Rattle.noise_tool.specs.declared.running.Outcome.{Outcome}
+use Rattle.noise_tool.specs.TracedEnds.{traces_of}
+use Rattle.noise_tool.specs.Tracing.{HasTraces, IsTraceTo}
+use Rattle.noise_tool.specs.declared.tracing.Traced.{Traced}
 use Rattle.noise_tool.specs.declared.verdict.Verdict.{Verdict}
 use Rattle.noise_tool.specs.declared.verdict.Verdict.TheVariants.{Met, Differs, CannotRun, ExpectsNothing}
 
@@ -33,8 +37,13 @@ IsJudged lines expected (Differs d) = (expected ≢ []) × IsFirstUnmet lines ex
 IsJudged lines expected ExpectsNothing = expected ≡ []
 IsJudged lines expected (CannotRun why) = ⊥
 
--- a right vector file has this text, and the verdict is on the lines of its run
-pub record IsOfRun (text : List ℕ) (verdict : Verdict) : Type 0 where
+-- Where traces are wanted and the run differs, this is the front of a trace of this run, of all parts and both roles: up to the first line that differs.
+abbrev pub IsFront : Bool → VectorFile → List (List ℕ) → Verdict → List (List ℕ) → Type 0
+IsFront true file lines (Differs d) front = IsTraceTo all_kept file lines d.number front
+IsFront _ file lines verdict front = ⊤
+
+-- a right vector file has this text, the verdict is on the lines of its run, and the front is that of a trace of it
+pub record IsOfRun (traces : Bool) (text : List ℕ) (verdict : Verdict) (front : List (List ℕ)) : Type 0 where
   pub file : VectorFile
   pub right : IsVectorFile file
   pub text_is : text ≡ text_of file
@@ -42,23 +51,25 @@ pub record IsOfRun (text : List ℕ) (verdict : Verdict) : Type 0 where
   pub lines : List (List ℕ)
   pub run : IsRunOf file lines
   pub judged : IsJudged lines (expected_in file.version) verdict
+  pub front_is : IsFront traces file lines verdict front
 
--- a right vector file has this text, and this came of its run
-pub record RunsTo (text : List ℕ) (outcome : Outcome) : Type 0 where
+-- a right vector file has this text, and this came of its run, with a trace where one is wanted
+pub record RunsTo (traces : Bool) (text : List ℕ) (traced : Traced) : Type 0 where
   pub file : VectorFile
   pub right : IsVectorFile file
   pub text_is : text ≡ text_of file
   pub short : length text ≤ 4194304
-  pub run : IsRunOf file (bytes_of outcome.lines.items)
-  pub expected : bytes_of outcome.expected.items ≡ expected_in file.version
+  pub run : IsRunOf file (bytes_of traced.outcome.lines.items)
+  pub expected : bytes_of traced.outcome.expected.items ≡ expected_in file.version
+  pub shown : traces ≡ true → HasTraces all_kept file (bytes_of traced.outcome.lines.items) (bytes_of traced.start.items) (traces_of traced.traces.items)
 
 -- the verdict is why the file isn't run: it can't be read, or has this fault
 abbrev pub IsOfFault : List ℕ → Verdict → Type 0
 IsOfFault text (CannotRun why) = (why ≡ Unreadable) ⊎ ((status_of why ≤ 2) × IsRunFault Any text why)
 IsOfFault text _ = ⊥
 
-abbrev pub IsVerdict : List ℕ → Verdict → Type 0
-IsVerdict text verdict = IsOfFault text verdict ⊎ IsOfRun text verdict
+abbrev pub IsVerdict : Bool → List ℕ → Verdict → List (List ℕ) → Type 0
+IsVerdict traces text verdict front = IsOfFault text verdict ⊎ IsOfRun traces text verdict front
 
 abbrev pub is_met : Verdict → Bool
 is_met Met = true
@@ -82,47 +93,60 @@ verdict_text name (Differs d) = named_line (codes "differs") name (codes " at " 
 verdict_text name (CannotRun why) = named_line (codes "fault") name (codes ": " ++ fault_line why)
 verdict_text name ExpectsNothing = named_line (codes "fault") name (codes ": no expect lines")
 
--- names of files, each with the verdict on it
+-- with the front of a trace, where traces are wanted and the run differs
+abbrev pub tested_text : Bool → List ℕ → Verdict → List (List ℕ) → List ℕ
+tested_text true name (Differs d) front = verdict_text name (Differs d) ++ lines_text front
+tested_text _ name verdict front = verdict_text name verdict
+
+-- the name of a file, the verdict on it, and the front of a trace
+pub record Judged : Type 0 where
+  pub name : List ℕ
+  pub verdict : Verdict
+  pub front : List (List ℕ)
+
 abbrev pub Verdicts : Type 0
-Verdicts = List (List ℕ × Verdict)
+Verdicts = List Judged
 
 abbrev pub passed_in : Verdicts → ℕ
-passed_in verdicts = count_by (λ v. is_met v.1) verdicts
+passed_in verdicts = count_by (λ v. is_met v.verdict) verdicts
 
 abbrev pub failed_in : Verdicts → ℕ
-failed_in verdicts = count_by (λ v. not (is_met v.1)) verdicts
+failed_in verdicts = count_by (λ v. not (is_met v.verdict)) verdicts
 
-abbrev pub verdicts_text : Verdicts → List ℕ
-verdicts_text verdicts = flat_map (λ v. verdict_text v.0 v.1) verdicts
+abbrev pub verdicts_text : Bool → Verdicts → List ℕ
+verdicts_text traces verdicts = flat_map (λ v. tested_text traces v.name v.verdict v.front) verdicts
 
 -- the last line
 abbrev pub tally_line : ℕ → ℕ → List ℕ
 tally_line passed failed = line (decimal passed ++ (codes " passed, " ++ (decimal failed ++ codes " failed")))
 
--- the bytes of a file, where they are known, have this verdict
-abbrev pub IsVerdictOn : Option (List ℕ) → Verdict → Type 0
-IsVerdictOn known verdict = IfSome known (λ text. IsVerdict text verdict)
+-- the bytes of a file, where they are known, have this verdict, and this is the front of a trace
+abbrev pub IsVerdictOn : Bool → Option (List ℕ) → Verdict → List (List ℕ) → Type 0
+IsVerdictOn traces known verdict front = IfSome known (λ text. IsVerdict traces text verdict front)
 
--- one file is tested: the output grew by the text of its verdict
-pub record HasTested (known : Option (List ℕ)) (name : List ℕ) (before after : Option (List ℕ)) (met : Bool) : Type 0 where
+-- one file is tested: the output grew by the text of its verdict, and the front of a trace where that is wanted
+pub record HasTested (traces : Bool) (known : Option (List ℕ)) (name : List ℕ) (before after : Option (List ℕ)) (met : Bool) : Type 0 where
   pub verdict : Verdict
-  pub right : IsVerdictOn known verdict
-  pub printed : Appends before after (verdict_text name verdict)
+  pub front : List (List ℕ)
+  pub right : IsVerdictOn traces known verdict front
+  pub printed : Appends before after (tested_text traces name verdict front)
   pub met_is : met ≡ is_met verdict
 
 -- the files of these names are tested, in order: the output grew by the texts of their verdicts
-pub record HaveTested (bytes_at : List ℕ → Option (List ℕ)) (names : List (List ℕ)) (before after : Option (List ℕ)) (passed failed : ℕ) : Type 0 where
+pub record HaveTested (traces : Bool) (bytes_at : List ℕ → Option (List ℕ)) (names : List (List ℕ)) (before after : Option (List ℕ)) (passed failed : ℕ)
+    : Type 0 where
   pub verdicts : Verdicts
-  pub named : map (λ v. v.0) verdicts ≡ names
-  pub right : All (λ v. IsVerdictOn (bytes_at v.0) v.1) verdicts
-  pub printed : Appends before after (verdicts_text verdicts)
+  pub named : map (λ v. v.name) verdicts ≡ names
+  pub right : All (λ v. IsVerdictOn traces (bytes_at v.name) v.verdict v.front) verdicts
+  pub printed : Appends before after (verdicts_text traces verdicts)
   pub passed_is : passed ≡ passed_in verdicts
   pub failed_is : failed ≡ failed_in verdicts
 
 -- The same, and after it the output has the line of how many passed and failed. The status is 0 if none failed, and else 1.
-pub record IsTested (bytes_at : List ℕ → Option (List ℕ)) (names : List (List ℕ)) (before after : Option (List ℕ)) (status : ℕ) : Type 0 where
+pub record IsTested (traces : Bool) (bytes_at : List ℕ → Option (List ℕ)) (names : List (List ℕ)) (before after : Option (List ℕ)) (status : ℕ)
+    : Type 0 where
   pub verdicts : Verdicts
-  pub named : map (λ v. v.0) verdicts ≡ names
-  pub right : All (λ v. IsVerdictOn (bytes_at v.0) v.1) verdicts
-  pub printed : Appends before after (verdicts_text verdicts ++ tally_line (passed_in verdicts) (failed_in verdicts))
+  pub named : map (λ v. v.name) verdicts ≡ names
+  pub right : All (λ v. IsVerdictOn traces (bytes_at v.name) v.verdict v.front) verdicts
+  pub printed : Appends before after (verdicts_text traces verdicts ++ tally_line (passed_in verdicts) (failed_in verdicts))
   pub status_is : status ≡ (if failed_in verdicts == 0 then 0 else 1)

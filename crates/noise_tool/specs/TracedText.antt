@@ -6,8 +6,10 @@ use Rattle.noise_lines.specs.declared.faults.Fault.{Fault}
 use Rattle.noise_lines.specs.declared.faults.Fault.TheVariants.{Unmet}
 use Rattle.noise_vectors.specs.Expectations.{IsFirstUnmet, bytes_of}
 use Rattle.noise_tool.specs.TracedEnds.{traces_of}
-use Rattle.noise_tool.specs.Tracing.{woven}
+use Rattle.noise_tool.specs.Tracing.{woven, woven_to}
 use Rattle.noise_tool.specs.declared.tracing.Traced.{Traced}
+use Rattle.noise_tool.specs.declared.verdict.Verdict.{Verdict}
+use Rattle.noise_tool.specs.declared.verdict.Verdict.TheVariants.{Differs}
 
 -- all of its lines
 abbrev pub trace_lines : Traced → List (List ℕ)
@@ -15,6 +17,15 @@ trace_lines t = bytes_of t.start.items ++ woven (bytes_of t.outcome.lines.items)
 
 abbrev pub trace_text : Traced → List ℕ
 trace_text t = lines_text (trace_lines t)
+
+-- those up to the line of the run of this number
+abbrev pub front_lines : Traced → ℕ → List (List ℕ)
+front_lines t number = bytes_of t.start.items ++ woven_to number (bytes_of t.outcome.lines.items) (traces_of t.traces.items)
+
+-- and where a verdict says that the run differs, up to the first line that does
+abbrev pub front_of : Verdict → Traced → List (List ℕ)
+front_of (Differs d) t = front_lines t d.number
+front_of _ t = []
 
 -- its lines were printed, and this is the first line of the run that differs from what is expected
 abbrev pub IsTraceUnlike : Traced → Option (List ℕ) → Option (List ℕ) → Fault → Type 0

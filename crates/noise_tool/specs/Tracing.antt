@@ -1,5 +1,5 @@
 -- What is shown of the key schedules in a run, along what happens in it, and the lines of it.
-use Rattle.std.specs.Prelude.{◌≡◌, ℕ, List, [], ◌∷◌, ◌++◌, map, length, Option, None, Result}
+use Rattle.std.specs.Prelude.{◌≡◌, ◌-◌, ℕ, List, [], ◌∷◌, ◌++◌, map, length, take, Option, None, Result}
 use Rattle.noise_names.specs.declared.token.Role.{Role}
 use Rattle.noise_names.specs.declared.token.Role.TheVariants.{Initiator, Responder}
 use Rattle.noise_names.specs.Plan.{Plan, has_psk}
@@ -167,9 +167,9 @@ woven [] traces = []
 woven (line ∷ lines) [] = line ∷ lines
 woven (line ∷ lines) (trace ∷ traces) = line ∷ (trace ++ woven lines traces)
 
--- These are the lines of the file's run, as `replay` prints them (`IsRunOf`), and those that `trace` prints: the start of each end, and then each line of
--- the run with what is shown of the key schedules there.
-pub record IsTraceOf (kept : Kept) (file : VectorFile) (lines traced : List (List ℕ)) : Type 0 where
+-- These are the lines of the file's run, as `replay` prints them (`IsRunOf`), and those of its key schedules: of the start of each end, and for each line
+-- of the run, as far as there are some, those that follow it.
+pub record HasTraces (kept : Kept) (file : VectorFile) (lines start : List (List ℕ)) (traces : List (List (List ℕ))) : Type 0 where
   pub plan : Plan
   pub pattern : IsPatternOf file.block file.protocol plan
   pub valid : IsValid plan
@@ -180,6 +180,25 @@ pub record IsTraceOf (kept : Kept) (file : VectorFile) (lines traced : List (Lis
   pub after : List (List ℕ)
   pub are_last : AreLast (datagrams_in file.version) last after
   pub lines_are : lines ≡ map (note_line last) notes ++ after
-  pub traced_are : traced ≡ start_traces kept file plan
-      ++ woven lines (run_traces kept (facing_in file plan) last (events_of file.events.items) notes run
-      ++ last_traces kept (datagrams_in file.version) last after are_last)
+  pub start_is : start ≡ start_traces kept file plan
+  pub traces_are : traces ≡ run_traces kept (facing_in file plan) last (events_of file.events.items) notes run
+      ++ last_traces kept (datagrams_in file.version) last after are_last
+
+-- These are the lines of the file's run, and those that `trace` prints: the start of each end, and then each line of the run with what is shown of the
+-- key schedules there.
+pub record IsTraceOf (kept : Kept) (file : VectorFile) (lines traced : List (List ℕ)) : Type 0 where
+  pub start : List (List ℕ)
+  pub traces : List (List (List ℕ))
+  pub shown : HasTraces kept file lines start traces
+  pub traced_are : traced ≡ start ++ woven lines traces
+
+-- the front of lines with those that follow each: up to the line of this number, from 1 on, which stands last; all of them where there are fewer lines
+abbrev pub woven_to : ℕ → List (List ℕ) → List (List (List ℕ)) → List (List ℕ)
+woven_to number lines traces = woven (take number lines) (take (number - 1) traces)
+
+-- These are the lines of the file's run, and the front of what `trace` prints, up to the line of the run of this number.
+pub record IsTraceTo (kept : Kept) (file : VectorFile) (lines : List (List ℕ)) (number : ℕ) (front : List (List ℕ)) : Type 0 where
+  pub start : List (List ℕ)
+  pub traces : List (List (List ℕ))
+  pub shown : HasTraces kept file lines start traces
+  pub front_is : front ≡ start ++ woven_to number lines traces

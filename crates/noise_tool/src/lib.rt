@@ -19,7 +19,7 @@ mod verdict;
 
 pub use laws::{conversions_meet_themselves, file_run_once};
 pub use noise_lines::{Fault, read_file, tell};
-pub use noise_words::{Chosen, LineFault, Order, chosen};
+pub use noise_words::{Chosen, LineFault, Order, Tested, chosen};
 pub use performing::perform;
 pub use report::entry_lines;
 pub use testing::{FilesByName, test};

@@ -26,6 +26,14 @@ pub struct Kept {
     pub responder: bool,
 }
 
+/// All lines, of both parts and both roles.
+pub const ALL_KEPT: Kept = Kept {
+    handshake: true,
+    transport: true,
+    initiator: true,
+    responder: true,
+};
+
 impl Kept {
     fn keeps_role(&self, role: Role) -> bool
         ensures { result ≡ keeps_role self.now role }

@@ -1,16 +1,25 @@
 //! The command `test`: vector files are run, and each run is compared with what its file expects.
 
-ghost use Rattle.std.specs.Prelude.{◌≡◌, ◌⊎◌, ◌<◌, ◌≤◌, ℕ, List, Option, IfErr, IfOk, IfSome, length, map, string_bytes, vec_len};
+ghost use Rattle.std.specs.Prelude.{◌≡◌, ◌⊎◌, ◌<◌, ◌≤◌, [], ℕ, Bool, List, Option, IfErr, IfOk, IfSome, OnOk, length, map, string_bytes, vec_len};
+ghost use Rattle.std.specs.Io.KnownBytes.{Appends};
 ghost use Rattle.noise_lines.specs.Faults.{status_of};
 ghost use Rattle.noise_lines.specs.declared.faults.Fault.TheVariants.{TooLong};
+ghost use Rattle.noise_vectors.specs.Expectations.{bytes_of};
 ghost use Rattle.noise_vectors.specs.declared.vector.AllowedEvents.TheVariants.{Any};
+ghost use Rattle.noise_tool.specs.Ends.{IsStartFault};
 ghost use Rattle.noise_tool.specs.Performing.{IsRunFault};
-ghost use Rattle.noise_tool.specs.Testing.{HasTested, HaveTested, IsTested, IsVerdictOn, RunsTo, tally_line};
+ghost use Rattle.noise_tool.specs.Running.{IsRunOf, expected_in};
+ghost use Rattle.noise_tool.specs.Testing.{HasTested, HaveTested, IsTested, IsVerdictOn, RunsTo, tally_line, tested_text};
+ghost use Rattle.noise_tool.specs.TracedText.{front_of};
+ghost use Rattle.noise_tool.specs.declared.verdict.Verdict.TheVariants.{CannotRun};
 
-use crate::running::{Outcome, replay};
+use crate::moment_lines::ALL_KEPT;
+use crate::running::replay;
+use crate::trace_file::write_front;
+use crate::tracing::{Traced, trace};
 use crate::verdict::{Verdict, judge, verdict_lines};
 use noise_lines::{Fault, flush, tell, write};
-use noise_vectors::{AllowedEvents, read_vector};
+use noise_vectors::{AllowedEvents, VectorFile, read_vector, vector_texts_are_unique};
 use std::alloc::{AllocError, Global};
 use std::io::Write;
 
@@ -30,17 +39,21 @@ pub trait FilesByName {
 /// Runs the vector file of each name, one after the other, and writes what comes of it, and last how many passed and failed. The exit status is 0 if all
 /// passed, and else 1. A file that can't be read or run fails, and the others are still run; 3 where memory runs out or the output can't be written,
 /// after which no more files are run.
+///
+/// Where traces are wanted, the text of each file whose run differs from what it expects goes on with the trace of this run, up to the first line that
+/// differs. These lines are secrets.
 pub fn test<F: FilesByName, O: Write, E: Write>(
     alloc: Global,
     names: &[String],
+    traces: bool,
     files: &F,
     out: &mut O,
     err: &mut E,
 ) -> u8
-    ensures tested { (result ≡ 3) ⊎ IsTested (F.bytes_at files.now) (map string_bytes names.now) (O.contents out.old) (O.contents out.new) result }
+    ensures tested { (result ≡ 3) ⊎ IsTested traces (F.bytes_at files.now) (map string_bytes names.now) (O.contents out.old) (O.contents out.new) result }
     ensures quiet { (result ≡ 3) ⊎ (err.new ≡ err.old) }
 {
-    match test_all(alloc, names, files, out) {
+    match test_all(alloc, names, traces, files, out) {
         Ok(status) => status,
         Err(fault) => tell(alloc, fault, out, err),
     }
@@ -49,13 +62,14 @@ pub fn test<F: FilesByName, O: Write, E: Write>(
 fn test_all<F: FilesByName, O: Write>(
     alloc: Global,
     names: &[String],
+    traces: bool,
     files: &F,
     out: &mut O,
 ) -> Result<u8, Fault>
-    ensures tested { IfOk result (λ status. IsTested (F.bytes_at files.now) (map string_bytes names.now) (O.contents out.old) (O.contents out.new) status) }
+    ensures tested { IfOk result (λ status. IsTested traces (F.bytes_at files.now) (map string_bytes names.now) (O.contents out.old) (O.contents out.new) status) }
     ensures fault { IfErr result (λ fault. status_of fault ≡ 3) }
 {
-    let (passed, failed) = test_each(alloc, names, files, out)?;
+    let (passed, failed) = test_each(alloc, names, traces, files, out)?;
     let tally = tally(alloc, passed, failed)?;
     write(tally.as_bytes(), out)?;
     flush(out)?;
@@ -66,17 +80,18 @@ fn test_all<F: FilesByName, O: Write>(
 fn test_each<F: FilesByName, O: Write>(
     alloc: Global,
     names: &[String],
+    traces: bool,
     files: &F,
     out: &mut O,
 ) -> Result<(usize, usize), Fault>
-    ensures tested { IfOk result (λ counts. HaveTested (F.bytes_at files.now) (map string_bytes names.now) (O.contents out.old) (O.contents out.new)
+    ensures tested { IfOk result (λ counts. HaveTested traces (F.bytes_at files.now) (map string_bytes names.now) (O.contents out.old) (O.contents out.new)
         counts.0 counts.1) }
     ensures fault { IfErr result (λ fault. status_of fault ≡ 3) }
 {
     let mut passed: usize = 0;
     let mut failed: usize = 0;
     for name in names {
-        if test_file(alloc, name.as_str(), files, out)? {
+        if test_file(alloc, name.as_str(), traces, files, out)? {
             passed += 1;
         } else {
             failed += 1;
@@ -89,39 +104,131 @@ fn test_each<F: FilesByName, O: Write>(
 fn test_file<F: FilesByName, O: Write>(
     alloc: Global,
     name: &str,
+    traces: bool,
     files: &F,
     out: &mut O,
 ) -> Result<bool, Fault>
-    ensures tested { IfOk result (HasTested (F.bytes_at files.now name.now) name.now (O.contents out.old) (O.contents out.new)) }
+    ensures tested { IfOk result (HasTested traces (F.bytes_at files.now name.now) name.now (O.contents out.old) (O.contents out.new)) }
     ensures fault { IfErr result (λ fault. status_of fault ≡ 3) }
 {
-    let verdict = verdict_on(alloc, name, files)?;
-    let text = verdict_lines(alloc, name, &verdict)?;
-    write(&text, out)?;
-    Ok(verdict.is_met())
-}
-
-// The verdict on the file of this name.
-fn verdict_on<F: FilesByName>(alloc: Global, name: &str, files: &F) -> Result<Verdict, Fault>
-    ensures verdict { IfOk result (IsVerdictOn (F.bytes_at files.now name.now)) }
-    ensures fault { IfErr result (λ fault. status_of fault ≡ 3) }
-{
-    match run_named(alloc, name, files) {
-        Ok(outcome) => Ok(judge(&outcome)?),
-        Err(Fault::Unreadable) => Ok(Verdict::CannotRun(Fault::Unreadable)),
-        Err(fault) if fault.status() == 3 => Err(fault),
-        Err(fault) => Ok(Verdict::CannotRun(fault)),
+    match run_named(alloc, name, traces, files) {
+        Ok(traced) => write_run(alloc, name, traces, &traced, out),
+        Err(fault) => write_unrun(alloc, name, fault, out),
     }
 }
 
-// What comes of the run of the file of this name.
-fn run_named<F: FilesByName>(alloc: Global, name: &str, files: &F) -> Result<Outcome, Fault>
-    ensures runs { IfOk result (λ outcome. IfSome (F.bytes_at files.now name.now) (λ text. RunsTo text outcome)) }
+// Writes what a run comes to. Whether the file passed.
+fn write_run<O: Write>(
+    alloc: Global,
+    name: &str,
+    traces: bool,
+    traced: &Traced,
+    out: &mut O,
+) -> Result<bool, Fault>
+    ensures tested { (known : Option (List ℕ)) → IfSome known (λ text. RunsTo traces text traced.now)
+        → IfOk result (HasTested traces known name.now (O.contents out.old) (O.contents out.new)) }
+    ensures fault { IfErr result (λ fault. status_of fault ≡ 3) }
+{
+    let verdict = judge(&traced.outcome)?;
+    write_verdict(alloc, name, traces, &verdict, traced, out)?;
+    Ok(verdict.is_met())
+}
+
+// Writes the verdict on a run, and the front of its trace, where traces are wanted and the run differs.
+fn write_verdict<O: Write>(
+    alloc: Global,
+    name: &str,
+    traces: bool,
+    verdict: &Verdict,
+    traced: &Traced,
+    out: &mut O,
+) -> Result<(), Fault>
+    ensures written { OnOk result (Appends (O.contents out.old) (O.contents out.new)
+        (tested_text traces name.now verdict.now (front_of verdict.now traced.now))) }
+    ensures fault { IfErr result (λ fault. status_of fault ≡ 3) }
+{
+    let text = verdict_lines(alloc, name, verdict)?;
+    write(&text, out)?;
+    if !traces {
+        return Ok(());
+    }
+    match verdict {
+        Verdict::Differs(difference) => write_front(traced, difference.number, out),
+        Verdict::Met | Verdict::CannotRun(_) | Verdict::ExpectsNothing => Ok(()),
+    }
+}
+
+// Writes that a file isn't run, and why; a fault that ends the command is handed on. Whether the file passed.
+fn write_unrun<O: Write>(
+    alloc: Global,
+    name: &str,
+    fault: Fault,
+    out: &mut O,
+) -> Result<bool, Fault>
+    ensures tested { (traces : Bool) (known : Option (List ℕ)) → (status_of fault ≡ 3) ⊎ IfSome known (λ text. IsRunFault Any text fault)
+        → IfOk result (HasTested traces known name.now (O.contents out.old) (O.contents out.new)) }
+    ensures fault { IfErr result (λ fault. status_of fault ≡ 3) }
+{
+    let verdict = fault_verdict(fault)?;
+    let text = verdict_lines(alloc, name, &verdict)?;
+    write(&text, out)?;
+    Ok(false)
+}
+
+// The verdict on a file that has this fault.
+fn fault_verdict(fault: Fault) -> Result<Verdict, Fault>
+    ensures verdict { (traces : Bool) (known : Option (List ℕ)) → (status_of fault ≡ 3) ⊎ IfSome known (λ text. IsRunFault Any text fault)
+        → IfOk result (λ verdict. IsVerdictOn traces known verdict []) }
+    ensures unrun { IfOk result (λ verdict. verdict ≡ CannotRun fault) }
+    ensures fault { IfErr result (λ fault. status_of fault ≡ 3) }
+{
+    match fault {
+        Fault::Unreadable => Ok(Verdict::CannotRun(Fault::Unreadable)),
+        fault if fault.status() == 3 => Err(fault),
+        fault => Ok(Verdict::CannotRun(fault)),
+    }
+}
+
+// What comes of the run of the file of this name, with its trace where traces are wanted.
+fn run_named<F: FilesByName>(
+    alloc: Global,
+    name: &str,
+    traces: bool,
+    files: &F,
+) -> Result<Traced, Fault>
+    ensures runs { IfOk result (λ traced. IfSome (F.bytes_at files.now name.now) (λ text. RunsTo traces text traced)) }
     ensures fault { IfErr result (λ fault. (status_of fault ≡ 3) ⊎ IfSome (F.bytes_at files.now name.now) (λ text. IsRunFault Any text fault)) }
 {
     let text = files.read(alloc, name)?;
-    let vector = read_vector(alloc, &text, AllowedEvents::Any)?;
-    replay(alloc, vector)
+    run_text(alloc, &text, traces)
+}
+
+// The same of the file of this text.
+fn run_text(alloc: Global, text: &[u8], traces: bool) -> Result<Traced, Fault>
+    ensures runs { length text.now ≤ 4194304 → IfOk result (RunsTo traces text.now) }
+    ensures fault { IfErr result (λ fault. (status_of fault ≡ 3) ⊎ IsRunFault Any text.now fault) }
+{
+    let vector = read_vector(alloc, text, AllowedEvents::Any)?;
+    if !traces {
+        return untraced(alloc, vector);
+    }
+    let again = read_vector(alloc, text, AllowedEvents::Any)?;
+    vector_texts_are_unique();
+    trace(alloc, ALL_KEPT, vector, again)
+}
+
+// What comes of the run of a file, without a trace.
+fn untraced(alloc: Global, file: VectorFile) -> Result<Traced, Fault>
+    ensures lines { IfOk result (λ traced. IsRunOf file (bytes_of traced.outcome.lines.items)) }
+    ensures expected { IfOk result (λ traced. bytes_of traced.outcome.expected.items ≡ expected_in file.version) }
+    ensures fault { IfErr result (λ fault. IsStartFault file fault) }
+{
+    let outcome = replay(alloc, file)?;
+    Ok(Traced {
+        outcome,
+        start: Vec::new(alloc),
+        traces: Vec::new(alloc),
+    })
 }
 
 // The last line.

@@ -1,6 +1,6 @@
 //! Printing the trace of a vector file.
 
-ghost use Rattle.std.specs.Prelude.{◌≡◌, ◌∷◌, ◌⊎◌, ◌≤◌, [], IfErr, IfSome, MatchResult, OnOk, slice_get, unwrap_or};
+ghost use Rattle.std.specs.Prelude.{◌≡◌, ◌∷◌, ◌⊎◌, ◌≤◌, [], IfErr, IfSome, MatchResult, OnOk, slice_get, take, unwrap_or};
 ghost use Rattle.std.specs.Io.KnownBytes.{Appends};
 ghost use Rattle.noise_lines.specs.Faults.{status_of};
 ghost use Rattle.noise_lines.specs.Lines.{lines_text};
@@ -10,7 +10,7 @@ ghost use Rattle.noise_vectors.specs.declared.vector.AllowedEvents.TheVariants.{
 ghost use Rattle.noise_tool.specs.Performing.{IsOfLines, IsRunFault, IsShort};
 ghost use Rattle.noise_tool.specs.Running.{IsMet};
 ghost use Rattle.noise_tool.specs.TracedEnds.{traces_of};
-ghost use Rattle.noise_tool.specs.TracedText.{IsTraceUnlike, trace_text};
+ghost use Rattle.noise_tool.specs.TracedText.{IsTraceUnlike, front_lines, trace_text};
 ghost use Rattle.noise_tool.specs.Tracing.{woven};
 ghost use Rattle.noise_tool.specs.TraceDone.{HasTraced, IsTraceUnmet, PrintsTracePrefix, keeps_end, keeps_first, keeps_second, keeps_start, kept_of};
 
@@ -140,6 +140,29 @@ fn write_trace<O: Write>(traced: &Traced, out: &mut O) -> Result<(), Fault>
 {
     write_lines(&traced.start, out)?;
     write_woven(&traced.outcome.lines, &traced.traces, out)
+}
+
+/// Writes the front of it: up to the line of the run of this number, from 1 on; all of it where there are fewer.
+pub(crate) fn write_front<O: Write>(
+    traced: &Traced,
+    number: usize,
+    out: &mut O,
+) -> Result<(), Fault>
+    ensures written { OnOk result (Appends (O.contents out.old) (O.contents out.new) (lines_text (front_lines traced.now number))) }
+    ensures fault { IfErr result (λ fault. status_of fault ≡ 3) }
+{
+    write_lines(&traced.start, out)?;
+    let lines = front(traced.outcome.lines.as_slice(), number);
+    let traces = front(traced.traces.as_slice(), number.saturating_sub(1));
+    write_woven(lines, traces, out)
+}
+
+// The first of these, so many, or all where there are fewer.
+fn front<T>(items: &[T], count: usize) -> &[T]
+    ensures { result.now ≡ take count items.now }
+{
+    let (first, _) = items.split_at(count.min(items.len()));
+    first
 }
 
 // Writes each of these lines, and those that follow it.

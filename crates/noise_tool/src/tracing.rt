@@ -12,7 +12,7 @@ ghost use Rattle.noise_vectors.specs.SameFile.{SaySame};
 ghost use Rattle.noise_tool.specs.Ends.{IsStartFault};
 ghost use Rattle.noise_tool.specs.Running.{AreLast, are_ready, datagrams_in, expected_in};
 ghost use Rattle.noise_tool.specs.TracedEnds.{AreOver, EndsTraced, HasRunTraced, IsNewSides, Shows, traces_of};
-ghost use Rattle.noise_tool.specs.Tracing.{IsTraceOf, datagram_keys_of, last_traces, woven};
+ghost use Rattle.noise_tool.specs.Tracing.{HasTraces, datagram_keys_of, last_traces};
 
 use crate::moment_lines::Kept;
 use crate::report::entry_lines;
@@ -48,8 +48,8 @@ pub fn trace(
     again: VectorFile,
 ) -> Result<Traced, Fault>
     requires { SaySame file again }
-    ensures lines { IfOk result (λ traced. IsTraceOf kept file (bytes_of traced.outcome.lines.items)
-        (bytes_of traced.start.items ++ woven (bytes_of traced.outcome.lines.items) (traces_of traced.traces.items))) }
+    ensures lines { IfOk result (λ traced. HasTraces kept file (bytes_of traced.outcome.lines.items) (bytes_of traced.start.items)
+        (traces_of traced.traces.items)) }
     ensures expected { IfOk result (λ traced. bytes_of traced.outcome.expected.items ≡ expected_in file.version) }
     ensures fault { IfErr result (λ fault. IsStartFault file fault) }
 {

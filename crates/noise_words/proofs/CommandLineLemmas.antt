@@ -14,7 +14,7 @@ use Rattle.clap.specs.Faults.{fault_of}
 use Rattle.clap.specs.declared.parser.matches.ArgMatches.{ArgMatches}
 use Rattle.clap.specs.declared.parser.matches.SubCommand.{SubCommand}
 use Rattle.clap.specs.declared.parser.matches.ArgMatches.TheViews.{out-ArgMatches, out-SubCommand}
-use Rattle.noise_words.specs.CommandLine.{Choice, Named, asked, asked_without, choice_in, chosen_of, noise, part_choice, role_choice, stated_by, stated_in}
+use Rattle.noise_words.specs.CommandLine.{Choice, Named, asked, asked_without, choice_in, chosen_of, flag_in, flag_of, noise, part_choice, role_choice, stated_by, stated_in}
 
 -- the name that a parse found is that of its rows
 name_of-rows : {Z : Type 0} (o : Option (Box SubCommand Z))
@@ -69,6 +69,17 @@ stated_by-unknown name rows list show check talk replay convert test trace =
 pub choice_in-found : (m : ArgMatches) (choice : Choice) (o : Option Text) → o ≡ first_value (found_of m) choice.0
     → chosen_of choice.1 o ≡ choice_in (rows_of (found_of m)) choice
 choice_in-found m choice o e = ap (chosen_of choice.1) (e ∙ first_value-rows (found_of m) choice.0)
+
+-- what the matches have for a flag, by what a parse found for it
+pub flag_in-found : (m : ArgMatches) (name : Text) (o : Option Text) → o ≡ first_value (found_of m) name
+    → flag_of o ≡ flag_in (rows_of (found_of m)) name
+flag_in-found m name o e = ap flag_of (e ∙ first_value-rows (found_of m) name)
+
+-- another text than `true` is not that of a flag that is given
+pub flag_of-other : (text : Text) → (text ≡ codes "true" → ⊥) → None ≡ flag_of (Some text)
+flag_of-other text other =
+    let no = differs (codes "true") text other in
+    rw no refl
 
 -- another text than these two is no value of an option
 pub chosen_of-other : (a b text : Text) → (text ≡ a → ⊥) → (text ≡ b → ⊥) → None ≡ chosen_of (a ∷ b ∷ []) (Some text)

@@ -1,5 +1,5 @@
 -- The command line, as `clap` sees it, and the command that its matches state.
-use Rattle.std.specs.Prelude.{List, [], ◌∷◌, Option, Some, None, true, false, map, codes, find, option_map, option_and_then, string_bytes, if◌then◌else◌}
+use Rattle.std.specs.Prelude.{List, [], ◌∷◌, Option, Some, None, Bool, true, false, map, codes, find, option_map, option_and_then, string_bytes, if◌then◌else◌}
 use Rattle.std.specs.List.{list_any}
 use Rattle.std.specs.Str.{bytes_eq}
 use Rattle.noise_words.specs.declared.help.Subcommand.{Subcommand}
@@ -7,11 +7,13 @@ use Rattle.noise_words.specs.declared.orders.Chosen.{Chosen}
 use Rattle.noise_words.specs.declared.orders.Chosen.TheVariants as chosen
 use Rattle.noise_words.specs.declared.orders.Order.{Order}
 use Rattle.noise_words.specs.declared.orders.Order.TheVariants.{Command, Test}
+use Rattle.noise_words.specs.declared.orders.Tested.{Tested}
 use Rattle.noise_words.specs.declared.orders.Traced.{Traced}
 use Rattle.noise_words.specs.declared.orders.TracedPart.{TracedPart}
 use Rattle.noise_words.specs.declared.orders.TracedPart.TheVariants.{Handshake, Transport}
 use Rattle.noise_words.specs.declared.orders.TracedRole.{TracedRole}
 use Rattle.noise_words.specs.declared.orders.TracedRole.TheVariants.{Initiator, Responder}
+use Rattle.clap.specs.declared.builder.action.ArgAction.TheVariants.{SetTrue}
 use Rattle.clap.specs.Lexer.{usize_max}
 use Rattle.clap.specs.Walk.{Row, Rule, Text, all_of, first_of}
 use Rattle.clap.specs.Kinds.{Kinds}
@@ -22,12 +24,19 @@ use Rattle.clap.specs.Faults.{fault_of}
 abbrev pub Choice : Type 0
 Choice = Text × List Text
 
--- the values that a command wants, by this name: none, one, at least one, or one beside these options
+-- the values that a command wants, by this name: none, one, at least one beside these flags, or one beside these options
 pub data Wants : Type 0 where
   Nothing : Wants
   One : Text → Wants
-  Several : Text → Wants
+  Several : Text → List Text → Wants
   OneWith : Text → List Choice → Wants
+
+-- the flag of `test`
+abbrev pub traces_flag : Text
+traces_flag = codes "trace"
+
+abbrev pub test : Text × Wants
+test = (codes "test", Several (codes "FILE") (traces_flag ∷ []))
 
 -- the options of `trace`
 abbrev pub part_choice : Choice
@@ -48,7 +57,7 @@ commands =
     ∷ (codes "talk", One (codes "FILE"))
     ∷ (codes "replay", One (codes "FILE"))
     ∷ (codes "convert", One (codes "FILE"))
-    ∷ (codes "test", Several (codes "FILE"))
+    ∷ test
     ∷ trace
     ∷ []
 
@@ -64,18 +73,22 @@ several value = record (wanted value) { range = Some (record { start_inclusive =
 abbrev pub optional : Choice → Rule
 optional choice = record (new_rule choice.0) { long = Some choice.0; value_names = 1 }
 
+-- an option without a value
+abbrev pub flag : Text → Rule
+flag name = record (new_rule name) { long = Some name; action = Some SetTrue }
+
 abbrev pub rules_for : Wants → List Rule
 rules_for Nothing = []
 rules_for (One value) = wanted value ∷ []
-rules_for (Several value) = several value ∷ []
+rules_for (Several value flags) = several value ∷ map flag flags
 rules_for (OneWith value choices) = wanted value ∷ map optional choices
 
 abbrev pub subcommand : Text × Wants → Shape
 subcommand (name, wants) = record (new_shape name) { rules = rules_for wants }
 
--- the values that a subcommand has, by its description
+-- the values that a subcommand has, by its description, without its flags and options
 abbrev pub wanted_by : Subcommand → Wants
-wanted_by sub = if sub.several then Several sub.value.now else One sub.value.now
+wanted_by sub = if sub.several then Several sub.value.now [] else One sub.value.now
 
 -- the whole command
 abbrev pub noise : App
@@ -84,7 +97,7 @@ noise = record {
   subs = map subcommand commands;
 }
 
--- what an order names, as texts: a command, its values, and for each of its options the value, if it is given
+-- what an order names, as texts: a command, its values, and for each of its options the value, if it is given; that of a flag is `true`
 abbrev pub Named : Type 0
 Named = Text × List Text × List (Option Text)
 
@@ -108,9 +121,16 @@ words_of (chosen.Replay file) = (codes "replay", string_bytes file ∷ [], [])
 words_of (chosen.Convert file) = (codes "convert", string_bytes file ∷ [], [])
 words_of (chosen.Trace traced) = named_trace traced
 
+abbrev pub flag_text : Bool → Option Text
+flag_text true = Some (codes "true")
+flag_text false = None
+
+abbrev pub named_test : Tested → Named
+named_test tested = (codes "test", map string_bytes tested.files.items, flag_text tested.traces ∷ [])
+
 abbrev pub order_of : Order → Named
 order_of (Command c) = words_of c
-order_of (Test files) = (codes "test", map string_bytes files.items, [])
+order_of (Test tested) = named_test tested
 
 -- what is chosen of these values, where it is left out or is one of them
 abbrev pub chosen_of : List Text → Option Text → Option (Option Text)
@@ -126,11 +146,19 @@ abbrev pub choices_in : List Row → List Choice → Option (List (Option Text))
 choices_in rows [] = Some []
 choices_in rows (choice ∷ rest) = option_and_then (λ first. option_map (λ more. first ∷ more) (choices_in rows rest)) (choice_in rows choice)
 
+-- what the matches have for a flag
+abbrev pub flag_of : Option Text → Option Text
+flag_of None = None
+flag_of (Some text) = if bytes_eq (codes "true") text then Some (codes "true") else None
+
+abbrev pub flag_in : List Row → Text → Option Text
+flag_in rows name = flag_of (first_of name rows)
+
 -- the order for a command, where its matches have the values that it wants
 abbrev pub order_with : List Row → Text × Wants → Option Named
 order_with rows (name, Nothing) = Some (name, [], [])
 order_with rows (name, One value) = option_map (λ text. (name, text ∷ [], [])) (first_of value rows)
-order_with rows (name, Several value) = option_map (λ texts. (name, texts, [])) (all_of value rows)
+order_with rows (name, Several value flags) = option_map (λ texts. (name, texts, map (flag_in rows) flags)) (all_of value rows)
 order_with rows (name, OneWith value choices) =
     option_and_then (λ chosen. option_map (λ text. (name, text ∷ [], chosen)) (first_of value rows)) (choices_in rows choices)
 

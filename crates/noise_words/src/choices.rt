@@ -1,12 +1,12 @@
-//! The options of `trace`, whose values are judged here.
+//! The options of `trace`, whose values are judged here, and the flag of `test`.
 
 ghost use Rattle.std.specs.Prelude.{◌≡◌, IfOk, codes, option_map};
 ghost use Rattle.clap.specs.Words.{found_of, rows_of};
-ghost use Rattle.noise_words.specs.CommandLine.{choice_in, named_trace, part_choice, part_text, role_choice, role_text, stated_by};
+ghost use Rattle.noise_words.specs.CommandLine.{choice_in, flag_in, flag_text, named_test, named_trace, part_choice, part_text, role_choice, role_text, stated_by};
 
-use crate::command_line::value;
-use crate::help::{ONLY, ROLE};
-use crate::orders::{Traced, TracedPart, TracedRole};
+use crate::command_line::{value, values};
+use crate::help::{ONLY, ROLE, TRACES};
+use crate::orders::{Tested, Traced, TracedPart, TracedRole};
 use clap::ArgMatches;
 use std::alloc::{AllocError, Global};
 
@@ -23,6 +23,28 @@ pub fn traced(alloc: Global, found: &ArgMatches<'_>) -> Result<Option<Traced>, A
     match value(alloc, found, "FILE")? {
         Some(file) => Ok(Some(Traced { file, only, role })),
         None => Ok(None),
+    }
+}
+
+/// What is tested, where the matches of `test` have files.
+pub fn tested(alloc: Global, found: &ArgMatches<'_>) -> Result<Option<Tested>, AllocError>
+    ensures { IfOk result (λ t. option_map named_test t ≡ stated_by (codes "test") (rows_of (found_of found.now))) }
+{
+    let traces = is_given(found, TRACES.name);
+    match values(alloc, found, "FILE")? {
+        Some(files) => Ok(Some(Tested { files, traces })),
+        None => Ok(None),
+    }
+}
+
+// Whether the flag of this name is given.
+fn is_given(found: &ArgMatches<'_>, name: &str) -> bool
+    ensures { flag_text result ≡ flag_in (rows_of (found_of found.now)) name.now }
+{
+    match found.get_str(name) {
+        None => false,
+        Some("true") => true,
+        Some(_) => false,
     }
 }
 

@@ -4,13 +4,13 @@ ghost use Rattle.std.specs.Prelude.{◌≡◌, ◌≢◌, ◌⊎◌, ◌∷◌, 
 ghost use Rattle.clap.specs.Simple.{with_subcommand};
 ghost use Rattle.clap.specs.Words.{all_of, app_of, first_of, found_of, kind_of, rows_of, rule_of, shape_of, subcommand_rows_of};
 ghost use Rattle.clap.specs.declared.builder.command.Command.TheViews.{out-Command};
-ghost use Rattle.noise_words.specs.CommandLine.{Nothing, asked, noise, optional, order_of, rules_for, stated_by, stated_in, subcommand, trace, wanted_by, words_of};
+ghost use Rattle.noise_words.specs.CommandLine.{Nothing, asked, flag, noise, optional, order_of, rules_for, stated_by, stated_in, subcommand, test, trace, wanted_by, words_of};
 
-use crate::choices::{traced, wrong_choice};
-use crate::help::{ONLY, ROLE, Subcommand, TRACE, ValueOption, WITH_VALUE};
+use crate::choices::{tested, traced, wrong_choice};
+use crate::help::{Flag, ONLY, ROLE, Subcommand, TEST, TRACE, TRACES, ValueOption, WITH_VALUE};
 use crate::orders::{Chosen, LineFault, Order};
 use clap::error::ErrorKind;
-use clap::{Arg, ArgMatches, Command};
+use clap::{Arg, ArgAction, ArgMatches, Command};
 use std::alloc::{AllocError, Global};
 
 /// The command that these words name. The first word is the program's own name.
@@ -57,7 +57,35 @@ fn unstated(
 fn command<'a>(alloc: Global) -> Result<Command<'a>, AllocError>
     ensures { IfOk result (λ c. app_of c ≡ noise) }
 {
-    with_trace(alloc, adding(alloc, with_list(alloc)?, &WITH_VALUE)?)
+    let whole = adding(alloc, with_list(alloc)?, &WITH_VALUE)?;
+    with_trace(alloc, with_test(alloc, whole)?)
+}
+
+// With the subcommand that has a flag, too.
+fn with_test<'a>(alloc: Global, whole: Command<'a>) -> Result<Command<'a>, AllocError>
+    ensures { IfOk result (λ c. app_of c ≡ with_subcommand (app_of whole.entry) (subcommand test)) }
+{
+    whole.subcommand(with_flag(alloc)?)
+}
+
+// The subcommand that has a flag.
+fn with_flag<'a>(alloc: Global) -> Result<Command<'a>, AllocError>
+    ensures shape { IfOk result (λ c. shape_of c ≡ subcommand test) }
+    ensures local { IfOk result (λ c. (out-Command c).has_globals ≡ false) }
+{
+    let whole = with_value(alloc, &TEST)?;
+    whole.arg(flag_of(alloc, &TRACES))
+}
+
+// The argument of a flag.
+fn flag_of<'a>(alloc: Global, given: &Flag<'a>) -> Arg<'a>
+    ensures rule { rule_of result ≡ flag given.now.name.now }
+    ensures local { result.global ≡ false }
+{
+    Arg::new(alloc, given.name)
+        .long(given.name)
+        .action(ArgAction::SetTrue)
+        .help(given.meaning)
 }
 
 // With the subcommand that has options, too.
@@ -158,7 +186,7 @@ fn order(alloc: Global, matches: &ArgMatches<'_>) -> Result<Option<Order>, Alloc
         return Ok(None);
     };
     if name == "test" {
-        return Ok(values(alloc, found, "FILE")?.map(Order::Test));
+        return Ok(tested(alloc, found)?.map(Order::Test));
     }
     match command_order(alloc, name, found)? {
         Some(command) => Ok(Some(Order::Command(command))),
@@ -201,7 +229,7 @@ pub(crate) fn value(
 }
 
 // The values that a parse found for an argument.
-fn values(
+pub(crate) fn values(
     alloc: Global,
     matches: &ArgMatches<'_>,
     id: &str,

@@ -1,4 +1,4 @@
-//! The subcommands that have a value, their options, and the texts of their help.
+//! The subcommands that have a value, their options and flags, and the texts of their help.
 
 /// A subcommand that has a value, and what its help says.
 #[derive(Clone, Copy)]
@@ -18,7 +18,7 @@ pub struct Subcommand<'a> {
 }
 
 /// The subcommands that have a value.
-pub const WITH_VALUE: [Subcommand<'static>; 6] = [
+pub const WITH_VALUE: [Subcommand<'static>; 5] = [
     Subcommand {
         name: "show",
         value: "NAME",
@@ -59,15 +59,17 @@ pub const WITH_VALUE: [Subcommand<'static>; 6] = [
         meaning: "A vector file of version 1",
         example: "Example: noise convert examples/vectors/first-message.vector",
     },
-    Subcommand {
-        name: "test",
-        value: "FILE",
-        several: true,
-        about: "Run vector files and say of each whether its run is what it expects",
-        meaning: "Vector files of version 2 with expect lines",
-        example: "Example: noise test examples/vectors/xx.vector examples/vectors/ik.vector",
-    },
 ];
+
+/// The subcommand that has several values and a flag.
+pub const TEST: Subcommand<'static> = Subcommand {
+    name: "test",
+    value: "FILE",
+    several: true,
+    about: "Run vector files and say of each whether its run is what it expects",
+    meaning: "Vector files of version 2 with expect lines",
+    example: "Example: noise test examples/vectors/xx.vector examples/vectors/ik.vector",
+};
 
 /// The subcommand that has a value and options.
 pub const TRACE: Subcommand<'static> = Subcommand {
@@ -89,6 +91,21 @@ pub struct ValueOption<'a> {
     /// What it does, by its values.
     pub meaning: &'a str,
 }
+
+/// An option without a value, and what its help says.
+#[derive(Clone, Copy)]
+pub struct Flag<'a> {
+    /// Its name.
+    pub name: &'a str,
+    /// What it does.
+    pub meaning: &'a str,
+}
+
+/// Whether the trace of each file that differs is printed.
+pub const TRACES: Flag<'static> = Flag {
+    name: "trace",
+    meaning: "Print the trace of each file that differs, up to the line that differs: what it prints are secrets",
+};
 
 /// The part whose lines alone are printed of a key schedule.
 pub const ONLY: ValueOption<'static> = ValueOption {

@@ -34,6 +34,15 @@ pub struct Traced {
     pub role: Option<TracedRole>,
 }
 
+/// What is tested.
+#[derive(Drop, PartialEq, Eq)]
+pub struct Tested {
+    /// The names of the vector files.
+    pub files: Vec<String>,
+    /// Whether the trace of each file that differs is wanted too.
+    pub traces: bool,
+}
+
 /// A command on at most one file, with its value.
 #[derive(Drop, PartialEq, Eq)]
 pub enum Chosen {
@@ -58,8 +67,8 @@ pub enum Chosen {
 pub enum Order {
     /// A command on at most one file.
     Command(Chosen),
-    /// Run the vector files of these names, and compare each run with what its file expects.
-    Test(Vec<String>),
+    /// Run vector files, and compare each run with what its file expects.
+    Test(Tested),
 }
 
 /// Why the words of a command line are no command.

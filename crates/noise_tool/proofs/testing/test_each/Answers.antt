@@ -16,13 +16,13 @@ loop-name-preserved g c =
     elim c.if-branch.branch [
       | then-branch w ↦ (
         omega (arith, w.passed-is, w.failed-is, c.loop-name.invariant.0),
-        rw (w.passed-is, w.failed-is) (passed-more (g.F.FilesByName.bytes_at c.args.files.now) before all c.as_str.result.now _ _ _
+        rw (w.passed-is, w.failed-is) (passed-more c.args.traces (g.F.FilesByName.bytes_at c.args.files.now) before all c.as_str.result.now _ _ _
             c.loop-name.passed c.loop-name.failed c.in_ok-test_file.field-0 all_is w.if-branch.true c.loop-name.invariant.1
             c.in_ok-test_file.ensures.tested),
       )
       | else-branch w ↦ (
         omega (arith, w.passed-is, w.failed-is, c.loop-name.invariant.0),
-        rw (w.passed-is, w.failed-is) (failed-more (g.F.FilesByName.bytes_at c.args.files.now) before all c.as_str.result.now _ _ _
+        rw (w.passed-is, w.failed-is) (failed-more c.args.traces (g.F.FilesByName.bytes_at c.args.files.now) before all c.as_str.result.now _ _ _
             c.loop-name.passed c.loop-name.failed c.in_ok-test_file.field-0 all_is w.if-branch.false c.loop-name.invariant.1
             c.in_ok-test_file.ensures.tested),
       )
