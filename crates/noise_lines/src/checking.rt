@@ -30,7 +30,10 @@ fn valid_pattern(text: &[u8]) -> Result<ValidPattern, Fault>
     ensures valid { IfOk result (λ p. Spells text.now p × IsValid p) }
     ensures fault { IfErr result (λ fault. IsCheckFault text.now fault) }
 {
-    let pattern = Pattern::parse_text(text).map_err(Fault::Text)?;
+    let pattern = match Pattern::parse_text(text) {
+        Ok(pattern) => pattern,
+        Err(fault) => return Err(Fault::Text(fault)),
+    };
     match pattern.check() {
         Ok(valid) => Ok(valid),
         Err(fault) => Err(Fault::Rule(fault)),
