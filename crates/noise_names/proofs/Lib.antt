@@ -9,6 +9,7 @@ pub mod ProtocolNames
 pub mod PskTokens
 pub mod Reading
 pub mod Rows
+pub mod RightTexts
 pub mod Sections
 pub mod TextLengths
 pub mod Writing

@@ -78,11 +78,11 @@ own_of_plain (m ∷ ms) h =
     cons_same : {x y : List Token} {xs ys : List (List Token)} → x ≡ y → xs ≡ ys → x ∷ xs ≡ y ∷ ys
     cons_same e f = cc
 
-length-psks : (places : List ℕ) (n : ℕ) (messages : List (List Token)) → length (with_psks_from places n messages) ≡ length messages
+pub length-psks : (places : List ℕ) (n : ℕ) (messages : List (List Token)) → length (with_psks_from places n messages) ≡ length messages
 length-psks places n [] = refl
 length-psks places n (m ∷ ms) = ap (λ (k : ℕ). suc k) (length-psks places (n + 1) ms)
 
-few_psks : (places : List ℕ) (n : ℕ) (messages : List (List Token)) → any_psk messages ≡ false → list_all has_few_tokens messages ≡ true
+pub few_psks : (places : List ℕ) (n : ℕ) (messages : List (List Token)) → any_psk messages ≡ false → list_all has_few_tokens messages ≡ true
     → list_all has_few_tokens (with_psks_from places n messages) ≡ true
 few_psks places n [] h few = refl
 few_psks places n (m ∷ ms) h few =
