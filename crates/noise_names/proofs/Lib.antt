@@ -1,9 +1,11 @@
 pub mod Checking
+pub mod DotsLine
 pub mod Fundamentals
 pub mod Lengths
 pub mod Modifiers
 pub mod NextLines
 pub mod Numbers
+pub mod OneDivision
 pub mod OneText
 pub mod ProtocolNames
 pub mod PskTokens
@@ -12,5 +14,7 @@ pub mod Rows
 pub mod RightTexts
 pub mod Sections
 pub mod TextLengths
+pub mod WholeLines
 pub mod Writing
+pub mod WrongKinds
 pub mod WrongLines

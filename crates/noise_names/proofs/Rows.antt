@@ -54,7 +54,7 @@ no_feed-words (t ∷ []) = no_feed-word t
 no_feed-words (t ∷ u ∷ ts) =
     no_feed-append (word_of t ++ codes ", ") (words (u ∷ ts)) (no_feed-append (word_of t) (codes ", ") (no_feed-word t) refl) (no_feed-words (u ∷ ts))
 
-no_feed-row : (r : Row) → no_feed (content r) ≡ true
+pub no_feed-row : (r : Row) → no_feed (content r) ≡ true
 no_feed-row ending = refl
 no_feed-row (tokens_of Initiator tokens) = no_feed-words tokens
 no_feed-row (tokens_of Responder tokens) = no_feed-words tokens
@@ -76,7 +76,7 @@ row_same (tokens_of party (t ∷ ts)) (tokens_of role (u ∷ us)) h k e =
     rows p q = cc
 
 -- the first lines of two texts
-first_same : (a b x y : List ℕ) → no_feed a ≡ true → no_feed b ≡ true → line a ++ x ≡ line b ++ y → (a ≡ b) × (x ≡ y)
+pub first_same : (a b x y : List ℕ) → no_feed a ≡ true → no_feed b ≡ true → line a ++ x ≡ line b ++ y → (a ≡ b) × (x ≡ y)
 first_same a b x y h k e = heading_same a b x y h k (sym (append_assoc a (10 ∷ []) x) ∙ e ∙ append_assoc b (10 ∷ []) y)
 
 no_line : (a x : List ℕ) → [] ≡ line a ++ x → ⊥
