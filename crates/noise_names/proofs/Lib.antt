@@ -6,6 +6,7 @@ pub mod Modifiers
 pub mod NextLines
 pub mod Numbers
 pub mod OneDivision
+pub mod OneFault
 pub mod OneText
 pub mod ProtocolNames
 pub mod PskTokens

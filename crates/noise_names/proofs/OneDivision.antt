@@ -70,13 +70,13 @@ cut_cut c d =
     (no_further c.front c.left d.front d.left (same_body c.it d.it).1 c.last d.it.ended)
 
 -- where all lines are right it ends before the first message
-pub cut_whole : {text body : List ℕ} {n : ℕ} (c : IsCutShort text n) → BeginsRight text body [] → IsAfter c.it.p [] body
-cut_whole {body = body} c d = at c.next where
+pub cut_whole : {text body : List ℕ} {n : ℕ} (c : IsCutShort text n) → BeginsRight text body [] → (body ≡ c.front) × IsAfter c.it.p [] c.front
+cut_whole {body = body} c d = (sym same.0, at c.next) where
   same : (c.front ≡ body) × (c.left ≡ [])
   same = same_division c.front c.left body [] (no_further body [] c.front c.left (same_body d c.it).1 refl c.it.ended)
       (no_further c.front c.left body [] (same_body c.it d).1 c.last d.ended)
 
   at : ((rest : List ℕ) × (c.left ≢ []) × (body_of c.it.p ≡ c.front ++ (line c.left ++ rest))) ⊎ ((c.left ≡ []) × IsAfter c.it.p [] c.front)
-      → IsAfter c.it.p [] body
+      → IsAfter c.it.p [] c.front
   at (inl (rest, some, e)) = absurd (some same.1)
-  at (inr (none, e)) = sym same.0 ∙ e
+  at (inr (none, e)) = e

@@ -13,7 +13,7 @@ use Rattle.noise_names.specs.Limits.{has_few_tokens}
 use Rattle.noise_names.specs.Text.{message_lines, pre_lines, token_line, word_of, words}
 use Rattle.noise_names.specs.Tokens.{other, turn_from}
 use Rattle.noise_names.specs.WrongText.{BeginsRight, IsAfter, IsArrowFault, IsAtMessage, IsInPreMessages, IsLimitFault, IsMessage, IsPreMessageFault}
-use Rattle.noise_names.specs.WrongText.{IsPskFault, IsTokenFault, IsTokens, IsTurnFault, IsWrongLine, arrow_then, dots, has_dots, is_within, told}
+use Rattle.noise_names.specs.WrongText.{IsPskFault, IsTokenFault, IsTokens, IsTurnFault, IsWrongLine, arrow_then, dots, first_line, has_dots, is_within, told}
 use Rattle.noise_names.proofs.DotsLine.{not_ahead}
 use Rattle.noise_names.proofs.OneText.{apart, both, lines_same, words_same}
 use Rattle.noise_names.proofs.Rows.{first_same, no_feed-row, tokens_of}
@@ -85,7 +85,7 @@ after_same b c ms ks e h k =
 
 -- ---- kinds of a line at a message
 
--- the numbers of lines may differ in their form
+-- the kinds of a line with the tokens of a message
 abbrev pub IsMessageFault : {text : List ℕ} {number : ℕ} → IsWrongLine text number → TextFaultKind → Type 0
 IsMessageFault w kind =
     ((kind ≡ kinds.Turn) × IsTurnFault w) ⊎ (((kind ≡ kinds.Limit) × IsLimitFault w) ⊎ ((kind ≡ kinds.PskPlace) × IsPskFault w))
@@ -150,3 +150,51 @@ pre_message : {text : List ℕ} {m n : ℕ} (w : IsWrongLine text m) (v : IsWron
 pre_message w v e f g (inl h) i = not_dots i.party (words i.tokens) (sym h ∙ g ∙ i.are.1)
 pre_message w v e f g (inr (h, _)) i =
     not_ahead v.it.p.initiator v.it.p.responder i.before v.front v.left i.at v.it.like.pre_messages (ap has_dots (sym e) ∙ h.0) (ap has_dots (sym f) ∙ h.1)
+
+abbrev IsListedFault : {text : List ℕ} {number : ℕ} → IsWrongLine text number → TextFaultKind → Type 0
+IsListedFault w kind = ((kind ≡ kinds.PreMessage) × IsPreMessageFault w) ⊎ IsMessageFault w kind
+
+listed : {text : List ℕ} {n : ℕ} (w : IsWrongLine text n) (k : TextFaultKind) → IsListedFault w k → IsListed (told w)
+listed w k (inl (e, (inl h))) = inl h
+listed w k (inl (e, (inr (h, are)))) = inr are
+listed w k (inr h) = let at = at_some w k h in inr (at.party, at.tokens, at.are)
+
+listed_kinds : {text : List ℕ} {m n : ℕ} (w : IsWrongLine text m) (v : IsWrongLine text n) (k l : TextFaultKind) → w.front ≡ v.front → w.left ≡ v.left
+    → told w ≡ told v → IsListedFault w k → IsListedFault v l → k ≡ l
+listed_kinds w v k l e f g (inl (h, _)) (inl (i, _)) = h ∙ sym i
+listed_kinds w v k l e f g (inl (h, fault)) (inr i) = absurd (pre_message w v e f g fault (at_some v l i))
+listed_kinds w v k l e f g (inr h) (inl (i, fault)) = absurd (pre_message v w (sym e) (sym f) (sym g) fault (at_some w k h))
+listed_kinds w v k l e f g (inr h) (inr i) = messages w v k l (e, g) h i
+
+-- ---- kinds of any wrong line
+
+token_listed : {text : List ℕ} {n : ℕ} (w : IsWrongLine text n) (line : List ℕ) → told w ≡ line → IsTokenFault w → IsListed line → ⊥
+token_listed w line e (party, list, is, none) (inl h) = not_dots party list (sym h ∙ sym e ∙ is)
+token_listed w line e (party, list, is, none) (inr (role, tokens, are)) =
+    none tokens are.0 (arrow_same party role list (words tokens) (sym is ∙ e ∙ are.1)).1
+
+arrow_token : {text : List ℕ} {m n : ℕ} (w : IsWrongLine text m) (v : IsWrongLine text n) → told w ≡ told v → IsArrowFault w → IsTokenFault v → ⊥
+arrow_token w v e h (party, list, is, none) = h.1 party list (e ∙ is)
+
+arrow_listed : {text : List ℕ} {n : ℕ} (w : IsWrongLine text n) (line : List ℕ) → told w ≡ line → IsArrowFault w → IsListed line → ⊥
+arrow_listed w line e h (inl i) = h.0 (e ∙ i)
+arrow_listed w line e h (inr (party, tokens, are)) = h.1 party (words tokens) (e ∙ are.1)
+
+abbrev pub IsWrongKind : {text : List ℕ} {number : ℕ} → IsWrongLine text number → TextFaultKind → Type 0
+IsWrongKind w kind = ((kind ≡ kinds.Arrow) × IsArrowFault w) ⊎ (((kind ≡ kinds.Token) × IsTokenFault w) ⊎ IsListedFault w kind)
+
+kinds_same : {text : List ℕ} {m n : ℕ} (w : IsWrongLine text m) (v : IsWrongLine text n) (k l : TextFaultKind) → w.front ≡ v.front → w.left ≡ v.left
+    → told w ≡ told v → IsWrongKind w k → IsWrongKind v l → k ≡ l
+kinds_same w v k l e f g (inl (h, _)) (inl (i, _)) = h ∙ sym i
+kinds_same w v k l e f g (inl (h, a)) (inr (inl (i, t))) = absurd (arrow_token w v g a t)
+kinds_same w v k l e f g (inl (h, a)) (inr (inr i)) = absurd (arrow_listed w (told v) g a (listed v l i))
+kinds_same w v k l e f g (inr (inl (h, t))) (inl (i, a)) = absurd (arrow_token v w (sym g) a t)
+kinds_same w v k l e f g (inr (inr h)) (inl (i, a)) = absurd (arrow_listed v (told w) (sym g) a (listed w k h))
+kinds_same w v k l e f g (inr (inl (h, _))) (inr (inl (i, _))) = h ∙ sym i
+kinds_same w v k l e f g (inr (inl (h, t))) (inr (inr i)) = absurd (token_listed w (told v) g t (listed v l i))
+kinds_same w v k l e f g (inr (inr h)) (inr (inl (i, t))) = absurd (token_listed v (told w) (sym g) t (listed w k h))
+kinds_same w v k l e f g (inr (inr h)) (inr (inr i)) = listed_kinds w v k l e f g h i
+
+pub one_kind : {text : List ℕ} {m n : ℕ} (w : IsWrongLine text m) (v : IsWrongLine text n) (k l : TextFaultKind) → w.front ≡ v.front → w.left ≡ v.left
+    → IsWrongKind w k → IsWrongKind v l → k ≡ l
+one_kind w v k l e f h i = kinds_same w v k l e f (ap (λ (text : List ℕ). first_line text) f) h i
