@@ -12,6 +12,7 @@ impl Pattern {
     ghost use Rattle.std.specs.Prelude.{◌≡◌, ◌≤◌, ◌<◌, ◌+◌, ◌++◌, ℕ, List, length, vec_len, vec_capacity, OnOk, OnErr, IfOk, Ok};
     ghost use Rattle.noise_names.specs.Plan.{Plan};
     ghost use Rattle.noise_names.specs.Text.{text_of, Spells};
+    ghost use Rattle.noise_names.specs.WrongText.{IsTextFault};
 
     /// The pattern that the text spells, within the limits of [`Pattern`]. A pattern has exactly one text. Else the first line
     /// with a fault is reported, counted from 1, and what is wrong in it.
@@ -41,6 +42,11 @@ impl Pattern {
     /// No text spells two patterns. It does nothing: its contract is the law.
     pub fn texts_are_unique()
         ensures { (text : List ℕ) (p q : Plan) → Spells text p → Spells text q → p ≡ q }
+    {}
+
+    /// A text has one fault at most. It does nothing: its contract is the law.
+    pub fn text_faults_are_unique()
+        ensures { (text : List ℕ) (f g : TextFault) → IsTextFault text f → IsTextFault text g → f ≡ g }
     {}
 
     /// A pattern text has at most 413 bytes. It does nothing: its contract is the law.
