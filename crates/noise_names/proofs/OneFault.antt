@@ -9,10 +9,10 @@ use Rattle.noise_names.specs.declared.faults.TextFaultKind.TheVariants as kinds
 use Rattle.noise_names.specs.declared.token.Role.TheVariants.{Initiator}
 use Rattle.noise_names.specs.declared.token.Token.{Token}
 use Rattle.noise_names.specs.Limits.{IsPattern}
-use Rattle.noise_names.specs.Names.{Section, section_bytes}
+use Rattle.noise_names.specs.Names.{Section}
 use Rattle.noise_names.specs.Plan.{Plan}
 use Rattle.noise_names.specs.Text.{line, message_lines, pre_lines}
-use Rattle.noise_names.specs.WrongText.{BeginsRight, EndsInHeading, HasNoHeading, HasPlaceBeyond, HasTakenName, IsAfter, IsCutShort, IsEnded, IsTextFault}
+use Rattle.noise_names.specs.WrongText.{BeginsRight, EndsInHeading, HasNoHeading, HasPlaceBeyond, HasTakenName, IsCutShort, IsEnded, IsTextFault}
 use Rattle.noise_names.specs.WrongText.{IsTextFaultAt, IsWrongLine, body_of, has_dots, heading_of, line_feeds}
 use Rattle.noise_names.proofs.DotsLine.{dots_form}
 use Rattle.noise_names.proofs.OneDivision.{cut_cut, cut_whole, same_body, wrong_cut, wrong_lines, wrong_whole}

@@ -89,8 +89,7 @@ next_of f left b z later more body ended e begun =
     let n : HasFirst (line part.0) = first_of part.0 in
     let it : b ∷ z ≡ line n.first ++ n.more = part.1 ∙ n.text_is in
     let all : left ≡ line n.first ++ (n.more ++ later) = e ∙ ap (λ (v : List ℕ). v ++ later) it ∙ append_assoc (line n.first) n.more later in
-    let first : first_line left ≡ n.first = ap first_line all ∙ first_line_is n.first (n.more ++ later) n.feedless in
-    (
+    let first : first_line left ≡ n.first = ap first_line all ∙ first_line_is n.first (n.more ++ later) n.feedless in (
       n.more ++ more,
       begun ∙ append_assoc f (b ∷ z) more
           ∙ ap (λ (v : List ℕ). f ++ v)

@@ -1,5 +1,5 @@
 -- One wrong line has one kind of fault.
-use Rattle.std.proofs.Common.{◌≡◌, ◌≢◌, ◌⊎◌, inl, inr, ℕ, ◌+◌, Bool, true, false, List, [], ◌∷◌, ◌++◌, refl, ap, sym, ◌∙◌, append_assoc, length, arith}
+use Rattle.std.proofs.Common.{◌≡◌, ◌⊎◌, inl, inr, ℕ, ◌+◌, true, false, List, [], ◌∷◌, ◌++◌, refl, ap, sym, ◌∙◌, append_assoc, length, arith}
 use Rattle.std.specs.Prelude.{codes}
 use Rattle.std.specs.List.{list_all}
 use Rattle.std.proofs.lemmas.List.{append_cancel_left}
@@ -12,7 +12,7 @@ use Rattle.noise_names.specs.declared.token.Token.TheVariants.{E, S, Ee, Es, Se,
 use Rattle.noise_names.specs.Limits.{has_few_tokens}
 use Rattle.noise_names.specs.Text.{message_lines, pre_lines, token_line, word_of, words}
 use Rattle.noise_names.specs.Tokens.{other, turn_from}
-use Rattle.noise_names.specs.WrongText.{BeginsRight, IsAfter, IsArrowFault, IsAtMessage, IsInPreMessages, IsLimitFault, IsMessage, IsPreMessageFault}
+use Rattle.noise_names.specs.WrongText.{BeginsRight, IsAfter, IsArrowFault, IsAtMessage, IsLimitFault, IsMessage, IsPreMessageFault}
 use Rattle.noise_names.specs.WrongText.{IsPskFault, IsTokenFault, IsTokens, IsTurnFault, IsWrongLine, arrow_then, dots, first_line, has_dots, is_within, told}
 use Rattle.noise_names.proofs.DotsLine.{not_ahead}
 use Rattle.noise_names.proofs.OneText.{apart, both, lines_same, words_same}
