@@ -1,4 +1,5 @@
 pub mod Checking
+pub mod DotsLine
 pub mod FirstFaults
 pub mod Fundamentals
 pub mod Judging
@@ -7,6 +8,8 @@ pub mod Lines
 pub mod Modifiers
 pub mod NextLines
 pub mod Numbers
+pub mod OneDivision
+pub mod OneFault
 pub mod OneText
 pub mod ProtocolNames
 pub mod PskTokens
@@ -16,6 +19,8 @@ pub mod Rows
 pub mod Sections
 pub mod TextLengths
 pub mod Tokens
+pub mod WholeLines
 pub mod WordLists
 pub mod Writing
+pub mod WrongKinds
 pub mod WrongLines

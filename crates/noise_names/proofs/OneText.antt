@@ -63,7 +63,7 @@ word_first u [] rest = refl
 word_first u (v ∷ vs) rest = append_assoc (word_of u ++ codes ", ") (words (v ∷ vs)) (10 ∷ rest)
     ∙ append_assoc (word_of u) (codes ", ") (words (v ∷ vs) ++ 10 ∷ rest)
 
-words_same : (t u : Token) (ts us : List Token) (x y : List ℕ) → words (t ∷ ts) ++ 10 ∷ x ≡ words (u ∷ us) ++ 10 ∷ y → (t ∷ ts ≡ u ∷ us) × (x ≡ y)
+pub words_same : (t u : Token) (ts us : List Token) (x y : List ℕ) → words (t ∷ ts) ++ 10 ∷ x ≡ words (u ∷ us) ++ 10 ∷ y → (t ∷ ts ≡ u ∷ us) × (x ≡ y)
 words_same t u [] [] x y e = let h = first_word_same t u 10 10 x y refl refl e in (ap (λ (v : Token). v ∷ []) h.0, cc)
 words_same t u [] (v ∷ vs) x y e =
     let h = first_word_same t u 10 44 x (32 ∷ (words (v ∷ vs) ++ 10 ∷ y)) refl refl (e ∙ word_first u (v ∷ vs) y) in absurd (apart _ _ 0 h.1 (omega arith))
@@ -177,7 +177,7 @@ no_pre ((t ∷ ts) ∷ ms) (u ∷ us) s y h e =
 regroup : (a b c d : List ℕ) → ((a ++ b) ++ c) ++ d ≡ a ++ (b ++ (c ++ d))
 regroup a b c d = append_assoc (a ++ b) c d ∙ append_assoc a b (c ++ d)
 
-lines_same : (i r j s : List Token) (ms ks : List (List Token)) → list_all has_few_tokens ms ≡ true → list_all has_few_tokens ks ≡ true
+pub lines_same : (i r j s : List Token) (ms ks : List (List Token)) → list_all has_few_tokens ms ≡ true → list_all has_few_tokens ks ≡ true
     → pre_lines i r ++ message_lines Initiator ms ≡ pre_lines j s ++ message_lines Initiator ks → (i ≡ j) × (r ≡ s) × (ms ≡ ks)
 lines_same [] [] [] [] ms ks h k e = (refl, refl, messages_same Initiator ms ks h k e)
 lines_same [] [] [] (u ∷ us) ms ks h k e =
@@ -223,7 +223,7 @@ heading_same a b x y all other e =
 no_feed : (c : ℕ) → is_section_byte c ≡ true → not (eqb c 10) ≡ true
 no_feed c h = grind (arith, nat_tests)
 
-heading_all : (s : Section) → IsSection s → list_all (λ c. not (eqb c 10)) (section_bytes s.base s.places ++ codes ":") ≡ true
+pub heading_all : (s : Section) → IsSection s → list_all (λ c. not (eqb c 10)) (section_bytes s.base s.places ++ codes ":") ≡ true
 heading_all s h = all_push (section_bytes s.base s.places)
     (all_weaker is_section_byte (λ c. not (eqb c 10)) (section_bytes s.base s.places) no_feed (section_bytes-all s h)) where
       all_push : (xs : List ℕ) → list_all (λ c. not (eqb c 10)) xs ≡ true → list_all (λ c. not (eqb c 10)) (xs ++ codes ":") ≡ true

@@ -76,7 +76,7 @@ row_same (tokens_of party (t ∷ ts)) (tokens_of role (u ∷ us)) h k e =
     rows p q = cc
 
 -- the first lines of two texts
-first_same : (a b x y : List ℕ) → no_feed a ≡ true → no_feed b ≡ true → line a ++ x ≡ line b ++ y → (a ≡ b) × (x ≡ y)
+pub first_same : (a b x y : List ℕ) → no_feed a ≡ true → no_feed b ≡ true → line a ++ x ≡ line b ++ y → (a ≡ b) × (x ≡ y)
 first_same a b x y h k e = heading_same a b x y h k (sym (append_assoc a (10 ∷ []) x) ∙ e ∙ append_assoc b (10 ∷ []) y)
 
 no_line : (a x : List ℕ) → [] ≡ line a ++ x → ⊥

@@ -25,7 +25,7 @@ row_arrow : (row : Row) → is_row row ≡ true → content row ≢ dots → ((p
 row_arrow ending h other_line none = other_line refl
 row_arrow (tokens_of party tokens) h other_line none = none party (words tokens) refl
 
-not_dots : (party : Role) (list : List ℕ) → dots ≢ arrow_then party list
+pub not_dots : (party : Role) (list : List ℕ) → dots ≢ arrow_then party list
 not_dots Initiator list e = apart _ _ 2 (sym e) (omega arith)
 not_dots Responder list e = apart _ _ 2 e (omega arith)
 
@@ -67,7 +67,7 @@ turn_apart zero Initiator e = absurd (cc)
 turn_apart zero Responder e = absurd (cc)
 turn_apart (suc n) party e = turn_apart n (other party) e
 
-next_turn : (n : ℕ) → turn_from Initiator n ≢ turn_from Initiator (n + 1)
+pub next_turn : (n : ℕ) → turn_from Initiator n ≢ turn_from Initiator (n + 1)
 next_turn n e = turn_apart n Initiator (sym (e ∙ ap (λ (k : ℕ). turn_from Initiator k) (one_more n))) where
   one_more : (n : ℕ) → n + 1 ≡ suc n
   one_more n = omega arith

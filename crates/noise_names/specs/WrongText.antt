@@ -142,7 +142,7 @@ pub record HasPlaceBeyond (text : List ℕ) : Type 0 where
   pub are : IsAfter it.p messages body
   pub beyond : IsFalse (list_all (λ n. nat_le n (length messages)) it.heading.places)
 
--- all lines are right, but the name is that of a fundamental pattern
+-- All lines are right under another base. As the text is no pattern's, its own base is that of a fundamental pattern.
 abbrev pub HasTakenName : List ℕ → Type 0
 HasTakenName text = (p : Plan) × (base : List ℕ) × IsPattern p × (fundamental_of p.base ≡ None) × IsTrue (is_base base)
     × (text ≡ text_of (record p { base = base }))
