@@ -41,7 +41,7 @@ pub trait FilesByName {
 /// after which no more files are run.
 ///
 /// Where traces are wanted, the text of each file whose run differs from what it expects goes on with the trace of this run, up to the first line that
-/// differs. These lines are secrets.
+/// differs and what is shown of the key schedules there. These lines are secrets.
 pub fn test<F: FilesByName, O: Write, E: Write>(
     alloc: Global,
     names: &[String],
