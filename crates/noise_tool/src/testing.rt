@@ -66,7 +66,8 @@ fn test_all<F: FilesByName, O: Write>(
     files: &F,
     out: &mut O,
 ) -> Result<u8, Fault>
-    ensures tested { IfOk result (λ status. IsTested traces (F.bytes_at files.now) (map string_bytes names.now) (O.contents out.old) (O.contents out.new) status) }
+    ensures tested { IfOk result (λ status. IsTested traces (F.bytes_at files.now) (map string_bytes names.now) (O.contents out.old) (O.contents out.new)
+        status) }
     ensures fault { IfErr result (λ fault. status_of fault ≡ 3) }
 {
     let (passed, failed) = test_each(alloc, names, traces, files, out)?;
