@@ -19,7 +19,8 @@ use Rattle.noise_tool.specs.Ends.{IsStartFault}
 use Rattle.noise_tool.specs.Performing.{IsRunFault}
 use Rattle.noise_tool.specs.Running.{IsRunOf, expected_in}
 use Rattle.noise_tool.specs.Kept.{all_kept}
-use Rattle.noise_tool.specs.Testing.{HasTested, HaveTested, IsFront, IsJudged, IsTested, IsVerdictOn, Judged, RunsTo, is_met, tally_line, tested_text, verdict_text, verdicts_text}
+use Rattle.noise_tool.specs.Testing.{HasTested, HaveTested, IsFront, IsJudged, IsTested, IsVerdictOn, Judged, RunsTo}
+use Rattle.noise_tool.specs.Testing.{is_met, tally_line, tested_text, verdict_text, verdicts_text}
 use Rattle.noise_tool.specs.TracedEnds.{traces_of}
 use Rattle.noise_tool.specs.TracedText.{front_of}
 use Rattle.noise_tool.specs.Tracing.{HasTraces}
@@ -204,8 +205,8 @@ tested-more traces bytes_at names name a m e passed failed met p f before one p_
     }
 
 -- one file more, which passed
-pub passed-more : (traces : Bool) (bytes_at : List ℕ → Option (List ℕ)) (names all : List (List ℕ)) (name : List ℕ) (a m e : Option (List ℕ)) (passed failed : ℕ)
-    (met : Bool) → all ≡ names ++ name ∷ [] → met ≡ true → HaveTested traces bytes_at names a m passed failed
+pub passed-more : (traces : Bool) (bytes_at : List ℕ → Option (List ℕ)) (names all : List (List ℕ)) (name : List ℕ) (a m e : Option (List ℕ))
+    (passed failed : ℕ) (met : Bool) → all ≡ names ++ name ∷ [] → met ≡ true → HaveTested traces bytes_at names a m passed failed
     → HasTested traces (bytes_at name) name m e met → HaveTested traces bytes_at all a e (passed + 1) failed
 passed-more traces bytes_at names all name a m e passed failed met all_is is before one =
     let more : passed + 1 ≡ passed + cond met 1 0 = rw is refl in
@@ -213,8 +214,8 @@ passed-more traces bytes_at names all name a m e passed failed met all_is is bef
     rw all_is (tested-more traces bytes_at names name a m e passed failed met (passed + 1) failed before one more same)
 
 -- one file more, which failed
-pub failed-more : (traces : Bool) (bytes_at : List ℕ → Option (List ℕ)) (names all : List (List ℕ)) (name : List ℕ) (a m e : Option (List ℕ)) (passed failed : ℕ)
-    (met : Bool) → all ≡ names ++ name ∷ [] → met ≡ false → HaveTested traces bytes_at names a m passed failed
+pub failed-more : (traces : Bool) (bytes_at : List ℕ → Option (List ℕ)) (names all : List (List ℕ)) (name : List ℕ) (a m e : Option (List ℕ))
+    (passed failed : ℕ) (met : Bool) → all ≡ names ++ name ∷ [] → met ≡ false → HaveTested traces bytes_at names a m passed failed
     → HasTested traces (bytes_at name) name m e met → HaveTested traces bytes_at all a e passed (failed + 1)
 failed-more traces bytes_at names all name a m e passed failed met all_is is before one =
     let same : passed ≡ passed + cond met 1 0 = rw is (omega arith) in

@@ -37,7 +37,8 @@ IsJudged lines expected (Differs d) = (expected ≢ []) × IsFirstUnmet lines ex
 IsJudged lines expected ExpectsNothing = expected ≡ []
 IsJudged lines expected (CannotRun why) = ⊥
 
--- Where traces are wanted and the run differs, this is the front of a trace of this run, of all parts and both roles: up to the first line that differs.
+-- Where traces are wanted and the run differs, this is the front of a trace of this run, of all parts and both roles: up to the first line that differs,
+-- and what is shown there.
 abbrev pub IsFront : Bool → VectorFile → List (List ℕ) → Verdict → List (List ℕ) → Type 0
 IsFront true file lines (Differs d) front = IsTraceTo all_kept file lines d.number front
 IsFront _ file lines verdict front = ⊤

@@ -18,7 +18,7 @@ trace_lines t = bytes_of t.start.items ++ woven (bytes_of t.outcome.lines.items)
 abbrev pub trace_text : Traced → List ℕ
 trace_text t = lines_text (trace_lines t)
 
--- those up to the line of the run of this number
+-- those up to the line of the run of this number, and what is shown there
 abbrev pub front_lines : Traced → ℕ → List (List ℕ)
 front_lines t number = bytes_of t.start.items ++ woven_to number (bytes_of t.outcome.lines.items) (traces_of t.traces.items)
 

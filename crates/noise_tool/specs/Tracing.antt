@@ -1,5 +1,5 @@
 -- What is shown of the key schedules in a run, along what happens in it, and the lines of it.
-use Rattle.std.specs.Prelude.{◌≡◌, ◌-◌, ℕ, List, [], ◌∷◌, ◌++◌, map, length, take, Option, None, Result}
+use Rattle.std.specs.Prelude.{◌≡◌, ℕ, List, [], ◌∷◌, ◌++◌, map, length, take, Option, None, Result}
 use Rattle.noise_names.specs.declared.token.Role.{Role}
 use Rattle.noise_names.specs.declared.token.Role.TheVariants.{Initiator, Responder}
 use Rattle.noise_names.specs.Plan.{Plan, has_psk}
@@ -192,11 +192,11 @@ pub record IsTraceOf (kept : Kept) (file : VectorFile) (lines traced : List (Lis
   pub shown : HasTraces kept file lines start traces
   pub traced_are : traced ≡ start ++ woven lines traces
 
--- the front of lines with those that follow each: up to the line of this number, from 1 on, which stands last; all of them where there are fewer lines
+-- the front of lines with those that follow each: up to the line of this number, from 1 on, and those that follow it; all where there are fewer lines
 abbrev pub woven_to : ℕ → List (List ℕ) → List (List (List ℕ)) → List (List ℕ)
-woven_to number lines traces = woven (take number lines) (take (number - 1) traces)
+woven_to number lines traces = woven (take number lines) (take number traces)
 
--- These are the lines of the file's run, and the front of what `trace` prints, up to the line of the run of this number.
+-- These are the lines of the file's run, and the front of what `trace` prints, up to the line of the run of this number and what is shown there.
 pub record IsTraceTo (kept : Kept) (file : VectorFile) (lines : List (List ℕ)) (number : ℕ) (front : List (List ℕ)) : Type 0 where
   pub start : List (List ℕ)
   pub traces : List (List (List ℕ))

@@ -41,7 +41,7 @@ pub trait FilesByName {
 /// after which no more files are run.
 ///
 /// Where traces are wanted, the text of each file whose run differs from what it expects goes on with the trace of this run, up to the first line that
-/// differs. These lines are secrets.
+/// differs and what is shown of the key schedules there. These lines are secrets.
 pub fn test<F: FilesByName, O: Write, E: Write>(
     alloc: Global,
     names: &[String],
@@ -66,7 +66,8 @@ fn test_all<F: FilesByName, O: Write>(
     files: &F,
     out: &mut O,
 ) -> Result<u8, Fault>
-    ensures tested { IfOk result (λ status. IsTested traces (F.bytes_at files.now) (map string_bytes names.now) (O.contents out.old) (O.contents out.new) status) }
+    ensures tested { IfOk result (λ status. IsTested traces (F.bytes_at files.now) (map string_bytes names.now) (O.contents out.old) (O.contents out.new)
+        status) }
     ensures fault { IfErr result (λ fault. status_of fault ≡ 3) }
 {
     let (passed, failed) = test_each(alloc, names, traces, files, out)?;

@@ -142,7 +142,7 @@ fn write_trace<O: Write>(traced: &Traced, out: &mut O) -> Result<(), Fault>
     write_woven(&traced.outcome.lines, &traced.traces, out)
 }
 
-/// Writes the front of it: up to the line of the run of this number, from 1 on; all of it where there are fewer.
+/// Writes the front of it: up to the line of the run of this number, from 1 on, and those that follow that one; all of it where there are fewer.
 pub(crate) fn write_front<O: Write>(
     traced: &Traced,
     number: usize,
@@ -153,7 +153,7 @@ pub(crate) fn write_front<O: Write>(
 {
     write_lines(&traced.start, out)?;
     let lines = front(traced.outcome.lines.as_slice(), number);
-    let traces = front(traced.traces.as_slice(), number.saturating_sub(1));
+    let traces = front(traced.traces.as_slice(), number);
     write_woven(lines, traces, out)
 }
 
