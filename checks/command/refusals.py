@@ -26,7 +26,7 @@ def tries_of(line, folder):
     _, words = words_of(line)
     whole = run(words, folder)
     yield words, {}, whole._replace(err=b"")
-    if words[0] not in ("list", "show"):
+    if words[0] not in ("list", "show", "test"):
         size = os.path.getsize(f"{folder}/{words[1]}")
         for variables in limits("READ", range(size + 1)):
             yield words, variables, Ran(3, b"", b"cannot read\n")
