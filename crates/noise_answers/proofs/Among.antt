@@ -1,7 +1,6 @@
 -- What a party with the first answers reads, refuses and writes it does with all of them too.
-use Rattle.std.proofs.Common.{◌≡◌, ℕ, zero, suc, ◌+◌, ◌<◌, List, [], ◌∷◌, ◌++◌, length, take, drop, refl, ap, sym, subst, ◌∙◌, arith}
+use Rattle.std.proofs.Common.{◌≡◌, ℕ, zero, suc, ◌+◌, ◌<◌, List, [], ◌∷◌, ◌++◌, length, take, refl, ap, sym, subst, ◌∙◌, arith}
 use Rattle.std.proofs.Common.{append_assoc, take_all}
-use Rattle.std.proofs.Math.Seq.{take-append_seam, drop-append_seam}
 use Rattle.std.specs.Prelude.{Bool, Option, Some, None, is_some, if◌then◌else◌}
 use Rattle.noise_names.specs.declared.token.Token.{Token}
 use Rattle.noise_names.specs.declared.token.Token.TheVariants.{E, S, Ee, Es, Se, Ss, Psk}
@@ -18,20 +17,12 @@ use Rattle.noise_handshake.specs.View.{View, tokens_now}
 use Rattle.noise_handshake.specs.Writing.{Writer, Gives, Given, Writes}
 use Rattle.noise_names.specs.Plan.{has_psk}
 use Rattle.noise_answers.specs.Answers.{Answers, AreAmong, AnswersAsAll, with_answers}
+use Rattle.noise_names.specs.Lists.{split-apart, cons-same}
 
 -- ---- lists
 
-pub split-apart : (a b p q : List ℕ) → length a ≡ length b → a ++ p ≡ b ++ q → (a ≡ b) × (p ≡ q)
-split-apart a b p q n e = (
-  sym (take-append_seam a p) ∙ ap (take (length a)) e ∙ ap (λ (k : ℕ). take k (b ++ q)) n ∙ take-append_seam b q,
-  sym (drop-append_seam a p) ∙ ap (drop (length a)) e ∙ ap (λ (k : ℕ). drop k (b ++ q)) n ∙ drop-append_seam b q,
-)
-
 some-same : (o : Option (List ℕ)) (x y : List ℕ) → o ≡ Some x → o ≡ Some y → x ≡ y
 some-same o x y f g = cc
-
-cons-same : {X : Type 0} (x y : X) (xs ys : List X) → x ≡ y → xs ≡ ys → (x ∷ xs) ≡ (y ∷ ys)
-cons-same x y xs ys e h = cc
 
 -- whether a text of this token doesn't depend on answers
 abbrev pub IsKey : Token → Type 0
@@ -149,7 +140,7 @@ module _ (role : Role) (psks : Bool) (first all : Answers) (among : AreAmong fir
       let e1 : a ++ p ≡ before_payload psks (after_token psks r t x) ts ys ++ q =
       h.1 ∙ ap (λ (z : List ℕ). before_payload psks (after_token psks r t z) ts ys ++ q) (sym h.0) in
       let i = front-apart (known_after known t x) (secrets_after secrets t) (after_token psks r t x) ts xs ys p q f.1 g1 e1 in
-      (cons-same x y xs ys h.0 i.0, i.1)
+      (cons-same h.0 i.0, i.1)
 
   -- ---- reading
 

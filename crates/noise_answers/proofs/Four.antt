@@ -2,7 +2,7 @@
 use Rattle.std.proofs.Common.{◌≡◌, ◌⊎◌, inl, inr, ℕ, zero, suc, ◌+◌, ◌<◌, ◌≤◌, List, [], ◌∷◌, ◌++◌, length, take, drop, refl, ap, sym, ◌∙◌, arith, append_assoc}
 use Rattle.std.proofs.lemmas.List.Sums.{sum_by-cons}
 use Rattle.std.proofs.lemmas.List.Folds.{list_any-append}
-use Rattle.std.specs.Prelude.{Bool, true, false, not, ◌||◌, cond, count_by}
+use Rattle.std.specs.Prelude.{Bool, true, false, ◌||◌, cond, count_by}
 use Rattle.std.specs.List.{list_any}
 use Rattle.noise_names.specs.declared.token.Token.{Token}
 use Rattle.noise_names.specs.declared.token.Token.TheVariants.{E, S, Ee, Es, Se, Ss, Psk}
@@ -14,6 +14,7 @@ use Rattle.noise_names.specs.Rules.{tokens-keep-rules}
 use Rattle.noise_names.specs.Validity.{IsValid, KeepsRules, dh_is_first, is_at, occurs}
 use Rattle.noise_handshake.specs.Counterparts.{is_dh}
 use Rattle.noise_handshake.specs.View.{tokens_at}
+use Rattle.std.proofs.lemmas.Bool.{or_right, or_left, not-true, or_parts}
 
 -- whether a token is among others
 abbrev has : Token → List Token → Bool
@@ -62,32 +63,16 @@ later : (t u : Token) (before ts : List Token) → NoRepeat t before (u ∷ ts) 
 later t u before ts n front back e =
     ap (has t) (append_assoc before (u ∷ []) front) ∙ n (u ∷ front) back (ap (λ (us : List Token). u ∷ us) e)
 
-true-left : (a b : Bool) → a ≡ true → a || b ≡ true
-true-left true b e = refl
-true-left false b e = cc
-
-true-right : (a b : Bool) → b ≡ true → a || b ≡ true
-true-right true b e = refl
-true-right false b e = e
-
-false-right : (a b : Bool) → a || b ≡ false → b ≡ false
-false-right true b e = cc
-false-right false b e = e
-
-not-true : (b : Bool) → not b ≡ true → b ≡ false
-not-true true e = cc
-not-true false e = refl
-
 none-after : (t : Token) (before ts : List Token) → NoRepeat t before ts → has t before ≡ true → times t ts ≡ 0
 none-after t before [] n h = refl
 none-after t before (u ∷ ts) n h = by (same_token u t) refl (none-after t (before ++ u ∷ []) ts (later t u before ts n) kept) where
   kept : has t (before ++ u ∷ []) ≡ true
-  kept = list_any-append (λ (z : Token). same_token z t) before (u ∷ []) ∙ true-left (has t before) _ h
+  kept = list_any-append (λ (z : Token). same_token z t) before (u ∷ []) ∙ or_left (has t before) _ h
 
   by : (b : Bool) → same_token u t ≡ b → times t ts ≡ 0 → times t (u ∷ ts) ≡ 0
   by true e rest =
       let clear : has t (before ++ []) ≡ false = n [] ts (ap (λ (z : Token). z ∷ ts) (same-self u t e)) in
-      let there : has t (before ++ []) ≡ true = list_any-append (λ (z : Token). same_token z t) before [] ∙ true-left (has t before) false h in
+      let there : has t (before ++ []) ≡ true = list_any-append (λ (z : Token). same_token z t) before [] ∙ or_left (has t before) false h in
       absurd (cc)
   by false e rest = omega (arith, times-cons t u ts, ap {B = ℕ} (λ (b : Bool). cond b 1 0) e, rest)
 
@@ -98,7 +83,7 @@ at-most-once t before (u ∷ ts) n = by (same_token u t) refl (at-most-once t (b
   by true e few =
       let rest : times t ts ≡ 0 = none-after t (before ++ u ∷ []) ts (later t u before ts n)
       (list_any-append (λ (z : Token). same_token z t) before (u ∷ [])
-      ∙ true-right (has t before) (has t (u ∷ [])) (true-left (same_token u t) false e)) in
+      ∙ or_right (has t before) (has t (u ∷ [])) (or_left (same_token u t) false e)) in
       omega (arith, times-cons t u ts, ap {B = ℕ} (λ (b : Bool). cond b 1 0) e, rest)
   by false e few = omega (arith, times-cons t u ts, ap {B = ℕ} (λ (b : Bool). cond b 1 0) e, few)
 
@@ -140,7 +125,7 @@ module _ (p : Plan) (valid : IsValid p) where
       let pre : List Place = (token_places Initiator 0 0 p.initiator ++ token_places Responder 0 0 p.responder) ++ message_places Initiator 1 before in
       let here : List Place = token_places party (length before + 1) 0 front in
       sym (token-has t party (length before + 1) 0 front)
-      ∙ false-right (occurs t pre) (occurs t here) (sym (list_any-append (λ (q : Place). is_at t q.step) pre here) ∙ clear)
+      ∙ (or_parts (occurs t pre) (occurs t here) (sym (list_any-append (λ (q : Place). is_at t q.step) pre here) ∙ clear)).1
 
   -- it has at most four DH tokens in a message
   pub at-most-four : (i : ℕ) → count_by is_dh (tokens_at p.messages i) ≤ 4

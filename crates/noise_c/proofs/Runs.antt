@@ -1,6 +1,6 @@
 -- A handshake that is handed each DH answer when it asks is as the library's.
 use Rattle.std.proofs.Common.{◌≡◌, ◌⊎◌, inl, inr, ℕ, List, [], ◌∷◌, ◌++◌, refl, ap, sym, subst, ◌∙◌}
-use Rattle.std.specs.Prelude.{Bool, true, false, ◌&&◌, cond, Option, Some, None, find, nat_eq}
+use Rattle.std.specs.Prelude.{Bool, true, false, cond, Option, Some, None, find, nat_eq}
 use Rattle.std.specs.Option.{option_map, option_or}
 use Rattle.std.specs.Cmp.Lexicographic.{pointwise, same_text}
 use Rattle.std.proofs.lemmas.Cmp.{nat_list_eq_equiv}
@@ -23,6 +23,7 @@ use Rattle.noise_c.specs.Kept.{IsAdded, IsPatternOf, KeepsView, agreement_in, pu
 use Rattle.noise_c.specs.Answered.{ReadsByAnswers, WritesByAnswers, ReadsAsLibrary, WritesAsLibrary, answers_in}
 use Rattle.noise_c.specs.Answered.ReadsByAnswers.{ready as reads_now, answered as reads_later}
 use Rattle.noise_c.specs.Answered.WritesByAnswers.{ready as writes_now, answered as writes_later}
+use Rattle.std.proofs.lemmas.Bool.{and_parts, and_from}
 
 -- ---- an answer more
 
@@ -48,25 +49,12 @@ own-same Ephemeral Static e = cc
 own-same Static Ephemeral e = cc
 own-same Static Static e = refl
 
-both : (a b : Bool) → a ≡ true → b ≡ true → (a && b) ≡ true
-both true true f g = refl
-both true false f g = cc
-both false b f g = cc
-
-left-true : (a b : Bool) → (a && b) ≡ true → a ≡ true
-left-true true b e = refl
-left-true false b e = cc
-
-right-true : (a b : Bool) → (a && b) ≡ true → b ≡ true
-right-true true b e = e
-right-true false b e = cc
-
 module _ (own : Own) (key x : List ℕ) where
   abbrev entry : TableEntry
   entry = record { own = own; remote = key; answer = x }
 
   alone : answer_in (entry ∷ []) own key ≡ Some x
-  alone = at (is_for own key entry) (both (same_own own own) (pointwise nat_eq key key) (own-itself own) (nat_list_eq_equiv.refl key)) where
+  alone = at (is_for own key entry) (and_from (same_own own own) (pointwise nat_eq key key) (own-itself own) (nat_list_eq_equiv.refl key)) where
     at : (b : Bool) → b ≡ true → option_map (λ (t : TableEntry). t.answer) (cond b (Some entry) None) ≡ Some x
     at true e = refl
     at false e = cc
@@ -76,8 +64,8 @@ module _ (own : Own) (key x : List ℕ) where
     at : (b : Bool) → is_for o k entry ≡ b → option_map (λ (t : TableEntry). t.answer) (cond b (Some entry) None) ≡ Some y
         → (o ≡ own) × (k ≡ key) × (y ≡ x)
     at true t f = (
-      sym (own-same own o (left-true (same_own own o) (pointwise nat_eq key k) t)),
-      sym (same_text key k (sym (right-true (same_own own o) (pointwise nat_eq key k) t))),
+      sym (own-same own o (and_parts (same_own own o) (pointwise nat_eq key k) t).0),
+      sym (same_text key k (sym (and_parts (same_own own o) (pointwise nat_eq key k) t).1)),
       cc,
     )
     at false t f = cc

@@ -1,9 +1,9 @@
 -- What the entries of a run of datagrams tell, and what two parties agree on by them.
 use Rattle.std.proofs.Common.{◌≡◌, ◌≢◌, ◌≤◌, ◌<◌, ℕ, zero, suc, ◌+◌, List, [], ◌∷◌, ◌++◌, length, length-append, drop, map, Option, Some, None, Ok, slice_get}
 use Rattle.std.proofs.Common.{refl, sym, ◌∙◌, ap, subst, arith, inl, inr, ◌⊎◌}
-use Rattle.std.specs.Prelude.{Bool, true, false, ◌&&◌, ◌||◌, ◌==◌, nat_le, nat_lt, if◌then◌else◌}
+use Rattle.std.specs.Prelude.{Bool, true, false, ◌&&◌, ◌==◌, nat_le, nat_lt, if◌then◌else◌}
 use Rattle.std.specs.Int.{w64, to_be_bytes}
-use Rattle.std.proofs.lemmas.Bool.{false≢true, or_left, or_right, ne_eqb, eq-eqb, leb-false}
+use Rattle.std.proofs.lemmas.Bool.{false≢true, or_left, or_right, ne_eqb, eq-eqb, leb-false, or_parts}
 use Rattle.std.proofs.lemmas.Bool.Decides.{eqb_tells}
 use Rattle.std.proofs.lemmas.Nat.{from_be_bytes-to_be_bytes_8}
 use Rattle.noise_names.specs.declared.token.Role.{Role}
@@ -33,27 +33,17 @@ use Rattle.noise_conversation.specs.Datagrams.{nonce_in, SealedAt, OpenedAt, IsT
 use Rattle.noise_duel.specs.Clash.{ClashFound, ClashStands}
 use Rattle.noise_duel.specs.Networks.{HaveOneHistory, HistoriesCollide}
 use Rattle.noise_conversation.specs.Datagrams.{DatagramEntriesAgree, DatagramKeysCome, HistoriesClash}
+use Rattle.std.proofs.lemmas.Option.{same_Some}
+use Rattle.noise_names.specs.Lists.{get-front, get-last}
 
 -- ---- lists
-
-some-same : {X : Type 0} (x y : X) → Some x ≡ Some y → x ≡ y
-some-same x y e = cc
 
 none-some : {X : Type 0} (x : X) → None ≡ Some x → ⊥
 none-some x e = cc
 
-get-front : {X : Type 0} (xs ys : List X) (n : ℕ) (x : X) → slice_get xs n ≡ Some x → slice_get (xs ++ ys) n ≡ Some x
-get-front [] ys n x e = absurd (none-some x e)
-get-front (y ∷ xs) ys zero x e = e
-get-front (y ∷ xs) ys (suc n) x e = get-front xs ys n x e
-
-get-last : {X : Type 0} (xs : List X) (y : X) → slice_get (xs ++ y ∷ []) (length xs) ≡ Some y
-get-last [] y = refl
-get-last (x ∷ xs) y = get-last xs y
-
 get-either : {X : Type 0} (xs : List X) (y : X) (n : ℕ) (x : X) → slice_get (xs ++ y ∷ []) n ≡ Some x
     → (slice_get xs n ≡ Some x) ⊎ ((n ≡ length xs) × (x ≡ y))
-get-either [] y zero x e = inr (refl, sym (some-same y x e))
+get-either [] y zero x e = inr (refl, sym (same_Some y x e))
 get-either [] y (suc n) x e = absurd (none-some x e)
 get-either (z ∷ xs) y zero x e = inl e
 get-either (z ∷ xs) y (suc n) x e = elim (get-either xs y n x e) [
@@ -64,7 +54,7 @@ get-either (z ∷ xs) y (suc n) x e = elim (get-either xs y n x e) [
 get-whole : (ms : List NonceMessage) (n : ℕ) (bytes : List ℕ) → slice_get (map whole ms) n ≡ Some bytes
     → (m : NonceMessage) × (slice_get ms n ≡ Some m) × (whole m ≡ bytes)
 get-whole [] n bytes e = absurd (none-some bytes e)
-get-whole (m ∷ ms) zero bytes e = (m, refl, some-same (whole m) bytes e)
+get-whole (m ∷ ms) zero bytes e = (m, refl, same_Some (whole m) bytes e)
 get-whole (m ∷ ms) (suc n) bytes e = get-whole ms n bytes e
 
 -- ---- nonces
@@ -261,17 +251,13 @@ has-step role theirs s event note t (has_opened _ _ _ _ bytes payload came new) 
       message = later-of (at_nonce (nonce_named bytes) (drop 8 bytes) payload) s.opened n apart ∙ h.message;
     }
 
-or-none : (a b : Bool) → (a || b) ≡ false → b ≡ false
-or-none true b e = absurd (cc)
-or-none false b e = e
-
 -- a nonce that isn't accepted yet wasn't before
 less-step : (role : Role) (theirs s : DatagramSide) (event : DatagramEvent) (note : Role × DatagramNote) (t : DatagramSide)
     → OneStep role theirs s event note t → (n : ℕ) → is_among t.view.accepted n ≡ false → is_among s.view.accepted n ≡ false
 less-step role theirs s event note t (stays _ _ _ _ _ _ _) n e = e
 less-step role theirs s event note t (has_sealed _ _ _ payload _) n e = e
 less-step role theirs s event note t (has_opened _ _ _ _ bytes payload came new) n e =
-    or-none (nonce_named bytes == n) (is_among s.view.accepted n) e
+    (or_parts (nonce_named bytes == n) (is_among s.view.accepted n) e).1
 
 -- ---- what a run keeps
 
@@ -326,7 +312,7 @@ sealed-at : (role : Role) (d last : DatagramSides) (events : List DatagramEvent)
 sealed-at role d last events notes (ends _) i n bytes e = absurd (none-some (role, Sealed n bytes) e)
 sealed-at role d last events notes (begins _ next _ event more note rest now run) zero n bytes e =
     let s = sealed-now role (party d (other role)) (party d role) event note (party next role) (step-of role d next event note now) n bytes
-    (some-same note (role, Sealed n bytes) e) in
+    (same_Some note (role, Sealed n bytes) e) in
     record {
       message = s.message;
       at = kept role next last more rest run n s.message s.at;
@@ -398,7 +384,7 @@ opened-now role theirs s event note t (stays _ _ _ _ _ _ none) h n payload e f =
 opened-now role theirs s event note t (has_sealed _ _ _ given _) h n payload e f =
     absurd (sealed-payload (length s.sealed) (datagram s.view.history s.view.role s.view.sent given) payload (ap (λ (z : Role × DatagramNote). z.1) e))
 opened-now role theirs s event note t (has_opened _ _ _ _ bytes told came new) h n payload e f =
-    let named : nonce_named bytes ≡ n = some-same (nonce_named bytes) n (sym (came-named role theirs event bytes came h) ∙ f) in
+    let named : nonce_named bytes ≡ n = same_Some (nonce_named bytes) n (sym (came-named role theirs event bytes came h) ∙ f) in
     let same : told ≡ payload = payload-same told payload (ap (λ (z : Role × DatagramNote). z.1) e) in (
       record {
         message = drop 8 bytes;
@@ -411,7 +397,7 @@ opened-now role theirs s event note t (has_opened _ _ _ _ bytes told came new) h
           | inl raw ↦ inl (bytes, ap Some raw, named, refl)
           | inr numbered ↦ (
               let found = get-whole theirs.sealed numbered.0 bytes numbered.2 in
-              let number : numbered.0 ≡ n = some-same numbered.0 n (sym (ap nonce_in numbered.1) ∙ f) in
+              let number : numbered.0 ≡ n = same_Some numbered.0 n (sym (ap nonce_in numbered.1) ∙ f) in
               inr (found.0, ap (slice_get theirs.sealed) (sym number) ∙ found.1, ap (drop 8) found.2)
               )
         ];
@@ -429,7 +415,7 @@ first-now : (role : Role) (d next : DatagramSides) (event : DatagramEvent) (note
     → OpenedAs role (party d (other role)) (party next role) (Some event) n payload × (is_among (party d role).view.accepted n ≡ false)
 first-now role d next event note events notes now h n payload o =
     opened-now role (party d (other role)) (party d role) event note (party next role) (step-of role d next event note now) h n payload
-    (some-same note (role, Payload payload) o.entry) (ap nonce_in (some-same event o.event o.at) ∙ o.nonce)
+    (same_Some note (role, Payload payload) o.entry) (ap nonce_in (same_Some event o.event o.at) ∙ o.nonce)
 
 opened-at : (role : Role) (d last : DatagramSides) (events : List DatagramEvent) (notes : List (Role × DatagramNote)) → DatagramRun d events notes last
     → Numbered (party d (other role)) → (i n : ℕ) (payload : List ℕ) → OpenedAt events notes i role n payload
@@ -493,7 +479,7 @@ opened-found role theirs s event note t (has_opened _ _ _ _ bytes payload came n
     elim (eqb_tells (nonce_named bytes) n) [
       | inl y ↦ inr (
         came-named role theirs event bytes came h ∙ ap Some y.1,
-        ap (λ (z : TransportMessage). (role, Payload z.payload)) (some-same first.message m (sym (first-of first s.opened n y.1) ∙ e)),
+        ap (λ (z : TransportMessage). (role, Payload z.payload)) (same_Some first.message m (sym (first-of first s.opened n y.1) ∙ e)),
       )
       | inr y ↦ inl (sym (later-of first s.opened n y.1) ∙ e)
     ]
@@ -552,7 +538,7 @@ counted-of : (r : History) (writer : Role) (n k : ℕ) (ms : List NonceMessage) 
     → of_nonce ms (n + k) ≡ Some m.message
 counted-of r writer n k [] m h e = absurd (none-some m e)
 counted-of r writer n zero (x ∷ ms) m h e =
-    let same : x ≡ m = some-same x m e in
+    let same : x ≡ m = same_Some x m e in
     first-of x ms (n + 0) (h.0 ∙ omega arith) ∙ ap (λ (z : NonceMessage). Some z.message) same
 counted-of r writer n (suc k) (x ∷ ms) m h e =
     let apart : x.nonce ≢ n + suc k = λ same. (let first = h.0 in absurd (omega (arith, first, same))) in
@@ -563,7 +549,7 @@ at-nonce : (r : History) (writer : Role) (ms : List NonceMessage) (n : ℕ) (m :
     → m.message ≡ packet r writer 0 n m.payload
 at-nonce r writer [] n m h e = absurd (none-some m e)
 at-nonce r writer (x ∷ ms) n m h e = elim (eqb_tells x.nonce n) [
-  | inl y ↦ subst (λ (z : TransportMessage). z.message ≡ packet r writer 0 n z.payload) (some-same x.message m (sym (first-of x ms n y.1) ∙ e))
+  | inl y ↦ subst (λ (z : TransportMessage). z.message ≡ packet r writer 0 n z.payload) (same_Some x.message m (sym (first-of x ms n y.1) ∙ e))
       (subst (λ (i : ℕ). x.message.message ≡ packet r writer 0 i x.message.payload) y.1 h.0)
   | inr y ↦ at-nonce r writer ms n m h.1 (sym (later-of x ms n y.1) ∙ e)
 ]
@@ -600,7 +586,7 @@ module _ (r : History) (writer : Role) (d last : DatagramSides) (events : List D
         → ForgedDatagram r writer events notes i n payload
     forged-entry f =
         let same : f.forged ≡ record { message = found.message; payload = payload } =
-        some-same f.forged (record { message = found.message; payload = payload }) (sym f.came ∙ found.has.message) in
+        same_Some f.forged (record { message = found.message; payload = payload }) (sym f.came ∙ found.has.message) in
         let text : f.forged.message ≡ found.message = ap (λ (z : TransportMessage). z.message) same in
         elim found.from [
           | inl raw ↦ record {

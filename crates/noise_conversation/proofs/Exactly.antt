@@ -1,7 +1,6 @@
 -- What is reported of a whole message, by what the message is.
 use Rattle.std.proofs.Common.{◌≡◌, ◌≢◌, ◌<◌, ℕ, List, length, refl, sym, ◌∙◌, ap, subst, arith, Result, Ok, Err}
 use Rattle.std.specs.Prelude.{Bool, true, false, IsTrue, MatchBool, ◌==◌, nat_lt, if◌then◌else◌}
-use Rattle.std.proofs.lemmas.Bool.Decides.{nat_tests}
 use Rattle.noise_names.specs.declared.token.Role.{Role}
 use Rattle.noise_names.specs.declared.token.Role.TheVariants.{Initiator, Responder}
 use Rattle.noise_names.specs.Tokens.{other, turn_from}
@@ -22,11 +21,9 @@ use Rattle.noise_session.specs.Taking.{Judges}
 use Rattle.noise_session.specs.Taking.Judges.{accepted, refused, opened, dropped, exhausted}
 use Rattle.noise_session.specs.Exactly.{Encodes, AcceptedExactly}
 use Rattle.noise_conversation.specs.Exactly.{IsDropped, IsExhausted, ToldExactly, Answers, ReadExactly}
+use Rattle.std.proofs.lemmas.Bool.{eqb-true}
 
 -- ---- an open end has seen all messages of its handshake
-
-same-is : (a b : ℕ) → (a == b) ≡ true → a ≡ b
-same-is a b e = grind (arith, nat_tests)
 
 open-by : (ended done : Bool) (role : Role) (one_way : Bool) (sent received : ℕ) (pattern : Plan) (passed : ℕ)
     → IsTrue (is_open (if ended then Closed role else if done then Open role one_way sent received else Handshaking pattern role passed)) → done ≡ true
@@ -36,7 +33,7 @@ open-by false false role one_way sent received pattern passed h = cc
 
 pub open-passed : (v : EndView) → IsTrue (is_open (progress_of v)) → v.party.passed ≡ length v.party.pattern.messages
 open-passed v opens =
-    same-is v.party.passed (length v.party.pattern.messages)
+    eqb-true v.party.passed (length v.party.pattern.messages)
     (open-by v.party.ended (v.party.passed == length v.party.pattern.messages) v.party.role
     (is_one_way v.party.pattern) v.sent v.received v.party.pattern v.party.passed opens)
 

@@ -10,33 +10,18 @@ use Rattle.noise_names.specs.Overhead.{overhead_of}
 use Rattle.noise_session.specs.Transport.{last_nonce}
 use Rattle.noise_duel.specs.Conversation.{InTurn, notes_of_lines}
 use Rattle.noise_conversation.specs.Lines.{line_fits, lines_fit_from, untaken}
-
-left-true : (a b : Bool) → (a && b) ≡ true → a ≡ true
-left-true true b h = refl
-left-true false b h = absurd (cc)
-
-right-true : (a b : Bool) → (a && b) ≡ true → b ≡ true
-right-true true b h = h
-right-true false b h = absurd (cc)
+use Rattle.std.proofs.lemmas.Bool.{and_parts, ltb-true}
+use Rattle.noise_names.specs.Roles.{same_role-true}
 
 pick : (b x y : Bool) (P Q : Type 0) → (x ≡ true → P) → (y ≡ true → Q) → (if b then x else y) ≡ true → MatchBool b P Q
 pick true x y P Q f g h = f h
 pick false x y P Q f g h = g h
 
-is-role : (a b : Role) → same_role a b ≡ true → a ≡ b
-is-role Initiator Initiator h = refl
-is-role Initiator Responder h = absurd (cc)
-is-role Responder Initiator h = absurd (cc)
-is-role Responder Responder h = refl
-
 le-true : (m n : ℕ) → nat_le m n ≡ true → m ≤ n
 le-true m n h = grind (arith, nat_tests)
 
-lt-true : (m n : ℕ) → nat_lt m n ≡ true → m < n
-lt-true m n h = grind (arith, nat_tests)
-
 one-way-role : (one_way : Bool) (role : Role) → (not one_way || same_role role Initiator) ≡ true → IsTrue one_way → role ≡ Initiator
-one-way-role true role h k = is-role role Initiator h
+one-way-role true role h k = same_role-true role Initiator h
 one-way-role false role h k = absurd (cc)
 
 line-fits : (p : Plan) (n : ℕ) (l : Role × List ℕ) → line_fits p n l.0 (length l.1) ≡ true
@@ -45,18 +30,18 @@ line-fits : (p : Plan) (n : ℕ) (l : Role × List ℕ) → line_fits p n l.0 (l
     ((IsTrue (is_one_way p) → l.0 ≡ Initiator) × (length l.1 ≤ 65519) × (n < last_nonce))
 line-fits p n l h =
     pick (nat_lt n (length p.messages)) _ _ _ _
-    (λ e. (is-role l.0 (turn_from Initiator n) (left-true _ _ e), le-true _ _ (right-true (same_role l.0 (turn_from Initiator n)) _ e)))
-    (λ e. let front = left-true ((not (is_one_way p) || same_role l.0 Initiator) && nat_le (length l.1) 65519) (nat_lt n last_nonce) e in (
-      one-way-role (is_one_way p) l.0 (left-true _ _ front),
-      le-true _ _ (right-true (not (is_one_way p) || same_role l.0 Initiator) _ front),
-      lt-true _ _ (right-true ((not (is_one_way p) || same_role l.0 Initiator) && nat_le (length l.1) 65519) (nat_lt n last_nonce) e),
+    (λ e. (same_role-true l.0 (turn_from Initiator n) (and_parts _ _ e).0, le-true _ _ (and_parts (same_role l.0 (turn_from Initiator n)) _ e).1))
+    (λ e. let front = (and_parts ((not (is_one_way p) || same_role l.0 Initiator) && nat_le (length l.1) 65519) (nat_lt n last_nonce) e).0 in (
+      one-way-role (is_one_way p) l.0 (and_parts _ _ front).0,
+      le-true _ _ (and_parts (not (is_one_way p) || same_role l.0 Initiator) _ front).1,
+      ltb-true _ _ (and_parts ((not (is_one_way p) || same_role l.0 Initiator) && nat_le (length l.1) 65519) (nat_lt n last_nonce) e).1,
     )) h
 
 pub in-turn : (p : Plan) (n : ℕ) (lines : List (Role × List ℕ)) → lines_fit_from p n lines ≡ true → InTurn p n lines
 in-turn p n [] h = tt
 in-turn p n (l ∷ lines) h = (
-  line-fits p n l (left-true (line_fits p n l.0 (length l.1)) (lines_fit_from p (n + 1) lines) h),
-  in-turn p (n + 1) lines (right-true (line_fits p n l.0 (length l.1)) (lines_fit_from p (n + 1) lines) h),
+  line-fits p n l (and_parts (line_fits p n l.0 (length l.1)) (lines_fit_from p (n + 1) lines) h).0,
+  in-turn p (n + 1) lines (and_parts (line_fits p n l.0 (length l.1)) (lines_fit_from p (n + 1) lines) h).1,
 )
 
 -- nothing is left over of lines that come through

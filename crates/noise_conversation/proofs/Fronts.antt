@@ -1,7 +1,6 @@
 -- What a report tells of payloads and keys, from what agreement says of the run.
 use Rattle.std.proofs.Common.{◌≡◌, ℕ, ◌+◌, List, [], ◌∷◌, ◌++◌, length, map, take, drop, refl, ap, sym, subst, ◌∙◌, arith, inl, inr, append_assoc, length-append, Option, Some, None}
 use Rattle.std.proofs.Math.Seq.{take-append-add}
-use Rattle.std.proofs.lemmas.Bool.Decides.{nat_tests}
 use Rattle.std.proofs.lemmas.List.{length-map}
 use Rattle.std.proofs.lemmas.Option.{slice_get-map}
 use Rattle.std.specs.Prelude.{Bool, true, false, suc, slice_get, option_map, if◌then◌else◌, ◌==◌}
@@ -28,6 +27,7 @@ use Rattle.noise_conversation.specs.Entries.{turns_of, ForgedFrame, FrontOrForge
 use Rattle.noise_conversation.specs.Payloads.{own_payloads, told_to, written_by}
 use Rattle.noise_conversation.proofs.Payloads.{Kept, ends-kept, payloads-are-told}
 use Rattle.noise_conversation.proofs.Places.{placed}
+use Rattle.std.proofs.lemmas.Bool.{eqb-true}
 
 -- ---- lists
 
@@ -147,16 +147,13 @@ module _ (r : History) (writer : Role) (interval opening : ℕ) (frames mine own
 
 -- ---- both ends
 
-same-is : (a b : ℕ) → (a == b) ≡ true → a ≡ b
-same-is a b e = grind (arith, nat_tests)
-
 -- an end that tells a hash has seen all messages
 hashed : (v : EndView) (h : List ℕ) → session_hash v ≡ Some h → v.party.passed ≡ length v.party.pattern.messages
 hashed v h e = by (v.party.passed == length v.party.pattern.messages) refl e
   where
     by : (b : Bool) → (v.party.passed == length v.party.pattern.messages) ≡ b → (if b then Some (hash v.party.history) else None) ≡ Some h
         → v.party.passed ≡ length v.party.pattern.messages
-    by true f g = same-is v.party.passed (length v.party.pattern.messages) f
+    by true f g = eqb-true v.party.passed (length v.party.pattern.messages) f
     by false f g = absurd (cc)
 
 all-passed : (p : Plan) (role : Role) (s : Side) (h : List ℕ) → Kept p role s → session_hash s.view ≡ Some h → length s.passed ≡ length p.messages

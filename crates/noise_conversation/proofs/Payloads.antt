@@ -33,6 +33,7 @@ use Rattle.noise_duel.specs.Runs.Run.{ends as run_ends, begins}
 use Rattle.noise_duel.specs.Sides.{TransportMessage, Side, Sides, new_side, with_view, wrote_handshake, accepted_handshake, wrote_transport, accepted_transport}
 use Rattle.noise_conversation.specs.Payloads.{about, payload_told, payload_given, was_written, done_of, own_payloads, PayloadsAreTold}
 use Rattle.noise_conversation.proofs.Exactly.{none-due}
+use Rattle.noise_names.specs.Roles.{same_role-self, same_role-other, other-same_role}
 
 -- ---- lists
 
@@ -62,18 +63,6 @@ own-more role n (q ∷ qs) p =
     ap (λ (ms : List (List ℕ)). one ++ ms) (own-more role (n + 1) qs p)
     ∙ ap (λ (k : ℕ). one ++ (own_payloads role (n + 1) qs ++ (if same_role (turn_from Initiator k) role then p.payload ∷ [] else []))) same
     ∙ sym (append_assoc one (own_payloads role (n + 1) qs) (if same_role (turn_from Initiator (n + length (q ∷ qs))) role then p.payload ∷ [] else []))
-
-same-self : (r : Role) → same_role r r ≡ true
-same-self Initiator = refl
-same-self Responder = refl
-
-same-other : (r : Role) → same_role (other r) r ≡ false
-same-other Initiator = refl
-same-other Responder = refl
-
-other-same : (r : Role) → same_role r (other r) ≡ false
-other-same Initiator = refl
-other-same Responder = refl
 
 -- ---- one end
 
@@ -151,10 +140,10 @@ module _ (plan : Plan) (role : Role) where
         record {
           kept = record { role_is = k.role_is; pattern_is = k.pattern_is; count = counted q; unsent = λ h. none; unheard = λ h. k.unheard more };
           even = refl;
-          written = ap (λ (z : List (List ℕ)). z ++ contents s.sent) (due-by role role true q (turn ∙ k.role_is) (same-self role))
+          written = ap (λ (z : List (List ℕ)). z ++ contents s.sent) (due-by role role true q (turn ∙ k.role_is) (same_role-self role))
               ∙ moved own (q.payload ∷ []) (contents s.sent) (ap contents none);
           heard = ap (λ (z : List (List ℕ)). z ++ contents s.received)
-              (due-by (other role) role false q (turn ∙ k.role_is) (other-same role) ∙ append-nil their)
+              (due-by (other role) role false q (turn ∙ k.role_is) (other-same_role role) ∙ append-nil their)
               ∙ sym (append-nil (theirs s));
         }
 
@@ -168,10 +157,10 @@ module _ (plan : Plan) (role : Role) where
           kept = record { role_is = k.role_is; pattern_is = k.pattern_is; count = counted q; unsent = λ h. k.unsent more; unheard = λ h. none };
           even = refl;
           written = ap (λ (z : List (List ℕ)). z ++ contents s.sent)
-              (due-by role (other role) false q (turn ∙ ap other k.role_is) (same-other role) ∙ append-nil own)
+              (due-by role (other role) false q (turn ∙ ap other k.role_is) (same_role-other role) ∙ append-nil own)
               ∙ sym (append-nil (mine s));
           heard = ap (λ (z : List (List ℕ)). z ++ contents s.received)
-              (due-by (other role) (other role) true q (turn ∙ ap other k.role_is) (same-self (other role)))
+              (due-by (other role) (other role) true q (turn ∙ ap other k.role_is) (same_role-self (other role)))
               ∙ moved their (q.payload ∷ []) (contents s.received) (ap contents none);
         }
 

@@ -11,6 +11,7 @@ use Rattle.noise_session.specs.Steps.Told.{Ended, YourTurn, Silent, More, Payloa
 use Rattle.noise_duel.specs.Notes.{Note, Wrote, WriteFault, Judged, Left, Missing, Held}
 use Rattle.noise_conversation.specs.Entries.{IsPayloadAt}
 use Rattle.noise_conversation.specs.Payloads.{about, payload_told, told_to}
+use Rattle.std.proofs.lemmas.Option.{same_Some}
 
 -- what one note tells a role
 abbrev told_by : Role → Role × Note → List (List ℕ)
@@ -63,9 +64,6 @@ one-or-none Responder Initiator note = inl refl
 none-some : {X : Type 0} (x : X) → None ≡ Some x → ⊥
 none-some x e = cc
 
-some-same : {X : Type 0} (x y : X) → Some x ≡ Some y → x ≡ y
-some-same x y e = cc
-
 -- past a note that is no payload
 past : (role : Role) (n : Role × Note) (notes : List (Role × Note)) (i : ℕ) (payload : List ℕ) → told_by role n ≡ []
     → ((place : ℕ) × IsPayloadAt role notes i place payload) → (place : ℕ) × IsPayloadAt role (n ∷ notes) i place payload
@@ -95,7 +93,7 @@ placed role (n ∷ notes) zero payload e = elim (one-or-none role n.0 n.1) [
     zero,
     record {
       entry = ap Some one.1 ∙ ap (λ (z : List ℕ). Some (role, Judged (Payload z)))
-          (some-same one.0 payload (sym (ap (λ (z : List (List ℕ)). slice_get z zero) (told-one role n notes one.0 one.2)) ∙ e));
+          (same_Some one.0 payload (sym (ap (λ (z : List (List ℕ)). slice_get z zero) (told-one role n notes one.0 one.2)) ∙ e));
       before = refl;
     },
   )

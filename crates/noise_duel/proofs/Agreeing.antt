@@ -23,9 +23,9 @@ use Rattle.noise_duel.specs.Agreement.{KeysAgree, Knows}
 use Rattle.noise_duel.proofs.HashedTexts.{Alike}
 use Rattle.noise_duel.proofs.HashedMessages.{AreLines, AllAlike}
 use Rattle.noise_duel.proofs.Forward.{SecretAt, SecretsFit, UseSecrets, message-same}
-
-cons-same : {X : Type 0} (x y : X) (xs ys : List X) → x ≡ y → xs ≡ ys → (x ∷ xs) ≡ (y ∷ ys)
-cons-same x y xs ys e f = cc
+use Rattle.std.proofs.lemmas.Option.{same_Some}
+use Rattle.noise_names.specs.Roles.{same_role-self, same_role-other}
+use Rattle.noise_names.specs.Lists.{cons-same}
 
 -- ---- what a party's texts are, whether it wrote them or not
 
@@ -95,23 +95,15 @@ fit-uses v own known secrets (t ∷ ts) [] h = tt
 fit-uses v own known secrets (t ∷ ts) (x ∷ xs) h =
     (fits-uses v own known secrets t x h.0, fit-uses v own (known_after known t x) (secrets_after secrets t) ts xs h.1)
 
-pub same-self : (r : Role) → same_role r r ≡ true
-same-self Initiator = refl
-same-self Responder = refl
-
-pub same-other : (r : Role) → same_role (other r) r ≡ false
-same-other Initiator = refl
-same-other Responder = refl
-
 pub passes-uses : (v w : View) (ps : List HandshakeMessage) → Exchanged v ps w → UsesAll v.pattern v.role v.own v.agree v.passed v.remote ps
 passes-uses v w [] (none _) = tt
 passes-uses v w (p ∷ ps) (wrote _ _ _ _ here more) =
-    let mine : writes_now v.role v.passed ≡ true = ap (λ (r : Role). same_role r v.role) here.speaks.turn ∙ same-self v.role in
+    let mine : writes_now v.role v.passed ≡ true = ap (λ (r : Role). same_role r v.role) here.speaks.turn ∙ same_role-self v.role in
     subst (λ (b : Bool). Uses b v.role v.own v.agree v.remote (tokens_now v) p.carried
     × UsesAll v.pattern v.role v.own v.agree (v.passed + 1) (known_after_all b v.remote (tokens_now v) p.carried) ps) (sym mine)
     (given-uses (writer v) v.remote v.secrets (tokens_now v) p.carried here.given, passes-uses (after_own v p.carried p.payload) w ps more)
 passes-uses v w (p ∷ ps) (took _ _ _ _ here more) =
-    let mine : writes_now v.role v.passed ≡ false = ap (λ (r : Role). same_role r v.role) here.listens.turn ∙ same-other v.role in
+    let mine : writes_now v.role v.passed ≡ false = ap (λ (r : Role). same_role r v.role) here.listens.turn ∙ same_role-other v.role in
     subst (λ (b : Bool). Uses b v.role v.own v.agree v.remote (tokens_now v) p.carried
     × UsesAll v.pattern v.role v.own v.agree (v.passed + 1) (known_after_all b v.remote (tokens_now v) p.carried) ps) (sym mine)
     (fit-uses (reader v) v.own v.remote v.secrets (tokens_now v) p.carried here.reads.fit, passes-uses (after_message v p.carried p.payload) w ps more)
@@ -147,10 +139,7 @@ module _ (a b : Start) (agrees : KeysAgree a b) where
       → answered a.agree x known ≡ Some s → answered b.agree y other ≡ Some t → s ≡ t
   dh-same x y None other s t f g h i = cc
   dh-same x y (Some k) None s t f g h i = cc
-  dh-same x y (Some k) (Some l) s t f g h i = some-same s t (sym h ∙ agrees x y l k (g l refl) (f k refl) ∙ i)
-    where
-      some-same : (s t : List ℕ) → Some s ≡ Some t → s ≡ t
-      some-same s t e = cc
+  dh-same x y (Some k) (Some l) s t f g h i = same_Some s t (sym h ∙ agrees x y l k (g l refl) (f k refl) ∙ i)
 
   module _ (psks : Bool) where
     text-same : (mine : Bool) (ka kb : Remote) (secrets : List (List ℕ)) (r : History) (t : Token) (x y : List ℕ) → Knows ka b.own → Knows kb a.own
@@ -179,8 +168,8 @@ module _ (a b : Start) (agrees : KeysAgree a b) where
     -- after one token more
     wider : (mine : Bool) (ka kb : Remote) (t : Token) (ts : List Token) (x y : List ℕ) (xs ys : List (List ℕ)) → x ≡ y
         → Same mine (known_next mine ka t x) (known_next (not mine) kb t y) ts xs ys → Same mine ka kb (t ∷ ts) (x ∷ xs) (y ∷ ys)
-    wider true ka kb t ts x y xs ys e h = record { texts = cons-same x y xs ys e h.texts; left = h.left; right = h.right }
-    wider false ka kb t ts x y xs ys e h = record { texts = cons-same x y xs ys e h.texts; left = h.left; right = h.right }
+    wider true ka kb t ts x y xs ys e h = record { texts = cons-same e h.texts; left = h.left; right = h.right }
+    wider false ka kb t ts x y xs ys e h = record { texts = cons-same e h.texts; left = h.left; right = h.right }
 
     front-agree : (mine : Bool) (ka kb : Remote) (secrets : List (List ℕ)) (r : History) (ts : List Token) (xs ys : List (List ℕ)) → Knows ka b.own
         → Knows kb a.own
@@ -227,7 +216,7 @@ module _ (a b : Start) (agrees : KeysAgree a b) where
       let one : x ≡ y = message-same x y message here.texts payload in
       let after : after_payload (has_psk p) r ts x.carried x.payload ≡ after_payload (has_psk p) r ts y.carried y.payload =
       ap (λ (z : HandshakeMessage). after_payload (has_psk p) r ts z.carried z.payload) one in
-      cons-same x y xs ys one
+      cons-same one
       (all-agree p (n + 1) (known_after_all mine ka ts x.carried) (known_after_all (not mine) kb ts y.carried) (drop (count_by is_psk ts) secrets)
       (after_payload (has_psk p) r ts x.carried x.payload) xs ys
       here.left here.right u.1 turned.1 m.1 k.1 c.1

@@ -1,27 +1,11 @@
 -- A chain of hashes: where two of one length and one start end alike, they hashed the same, or two of their texts collide.
-use Rattle.std.proofs.Common.{◌≡◌, ◌≢◌, ℕ, zero, suc, List, [], ◌∷◌, ◌++◌, length, refl, ap, sym, subst, take, drop, ◌∙◌, arith, inl, inr, ◌⊎◌, slice_get}
+use Rattle.std.proofs.Common.{◌≡◌, ◌≢◌, ℕ, List, [], ◌∷◌, ◌++◌, length, refl, sym, subst, ◌∙◌, arith, inl, inr, ◌⊎◌, slice_get}
 use Rattle.std.proofs.Common.{Some, length-append}
-use Rattle.std.proofs.Math.Seq.{take-append_seam, drop-append_seam}
 use Rattle.std.proofs.lemmas.Bool.Decides.{eqb_tells}
 use Rattle.sha2.specs.Sha256.{sha256}
 use Rattle.sha2.proofs.Facts256.{length-sha256}
 use Rattle.noise_duel.specs.Collision.{CollisionAt}
-
--- two texts that begin with parts of one length
-pub split-apart : (a b p q : List ℕ) → length a ≡ length b → a ++ p ≡ b ++ q → (a ≡ b) × (p ≡ q)
-split-apart a b p q n e = (
-  sym (take-append_seam a p) ∙ ap (take (length a)) e ∙ ap (λ (k : ℕ). take k (b ++ q)) n ∙ take-append_seam b q,
-  sym (drop-append_seam a p) ∙ ap (drop (length a)) e ∙ ap (λ (k : ℕ). drop k (b ++ q)) n ∙ drop-append_seam b q,
-)
-
-heads : {X : Type 0} (x y : X) (xs ys : List X) → (x ∷ xs) ≡ (y ∷ ys) → x ≡ y
-heads x y xs ys e = cc
-
-tails : {X : Type 0} (x y : X) (xs ys : List X) → (x ∷ xs) ≡ (y ∷ ys) → xs ≡ ys
-tails x y xs ys e = cc
-
-cons-same : {X : Type 0} (x y : X) (xs ys : List X) → x ≡ y → xs ≡ ys → (x ∷ xs) ≡ (y ∷ ys)
-cons-same x y xs ys e f = cc
+use Rattle.noise_names.specs.Lists.{heads, tails, split-apart, get-front, get-last, cons-same}
 
 -- two texts are the same or not
 pub same-or : (xs ys : List ℕ) → (xs ≡ ys) ⊎ (xs ≢ ys)
@@ -31,7 +15,7 @@ same-or (x ∷ xs) [] = inr (λ e. cc)
 same-or (x ∷ xs) (y ∷ ys) = elim (eqb_tells x y) [ inl h ↦ after h.1 (same-or xs ys) | inr h ↦ inr (λ e. h.1 (heads x y xs ys e)) ]
   where
     after : x ≡ y → (xs ≡ ys) ⊎ (xs ≢ ys) → ((x ∷ xs) ≡ (y ∷ ys)) ⊎ ((x ∷ xs) ≢ (y ∷ ys))
-    after e (inl f) = inl (cons-same x y xs ys e f)
+    after e (inl f) = inl (cons-same e f)
     after e (inr f) = inr (λ g. f (tails x y xs ys g))
 
 abbrev pub chained : List ℕ → List (List ℕ) → List ℕ
@@ -50,23 +34,12 @@ length-texts : (start : List ℕ) (xs : List (List ℕ)) → length (chain_texts
 length-texts start [] = refl
 length-texts start (x ∷ xs) = length-append (chain_texts start xs) ((chained start xs ++ x) ∷ []) ∙ omega (arith, length-texts start xs)
 
--- the last of a list
-get-last : {X : Type 0} (xs : List X) (x : X) → slice_get (xs ++ x ∷ []) (length xs) ≡ Some x
-get-last [] x = refl
-get-last (y ∷ xs) x = get-last xs x
-
--- what stands in a list stands in a longer one
-pub get-longer : {X : Type 0} (xs ys : List X) (i : ℕ) (x : X) → slice_get xs i ≡ Some x → slice_get (xs ++ ys) i ≡ Some x
-get-longer [] ys i x h = cc
-get-longer (y ∷ xs) ys zero x h = h
-get-longer (y ∷ xs) ys (suc i) x h = get-longer xs ys i x h
-
 pub collision-longer : (a b more others : List (List ℕ)) (i : ℕ) → CollisionAt a b i → CollisionAt (a ++ more) (b ++ others) i
 collision-longer a b more others i c = record {
   left = c.left;
   right = c.right;
-  at_left = get-longer a more i c.left c.at_left;
-  at_right = get-longer b others i c.right c.at_right;
+  at_left = get-front a more i c.left c.at_left;
+  at_right = get-front b others i c.right c.at_right;
   differ = c.differ;
   same = c.same;
 }
@@ -97,7 +70,7 @@ chains-alike start (x ∷ xs) (y ∷ ys) long n e = go (same-or (chained start x
     go (inl same) older =
         let apart = split-apart (chained start xs) (chained start ys) x y (length-chained start xs long ∙ sym (length-chained start ys long)) same in
         elim (older apart.0) [
-          | inl rest ↦ inl (cons-same x y xs ys apart.1 rest)
+          | inl rest ↦ inl (cons-same apart.1 rest)
           | inr c ↦ inr (
             c.0,
             collision-longer (chain_texts start xs) (chain_texts start ys) ((chained start xs ++ x) ∷ []) ((chained start ys ++ y) ∷ []) c.0

@@ -1,24 +1,13 @@
 -- The first position at which two histories clash.
-use Rattle.std.proofs.Common.{◌≡◌, ◌≢◌, ◌≤◌, ◌+◌, ℕ, zero, suc, List, [], ◌∷◌, refl, ap, sym, subst, ◌∙◌, arith, ◌⊎◌, inl, inr, slice_get}
-use Rattle.std.specs.Prelude.{Bool, true, false, not, ◌&&◌, Option, Some, None, if◌then◌else◌, bytes_eq}
+use Rattle.std.proofs.Common.{◌≡◌, ◌≢◌, ◌≤◌, ◌+◌, ℕ, zero, suc, List, [], ◌∷◌, refl, ap, sym, subst, ◌∙◌, arith, inl, inr}
+use Rattle.std.specs.Prelude.{Bool, true, false, not, Some, if◌then◌else◌, bytes_eq}
 use Rattle.std.proofs.lemmas.Slice.Eq.{bytes_eq-Decides}
 use Rattle.sha2.specs.Sha256.{sha256}
-use Rattle.noise_state.specs.History.{History}
 use Rattle.noise_duel.specs.Clash.{clash, first_clash, clash_position, ClashStands, ClashFound, ClashTold}
-use Rattle.noise_duel.specs.Collision.{hash_texts, CollisionAt, Collision}
+use Rattle.noise_duel.specs.Collision.{hash_texts, CollisionAt}
 use Rattle.noise_duel.specs.Networks.{HashesTell}
-
-left-true : (a b : Bool) → (a && b) ≡ true → a ≡ true
-left-true true b h = refl
-left-true false b h = absurd (cc)
-
-right-true : (a b : Bool) → (a && b) ≡ true → b ≡ true
-right-true true b h = h
-right-true false b h = absurd (cc)
-
-both-true : (a b : Bool) → a ≡ true → b ≡ true → (a && b) ≡ true
-both-true true b e f = f
-both-true false b e f = absurd (cc)
+use Rattle.std.proofs.lemmas.Bool.{and_parts, and_from}
+use Rattle.std.proofs.lemmas.Option.{same_Some}
 
 not-both : (b : Bool) → not b ≡ true → b ≡ true → ⊥
 not-both true e f = cc
@@ -29,18 +18,15 @@ not-true true f = absurd (f refl)
 not-true false f = refl
 
 clash-differs : (x y : List ℕ) → clash x y ≡ true → x ≢ y
-clash-differs x y h e = not-both (bytes_eq x y) (left-true (not (bytes_eq x y)) (bytes_eq (sha256 x) (sha256 y)) h) ((bytes_eq-Decides x y).1 e)
+clash-differs x y h e = not-both (bytes_eq x y) (and_parts (not (bytes_eq x y)) (bytes_eq (sha256 x) (sha256 y)) h).0 ((bytes_eq-Decides x y).1 e)
 
 clash-same : (x y : List ℕ) → clash x y ≡ true → sha256 x ≡ sha256 y
-clash-same x y h = (bytes_eq-Decides (sha256 x) (sha256 y)).0 (right-true (not (bytes_eq x y)) (bytes_eq (sha256 x) (sha256 y)) h)
+clash-same x y h = (bytes_eq-Decides (sha256 x) (sha256 y)).0 (and_parts (not (bytes_eq x y)) (bytes_eq (sha256 x) (sha256 y)) h).1
 
 is-clash : (x y : List ℕ) → x ≢ y → sha256 x ≡ sha256 y → clash x y ≡ true
 is-clash x y f e =
-    both-true (not (bytes_eq x y)) (bytes_eq (sha256 x) (sha256 y)) (not-true (bytes_eq x y) (λ t. f ((bytes_eq-Decides x y).0 t)))
+    and_from (not (bytes_eq x y)) (bytes_eq (sha256 x) (sha256 y)) (not-true (bytes_eq x y) (λ t. f ((bytes_eq-Decides x y).0 t)))
     ((bytes_eq-Decides (sha256 x) (sha256 y)).1 e)
-
-same-some : (m n : ℕ) → Some m ≡ Some n → m ≡ n
-same-some m n e = cc
 
 later : (x y : List ℕ) (xs ys : List (List ℕ)) (k : ℕ) → CollisionAt xs ys k → CollisionAt (x ∷ xs) (y ∷ ys) (suc k)
 later x y xs ys k c = record { left = c.left; right = c.right; at_left = c.at_left; at_right = c.at_right; differ = c.differ; same = c.same }
@@ -52,7 +38,7 @@ stands-by : (b : Bool) (n i : ℕ) (x y : List ℕ) (xs ys : List (List ℕ)) �
     → (if b then Some n else first_clash (n + 1) xs ys) ≡ Some i → (first_clash (n + 1) xs ys ≡ Some i → StandsFrom (n + 1) i xs ys)
     → StandsFrom n i (x ∷ xs) (y ∷ ys)
 stands-by true n i x y xs ys c e more =
-    let here : n ≡ i = same-some n i e in
+    let here : n ≡ i = same_Some n i e in
     (0, omega arith, record { left = x; right = y; at_left = refl; at_right = refl; differ = clash-differs x y c; same = clash-same x y c })
 stands-by false n i x y xs ys c e more =
     let r = more e in

@@ -14,22 +14,13 @@ use Rattle.noise_handshake.specs.Length.{Carry, Carries}
 use Rattle.noise_handshake.specs.View.{View, secrets_after, tokens_at, with_premessage}
 use Rattle.noise_handshake.specs.Party.{after_own, after_message}
 use Rattle.noise_handshake.specs.Setup.{public_keys}
-use Rattle.noise_duel.proofs.Chain.{split-apart}
 use Rattle.noise_duel.specs.Below.{LawsBelow}
 use Rattle.noise_duel.specs.Messages.{HandshakeMessage, Exchanged, begun_as, answers, answers_from, messages_of}
 use Rattle.noise_duel.specs.Messages.Exchanged.{none, wrote, took}
 use Rattle.noise_duel.specs.Agreement.{VisiblyEqualIsOne}
 use Rattle.noise_duel.proofs.HashedMessages.{after_all, AreLines, passes-lines}
 use Rattle.noise_duel.proofs.Forward.{SecretAt, SecretsFit, UseSecrets, passes-secrets, message-same, pre-same}
-
-heads : {X : Type 0} (x y : X) (xs ys : List X) → (x ∷ xs) ≡ (y ∷ ys) → x ≡ y
-heads x y xs ys e = cc
-
-tails : {X : Type 0} (x y : X) (xs ys : List X) → (x ∷ xs) ≡ (y ∷ ys) → xs ≡ ys
-tails x y xs ys e = cc
-
-cons-same : {X : Type 0} (x y : X) (xs ys : List X) → x ≡ y → xs ≡ ys → (x ∷ xs) ≡ (y ∷ ys)
-cons-same x y xs ys e f = cc
+use Rattle.noise_names.specs.Lists.{heads, tails, split-apart, cons-same}
 
 -- each message carries keys of 32 bytes
 abbrev pub AllCarry : Plan → ℕ → List HandshakeMessage → Type 0
@@ -75,7 +66,7 @@ front-equal psks r secrets (t ∷ ts) (x ∷ xs) (y ∷ ys) p q others rest c d 
     (sym (append_assoc (token_bytes r t x) a p) ∙ e ∙ append_assoc (token_bytes r t y) b q) in
     let later = front-equal psks (after_token psks r t x) (secrets_after secrets t) ts xs ys p q others rest c.1 d.1 f.1 g.1 here.2
     (here.1 ∙ ap (λ (z : List ℕ). before_payload psks (after_token psks r t z) ts ys ++ q) (sym here.0)) in
-    (cons-same x y xs ys here.0 later.0, later.1, later.2)
+    (cons-same here.0 later.0, later.1, later.2)
 
 all-equal : (p : Plan) (n : ℕ) (r : History) (secrets : List (List ℕ)) (ps qs : List HandshakeMessage) → messages_of ps ≡ messages_of qs → AllCarry p n ps
     → AllCarry p n qs
@@ -95,7 +86,7 @@ all-equal p n r secrets (m ∷ ms) (q ∷ qs) a k l b c f g h =
     let one : m ≡ q = message-same m q bytes here.0 payload in
     let after : after_payload (has_psk p) r ts m.carried m.payload ≡ after_payload (has_psk p) r ts q.carried q.payload =
     ap (λ (z : HandshakeMessage). after_payload (has_psk p) r ts z.carried z.payload) one in
-    cons-same m q ms qs one
+    cons-same one
     (all-equal p (n + 1) (after_payload (has_psk p) r ts m.carried m.payload) (drop (count_by is_psk ts) secrets) ms qs
     (tails m.message q.message (messages_of ms) (messages_of qs) a) k.1 l.1 b.1
     (subst (λ (s : History). AreLines p (n + 1) s qs) (sym after) c.1) f.1 g.1 here.2)

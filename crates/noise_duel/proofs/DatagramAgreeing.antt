@@ -33,6 +33,7 @@ use Rattle.noise_duel.proofs.Chain.{same-or}
 use Rattle.noise_duel.proofs.Invariant.{ends-stand}
 use Rattle.noise_duel.proofs.Networks.{passes-role}
 use Rattle.noise_duel.proofs.Prefixes.{packet-same}
+use Rattle.std.proofs.lemmas.Option.{same_Some}
 
 -- ---- what is opened is the packet of a nonce that wasn't accepted
 no-fault : {X : Type 0} (b : Bool) (x : X) (rest : Option X) → (if b then Some x else rest) ≡ None → (b ≡ false) × (rest ≡ None)
@@ -149,9 +150,6 @@ hold-run r d last events notes (begins _ next _ event more note rest now run) h 
     hold-run r next last more rest run (hold-happened r d next event note now h)
 
 -- ---- the message of a nonce
-some-same : {X : Type 0} (x y : X) → Some x ≡ Some y → x ≡ y
-some-same x y e = cc
-
 none-some : {X : Type 0} (x : X) → None ≡ Some x → ⊥
 none-some x e = cc
 
@@ -180,7 +178,7 @@ module _ (r : History) (writer : Role) where
   counted-at n k [] w h e = absurd (none-some w e)
   counted-at n zero (m ∷ ms) w h e =
       let here : m.nonce ≡ n + 0 = h.0 ∙ omega arith in
-      let same : m.message ≡ w = some-same m.message w (sym (first-of m ms (n + 0) here) ∙ e) in (
+      let same : m.message ≡ w = same_Some m.message w (sym (first-of m ms (n + 0) here) ∙ e) in (
         ap Some (same-nonce m (n + 0) w here same),
         subst (λ (z : TransportMessage). z.message ≡ packet r writer 0 (n + 0) z.payload) same
             (subst (λ (i : ℕ). m.message.message ≡ packet r writer 0 i m.message.payload) (omega arith) h.1),
@@ -197,7 +195,7 @@ module _ (r : History) (writer : Role) where
       → w.message ≡ packet r writer 0 n w.payload
   at-nonces-at [] n w h e = absurd (none-some w e)
   at-nonces-at (m ∷ ms) n w h e = elim (eqb_tells m.nonce n) [
-    | inl y ↦ subst (λ (z : TransportMessage). z.message ≡ packet r writer 0 n z.payload) (some-same m.message w (sym (first-of m ms n y.1) ∙ e))
+    | inl y ↦ subst (λ (z : TransportMessage). z.message ≡ packet r writer 0 n z.payload) (same_Some m.message w (sym (first-of m ms n y.1) ∙ e))
         (subst (λ (i : ℕ). m.message.message ≡ packet r writer 0 i m.message.payload) y.1 h.0)
     | inr y ↦ at-nonces-at ms n w h.1 (sym (later-of m ms n y.1) ∙ e)
   ]
@@ -226,7 +224,7 @@ module _ (r : History) (writer : Role) where
             | inr differ ↦ inr (record {
               forged = m;
               came = e;
-              unwritten = λ x here same. differ (ap (λ (z : TransportMessage). z.message) (some-same w x (sym there ∙ here)) ∙ same);
+              unwritten = λ x here same. differ (ap (λ (z : TransportMessage). z.message) (same_Some w x (sym there ∙ here)) ∙ same);
               packet_at = is;
             })
           ]

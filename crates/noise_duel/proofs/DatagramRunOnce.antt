@@ -15,9 +15,7 @@ use Rattle.noise_duel.specs.DatagramRuns.PartyOpens.{opens, rejects}
 use Rattle.noise_duel.specs.DatagramRuns.PartySeals.{seals, seals_nothing}
 use Rattle.noise_duel.specs.DatagramSides.{DatagramSide, DatagramSides, opening, party, with_party}
 use Rattle.noise_duel.proofs.Prefixes.{packet-same}
-
-some-same : {X : Type 0} (x y : X) → Some x ≡ Some y → x ≡ y
-some-same x y e = cc
+use Rattle.std.proofs.lemmas.Option.{same_Some}
 
 some-none : {X : Type 0} (o : Option X) (x : X) → o ≡ Some x → o ≡ None → ⊥
 some-none o x e f = cc
@@ -43,7 +41,7 @@ opens-once v bytes w x p q (opened _ _ a none is) (opened _ _ b also be) =
 opens-once v bytes w x p q (opened _ _ a none is) (refused _ _ why e) = absurd (some-none _ why e none)
 opens-once v bytes w x p q (opened _ _ a none is) (forged _ _ also never) = absurd (never a is)
 opens-once v bytes w x p q (refused _ _ why e) (opened _ _ b none is) = absurd (some-none _ why e none)
-opens-once v bytes w x p q (refused _ _ why e) (refused _ _ because f) = ap refused_as (some-same why because (sym e ∙ f))
+opens-once v bytes w x p q (refused _ _ why e) (refused _ _ because f) = ap refused_as (same_Some why because (sym e ∙ f))
 opens-once v bytes w x p q (refused _ _ why e) (forged _ _ none never) = absurd (some-none _ why e none)
 opens-once v bytes w x p q (forged _ _ none never) (opened _ _ b also is) = absurd (never b is)
 opens-once v bytes w x p q (forged _ _ none never) (refused _ _ why e) = absurd (some-none _ why e none)
@@ -53,7 +51,7 @@ party-seals-once : (s : DatagramSide) (payload : List ℕ) (x y : DatagramSide) 
 party-seals-once s payload x y m n (seals _ _ none) (seals _ _ also) = (refl, refl)
 party-seals-once s payload x y m n (seals _ _ none) (seals_nothing _ _ why e) = absurd (some-none _ why e none)
 party-seals-once s payload x y m n (seals_nothing _ _ why e) (seals _ _ none) = absurd (some-none _ why e none)
-party-seals-once s payload x y m n (seals_nothing _ _ why e) (seals_nothing _ _ because f) = (ap SealFault (some-same why because (sym e ∙ f)), refl)
+party-seals-once s payload x y m n (seals_nothing _ _ why e) (seals_nothing _ _ because f) = (ap SealFault (same_Some why because (sym e ∙ f)), refl)
 
 party-opens-once : (s : DatagramSide) (bytes : List ℕ) (x y : DatagramSide) (m n : DatagramNote) → PartyOpens s bytes m x → PartyOpens s bytes n y → (m ≡ n) × (x ≡ y)
 party-opens-once s bytes x y m n (opens _ _ a o) (opens _ _ b u) =
@@ -71,7 +69,7 @@ happens-once d x y event m n (is_sealed _ role payload note next h) (is_sealed _
     let one = party-seals-once (party d role) payload next after note told h k in
     (ap (λ (z : DatagramNote). (role, z)) one.0, ap (with_party d role) one.1)
 happens-once d x y event m n (is_delivered _ role i bytes note next at h) (is_delivered _ _ _ others told after there k) =
-    let same : bytes ≡ others = some-same bytes others (sym at ∙ there) in
+    let same : bytes ≡ others = same_Some bytes others (sym at ∙ there) in
     let one = party-opens-once (party d role) bytes next after note told h
     (subst (λ (z : List ℕ). PartyOpens (party d role) z told after) (sym same) k) in
     (ap (λ (z : DatagramNote). (role, z)) one.0, ap (with_party d role) one.1)

@@ -32,7 +32,8 @@ use Rattle.noise_duel.specs.Runs.{Happens}
 use Rattle.noise_duel.specs.Conversation.{KeyMaterial, carried_by, packets_of, frames_by}
 use Rattle.noise_duel.proofs.Parts.{HasMaterial, equipped, given-carried, true-answer}
 use Rattle.noise_duel.proofs.Lines.{say-happens}
-use Rattle.noise_duel.proofs.Steps.{HandshakeStep, step-handshake, TransportStep, step-transport, none-below, none-right, below-too, not-both, not-true}
+use Rattle.noise_duel.proofs.Steps.{HandshakeStep, step-handshake, TransportStep, step-transport, below-too, not-both}
+use Rattle.std.proofs.lemmas.Bool.{false_from_ne_true, and_left, and_right}
 
 -- ---- two ends that have come equally far
 
@@ -357,8 +358,8 @@ module _ (w : KeyMaterial) where
       let all_t : u.passed ≡ length u.pattern.messages = there (λ z. z.passed ≡ length z.pattern.messages) all in
       let role_t : u.role ≡ Responder = ap (λ (z : View). z.role) a.counterparts.there ∙ ap other a.role in
       step-transport s t payload all all_t
-      (none-right (is_one_way p) (same_role v.role Responder) (ap (λ (r : Role). same_role r Responder) a.role))
-      (none-right (is_one_way u.pattern) (same_role u.role Initiator) (ap (λ (r : Role). same_role r Initiator) role_t))
+      (and_right (is_one_way p) (same_role v.role Responder) (ap (λ (r : Role). same_role r Responder) a.role))
+      (and_right (is_one_way u.pattern) (same_role u.role Initiator) (ap (λ (r : Role). same_role r Initiator) role_t))
       going going_t short (below-too s.view.sent n last_nonce a.few low) a.came_there (ap (λ (z : View). z.history) a.counterparts.there) a.interval
       (ap other role_t ∙ sym a.role) a.held_there
   transport-at n Responder payload d a over one short low =
@@ -373,10 +374,10 @@ module _ (w : KeyMaterial) where
       let all : v.passed ≡ length p.messages = a.beyond over in
       let all_s : u.passed ≡ length u.pattern.messages = there (λ z. z.passed ≡ length z.pattern.messages) all in
       let role_s : u.role ≡ Responder = ap (λ (z : View). z.role) a.counterparts.there ∙ ap other a.role in
-      let two : is_one_way p ≡ false = not-true (is_one_way p) (λ h. not-both (one h)) in
+      let two : is_one_way p ≡ false = false_from_ne_true (is_one_way p) (λ h. not-both (one h)) in
       let two_s : is_one_way u.pattern ≡ false = there (λ z. is_one_way z.pattern ≡ false) two in
       step-transport s t payload all_s all
-      (none-below (is_one_way u.pattern) (same_role u.role Responder) two_s) (none-below (is_one_way p) (same_role v.role Initiator) two)
+      (and_left (is_one_way u.pattern) (same_role u.role Responder) two_s) (and_left (is_one_way p) (same_role v.role Initiator) two)
       going_s going short (below-too s.view.sent n last_nonce a.few_there low) a.came_back (sym (ap (λ (z : View). z.history) a.counterparts.there))
       (sym a.interval) (ap other a.role ∙ sym role_s) a.held
 

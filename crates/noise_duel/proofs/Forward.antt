@@ -23,15 +23,7 @@ use Rattle.noise_duel.specs.Agreement.{SecretsTell}
 use Rattle.noise_duel.proofs.HashedTexts.{Alike, pre-back}
 use Rattle.noise_duel.proofs.HashedMessages.{after_all, AreLines, AllAlike, passes-lines}
 use Rattle.noise_duel.proofs.HashTells.{SameBytes, bytes-or}
-
-heads : {X : Type 0} (x y : X) (xs ys : List X) → (x ∷ xs) ≡ (y ∷ ys) → x ≡ y
-heads x y xs ys e = cc
-
-tails : {X : Type 0} (x y : X) (xs ys : List X) → (x ∷ xs) ≡ (y ∷ ys) → xs ≡ ys
-tails x y xs ys e = cc
-
-cons-same : {X : Type 0} (x y : X) (xs ys : List X) → x ≡ y → xs ≡ ys → (x ∷ xs) ≡ (y ∷ ys)
-cons-same x y xs ys e f = cc
+use Rattle.noise_names.specs.Lists.{heads, tails, cons-same}
 
 -- ---- secrets
 
@@ -105,7 +97,7 @@ module _ (psks : Bool) where
       let here = token-on r secrets t ts x y xs ys others rest a.0 f.0 g.0 h in
       let later = front-on (after_token psks r t x) (secrets_after secrets t) ts xs ys others rest
       (subst (λ (z : List ℕ). Alike psks (after_token psks r t x) (after_token psks r t z) ts xs ys) (sym here.0) a.1) f.1 g.1 here.1 in
-      (cons-same x y xs ys here.0 later.0, later.1)
+      (cons-same here.0 later.0, later.1)
 
 pub message-same : (m q : HandshakeMessage) → m.message ≡ q.message → m.carried ≡ q.carried → m.payload ≡ q.payload → m ≡ q
 message-same m q e f g =
@@ -133,7 +125,7 @@ all-on p n r secrets (m ∷ ms) (q ∷ qs) a b c f g h =
     let later = all-on p (n + 1) (after_payload (has_psk p) r ts m.carried m.payload) (drop (count_by is_psk ts) secrets) ms qs
     (subst (λ (s : History). AllAlike p (n + 1) (after_payload (has_psk p) r ts m.carried m.payload) s ms qs) (sym after) a.1) b.1
     (subst (λ (s : History). AreLines p (n + 1) s qs) (sym after) c.1) f.1 g.1 here.1 in
-    cons-same m q ms qs one later
+    cons-same one later
 
 -- ---- the start
 

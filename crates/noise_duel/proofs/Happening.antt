@@ -24,6 +24,8 @@ use Rattle.noise_duel.specs.Runs.SideWrites.{writes_handshake, writes_transport}
 use Rattle.noise_duel.specs.Runs.Happens.{writes, says_nothing, says, delivers, misses, injects}
 use Rattle.noise_duel.specs.Runs.Run.{ends, begins}
 use Rattle.noise_duel.specs.Sides.{Side, Sides, side, with_side}
+use Rattle.std.proofs.lemmas.Option.{same_Some}
+use Rattle.noise_names.specs.Lists.{get-last}
 
 -- one entry more
 pub told-more : (before after : List (Role × Entry)) (entry : Role × Entry) → after ≡ before ++ entry ∷ []
@@ -32,14 +34,10 @@ told-more before after entry is = ap notes_of is ∙ map-append (λ (e : Role ×
 
 -- ---- a frame that was written is there
 
-last-there : (fs : List (List ℕ)) (f : List ℕ) → slice_get (fs ++ f ∷ []) (length fs) ≡ Some f
-last-there [] f = refl
-last-there (x ∷ fs) f = last-there fs f
-
 wrote-there : (s next : Side) (payload : List ℕ) (n : ℕ) → SideWrites s payload (Wrote n) next
     → (bytes : List ℕ) × (slice_get next.frames n ≡ Some bytes)
-wrote-there s next payload n (writes_handshake _ message _ xs free w) = (frame message, last-there s.frames (frame message))
-wrote-there s next payload n (writes_transport _ message _ free opens is) = (frame message, last-there s.frames (frame message))
+wrote-there s next payload n (writes_handshake _ message _ xs free w) = (frame message, get-last s.frames (frame message))
+wrote-there s next payload n (writes_transport _ message _ free opens is) = (frame message, get-last s.frames (frame message))
 
 some-none : (o : Option (List ℕ)) (x : List ℕ) → o ≡ Some x → o ≡ None → ⊥
 some-none o x e f = cc
@@ -78,9 +76,6 @@ say-of d e Responder payload n next notes w h =
     (subst (λ (ns : List (Role × Note)). Happens d (Say Responder payload) ((Responder, Wrote n) ∷ ns)
     (with_side (with_side d Responder next) Initiator it.reader))
     (sym it.notes_are) (says d Responder payload it.bytes n it.heard next it.reader w it.got it.receives))
-
-some-number : (m n : ℕ) → Some m ≡ Some n → m ≡ n
-some-number m n e = cc
 
 module _ {A B : Type 0} (public_a : A → Own → Option (List ℕ)) (agreement_a : A → Own → List ℕ → Option (List ℕ))
     (public_b : B → Own → Option (List ℕ)) (agreement_b : B → Own → List ℕ → Option (List ℕ)) where
@@ -134,7 +129,7 @@ module _ {A B : Type 0} (public_a : A → Own → Option (List ℕ)) (agreement_
           → notes_of middle.entries.items ≡ notes_of before.entries.items ++ (role, written_note told) ∷ []
           → SideWrites (side d role) payload (Wrote n) w.next × (notes_of middle.entries.items ≡ notes_of before.entries.items ++ (role, Wrote n) ∷ [])
       at (Ok k) e x y =
-          let same : k ≡ n = some-number k n e in (
+          let same : k ≡ n = same_Some k n e in (
             subst (λ (i : ℕ). SideWrites (side d role) payload (Wrote i) w.next) same x,
             subst (λ (i : ℕ). notes_of middle.entries.items ≡ notes_of before.entries.items ++ (role, Wrote i) ∷ []) same y,
           )

@@ -11,15 +11,7 @@ use Rattle.noise_handshake.specs.Length.{keyed_after, keyed_after_tokens}
 use Rattle.noise_handshake.specs.View.{with_premessage}
 use Rattle.noise_duel.specs.Collision.{hashed}
 use Rattle.noise_duel.specs.Messages.{OneEach, clear_keys, pre_keys}
-
-heads : {X : Type 0} (x y : X) (xs ys : List X) → (x ∷ xs) ≡ (y ∷ ys) → x ≡ y
-heads x y xs ys e = cc
-
-tails : {X : Type 0} (x y : X) (xs ys : List X) → (x ∷ xs) ≡ (y ∷ ys) → xs ≡ ys
-tails x y xs ys e = cc
-
-cons-same : {X : Type 0} (x y : X) (xs ys : List X) → x ≡ y → xs ≡ ys → (x ∷ xs) ≡ (y ∷ ys)
-cons-same x y xs ys e f = cc
+use Rattle.noise_names.specs.Lists.{heads, tails, cons-same}
 
 -- without a key a text travels as it is
 plain_piece : (r : History) (x : List ℕ) → is_some (cipher_key r) ≡ false → ciphertext r x ≡ x
@@ -140,12 +132,12 @@ module _ (psks : Bool) where
       let y : List ℕ = unwrap_or l.e [] in
       let later = pre-back (with_ephemeral psks r x) (with_ephemeral psks s y) k l ts e in
       let here = token-back r s E x y later.0 in
-      (here.0, cons-same x y (pre_keys k ts) (pre_keys l ts) here.1 later.1)
+      (here.0, cons-same here.1 later.1)
   pre-back r s k l (S ∷ ts) e =
       let x : List ℕ = unwrap_or k.s [] in
       let y : List ℕ = unwrap_or l.s [] in
       let later = pre-back (and_then r (MixHash x)) (and_then s (MixHash y)) k l ts e in
-      (tails x y (hashed r) (hashed s) later.0, cons-same x y (pre_keys k ts) (pre_keys l ts) (heads x y (hashed r) (hashed s) later.0) later.1)
+      (tails x y (hashed r) (hashed s) later.0, cons-same (heads x y (hashed r) (hashed s) later.0) later.1)
   pre-back r s k l (_ ∷ ts) e = pre-back r s k l ts e
 
   -- ---- what the same bytes tell
@@ -164,14 +156,14 @@ module _ (psks : Bool) where
       → ciphertext r x ≡ ciphertext s y → older ≡ others
       → (if keyed then [] else x ∷ []) ++ older ≡ (if keyed then [] else y ∷ []) ++ others
   static-same true r s x y older others a b e f = f
-  static-same false r s x y older others a b e f = cons-same x y older others (sym (plain_piece r x a) ∙ e ∙ plain_piece s y b) f
+  static-same false r s x y older others a b e f = cons-same (sym (plain_piece r x a) ∙ e ∙ plain_piece s y b) f
 
   open-token : (keyed : Bool) (r s : History) (t : Token) (ts : List Token) (x y : List ℕ) (xs ys : List (List ℕ)) → is_some (cipher_key r) ≡ keyed
       → is_some (cipher_key s) ≡ keyed
       → token_bytes r t x ≡ token_bytes s t y → clear_keys psks (keyed_after psks keyed t) ts xs ≡ clear_keys psks (keyed_after psks keyed t) ts ys
       → clear_keys psks keyed (t ∷ ts) (x ∷ xs) ≡ clear_keys psks keyed (t ∷ ts) (y ∷ ys)
   open-token keyed r s E ts x y xs ys a b e f =
-      cons-same x y (clear_keys psks (keyed_after psks keyed E) ts xs) (clear_keys psks (keyed_after psks keyed E) ts ys) e f
+      cons-same e f
   open-token keyed r s S ts x y xs ys a b e f = static-same keyed r s x y (clear_keys psks keyed ts xs) (clear_keys psks keyed ts ys) a b e f
   open-token keyed r s Ee ts x y xs ys a b e f = f
   open-token keyed r s Es ts x y xs ys a b e f = f

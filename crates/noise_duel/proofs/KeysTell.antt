@@ -20,12 +20,7 @@ use Rattle.noise_duel.proofs.HashedMessages.{after_all, AreLines, AllAlike, pass
 use Rattle.noise_duel.proofs.HashTells.{SameBytes, bytes-or, starts-back}
 use Rattle.noise_duel.proofs.Forward.{UseSecrets, passes-secrets, starts-same}
 use Rattle.noise_duel.proofs.Agreeing.{all-agree, passes-uses}
-
-heads : {X : Type 0} (x y : X) (xs ys : List X) → (x ∷ xs) ≡ (y ∷ ys) → x ≡ y
-heads x y xs ys e = cc
-
-tails : {X : Type 0} (x y : X) (xs ys : List X) → (x ∷ xs) ≡ (y ∷ ys) → xs ≡ ys
-tails x y xs ys e = cc
+use Rattle.noise_names.specs.Lists.{heads, tails}
 
 at-e : (k l : Remote) (ts : List Token) → has_token E ts ≡ true → pre_keys k ts ≡ pre_keys l ts → unwrap_or k.e [] ≡ unwrap_or l.e []
 at-e k l [] h e = cc

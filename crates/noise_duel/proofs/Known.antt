@@ -13,9 +13,10 @@ use Rattle.noise_duel.specs.Below.{LawsBelow}
 use Rattle.noise_duel.specs.Messages.{HandshakeMessage, Exchanged, Start, begun_as}
 use Rattle.noise_duel.specs.Messages.Exchanged.{none, wrote, took}
 use Rattle.noise_duel.specs.Agreement.{Knows, KnowEachOther}
-use Rattle.noise_duel.proofs.Agreeing.{UsesAt, Uses, UsesAll, known_next, known_after_all, writes_now, same-self, same-other, is-own, learns, turns-apart}
+use Rattle.noise_duel.proofs.Agreeing.{UsesAt, Uses, UsesAll, known_next, known_after_all, writes_now, is-own, learns, turns-apart}
 use Rattle.noise_duel.proofs.Agreeing.{passes-uses}
 use Rattle.noise_duel.proofs.KeysTell.{knows-first}
+use Rattle.noise_names.specs.Roles.{same_role-self, same_role-other}
 
 abbrev known_all : Plan → Role → ℕ → Remote → List HandshakeMessage → Remote
 known_all p role n known [] = known
@@ -24,11 +25,11 @@ known_all p role n known (m ∷ ms) = known_all p role (n + 1) (known_after_all 
 remote-is : (v w : View) (ps : List HandshakeMessage) → Exchanged v ps w → w.remote ≡ known_all v.pattern v.role v.passed v.remote ps
 remote-is v w [] (none _) = refl
 remote-is v w (p ∷ ps) (wrote _ _ _ _ here more) =
-    let mine : writes_now v.role v.passed ≡ true = ap (λ (r : Role). same_role r v.role) here.speaks.turn ∙ same-self v.role in
+    let mine : writes_now v.role v.passed ≡ true = ap (λ (r : Role). same_role r v.role) here.speaks.turn ∙ same_role-self v.role in
     remote-is (after_own v p.carried p.payload) w ps more
     ∙ ap (λ (b : Bool). known_all v.pattern v.role (v.passed + 1) (known_after_all b v.remote (tokens_now v) p.carried) ps) (sym mine)
 remote-is v w (p ∷ ps) (took _ _ _ _ here more) =
-    let mine : writes_now v.role v.passed ≡ false = ap (λ (r : Role). same_role r v.role) here.listens.turn ∙ same-other v.role in
+    let mine : writes_now v.role v.passed ≡ false = ap (λ (r : Role). same_role r v.role) here.listens.turn ∙ same_role-other v.role in
     remote-is (after_message v p.carried p.payload) w ps more
     ∙ ap (λ (b : Bool). known_all v.pattern v.role (v.passed + 1) (known_after_all b v.remote (tokens_now v) p.carried) ps) (sym mine)
 

@@ -7,7 +7,6 @@ pub mod Invariant
 pub mod Forward
 pub mod Prefixes
 pub mod Networks
-pub mod Framing
 pub mod RunOnce
 pub mod Agreeing
 pub mod KeysTell

@@ -17,7 +17,7 @@ use Rattle.noise_session.specs.Taking.{Judges}
 use Rattle.noise_session.specs.Taking.Judges.{accepted, refused, opened, dropped, exhausted}
 use Rattle.noise_session.specs.Sending.{Sends}
 use Rattle.noise_session.specs.Sending.Sends.{refuses, lacks_answer}
-use Rattle.noise_duel.proofs.Framing.{frame-whole, frame-same}
+use Rattle.noise_session.specs.Framing.{frame-whole, frame-same}
 use Rattle.noise_duel.specs.Sides.{Side, Sides, side, with_side, with_view, wrote_handshake, accepted_handshake, wrote_transport, accepted_transport}
 use Rattle.noise_events.specs.Events.{Say}
 use Rattle.noise_duel.specs.Notes.{Note, Wrote, WriteFault, Judged, left_note, held_note, noted_by}
@@ -28,6 +28,7 @@ use Rattle.noise_duel.specs.Runs.SideReceives.{is_idle, waits, reads_frame}
 use Rattle.noise_duel.specs.Runs.Happens.{says_nothing, says}
 use Rattle.noise_duel.proofs.Invariant.{all-passed}
 use Rattle.noise_duel.proofs.Prefixes.{packet-same}
+use Rattle.noise_names.specs.Lists.{get-last}
 
 -- ---- writing
 
@@ -143,8 +144,8 @@ receives-one t after last message payload notes idle empty bare short one (reads
 
 -- ---- the line
 
-get-last : (fs : List (List ℕ)) (f g : List ℕ) (n : ℕ) → n ≡ length fs → slice_get (fs ++ f ∷ []) n ≡ Some g → g ≡ f
-get-last fs f g n e h = by fs (ap (slice_get (fs ++ f ∷ [])) (sym e) ∙ h)
+last-is : (fs : List (List ℕ)) (f g : List ℕ) (n : ℕ) → n ≡ length fs → slice_get (fs ++ f ∷ []) n ≡ Some g → g ≡ f
+last-is fs f g n e h = by fs (ap (slice_get (fs ++ f ∷ [])) (sym e) ∙ h)
   where
     by : (hs : List (List ℕ)) → slice_get (hs ++ f ∷ []) (length hs) ≡ Some g → g ≡ f
     by [] k = cc
@@ -163,7 +164,7 @@ say-happens d e role payload message notes after heard lacks put frames hear bar
 say-happens d e role payload message notes after heard lacks put frames hear bare (says _ _ _ bytes n ns next last written got receives) =
     let one = put n next written in
     let is : bytes ≡ frame message =
-    get-last (side d role).frames (frame message) bytes n one.1
+    last-is (side d role).frames (frame message) bytes n one.1
     (ap (λ (fs : List (List ℕ)). slice_get fs n) (sym frames ∙ ap (λ (s : Side). s.frames) (sym one.0)) ∙ got) in
     let two = hear ns last (subst (λ (b : List ℕ). SideReceives (side d (other role)) b ns last) is receives) in
     let quiet : held_note (length last.view.held) ≡ [] =
@@ -191,10 +192,6 @@ receives-can t after message payload idle empty bare short reads =
     reads_frame t after after (frame message) message [] (Payload payload) [] idle
     (ap (λ (h : List ℕ). h ++ frame message) empty ∙ sym (append-nil (frame message))) short reads (rests after bare)
 
-last-there : (fs : List (List ℕ)) (f : List ℕ) → slice_get (fs ++ f ∷ []) (length fs) ≡ Some f
-last-there [] f = refl
-last-there (x ∷ fs) f = last-there fs f
-
 pub say-can : (d : Sides) (role : Role) (payload message : List ℕ) (after heard : Side)
     → SideWrites (side d role) payload (Wrote (length (side d role).frames)) after
     → after.frames ≡ (side d role).frames ++ frame message ∷ [] → SideReceives (side d (other role)) (frame message) (Judged (Payload payload) ∷ []) heard
@@ -203,4 +200,4 @@ pub say-can : (d : Sides) (role : Role) (payload message : List ℕ) (after hear
     (with_side (with_side d role after) (other role) heard)
 say-can d role payload message after heard written frames receives =
     says d role payload (frame message) (length (side d role).frames) (Judged (Payload payload) ∷ []) after heard written
-    (ap (λ (fs : List (List ℕ)). slice_get fs (length (side d role).frames)) frames ∙ last-there (side d role).frames (frame message)) receives
+    (ap (λ (fs : List (List ℕ)). slice_get fs (length (side d role).frames)) frames ∙ get-last (side d role).frames (frame message)) receives

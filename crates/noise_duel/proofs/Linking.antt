@@ -26,7 +26,8 @@ use Rattle.noise_duel.specs.Runs.SideWrites.{writes_handshake, writes_transport}
 use Rattle.noise_duel.specs.Runs.SideReads.{accepts_handshake, accepts_transport, refuses_message}
 use Rattle.noise_duel.specs.Runs.SideReceives.{is_idle, waits, reads_frame}
 use Rattle.noise_duel.specs.Receiving.{step_note, left_of}
-use Rattle.noise_duel.proofs.Framing.{frame-whole}
+use Rattle.noise_session.specs.Framing.{frame-whole}
+use Rattle.std.proofs.lemmas.Option.{same_Some}
 
 -- the front of a buffer whose front was written
 pub front-of : (out xs : List ℕ) (n len : ℕ) → n ≤ len → n ≤ length out → take n (take len (out ++ xs)) ≡ take n out
@@ -164,21 +165,18 @@ pub record IsIdleStep (step : Told) : Type 0 where
   pub is : step_of why ≡ step
   pub quiet : step_note step ≡ []
 
-some-same : (a b : Told) → Some a ≡ Some b → a ≡ b
-some-same a b f = cc
-
 idle-turn : (turn : Bool) (step : Told) → (if turn then Some YourTurn else None) ≡ Some step → IsIdleStep step
-idle-turn true step e = subst IsIdleStep (some-same YourTurn step e) (record { why = idle.YourTurn; left = λ n. refl; is = refl; quiet = refl })
+idle-turn true step e = subst IsIdleStep (same_Some YourTurn step e) (record { why = idle.YourTurn; left = λ n. refl; is = refl; quiet = refl })
 idle-turn false step e = cc
 
 idle-silent : (silent : Bool) (step : Told) → (if silent then Some Silent else None) ≡ Some step → IsIdleStep step
-idle-silent true step e = subst IsIdleStep (some-same Silent step e) (record { why = idle.Silent; left = λ n. refl; is = refl; quiet = refl })
+idle-silent true step e = subst IsIdleStep (same_Some Silent step e) (record { why = idle.Silent; left = λ n. refl; is = refl; quiet = refl })
 idle-silent false step e = cc
 
 pub is-idle : (p : Progress) (step : Told) → idle_step p ≡ Some step → IsIdleStep step
 is-idle (Handshaking pattern role passed) step e = idle-turn (is_turn role passed) step e
 is-idle (Open role one_way sent received) step e = idle-silent (one_way && same_role role Initiator) step e
-is-idle (Closed role) step e = subst IsIdleStep (some-same Ended step e) (record { why = idle.Ended; left = λ n. refl; is = refl; quiet = refl })
+is-idle (Closed role) step e = subst IsIdleStep (same_Some Ended step e) (record { why = idle.Ended; left = λ n. refl; is = refl; quiet = refl })
 
 -- what is after a frame stands after the bytes that were taken
 rest-taken : (held piece message rest : List ℕ) (n : ℕ) → held ++ piece ≡ frame message ++ rest → n + length rest ≡ length piece → drop n piece ≡ rest

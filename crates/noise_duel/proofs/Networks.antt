@@ -29,6 +29,7 @@ use Rattle.noise_duel.proofs.Forward.{secrets-tell}
 use Rattle.noise_duel.proofs.KeysTell.{keys-tell}
 use Rattle.noise_duel.proofs.Converse.{visibly-equal-is-one}
 use Rattle.noise_duel.proofs.Prefixes.{prefix-or-forged}
+use Rattle.std.proofs.lemmas.Option.{same_Some}
 
 pub passes-pattern : (v w : View) (ps : List HandshakeMessage) → Exchanged v ps w → w.pattern ≡ v.pattern
 passes-pattern v w [] (none _) = refl
@@ -48,11 +49,8 @@ record Opened (v : EndView) (h : List ℕ) : Type 0 where
 opened-is : (v : EndView) (h : List ℕ) → session_hash v ≡ Some h → Opened v h
 opened-is v h e = go (v.party.passed == length v.party.pattern.messages) refl e
   where
-    some-same : (x y : List ℕ) → Some x ≡ Some y → x ≡ y
-    some-same x y f = cc
-
     go : (b : Bool) → (v.party.passed == length v.party.pattern.messages) ≡ b → (if b then Some (hash v.party.history) else None) ≡ Some h → Opened v h
-    go true f g = record { all = grind (arith, nat_tests); is = some-same (hash v.party.history) h g }
+    go true f g = record { all = grind (arith, nat_tests); is = same_Some (hash v.party.history) h g }
     go false f g = cc
 
 module _ (laws : LawsBelow) (p : Plan) (a b : Start) (i j : ℕ) (events : List Event) (notes : List (Role × Note)) (d : Sides)

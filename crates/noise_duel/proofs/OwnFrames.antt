@@ -27,14 +27,7 @@ use Rattle.noise_duel.specs.Runs.Run.{ends as run_ends, begins}
 use Rattle.noise_duel.specs.Conversation.{facing}
 use Rattle.noise_duel.specs.OwnFrames.{own_messages, FramesAreOwn, EndsFrame}
 use Rattle.noise_duel.proofs.Invariant.{all-passed}
-
-same-self : (r : Role) → same_role r r ≡ true
-same-self Initiator = refl
-same-self Responder = refl
-
-same-other : (r : Role) → same_role (other r) r ≡ false
-same-other Initiator = refl
-same-other Responder = refl
+use Rattle.noise_names.specs.Roles.{same_role-self, same_role-other}
 
 -- one message more
 own-more : (role : Role) (n : ℕ) (ps : List HandshakeMessage) (p : HandshakeMessage)
@@ -82,7 +75,7 @@ module _ (s : Side) (k : Kept s) where
       let before : s.frames ≡ map frame mine =
       k.own ∙ ap (λ (ms : List TransportMessage). map frame (mine ++ map (λ (m : TransportMessage). m.message) ms)) none ∙ ap (map frame) (append-nil mine) in
       let more_own : own_messages role 0 (s.passed ++ p ∷ []) ≡ mine ++ p.message ∷ [] =
-      due-more p role turn ∙ ap (λ (b : Bool). mine ++ (if b then p.message ∷ [] else [])) (same-self role) in
+      due-more p role turn ∙ ap (λ (b : Bool). mine ++ (if b then p.message ∷ [] else [])) (same_role-self role) in
       record {
         own =
             ap (λ (fs : List (List ℕ)). fs ++ frame p.message ∷ []) before ∙ sym (map-append frame mine (p.message ∷ [])) ∙ ap (map frame) (sym more_own)
@@ -97,7 +90,7 @@ module _ (s : Side) (k : Kept s) where
       → (xs : List (List ℕ)) → Kept (accepted_handshake s p)
   took-kept p turn more xs =
       let same : own_messages role 0 (s.passed ++ p ∷ []) ≡ mine =
-      due-more p (other role) turn ∙ ap (λ (b : Bool). mine ++ (if b then p.message ∷ [] else [])) (same-other role) ∙ append-nil mine in
+      due-more p (other role) turn ∙ ap (λ (b : Bool). mine ++ (if b then p.message ∷ [] else [])) (same_role-other role) ∙ append-nil mine in
       record {
         own = k.own ∙ ap (λ (ms : List (List ℕ)). map frame (ms ++ packets)) (sym same);
         count = counted p;

@@ -1,6 +1,6 @@
 -- Two parties with their parts of one key material: what their messages carry, and that their answers meet.
 use Rattle.std.proofs.Common.{◌≡◌, ℕ, List, [], ◌∷◌, length, refl, ap, sym, ◌∙◌}
-use Rattle.std.specs.Prelude.{Bool, true, false, ◌||◌, Option, Some}
+use Rattle.std.specs.Prelude.{Bool, true, Option, Some}
 use Rattle.noise_names.specs.declared.token.Role.{Role}
 use Rattle.noise_names.specs.declared.token.Role.TheVariants.{Initiator, Responder}
 use Rattle.noise_names.specs.declared.token.Token.{Token}
@@ -10,22 +10,17 @@ use Rattle.noise_names.specs.Plan.{Plan, places_of}
 use Rattle.noise_names.specs.Validity.{is_among, occurs, IsValid}
 use Rattle.noise_keys.specs.declared.keys.Own.{Own}
 use Rattle.noise_keys.specs.declared.keys.Own.TheVariants.{Ephemeral, Static}
-use Rattle.noise_handshake.specs.View.{answered, own_at, remote_at, first_secret, other_secrets}
+use Rattle.noise_handshake.specs.View.{answered, own_at, remote_at, other_secrets}
 use Rattle.noise_handshake.specs.Writing.{Writer, Given}
 use Rattle.noise_handshake.specs.Setup.{public_keys, has_token, token_of}
 use Rattle.noise_handshake.specs.Counterparts.{is_dh, keys_if, AnswersMeet, IsEquipped}
 use Rattle.noise_duel.specs.Below.{LawsBelow}
 use Rattle.noise_duel.specs.Conversation.{KeyMaterial, carried_by, public_keys_in}
-
-or-right : (a b : Bool) → b ≡ true → (a || b) ≡ true
-or-right true b e = refl
-or-right false b e = e
+use Rattle.std.proofs.lemmas.Bool.{or_right}
+use Rattle.noise_names.specs.Lists.{cons-same}
 
 some-same : (o : Option (List ℕ)) (x y : List ℕ) → o ≡ Some x → o ≡ Some y → x ≡ y
 some-same o x y f g = cc
-
-cons-same : (x y : List ℕ) (xs ys : List (List ℕ)) → x ≡ y → xs ≡ ys → (x ∷ xs) ≡ (y ∷ ys)
-cons-same x y xs ys e f = cc
 
 -- the key that a DH asks of the other party
 pub remote-own : (role : Role) (theirs : Own → Option (List ℕ)) (t : Token) → remote_at role (public_keys theirs) t ≡ theirs (own_at (other role) t)
@@ -88,8 +83,8 @@ module _ (laws : LawsBelow) (w : KeyMaterial) (psks : Bool) (role : Role) (own t
 
   on : (t : Token) (ts : List Token) → IsCarried (t ∷ ts) → IsCarried ts
   on t ts h = (
-    λ x k. h.0 x (or-right (same_token t (token_of x)) (has_token (token_of x) ts) k),
-    λ u k d. h.1 u (or-right (same_token t u) (has_token u ts) k) d,
+    λ x k. h.0 x (or_right (same_token t (token_of x)) (has_token (token_of x) ts) k),
+    λ u k d. h.1 u (or_right (same_token t u) (has_token u ts) k) d,
   )
 
   dh-carried : (t : Token) (x : List ℕ) → answered agree (own_at role t) (remote_at role (keys_if e s theirs) t) ≡ Some x
@@ -103,18 +98,18 @@ module _ (laws : LawsBelow) (w : KeyMaterial) (psks : Bool) (role : Role) (own t
   given-carried secrets [] (x ∷ xs) h g = absurd g
   given-carried secrets (t ∷ ts) [] h g = absurd g
   given-carried secrets (E ∷ ts) (x ∷ xs) h g =
-      cons-same x (w.public role Ephemeral) xs (carried_by w role secrets ts)
+      cons-same
       (some-same (own Ephemeral) x (w.public role Ephemeral) g.0.0 (h.0 Ephemeral refl)) (given-carried secrets ts xs (on E ts h) g.1)
   given-carried secrets (S ∷ ts) (x ∷ xs) h g =
-      cons-same x (w.public role Static) xs (carried_by w role secrets ts) (some-same (own Static) x (w.public role Static) g.0.0 (h.0 Static refl))
+      cons-same (some-same (own Static) x (w.public role Static) g.0.0 (h.0 Static refl))
       (given-carried secrets ts xs (on S ts h) g.1)
   given-carried secrets (Psk ∷ ts) (x ∷ xs) h g =
-      cons-same x (first_secret secrets) xs (carried_by w role (other_secrets secrets) ts) g.0 (given-carried (other_secrets secrets) ts xs (on Psk ts h) g.1)
+      cons-same g.0 (given-carried (other_secrets secrets) ts xs (on Psk ts h) g.1)
   given-carried secrets (Ee ∷ ts) (x ∷ xs) h g =
-      cons-same x (w.answer Ee) xs (carried_by w role secrets ts) (dh-carried Ee x g.0 (h.1 Ee refl refl)) (given-carried secrets ts xs (on Ee ts h) g.1)
+      cons-same (dh-carried Ee x g.0 (h.1 Ee refl refl)) (given-carried secrets ts xs (on Ee ts h) g.1)
   given-carried secrets (Es ∷ ts) (x ∷ xs) h g =
-      cons-same x (w.answer Es) xs (carried_by w role secrets ts) (dh-carried Es x g.0 (h.1 Es refl refl)) (given-carried secrets ts xs (on Es ts h) g.1)
+      cons-same (dh-carried Es x g.0 (h.1 Es refl refl)) (given-carried secrets ts xs (on Es ts h) g.1)
   given-carried secrets (Se ∷ ts) (x ∷ xs) h g =
-      cons-same x (w.answer Se) xs (carried_by w role secrets ts) (dh-carried Se x g.0 (h.1 Se refl refl)) (given-carried secrets ts xs (on Se ts h) g.1)
+      cons-same (dh-carried Se x g.0 (h.1 Se refl refl)) (given-carried secrets ts xs (on Se ts h) g.1)
   given-carried secrets (Ss ∷ ts) (x ∷ xs) h g =
-      cons-same x (w.answer Ss) xs (carried_by w role secrets ts) (dh-carried Ss x g.0 (h.1 Ss refl refl)) (given-carried secrets ts xs (on Ss ts h) g.1)
+      cons-same (dh-carried Ss x g.0 (h.1 Ss refl refl)) (given-carried secrets ts xs (on Ss ts h) g.1)

@@ -9,12 +9,10 @@ use Rattle.noise_duel.specs.Sides.{TransportMessage}
 use Rattle.noise_duel.specs.Invariant.{ArePackets}
 use Rattle.noise_duel.specs.Forgery.{contents, PrefixOrForged}
 use Rattle.noise_duel.proofs.Chain.{same-or}
+use Rattle.noise_names.specs.Lists.{cons-same}
 
 pub packet-same : (r : History) (writer : Role) (interval n : ℕ) (x y : List ℕ) → packet r writer interval n x ≡ packet r writer interval n y → x ≡ y
 packet-same r writer interval n x y e = sealed-same (rekeyed_times (renewals interval n) (split_key r writer)) (nonce_of n) [] x y e
-
-cons-same : {X : Type 0} (x y : X) (xs ys : List X) → x ≡ y → xs ≡ ys → (x ∷ xs) ≡ (y ∷ ys)
-cons-same x y xs ys e f = cc
 
 first-of : (w m : TransportMessage) → Some w ≡ Some m → w ≡ m
 first-of w m e = cc
@@ -65,8 +63,8 @@ module _ (r : History) (writer : Role) (interval : ℕ) where
           packet_at = subst (λ (k : ℕ). a.message ≡ packet r writer interval k a.payload) (omega arith) g.0;
         },
       )
-      go (inl same) (inl rest) = inl (rest.0, cons-same w.payload a.payload (contents ws) (contents more ++ rest.0) same rest.1)
-      go (inl same) (inr c) = inr (suc c.0, cons-same a.payload w.payload (take c.0 (contents more)) (take c.0 (contents ws)) (sym same) c.1, shift c.0 c.2)
+      go (inl same) (inl rest) = inl (rest.0, cons-same same rest.1)
+      go (inl same) (inr c) = inr (suc c.0, cons-same (sym same) c.1, shift c.0 c.2)
 
   pub prefix-or-forged : (written accepted : List TransportMessage) → ArePackets r writer interval 0 written → ArePackets r writer interval 0 accepted
       → PrefixOrForged r writer interval written accepted

@@ -22,13 +22,11 @@ use Rattle.noise_duel.specs.Runs.SideReads.{accepts_handshake, accepts_transport
 use Rattle.noise_duel.specs.Runs.SideReceives.{is_idle, waits, reads_frame}
 use Rattle.noise_duel.specs.Runs.Happens.{writes, says_nothing, says, delivers, misses, injects}
 use Rattle.noise_duel.specs.Runs.Run.{ends, begins}
-use Rattle.noise_duel.proofs.Framing.{frame-whole, frame-same}
+use Rattle.noise_session.specs.Framing.{frame-whole, frame-same}
 use Rattle.noise_duel.proofs.Invariant.{all-passed}
 use Rattle.noise_duel.proofs.Prefixes.{packet-same}
 use Rattle.noise_duel.proofs.Lines.{writes-no-fault}
-
-some-same : {X : Type 0} (x y : X) → Some x ≡ Some y → x ≡ y
-some-same x y e = cc
+use Rattle.std.proofs.lemmas.Option.{same_Some}
 
 abbrev refused_with : SendFault → Result (List ℕ) SendFault
 refused_with why = Err why
@@ -141,7 +139,7 @@ module _ (laws : LawsBelow) where
   -- bytes are received in one way
   receives-once : (s x y : Side) (bytes : List ℕ) (ms ns : List Note) → SideReceives s bytes ms x → SideReceives s bytes ns y → (ms ≡ ns) × (x ≡ y)
   receives-once s x y bytes ms ns (is_idle _ _ step e) (is_idle _ _ other_step f) =
-      (ap (λ (z : Told). left_note z (length bytes)) (some-same step other_step (sym e ∙ f)), refl)
+      (ap (λ (z : Told). left_note z (length bytes)) (same_Some step other_step (sym e ∙ f)), refl)
   receives-once s x y bytes ms ns (is_idle _ _ step e) (waits _ _ f partial) = absurd (some-none _ step e f)
   receives-once s x y bytes ms ns (is_idle _ _ step e) (reads_frame _ _ _ _ m rest _ more f is short reads on) = absurd (some-none _ step e f)
   receives-once s x y bytes ms ns (waits _ _ e partial) (is_idle _ _ step f) = absurd (some-none _ step f e)
@@ -183,7 +181,7 @@ module _ (laws : LawsBelow) where
       let one = writes-once (side d role) next after payload (Wrote n) (Wrote k) h w in
       let number : n ≡ k = wrote-same n k one.0 in
       let there : slice_get next.frames n ≡ Some others = ap (slice_get next.frames) number ∙ ap (λ (z : Side). slice_get z.frames k) one.1 ∙ from in
-      let same : bytes ≡ others = some-same bytes others (sym at ∙ there) in
+      let same : bytes ≡ others = same_Some bytes others (sym at ∙ there) in
       let two = receives-once (side d (other role)) heard hears bytes notes more receives
       (subst (λ (z : List ℕ). SideReceives (side d (other role)) z more hears) (sym same) gets) in (
         ap (λ (z : ℕ). (role, Wrote z) ∷ all_noted (other role) notes heard) number
@@ -191,7 +189,7 @@ module _ (laws : LawsBelow) where
         ap (λ (z : Side). with_side (with_side d role z) (other role) heard) one.1 ∙ ap (with_side (with_side d role after) (other role)) two.1,
       )
   happens-once d x y event ms ns (delivers _ role n bytes notes heard at receives) (delivers _ _ _ others more hears from gets) =
-      let same : bytes ≡ others = some-same bytes others (sym at ∙ from) in
+      let same : bytes ≡ others = same_Some bytes others (sym at ∙ from) in
       let two = receives-once (side d role) heard hears bytes notes more receives
       (subst (λ (z : List ℕ). SideReceives (side d role) z more hears) (sym same) gets) in
       (all-noted-same role notes more heard hears two.0 two.1, ap (with_side d role) two.1)

@@ -32,14 +32,8 @@ use Rattle.noise_duel.specs.Runs.SideWrites.{writes_handshake, writes_transport}
 use Rattle.noise_duel.specs.Runs.SideReads.{accepts_handshake, accepts_transport}
 use Rattle.noise_duel.proofs.Invariant.{all-passed}
 use Rattle.noise_duel.proofs.Lines.{writes-no-fault, writes-message, writes-packet, reads-message, reads-packet, receives-one, receives-can}
-
-same-self : (r : Role) → same_role r r ≡ true
-same-self Initiator = refl
-same-self Responder = refl
-
-same-other : (r : Role) → same_role (other r) r ≡ false
-same-other Initiator = refl
-same-other Responder = refl
+use Rattle.std.proofs.lemmas.Bool.{eq-eqb}
+use Rattle.noise_names.specs.Roles.{same_role-self, same_role-other}
 
 -- ---- no refusal, and not idle
 
@@ -48,9 +42,6 @@ below a b h = grind (arith, nat_tests)
 
 pub apart : (a b : ℕ) → a < b → a ≢ b
 apart a b h e = omega (arith, h, e)
-
-equal : (a b : ℕ) → a ≡ b → (a == b) ≡ true
-equal a b e = grind (arith, nat_tests)
 
 in-room : (n : ℕ) → n ≤ 65535 → nat_lt 65535 n ≡ false
 in-room n h = grind (arith, nat_tests)
@@ -62,7 +53,7 @@ handshaking v going more = rw (going, below v.party.passed (length v.party.patte
 
 pub opened-now : (v : EndView) → v.party.ended ≡ false → v.party.passed ≡ length v.party.pattern.messages
     → progress_of v ≡ Open v.party.role (is_one_way v.party.pattern) v.sent v.received
-opened-now v going all = rw (going, equal v.party.passed (length v.party.pattern.messages) all) refl
+opened-now v going all = rw (going, eq-eqb v.party.passed (length v.party.pattern.messages) all) refl
 
 -- a party whose turn it is in the handshake isn't refused
 speaks-unrefused : (s : EndView) (n : ℕ) → Speaks s.party → overhead_of s.party.pattern (s.party.passed + 1) + n ≤ 65535 → refusal (progress_of s) n ≡ None
@@ -72,12 +63,12 @@ speaks-unrefused s n h room =
     ∙ own-turn (turn_from Initiator s.party.passed) refl
   where
     own-turn : (r : Role) → turn_from Initiator s.party.passed ≡ r → refusal (Handshaking s.party.pattern r s.party.passed) n ≡ None
-    own-turn r e = rw (ap (λ (q : Role). same_role q r) e ∙ same-self r, in-room (overhead_of s.party.pattern (s.party.passed + 1) + n) room) refl
+    own-turn r e = rw (ap (λ (q : Role). same_role q r) e ∙ same_role-self r, in-room (overhead_of s.party.pattern (s.party.passed + 1) + n) room) refl
 
 -- one whose turn it isn't listens
 listens-now : (t : EndView) → Listens t.party → idle_step (progress_of t) ≡ None
 listens-now t h =
-    ap idle_step (handshaking t h.going h.more) ∙ rw (ap (λ (r : Role). same_role r t.party.role) h.turn ∙ same-other t.party.role) refl
+    ap idle_step (handshaking t h.going h.more) ∙ rw (ap (λ (r : Role). same_role r t.party.role) h.turn ∙ same_role-other t.party.role) refl
 
 -- ---- a handshake message
 
@@ -137,23 +128,11 @@ pub record TransportStep (s t : Side) (payload : List ℕ) : Type 0 where
   pub receives : (ns : List Note) (last : Side) → SideReceives t (frame message) ns last
       → (ns ≡ Judged (Payload payload) ∷ []) × (last ≡ accepted_transport t (record { message = message; payload = payload }))
 
-pub none-below : (done b : Bool) → done ≡ false → (done && b) ≡ false
-none-below true b e = cc
-none-below false b e = refl
-
-pub none-right : (done b : Bool) → b ≡ false → (done && b) ≡ false
-none-right true b e = e
-none-right false b e = refl
-
 pub below-too : (a n b : ℕ) → a ≤ n → n < b → a < b
 below-too a n b h k = omega (arith, h, k)
 
 pub not-both : Responder ≡ Initiator → ⊥
 not-both e = let bad : true ≡ false = ap (λ (r : Role). same_role r Responder) e in cc
-
-pub not-true : (b : Bool) → (b ≡ true → ⊥) → b ≡ false
-not-true true h = absurd (h refl)
-not-true false h = refl
 
 -- an open end that may write isn't refused, and one that may read listens
 open-unrefused : (role : Role) (one_way : Bool) (sent received n : ℕ) → (one_way && same_role role Responder) ≡ false → n + 16 ≤ 65535 → sent < last_nonce

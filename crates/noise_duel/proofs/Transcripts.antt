@@ -1,7 +1,6 @@
 -- Lines in turn between two parties with their parts of one key material come through.
 use Rattle.std.proofs.Common.{◌≡◌, ℕ, zero, suc, ◌+◌, ◌-◌, ◌<◌, ◌≤◌, List, [], ◌∷◌, ◌++◌, length, take, drop, map, count_by, refl, ap, sym, subst, ◌∙◌, arith}
 use Rattle.std.proofs.Common.{append-nil, append_assoc, Some, None}
-use Rattle.std.proofs.lemmas.Bool.Decides.{nat_tests}
 use Rattle.std.specs.Prelude.{Bool, true, false, nat_lt, IsTrue, Option, if◌then◌else◌, MatchBool, unwrap_or}
 use Rattle.noise_names.specs.declared.token.Role.{Role}
 use Rattle.noise_names.specs.declared.token.Role.TheVariants.{Initiator, Responder}
@@ -36,6 +35,7 @@ use Rattle.noise_duel.proofs.Parts.{HasMaterial, answers-meet}
 use Rattle.noise_duel.proofs.Lines.{say-can}
 use Rattle.noise_duel.proofs.EquallyFar.{EquallyFar, due_of, after_due, handshake_message, HandshakeLine, handshake-at, handshake-line, transport_message}
 use Rattle.noise_duel.proofs.EquallyFar.{TransportLine, transport-at, transport-line}
+use Rattle.std.proofs.lemmas.Bool.{ltb-true, ltb-false}
 
 -- ---- all lines
 
@@ -212,12 +212,6 @@ module _ (laws : LawsBelow) (w : KeyMaterial) where
               equally_far = ih.equally_far;
             }
 
-        less : (n m : ℕ) → nat_lt n m ≡ true → n < m
-        less n m k = grind (arith, nat_tests)
-
-        most : (n m : ℕ) → nat_lt n m ≡ false → m ≤ n
-        most n m k = grind (arith, nat_tests)
-
         go : (b : Bool) → nat_lt n (length d.initiator.view.party.pattern.messages) ≡ b
             → MatchBool b ((l.0 ≡ turn_from Initiator n) × (overhead_of d.initiator.view.party.pattern (n + 1) + length l.1 ≤ 65535))
             ((IsTrue (is_one_way d.initiator.view.party.pattern) → l.0 ≡ Initiator) × (length l.1 ≤ 65519) × (n < last_nonce))
@@ -225,11 +219,11 @@ module _ (laws : LawsBelow) (w : KeyMaterial) where
             → AfterLines (n + 1) lines next e later) → Run next (say_events lines) later e → Happens d (Say l.0 l.1) now next
             → AfterLines n (l ∷ lines) d e (now ++ later)
         go true is m rest run does =
-            let more : n < length d.initiator.view.party.pattern.messages = less n (length d.initiator.view.party.pattern.messages) is in
+            let more : n < length d.initiator.view.party.pattern.messages = ltb-true n (length d.initiator.view.party.pattern.messages) is in
             let step = handshake-line laws w long n l.0 l.1 d next now a more m.0 m.1 does in
             hand more step (rest step.past_line.equally_far (subst (λ (q : Plan). InTurn q (n + 1) lines) (sym step.handshake.pattern) h.1) run)
         go false is m rest run does =
-            let over : length d.initiator.view.party.pattern.messages ≤ n = most n (length d.initiator.view.party.pattern.messages) is in
+            let over : length d.initiator.view.party.pattern.messages ≤ n = ltb-false n (length d.initiator.view.party.pattern.messages) is in
             let step = transport-line w n l.0 l.1 d next now a over m.0 m.1 m.2 does in
             open-on over step (rest step.past_line.equally_far
             (subst (λ (q : Plan). InTurn q (n + 1) lines) (sym (ap (λ (z : View). z.pattern) step.transport.party)) h.1) run)
@@ -244,12 +238,6 @@ module _ (laws : LawsBelow) (w : KeyMaterial) (long : (role : Role) (k : Own) �
   can [] n d a h = ([], d, ends d)
   can (l ∷ lines) n d a h = go (nat_lt n (length d.initiator.view.party.pattern.messages)) refl h.0 (λ next. can lines (n + 1) next)
     where
-      less : (n m : ℕ) → nat_lt n m ≡ true → n < m
-      less n m k = grind (arith, nat_tests)
-
-      most : (n m : ℕ) → nat_lt n m ≡ false → m ≤ n
-      most n m k = grind (arith, nat_tests)
-
       first : (next : Sides) (now : List (Role × Note)) → Happens d (Say l.0 l.1) now next → HasRun lines next → HasRun (l ∷ lines) d
       first next now does more = (now ++ more.0, more.1, begins d next more.1 (Say l.0 l.1) (say_events lines) now more.0 does more.2)
 
@@ -258,7 +246,7 @@ module _ (laws : LawsBelow) (w : KeyMaterial) (long : (role : Role) (k : Own) �
           ((IsTrue (is_one_way d.initiator.view.party.pattern) → l.0 ≡ Initiator) × (length l.1 ≤ 65519) × (n < last_nonce))
           → ((next : Sides) → EquallyFar w (n + 1) next → InTurn next.initiator.view.party.pattern (n + 1) lines → HasRun lines next) → HasRun (l ∷ lines) d
       go true is m rest =
-          let more : n < length d.initiator.view.party.pattern.messages = less n (length d.initiator.view.party.pattern.messages) is in
+          let more : n < length d.initiator.view.party.pattern.messages = ltb-true n (length d.initiator.view.party.pattern.messages) is in
           let sp = handshake-at laws w long n l.0 l.1 d a more m.0 m.1 in
           let passed : HandshakeMessage = handshake_message l.1 sp.message sp.carried in
           let after : Side = wrote_handshake (side d l.0) passed in
@@ -268,7 +256,7 @@ module _ (laws : LawsBelow) (w : KeyMaterial) (long : (role : Role) (k : Own) �
           let step = handshake-line laws w long n l.0 l.1 d next _ a more m.0 m.1 does in
           first next _ does (rest next step.past_line.equally_far (subst (λ (q : Plan). InTurn q (n + 1) lines) (sym step.handshake.pattern) h.1))
       go false is m rest =
-          let over : length d.initiator.view.party.pattern.messages ≤ n = most n (length d.initiator.view.party.pattern.messages) is in
+          let over : length d.initiator.view.party.pattern.messages ≤ n = ltb-false n (length d.initiator.view.party.pattern.messages) is in
           let sp = transport-at w n l.0 l.1 d a over m.0 m.1 m.2 in
           let sent : TransportMessage = transport_message sp.message l.1 in
           let after : Side = wrote_transport (side d l.0) sent in

@@ -1,7 +1,6 @@
 -- What a reader finds is determined, and how reading the tokens goes on.
-use Rattle.std.proofs.Common.{◌≡◌, ℕ, zero, suc, ◌+◌, ◌<◌, ◌≤◌, List, [], ◌∷◌, ◌++◌, length, take, drop, refl, ap, sym, subst, ◌∙◌, arith}
+use Rattle.std.proofs.Common.{◌≡◌, ℕ, zero, suc, ◌+◌, ◌<◌, ◌≤◌, List, [], ◌∷◌, ◌++◌, length, take, refl, ap, sym, subst, ◌∙◌, arith}
 use Rattle.std.proofs.Common.{append_assoc, take_all, inl, inr, ◌⊎◌}
-use Rattle.std.proofs.Math.Seq.{take-append_seam, drop-append_seam}
 use Rattle.std.specs.Prelude.{Bool, Option, Some, is_some, if◌then◌else◌, nat_lt}
 use Rattle.noise_names.specs.declared.token.Token.{Token}
 use Rattle.noise_names.specs.declared.token.Token.TheVariants.{E, S, Ee, Es, Se, Ss, Psk}
@@ -14,12 +13,7 @@ use Rattle.noise_handshake.specs.View.{View, Reader, reader, Fits, Fit, known_af
 use Rattle.noise_handshake.specs.View.{cause_at, learned, tokens_now}
 use Rattle.noise_handshake.specs.inner.Listening.{Fails, StopsKnowing}
 use Rattle.noise_handshake.specs.declared.faults.Cause.TheVariants.{Short, Tag}
-
-pub split-apart : (a b p q : List ℕ) → length a ≡ length b → a ++ p ≡ b ++ q → (a ≡ b) × (p ≡ q)
-split-apart a b p q n e = (
-  sym (take-append_seam a p) ∙ ap (take (length a)) e ∙ ap (λ (k : ℕ). take k (b ++ q)) n ∙ take-append_seam b q,
-  sym (drop-append_seam a p) ∙ ap (drop (length a)) e ∙ ap (λ (k : ℕ). drop k (b ++ q)) n ∙ drop-append_seam b q,
-)
+use Rattle.noise_names.specs.Lists.{split-apart, cons-same}
 
 some-same : (o : Option (List ℕ)) (x y : List ℕ) → o ≡ Some x → o ≡ Some y → x ≡ y
 some-same o x y f g = cc
@@ -39,9 +33,6 @@ token-apart v known secrets r Es x y p q f g e = (some-same _ x y f g, e)
 token-apart v known secrets r Se x y p q f g e = (some-same _ x y f g, e)
 token-apart v known secrets r Ss x y p q f g e = (some-same _ x y f g, e)
 
-cons-same : {X : Type 0} (x y : X) (xs ys : List X) → x ≡ y → xs ≡ ys → (x ∷ xs) ≡ (y ∷ ys)
-cons-same x y xs ys e h = cc
-
 -- all the texts are determined, and what is left
 pub front-apart : (v : Reader) (known : Remote) (secrets : List (List ℕ)) (r : History) (ts : List Token) (xs ys : List (List ℕ)) (p q : List ℕ)
     → Fit v known secrets ts xs → Fit v known secrets ts ys → before_payload v.psks r ts xs ++ p ≡ before_payload v.psks r ts ys ++ q → (xs ≡ ys) × (p ≡ q)
@@ -59,7 +50,7 @@ front-apart v known secrets r (t ∷ ts) (x ∷ xs) (y ∷ ys) p q f g e =
     let e1 : a ++ p ≡ before_payload v.psks (after_token v.psks r t x) ts ys ++ q =
     h.1 ∙ ap (λ (z : List ℕ). before_payload v.psks (after_token v.psks r t z) ts ys ++ q) (sym h.0) in
     let i = front-apart v (known_after known t x) (secrets_after secrets t) (after_token v.psks r t x) ts xs ys p q f.1 g1 e1 in
-    (cons-same x y xs ys h.0 i.0, i.1)
+    (cons-same h.0 i.0, i.1)
 
 -- no other texts and payload fit a message
 pub reads-one : (v : Reader) (known : Remote) (secrets : List (List ℕ)) (r : History) (ts : List Token) (m : List ℕ) (xs ys : List (List ℕ)) (p q : List ℕ)

@@ -1,11 +1,10 @@
 -- The first tokens of a message.
-use Rattle.std.proofs.Common.{◌≡◌, ℕ, zero, suc, ◌+◌, ◌<◌, ◌≤◌, List, [], ◌∷◌, ◌++◌, length, take, drop, refl, ap, sym, subst, ◌∙◌, arith, take-take, length-take}
+use Rattle.std.proofs.Common.{◌≡◌, ℕ, zero, suc, ◌+◌, ◌<◌, List, [], ◌∷◌, ◌++◌, length, take, drop, refl, ap, sym, subst, ◌∙◌, arith, take-take, length-take}
 use Rattle.std.proofs.lemmas.List.{take-append-drop}
 use Rattle.std.proofs.Common.{append_assoc}
-use Rattle.std.specs.Prelude.{Bool, true, false, ◌&&◌, is_some, count_by}
+use Rattle.std.specs.Prelude.{Bool, true, is_some}
 use Rattle.std.specs.List.{list_all}
 use Rattle.noise_names.specs.declared.token.Token.{Token}
-use Rattle.noise_names.specs.declared.token.Token.TheVariants.{E, S, Ee, Es, Se, Ss, Psk}
 use Rattle.noise_names.specs.declared.token.Role.{Role}
 use Rattle.noise_state.specs.History.{History, cipher_key}
 use Rattle.noise_keys.specs.declared.keys.Own.{Own}
@@ -14,12 +13,13 @@ use Rattle.noise_handshake.specs.declared.faults.Cause.{Cause}
 use Rattle.noise_handshake.specs.declared.layout.PlacedToken.{PlacedToken}
 use Rattle.noise_handshake.specs.Length.{keyed_after}
 use Rattle.noise_handshake.specs.Message.{after_tokens}
-use Rattle.noise_handshake.specs.View.{Reader, BeginsAs, CanBegin, Stops, cause_at, learned}
+use Rattle.noise_handshake.specs.View.{Reader, BeginsAs, CanBegin, cause_at, learned}
 use Rattle.noise_handshake.specs.Wanting.{LacksAnswerFor}
 use Rattle.noise_handshake.specs.Writing.{Writer, Given, LacksAnswerAt}
 use Rattle.noise_handshake.specs.inner.Known.{are_known, is_known, e_after, s_after}
 use Rattle.noise_handshake.specs.inner.Layout.{tokens_of, ArePlaced}
 use Rattle.noise_handshake.specs.inner.Listening.{StopsKnowing}
+use Rattle.std.proofs.lemmas.Bool.{and_parts, and_from}
 
 pub tokens-take : (ps : List PlacedToken) (k : ℕ) → tokens_of (take k ps) ≡ take k (tokens_of ps)
 tokens-take ps zero = refl
@@ -31,32 +31,19 @@ placed-take psks keyed place ps zero a = tt
 placed-take psks keyed place [] (suc k) a = tt
 placed-take psks keyed place (p ∷ ps) (suc k) a = (a.0, a.1, placed-take psks (keyed_after psks keyed p.token) (place + p.width) ps k a.2)
 
-left-true : (a b : Bool) → (a && b) ≡ true → a ≡ true
-left-true true b h = refl
-left-true false b h = cc
-
-right-true : (a b : Bool) → (a && b) ≡ true → b ≡ true
-right-true true b h = h
-right-true false b h = cc
-
-both-true : (a b : Bool) → a ≡ true → b ≡ true → (a && b) ≡ true
-both-true true true g h = refl
-both-true true false g h = cc
-both-true false b g h = cc
-
 pub known-take : (role : Role) (e s : Bool) (ts : List Token) (k : ℕ) → are_known role e s ts ≡ true → are_known role e s (take k ts) ≡ true
 known-take role e s ts zero h = refl
 known-take role e s [] (suc k) h = refl
 known-take role e s (t ∷ ts) (suc k) h =
-    both-true (is_known role e s t) (are_known role (e_after e t) (s_after s t) (take k ts))
-    (left-true (is_known role e s t) (are_known role (e_after e t) (s_after s t) ts) h)
-    (known-take role (e_after e t) (s_after s t) ts k (right-true (is_known role e s t) (are_known role (e_after e t) (s_after s t) ts) h))
+    and_from (is_known role e s t) (are_known role (e_after e t) (s_after s t) (take k ts))
+    (and_parts (is_known role e s t) (are_known role (e_after e t) (s_after s t) ts) h).0
+    (known-take role (e_after e t) (s_after s t) ts k (and_parts (is_known role e s t) (are_known role (e_after e t) (s_after s t) ts) h).1)
 
 pub all-take : (p : Token → Bool) (ts : List Token) (k : ℕ) → list_all p ts ≡ true → list_all p (take k ts) ≡ true
 all-take p ts zero h = refl
 all-take p [] (suc k) h = refl
 all-take p (t ∷ ts) (suc k) h =
-    both-true (p t) (list_all p (take k ts)) (left-true (p t) (list_all p ts) h) (all-take p ts k (right-true (p t) (list_all p ts) h))
+    and_from (p t) (list_all p (take k ts)) (and_parts (p t) (list_all p ts) h).0 (all-take p ts k (and_parts (p t) (list_all p ts) h).1)
 
 -- why reading stops at one of the first tokens
 cause-take : (keyed : Bool) (ts : List Token) (k j : ℕ) (rest : List ℕ) → j < k → j < length ts → cause_at keyed (take k ts) j rest ≡ cause_at keyed ts j rest

@@ -4,8 +4,8 @@ use Rattle.std.specs.Prelude.{Bool, true, false, not, ◌&&◌, ◌==◌, Option
 use Rattle.std.proofs.lemmas.Bool.Decides.{nat_tests}
 use Rattle.noise_names.specs.declared.token.Token.{Token}
 use Rattle.noise_names.specs.declared.token.Role.{Role}
-use Rattle.noise_names.specs.declared.token.Role.TheVariants.{Initiator, Responder}
-use Rattle.noise_names.specs.Tokens.{same_role, turn_from}
+use Rattle.noise_names.specs.declared.token.Role.TheVariants.{Initiator}
+use Rattle.noise_names.specs.Tokens.{turn_from}
 use Rattle.noise_names.specs.Plan.{Plan, has_psk}
 use Rattle.noise_keys.specs.declared.keys.Own.{Own}
 use Rattle.noise_handshake.specs.declared.remote.Remote.{Remote}
@@ -19,6 +19,7 @@ use Rattle.noise_handshake.specs.inner.Speaking.{Speaking}
 use Rattle.noise_handshake.proofs.Giving.{lacks-later}
 use Rattle.noise_handshake.proofs.Knowing.{is_some-remote}
 use Rattle.noise_handshake.proofs.Wrote.{for-view}
+use Rattle.noise_names.specs.Roles.{same-same_role, same_role-true}
 
 lacks-tail : (w : Writer) (known : Remote) (secrets : List (List ℕ)) (t : Token) (ts : List Token) (x : List ℕ) (k : ℕ) (xs : List (List ℕ))
     → k < length ts → Gives w known secrets t x → Given w known secrets (take (suc k) (t ∷ ts)) xs
@@ -102,18 +103,6 @@ asked-first w known secrets tokens ts t e bad dh o h =
 
 -- ---- whether a message of this party is due
 
-same-role : (a b : Role) → same_role a b ≡ true → a ≡ b
-same-role Initiator Initiator e = refl
-same-role Initiator Responder e = absurd (cc)
-same-role Responder Initiator e = absurd (cc)
-same-role Responder Responder e = refl
-
-same-self : (a b : Role) → a ≡ b → same_role a b ≡ true
-same-self Initiator Initiator e = refl
-same-self Initiator Responder e = absurd (cc)
-same-self Responder Initiator e = absurd (cc)
-same-self Responder Responder e = refl
-
 tests-of : (ended all ours : Bool) → (not ended && not all && ours) ≡ true → (ended ≡ false) × (all ≡ false) × (ours ≡ true)
 tests-of true all ours e = absurd (cc)
 tests-of false true ours e = absurd (cc)
@@ -137,7 +126,7 @@ module _ {K : Type 0} (h : Held K) where
       grind (arith, nat_tests)
 
   pub due-turn : is-due ≡ true → turn_from Initiator h.passed ≡ h.role
-  due-turn e = same-role (turn_from Initiator h.passed) h.role (tests-of h.ended (h.passed == length h.pattern.messages) (is_turn h.role h.passed) e).2
+  due-turn e = same_role-true (turn_from Initiator h.passed) h.role (tests-of h.ended (h.passed == length h.pattern.messages) (is_turn h.role h.passed) e).2
 
   module _ (public_of : K → Own → Option (List ℕ)) (agreement : K → Own → List ℕ → Option (List ℕ)) (v : View) (s : Stands public_of agreement h v) where
     pub due-here : Speaks v → is-due ≡ true
@@ -146,7 +135,7 @@ module _ {K : Type 0} (h : Held K) where
         subst (λ (k : ℕ). k < length h.pattern.messages) (sym s.passed) (subst (λ (p : Plan). v.passed < length p.messages) (sym s.pattern) l.more) in
         let all : (h.passed == length h.pattern.messages) ≡ false = grind (arith, nat_tests) in
         tests-all h.ended (h.passed == length h.pattern.messages) (is_turn h.role h.passed) (s.ended ∙ l.going) all
-        (same-self (turn_from Initiator h.passed) h.role (ap (turn_from Initiator) s.passed ∙ l.turn ∙ sym s.role))
+        (same-same_role (turn_from Initiator h.passed) h.role (ap (turn_from Initiator) s.passed ∙ l.turn ∙ sym s.role))
 
     pub due-speaking : h.passed ≤ length h.pattern.messages → is-due ≡ true → (psks : Bool) (secrets : List (List ℕ)) (tokens : List Token)
         → psks ≡ has_psk h.pattern → secrets ≡ h.secrets → tokens ≡ tokens_now v

@@ -15,26 +15,16 @@ use Rattle.noise_keys.specs.declared.keys.Own.TheVariants.{Ephemeral, Static}
 use Rattle.noise_handshake.specs.Setup.{has_token}
 use Rattle.noise_handshake.specs.View.{tokens_at}
 use Rattle.noise_handshake.specs.inner.Speaking.{has_own}
-
-or-left : (a b : Bool) → a ≡ true → (a || b) ≡ true
-or-left true b e = refl
-or-left false b e = cc
-
-or-right : (a b : Bool) → b ≡ true → (a || b) ≡ true
-or-right true b e = refl
-or-right false b e = e
+use Rattle.std.proofs.lemmas.Bool.{or_right, or_left}
+use Rattle.noise_names.specs.Roles.{same_role-self}
 
 or-both : (a b c d : Bool) → (a ≡ true → c ≡ true) → (b ≡ true → d ≡ true) → (a || b) ≡ true → (c || d) ≡ true
-or-both true b c d f g e = or-left c d (f refl)
-or-both false b c d f g e = or-right c d (g e)
+or-both true b c d f g e = or_left c d (f refl)
+or-both false b c d f g e = or_right c d (g e)
 
 and-both : (a b : Bool) → a ≡ true → IsTrue b → IsTrue (a && b)
 and-both true b e h = h
 and-both false b e h = cc
-
-same_role-self : (party : Role) → same_role party party ≡ true
-same_role-self Initiator = refl
-same_role-self Responder = refl
 
 by_self : (b : Bool) (party : Role) → b ≡ true → (b && same_role party party) ≡ true
 by_self true party e = same_role-self party
@@ -53,12 +43,12 @@ stands-messages party t k [] n e = cc
 stands-messages party t k (ts ∷ ms) zero e =
     let rest : List Place = place party payload k (length ts) ∷ message_places (other party) (k + 1) ms in
     list_any-append (λ q. is_at t q.step && same_role q.party party) (token_places party k 0 ts) rest
-    ∙ or-left (is_among party t (token_places party k 0 ts)) (is_among party t rest) (stands-tokens party t k 0 ts e)
+    ∙ or_left (is_among party t (token_places party k 0 ts)) (is_among party t rest) (stands-tokens party t k 0 ts e)
 stands-messages party t k (ts ∷ ms) (suc n) e =
     let whose : Role = turn_from (other party) n in
     let rest : List Place = place party payload k (length ts) ∷ message_places (other party) (k + 1) ms in
     list_any-append (λ q. is_at t q.step && same_role q.party whose) (token_places party k 0 ts) rest
-    ∙ or-right (is_among whose t (token_places party k 0 ts)) (is_among whose t rest) (stands-messages (other party) t (k + 1) ms n e)
+    ∙ or_right (is_among whose t (token_places party k 0 ts)) (is_among whose t rest) (stands-messages (other party) t (k + 1) ms n e)
 
 pub stands-place : (p : Plan) (t : Token) (n : ℕ) → has_token t (tokens_at p.messages n) ≡ true → is_among (turn_from Initiator n) t (places_of p) ≡ true
 stands-place p t n e =
@@ -66,9 +56,9 @@ stands-place p t n e =
     let pre : List Place = token_places Initiator 0 0 p.initiator ++ token_places Responder 0 0 p.responder in
     let all : List Place = message_places Initiator 1 p.messages in
     list_any-append (λ q. is_at t q.step && same_role q.party whose) (pre ++ all) (transport_places p)
-    ∙ or-left (is_among whose t (pre ++ all)) (is_among whose t (transport_places p))
+    ∙ or_left (is_among whose t (pre ++ all)) (is_among whose t (transport_places p))
     (list_any-append (λ q. is_at t q.step && same_role q.party whose) pre all
-    ∙ or-right (is_among whose t pre) (is_among whose t all) (stands-messages Initiator t 1 p.messages n e))
+    ∙ or_right (is_among whose t pre) (is_among whose t all) (stands-messages Initiator t 1 p.messages n e))
 
 module _ (own : Own → Option (List ℕ)) where
   all-own : (ts : List Token) → (has_token E ts ≡ true → is_some (own Ephemeral) ≡ true) → (has_token S ts ≡ true → is_some (own Static) ≡ true)

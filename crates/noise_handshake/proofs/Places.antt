@@ -16,18 +16,7 @@ use Rattle.noise_handshake.specs.Length.{keyed_after, keyed_after_tokens, token_
 use Rattle.noise_handshake.specs.Passed.{passed_places}
 use Rattle.noise_handshake.specs.View.{tokens_at}
 use Rattle.noise_handshake.proofs.Views.{tokens_at-read}
-
-or-false : (b : Bool) → (b || false) ≡ b
-or-false true = refl
-or-false false = refl
-
-or-true : (b : Bool) → (b || true) ≡ true
-or-true true = refl
-or-true false = refl
-
-and-false : (b : Bool) → (b && false) ≡ false
-and-false true = refl
-and-false false = refl
+use Rattle.noise_names.specs.Tests.{or-false, or-true, and-false}
 
 -- one place more
 occurs-more : (t : Token) (earlier : List Place) (p : Place) → occurs t (earlier ++ p ∷ []) ≡ (occurs t earlier || is_at t p.step)

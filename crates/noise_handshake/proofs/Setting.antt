@@ -17,6 +17,7 @@ use Rattle.noise_keys.specs.declared.faults.SetupFault.TheVariants.{EphemeralMis
 use Rattle.noise_handshake.specs.Setup.{keys_of, public_keys, secrets_of, setup_fault, lacks_own, lacks_remote, has_unexpected, has_before, token_of}
 use Rattle.noise_handshake.specs.inner.PreMessage.{HasPre}
 use Rattle.noise_handshake.proofs.Uses.{stands-places_of}
+use Rattle.std.proofs.lemmas.Bool.{or_parts}
 
 pub flips : (b x : Bool) → (IsTrue b ↔ IsFalse x) → not b ≡ x
 flips true x e = sym (e.0 refl)
@@ -37,10 +38,6 @@ exactly false (Some x) e h = absurd (cc)
 left-false : (a b : Bool) → (a || b) ≡ false → a ≡ false
 left-false true b e = absurd (cc)
 left-false false b e = refl
-
-right-false : (a b : Bool) → (a || b) ≡ false → b ≡ false
-right-false true b e = absurd (cc)
-right-false false b e = e
 
 same-count : (n m : ℕ) → not (n == m) ≡ false → n ≡ m
 same-count n m e = by (n == m) refl e where
@@ -99,8 +96,8 @@ module _ (p : Plan) (role : Role) (own : Own → Option (List ℕ)) (remote : Re
   remote-exactly = (
     exactly (before E) remote.e (left-false (before E && is_none remote.e) (before S && is_none remote.s) tests.third)
         (left-false (is_some remote.e && not (before E)) (is_some remote.s && not (before S)) tests.fourth),
-    exactly (before S) remote.s (right-false (before E && is_none remote.e) (before S && is_none remote.s) tests.third)
-        (right-false (is_some remote.e && not (before E)) (is_some remote.s && not (before S)) tests.fourth),
+    exactly (before S) remote.s (or_parts (before E && is_none remote.e) (before S && is_none remote.s) tests.third).1
+        (or_parts (is_some remote.e && not (before E)) (is_some remote.s && not (before S)) tests.fourth).1,
   )
 
   own-pre : HasPre p role (public_keys own)

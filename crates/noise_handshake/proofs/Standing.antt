@@ -19,20 +19,9 @@ use Rattle.noise_handshake.specs.View.{View, Reader, reader, Listens, Reads, Sto
 use Rattle.noise_handshake.specs.inner.Listening.{Listening}
 use Rattle.noise_handshake.specs.Held.{Held, read_fault, is_turn}
 use Rattle.noise_handshake.specs.Party.{Stands, DoesNotRead, after_not_read, after_message, over}
+use Rattle.noise_names.specs.Roles.{same_role-true, same_role-false}
 
 -- whose turn it is
-same-role : (a b : Role) → same_role a b ≡ true → a ≡ b
-same-role Initiator Initiator e = refl
-same-role Initiator Responder e = absurd (cc)
-same-role Responder Initiator e = absurd (cc)
-same-role Responder Responder e = refl
-
-other-role : (a b : Role) → same_role a b ≡ false → a ≡ other b
-other-role Initiator Initiator e = absurd (cc)
-other-role Initiator Responder e = refl
-other-role Responder Initiator e = refl
-other-role Responder Responder e = absurd (cc)
-
 abbrev pub Told : (ended all ours : Bool) → Option ReadFault → Type 0
 Told ended all ours (Some read.Ended) = ended ≡ true
 Told ended all ours (Some read.Done) = (ended ≡ false) × (all ≡ true)
@@ -75,7 +64,7 @@ reads-turn h e =
     let t : Told h.ended (h.passed == length h.pattern.messages) (is_turn h.role h.passed) None =
     subst (Told h.ended (h.passed == length h.pattern.messages) (is_turn h.role h.passed)) e
     (told h.ended (h.passed == length h.pattern.messages) (is_turn h.role h.passed)) in
-    other-role (turn_from Initiator h.passed) h.role t.2
+    same_role-false (turn_from Initiator h.passed) h.role t.2
 
 module _ {K : Type 0} (public_of : K → Own → Option (List ℕ)) (agreement : K → Own → List ℕ → Option (List ℕ)) (h : Held K) (v : View)
     (s : Stands public_of agreement h v) where
@@ -97,7 +86,7 @@ module _ {K : Type 0} (public_of : K → Own → Option (List ℕ)) (agreement :
       let t : Told h.ended (h.passed == length h.pattern.messages) (is_turn h.role h.passed) None =
       subst (Told h.ended (h.passed == length h.pattern.messages) (is_turn h.role h.passed)) e
       (told h.ended (h.passed == length h.pattern.messages) (is_turn h.role h.passed)) in
-      record { going = going t.0; more = few w t.1; turn = other-role (turn_from Initiator v.passed) v.role (turn false t.2) }
+      record { going = going t.0; more = few w t.1; turn = same_role-false (turn_from Initiator v.passed) v.role (turn false t.2) }
 
   -- where one is due there is no fault
   pub reads-due : Listens v → read_fault h ≡ None
@@ -128,7 +117,7 @@ module _ {K : Type 0} (public_of : K → Own → Option (List ℕ)) (agreement :
         all e = let same : h.passed ≡ length h.pattern.messages = grind (arith, nat_tests) in
             sym s.passed ∙ same ∙ ap (λ (p : Plan). length p.messages) s.pattern
       declined read.NotYourTurn m w t =
-          (record { going = going t.0; more = few w t.1; turn = same-role (turn_from Initiator v.passed) v.role (turn true t.2) }, s)
+          (record { going = going t.0; more = few w t.1; turn = same_role-true (turn_from Initiator v.passed) v.role (turn true t.2) }, s)
       declined (read.Refused token cause) m w t = absurd t
 
   -- and isn't refused

@@ -3,10 +3,7 @@ use Rattle.std.proofs.Common.{◌≡◌, ◌⊎◌, inl, inr, ℕ, zero, suc, �
 use Rattle.noise_names.specs.declared.token.Role.{Role}
 use Rattle.noise_names.specs.declared.token.Role.TheVariants.{Initiator, Responder}
 use Rattle.noise_names.specs.Tokens.{other, same_role, turn_from}
-
-other-other : (a : Role) → other (other a) ≡ a
-other-other Initiator = refl
-other-other Responder = refl
+use Rattle.noise_names.specs.Roles.{other-other}
 
 turns : (a : Role) (k : ℕ) → ((k % 2 ≡ 0) × (turn_from a k ≡ a)) ⊎ ((k % 2 ≡ 1) × (turn_from a k ≡ other a))
 turns a zero = inl (refl, refl)

@@ -10,6 +10,7 @@ use Rattle.noise_names.specs.Tokens.{other, same_role, same_token}
 use Rattle.noise_names.specs.Plan.{Plan, Place, place, payload, transport, pre_of, is_one_way, token_places, message_places, transport_places, places_of}
 use Rattle.noise_names.specs.Validity.{is_at, is_among}
 use Rattle.noise_handshake.specs.Setup.{has_before, has_token}
+use Rattle.noise_names.specs.Tests.{or-false}
 
 shared : (s a b : Bool) → (a && s) || (s && b) ≡ s && (a || b)
 shared true true b = refl
@@ -51,10 +52,6 @@ pub found-later : (party role : Role) (t : Token) (n : ℕ) (ts : List Token) (m
 found-later party role t n ts ms all b rest split e h k =
     k ∙ ap (λ (x : Bool). x || is_among role t (message_places (other party) (n + 1) ms)) (sym h ∙ e)
     ∙ sym (stands-message_places party role t n ts ms) ∙ ap (λ (zs : List (List Token)). is_among role t (message_places party n zs)) (sym split)
-
-or-false : (b : Bool) → b || false ≡ b
-or-false true = refl
-or-false false = refl
 
 no-transport : (p : Plan) (role : Role) (t : Token) → is_among role t (transport_places p) ≡ false
 no-transport p role t = by (is_one_way p) where

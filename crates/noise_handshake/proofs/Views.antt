@@ -16,8 +16,3 @@ tokens_at-index tokens at ms all i e f h due = e ∙ f ∙ ap (λ (zs : List (Li
 -- the items from one on, as a slice
 pub items-from : (ds items : List (List ℕ)) (used : ℕ) → ds ≡ items → take (length ds - used) (drop used ds) ≡ drop used items
 items-from ds items used e = take_all (length ds - used) (drop used ds) (omega (arith, length-drop used ds)) ∙ ap (drop used) e
-
--- a list without items
-pub no-items : {X : Type 0} (xs : List X) → length xs ≡ 0 → xs ≡ []
-no-items [] e = refl
-no-items (x ∷ xs) e = absurd (omega arith)

@@ -3,7 +3,7 @@ use Rattle.std.proofs.Common.{◌≡◌, ℕ, zero, suc, ◌+◌, ◌<◌, ◌�
 use Rattle.std.proofs.Common.{append_assoc, drop-cons, add-one, length-take}
 use Rattle.std.proofs.lemmas.List.{take-append-drop}
 use Rattle.std.proofs.Math.Seq.{take-append_seam}
-use Rattle.std.specs.Prelude.{Bool, true, false, ◌&&◌, Option, Some, None, is_some, nat_lt, if◌then◌else◌, MatchOption}
+use Rattle.std.specs.Prelude.{Bool, true, false, Option, Some, None, is_some, nat_lt, if◌then◌else◌, MatchOption}
 use Rattle.noise_names.specs.declared.token.Token.{Token}
 use Rattle.noise_names.specs.declared.token.Token.TheVariants.{E, S, Ee, Es, Se, Ss, Psk}
 use Rattle.noise_names.specs.declared.token.Role.{Role}
@@ -22,6 +22,7 @@ use Rattle.noise_handshake.specs.inner.Listening.{Listening, StopsKnowing}
 use Rattle.noise_handshake.proofs.Apart.{leads-none, leads-more, reads-leads}
 use Rattle.noise_handshake.proofs.Knowing.{is_some-remote, known-dh}
 use Rattle.noise_handshake.proofs.Standing.{for-view}
+use Rattle.std.proofs.lemmas.Bool.{and_parts}
 
 -- ---- a token of a list
 
@@ -41,21 +42,13 @@ token-placed (p ∷ ps) (suc k) d h = token-placed ps k d (omega arith)
 
 -- ---- what is known there
 
-left-true : (a b : Bool) → (a && b) ≡ true → a ≡ true
-left-true true b h = refl
-left-true false b h = cc
-
-right-true : (a b : Bool) → (a && b) ≡ true → b ≡ true
-right-true true b h = h
-right-true false b h = cc
-
 -- the remote key of a DH among tokens
 known-there : (role : Role) (e s : Bool) (before later : List Token) (t : Token) → are_known role e s (before ++ t ∷ later) ≡ true
     → is_known role (e_after_tokens e before) (s_after_tokens s before) t ≡ true
-known-there role e s [] later t h = left-true (is_known role e s t) (are_known role (e_after e t) (s_after s t) later) h
+known-there role e s [] later t h = (and_parts (is_known role e s t) (are_known role (e_after e t) (s_after s t) later) h).0
 known-there role e s (u ∷ before) later t h =
     known-there role (e_after e u) (s_after s u) before later t
-    (right-true (is_known role e s u) (are_known role (e_after e u) (s_after s u) (before ++ t ∷ later)) h)
+    (and_parts (is_known role e s u) (are_known role (e_after e u) (s_after s u) (before ++ t ∷ later)) h).1
 
 e-one : (known : Remote) (t : Token) (x : List ℕ) → is_some (known_after known t x).e ≡ e_after (is_some known.e) t
 e-one known E x = refl

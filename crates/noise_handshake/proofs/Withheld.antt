@@ -3,8 +3,8 @@ use Rattle.std.proofs.Common.{◌≡◌, ℕ, ◌+◌, ◌<◌, ◌≤◌, List,
 use Rattle.std.proofs.lemmas.Bool.Decides.{nat_tests}
 use Rattle.std.specs.Prelude.{Option, None, Some, IfSome, nat_lt, ◌==◌, if◌then◌else◌}
 use Rattle.noise_names.specs.declared.token.Role.{Role}
-use Rattle.noise_names.specs.declared.token.Role.TheVariants.{Initiator, Responder}
-use Rattle.noise_names.specs.Tokens.{other, same_role, turn_from}
+use Rattle.noise_names.specs.declared.token.Role.TheVariants.{Initiator}
+use Rattle.noise_names.specs.Tokens.{same_role, turn_from}
 use Rattle.noise_names.specs.Plan.{Plan}
 use Rattle.noise_names.specs.Overhead.{overhead_of}
 use Rattle.noise_keys.specs.declared.keys.Own.{Own}
@@ -13,6 +13,7 @@ use Rattle.noise_handshake.specs.declared.faults.WriteFault.TheVariants as write
 use Rattle.noise_handshake.specs.Held.{Held, is_turn, length_now, write_fault}
 use Rattle.noise_handshake.specs.Party.{Stands, DoesNotWrite}
 use Rattle.noise_handshake.specs.View.{View}
+use Rattle.noise_names.specs.Roles.{same_role-true, same_role-false}
 
 -- what a fault says of the tests, and none
 abbrev Said : (ended all ours long : Bool) → Option WriteFault → Type 0
@@ -31,18 +32,6 @@ said false true ours long = (refl, refl)
 said false false false long = (refl, refl, refl)
 said false false true true = (refl, refl, refl, refl)
 said false false true false = tt
-
-same-role : (a b : Role) → same_role a b ≡ true → a ≡ b
-same-role Initiator Initiator e = refl
-same-role Initiator Responder e = absurd (cc)
-same-role Responder Initiator e = absurd (cc)
-same-role Responder Responder e = refl
-
-other-role : (a b : Role) → same_role a b ≡ false → a ≡ other b
-other-role Initiator Initiator e = absurd (cc)
-other-role Initiator Responder e = refl
-other-role Responder Initiator e = refl
-other-role Responder Responder e = absurd (cc)
 
 module _ {K : Type 0} (public_of : K → Own → Option (List ℕ)) (agreement : K → Own → List ℕ → Option (List ℕ)) (h : Held K) (v : View)
     (s : Stands public_of agreement h v) (within : h.passed ≤ length h.pattern.messages) (payload : ℕ) where
@@ -73,9 +62,9 @@ module _ {K : Type 0} (public_of : K → Own → Option (List ℕ)) (agreement :
   withheld-by write.Ended t = sym s.ended ∙ t
   withheld-by write.Done t = (sym s.ended ∙ t.0, whole t.1)
   withheld-by write.NotYourTurn t =
-      record { going = sym s.ended ∙ t.0; more = more t.1; turn = other-role (turn_from Initiator v.passed) v.role (turn false t.2) }
+      record { going = sym s.ended ∙ t.0; more = more t.1; turn = same_role-false (turn_from Initiator v.passed) v.role (turn false t.2) }
   withheld-by write.TooLong t = (
-    record { going = sym s.ended ∙ t.0; more = more t.1; turn = same-role (turn_from Initiator v.passed) v.role (turn true t.2) },
+    record { going = sym s.ended ∙ t.0; more = more t.1; turn = same_role-true (turn_from Initiator v.passed) v.role (turn true t.2) },
     long t.3,
   )
   withheld-by (write.Agreement token) t = absurd t

@@ -5,8 +5,8 @@ use Rattle.std.specs.Prelude.{Option, None, Some, count_by, nat_lt, ◌==◌, Is
 use Rattle.std.specs.List.{list_all}
 use Rattle.noise_names.specs.declared.token.Token.{Token}
 use Rattle.noise_names.specs.declared.token.Role.{Role}
-use Rattle.noise_names.specs.declared.token.Role.TheVariants.{Initiator, Responder}
-use Rattle.noise_names.specs.Tokens.{is_psk, same_role, turn_from}
+use Rattle.noise_names.specs.declared.token.Role.TheVariants.{Initiator}
+use Rattle.noise_names.specs.Tokens.{is_psk, turn_from}
 use Rattle.noise_names.specs.Plan.{Plan, has_psk}
 use Rattle.noise_names.specs.Overhead.{has_key, overhead_of}
 use Rattle.noise_state.specs.Standing.{StateStands, keyed}
@@ -26,12 +26,7 @@ use Rattle.noise_handshake.specs.Passed.{passed_places}
 use Rattle.noise_handshake.specs.Party.{Stands, after_own}
 use Rattle.noise_handshake.proofs.Owned.{owned}
 use Rattle.noise_handshake.proofs.Places.{overhead-is}
-
-same-role : (a b : Role) → same_role a b ≡ true → a ≡ b
-same-role Initiator Initiator e = refl
-same-role Initiator Responder e = absurd (cc)
-same-role Responder Initiator e = absurd (cc)
-same-role Responder Responder e = refl
+use Rattle.noise_names.specs.Roles.{same_role-true}
 
 -- what no fault tells
 record Clear (ended all ours long : Bool) : Type 0 where
@@ -62,7 +57,7 @@ module _ {K : Type 0} (public_of : K → Own → Option (List ℕ)) (h : Held K)
       grind (arith, nat_tests)
 
   pub writes-turn : turn_from Initiator h.passed ≡ h.role
-  writes-turn = same-role (turn_from Initiator h.passed) h.role clear-now.turn
+  writes-turn = same_role-true (turn_from Initiator h.passed) h.role clear-now.turn
 
   -- its length
   pub writes-short : overhead_of h.pattern (h.passed + 1) + len ≤ 65535

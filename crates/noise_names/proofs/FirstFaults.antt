@@ -3,7 +3,6 @@ use Rattle.std.proofs.Common.{◌≡◌, ◌≢◌, ◌⊎◌, ◌↔◌, ℕ, �
 use Rattle.std.proofs.Common.{append_assoc, append-nil, length, arith, inl, inr, subst}
 use Rattle.std.specs.Prelude.{codes, IsTrue}
 use Rattle.std.specs.List.{list_all}
-use Rattle.std.proofs.lemmas.List.Sums.{sum_by-append}
 use Rattle.std.proofs.lemmas.Bool.Decides.{nat_tests}
 use Rattle.noise_names.specs.declared.text.fault.Judged.{Judged}
 use Rattle.noise_names.specs.declared.faults.TextFault.{TextFault}
@@ -22,6 +21,8 @@ use Rattle.noise_names.proofs.Lines.{dots-line, is_other, take-while-all}
 use Rattle.noise_names.proofs.RightTexts.{IsExtended, extended, whole}
 use Rattle.noise_names.proofs.Rows.{no_feed-row, tokens_of}
 use Rattle.noise_names.proofs.WrongLines.{excluded}
+use Rattle.std.proofs.lemmas.List.{nil_from_length}
+use Rattle.noise_names.specs.FaultLines.{feeds-append}
 
 -- ---- lines before the line after the pre-messages
 
@@ -147,9 +148,6 @@ cut-in-line s lines rest bytes number j next h r some is cut n =
 
 -- ---- one more right line
 
-feeds-append : (xs ys : List ℕ) → line_feeds (xs ++ ys) ≡ line_feeds xs + line_feeds ys
-feeds-append xs ys = sum_by-append (λ b. cond (eqb b 10) 1 0) xs ys
-
 feeds-none : (xs : List ℕ) → list_all is_other xs ≡ true → line_feeds xs ≡ 0
 feeds-none [] h = refl
 feeds-none (x ∷ xs) h = feeds-append (x ∷ []) xs ∙ at (eqb x 10) h (feeds-none xs) where
@@ -183,14 +181,10 @@ behind places lines number j r = at r.passed.ahead refl where
   at true e = absurd (let bad : false ≡ true = dots-left places lines [] number j r e in cc)
   at false e = refl
 
-none-of : {A : Type 0} (xs : List A) → length xs ≡ 0 → xs ≡ []
-none-of [] e = refl
-none-of (x ∷ xs) e = absurd (omega arith)
-
 no-message : (s : Section) (lines : List ℕ) (number : ℕ) (j : Judged) → IsSection s → (r : AreRight s.places lines [] number j)
     → IsExtended s.places (has_dots lines) r.passed → j.messages ≡ 0 → IsTextFaultAt (text_with s lines) number kinds.Ending
 no-message s lines number j h r x none =
-    let empty : r.passed.messages ≡ [] = none-of r.passed.messages (sym r.stands.messages ∙ none) in
+    let empty : r.passed.messages ≡ [] = nil_from_length r.passed.messages (sym r.stands.messages ∙ none) in
     inr (record {
       front = passed_lines r.passed;
       left = [];
@@ -355,7 +349,7 @@ pub all-fault : (places : List ℕ) (s : Section) (lines rest : List ℕ) (numbe
     → IsTextFault (text_with s lines) fault
 all-fault places s lines rest number j fault h same r none e =
     fault-of-all s lines number j fault h
-    (subst (λ (ns : List ℕ). AreRight ns lines [] number j) (sym same) (subst (λ (y : List ℕ). AreRight places lines y number j) (none-of rest none) r))
+    (subst (λ (ns : List ℕ). AreRight ns lines [] number j) (sym same) (subst (λ (y : List ℕ). AreRight places lines y number j) (nil_from_length rest none) r))
     (e ∙ ap (λ (ns : List ℕ). cond (eqb j.messages 0) (fault_at number kinds.Ending)
     (cond (list_all (λ n. leb n j.messages) ns) (fault_at 1 kinds.NameTaken) (fault_at 1 kinds.PskPlace))) (sym same))
 

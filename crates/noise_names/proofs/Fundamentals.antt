@@ -1,9 +1,8 @@
 -- The fundamental patterns are within the limits, and each is found by its base.
 use Rattle.std.proofs.Common.{◌≡◌, ℕ, ◌≤◌, ◌+◌, Bool, true, false, ◌&&◌, cond, List, [], ◌∷◌, ◌++◌, Option, Some, None, refl, map, ap, sym, subst, ◌∙◌, length}
-use Rattle.std.proofs.Common.{get_or, arith, leb, append-nil, zero, suc}
+use Rattle.std.proofs.Common.{get_or, arith, append-nil, zero, suc}
 use Rattle.std.specs.Prelude.{find, nat_le, nat_eq, MatchOption, ⊤, slice_get, bytes_eq}
 use Rattle.std.specs.List.{list_all}
-use Rattle.std.proofs.lemmas.Bool.Decides.{nat_tests}
 use Rattle.noise_names.specs.declared.token.Token.{Token}
 use Rattle.noise_names.specs.Tokens.{own_tokens}
 use Rattle.noise_names.specs.Plan.{Plan, plain_of}
@@ -12,16 +11,13 @@ use Rattle.noise_names.specs.Limits.{IsPattern, HavePsks, HavePsksAt, Placed, is
 use Rattle.noise_names.specs.Fundamental.{fundamentals, fundamental_of}
 use Rattle.noise_names.specs.Validity.{IsValid, first_fault, first_fault_from}
 use Rattle.noise_names.proofs.Checking.{none_valid}
-
-both : (x y : Bool) → x && y ≡ true → (x ≡ true) × (y ≡ true)
-both true y h = (refl, h)
-both false y h = absurd (cc)
+use Rattle.std.proofs.lemmas.Bool.{and_parts, leb-true}
 
 -- what is found has what all elements have
 found_all : {X : Type 0} (test keeps : X → Bool) (xs : List X) (x : X) → find test xs ≡ Some x → list_all keeps xs ≡ true → keeps x ≡ true
 found_all test keeps [] x e h = absurd (cc)
 found_all {X = X} test keeps (y ∷ ys) x e h =
-    at (both (keeps y) (list_all keeps ys) h).0 (λ f. found_all test keeps ys x f (both (keeps y) (list_all keeps ys) h).1) (test y) e where
+    at (and_parts (keeps y) (list_all keeps ys) h).0 (λ f. found_all test keeps ys x f (and_parts (keeps y) (list_all keeps ys) h).1) (test y) e where
       at : keeps y ≡ true → (find test ys ≡ Some x → keeps x ≡ true) → (b : Bool) → cond b (Some y) (find test ys) ≡ Some x → keeps x ≡ true
       at here more true f = let same : y ≡ x = cc in subst (λ (z : X). keeps z ≡ true) same here
       at here more false f = more f
@@ -84,11 +80,11 @@ known_is_pattern base p found =
     let known : fundamental_of p.base ≡ Some p =
     found_map (λ q. bytes_eq q.base base) (λ q. fundamental_of q.base) (λ q. Some q) fundamentals p found fundamentals_known in
     let no_places : [] ≡ p.places = ap (λ (q : Plan). q.places) plain in
-    let a = both (is_base p.base) _ within in
-    let b = both (is_pre_message p.initiator) _ a.1 in
-    let c = both (is_pre_message p.responder) _ b.1 in
-    let d = both (nat_le 1 (length p.messages) && nat_le (length p.messages) 8) _ c.1 in
-    let e = both (list_all has_few_tokens p.messages) _ d.1 in
+    let a = and_parts (is_base p.base) _ within in
+    let b = and_parts (is_pre_message p.initiator) _ a.1 in
+    let c = and_parts (is_pre_message p.responder) _ b.1 in
+    let d = and_parts (nat_le 1 (length p.messages) && nat_le (length p.messages) 8) _ c.1 in
+    let e = and_parts (list_all has_few_tokens p.messages) _ d.1 in
     record {
       base = a.0;
       places = subst (λ (ns : List ℕ). are_places ns ≡ true) no_places refl;
@@ -119,27 +115,24 @@ known_is_placed base p found =
       psks = subst (λ (ns : List ℕ). HavePsks ns p.messages) no_places (known_is_pattern base p found).psks;
     }
 
-le_from_test : (m n : ℕ) → leb m n ≡ true → m ≤ n
-le_from_test m n t = grind (arith, nat_tests)
-
 each_short : (messages : List (List Token)) (i : ℕ) → list_all (λ tokens. nat_le (length tokens) 10) messages ≡ true → length (get_or messages i []) ≤ 10
 each_short [] i h = omega arith
-each_short (m ∷ ms) zero h = le_from_test (length m) 10 (both (nat_le (length m) 10) (list_all (λ tokens. nat_le (length tokens) 10) ms) h).0
-each_short (m ∷ ms) (suc i) h = each_short ms i (both (nat_le (length m) 10) (list_all (λ tokens. nat_le (length tokens) 10) ms) h).1
+each_short (m ∷ ms) zero h = leb-true (length m) 10 (and_parts (nat_le (length m) 10) (list_all (λ tokens. nat_le (length tokens) 10) ms) h).0
+each_short (m ∷ ms) (suc i) h = each_short ms i (and_parts (nat_le (length m) 10) (list_all (λ tokens. nat_le (length tokens) 10) ms) h).1
 
 -- its messages are short
 pub known_is_short : (base : List ℕ) (p : Plan) (i : ℕ) → fundamental_of base ≡ Some p → length (get_or p.messages i []) ≤ 10
 unfolding fundamental_of
 known_is_short base p i found =
     let within : is_within p ≡ true = found_all (λ q. bytes_eq q.base base) is_within fundamentals p found fundamentals_within in
-    let b = both (is_pre_message p.initiator) _ (both (is_base p.base) _ within).1 in
-    let c = both (is_pre_message p.responder) _ b.1 in
-    let e = both (list_all has_few_tokens p.messages) _ (both (nat_le 1 (length p.messages) && nat_le (length p.messages) 8) _ c.1).1 in
+    let b = and_parts (is_pre_message p.initiator) _ (and_parts (is_base p.base) _ within).1 in
+    let c = and_parts (is_pre_message p.responder) _ b.1 in
+    let e = and_parts (list_all has_few_tokens p.messages) _ (and_parts (nat_le 1 (length p.messages) && nat_le (length p.messages) 8) _ c.1).1 in
     each_short p.messages i e.1
 
 pub known_is_few : (base : List ℕ) (p : Plan) → fundamental_of base ≡ Some p → length p.messages ≤ 8
 known_is_few base p found =
-    le_from_test (length p.messages) 8 (both (nat_le 1 (length p.messages)) (nat_le (length p.messages) 8) (known_is_pattern base p found).count).1
+    leb-true (length p.messages) 8 (and_parts (nat_le 1 (length p.messages)) (nat_le (length p.messages) 8) (known_is_pattern base p found).count).1
 
 past : {X : Type 0} (xs : List X) (i : ℕ) → length xs ≤ i → slice_get xs i ≡ None
 past [] i h = refl

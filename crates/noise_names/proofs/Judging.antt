@@ -1,9 +1,8 @@
 -- What is judged of one more line.
-use Rattle.std.proofs.Common.{◌≡◌, ◌≢◌, ◌⊎◌, ℕ, suc, zero, ◌+◌, ◌≤◌, ◌<◌, ◌%◌, Bool, true, false, ◌&&◌, leb, List, [], ◌∷◌, ◌++◌, refl, ap, sym, ◌∙◌, cond}
+use Rattle.std.proofs.Common.{◌≡◌, ◌≢◌, ◌⊎◌, ℕ, suc, zero, ◌+◌, ◌<◌, ◌%◌, Bool, true, false, ◌&&◌, leb, List, [], ◌∷◌, ◌++◌, refl, ap, sym, ◌∙◌, cond}
 use Rattle.std.proofs.Common.{append_assoc, append-nil, length, length-append, arith, inl, inr, subst, Result}
 use Rattle.std.specs.Prelude.{codes, MatchResult}
 use Rattle.std.specs.List.{list_all}
-use Rattle.std.proofs.lemmas.Bool.Decides.{nat_tests}
 use Rattle.std.proofs.lemmas.List.Folds.{list_all-append}
 use Rattle.noise_names.specs.declared.text.fault.Judged.{Judged}
 use Rattle.noise_names.specs.declared.faults.TextFaultKind.{TextFaultKind}
@@ -17,6 +16,7 @@ use Rattle.noise_names.specs.Text.{arrow_of, line, message_lines, pre_line, pre_
 use Rattle.noise_names.specs.Tokens.{other, own_tokens, turn_from}
 use Rattle.noise_names.specs.WrongText.{IsEnded, has_dots, line_feeds, arrow_then, dots}
 use Rattle.noise_names.proofs.RightTexts.{have_psks-append, message_lines-append}
+use Rattle.std.proofs.lemmas.Bool.{and_from, false_from_ne_true, le-leb}
 
 -- whose turn it is
 pub turns-even : (n : ℕ) → n % 2 ≡ 0 → (turn_from Initiator n ≡ Initiator) × (turn_from Responder n ≡ Responder)
@@ -47,10 +47,6 @@ none-is (x ∷ xs) h = absurd (cc)
 pub is-some : {A : Type 0} (xs : List A) → xs ≢ [] → is_some xs ≡ true
 is-some [] h = absurd (h refl)
 is-some (x ∷ xs) h = refl
-
-not-true : (b : Bool) → (b ≡ true → ⊥) → b ≡ false
-not-true true h = absurd (h refl)
-not-true false h = refl
 
 pub ahead-lines : (s : Passed) → s.ahead ≡ true → passed_lines s ≡ pre_line Initiator s.initiator ++ pre_line Responder s.responder
 ahead-lines s h =
@@ -115,8 +111,8 @@ pub next-first : (places : List ℕ) (s : Passed) (dotted : Bool) (tokens : List
     → Stands j s → IsPassed places dotted s → IsNextOf places dotted s (arrow_then Initiator (words tokens)) (judged j.dots_ahead true j.responder j.messages)
 next-first places s dotted tokens j ahead no_first no_second some pre st p =
     let is_ahead : s.ahead ≡ true = sym st.ahead ∙ ahead in
-    let first : s.initiator ≡ [] = none-is s.initiator (sym st.initiator ∙ not-true j.initiator no_first) in
-    let second : s.responder ≡ [] = none-is s.responder (sym st.responder ∙ not-true j.responder no_second) in
+    let first : s.initiator ≡ [] = none-is s.initiator (sym st.initiator ∙ false_from_ne_true j.initiator no_first) in
+    let second : s.responder ≡ [] = none-is s.responder (sym st.responder ∙ false_from_ne_true j.responder no_second) in
     let next : Passed = record { ahead = s.ahead; initiator = tokens; responder = s.responder; messages = s.messages } in
     let before : passed_lines s ≡ [] = ahead-lines s is_ahead
     ∙ ap (λ (ts : List Token). pre_line Initiator ts ++ pre_line Responder s.responder) first ∙ ap (pre_line Responder) second in
@@ -143,7 +139,7 @@ pub next-second : (places : List ℕ) (s : Passed) (dotted : Bool) (tokens : Lis
     → Stands j s → IsPassed places dotted s → IsNextOf places dotted s (arrow_then Responder (words tokens)) (judged j.dots_ahead j.initiator true j.messages)
 next-second places s dotted tokens j ahead no_second some pre st p =
     let is_ahead : s.ahead ≡ true = sym st.ahead ∙ ahead in
-    let second : s.responder ≡ [] = none-is s.responder (sym st.responder ∙ not-true j.responder no_second) in
+    let second : s.responder ≡ [] = none-is s.responder (sym st.responder ∙ false_from_ne_true j.responder no_second) in
     let next : Passed = record { ahead = s.ahead; initiator = s.initiator; responder = tokens; messages = s.messages } in
     let before : passed_lines s ≡ pre_line Initiator s.initiator = ahead-lines s is_ahead
     ∙ ap (λ (ts : List Token). pre_line Initiator s.initiator ++ pre_line Responder ts) second ∙ append-nil (pre_line Initiator s.initiator) in
@@ -162,9 +158,6 @@ next-second places s dotted tokens j ahead no_second some pre st p =
       lines = ahead-lines next is_ahead ∙ ap (λ (x : List ℕ). pre_line Initiator s.initiator ++ x) (pre-line-some Responder tokens some)
           ∙ ap (λ (x : List ℕ). x ++ token_line Responder tokens) (sym before);
     }
-
-both : (x y : Bool) → x ≡ true → y ≡ true → x && y ≡ true
-both x y e f = rw (e, f) refl
 
 -- a message
 pub next-message : (places : List ℕ) (s : Passed) (dotted : Bool) (tokens : List Token) (role : Role) (j : Judged) → j.dots_ahead ≡ false
@@ -188,7 +181,7 @@ next-message places s dotted tokens role j ahead turn less some few psks st p =
         none = λ e. absurd (let bad : true ≡ false = sym e ∙ is_behind in cc);
         count = omega arith;
         sizes = list_all-append has_few_tokens s.messages (tokens ∷ [])
-            ∙ both (list_all has_few_tokens s.messages) (has_few_tokens tokens && true) p.sizes (both (has_few_tokens tokens) true few refl);
+            ∙ and_from (list_all has_few_tokens s.messages) (has_few_tokens tokens && true) p.sizes (and_from (has_few_tokens tokens) true few refl);
         psks = have_psks-append places 1 s.messages (tokens ∷ []) p.psks
             (subst (λ (n : ℕ). tokens ≡ with_psk_tokens places n (own_tokens tokens)) number psks, tt);
         form = p.form;
@@ -219,14 +212,11 @@ wrong-psks places s tokens role j ahead turn less some few psks st =
           some,
           ap (λ (r : Role). arrow_then r (words tokens)) (turn ∙ ap (turn_from Initiator) same),
         ),
-        both (leb (length s.messages + 1) 8) (has_few_tokens tokens) (le_test (length s.messages + 1) 8 (omega arith)) few,
+        and_from (leb (length s.messages + 1) 8) (has_few_tokens tokens) (le-leb (length s.messages + 1) 8 (omega arith)) few,
         λ e.
             psks (e ∙ ap (λ (n : ℕ). with_psk_tokens places (n + 1) (own_tokens tokens)) (sym same)),
       ),
     )
-  where
-    le_test : (m n : ℕ) → m ≤ n → leb m n ≡ true
-    le_test m n h = grind (arith, nat_tests)
 
 -- the line with its arrow and its list
 pub arrow-line : (bytes list : List ℕ) (role : Role) (tokens : List Token) → bytes ≡ codes "  " ++ (arrow_of role ++ (codes " " ++ list)) → list ≡ words tokens

@@ -11,6 +11,7 @@ pub mod Numbers
 pub mod OneDivision
 pub mod OneFault
 pub mod OneText
+pub mod PatternRows
 pub mod ProtocolNames
 pub mod PskTokens
 pub mod Reading
@@ -18,6 +19,7 @@ pub mod RightTexts
 pub mod Rows
 pub mod Sections
 pub mod TextLengths
+pub mod TokenLines
 pub mod Tokens
 pub mod WholeLines
 pub mod WordLists

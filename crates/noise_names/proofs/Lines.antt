@@ -6,14 +6,28 @@ use Rattle.std.specs.Prelude.{bytes_eq}
 use Rattle.std.specs.List.{list_all, list_any}
 use Rattle.std.proofs.lemmas.Bool.Decides.{nat_tests}
 use Rattle.std.proofs.lemmas.List.Sums.{take_while-cons}
-use Rattle.noise_names.proofs.Sections.{take-front}
+use Rattle.noise_names.proofs.Sections.{front_is, take-front}
 use Rattle.std.proofs.lemmas.List.Splits.{slice_split_none, slice_split_at}
 use Rattle.noise_names.specs.Judging.{IsFirstLine}
 use Rattle.noise_names.specs.Text.{line}
 use Rattle.noise_names.specs.WrongText.{first_line, dots, has_dots}
+use Rattle.std.proofs.lemmas.List.{append_cancel_left, nil_from_length}
+use Rattle.noise_names.specs.Tests.{or-false}
 
 abbrev pub is_other : ℕ → Bool
 is_other b = not (eqb b 10)
+
+-- no line feed is among these bytes
+abbrev pub no_feed : List ℕ → Bool
+no_feed text = list_all is_other text
+
+-- the first lines of two texts
+pub first_same : (a b x y : List ℕ) → no_feed a ≡ true → no_feed b ≡ true → line a ++ x ≡ line b ++ y → (a ≡ b) × (x ≡ y)
+first_same a b x y h k e =
+    let cut : a ++ 10 ∷ x ≡ b ++ 10 ∷ y = sym (append_assoc a (10 ∷ []) x) ∙ e ∙ append_assoc b (10 ∷ []) y in
+    let same : a ≡ b = sym (front_is is_other a 10 x h refl) ∙ ap (take_while is_other) cut ∙ front_is is_other b 10 y k refl in
+    let rest : 10 ∷ x ≡ 10 ∷ y = append_cancel_left b (10 ∷ x) (10 ∷ y) (ap (λ (k : List ℕ). k ++ 10 ∷ x) (sym same) ∙ cut) in
+    (same, cc)
 
 -- the front that passes a test
 pub take-while-all : (p : ℕ → Bool) (xs : List ℕ) → list_all p (take_while p xs) ≡ true
@@ -52,48 +66,36 @@ line-ended text bytes back after b n count front rest cut =
 pub line-cut : (text bytes back : List ℕ) (n : ℕ) → n ≡ length (first_line text) → bytes ≡ take n text → back ≡ drop n text → length back ≡ 0
     → (text ≡ bytes) × (back ≡ [])
 line-cut text bytes back n count front rest none =
-    let empty : back ≡ [] = length_zero back none in
+    let empty : back ≡ [] = nil_from_length back none in
     let parts : take n text ++ drop n text ≡ bytes ++ [] = ap (λ (x : List ℕ). x ++ drop n text) (sym front)
     ∙ ap (λ (x : List ℕ). bytes ++ x) (sym rest ∙ empty) in
     (sym (take-append-drop n text) ∙ parts ∙ append-nil bytes, empty)
-  where
-    length_zero : (xs : List ℕ) → length xs ≡ 0 → xs ≡ []
-    length_zero [] e = refl
-    length_zero (x ∷ xs) e = absurd (omega arith)
 
 -- whether the lines are among those of a text
-none_feeds : (bytes : List ℕ) → list_all is_other bytes ≡ true → All (λ b. eqb b 10 ≡ false) bytes
+none_feeds : (bytes : List ℕ) → no_feed bytes ≡ true → All (λ b. eqb b 10 ≡ false) bytes
 none_feeds [] h = All-nil (λ b. eqb b 10 ≡ false)
 none_feeds (b ∷ bs) h = at (eqb b 10) refl h (none_feeds bs) where
-  at : (t : Bool) → eqb b 10 ≡ t → not t && list_all is_other bs ≡ true → (list_all is_other bs ≡ true → All (λ x. eqb x 10 ≡ false) bs)
+  at : (t : Bool) → eqb b 10 ≡ t → not t && no_feed bs ≡ true → (no_feed bs ≡ true → All (λ x. eqb x 10 ≡ false) bs)
       → All (λ x. eqb x 10 ≡ false) (b ∷ bs)
   at true e k more = absurd (let bad : false ≡ true = k in cc)
   at false e k more = All-cons (λ x. eqb x 10 ≡ false) b bs e (more k)
 
-pub dots-line : (bytes after : List ℕ) → list_all is_other bytes ≡ true → has_dots (line bytes ++ after) ≡ bytes_eq bytes dots || has_dots after
+pub dots-line : (bytes after : List ℕ) → no_feed bytes ≡ true → has_dots (line bytes ++ after) ≡ bytes_eq bytes dots || has_dots after
 dots-line bytes after h =
     ap has_dots (append_assoc bytes (10 ∷ []) after)
     ∙ ap (list_any (λ words. bytes_eq words dots)) (slice_split_at (λ b. eqb b 10) bytes 10 after (none_feeds bytes h) refl)
 
-pub dots-last : (bytes : List ℕ) → list_all is_other bytes ≡ true → has_dots bytes ≡ bytes_eq bytes dots
+pub dots-last : (bytes : List ℕ) → no_feed bytes ≡ true → has_dots bytes ≡ bytes_eq bytes dots
 dots-last bytes h =
-    ap (list_any (λ words. bytes_eq words dots)) (slice_split_none (λ b. eqb b 10) bytes (none_feeds bytes h)) ∙ or_false (bytes_eq bytes dots)
-  where
-    or_false : (x : Bool) → x || false ≡ x
-    or_false true = refl
-    or_false false = refl
+    ap (list_any (λ words. bytes_eq words dots)) (slice_split_none (λ b. eqb b 10) bytes (none_feeds bytes h)) ∙ or-false (bytes_eq bytes dots)
 
 -- what a first line adds
 pub dots-first : (text bytes after : List ℕ) (ended : Bool) → bytes ≡ first_line text → IsFirstLine text bytes ended after
     → has_dots text ≡ bytes_eq bytes dots || has_dots after
-dots-first text bytes after true is whole = ap has_dots whole ∙ dots-line bytes after (ap (list_all is_other) is ∙ take-while-all is_other text)
+dots-first text bytes after true is whole = ap has_dots whole ∙ dots-line bytes after (ap no_feed is ∙ take-while-all is_other text)
 dots-first text bytes after false is whole =
-    ap has_dots (whole.0) ∙ dots-last bytes (ap (list_all is_other) is ∙ take-while-all is_other text) ∙ or_none (bytes_eq bytes dots)
+    ap has_dots (whole.0) ∙ dots-last bytes (ap no_feed is ∙ take-while-all is_other text) ∙ sym (or-false (bytes_eq bytes dots))
     ∙ ap (λ (x : List ℕ). bytes_eq bytes dots || has_dots x) (sym whole.1)
-  where
-    or_none : (x : Bool) → x ≡ x || false
-    or_none true = refl
-    or_none false = refl
 
 pub shorter : (text bytes after : List ℕ) (ended : Bool) → IsFirstLine text bytes ended after → length text ≢ 0 → length after < length text
 shorter text bytes after true whole some = let count = simp length-append at (ap length whole) in omega arith

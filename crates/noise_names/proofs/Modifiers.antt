@@ -9,10 +9,8 @@ use Rattle.noise_names.specs.declared.faults.NameFault.TheVariants.{ModifierOrde
 use Rattle.noise_names.specs.Names.{modifier, pieces_of, is_modifier, digit_of, rises, are_places}
 use Rattle.noise_names.proofs.Numbers.{places_from-few, are_places-from}
 use Rattle.noise_names.specs.Sections.{number_in, modifiers_read}
-
-both : (x y : Bool) → x && y ≡ true → (x ≡ true) × (y ≡ true)
-both true y h = (refl, h)
-both false y h = absurd (cc)
+use Rattle.std.proofs.lemmas.Bool.{and_parts, leb-true, eqb-true, le-leb}
+use Rattle.noise_names.specs.Lists.{cons-same}
 
 -- these numbers have a digit
 abbrev pub are_numbers : List ℕ → Bool
@@ -35,7 +33,7 @@ join-push (m ∷ k ∷ ns) n = ap (λ (bs : List ℕ). modifier m ++ 43 ∷ bs) 
 pub are_numbers-push : (ns : List ℕ) (n : ℕ) → are_numbers ns ≡ true → n ≤ 8 → are_numbers (ns ++ n ∷ []) ≡ true
 are_numbers-push [] n h l = grind (arith, nat_tests)
 are_numbers-push (m ∷ ns) n h l =
-    let a : (leb m 8 ≡ true) × (are_numbers ns ≡ true) = both (leb m 8) (are_numbers ns) h in
+    let a : (leb m 8 ≡ true) × (are_numbers ns ≡ true) = and_parts (leb m 8) (are_numbers ns) h in
     rw (a.0) (are_numbers-push ns n a.1 l)
 
 -- modifiers that begin with some others
@@ -45,42 +43,36 @@ pub record IsLeft (rest : List ℕ) : Type 0 where
   pub small : number ≤ 8
   pub spelled : rest ≡ join_with_byte 43 (map modifier (number ∷ others))
 
-pub le_from_test : (m n : ℕ) → leb m n ≡ true → m ≤ n
-le_from_test m n t = grind (arith, nat_tests)
-
 pub left_over : (done : List ℕ) (n : ℕ) (ns rest : List ℕ) → are_numbers (n ∷ ns) ≡ true → fronts done ++ rest ≡ join_with_byte 43 (map modifier (n ∷ ns))
     → IsLeft rest
-left_over [] n ns rest h e = record { number = n; others = ns; small = le_from_test n 8 (both (leb n 8) (are_numbers ns) h).0; spelled = e }
+left_over [] n ns rest h e = record { number = n; others = ns; small = leb-true n 8 (and_parts (leb n 8) (are_numbers ns) h).0; spelled = e }
 left_over (d ∷ done) n [] rest h e = absurd (cc)
 left_over (d ∷ done) n (m ∷ ns) rest h e =
     let more : fronts done ++ rest ≡ join_with_byte 43 (map modifier (m ∷ ns)) = cc in
-    left_over done m ns rest (both (leb n 8) (are_numbers (m ∷ ns)) h).1 more
-
-same_from_test : (m n : ℕ) → eqb m n ≡ true → m ≡ n
-same_from_test m n t = grind (arith, nat_tests)
+    left_over done m ns rest (and_parts (leb n 8) (are_numbers (m ∷ ns)) h).1 more
 
 -- a modifier and its number
 pub modifier_is : (piece : List ℕ) → is_modifier piece ≡ true → (piece ≡ modifier (number_in piece)) × (number_in piece ≤ 8)
 modifier_is (a ∷ b ∷ c ∷ d ∷ []) h =
-    let last = both (((eqb 112 a && (eqb 115 b && (eqb 107 c && true))) && true) && leb 48 d) (leb d 56) h in
-    let low = both ((eqb 112 a && (eqb 115 b && (eqb 107 c && true))) && true) (leb 48 d) last.0 in
-    let word = both (eqb 112 a && (eqb 115 b && (eqb 107 c && true))) true low.0 in
-    let p = both (eqb 112 a) (eqb 115 b && (eqb 107 c && true)) word.0 in
-    let s = both (eqb 115 b) (eqb 107 c && true) p.1 in
-    let k = both (eqb 107 c) true s.1 in
-    let p_is : 112 ≡ a = same_from_test 112 a p.0 in
-    let s_is : 115 ≡ b = same_from_test 115 b s.0 in
-    let k_is : 107 ≡ c = same_from_test 107 c k.0 in
-    let at_least : 48 ≤ d = le_from_test 48 d low.1 in
-    let at_most : d ≤ 56 = le_from_test d 56 last.1 in
+    let last = and_parts (((eqb 112 a && (eqb 115 b && (eqb 107 c && true))) && true) && leb 48 d) (leb d 56) h in
+    let low = and_parts ((eqb 112 a && (eqb 115 b && (eqb 107 c && true))) && true) (leb 48 d) last.0 in
+    let word = and_parts (eqb 112 a && (eqb 115 b && (eqb 107 c && true))) true low.0 in
+    let p = and_parts (eqb 112 a) (eqb 115 b && (eqb 107 c && true)) word.0 in
+    let s = and_parts (eqb 115 b) (eqb 107 c && true) p.1 in
+    let k = and_parts (eqb 107 c) true s.1 in
+    let p_is : 112 ≡ a = eqb-true 112 a p.0 in
+    let s_is : 115 ≡ b = eqb-true 115 b s.0 in
+    let k_is : 107 ≡ c = eqb-true 107 c k.0 in
+    let at_least : 48 ≤ d = leb-true 48 d low.1 in
+    let at_most : d ≤ 56 = leb-true d 56 last.1 in
     let d_is : d ≡ 48 + (d - 48) = omega arith in
     (rw (← p_is, ← s_is, ← k_is) (ap (λ (n : ℕ). 112 ∷ 115 ∷ 107 ∷ n ∷ []) d_is), omega arith)
 modifier_is piece h =
     let four : length piece ≡ 4 =
-    same_from_test (length piece) 4
-    (both (starts_with eqb piece (codes "psk")) (eqb (length piece) 4)
-    (both (starts_with eqb piece (codes "psk") && eqb (length piece) 4) (leb 48 (digit_of piece))
-    (both (starts_with eqb piece (codes "psk") && eqb (length piece) 4 && leb 48 (digit_of piece)) (leb (digit_of piece) 56) h).0).0).1 in
+    eqb-true (length piece) 4
+    (and_parts (starts_with eqb piece (codes "psk")) (eqb (length piece) 4)
+    (and_parts (starts_with eqb piece (codes "psk") && eqb (length piece) 4) (leb 48 (digit_of piece))
+    (and_parts (starts_with eqb piece (codes "psk") && eqb (length piece) 4 && leb 48 (digit_of piece)) (leb (digit_of piece) 56) h).0).0).1 in
     absurd (omega arith)
 
 not_plus : (n : ℕ) → n ≤ 8 → eqb (48 + n) 43 ≡ false
@@ -90,10 +82,10 @@ not_plus n h = grind (arith, nat_tests)
 split_modifiers : (n : ℕ) (ns : List ℕ) → are_numbers (n ∷ ns) ≡ true
     → slice_split (λ c. eqb c 43) (join_with_byte 43 (map modifier (n ∷ ns))) ≡ map modifier (n ∷ ns)
 split_modifiers n [] h =
-    let e : eqb (48 + n) 43 ≡ false = not_plus n (le_from_test n 8 (both (leb n 8) true h).0) in rw e refl
+    let e : eqb (48 + n) 43 ≡ false = not_plus n (leb-true n 8 (and_parts (leb n 8) true h).0) in rw e refl
 split_modifiers n (m ∷ ns) h =
-    let a : (leb n 8 ≡ true) × (are_numbers (m ∷ ns) ≡ true) = both (leb n 8) (are_numbers (m ∷ ns)) h in
-    let e : eqb (48 + n) 43 ≡ false = not_plus n (le_from_test n 8 a.0) in
+    let a : (leb n 8 ≡ true) × (are_numbers (m ∷ ns) ≡ true) = and_parts (leb n 8) (are_numbers (m ∷ ns)) h in
+    let e : eqb (48 + n) 43 ≡ false = not_plus n (leb-true n 8 a.0) in
     let more : slice_split (λ c. eqb c 43) (join_with_byte 43 (map modifier (m ∷ ns))) ≡ map modifier (m ∷ ns) = split_modifiers m ns a.1 in
     rw (e, more) refl
 
@@ -106,18 +98,12 @@ pub all_modifiers : (pieces : List (List ℕ)) → list_all is_modifier pieces �
     → (pieces ≡ map modifier (map number_in pieces)) × (are_numbers (map number_in pieces) ≡ true)
 all_modifiers [] h = (refl, refl)
 all_modifiers (piece ∷ pieces) h =
-    let a : (is_modifier piece ≡ true) × (list_all is_modifier pieces ≡ true) = both (is_modifier piece) (list_all is_modifier pieces) h in
+    let a : (is_modifier piece ≡ true) × (list_all is_modifier pieces ≡ true) = and_parts (is_modifier piece) (list_all is_modifier pieces) h in
     let one = modifier_is piece a.0 in
     let more = all_modifiers pieces a.1 in
-    let small : leb (number_in piece) 8 ≡ true = test_from_le (number_in piece) 8 one.1 in
-    (cons_same one.0 more.0, and_true small more.1)
+    let small : leb (number_in piece) 8 ≡ true = le-leb (number_in piece) 8 one.1 in
+    (cons-same one.0 more.0, and_true small more.1)
   where
-    test_from_le : (m n : ℕ) → m ≤ n → leb m n ≡ true
-    test_from_le m n l = grind (arith, nat_tests)
-
-    cons_same : {x y : List ℕ} {xs ys : List (List ℕ)} → x ≡ y → xs ≡ ys → x ∷ xs ≡ y ∷ ys
-    cons_same e f = cc
-
     and_true : {x y : Bool} → x ≡ true → y ≡ true → x && y ≡ true
     and_true e f = rw (e, f) refl
 
@@ -141,9 +127,9 @@ refused (b ∷ bs) none some = at (list_all is_modifier (slice_split (λ c. eqb 
 pub are_modifiers : (ns : List ℕ) → are_numbers ns ≡ true → list_all is_modifier (map modifier ns) ≡ true
 are_modifiers [] h = refl
 are_modifiers (n ∷ ns) h =
-    let a : (leb n 8 ≡ true) × (are_numbers ns ≡ true) = both (leb n 8) (are_numbers ns) h in
+    let a : (leb n 8 ≡ true) × (are_numbers ns ≡ true) = and_parts (leb n 8) (are_numbers ns) h in
     let low : leb 48 (48 + n) ≡ true = at_least n in
-    let high : leb (48 + n) 56 ≡ true = at_most n (le_from_test n 8 a.0) in
+    let high : leb (48 + n) 56 ≡ true = at_most n (leb-true n 8 a.0) in
     rw (low, high) (are_modifiers ns a.1)
   where
     at_least : (n : ℕ) → leb 48 (48 + n) ≡ true
@@ -161,12 +147,9 @@ digits_rise (m ∷ n ∷ ns) = rw (shifted m n, digits_rise (n ∷ ns)) refl whe
 
 pub same_numbers : (ns : List ℕ) → map number_in (map modifier ns) ≡ ns
 same_numbers [] = refl
-same_numbers (n ∷ ns) = cons_same (shifted n) (same_numbers ns) where
+same_numbers (n ∷ ns) = cons-same (shifted n) (same_numbers ns) where
   shifted : (n : ℕ) → 48 + n - 48 ≡ n
   shifted n = omega arith
-
-  cons_same : {m n : ℕ} {ms ns : List ℕ} → m ≡ n → ms ≡ ns → m ∷ ms ≡ n ∷ ns
-  cons_same e f = cc
 
 pub places_rise : (ns : List ℕ) → are_numbers ns ≡ true → are_places ns ≡ rises ns
 places_rise ns h = rw h (and_true (rises ns)) where

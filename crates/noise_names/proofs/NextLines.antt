@@ -10,32 +10,11 @@ use Rattle.noise_names.specs.Plan.{Plan}
 use Rattle.noise_names.specs.Text.{line, pre_lines}
 use Rattle.noise_names.specs.Tokens.{other, turn_from}
 use Rattle.noise_names.specs.WrongText.{body_of}
-use Rattle.noise_names.proofs.Rows.{IsNextRow, Row, all_lines, all_right, all_rows, content, ending, first_lines, first_right, first_rows, is_row, lines_of}
-use Rattle.noise_names.proofs.Rows.{message_rows, next_row, no_feed, pre_rows, tokens_of}
-
-some_responder : (t : Token) (ts : List Token) → pre_lines [] (t ∷ ts) ≢ []
-some_responder t ts e = cc
-
-some_initiator : (t : Token) (ts r : List Token) → pre_lines (t ∷ ts) r ≢ []
-some_initiator t ts r e = cc
-
--- the rows after those of the pre-messages
-after_both : (i r j s : List Token) (xs ys : List Row) → (pre_lines i r ≢ [] → pre_lines j s ≢ []) → (pre_lines j s ≢ [] → pre_lines i r ≢ [])
-    → pre_rows j s ++ ys ≡ pre_rows i r ++ xs → ys ≡ xs
-after_both [] [] [] [] xs ys h k e = e
-after_both [] [] [] (v ∷ vs) xs ys h k e = absurd (k (some_responder v vs) refl)
-after_both [] [] (u ∷ us) s xs ys h k e = absurd (k (some_initiator u us s) refl)
-after_both [] (t ∷ ts) [] [] xs ys h k e = absurd (h (some_responder t ts) refl)
-after_both (t ∷ ts) r [] [] xs ys h k e = absurd (h (some_initiator t ts r) refl)
-after_both [] (t ∷ ts) [] (v ∷ vs) xs ys h k e = cc
-after_both [] (t ∷ ts) (u ∷ us) [] xs ys h k e = absurd (cc)
-after_both [] (t ∷ ts) (u ∷ us) (v ∷ vs) xs ys h k e = absurd (cc)
-after_both (t ∷ ts) [] [] (v ∷ vs) xs ys h k e = absurd (cc)
-after_both (t ∷ ts) (x ∷ r) [] (v ∷ vs) xs ys h k e = absurd (cc)
-after_both (t ∷ ts) [] (u ∷ us) [] xs ys h k e = cc
-after_both (t ∷ ts) [] (u ∷ us) (v ∷ vs) xs ys h k e = absurd (cc)
-after_both (t ∷ ts) (x ∷ r) (u ∷ us) [] xs ys h k e = absurd (cc)
-after_both (t ∷ ts) (x ∷ r) (u ∷ us) (v ∷ vs) xs ys h k e = cc
+use Rattle.noise_names.proofs.Rows.{IsNextRow, Row, content, ending, is_row, lines_of}
+use Rattle.noise_names.proofs.Rows.{next_row, tokens_of}
+use Rattle.noise_names.specs.Lists.{cons-same}
+use Rattle.noise_names.proofs.PatternRows.{pre_same, all_lines, all_right, all_rows, first_lines, first_right, first_rows, message_rows, pre_rows}
+use Rattle.noise_names.proofs.Lines.{no_feed}
 
 -- the row after those of some messages is the next message
 pub record IsNextMessage (party : Role) (before messages : List (List Token)) (row : Row) : Type 0 where
@@ -56,12 +35,9 @@ next_message party (m ∷ ms) (k ∷ ks) row more e =
     record {
       message = next.message;
       more = next.more;
-      messages_are = begins {ys = ms ++ next.message ∷ next.more} first next.messages_are;
+      messages_are = cons-same {ys = ms ++ next.message ∷ next.more} first next.messages_are;
       row_is = next.row_is;
     }
-  where
-    begins : {x y : List Token} {xs ys : List (List Token)} → x ≡ y → xs ≡ ys → x ∷ xs ≡ y ∷ ys
-    begins p q = cc
 
 -- The row after those of some pre-messages, where the line after the pre-messages is ahead: that line, after one pre-message at least, or the
 -- pre-message of a party of which there was none.
@@ -117,8 +93,8 @@ at_messages places dotted s told rest q b none_ahead =
     let there : pre_lines s.initiator s.responder ≢ [] → pre_lines q.initiator q.responder ≢ [] = λ f. b.form.1 (b.passed.form.1 (inr f)) in
     let back : pre_lines q.initiator q.responder ≢ [] → pre_lines s.initiator s.responder ≢ [] = λ f. not_ahead (b.passed.form.0 (b.form.0 f)) in
     let messages : message_rows Initiator q.messages ≡ message_rows Initiator s.messages ++ next.row ∷ next.more =
-    after_both s.initiator s.responder q.initiator q.responder (message_rows Initiator s.messages ++ next.row ∷ next.more) (message_rows Initiator q.messages)
-    there back (next.rows_are ∙ append_assoc (pre_rows s.initiator s.responder) (message_rows Initiator s.messages) (next.row ∷ next.more)) in
+    (pre_same q.initiator q.responder s.initiator s.responder (message_rows Initiator q.messages) (message_rows Initiator s.messages ++ next.row ∷ next.more)
+    back there (next.rows_are ∙ append_assoc (pre_rows s.initiator s.responder) (message_rows Initiator s.messages) (next.row ∷ next.more))).2 in
     record {
       row = next.row;
       right = next.right;

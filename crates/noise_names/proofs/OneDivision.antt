@@ -5,9 +5,9 @@ use Rattle.noise_names.specs.Names.{IsSection, Section, section_bytes}
 use Rattle.noise_names.specs.Text.{line}
 use Rattle.noise_names.specs.WrongText.{BeginsRight, IsAfter, IsCutShort, IsEnded, IsLike, IsWrongLine, body_of, first_line, heading_of}
 use Rattle.noise_names.proofs.OneText.{heading_all}
-use Rattle.noise_names.proofs.Rows.{first_same}
 use Rattle.noise_names.proofs.Sections.{one_section}
 use Rattle.noise_names.proofs.WholeLines.{IsBefore, IsFurther, compare, next_of, no_further, same_division}
+use Rattle.noise_names.proofs.Lines.{first_same}
 
 -- one heading
 pub heads_same : (s t : Section) (x y : List ℕ) → IsSection s → IsSection t → line (heading_of s) ++ x ≡ line (heading_of t) ++ y → (s ≡ t) × (x ≡ y)

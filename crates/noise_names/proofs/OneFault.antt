@@ -1,5 +1,5 @@
 -- A text has one fault at most.
-use Rattle.std.proofs.Common.{◌≡◌, ◌≢◌, ◌↔◌, ◌⊎◌, inl, inr, ℕ, ◌+◌, Bool, true, false, not, eqb, leb, List, [], ◌∷◌, ◌++◌, refl, ap, sym, ◌∙◌, subst}
+use Rattle.std.proofs.Common.{◌≡◌, ◌≢◌, ◌↔◌, ◌⊎◌, inl, inr, ℕ, ◌+◌, true, false, not, eqb, leb, List, [], ◌∷◌, ◌++◌, refl, ap, sym, ◌∙◌, subst}
 use Rattle.std.proofs.Common.{append_assoc, append-nil, length}
 use Rattle.std.specs.Prelude.{◌&&◌, IsTrue}
 use Rattle.std.specs.List.{list_all}
@@ -17,8 +17,11 @@ use Rattle.noise_names.specs.WrongText.{IsTextFaultAt, IsWrongLine, body_of, has
 use Rattle.noise_names.proofs.DotsLine.{dots_form}
 use Rattle.noise_names.proofs.OneDivision.{cut_cut, cut_whole, same_body, wrong_cut, wrong_lines, wrong_whole}
 use Rattle.noise_names.proofs.OneText.{heading_all}
-use Rattle.noise_names.proofs.Rows.{Row, all_lines, all_rows, content, lines_of, no_feed}
+use Rattle.noise_names.proofs.Rows.{Row, content, lines_of}
 use Rattle.noise_names.proofs.WrongKinds.{IsWrongKind, after_same, one_kind}
+use Rattle.noise_names.proofs.PatternRows.{all_lines, all_rows}
+use Rattle.noise_names.proofs.Lines.{no_feed}
+use Rattle.noise_names.specs.Tests.{and-false}
 
 -- ---- a text of a taken name has right lines
 
@@ -158,10 +161,7 @@ IsAnyFault text number kind =
 -- a heading without line feed
 has_feed : (a x : List ℕ) → no_feed (line a ++ x) ≡ false
 has_feed [] x = refl
-has_feed (b ∷ a) x = rw (has_feed a x) (and_false (not (eqb b 10))) where
-  and_false : (t : Bool) → t && false ≡ false
-  and_false true = refl
-  and_false false = refl
+has_feed (b ∷ a) x = rw (has_feed a x) (and-false (not (eqb b 10)))
 
 end_later : (text : List ℕ) (n : ℕ) (k : TextFaultKind) → EndsInHeading text → IsLaterFault text n k → ⊥
 end_later text n k (s, h, e) later =

@@ -15,6 +15,7 @@ use Rattle.noise_names.proofs.Numbers.{places_from-few, are_places-from}
 use Rattle.noise_names.specs.Facts.{section_bytes-all}
 use Rattle.noise_names.proofs.Sections.{base_few, front_is, front_split, section_keeps, section_in-spelled, unless_section_ok, unless_section_err}
 use Rattle.noise_names.proofs.Sections.{unless_section_kept, take-front, kept_section, all_weaker}
+use Rattle.std.proofs.lemmas.Bool.{eqb-true, not-false}
 
 -- the faults of a lower number than n do not hold
 lowers : (bytes : List ℕ) (n : ℕ)
@@ -93,10 +94,6 @@ last_ok : (a : Bool) (s t : Section) → cond (not a) (Err Algorithm) (Ok t) ≡
 last_ok true s t e = (refl, cc)
 last_ok false s t e = absurd (cc)
 
-not_false : (b : Bool) → not b ≡ false → b ≡ true
-not_false true e = refl
-not_false false e = absurd (cc)
-
 pub name_spelled : (bytes : List ℕ) (s : Section) → name_read bytes ≡ Ok s → Names bytes s
 name_spelled bytes s e =
     let rest : Result Section NameFault = cond (not (bytes_eq (algorithm_part bytes) suffix)) (Err Algorithm) (Ok (section_in (section_part bytes))) in
@@ -104,7 +101,7 @@ name_spelled bytes s e =
     let sections = unless_section_ok (section_part bytes) rest s top.2 in
     let last = last_ok (bytes_eq (algorithm_part bytes) suffix) s (section_in (section_part bytes)) sections.1 in
     let kept = kept_section (section_part bytes) sections.0 in
-    let prefix_is : take 6 bytes ≡ prefix = (bytes_eq-Decides (take 6 bytes) prefix).0 (not_false _ top.1) in
+    let prefix_is : take 6 bytes ≡ prefix = (bytes_eq-Decides (take 6 bytes) prefix).0 (not-false _ top.1) in
     let suffix_is : algorithm_part bytes ≡ suffix = (bytes_eq-Decides (algorithm_part bytes) suffix).0 last.0 in
     let after : drop 6 bytes ≡ section_part bytes ++ algorithm_part bytes =
     front_split (λ b. not (eqb b 95)) (drop 6 bytes) ∙ ap (λ (xs : List ℕ). section_part bytes ++ xs) (drop-drop (length (section_part bytes)) 6 bytes) in
@@ -128,11 +125,8 @@ section_few s h =
 
 no_underscore : (x : ℕ) → is_section_byte x ≡ true → not (eqb x 95) ≡ true
 no_underscore x h = at (eqb x 95) refl where
-  same_from_test : (m n : ℕ) → eqb m n ≡ true → m ≡ n
-  same_from_test m n t = grind (arith, nat_tests)
-
   at : (b : Bool) → eqb x 95 ≡ b → not b ≡ true
-  at true e = let bad : is_section_byte 95 ≡ true = subst (λ (n : ℕ). is_section_byte n ≡ true) (same_from_test x 95 e) h in absurd (cc)
+  at true e = let bad : is_section_byte 95 ≡ true = subst (λ (n : ℕ). is_section_byte n ≡ true) (eqb-true x 95 e) h in absurd (cc)
   at false e = refl
 
 part_of : (s : Section) → IsSection s → section_part (name_bytes s) ≡ section_bytes s.base s.places

@@ -11,14 +11,8 @@ use Rattle.noise_names.specs.Plan.{Plan, plain_of, has_psk}
 use Rattle.noise_names.specs.Names.{are_places}
 use Rattle.noise_names.specs.Fundamental.{fundamental_of}
 use Rattle.noise_names.specs.Limits.{psk_if, with_psk_tokens, with_psks_from, HavePsksAt, HavePsks, Placed, has_few_tokens, IsPattern}
-
-both : (x y : Bool) → x && y ≡ true → (x ≡ true) × (y ≡ true)
-both true y h = (refl, h)
-both false y h = absurd (cc)
-
-neither : (x y : Bool) → x || y ≡ false → (x ≡ false) × (y ≡ false)
-neither true y h = absurd (cc)
-neither false y h = (refl, h)
+use Rattle.std.proofs.lemmas.Bool.{and_parts, leb-true, or_right, or_left, or_parts}
+use Rattle.noise_names.specs.Lists.{cons-same}
 
 pub own-append : (xs ys : List Token) → own_tokens (xs ++ ys) ≡ own_tokens xs ++ own_tokens ys
 own-append [] ys = refl
@@ -48,7 +42,7 @@ own_tokens-with places n own e =
 pub no_psk_own : (tokens : List Token) → list_any is_psk tokens ≡ false → own_tokens tokens ≡ tokens
 no_psk_own [] h = refl
 no_psk_own (t ∷ ts) h =
-    let a : (is_psk t ≡ false) × (list_any is_psk ts ≡ false) = neither (is_psk t) (list_any is_psk ts) h in
+    let a : (is_psk t ≡ false) × (list_any is_psk ts ≡ false) = or_parts (is_psk t) (list_any is_psk ts) h in
     rw (a.0) (ap (λ (us : List Token). t ∷ us) (no_psk_own ts a.1))
 
 abbrev any_psk : List (List Token) → Bool
@@ -57,26 +51,20 @@ any_psk messages = list_any (λ tokens. list_any is_psk tokens) messages
 pub have_psks : (places : List ℕ) (n : ℕ) (messages : List (List Token)) → any_psk messages ≡ false → HavePsksAt places n (with_psks_from places n messages)
 have_psks places n [] h = tt
 have_psks places n (m ∷ ms) h =
-    let a = neither (list_any is_psk m) (any_psk ms) h in
+    let a = or_parts (list_any is_psk m) (any_psk ms) h in
     (ap (λ (ts : List Token). with_psk_tokens places n ts) (sym (own_tokens-with places n m (no_psk_own m a.0))), have_psks places (n + 1) ms a.1)
 
 own_of_psks : (places : List ℕ) (n : ℕ) (messages : List (List Token)) → any_psk messages ≡ false → map own_tokens (with_psks_from places n messages) ≡ messages
 own_of_psks places n [] h = refl
 own_of_psks places n (m ∷ ms) h =
-    let a = neither (list_any is_psk m) (any_psk ms) h in
-    cons_same (own_tokens-with places n m (no_psk_own m a.0)) (own_of_psks places (n + 1) ms a.1)
-  where
-    cons_same : {x y : List Token} {xs ys : List (List Token)} → x ≡ y → xs ≡ ys → x ∷ xs ≡ y ∷ ys
-    cons_same e f = cc
+    let a = or_parts (list_any is_psk m) (any_psk ms) h in
+    cons-same (own_tokens-with places n m (no_psk_own m a.0)) (own_of_psks places (n + 1) ms a.1)
 
 pub own_of_plain : (messages : List (List Token)) → any_psk messages ≡ false → map own_tokens messages ≡ messages
 own_of_plain [] h = refl
 own_of_plain (m ∷ ms) h =
-    let a = neither (list_any is_psk m) (any_psk ms) h in
-    cons_same (no_psk_own m a.0) (own_of_plain ms a.1)
-  where
-    cons_same : {x y : List Token} {xs ys : List (List Token)} → x ≡ y → xs ≡ ys → x ∷ xs ≡ y ∷ ys
-    cons_same e f = cc
+    let a = or_parts (list_any is_psk m) (any_psk ms) h in
+    cons-same (no_psk_own m a.0) (own_of_plain ms a.1)
 
 pub length-psks : (places : List ℕ) (n : ℕ) (messages : List (List Token)) → length (with_psks_from places n messages) ≡ length messages
 length-psks places n [] = refl
@@ -86,8 +74,8 @@ pub few_psks : (places : List ℕ) (n : ℕ) (messages : List (List Token)) → 
     → list_all has_few_tokens (with_psks_from places n messages) ≡ true
 few_psks places n [] h few = refl
 few_psks places n (m ∷ ms) h few =
-    let a = neither (list_any is_psk m) (any_psk ms) h in
-    let b = both (has_few_tokens m) (list_all has_few_tokens ms) few in
+    let a = or_parts (list_any is_psk m) (any_psk ms) h in
+    let b = and_parts (has_few_tokens m) (list_all has_few_tokens ms) few in
     let own : own_tokens (with_psk_tokens places n m) ≡ own_tokens m = own_tokens-with places n m (no_psk_own m a.0) ∙ sym (no_psk_own m a.0) in
     let here : has_few_tokens (with_psk_tokens places n m) ≡ true = ap (λ (ts : List Token). leb 1 (length ts) && leb (length ts) 8) own ∙ b.0 in
     and_true here (few_psks places (n + 1) ms a.1 b.1)
@@ -99,20 +87,15 @@ few_psks places n (m ∷ ms) h few =
 pub few_plain : (messages : List (List Token)) (i : ℕ) → any_psk messages ≡ false → list_all has_few_tokens messages ≡ true → length (get_or messages i []) ≤ 8
 few_plain [] i h few = omega arith
 few_plain (m ∷ ms) zero h few =
-    let a = neither (list_any is_psk m) (any_psk ms) h in
-    let b = both (has_few_tokens m) (list_all has_few_tokens ms) few in
-    let own : leb (length (own_tokens m)) 8 ≡ true = (both (leb 1 (length (own_tokens m))) (leb (length (own_tokens m)) 8) b.0).1 in
-    subst (λ (ts : List Token). length ts ≤ 8) (no_psk_own m a.0) (le_from_test (length (own_tokens m)) 8 own)
-  where
-    le_from_test : (m n : ℕ) → leb m n ≡ true → m ≤ n
-    le_from_test m n t = grind (arith, nat_tests)
+    let a = or_parts (list_any is_psk m) (any_psk ms) h in
+    let b = and_parts (has_few_tokens m) (list_all has_few_tokens ms) few in
+    let own : leb (length (own_tokens m)) 8 ≡ true = (and_parts (leb 1 (length (own_tokens m))) (leb (length (own_tokens m)) 8) b.0).1 in
+    subst (λ (ts : List Token). length ts ≤ 8) (no_psk_own m a.0) (leb-true (length (own_tokens m)) 8 own)
 few_plain (m ∷ ms) (suc i) h few =
-    few_plain ms i (neither (list_any is_psk m) (any_psk ms) h).1 (both (has_few_tokens m) (list_all has_few_tokens ms) few).1
+    few_plain ms i (or_parts (list_any is_psk m) (any_psk ms) h).1 (and_parts (has_few_tokens m) (list_all has_few_tokens ms) few).1
 
 pub few_messages : (messages : List (List Token)) → leb 1 (length messages) && leb (length messages) 8 ≡ true → length messages ≤ 8
-few_messages messages h = le_from_test (length messages) 8 (both (leb 1 (length messages)) (leb (length messages) 8) h).1 where
-  le_from_test : (m n : ℕ) → leb m n ≡ true → m ≤ n
-  le_from_test m n t = grind (arith, nat_tests)
+few_messages messages h = leb-true (length messages) 8 (and_parts (leb 1 (length messages)) (leb (length messages) 8) h).1
 
 -- no place is beyond the messages
 in_range : (count : ℕ) (places : List ℕ) → find (λ n. ltb count n) places ≡ None → list_all (λ n. leb n count) places ≡ true
@@ -146,9 +129,6 @@ shows places k zero (m ∷ ms) less there h =
   where
     no_more : (k : ℕ) → k + 0 ≡ k
     no_more k = omega arith
-
-    or_left : (x y : Bool) → x ≡ true → x || y ≡ true
-    or_left x y e = rw e refl
 shows places k (suc d) (m ∷ ms) less there h =
     let later : list_any (λ p. eqb p ((k + 1) + d)) places ≡ true = subst (λ (n : ℕ). list_any (λ p. eqb p n) places ≡ true) (one_on k d) there in
     or_right (list_any is_psk m) (any_psk ms) (shows places (k + 1) d ms (omega arith) later h.1)
@@ -156,20 +136,16 @@ shows places k (suc d) (m ∷ ms) less there h =
     one_on : (k d : ℕ) → k + suc d ≡ (k + 1) + d
     one_on k d = omega arith
 
-    or_right : (x y : Bool) → y ≡ true → x || y ≡ true
-    or_right true y e = refl
-    or_right false y e = e
-
 pub plain_places : (places : List ℕ) (messages : List (List Token)) → any_psk messages ≡ false → HavePsks places messages → 1 ≤ length messages → places ≡ []
 plain_places [] messages none h some = refl
 plain_places (zero ∷ ns) [] none h some = absurd (omega arith)
 plain_places (zero ∷ ns) (m ∷ ms) none h some =
     let front : m ≡ Psk ∷ (own_tokens m ++ psk_if 1 (0 ∷ ns)) = h.tokens.0 in
     let has : list_any is_psk m ≡ true = ap (list_any is_psk) front in
-    let not_here : list_any is_psk m ≡ false = (neither (list_any is_psk m) (any_psk ms) none).0 in
+    let not_here : list_any is_psk m ≡ false = (or_parts (list_any is_psk m) (any_psk ms) none).0 in
     absurd (let bad : true ≡ false = sym has ∙ not_here in cc)
 plain_places (suc n ∷ ns) messages none h some =
-    let range : leb (suc n) (length messages) ≡ true = (both (leb (suc n) (length messages)) (list_all (λ k. leb k (length messages)) ns) h.in_range).0 in
+    let range : leb (suc n) (length messages) ≡ true = (and_parts (leb (suc n) (length messages)) (list_all (λ k. leb k (length messages)) ns) h.in_range).0 in
     let less : n < length messages = less_from_test n (length messages) range in
     let there : list_any (λ m. eqb m (1 + n)) (suc n ∷ ns) ≡ true = rw (same n) refl in
     absurd (let bad : true ≡ false = sym (shows (suc n ∷ ns) 1 n messages less there h.tokens) ∙ none in cc)
@@ -186,9 +162,7 @@ with_psks plain places =
     record { base = plain.base; places = places; initiator = plain.initiator; responder = plain.responder; messages = with_psks_from places 1 plain.messages }
 
 one_message : (messages : List (List Token)) → leb 1 (length messages) && leb (length messages) 8 ≡ true → 1 ≤ length messages
-one_message messages h = le_from_test 1 (length messages) (both (leb 1 (length messages)) (leb (length messages) 8) h).0 where
-  le_from_test : (m n : ℕ) → leb m n ≡ true → m ≤ n
-  le_from_test m n t = grind (arith, nat_tests)
+one_message messages h = leb-true 1 (length messages) (and_parts (leb 1 (length messages)) (leb (length messages) 8) h).0
 
 pub plain_of-with : (plain : Plan) (places : List ℕ) → has_psk plain ≡ false → IsPattern plain → plain_of (with_psks plain places) ≡ plain
 plain_of-with plain places none limits =

@@ -1,6 +1,6 @@
 -- What is read of a written text.
 use Rattle.std.proofs.Common.{◌≡◌, ◌≢◌, ℕ, ◌+◌, ◌<◌, ◌≤◌, Bool, true, false, not, cond, List, [], ◌∷◌, ◌++◌, refl, ap, sym, ◌∙◌, append_assoc, append-nil}
-use Rattle.std.proofs.Common.{length, length-append, arith, map, subst, get_or, take, drop, take-append-drop, eqb, suc, Some, None, Bor, ◌⊎◌, inl, inr, ◌&&◌, leb, ltb}
+use Rattle.std.proofs.Common.{length, length-append, arith, map, subst, get_or, take, drop, take-append-drop, eqb, suc, Some, None, Bor, ◌⊎◌, inl, inr, ◌&&◌, leb}
 use Rattle.std.proofs.Common.{Result}
 use Rattle.std.proofs.Common.{Ok, Err}
 use Rattle.std.specs.Cmp.Lexicographic.{pointwise}
@@ -13,11 +13,11 @@ use Rattle.noise_names.specs.Plan.{Plan, plain_of, has_psk}
 use Rattle.noise_names.specs.Names.{is_section_byte, Section, IsSection, section_bytes, is_base}
 use Rattle.noise_names.specs.Sections.{section_read}
 use Rattle.noise_names.specs.Fundamental.{fundamental_of, fundamentals}
-use Rattle.noise_names.specs.Limits.{IsPattern, HavePsks, HavePsksAt, Placed, first_beyond, with_psk_tokens, has_few_tokens, is_pre_message}
+use Rattle.noise_names.specs.Limits.{IsPattern, HavePsks, Placed, first_beyond, has_few_tokens, is_pre_message}
 use Rattle.noise_names.proofs.Fundamentals.{found_map, fundamentals_plain, plain_messages}
 use Rattle.noise_names.proofs.PskTokens.{no_psk_own, own_of_plain}
 use Rattle.noise_names.proofs.Sections.{all_weaker, front_is, section_read-every, section_read-spelled}
-use Rattle.std.specs.Prelude.{codes, take_while, find, bytes_eq, ⊤}
+use Rattle.std.specs.Prelude.{codes, take_while, bytes_eq, ⊤}
 use Rattle.std.proofs.Math.Seq.{take-append_seam, drop-append_seam}
 use Rattle.std.proofs.lemmas.Option.{MatchOption-at_some}
 use Rattle.std.specs.List.{list_all, list_any}
@@ -28,6 +28,9 @@ use Rattle.noise_names.specs.declared.token.Token.TheVariants.{E, S, Ee, Es, Se,
 use Rattle.noise_names.specs.Tokens.{other, is_psk, own_tokens}
 use Rattle.noise_names.specs.Text.{words, word_of, line, arrow_of, token_line, message_lines, pre_line, pre_lines, Spells}
 use Rattle.noise_names.specs.Reading.{is_lower}
+use Rattle.std.proofs.lemmas.Bool.{and_parts, leb-true}
+use Rattle.noise_names.specs.WrongText.{body_of}
+use Rattle.noise_names.specs.Placing.{none-beyond, placed-once}
 
 own-first : (u : Token) (us : List Token) → own_tokens (u ∷ us) ≡ own_tokens (u ∷ []) ++ own_tokens us
 own-first u us = at (not (is_psk u)) where
@@ -92,7 +95,7 @@ left-more kept kept' own left beyond rest more token l few w k e = at l.first l.
   at u (v ∷ vs) o s =
       let is : (token ≡ u) × (beyond ≡ 44 ∷ 32 ∷ (words (v ∷ vs) ++ 10 ∷ more)) =
       w u 44 (32 ∷ (words (v ∷ vs) ++ 10 ∷ more)) refl (s ∙ word-first u (v ∷ vs) (10 ∷ more)) in
-      let both : 44 ∷ 32 ∷ rest ≡ 44 ∷ 32 ∷ (words (v ∷ vs) ++ 10 ∷ more) = sym e ∙ is.1 in
+      let and_parts : 44 ∷ 32 ∷ rest ≡ 44 ∷ 32 ∷ (words (v ∷ vs) ++ 10 ∷ more) = sym e ∙ is.1 in
       record { first = v; others = vs; tokens = (kept_is kept kept' own token u (v ∷ vs) is.0 o few k).1; spelled = cc }
 
 pub left-end : (kept kept' own : List Token) (left beyond more : List ℕ) (token : Token) → IsLeft kept left own more → length own ≤ 8
@@ -119,7 +122,7 @@ pub left-start : (kept : List Token) (list : List ℕ) (t : Token) (ts : List To
 left-start kept list t ts more none e = record { first = t; others = ts; tokens = sym (ap (λ (k : List Token). k ++ own_tokens (t ∷ ts)) none); spelled = e }
 
 pub line-after : (beyond rest more : List ℕ) → beyond ≡ 10 ∷ more → beyond ≡ codes "\n" ++ rest → rest ≡ more
-line-after beyond rest more e f = let both : 10 ∷ more ≡ 10 ∷ rest = sym e ∙ f in cc
+line-after beyond rest more e f = let and_parts : 10 ∷ more ≡ 10 ∷ rest = sym e ∙ f in cc
 
 -- what reading a line of a party answers: its tokens and what is after it, or nothing
 abbrev pub There : Role → List ℕ → List Token → List ℕ → Type 0
@@ -160,17 +163,10 @@ messages-first role [] x e = cc
 messages-first Initiator (m ∷ ms) x e = third_differs _ _ 45 46 refl refl e (λ h. omega arith)
 messages-first Responder (m ∷ ms) x e = third_differs _ _ 60 46 refl refl e (λ h. omega arith)
 
-both : (x y : Bool) → x && y ≡ true → (x ≡ true) × (y ≡ true)
-both true y h = (refl, h)
-both false y h = absurd (cc)
-
-le_from_test : (m n : ℕ) → leb m n ≡ true → m ≤ n
-le_from_test m n t = grind (arith, nat_tests)
-
 few : (m : List Token) → has_few_tokens m ≡ true → (1 ≤ length (own_tokens m)) × (length (own_tokens m) ≤ 8)
 few m h =
-    let a = both (leb 1 (length (own_tokens m))) (leb (length (own_tokens m)) 8) h in
-    (le_from_test _ _ a.0, le_from_test _ _ a.1)
+    let a = and_parts (leb 1 (length (own_tokens m))) (leb (length (own_tokens m)) 8) h in
+    (leb-true _ _ a.0, leb-true _ _ a.1)
 
 -- a line of messages is passed
 message-read : (role : Role) (ms : List (List Token)) (tokens : List Token) (lines rest : List ℕ) → There role lines tokens rest
@@ -180,7 +176,7 @@ message-read role [] tokens lines rest there absent sizes e =
     ([], (absent (λ x f. let bad : [] ≡ 32 ∷ 32 ∷ (arrow_of role ++ x) = sym e ∙ f in cc)).1 ∙ e, refl)
 message-read role ([] ∷ ms) tokens lines rest there absent sizes e = absurd (let bad : false ≡ true = sizes in cc)
 message-read role ((t ∷ ts) ∷ ms) tokens lines rest there absent sizes e =
-    let a = both (has_few_tokens (t ∷ ts)) (list_all has_few_tokens ms) sizes in
+    let a = and_parts (has_few_tokens (t ∷ ts)) (list_all has_few_tokens ms) sizes in
     (ms, (there t ts (message_lines (other role) ms) (few (t ∷ ts) a.0).1 e).1, a.1)
 
 -- what is read of both pre-messages
@@ -223,7 +219,7 @@ pre-both (t ∷ ts) r first second lines beyond rest ms there absent there2 abse
     ∙ append_assoc (pre_line Initiator (t ∷ ts)) (pre_line Responder r) (codes "  ...\n" ++ message_lines Initiator ms)))
 
 pub dots-stripped : (rest x y : List ℕ) → rest ≡ codes "  ...\n" ++ x → rest ≡ codes "  ...\n" ++ y → x ≡ y
-dots-stripped rest x y e f = let both : codes "  ...\n" ++ x ≡ codes "  ...\n" ++ y = sym e ∙ f in cc
+dots-stripped rest x y e f = let and_parts : codes "  ...\n" ++ x ≡ codes "  ...\n" ++ y = sym e ∙ f in cc
 
 -- messages of which some were read
 pub record AreLeft (kept : List (List Token)) (role : Role) (left : List ℕ) (own : List (List Token)) : Type 0 where
@@ -250,7 +246,7 @@ next-line kept own role left rest tokens l shorter line = at l.more l.messages l
   at [] o z s = absurd (let none : length left ≡ 0 = ap length s in omega arith)
   at ([] ∷ ms) o z s = absurd (let bad : false ≡ true = z in cc)
   at ((t ∷ ts) ∷ ms) o z s =
-      let a = both (has_few_tokens (t ∷ ts)) (list_all has_few_tokens ms) z in
+      let a = and_parts (has_few_tokens (t ∷ ts)) (list_all has_few_tokens ms) z in
       let b = few (t ∷ ts) a.0 in
       let c = line t ts (message_lines (other role) ms) b.1 s in
       let count : length own ≡ length kept + suc (length (map own_tokens ms)) = simp length-append at (ap length o) in
@@ -273,7 +269,7 @@ last-line kept own role left l none = at l.more l.messages l.sizes l.spelled whe
   at [] o z s = sym (o ∙ append-nil kept)
   at ([] ∷ ms) o z s = absurd (let bad : false ≡ true = z in cc)
   at ((t ∷ ts) ∷ ms) o z s =
-      absurd (none t ts (message_lines (other role) ms) (few (t ∷ ts) (both (has_few_tokens (t ∷ ts)) (list_all has_few_tokens ms) z).0).1 s)
+      absurd (none t ts (message_lines (other role) ms) (few (t ∷ ts) (and_parts (has_few_tokens (t ∷ ts)) (list_all has_few_tokens ms) z).0).1 s)
 
 -- one message more
 pub plain-push : (kept : List (List Token)) (m : List Token) → list_any (λ tokens. list_any is_psk tokens) kept ≡ false → list_any is_psk m ≡ false
@@ -369,18 +365,19 @@ known-plain base f found =
 pub known-same : (p f : Plan) (base : List ℕ) → IsPattern p → p.base ≡ base → fundamental_of base ≡ Some f → f ≡ plain_of p
 known-same p f base h same found = sym (MatchOption-at_some ⊤ (λ g. plain_of p ≡ g) f (ap fundamental_of same ∙ found) h.known)
 
--- psk tokens at the same places of the same messages
-messages-same : (places : List ℕ) (n : ℕ) (ms ks : List (List Token)) → HavePsksAt places n ms → HavePsksAt places n ks
-    → map own_tokens ms ≡ map own_tokens ks → ms ≡ ks
-messages-same places n [] [] h k e = refl
-messages-same places n [] (x ∷ ks) h k e = absurd (cc)
-messages-same places n (m ∷ ms) [] h k e = absurd (cc)
-messages-same places n (m ∷ ms) (x ∷ ks) h k e =
-    let here : own_tokens m ≡ own_tokens x = cc in
-    let rest : map own_tokens ms ≡ map own_tokens ks = cc in
-    let first : m ≡ x = h.0 ∙ ap (with_psk_tokens places n) here ∙ sym k.0 in
-    let others : ms ≡ ks = messages-same places (n + 1) ms ks h.1 k.1 rest in
-    cc
+-- a pattern has psk tokens at its places
+placed-itself : (p plain : Plan) (places : List ℕ) → IsPattern p → plain ≡ plain_of p → places ≡ p.places → Placed plain places p
+placed-itself p plain places h is places_is = record {
+  without = sym is;
+  places_are = sym places_is;
+  psks = subst (λ (ns : List ℕ). HavePsks ns p.messages) (sym places_is) h.psks;
+}
+
+pub placed-same : (p q plain : Plan) (places : List ℕ) → IsPattern p → plain ≡ plain_of p → places ≡ p.places → Placed plain places q → q ≡ p
+placed-same p q plain places h is places_is placed = placed-once plain places q p placed (placed-itself p plain places h is places_is)
+
+pub within-places : (p plain : Plan) (places : List ℕ) (n : ℕ) → IsPattern p → plain ≡ plain_of p → places ≡ p.places → first_beyond plain places ≡ Some n → ⊥
+within-places p plain places n h is places_is e = none-beyond plain places p n (placed-itself p plain places h is places_is) e
 
 abbrev pub plan : List ℕ → List ℕ → List Token → List Token → List (List Token) → Plan
 plan base places initiator responder messages = record { base = base; places = places; initiator = initiator; responder = responder; messages = messages }
@@ -388,34 +385,6 @@ plan base places initiator responder messages = record { base = base; places = p
 pub plan-same : (b c : List ℕ) (ps qs : List ℕ) (i j r s : List Token) (ms ks : List (List Token)) → b ≡ c → ps ≡ qs → i ≡ j → r ≡ s → ms ≡ ks
     → plan b ps i r ms ≡ plan c qs j s ks
 plan-same b c ps qs i j r s ms ks e f g h k = cc
-
-pub placed-same : (p q plain : Plan) (places : List ℕ) → IsPattern p → plain ≡ plain_of p → places ≡ p.places → Placed plain places q → q ≡ p
-placed-same p q plain places h is places_is placed =
-    let same : plain_of q ≡ plain_of p = placed.without ∙ is in
-    let psks : HavePsks p.places q.messages = subst (λ (ns : List ℕ). HavePsks ns q.messages) places_is placed.psks in
-    plan-same q.base p.base q.places p.places q.initiator p.initiator q.responder p.responder q.messages p.messages
-    (ap (λ (x : Plan). x.base) same)
-    (placed.places_are ∙ places_is)
-    (ap (λ (x : Plan). x.initiator) same)
-    (ap (λ (x : Plan). x.responder) same)
-    (messages-same p.places 1 q.messages p.messages psks.tokens h.psks.tokens (ap (λ (x : Plan). x.messages) same))
-
-none-beyond : (count : ℕ) (ns : List ℕ) → list_all (λ n. leb n count) ns ≡ true → find (λ n. ltb count n) ns ≡ None
-none-beyond count [] h = refl
-none-beyond count (n ∷ ns) h =
-    let a = both (leb n count) (list_all (λ k. leb k count) ns) h in
-    let low : ltb count n ≡ false = not_less n count a.0 in
-    rw low (none-beyond count ns a.1)
-  where
-    not_less : (n count : ℕ) → leb n count ≡ true → ltb count n ≡ false
-    not_less n count h = grind (arith, nat_tests)
-
-pub within-places : (p plain : Plan) (places : List ℕ) (n : ℕ) → IsPattern p → plain ≡ plain_of p → places ≡ p.places → first_beyond plain places ≡ Some n → ⊥
-within-places p plain places n h is places_is e =
-    let none : first_beyond (plain_of p) p.places ≡ None = rw (length-own p.messages) (none-beyond (length p.messages) p.places h.psks.in_range) in
-    let same : first_beyond plain places ≡ first_beyond (plain_of p) p.places = ap (λ (x : Plan). first_beyond x places) is
-    ∙ ap (λ (ns : List ℕ). first_beyond (plain_of p) ns) places_is in
-    absurd (let bad : Some n ≡ None = sym e ∙ same ∙ none in cc)
 
 pub ok-same : (r : Result Section NameFault) (x y : Section) → r ≡ Ok x → r ≡ Ok y → x ≡ y
 ok-same r x y e f = let same : Ok x ≡ r = sym e in cc
@@ -430,21 +399,14 @@ pub differ_from_test : (b : Bool) (n k : ℕ) → b ≡ eqb n k → b ≡ false 
 differ_from_test b n k e t = let same : eqb n k ≡ false = sym e ∙ t in grind (arith, nat_tests)
 
 -- the parts of a text
--- the lines after the heading of a pattern's text
-abbrev pub lines_after : Plan → List ℕ
-lines_after p = pre_lines p.initiator p.responder ++ message_lines Initiator p.messages
-
-pub spelled-parts : (text : List ℕ) (p : Plan) → Spells text p → text ≡ (section_bytes p.base p.places ++ codes ":") ++ 10 ∷ lines_after p
+pub spelled-parts : (text : List ℕ) (p : Plan) → Spells text p → text ≡ (section_bytes p.base p.places ++ codes ":") ++ 10 ∷ body_of p
 spelled-parts text p h =
     let heading : List ℕ = section_bytes p.base p.places ++ codes ":" in
     h.spelled ∙ append_assoc (line heading) (pre_lines p.initiator p.responder) (message_lines Initiator p.messages)
-    ∙ append_assoc heading (10 ∷ []) (lines_after p)
+    ∙ append_assoc heading (10 ∷ []) (body_of p)
 
 pub pattern-section : (p : Plan) → IsPattern p → IsSection (record { base = p.base; places = p.places })
 pattern-section p h = record { base = h.base; places = h.places }
-
-pub some-same : (x y : Plan) → Some x ≡ Some y → x ≡ y
-some-same x y e = cc
 
 pub none-not-some : (x : Plan) → None ≡ Some x → ⊥
 none-not-some x e = absurd (cc)
@@ -454,5 +416,5 @@ true-not-false b e f = absurd (let bad : true ≡ false = sym e ∙ f in cc)
 
 pub counted : (p : Plan) → IsPattern p → (1 ≤ length p.messages) × (length p.messages ≤ 8)
 counted p h =
-    let a = both (leb 1 (length p.messages)) (leb (length p.messages) 8) h.count in
-    (le_from_test _ _ a.0, le_from_test _ _ a.1)
+    let a = and_parts (leb 1 (length p.messages)) (leb (length p.messages) 8) h.count in
+    (leb-true _ _ a.0, leb-true _ _ a.1)

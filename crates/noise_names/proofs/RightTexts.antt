@@ -20,10 +20,7 @@ use Rattle.noise_names.specs.WrongText.{body_of, dots}
 use Rattle.noise_names.specs.Judging.{IsPassed, Passed, passed_lines}
 use Rattle.noise_names.proofs.PskTokens.{few_psks, have_psks, length-psks}
 use Rattle.noise_names.proofs.Reading.{plan}
-
-both : (x y : Bool) → x && y ≡ true → (x ≡ true) × (y ≡ true)
-both true y h = (refl, h)
-both false y h = absurd (cc)
+use Rattle.std.proofs.lemmas.Bool.{and_parts}
 
 -- ---- messages and then others
 
@@ -121,7 +118,7 @@ filled_pattern : (places : List ℕ) (i r : List Token) (ms : List (List Token))
     → length ms ≤ 8 → list_all has_few_tokens ms ≡ true → HavePsksAt places 1 ms → IsPattern (plan own_base places i r (filled places ms))
 filled_pattern places i r ms rising pi pr high sizes psks =
     let eight : length (filled places ms) ≡ 8 = filled_length places ms high in
-    let range : list_all (λ n. leb n 8) places ≡ true = (both (rises places) (list_all (λ n. leb n 8) places) rising).1 in
+    let range : list_all (λ n. leb n 8) places ≡ true = (and_parts (rises places) (list_all (λ n. leb n 8) places) rising).1 in
     right_pattern places i r (filled places ms) rising pi pr (omega arith) (omega arith) (filled_few places ms sizes) (filled_psks places ms psks)
     (subst (λ (k : ℕ). list_all (λ n. leb n k) places ≡ true) (sym eight) range)
 

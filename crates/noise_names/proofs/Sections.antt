@@ -2,7 +2,6 @@
 use Rattle.std.proofs.Common.{◌≡◌, ℕ, suc, ◌+◌, ◌<◌, ◌≤◌, Bool, true, false, ◌&&◌, not, cond, ltb, List, [], ◌∷◌, ◌++◌, Result, Ok, Err, refl}
 use Rattle.std.proofs.Common.{ap, sym, ◌∙◌, append-nil, map, length, take, drop, take_while, arith}
 use Rattle.std.specs.List.{list_all, join_with_byte, prefix_len}
-use Rattle.std.proofs.lemmas.Bool.Decides.{nat_tests}
 use Rattle.std.proofs.lemmas.List.{take-append-drop, take_min, length-take, drop_at}
 use Rattle.noise_names.specs.declared.faults.NameFault.{NameFault}
 use Rattle.noise_names.specs.declared.faults.NameFault.TheVariants.{Base, Modifier, ModifierOrder}
@@ -11,10 +10,7 @@ use Rattle.noise_names.specs.Names.{rises, are_places, section_bytes}
 use Rattle.noise_names.specs.Sections.{numbers_in, modifiers_read, unless_section_fault, section_in, section_read}
 use Rattle.std.proofs.lemmas.List.Splits.{join_with_byte-slice_split}
 use Rattle.noise_names.proofs.Modifiers.{are_numbers, all_modifiers, pieces_of-modifiers, are_modifiers, digits_rise, same_numbers, places_rise}
-
-both : (x y : Bool) → x && y ≡ true → (x ≡ true) × (y ≡ true)
-both true y h = (refl, h)
-both false y h = absurd (cc)
+use Rattle.std.proofs.lemmas.Bool.{and_parts, ltb-true, not-false}
 
 -- a front, and what is after it
 pub take-front : (test : ℕ → Bool) (bytes : List ℕ) → take (length (take_while test bytes)) bytes ≡ take_while test bytes
@@ -35,35 +31,33 @@ pub front_is : (test : ℕ → Bool) (front : List ℕ) (b : ℕ) (rest : List �
     → take_while test (front ++ b ∷ rest) ≡ front
 front_is test [] b rest all stops = rw stops refl
 front_is test (x ∷ front) b rest all stops =
-    let a : (test x ≡ true) × (list_all test front ≡ true) = both (test x) (list_all test front) all in
+    let a : (test x ≡ true) × (list_all test front ≡ true) = and_parts (test x) (list_all test front) all in
     take_while-yes test x (front ++ b ∷ rest) a.0 ∙ ap (λ (xs : List ℕ). x ∷ xs) (front_is test front b rest a.1 stops)
 
 front_all : (test : ℕ → Bool) (front : List ℕ) → list_all test front ≡ true → take_while test front ≡ front
 front_all test [] all = refl
 front_all test (x ∷ front) all =
-    let a : (test x ≡ true) × (list_all test front ≡ true) = both (test x) (list_all test front) all in
+    let a : (test x ≡ true) × (list_all test front ≡ true) = and_parts (test x) (list_all test front) all in
     take_while-yes test x front a.0 ∙ ap (λ (xs : List ℕ). x ∷ xs) (front_all test front a.1)
 
 pub all_weaker : (test other : ℕ → Bool) (xs : List ℕ) → ((x : ℕ) → test x ≡ true → other x ≡ true) → list_all test xs ≡ true → list_all other xs ≡ true
 all_weaker test other [] each h = refl
 all_weaker test other (x ∷ xs) each h =
-    let a : (test x ≡ true) × (list_all test xs ≡ true) = both (test x) (list_all test xs) h in
+    let a : (test x ≡ true) × (list_all test xs ≡ true) = and_parts (test x) (list_all test xs) h in
     rw (each x a.0) (all_weaker test other xs each a.1)
 
 -- a base has bytes of a base, and few
 pub base_all : (base : List ℕ) → is_base base ≡ true → list_all is_base_byte base ≡ true
 base_all [] h = absurd (cc)
 base_all (b ∷ bs) h =
-    let few = both (is_upper b && list_all is_base_byte bs) (ltb (length bs) 8) h in
-    let a = both (is_upper b) (list_all is_base_byte bs) few.0 in
+    let few = and_parts (is_upper b && list_all is_base_byte bs) (ltb (length bs) 8) h in
+    let a = and_parts (is_upper b) (list_all is_base_byte bs) few.0 in
     rw (a.0) a.1
 
 pub base_few : (base : List ℕ) → is_base base ≡ true → length base ≤ 8
 base_few [] h = absurd (cc)
-base_few (b ∷ bs) h = let less : length bs < 8 = less_from_test (length bs) 8 (both (is_upper b && list_all is_base_byte bs) (ltb (length bs) 8) h).1 in
-    omega arith where
-      less_from_test : (m n : ℕ) → ltb m n ≡ true → m < n
-      less_from_test m n t = grind (arith, nat_tests)
+base_few (b ∷ bs) h = let less : length bs < 8 = ltb-true (length bs) 8 (and_parts (is_upper b && list_all is_base_byte bs) (ltb (length bs) 8) h).1 in
+    omega arith
 
 -- no byte of a base begins modifiers
 modifiers_begin : (ns : List ℕ) (base : List ℕ) → list_all is_base_byte base ≡ true → base_front (base ++ join_with_byte 43 (map modifier ns)) ≡ base
@@ -72,7 +66,7 @@ modifiers_begin (n ∷ []) base h = front_is is_base_byte base 112 (115 ∷ 107 
 modifiers_begin (n ∷ m ∷ ns) base h = front_is is_base_byte base 112 (115 ∷ 107 ∷ (48 + n) ∷ 43 ∷ join_with_byte 43 (map modifier (m ∷ ns))) h refl
 
 places_are_numbers : (ns : List ℕ) → are_places ns ≡ true → are_numbers ns ≡ true
-places_are_numbers ns h = (both (rises ns) (are_numbers ns) h).1
+places_are_numbers ns h = (and_parts (rises ns) (are_numbers ns) h).1
 
 -- the result after modifiers that are read
 modifiers_ok : {A : Type 0} (m o : Bool) (xs ns : List ℕ) (result : Result A NameFault) → cond m (Err Modifier) (cond o (Err ModifierOrder) (Ok xs)) ≡ Ok ns
@@ -138,16 +132,12 @@ unless_ok false true o result x e = absurd (cc)
 unless_ok false false true result x e = absurd (cc)
 unless_ok false false false result x e = (refl, refl, refl, e)
 
-not_false : (b : Bool) → not b ≡ false → b ≡ true
-not_false true e = refl
-not_false false e = absurd (cc)
-
 pub unless_section_ok : {A : Type 0} (section : List ℕ) (result : Result A NameFault) (x : A) → unless_section_fault section result ≡ Ok x
     → KeepsSection section × (result ≡ Ok x)
 unless_section_ok section result x e =
     let h = unless_ok (not (is_base (base_front section))) (not (list_all is_modifier (pieces_of (after_base section))))
     (not (rises (map digit_of (pieces_of (after_base section))))) result x e in
-    ((not_false _ h.0, not_false _ h.1, not_false _ h.2), h.3)
+    ((not-false _ h.0, not-false _ h.1, not-false _ h.2), h.3)
 
 -- a section without a fault spells what is read of it
 pub section_read-spelled : (section : List ℕ) (s : Section) → section_read section ≡ Ok s → section ≡ section_bytes s.base s.places
@@ -170,7 +160,7 @@ section_keeps s result h =
     let numbers : are_numbers s.places ≡ true = places_are_numbers s.places h.places in
     let pieces : pieces_of (after_base (section_bytes s.base s.places)) ≡ map modifier s.places = ap pieces_of (after_of s h)
     ∙ pieces_of-modifiers s.places numbers in
-    let rising : rises s.places ≡ true = (both (rises s.places) (are_numbers s.places) h.places).0 in
+    let rising : rises s.places ≡ true = (and_parts (rises s.places) (are_numbers s.places) h.places).0 in
     rw (pieces, are_modifiers s.places numbers, digits_rise s.places, rising, front_of s h, h.base) refl
 
 pub section_in-spelled : (s : Section) → IsSection s → section_in (section_bytes s.base s.places) ≡ s

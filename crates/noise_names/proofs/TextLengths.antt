@@ -1,6 +1,6 @@
 -- How many bytes a protocol name and the text of a pattern have at most.
-use Rattle.std.proofs.Common.{◌≡◌, ℕ, ◌+◌, ◌-◌, ◌*◌, ◌≤◌, Bool, true, false, ◌&&◌, cond, eqb, leb, List, [], ◌∷◌, ◌++◌}
-use Rattle.std.proofs.Common.{refl, ap, sym, ◌∙◌, map, length, arith, length-append}
+use Rattle.std.proofs.Common.{◌≡◌, ℕ, ◌+◌, ◌-◌, ◌*◌, ◌≤◌, Bool, true, false, cond, eqb, leb, List, [], ◌∷◌, ◌++◌}
+use Rattle.std.proofs.Common.{ap, sym, ◌∙◌, map, length, arith, length-append}
 use Rattle.std.specs.Prelude.{codes}
 use Rattle.std.specs.List.{list_any, list_all, join_with_byte}
 use Rattle.std.proofs.lemmas.Bool.Decides.{nat_tests}
@@ -17,10 +17,7 @@ use Rattle.noise_names.proofs.Numbers.{places_from-few, are_places-from}
 use Rattle.noise_names.proofs.Sections.{base_few}
 use Rattle.noise_names.proofs.PskTokens.{few_messages}
 use Rattle.noise_names.proofs.Writing.{more_words, words-first}
-
-both : (x y : Bool) → x && y ≡ true → (x ≡ true) × (y ≡ true)
-both true y h = (refl, h)
-both false y h = absurd (cc)
+use Rattle.std.proofs.lemmas.Bool.{and_parts, leb-true}
 
 -- modifiers: each has 4 bytes, and a + stands between each two
 few-modifiers : (ns : List ℕ) → length (join_with_byte 43 (map modifier ns)) ≤ 5 * length ns - 1
@@ -80,7 +77,7 @@ few-message : (places : List ℕ) (n : ℕ) (ts : List Token) → ts ≡ with_ps
 few-message places n ts is few =
     let same : length (more_words ts) ≡ length (more_words ((front n places ++ own_tokens ts) ++ psk_if n places)) =
     ap (λ (us : List Token). length (more_words us)) is in
-    let most : length (own_tokens ts) ≤ 8 = le_from_test (length (own_tokens ts)) 8 (both (leb 1 (length (own_tokens ts))) _ few).1 in
+    let most : length (own_tokens ts) ≤ 8 = leb-true (length (own_tokens ts)) 8 (and_parts (leb 1 (length (own_tokens ts))) _ few).1 in
     omega (
       arith,
       same,
@@ -89,16 +86,13 @@ few-message places n ts is few =
       few-own ts,
       few-psk n places,
     )
-  where
-    le_from_test : (m n : ℕ) → leb m n ≡ true → m ≤ n
-    le_from_test m n t = grind (arith, nat_tests)
 
 -- a message after the first has at most one psk token
 few-later : (places : List ℕ) (n : ℕ) (role : Role) (ms : List (List Token)) → 2 ≤ n → list_all has_few_tokens ms ≡ true → HavePsksAt places n ms
     → length (message_lines role ms) ≤ 41 * length ms
 few-later places n role [] later few psks = omega arith
 few-later places n role (m ∷ ms) later few psks =
-    let sizes = both (has_few_tokens m) (list_all has_few_tokens ms) few in
+    let sizes = and_parts (has_few_tokens m) (list_all has_few_tokens ms) few in
     let none : front n places ≡ [] = ap (λ (b : Bool). cond b (psk_if 0 places) []) (not_first n later) in
     let no_words : length (more_words (front n places)) ≡ 0 = ap (λ (us : List Token). length (more_words us)) none in
     omega (
@@ -117,7 +111,7 @@ few-lines : (places : List ℕ) (role : Role) (ms : List (List Token)) → list_
     → length (message_lines role ms) ≤ 41 * length ms + 5
 few-lines places role [] few psks = omega arith
 few-lines places role (m ∷ ms) few psks =
-    let sizes = both (has_few_tokens m) (list_all has_few_tokens ms) few in
+    let sizes = and_parts (has_few_tokens m) (list_all has_few_tokens ms) few in
     let first : length (more_words (front 1 places)) ≤ 5 = few-psk 0 places in
     omega (
       arith,

@@ -5,8 +5,9 @@ use Rattle.std.proofs.lemmas.Bool.Decides.{nat_tests}
 use Rattle.std.proofs.lemmas.List.{nil_from_length, same_from_push}
 use Rattle.noise_names.specs.Text.{line}
 use Rattle.noise_names.specs.WrongText.{IsEnded, first_line}
-use Rattle.noise_names.proofs.Rows.{no_feed}
 use Rattle.noise_names.proofs.Sections.{front_is}
+use Rattle.noise_names.specs.Lists.{cons-same}
+use Rattle.noise_names.proofs.Lines.{no_feed}
 
 -- the lines g go on after those of f
 abbrev pub IsFurther : List ℕ → List ℕ → List ℕ → List ℕ → Type 0
@@ -25,12 +26,9 @@ compare (a ∷ f) x (c ∷ g) y e = at (compare f x g y rest) where
   rest : f ++ x ≡ g ++ y
   rest = cc
 
-  begins : {b d : ℕ} {xs ys : List ℕ} → b ≡ d → xs ≡ ys → b ∷ xs ≡ d ∷ ys
-  begins p q = cc
-
   at : IsFurther f x g y ⊎ IsBefore f x g y → IsFurther (a ∷ f) x (c ∷ g) y ⊎ IsBefore (a ∷ f) x (c ∷ g) y
-  at (inl (z, h, k)) = inl (z, begins (sym first) h, k)
-  at (inr (b, z, h, k)) = inr (b, z, begins first h, k)
+  at (inl (z, h, k)) = inl (z, cons-same (sym first) h, k)
+  at (inr (b, z, h, k)) = inr (b, z, cons-same first h, k)
 
 pub same_division : (f x g y : List ℕ) → IsFurther f x g y → IsFurther g y f x → (f ≡ g) × (x ≡ y)
 same_division f x g y (z, h, k) (u, i, j) =

@@ -9,12 +9,12 @@ use Rattle.noise_names.specs.declared.token.Token.TheVariants.{E, S, Ee, Es, Se,
 use Rattle.noise_names.specs.declared.text.fault.Words.{Words}
 use Rattle.noise_names.specs.Judging.{HasTokens}
 use Rattle.noise_names.specs.Limits.{has_few_tokens, is_pre_message}
-use Rattle.std.proofs.lemmas.List.{length-take}
+use Rattle.std.proofs.lemmas.List.{length-take, nil_from_length}
 use Rattle.noise_names.specs.Tokens.{is_psk, own_tokens}
 use Rattle.noise_names.specs.Text.{word_of, words}
 use Rattle.noise_names.specs.Reading.{is_lower, token_named}
-use Rattle.noise_names.proofs.OneText.{first_word_same}
 use Rattle.noise_names.proofs.PskTokens.{own-append}
+use Rattle.noise_names.proofs.TokenLines.{first_word_same}
 
 -- words, each with a comma and a space after it
 abbrev pub with_commas : List Token → List ℕ
@@ -108,12 +108,9 @@ read-end list left after first own w t r e none g h = (
     first = first-more r.read first w.first.items t r.first_is g;
     own = own-more r.read own w.own.items t r.own_is h;
   },
-  r.list_is ∙ ap (λ (x : List ℕ). with_commas r.read ++ x) (e ∙ ap (λ (x : List ℕ). word_of t ++ x) (length_zero after none) ∙ append-nil (word_of t))
+  r.list_is ∙ ap (λ (x : List ℕ). with_commas r.read ++ x) (e ∙ ap (λ (x : List ℕ). word_of t ++ x) (nil_from_length after none) ∙ append-nil (word_of t))
       ∙ words-more r.read t [],
-) where
-  length_zero : (xs : List ℕ) → length xs ≡ 0 → xs ≡ []
-  length_zero [] e = refl
-  length_zero (x ∷ xs) e = absurd (omega arith)
+)
 
 -- what stands at the front of what is left
 left-is : (list left : List ℕ) (first own : List Token) (tokens : List Token) → IsRead list left first own → tokens ≢ [] → list ≡ words tokens

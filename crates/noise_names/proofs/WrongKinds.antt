@@ -15,9 +15,12 @@ use Rattle.noise_names.specs.Tokens.{other, turn_from}
 use Rattle.noise_names.specs.WrongText.{BeginsRight, IsAfter, IsArrowFault, IsAtMessage, IsLimitFault, IsMessage, IsPreMessageFault}
 use Rattle.noise_names.specs.WrongText.{IsPskFault, IsTokenFault, IsTokens, IsTurnFault, IsWrongLine, arrow_then, dots, first_line, has_dots, is_within, told}
 use Rattle.noise_names.proofs.DotsLine.{not_ahead}
-use Rattle.noise_names.proofs.OneText.{apart, both, lines_same, words_same}
-use Rattle.noise_names.proofs.Rows.{first_same, no_feed-row, tokens_of}
+use Rattle.noise_names.proofs.Rows.{no_feed-row, tokens_of}
 use Rattle.noise_names.proofs.WrongLines.{next_turn, not_dots}
+use Rattle.std.proofs.lemmas.Bool.{and_parts}
+use Rattle.noise_names.proofs.PatternRows.{lines_same}
+use Rattle.noise_names.proofs.TokenLines.{apart, words_same}
+use Rattle.noise_names.proofs.Lines.{first_same}
 
 -- ---- the party and the tokens of a line
 
@@ -64,7 +67,7 @@ messages_few : (party : Role) (ms ks : List (List Token)) (rest : List ℕ) → 
 messages_few party ms [] rest h e = refl
 messages_few party [] (k ∷ ks) rest h e = absurd (cc)
 messages_few party (m ∷ ms) (k ∷ ks) rest h e =
-    let parts = both (has_few_tokens m) (list_all has_few_tokens ms) h in
+    let parts = and_parts (has_few_tokens m) (list_all has_few_tokens ms) h in
     let same = first_same (arrow_then party (words m)) (arrow_then party (words k)) (message_lines (other party) ms) (message_lines (other party) ks ++ rest)
     (no_feed-row (tokens_of party m)) (no_feed-row (tokens_of party k)) (e ∙ append_assoc (token_line party k) (message_lines (other party) ks) rest) in
     let few : has_few_tokens k ≡ true = ap has_few_tokens (sym (tokens_one party party m k same.0).1) ∙ parts.0 in

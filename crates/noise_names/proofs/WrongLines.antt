@@ -17,8 +17,9 @@ use Rattle.noise_names.specs.Text.{line, pre_lines, words}
 use Rattle.noise_names.specs.Tokens.{other, own_tokens, turn_from}
 use Rattle.noise_names.specs.WrongText.{IsTokens, arrow_then, body_of, dots, is_within}
 use Rattle.noise_names.proofs.NextLines.{IsBegun, IsNextLine, IsNextMessage, IsNextPre, next_line}
-use Rattle.noise_names.proofs.OneText.{apart, both}
 use Rattle.noise_names.proofs.Rows.{Row, content, ending, is_row, row_same, tokens_of}
+use Rattle.std.proofs.lemmas.Bool.{and_parts}
+use Rattle.noise_names.proofs.TokenLines.{apart}
 
 -- what an arrow and a token list are
 row_arrow : (row : Row) → is_row row ≡ true → content row ≢ dots → ((party : Role) (list : List ℕ) → content row ≢ arrow_then party list) → ⊥
@@ -77,11 +78,11 @@ within : (q : Plan) (before more : List (List Token)) (m : List Token) → IsPat
 within q before more m h e =
     let count : length q.messages ≡ length before + suc (length more) = ap length e ∙ length-append before (m ∷ more) in
     let few : leb (length before + 1) 8 ≡ true =
-    one_more (length q.messages) (length before) (length more) count (both (leb 1 (length q.messages)) (leb (length q.messages) 8) h.count).1 in
+    one_more (length q.messages) (length before) (length more) count (and_parts (leb 1 (length q.messages)) (leb (length q.messages) 8) h.count).1 in
     let all : (list_all has_few_tokens before && list_all has_few_tokens (m ∷ more)) ≡ true =
     sym (ap (λ (ms : List (List Token)). list_all has_few_tokens ms) e ∙ list_all-append has_few_tokens before (m ∷ more)) ∙ h.sizes in
-    let rest : list_all has_few_tokens (m ∷ more) ≡ true = (both (list_all has_few_tokens before) (list_all has_few_tokens (m ∷ more)) all).1 in
-    let here : has_few_tokens m ≡ true = (both (has_few_tokens m) (list_all has_few_tokens more) rest).0 in
+    let rest : list_all has_few_tokens (m ∷ more) ≡ true = (and_parts (list_all has_few_tokens before) (list_all has_few_tokens (m ∷ more)) all).1 in
+    let here : has_few_tokens m ≡ true = (and_parts (has_few_tokens m) (list_all has_few_tokens more) rest).0 in
     rw (few, here) refl
   where
     one_more : (n b k : ℕ) → n ≡ b + suc k → leb n 8 ≡ true → leb (b + 1) 8 ≡ true

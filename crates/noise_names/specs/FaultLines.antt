@@ -7,7 +7,7 @@ use Rattle.noise_names.specs.declared.faults.TextFaultKind.TheVariants as kinds
 use Rattle.noise_names.specs.Text.{line}
 use Rattle.noise_names.specs.WrongText.{BeginsRight, IsTextFault, IsTextFaultAt, IsWrongLine, heading_of, line_feeds}
 
-feeds-append : (x y : List ℕ) → line_feeds (x ++ y) ≡ line_feeds x + line_feeds y
+pub feeds-append : (x y : List ℕ) → line_feeds (x ++ y) ≡ line_feeds x + line_feeds y
 feeds-append x y = sum_by-append (λ (b : ℕ). cond (b == 10) 1 0) x y
 
 -- the heading has a line feed, and so the text has one more than the lines after it

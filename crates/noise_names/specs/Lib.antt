@@ -12,6 +12,10 @@ pub mod Overhead
 pub mod Checking
 pub mod Reading
 pub mod Facts
+pub mod Lists
+pub mod Placing
+pub mod Roles
+pub mod Tests
 pub mod FaultLines
 pub mod Rules
 pub mod Examples

@@ -30,12 +30,9 @@ use Rattle.noise_session.specs.Taking.{Takes}
 use Rattle.noise_session.specs.Taking.Takes.{judges}
 use Rattle.noise_session.specs.Taking.Judges.{accepted, opened}
 use Rattle.noise_session.proofs.Views.{progress-handshaking, progress-open, open-passed}
+use Rattle.noise_names.specs.Roles.{same_role-other}
 
 -- ---- the other end listens
-
-same-other : (r : Role) → same_role (other r) r ≡ false
-same-other Initiator = refl
-same-other Responder = refl
 
 fewer : (a b : ℕ) → suc a ≤ b → a ≢ b
 fewer a b h e = omega (arith, h, e)
@@ -43,7 +40,7 @@ fewer a b h e = omega (arith, h, e)
 listens-now : (w : EndView) → Listens w.party → idle_step (progress_of w) ≡ None
 listens-now w h =
     ap idle_step (progress-handshaking w h.going (fewer w.party.passed (length w.party.pattern.messages) h.more))
-    ∙ rw (ap (λ (r : Role). same_role r w.party.role) h.turn ∙ same-other w.party.role) refl
+    ∙ rw (ap (λ (r : Role). same_role r w.party.role) h.turn ∙ same_role-other w.party.role) refl
 
 -- ---- what an open end isn't refused for
 

@@ -21,6 +21,7 @@ use Rattle.noise_session.specs.Datagrams.{DatagramView, Opens, Runs, AreOnce, Ar
 use Rattle.noise_session.specs.Datagrams.Opens.{opened, refused, forged}
 use Rattle.noise_session.specs.Datagrams.Runs.{ends, seals, opens, refuses}
 use Rattle.noise_session.proofs.DatagramViews.{no-fault, young}
+use Rattle.noise_names.specs.Roles.{other-other}
 
 -- ---- once
 opened-as : (v : DatagramView) (bytes payload : List ℕ) (w : DatagramView) → Opens v bytes (Ok payload) w
@@ -75,10 +76,6 @@ heard-there true Initiator e = refl
 heard-there true Responder e = cc
 heard-there false role e = refl
 
-other-twice : (role : Role) → other (other role) ≡ role
-other-twice Initiator = refl
-other-twice Responder = refl
-
 past : {X : Type 0} (b : Bool) (x : X) (rest : Option X) → b ≡ false → (if b then Some x else rest) ≡ rest
 past true x rest e = cc
 past false x rest e = refl
@@ -126,7 +123,7 @@ module _ (v w : DatagramView) (payload : List ℕ) (p : AreParties v w) (d : IsD
   unfolding bytes
   is-sealed =
       ap (λ (r : History). packet r v.role 0 v.sent payload) (sym p.history)
-      ∙ ap (λ (role : Role). packet w.history role 0 v.sent payload) (sym (ap other p.role ∙ other-twice v.role))
+      ∙ ap (λ (role : Role). packet w.history role 0 v.sent payload) (sym (ap other p.role ∙ other-other v.role))
       ∙ ap (λ (n : ℕ). packet w.history (other w.role) 0 n payload) (sym is-named)
 
   comes : MatchOption (window_fault w.width w.accepted v.sent) (Opens w bytes (Ok payload) (accepting w v.sent)) (λ why. Opens w bytes (Err why) w)

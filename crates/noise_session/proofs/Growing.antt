@@ -7,6 +7,7 @@ use Rattle.std.proofs.Math.Seq.{take-append-add}
 use Rattle.byteorder.specs.Endian.{big_bytes, big_number}
 use Rattle.byteorder.specs.Numbers.{big_from-take}
 use Rattle.noise_session.specs.Frames.{frame_length, IsPartial, IsWhole}
+use Rattle.std.proofs.lemmas.Bool.{eqb-true, ltb-true, ltb-false, eqb-false}
 
 -- fewer than two bytes tell nothing
 length-short : (xs : List ℕ) → length xs < 2 → frame_length xs ≡ 2
@@ -21,18 +22,6 @@ length-same xs ys long other same =
     length-long xs long
     ∙ (ap (λ (k : ℕ). 2 + k) (sym (big_from-take 0 2 2 xs (omega arith)) ∙ (ap (big_number 2) same ∙ big_from-take 0 2 2 ys (omega arith)))
     ∙ sym (length-long ys other))
-
-same-is : (a b : ℕ) → (a == b) ≡ true → a ≡ b
-same-is a b e = grind (arith, nat_tests)
-
-same-isnt : (a b : ℕ) → (a == b) ≡ false → a ≢ b
-same-isnt a b e = λ same. grind (arith, nat_tests)
-
-below : (a b : ℕ) → nat_lt a b ≡ true → a < b
-below a b e = grind (arith, nat_tests)
-
-above : (a b : ℕ) → nat_lt a b ≡ false → b ≤ a
-above a b e = grind (arith, nat_tests)
 
 -- So many bytes of p come to the first h of xs, of a frame of w, and those are then the first of ys, of a frame of u.
 module _ (xs ys p : List ℕ) (h n w u : ℕ) (joined : take (h + n) ys ≡ take h xs ++ p) (came : length p ≡ n) (room : h + n ≤ length xs)
@@ -51,30 +40,30 @@ module _ (xs ys p : List ℕ) (h n w u : ℕ) (joined : take (h + n) ys ≡ take
       sym (take-take 2 (h + n) ys (omega arith)) ∙ (ap (take 2) joined ∙ (take-append-le 2 (take h xs) p (omega arith) ∙ take-take 2 h xs two))
 
   at-most : (b : Bool) → (h + n == 2) ≡ b → u ≤ 65537
-  at-most true e = (read (same-is (h + n) 2 e)).1
-  at-most false e = let same = kept (same-isnt (h + n) 2 e) in omega arith
+  at-most true e = (read (eqb-true (h + n) 2 e)).1
+  at-most false e = let same = kept (eqb-false (h + n) 2 e) in omega arith
 
   begun : (b : Bool) → nat_lt h 2 ≡ b → h + n ≢ 2 → 2 ≤ h + n → 2 ≤ h
   begun true e not long =
-      let short = below h 2 e in
+      let short = ltb-true h 2 e in
       let front = length-front in
       let two = length-short (take h xs) (omega arith) in
       absurd (not (omega arith))
-  begun false e not long = above h 2 e
+  begun false e not long = ltb-false h 2 e
 
   known-by : (b d : Bool) → (h + n == 2) ≡ b → nat_lt (h + n) 2 ≡ d → u ≡ frame_length (take (h + n) ys)
   known-by true d e f =
-      let is = same-is (h + n) 2 e in
+      let is = eqb-true (h + n) 2 e in
       (read is).0 ∙ ap (λ (k : ℕ). frame_length (take k ys)) (sym is)
   known-by false true e f =
-      let not = same-isnt (h + n) 2 e in
-      let short = below (h + n) 2 f in
+      let not = eqb-false (h + n) 2 e in
+      let short = ltb-true (h + n) 2 f in
       let front = length-front in
       let back = length-back in
       kept not ∙ (known ∙ (length-short (take h xs) (omega arith) ∙ sym (length-short (take (h + n) ys) (omega arith))))
   known-by false false e f =
-      let not = same-isnt (h + n) 2 e in
-      let long = above (h + n) 2 f in
+      let not = eqb-false (h + n) 2 e in
+      let long = ltb-false (h + n) 2 f in
       let front = length-front in
       let back = length-back in
       let two = begun (nat_lt h 2) refl not long in
@@ -83,19 +72,19 @@ module _ (xs ys p : List ℕ) (h n w u : ℕ) (joined : take (h + n) ys ≡ take
       (take-take 2 h xs two ∙ (sym (first-two two) ∙ sym (take-take 2 (h + n) ys (omega arith)))))
 
   spelled-by : (b : Bool) → (h + n == 2) ≡ b → 2 ≤ h + n → take 2 ys ≡ big_bytes 2 (u - 2)
-  spelled-by true e long = (read (same-is (h + n) 2 e)).2
+  spelled-by true e long = (read (eqb-true (h + n) 2 e)).2
   spelled-by false e long =
-      let not = same-isnt (h + n) 2 e in
+      let not = eqb-false (h + n) 2 e in
       let two = begun (nat_lt h 2) refl not long in
       first-two two ∙ (spelled two ∙ ap (λ (k : ℕ). big_bytes 2 (k - 2)) (sym (kept not)))
 
   within-by : (b : Bool) → (h + n == 2) ≡ b → h + n ≤ u
   within-by true e =
-      let is = same-is (h + n) 2 e in
+      let is = eqb-true (h + n) 2 e in
       let at = (read is).0 in
       let two = length-long (take 2 ys) (let l = length-take-le 2 ys (omega arith) in omega arith) in
       omega arith
-  within-by false e = let same = kept (same-isnt (h + n) 2 e) in omega arith
+  within-by false e = let same = kept (eqb-false (h + n) 2 e) in omega arith
 
   pub grown-most : u ≤ 65537
   grown-most = at-most (h + n == 2) refl
@@ -132,11 +121,11 @@ frame-grown xs ys long = length-same (xs ++ ys) xs (omega (arith, length-append 
 
 part-by : (b : Bool) (old piece : List ℕ) → nat_lt (length old) 2 ≡ b → length (old ++ piece) < frame_length old → IsPartial (old ++ piece)
 part-by true old piece e less =
-    let short = length-short old (below (length old) 2 e) in
+    let short = length-short old (ltb-true (length old) 2 e) in
     let all = length-short (old ++ piece) (omega arith) in
     omega arith
 part-by false old piece e less =
-    let same = frame-grown old piece (above (length old) 2 e) in
+    let same = frame-grown old piece (ltb-false (length old) 2 e) in
     omega arith
 
 -- fewer bytes than were asked for make no whole frame

@@ -1,7 +1,6 @@
 -- A message is judged as an open transport judges it.
 use Rattle.std.proofs.Common.{◌≡◌, ◌≢◌, ℕ, ◌-◌, ◌==◌, ◌&&◌, nat_lt, ◌+◌, List, [], length, take, Bool, true, false, Option, Some, None, Result, Ok}
 use Rattle.std.proofs.Common.{Err, MatchOption, IfErr, if◌then◌else◌, refl, sym, ◌∙◌, ap, subst, arith}
-use Rattle.std.proofs.lemmas.Bool.Decides.{nat_tests}
 use Rattle.std.specs.Prelude.{slice_range}
 use Rattle.noise_names.specs.declared.token.Role.TheVariants.{Initiator}
 use Rattle.noise_names.specs.Tokens.{same_role}
@@ -16,12 +15,7 @@ use Rattle.noise_session.specs.Ends.{EndView, OpenStands, OverStands, transport_
 use Rattle.noise_session.specs.Taking.{Judges}
 use Rattle.noise_session.specs.Taking.Judges.{opened, dropped, exhausted}
 use Rattle.noise_session.proofs.Views.{is-open, whole-hash}
-
-same-is : (a b : ℕ) → (a == b) ≡ true → a ≡ b
-same-is a b e = grind (arith, nat_tests)
-
-same-isnt : (a b : ℕ) → (a == b) ≡ false → a ≢ b
-same-isnt a b e = λ same. grind (arith, nat_tests)
+use Rattle.std.proofs.lemmas.Bool.{eqb-true, eqb-false}
 
 -- what a result tells of the fault that comes before any message is looked at
 abbrev tested : Bool → Bool → Option OpenFault
@@ -71,7 +65,7 @@ module _ (t : HeldTransport) (v : EndView) (s : OpenStands t v) (message : List 
   last = t.receive_nonce == last_nonce
 
   not-last : last ≡ false → v.received ≢ last_nonce
-  not-last e = λ same. same-isnt t.receive_nonce last_nonce e (s.transport.receive_nonce ∙ same)
+  not-last e = λ same. eqb-false t.receive_nonce last_nonce e (s.transport.receive_nonce ∙ same)
 
   pub opened-as : (n : ℕ) (after : List ℕ) → Told silent last (length message) (Ok n)
       → message ≡ due_packet (transport_in v) (take n after)
@@ -107,7 +101,7 @@ module _ (t : HeldTransport) (v : EndView) (s : OpenStands t v) (message : List 
   pub exhausted-as : Told silent last (length message) (Err unopened.Exhausted) → Judges v message Exhausted (closed v)
   exhausted-as fault =
       exhausted v message (is-open v t s)
-      (sym s.transport.receive_nonce ∙ same-is t.receive_nonce last_nonce (told-exhausted silent last (length message) fault))
+      (sym s.transport.receive_nonce ∙ eqb-true t.receive_nonce last_nonce (told-exhausted silent last (length message) fault))
 
   pub over-open : OverStands t.role (Some t.hash) (closed v)
   over-open =

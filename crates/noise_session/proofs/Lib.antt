@@ -1,6 +1,4 @@
 pub mod Places
-pub mod Framing
-pub mod Renewing
 pub mod Unopened
 pub mod Splitting
 pub mod Streaming

@@ -14,7 +14,7 @@ use Rattle.noise_session.specs.Ends.{EndView}
 use Rattle.noise_session.specs.Taking.{Judges, Takes}
 use Rattle.noise_session.specs.Taking.Judges.{accepted, refused, opened, dropped, exhausted}
 use Rattle.noise_session.specs.Taking.Takes.{idles, waits, judges}
-use Rattle.noise_session.proofs.Framing.{frame-whole, frame-same}
+use Rattle.noise_session.specs.Framing.{frame-whole, frame-same}
 use Rattle.noise_session.proofs.Views.{open-passed}
 
 module _ (accepted-one : (v : View) (message : List ℕ) (xs ys : List (List ℕ)) (p q : List ℕ) → Accepts v message xs p → Accepts v message ys q

@@ -1,11 +1,11 @@
 -- Rings that some accepted nonces have, and that a nonce more leaves one.
-use Rattle.std.proofs.Common.{◌≡◌, ◌≢◌, ◌⊎◌, ℕ, zero, suc, ◌+◌, ◌-◌, ◌*◌, ◌/◌, ◌%◌, ◌^◌, ◌<◌, ◌≤◌, min, Bool, true, false, eqb, ltb}
+use Rattle.std.proofs.Common.{◌≡◌, ◌≢◌, ◌⊎◌, ℕ, zero, suc, ◌+◌, ◌-◌, ◌*◌, ◌/◌, ◌%◌, ◌^◌, ◌<◌, ◌≤◌, min, Bool, true, eqb, ltb}
 use Rattle.std.proofs.Common.{List, [], ◌∷◌, length, get_or, set, drop, refl, sym, ◌∙◌, ap, inl, inr, arith, eq-eqb, get_or-set_same, get_or-set_other}
 use Rattle.std.specs.Prelude.{bit_or, ◌&&◌, ◌||◌}
 use Rattle.std.specs.List.{list_all}
 use Rattle.std.proofs.Math.Nat.{div-eq_of_lt, div_self, mod-eq_of_lt, min-le_left, min-le_right, le-min}
 use Rattle.std.proofs.Math.Pow.{pow-lt}
-use Rattle.std.proofs.lemmas.Bool.{cases_lt, cases_eq, or_cases, or_left, eqb-true, ltb-true, lt-ltb}
+use Rattle.std.proofs.lemmas.Bool.{cases_lt, cases_eq, or_cases, or_left, eqb-true, ltb-true, lt-ltb, and_parts, and_from}
 use Rattle.std.proofs.lemmas.List.{drop-drop, drop-set-lt}
 use Rattle.std.proofs.lemmas.Nat.{or_shr, pow_pos, shr-shr}
 use Rattle.noise_session.specs.declared.window.Ring.{Ring}
@@ -15,14 +15,6 @@ use Rattle.noise_session.specs.Windows.{words_of, top_word, begun_words, ends_at
 use Rattle.noise_session.proofs.Ringing.{place-apart, width-some, words-some, touched}
 
 -- ---- what the test says
-and-both : (a b : Bool) → (a && b) ≡ true → (a ≡ true) × (b ≡ true)
-and-both true b e = (refl, e)
-and-both false b e = cc
-
-both-and : (a b : Bool) → a ≡ true → b ≡ true → (a && b) ≡ true
-both-and true b d e = e
-both-and false b d e = cc
-
 abbrev are_zeros : List ℕ → Bool
 are_zeros words = list_all (λ word. eqb word 0) words
 
@@ -38,19 +30,19 @@ pub record IsRing (r : Ring) : Type 0 where
 top-says : (word greatest : ℕ) → (eqb (word / 2 ^ (greatest % 64)) 1 || (eqb greatest 0 && eqb word 0)) ≡ true → IsTop word greatest
 top-says word greatest e = elim (or_cases (eqb (word / 2 ^ (greatest % 64)) 1) (eqb greatest 0 && eqb word 0) e) [
   | inl one ↦ inl (eqb-true (word / 2 ^ (greatest % 64)) 1 one)
-  | inr none ↦ let b = and-both (eqb greatest 0) (eqb word 0) none in inr (eqb-true greatest 0 b.0, eqb-true word 0 b.1)
+  | inr none ↦ let b = and_parts (eqb greatest 0) (eqb word 0) none in inr (eqb-true greatest 0 b.0, eqb-true word 0 b.1)
 ]
 
 pub ring-says : (r : Ring) → is_ring r ≡ true → IsRing r
 ring-says r e =
-    let a = and-both (ltb r.greatest last_nonce && ends_at_greatest r) (are_zeros (drop (begun_words r) r.words)) e in
-    let b = and-both (ltb r.greatest last_nonce) (ends_at_greatest r) a.0 in
+    let a = and_parts (ltb r.greatest last_nonce && ends_at_greatest r) (are_zeros (drop (begun_words r) r.words)) e in
+    let b = and_parts (ltb r.greatest last_nonce) (ends_at_greatest r) a.0 in
     record { below = ltb-true r.greatest last_nonce b.0; top = top-says (top_word r) r.greatest b.1; beyond = a.1 }
 
 ring-told : (r : Ring) → r.greatest < last_nonce → top_word r / 2 ^ (r.greatest % 64) ≡ 1 → are_zeros (drop (begun_words r) r.words) ≡ true → is_ring r ≡ true
 ring-told r low top beyond =
-    both-and (ltb r.greatest last_nonce && ends_at_greatest r) (are_zeros (drop (begun_words r) r.words))
-    (both-and (ltb r.greatest last_nonce) (ends_at_greatest r) (lt-ltb r.greatest last_nonce low)
+    and_from (ltb r.greatest last_nonce && ends_at_greatest r) (are_zeros (drop (begun_words r) r.words))
+    (and_from (ltb r.greatest last_nonce) (ends_at_greatest r) (lt-ltb r.greatest last_nonce low)
     (or_left (eqb (top_word r / 2 ^ (r.greatest % 64)) 1) (eqb r.greatest 0 && eqb (top_word r) 0) (eq-eqb (top_word r / 2 ^ (r.greatest % 64)) 1 top)))
     beyond
 
@@ -58,7 +50,7 @@ ring-told r low top beyond =
 zeros-drop : (n : ℕ) (words : List ℕ) → are_zeros words ≡ true → are_zeros (drop n words) ≡ true
 zeros-drop zero words e = e
 zeros-drop (suc n) [] e = e
-zeros-drop (suc n) (w ∷ ws) e = zeros-drop n ws (and-both (eqb w 0) (are_zeros ws) e).1
+zeros-drop (suc n) (w ∷ ws) e = zeros-drop n ws (and_parts (eqb w 0) (are_zeros ws) e).1
 
 zeros-more : (a b : ℕ) (words : List ℕ) → a ≤ b → are_zeros (drop a words) ≡ true → are_zeros (drop b words) ≡ true
 zeros-more a b words le e =

@@ -21,30 +21,18 @@ use Rattle.noise_session.specs.Ends.{HeldEnd, EndView, EndStands, IsToldBy, Phas
 use Rattle.noise_session.specs.Ends.{remote_static_in, session_hash, session_remote_static, closed}
 use Rattle.noise_session.specs.inner.Phases.{over_in}
 use Rattle.noise_session.specs.HeldTransport.{HeldTransport}
-
--- numbers are tested for being equal
-same-true : (a b : ℕ) → a ≡ b → (a == b) ≡ true
-same-true a b e = grind (arith, nat_tests)
-
-same-false : (a b : ℕ) → a ≢ b → (a == b) ≡ false
-same-false a b apart = grind (arith, nat_tests)
-
-same-is : (a b : ℕ) → (a == b) ≡ true → a ≡ b
-same-is a b e = grind (arith, nat_tests)
-
-same-isnt : (a b : ℕ) → (a == b) ≡ false → a ≢ b
-same-isnt a b e = λ same. grind (arith, nat_tests)
+use Rattle.std.proofs.lemmas.Bool.{eqb-true, eq-eqb, ne_eqb}
 
 pub progress-handshaking : (v : EndView) → v.party.ended ≡ false → v.party.passed ≢ length v.party.pattern.messages
     → progress_of v ≡ Handshaking v.party.pattern v.party.role v.party.passed
 progress-handshaking v going more =
-    let test = same-false v.party.passed (length v.party.pattern.messages) more in
+    let test = ne_eqb v.party.passed (length v.party.pattern.messages) more in
     rw (going, test) refl
 
 pub progress-open : (v : EndView) → v.party.ended ≡ false → v.party.passed ≡ length v.party.pattern.messages
     → progress_of v ≡ Open v.party.role (is_one_way v.party.pattern) v.sent v.received
 progress-open v going all =
-    let test = same-true v.party.passed (length v.party.pattern.messages) all in
+    let test = eq-eqb v.party.passed (length v.party.pattern.messages) all in
     rw (going, test) refl
 
 pub progress-closed : (v : EndView) → v.party.ended ≡ true → progress_of v ≡ Closed v.party.role
@@ -52,10 +40,10 @@ progress-closed v over = rw over refl
 
 -- the hash is reported once all messages have passed
 pub no-hash : (v : EndView) → v.party.passed ≢ length v.party.pattern.messages → session_hash v ≡ None
-no-hash v more = let test = same-false v.party.passed (length v.party.pattern.messages) more in rw test refl
+no-hash v more = let test = ne_eqb v.party.passed (length v.party.pattern.messages) more in rw test refl
 
 pub whole-hash : (v : EndView) → v.party.passed ≡ length v.party.pattern.messages → session_hash v ≡ Some (hash v.party.history)
-whole-hash v all = let test = same-true v.party.passed (length v.party.pattern.messages) all in rw test refl
+whole-hash v all = let test = eq-eqb v.party.passed (length v.party.pattern.messages) all in rw test refl
 
 pub is-open : (v : EndView) (t : HeldTransport) → OpenStands t v → IsTrue (is_open (progress_of v))
 is-open v t s = ap is_open (progress-open v s.going s.all)
@@ -69,7 +57,7 @@ open-by false false role one_way sent received pattern passed h = cc
 
 pub open-passed : (v : EndView) → IsTrue (is_open (progress_of v)) → v.party.passed ≡ length v.party.pattern.messages
 open-passed v opens =
-    same-is v.party.passed (length v.party.pattern.messages)
+    eqb-true v.party.passed (length v.party.pattern.messages)
     (open-by v.party.ended (v.party.passed == length v.party.pattern.messages) v.party.role
     (is_one_way v.party.pattern) v.sent v.received v.party.pattern v.party.passed opens)
 

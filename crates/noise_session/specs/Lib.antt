@@ -1,5 +1,7 @@
 pub mod Frames
+pub mod Framing
 pub mod Transport
+pub mod Renewing
 pub mod Halves
 pub mod HeldTransport
 pub mod Counting

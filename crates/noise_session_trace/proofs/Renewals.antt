@@ -1,6 +1,5 @@
 -- How often a key was renewed before a nonce, and before the next; and the keys at both.
-use Rattle.std.proofs.Common.{◌≡◌, ◌≢◌, ℕ, suc, ◌+◌, ◌*◌, ◌/◌, ◌%◌, ◌<◌, ◌≤◌, List, inl, inr, ap, sym, arith}
-use Rattle.std.proofs.Math.Nat.{mul-le-mul_left, mul-suc, div-add-mod}
+use Rattle.std.proofs.Common.{◌≡◌, ◌≢◌, ℕ, suc, ◌+◌, ◌%◌, List, inl, inr, ap, sym, arith}
 use Rattle.std.proofs.lemmas.Bool.{cases_lt}
 use Rattle.std.proofs.lemmas.Bool.Decides.{nat_tests}
 use Rattle.std.specs.Prelude.{◌⊎◌, true, false, nat_lt, Option, Some, None, unwrap_or, if◌then◌else◌}
@@ -9,52 +8,7 @@ use Rattle.noise_aead.specs.Sealing.{rekeyed}
 use Rattle.noise_state.specs.History.{History, rekeyed_times}
 use Rattle.noise_session.specs.Transport.{renewals, split_key, transport_key}
 use Rattle.noise_session_trace.specs.Moments.{renewed_after}
-
-apart : (i a b : ℕ) → a < b → i * a + i ≤ i * b
-apart i a b less =
-    let next : suc a ≤ b = omega arith in
-    omega (arith, mul-suc i a, mul-le-mul_left i next)
-
-turned : (i a b r : ℕ) → i * b ≡ i * a + (r + 1) → r < i → b ≡ a + 1
-turned i a b r e small =
-    elim (cases_lt a b) [
-      | inl more ↦ elim (cases_lt (a + 1) b) [
-        | inl far ↦ absurd (omega (arith, apart i (a + 1) b far, apart i a (a + 1) (omega arith)))
-        | inr near ↦ omega arith
-      ]
-      | inr less ↦ absurd (omega (arith, mul-le-mul_left i less))
-    ]
-
-kept : (i a b r s : ℕ) → i * b + s ≡ i * a + (r + 1) → r < i → s < i → 0 < s → b ≡ a
-kept i a b r s e small below some =
-    elim (cases_lt a b) [
-      | inl more ↦ absurd (omega (arith, apart i a b more))
-      | inr le ↦ elim (cases_lt b a) [
-        | inl less ↦ absurd (omega (arith, apart i b a less))
-        | inr ge ↦ omega arith
-      ]
-    ]
-
-quotient-turned : (i n : ℕ) → 0 < i → (n + 1) % i ≡ 0 → (n + 1) / i ≡ n / i + 1
-quotient-turned i n some none =
-    turned i (n / i) ((n + 1) / i) (n % i) (omega (arith, div-add-mod n i, div-add-mod (n + 1) i)) (omega arith)
-
-quotient-kept : (i n : ℕ) → 0 < i → 0 < (n + 1) % i → (n + 1) / i ≡ n / i
-quotient-kept i n some more =
-    kept i (n / i) ((n + 1) / i) (n % i) ((n + 1) % i) (omega (arith, div-add-mod n i, div-add-mod (n + 1) i)) (omega arith) (omega arith) more
-
-renewals-turned : (i n : ℕ) → i ≢ 0 → (n + 1) % i ≡ 0 → renewals i (n + 1) ≡ suc (renewals i n)
-renewals-turned i n some none =
-    let e = quotient-turned i n (omega arith) none in
-    grind (arith, nat_tests)
-
-renewals-kept : (i n : ℕ) → i ≢ 0 → (n + 1) % i ≢ 0 → renewals i (n + 1) ≡ renewals i n
-renewals-kept i n some more =
-    let e = quotient-kept i n (omega arith) (omega arith) in
-    grind (arith, nat_tests)
-
-renewals-never : (i n : ℕ) → i ≡ 0 → renewals i (n + 1) ≡ renewals i n
-renewals-never i n none = grind (arith, nat_tests)
+use Rattle.noise_session.specs.Renewing.{renewals-turned, renewals-kept, renewals-never}
 
 -- one renewal more, or none
 renewals-next : (i n : ℕ) → (renewals i (n + 1) ≡ suc (renewals i n)) ⊎ (renewals i (n + 1) ≡ renewals i n)

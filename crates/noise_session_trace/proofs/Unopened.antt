@@ -1,14 +1,10 @@
 -- An end before the last handshake message.
-use Rattle.std.proofs.Common.{◌≡◌, ◌≢◌, ℕ, length, None, arith}
-use Rattle.std.proofs.lemmas.Bool.Decides.{nat_tests}
-use Rattle.std.specs.Prelude.{false, ◌==◌}
+use Rattle.std.proofs.Common.{◌≡◌, ◌≢◌, length, None}
 use Rattle.noise_session.specs.Ends.{EndView}
 use Rattle.noise_session_trace.specs.Following.{directions_in}
-
-apart : (m n : ℕ) → m ≢ n → (m == n) ≡ false
-apart m n other = grind (arith, nat_tests)
+use Rattle.std.proofs.lemmas.Bool.{ne_eqb}
 
 pub unopened : (v : EndView) → v.party.passed ≢ length v.party.pattern.messages → directions_in v ≡ None
 unopened v more =
-    let unequal = apart v.party.passed (length v.party.pattern.messages) more in
+    let unequal = ne_eqb v.party.passed (length v.party.pattern.messages) more in
     rw unequal

@@ -21,6 +21,8 @@ use Rattle.noise_tool.specs.Tracing.{came_traces, happened_traces, written_frame
 use Rattle.noise_tool.specs.declared.moment_lines.Kept.{Kept}
 use Rattle.noise_tool.specs.declared.traced_ends.TracedEnds.{TracedEnds}
 use Rattle.noise_tool.proofs.RunningLemmas.{on_ok}
+use Rattle.std.proofs.lemmas.Option.{same_Some}
+use Rattle.noise_names.specs.Lists.{get-last}
 
 abbrev pub Traces : Type 0
 Traces = List (List (List ℕ))
@@ -142,14 +144,11 @@ of-raw kept d next role bytes notes (injects _ _ _ heard reader x) = record {
 some-of-none : (o : Option (List ℕ)) (x : List ℕ) → o ≡ Some x → o ≡ None → ⊥
 some-of-none o x e f = cc
 
-some-is : (x y : List ℕ) → Some x ≡ Some y → x ≡ y
-some-is x y e = cc
-
 pub of-deliver : (kept : Kept) (d next : Sides) (role : Role) (n : ℕ) (notes : List (Role × Note)) (h : Happens d (Deliver role n) notes next)
     → (frame : List ℕ) → slice_get (side next (other role)).frames n ≡ Some frame
     → Came kept d next role frame notes (happened_traces kept d next (Deliver role n) notes h)
 of-deliver kept d next role n notes (delivers _ _ _ bytes heard reader got x) frame found =
-    let same : bytes ≡ frame = some-is bytes frame
+    let same : bytes ≡ frame = same_Some bytes frame
     (sym got ∙ ap (λ (fs : List (List ℕ)). slice_get fs n) (sym (frames-kept d role reader)) ∙ found) in
     subst (λ (z : List ℕ). Came kept d (with_side d role reader) role z (noted_by role (heard ++ held_note (length reader.view.held)))
     (came_traces kept role (side d role) reader bytes heard x)) same (record {
@@ -171,19 +170,15 @@ of-missing kept d next role n notes (misses _ _ _ gone) none = (refl, refl)
 
 -- ---- the frame of a write
 
-last-there : (fs : List (List ℕ)) (f : List ℕ) → slice_get (fs ++ f ∷ []) (length fs) ≡ Some f
-last-there [] f = refl
-last-there (x ∷ fs) f = last-there fs f
-
 pub written-frame : (s next last : Side) (payload : List ℕ) (note : Note) (w : SideWrites s payload note next) → last.frames ≡ next.frames
     → entry_frame last note ≡ written_frame s next payload note w
 written-frame s next last payload note (writes_nothing _ _ why after sends) same = refl
 written-frame s next last payload note (writes_handshake _ message _ xs free w) same =
     ap (λ (fs : List (List ℕ)). unwrap_or (slice_get fs (length s.frames)) []) same
-    ∙ ap (λ (o : Option (List ℕ)). unwrap_or o []) (last-there s.frames (frame message))
+    ∙ ap (λ (o : Option (List ℕ)). unwrap_or o []) (get-last s.frames (frame message))
 written-frame s next last payload note (writes_transport _ message _ free opens is) same =
     ap (λ (fs : List (List ℕ)). unwrap_or (slice_get fs (length s.frames)) []) same
-    ∙ ap (λ (o : Option (List ℕ)). unwrap_or o []) (last-there s.frames (frame message))
+    ∙ ap (λ (o : Option (List ℕ)). unwrap_or o []) (get-last s.frames (frame message))
 
 -- ---- a payload that is said, in code
 

@@ -18,6 +18,7 @@ use Rattle.noise_tool.specs.Running.AreLast.{without, unready, ready}
 use Rattle.noise_tool.specs.TracedEnds.{AreOver}
 use Rattle.noise_tool.specs.Tracing.{datagram_keys_of, last_traces}
 use Rattle.noise_tool.specs.declared.moment_lines.Kept.{Kept}
+use Rattle.std.proofs.lemmas.Bool.{and_parts, eqb-true}
 
 pub last-goes : (kept : Kept) (over : Option FileDatagrams) (d : Sides) (after : List (List ℕ)) (a : AreLast over d after)
     → (is_some over && are_ready d) ≡ true
@@ -34,34 +35,23 @@ last-stays kept over d after (ready _ _ notes last are run) e = let bad = sym ar
 
 -- ---- ends that are ready have passed the handshake
 
-and-left : (a b : Bool) → (a && b) ≡ true → a ≡ true
-and-left true b e = refl
-and-left false b e = absurd (cc e)
-
-and-right : (a b : Bool) → (a && b) ≡ true → b ≡ true
-and-right true b e = e
-and-right false b e = absurd (cc e)
-
 passed-test : (ended passed : Bool) (plan : Plan) (role : Role) (n sent received : ℕ) (one_way : Bool)
     → is_untouched (if ended then Closed role else if passed then Open role one_way sent received else Handshaking plan role n) ≡ true → passed ≡ true
 passed-test true passed plan role n sent received one_way e = absurd (cc e)
 passed-test false true plan role n sent received one_way e = refl
 passed-test false false plan role n sent received one_way e = absurd (cc e)
 
-test-same : (m n : ℕ) → (m == n) ≡ true → m ≡ n
-test-same m n e = grind (arith, nat_tests)
-
 ready-passed : (v : EndView) → is_ready v ≡ true → v.party.passed ≡ length v.party.pattern.messages
 ready-passed v e =
-    test-same v.party.passed (length v.party.pattern.messages)
+    eqb-true v.party.passed (length v.party.pattern.messages)
     (passed-test v.party.ended (v.party.passed == length v.party.pattern.messages) v.party.pattern v.party.role v.party.passed v.sent v.received
-    (is_one_way v.party.pattern) (and-left (is_untouched (progress_of v)) (length v.held == 0) e))
+    (is_one_way v.party.pattern) (and_parts (is_untouched (progress_of v)) (length v.held == 0) e).0)
 
 pub ready-over : (over : Option FileDatagrams) (d : Sides) → (is_some over && are_ready d) ≡ true → AreOver d
 ready-over over d e =
-    let both = and-right (is_some over) (are_ready d) e in (
-      ready-passed d.initiator.view (and-left (is_ready d.initiator.view) (is_ready d.responder.view) both),
-      ready-passed d.responder.view (and-right (is_ready d.initiator.view) (is_ready d.responder.view) both),
+    let both = (and_parts (is_some over) (are_ready d) e).1 in (
+      ready-passed d.initiator.view (and_parts (is_ready d.initiator.view) (is_ready d.responder.view) both).0,
+      ready-passed d.responder.view (and_parts (is_ready d.initiator.view) (is_ready d.responder.view) both).1,
     )
 
 -- ---- the keys of a session that has opened

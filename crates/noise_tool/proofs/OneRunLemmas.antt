@@ -1,13 +1,10 @@
 -- A vector file has one run.
-use Rattle.std.proofs.Common.{◌≡◌, ◌∙◌, ap, ap₂, sym, refl, subst, ℕ, ◌+◌, List, [], ◌∷◌, ◌++◌, length, map, Option, Some, None}
+use Rattle.std.proofs.Common.{◌≡◌, ◌∙◌, ap, ap₂, sym, refl, subst, ℕ, ◌+◌, List, ◌∷◌, ◌++◌, length, map, Option, Some, None}
 use Rattle.std.proofs.lemmas.Bool.{false≢true}
 use Rattle.noise_names.specs.declared.token.Role.{Role}
 use Rattle.noise_names.specs.declared.token.Role.TheVariants.{Initiator, Responder}
-use Rattle.noise_names.specs.declared.token.Token.{Token}
-use Rattle.noise_names.specs.Limits.{HavePsksAt, Placed, with_psk_tokens}
 use Rattle.noise_names.specs.Names.{Section}
-use Rattle.noise_names.specs.Plan.{Plan, plain_of}
-use Rattle.noise_names.specs.Tokens.{own_tokens}
+use Rattle.noise_names.specs.Plan.{Plan}
 use Rattle.noise_events.specs.declared.window.Window.{Window}
 use Rattle.noise_events.specs.Events.{events_of}
 use Rattle.noise_duel.specs.Conversation.{facing}
@@ -27,7 +24,6 @@ use Rattle.noise_vectors.specs.declared.vector.FileDatagrams.{FileDatagrams}
 use Rattle.noise_vectors.specs.declared.vector.VectorFile.{VectorFile}
 use Rattle.noise_tool.specs.Ends.{IsPatternOf, facing_in, known_before, setup_of}
 use Rattle.noise_handshake.specs.Setup.{setup_fault}
-use Rattle.noise_lines.specs.Named.{IsNamed}
 use Rattle.noise_tool.specs.OneRun.{OneRun, RunAlike}
 use Rattle.noise_vectors.specs.SameFile.{held_datagrams}
 use Rattle.noise_tool.specs.Printed.{note_line}
@@ -35,43 +31,7 @@ use Rattle.noise_tool.specs.PrintedDatagrams.{datagram_line, datagram_state_line
 use Rattle.noise_tool.specs.Running.{AreLast, IsRunOf, datagrams_in, gone_over}
 use Rattle.noise_tool.specs.Running.AreLast.{without, unready, ready}
 use Rattle.noise_vectors.specs.VectorText.{window_words}
-
--- ---- the pattern
-
--- messages with psk tokens at the same places are those of their other tokens
-messages-once : (places : List ℕ) (n : ℕ) (xs ys : List (List Token)) → map own_tokens xs ≡ map own_tokens ys → HavePsksAt places n xs
-    → HavePsksAt places n ys → xs ≡ ys
-messages-once places n [] [] e h k = refl
-messages-once places n [] (y ∷ ys) e h k = absurd (cc)
-messages-once places n (x ∷ xs) [] e h k = absurd (cc)
-messages-once places n (x ∷ xs) (y ∷ ys) e h k =
-    let first : own_tokens x ≡ own_tokens y = cc in
-    let rest : map own_tokens xs ≡ map own_tokens ys = cc in
-    ap₂ (λ (t : List Token) (ts : List (List Token)). t ∷ ts) (h.0 ∙ ap (with_psk_tokens places n) first ∙ sym k.0)
-    (messages-once places (n + 1) xs ys rest h.1 k.1)
-
-plan-same : (p q : Plan) → plain_of p ≡ plain_of q → p.places ≡ q.places → p.messages ≡ q.messages → p ≡ q
-plan-same p q e places messages =
-    ap (λ (z : Plan). record z { places = p.places; messages = p.messages }) e
-    ∙ ap₂ (λ (n : List ℕ) (ts : List (List Token)). record q { places = n; messages = ts }) places messages
-
-placed-once : (plain : Plan) (places : List ℕ) (p q : Plan) → Placed plain places p → Placed plain places q → p ≡ q
-placed-once plain places p q h k =
-    let same : plain_of p ≡ plain_of q = h.without ∙ sym k.without in
-    plan-same p q same (h.places_are ∙ sym k.places_are)
-    (messages-once places 1 p.messages q.messages (ap (λ (z : Plan). z.messages) same) h.psks.tokens k.psks.tokens)
-
-some-same : {X : Type 0} (x y : X) → Some x ≡ Some y → x ≡ y
-some-same x y e = cc
-
-named-once : (name : Section) (p q : Plan) → IsNamed name p → IsNamed name q → p ≡ q
-named-once name p q h k =
-    let same : h.plain ≡ k.plain = some-same h.plain k.plain (sym h.known ∙ k.known) in
-    placed-once h.plain name.places p q h.placed (subst (λ (z : Plan). Placed z name.places q) (sym same) k.placed)
-
-pattern-once : (block : Option Plan) (name : Section) (p q : Plan) → IsPatternOf block name p → IsPatternOf block name q → p ≡ q
-pattern-once (Some pattern) name p q h k = h ∙ sym k
-pattern-once None name p q h k = named-once name p q h k
+use Rattle.noise_tool.specs.OnePattern.{pattern-once}
 
 -- ---- what both ends start from
 

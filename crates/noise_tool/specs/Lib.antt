@@ -2,6 +2,7 @@ pub mod Conversion
 pub mod Ends
 pub mod Kept
 pub mod Moments
+pub mod OnePattern
 pub mod OneRun
 pub mod Performing
 pub mod Prefixes

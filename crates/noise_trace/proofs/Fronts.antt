@@ -1,6 +1,6 @@
 -- Following the tokens of a message.
 use Rattle.std.proofs.Common.{◌≡◌, ℕ, ◌+◌, List, [], ◌∷◌, ◌++◌, length, refl, ap, sym, subst, ◌∙◌, arith, append_assoc, length-append}
-use Rattle.std.specs.Prelude.{Bool, Option, Some, unwrap_or}
+use Rattle.std.specs.Prelude.{Bool, Option, Some}
 use Rattle.noise_names.specs.declared.token.Token.{Token}
 use Rattle.noise_state.specs.declared.symmetric.SymmetricState.{SymmetricState}
 use Rattle.noise_state.specs.History.{History}
@@ -12,9 +12,6 @@ use Rattle.noise_trace.specs.declared.step.Part.TheVariants as part
 use Rattle.noise_trace.specs.declared.step.Step.{Step}
 use Rattle.noise_trace.specs.inner.Carried.{known_next, known_through, Carries}
 use Rattle.noise_trace.specs.Steps.{step, token_steps}
-
-pub some-same : {A : Type 0} (a b : A) → Some a ≡ Some b → a ≡ b
-some-same {A} a b e = ap (λ (o : Option A). unwrap_or o a) e
 
 -- The text of the first token, and those of the others.
 pub record Parted (reads : Bool) (v : Reader) (known : Remote) (secrets : List (List ℕ)) (r : History) (t : Token) (ts : List Token)

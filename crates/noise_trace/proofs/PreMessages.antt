@@ -23,6 +23,7 @@ use Rattle.noise_handshake.specs.Message.{with_ephemeral}
 use Rattle.noise_trace.specs.declared.values.StateValues.{StateValues}
 use Rattle.noise_trace.specs.Values.{values_of}
 use Rattle.noise_trace.specs.Start.{start_step, key_steps, pre_steps, named, prologued, start_steps, values_after}
+use Rattle.std.proofs.lemmas.Bool.{or_right}
 
 pub flips : (b x : Bool) → (IsTrue b ↔ IsFalse x) → not b ≡ x
 flips true x e = sym (e.0 refl)
@@ -79,10 +80,6 @@ mixes-on psks party keys tokens t ts r state old mid new split first m =
           ∙ ap (λ (z : List StartStep). old ++ z) (steps-cons psks party keys t ts r),
     )
 
-right : (a b : Bool) → b ≡ true → (a || b) ≡ true
-right true b e = refl
-right false b e = e
-
 -- the tokens of a list are among it
 pub has-here : (u t : Token) (tokens ts : List Token) → same_token u u ≡ true → tokens ≡ t ∷ ts → t ≡ u → has_token u tokens ≡ true
 has-here u t tokens ts same split e =
@@ -91,7 +88,7 @@ has-here u t tokens ts same split e =
 
 pub has-later : (u t : Token) (tokens ts : List Token) → tokens ≡ t ∷ ts → has_token u ts ≡ true → has_token u tokens ≡ true
 has-later u t tokens ts split h =
-    subst (λ (us : List Token). has_token u us ≡ true) (sym split) (right (same_token t u) (has_token u ts) h)
+    subst (λ (us : List Token). has_token u us ≡ true) (sym split) (or_right (same_token t u) (has_token u ts) h)
 
 -- A party's keys of its pre-message are there, in a setup without a fault.
 module _ (p : Plan) (own : Own → Option (List ℕ)) (known : Remote)

@@ -12,7 +12,7 @@ use Rattle.noise_keys.specs.declared.faults.SetupFault.{SetupFault}
 use Rattle.noise_handshake.specs.Setup.{setup_fault}
 use Rattle.noise_events.specs.declared.event.Event.{Event as Given}
 use Rattle.noise_events.specs.declared.event.Event.TheVariants as given
-use Rattle.noise_events.specs.Events.{Event, Say, event_of, events_of}
+use Rattle.noise_events.specs.Events.{Say, event_of, events_of}
 use Rattle.noise_events.specs.DatagramEvents.{DatagramEvent, datagram_events_of}
 use Rattle.noise_events.specs.declared.window.Window.{Window}
 use Rattle.noise_duel.specs.Conversation.{say_events}
@@ -33,8 +33,10 @@ use Rattle.noise_tool.specs.Ends.{HasSetupFault, IsPatternFault, IsPatternOf, Is
 use Rattle.noise_tool.specs.Performing.{HasUnmet, IsRunFault, IsUnmet}
 use Rattle.noise_tool.specs.Running.{datagrams_in}
 use Rattle.noise_transcript.specs.Fitting.{HasFittingLines, IsXor}
-use Rattle.noise_transcript.proofs.Names.{no-name-without, no-place-beyond, no-rule-broken, pattern-once}
+use Rattle.noise_transcript.proofs.Names.{no-name-without, no-place-beyond, no-rule-broken}
 use Rattle.noise_transcript.proofs.Same.{datagrams-are}
+use Rattle.noise_names.specs.Lists.{heads, tails}
+use Rattle.noise_tool.specs.OnePattern.{pattern-once}
 
 -- ---- the file is one that `talk` takes
 
@@ -43,12 +45,6 @@ is-said (given.Say role payload cuts) r bytes e = tt
 is-said (given.Write role payload) r bytes e = absurd (cc)
 is-said (given.Deliver role number cuts) r bytes e = absurd (cc)
 is-said (given.Raw role payload) r bytes e = absurd (cc)
-
-heads : (x y : Event) (xs ys : List Event) → (x ∷ xs) ≡ (y ∷ ys) → x ≡ y
-heads x y xs ys e = cc
-
-tails : (x y : Event) (xs ys : List Event) → (x ∷ xs) ≡ (y ∷ ys) → xs ≡ ys
-tails x y xs ys e = cc
 
 only-said : (events : List Given) (lines : List (Role × List ℕ)) → events_of events ≡ say_events lines → All (IsAllowed SayOnly) events
 only-said [] lines e = All-nil (IsAllowed SayOnly)

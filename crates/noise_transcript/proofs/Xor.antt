@@ -15,15 +15,13 @@ use Rattle.noise_vectors.specs.Words.{IsKey}
 use Rattle.noise_vectors.specs.declared.file_keys.FileKeys.{FileKeys}
 use Rattle.noise_vectors.specs.declared.file_keys.FileKeys.TheVariants.{Xor, Table}
 use Rattle.noise_transcript.specs.Fitting.{IsXor}
+use Rattle.std.proofs.lemmas.Option.{same_Some}
 
 -- ---- the keys of a right file have 32 bytes
 
-some-same : (x y : List ℕ) → Some x ≡ Some y → x ≡ y
-some-same x y e = cc
-
 long-in : (o : Option (List ℕ)) → IfSome o IsKey → (k : List ℕ) → o ≡ Some k → length k ≡ 32
 long-in None h k e = absurd (cc)
-long-in (Some x) h k e = ap length (sym (some-same x k e)) ∙ h.0
+long-in (Some x) h k e = ap length (sym (same_Some x k e)) ∙ h.0
 
 of-own : (e s : Option (List ℕ)) → IfSome e IsKey → IfSome s IsKey → (x : Own) → IfSome (key_of x e s) IsKey
 of-own e s f g Ephemeral = f

@@ -1,11 +1,11 @@
 -- Right files that begin with the lines that are read, and what other right files have after those.
-use Rattle.std.proofs.Common.{arith, ◌≡◌, ◌∙◌, ◌<◌, inl, inr, ap, sym, refl, true, false, true≢false, Bool, ℕ, List, [], ◌∷◌, ◌++◌, codes, get_or, length}
-use Rattle.std.proofs.Common.{◌==◌, Vec}
+use Rattle.std.proofs.Common.{arith, ◌≡◌, ◌∙◌, ◌<◌, inl, inr, ap, sym, refl, true, false, true≢false, Bool, ℕ, List, [], ◌∷◌, ◌++◌, codes, length}
+use Rattle.std.proofs.Common.{Vec}
 use Rattle.std.specs.Prelude.{decimal}
 use Rattle.std.specs.Bool.{nat_eq}
 use Rattle.std.specs.List.{All, starts_with}
 use Rattle.std.specs.Global.{Global}
-use Rattle.std.proofs.lemmas.Bool.{and_parts, eq-eqb, eqb-true}
+use Rattle.std.proofs.lemmas.Bool.{and_parts, eq-eqb, eqb-true, false_from_ne_true}
 use Rattle.std.proofs.lemmas.List.{append_cancel_left}
 use Rattle.noise_events.specs.declared.event.Event.{Event}
 use Rattle.noise_events.specs.declared.event.Event.TheVariants.{Write, Say, Deliver, Raw}
@@ -27,12 +27,13 @@ use Rattle.noise_vectors.specs.declared.vector.VectorFile.{VectorFile}
 use Rattle.noise_vectors.proofs.AdditionLemmas.{event-stands, version-after}
 use Rattle.noise_vectors.proofs.EventLemmas.{all-right, event_words-line}
 use Rattle.noise_vectors.proofs.FrontLemmas.{up_to_version}
-use Rattle.noise_vectors.proofs.PartLemmas.{goes-on, header-one, lines-over, not-true}
+use Rattle.noise_vectors.proofs.PartLemmas.{goes-on, header-one, lines-over}
 use Rattle.noise_vectors.proofs.PartyLemmas.{after_of, begins, lacks-answer_words, lacks-party, party_text-line, words_of}
 use Rattle.noise_vectors.proofs.ReadingLemmas.{interval-plain, prologue-plain, psk-plain}
-use Rattle.noise_vectors.proofs.ToldFiles.{after-block}
-use Rattle.noise_vectors.proofs.UniqueWords.{first-byte, numbers-apart, parted-one}
+use Rattle.noise_vectors.proofs.ToldFiles.{after-block, header-lacks}
+use Rattle.noise_vectors.proofs.UniqueWords.{parted-one}
 use Rattle.noise_vectors.proofs.VectorLemmas.{after_header, after_initiator, after_interval, after_prologue, after_psks, after_responder, initiator-ends, psks-end, responder-ends}
+use Rattle.noise_vectors.proofs.UniqueTexts.{first-apart}
 
 -- ---- what another right file has
 
@@ -68,9 +69,6 @@ pub psk-more : (file other : VectorFile) (told rest : List ℕ) → IsVectorFile
 psk-more file other told rest h k plain bad e =
     goes-on psk_lines psk-plain psk-stands file.psks.items other.psks.items told rest (after_psks other) h.psks.1 k.psks.1 plain (psks-end other) bad
     (after-interval file other (line told rest) h k e)
-
-first-apart : (x y : List ℕ) → x ≡ y → (get_or x 0 0 == get_or y 0 0) ≡ false → ⊥
-first-apart x y e differ = numbers-apart _ _ (first-byte x y e) differ
 
 keys-goes : (a b : FileKeys) (u v : List ℕ) → AreKeys a → AreKeys b → begins u ≡ false → is_answer_line b v ≡ false
     → words_of a ≡ words_of b → after_of a u ≡ after_of b v → u ≡ v
@@ -155,7 +153,7 @@ events-no_answer (Table keys) (Deliver role number cuts ∷ events) rest h = ref
 events-no_answer (Table keys) (Raw role bytes ∷ events) rest h = refl
 
 not-same : (m n : ℕ) → ¬ (m ≡ n) → nat_eq m n ≡ false
-not-same m n h = not-true (nat_eq m n) (λ e. h (eqb-true m n e))
+not-same m n h = false_from_ne_true (nat_eq m n) (λ e. h (eqb-true m n e))
 
 other-byte : (x y : ℕ) (text front rest : List ℕ) → nat_eq x y ≡ false → starts_with nat_eq text (x ∷ front) ≡ true → starts_with nat_eq text (y ∷ rest) ≡ false
 other-byte x y [] front rest differ h = absurd (cc h)
@@ -199,17 +197,13 @@ event-more allowed file other told rest h k allow also none plain bad e =
     events in
     (found.0, found.1, found.2)
 
-second-plain : (second : Bool) → lacks 10 (header_words second) ≡ true
-second-plain true = refl
-second-plain false = refl
-
 -- the header of both is one
 pub same-header : (file other : VectorFile) (rest : List ℕ) → text_of other ≡ line (header_words (is_second file.version)) rest
     → is_second other.version ≡ is_second file.version
 same-header file other rest e =
     header-one (is_second other.version) (is_second file.version)
     (parted-one 10 (header_words (is_second other.version)) (header_words (is_second file.version)) (after_header other) rest
-    (second-plain (is_second other.version)) (second-plain (is_second file.version)) e).0
+    (header-lacks (is_second other.version)) (header-lacks (is_second file.version)) e).0
 
 -- ---- right files that begin with the lines that are read
 

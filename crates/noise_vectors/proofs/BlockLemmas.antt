@@ -3,7 +3,6 @@ use Rattle.std.proofs.Common.{arith, ◌≡◌, ◌∙◌, ◌+◌, ◌-◌, ◌
 use Rattle.std.specs.List.{All, list_all}
 use Rattle.std.proofs.Math.Seq.{take-append_seam}
 use Rattle.std.proofs.lemmas.Bool.{and_parts}
-use Rattle.std.proofs.lemmas.Bool.Decides.{nat_tests}
 use Rattle.std.proofs.lemmas.List.{append_assoc, length-append}
 use Rattle.std.proofs.lemmas.List.Elements.{All-append, All-cons, All-head, All-nil, All-push, All-tail}
 use Rattle.noise_names.specs.declared.token.Role.{Role}
@@ -24,6 +23,7 @@ use Rattle.noise_vectors.specs.WrongLine.{Block, IsFirstLine}
 use Rattle.noise_vectors.proofs.LackLemmas.{all_weaker, lacks-append}
 use Rattle.noise_vectors.proofs.LineLemmas.{lines_of-more}
 use Rattle.noise_vectors.proofs.ToldLemmas.{first-line}
+use Rattle.noise_vectors.proofs.ReadingLemmas.{no_line_feed}
 
 -- ---- lists of lines
 
@@ -100,10 +100,6 @@ lined-message_lines party [] = lined-none
 lined-message_lines party (m ∷ ms) =
     lined-append (token_line party m) (message_lines (other party) ms) (lined-token_line party m) (lined-message_lines (other party) ms)
 
--- no byte of a section is a line feed
-not_feed : (b : ℕ) → is_section_byte b ≡ true → not (b == 10) ≡ true
-not_feed b h = grind (arith, nat_tests)
-
 -- nor the `e` that `end` begins with
 not_end : (section : List ℕ) → list_all is_section_byte section ≡ true → ¬ (section ++ codes ":" ≡ codes "end")
 not_end [] h e = cc (e)
@@ -115,7 +111,7 @@ not_end (b ∷ bs) h e =
 
 pub heading-plain : (s : Section) → IsSection s → lacks 10 (section_bytes s.base s.places ++ codes ":") ≡ true
 heading-plain s h =
-    let plain = all_weaker is_section_byte (λ b. not (b == 10)) (section_bytes s.base s.places) not_feed (section_bytes-all s h) in
+    let plain = all_weaker is_section_byte (λ b. not (b == 10)) (section_bytes s.base s.places) no_line_feed (section_bytes-all s h) in
     lacks-append 10 (section_bytes s.base s.places) (codes ":") plain refl
 
 lined-heading : (s : Section) → IsSection s → Lined ((section_bytes s.base s.places ++ codes ":") ++ 10 ∷ [])

@@ -94,7 +94,7 @@ pub record First (all done first more : List ℕ) : Type 0 where
   pub small : next < 65536
   pub others_small : All (λ n. n < 65536) (second ∷ others)
 
-lacks-comma : (n : ℕ) → n < 65536 → lacks 44 (decimal n) ≡ true
+pub lacks-comma : (n : ℕ) → n < 65536 → lacks 44 (decimal n) ≡ true
 lacks-comma n h = lacks-decimal 44 n (lit< tt) (omega arith)
 
 first-of : (all done rest first more : List ℕ) (next : ℕ) (others : List ℕ) → all ≡ done ++ next ∷ others → rest ≡ lengths_word (next ∷ others)

@@ -52,7 +52,7 @@ kind_word-plain kinds.Raw = refl
 
 -- ---- its line
 
-line-of : (front : List ℕ) (role : Role) (operands : List ℕ) → lacks 10 front ≡ true → lacks 10 operands ≡ true
+pub line-of : (front : List ℕ) (role : Role) (operands : List ℕ) → lacks 10 front ≡ true → lacks 10 operands ≡ true
     → lacks 10 (front ++ (role_word role ++ 32 ∷ operands)) ≡ true
 line-of front role operands f o =
     lacks-append 10 front (role_word role ++ 32 ∷ operands) f (lacks-append 10 (role_word role) (32 ∷ operands) (role_word-plain role).0 o)

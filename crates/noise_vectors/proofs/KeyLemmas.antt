@@ -24,7 +24,7 @@ IsDigits-key key word h e =
 abbrev is_byte : ℕ → Type 0
 is_byte b = b < 256
 
-bytes-at : (bytes : List ℕ) → All (λ b. b < 256) bytes → (i : ℕ) → get_or bytes i 0 < 256
+pub bytes-at : (bytes : List ℕ) → All (λ b. b < 256) bytes → (i : ℕ) → get_or bytes i 0 < 256
 bytes-at [] h i = omega arith
 bytes-at (b ∷ rest) h zero = All-head is_byte b rest h
 bytes-at (b ∷ rest) h (suc i) = bytes-at rest (All-tail is_byte b rest h) i

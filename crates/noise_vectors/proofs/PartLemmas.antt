@@ -18,10 +18,7 @@ use Rattle.noise_vectors.specs.declared.faults.VectorFault.TheVariants.{Line}
 use Rattle.noise_vectors.proofs.LineLemmas.{lines_of-push}
 use Rattle.noise_vectors.proofs.UniqueWords.{numbers-apart, parted-one}
 use Rattle.noise_vectors.proofs.ToldLemmas.{counted-here, counted-last, counted-none, feeds-append, first-line}
-
-pub not-true : (b : Bool) → ¬ (b ≡ true) → b ≡ false
-not-true true h = absurd (h refl)
-not-true false h = refl
+use Rattle.std.proofs.lemmas.Bool.{false_from_ne_true}
 
 -- a text after lines is one after the last of them
 pub lines_of-after : {A : Type 0} (words : A → List ℕ) (xs : List A) (rest more : List ℕ) → lines_of words xs rest ++ more ≡ lines_of words xs (rest ++ more)
@@ -73,7 +70,7 @@ pub line-cut : (IsGood : List ℕ → Type 0) (rest words : List ℕ) (total : �
     → (is_ended ≡ false → rest ≡ words) → lacks 10 words ≡ true → ¬ (is_ended ≡ true)
     → fault ≡ Line next kinds.Ending → IsGood words → TellsLine IsGood rest total kind fault
 line-cut IsGood rest words total kind fault is_ended number next same low step last plain open_ is good =
-    let e = last (not-true is_ended open_) in
+    let e = last (false_from_ne_true is_ended open_) in
     let n = counted-last number next total rest words low same step plain e in
     inr (inl (is ∙ ap (λ (k : ℕ). Line k kinds.Ending) n, inr (subst IsGood (sym e) good)))
 
@@ -141,7 +138,7 @@ pub tells-cut : {A : Type 0} (of : Listed A) (from : List ℕ) (total : ℕ) (fa
     → (is_ended ≡ false → rest ≡ words) → lacks 10 words ≡ true → ¬ (is_ended ≡ true)
     → fault ≡ Line next kinds.Ending → words ≡ of.words x → of.Good x → TellsAfter of from total fault
 tells-cut of from total fault done x rest words is_ended number next text are few same low step last plain open_ is found good =
-    let e = last (not-true is_ended open_) in
+    let e = last (false_from_ne_true is_ended open_) in
     let n = counted-last number next total rest words low same step plain e in
     let more : length (done ++ x ∷ []) ≡ length done + 1 = length-append done (x ∷ []) in
     inr (inl (

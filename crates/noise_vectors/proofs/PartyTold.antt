@@ -1,5 +1,5 @@
 -- What the reader of a party's lines tells, and that of the datagrams.
-use Rattle.std.proofs.Common.{◌≡◌, ◌∙◌, inl, inr, ap, refl, true, false, Bool, ℕ, List, [], ◌∷◌, ◌++◌, codes, Option}
+use Rattle.std.proofs.Common.{◌≡◌, ◌∙◌, inl, inr, ap, true, ℕ, List, [], ◌∷◌, ◌++◌, codes, Option}
 use Rattle.std.specs.Prelude.{IfSome, nat_eq}
 use Rattle.std.specs.List.{starts_with}
 use Rattle.std.proofs.lemmas.List.{append_assoc}
@@ -16,6 +16,7 @@ use Rattle.noise_vectors.specs.declared.vector.AllowedEvents.{AllowedEvents}
 use Rattle.noise_vectors.specs.declared.vector.AllowedEvents.TheVariants.{SayOnly}
 use Rattle.noise_vectors.proofs.PartyLemmas.{after_of, lacks-party, party_text-line, words_of}
 use Rattle.noise_vectors.proofs.UniqueWords.{parted-one}
+use Rattle.std.proofs.lemmas.Bool.{true_from_ne_false}
 
 -- the line of a party is that of its keys
 pub party-words : (role : Role) (keys : FileKeys) (words after rest : List ℕ) → lacks 10 words ≡ true → AreKeys keys
@@ -23,10 +24,6 @@ pub party-words : (role : Role) (keys : FileKeys) (words after rest : List ℕ) 
 party-words role keys words after rest plain h e =
     (parted-one 10 words (role_word role ++ 32 ∷ words_of keys) after (after_of keys rest) plain (lacks-party role keys h)
     (e ∙ party_text-line role keys rest)).0
-
-is-true : (b : Bool) → ¬ (b ≡ false) → b ≡ true
-is-true true g = refl
-is-true false g = absurd (g refl)
 
 -- the line of a table, which the text's end cuts
 pub table-cut : (role : Role) (e s : Option (List ℕ)) (from told words : List ℕ) → from ≡ told → told ≡ role_word role ++ 32 ∷ words
@@ -68,7 +65,7 @@ table-told role e s from after total fault text he hs (inr (inr w)) =
       are = (he, hs, w.few, w.are);
       left = w.left;
       text_is = text ∙ ap (line words) w.text_is;
-      begun = is-true (starts_with nat_eq w.left (codes "answer ")) w.stands;
+      begun = true_from_ne_false (starts_with nat_eq w.left (codes "answer ")) w.stands;
       it = w.it;
       full = w.full;
     })))

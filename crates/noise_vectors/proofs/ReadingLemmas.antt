@@ -11,7 +11,7 @@ use Rattle.noise_vectors.specs.Words.{IsKey, lacks}
 use Rattle.noise_vectors.proofs.LackLemmas.{all_weaker, lacks-append, lacks-encode_lower, lacks-hex_of}
 use Rattle.noise_vectors.proofs.WordLemmas.{lacks-decimal}
 
-no_line_feed : (b : ℕ) → is_section_byte b ≡ true → not (b == 10) ≡ true
+pub no_line_feed : (b : ℕ) → is_section_byte b ≡ true → not (b == 10) ≡ true
 no_line_feed b h = at (b == 10) refl where
   at : (test : Bool) → (b == 10) ≡ test → not test ≡ true
   at true e = let bad : is_section_byte 10 ≡ true = subst (λ (n : ℕ). is_section_byte n ≡ true) (eqb-true b 10 e) h in absurd (cc)

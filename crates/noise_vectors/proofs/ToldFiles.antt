@@ -150,7 +150,7 @@ nn-own = ((λ h. absurd (false≢true h), λ e. subst (λ (o : Option Plan). IsS
 pub told-of : (allowed : AllowedEvents) (text : List ℕ) (fault other : VectorFault) → fault ≡ other → IsTold allowed text other → IsTold allowed text fault
 told-of allowed text fault other e h = subst (IsTold allowed text) (sym e) h
 
-next-number : (text : List ℕ) (total : ℕ) → total ≡ line_feeds text → total + 1 ≡ line_feeds text + 1
+pub next-number : (text : List ℕ) (total : ℕ) → total ≡ line_feeds text → total + 1 ≡ line_feeds text + 1
 next-number text total all = ap (λ (n : ℕ). n + 1) all
 
 pub header-told : (alloc : Global) (allowed : AllowedEvents) (text left : List ℕ) (total : ℕ) (fault : VectorFault) → text ≡ left
@@ -356,7 +356,7 @@ interval-told alloc allowed text left second name block prologue short total fau
 
 -- ---- the pattern
 
-header-lacks : (second : Bool) → lacks 10 (header_words second) ≡ true
+pub header-lacks : (second : Bool) → lacks 10 (header_words second) ≡ true
 header-lacks true = refl
 header-lacks false = refl
 

@@ -1,5 +1,5 @@
 -- The lines of the psks, the parties and the events: right files that begin with those before the one that is told, and that none goes on with it.
-use Rattle.std.proofs.Common.{arith, ◌≡◌, ◌∙◌, ◌+◌, ◌<◌, ◌≤◌, ◌^◌, inl, inr, ap, sym, refl, false, true, true≢false, Bool, ℕ, List, [], ◌∷◌, ◌++◌, codes}
+use Rattle.std.proofs.Common.{arith, ◌≡◌, ◌∙◌, ◌+◌, ◌<◌, ◌≤◌, ◌^◌, inl, inr, ap, sym, refl, false, true≢false, Bool, ℕ, List, [], ◌∷◌, ◌++◌, codes}
 use Rattle.std.proofs.Common.{Option, Vec, vec_len}
 use Rattle.std.specs.Prelude.{decimal}
 use Rattle.std.specs.List.{All}
@@ -33,9 +33,8 @@ use Rattle.noise_vectors.proofs.FrontLemmas.{front-initiator, front-interval, fr
 use Rattle.noise_vectors.proofs.ToldFiles.{line-some, sample, sample-allowed, sample-right, told-of, vec_of, version_of-bare, version_of-quiet, version_of-second}
 use Rattle.noise_vectors.proofs.ToldLemmas.{other-begun, same-begun}
 use Rattle.noise_vectors.proofs.VectorLemmas.{after_initiator, after_psks, after_responder, initiator-ends, responder-ends}
-
-pub next-number : (text : List ℕ) (total : ℕ) → total ≡ line_feeds text → total + 1 ≡ line_feeds text + 1
-next-number text total all = ap (λ (n : ℕ). n + 1) all
+use Rattle.std.proofs.lemmas.Bool.{true_from_ne_false}
+use Rattle.noise_vectors.proofs.ToldFiles.{next-number}
 
 -- ---- the psks
 
@@ -80,11 +79,8 @@ psk-told alloc allowed text from second name block prologue short interval total
           let most = k.psks.0 in
           let less = found.3 in
           absurd (omega (arith, full, most, less))),
-      is-true (is_psk_line w.it.told) (λ bad. w.stands (same-begun w.it.told w.left (codes "psk ") w.it.is_first refl ∙ bad)),
-    ) where
-      is-true : (b : Bool) → ¬ (b ≡ false) → b ≡ true
-      is-true true g = refl
-      is-true false g = absurd (g refl)
+      true_from_ne_false (is_psk_line w.it.told) (λ bad. w.stands (same-begun w.it.told w.left (codes "psk ") w.it.is_first refl ∙ bad)),
+    )
 
 -- the lines up to the psks' last one are right
 pub past-psks : (alloc : Global) (allowed : AllowedEvents) (text left : List ℕ) (second : Bool) (name : Section) (block : Option Plan)

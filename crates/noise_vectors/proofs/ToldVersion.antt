@@ -32,8 +32,8 @@ use Rattle.noise_vectors.proofs.BegunFiles.{BegunAt, after-no_answer, at-version
 use Rattle.noise_vectors.proofs.FrontLemmas.{IsFront, cut-within, front-both, front-datagrams, front-end, front-events, front-line, front-lines, front-version, told-line, up_to_version}
 use Rattle.noise_vectors.proofs.HeldLemmas.{Good, held-good, held-lines}
 use Rattle.noise_vectors.proofs.PartLemmas.{goes-on, lines-over}
-use Rattle.noise_vectors.proofs.ToldFiles.{line-some, told-of, vec_of}
-use Rattle.noise_vectors.proofs.ToldLater.{answer-begun, end-text, front-alone, next-number}
+use Rattle.noise_vectors.proofs.ToldFiles.{line-some, told-of, vec_of, next-number}
+use Rattle.noise_vectors.proofs.ToldLater.{answer-begun, end-text, front-alone}
 use Rattle.noise_vectors.proofs.ToldLemmas.{other-begun}
 use Rattle.noise_vectors.proofs.UniqueWords.{parted-one}
 

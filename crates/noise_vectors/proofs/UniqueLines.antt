@@ -24,11 +24,12 @@ use Rattle.noise_vectors.specs.VectorText.{answer_words, datagram_event_words, e
 use Rattle.noise_vectors.specs.VectorText.{own_word, psk_words, role_word}
 use Rattle.noise_vectors.specs.Words.{IsKey, lacks}
 use Rattle.noise_vectors.proofs.EventLemmas.{event_words-line}
-use Rattle.noise_vectors.proofs.LackLemmas.{lacks-append, lacks-encode_lower, lacks-hex_of, lacks-key_word, own_word-plain, role_word-plain}
+use Rattle.noise_vectors.proofs.LackLemmas.{lacks-encode_lower, lacks-hex_of, lacks-key_word, own_word-plain, role_word-plain}
 use Rattle.noise_vectors.proofs.PartyLemmas.{lacks-answer_words}
 use Rattle.noise_vectors.proofs.ReadingLemmas.{psk-plain}
 use Rattle.noise_vectors.proofs.UniqueWords.{first-byte, hex-one, key-one, key_word-one, lengths-one, numbers-apart, own-one, parted-one, role-one}
 use Rattle.noise_vectors.proofs.WordLemmas.{lacks-decimal}
+use Rattle.noise_vectors.proofs.AdditionLemmas.{datagram_event_words-line}
 
 -- ---- lists of lines
 
@@ -201,21 +202,11 @@ datagram-begins (datagram.Seal r p) rest = refl
 datagram-begins (datagram.Open r n) rest = refl
 datagram-begins (datagram.Raw r p) rest = refl
 
-after-role : (front : List ℕ) (role : Role) (operands : List ℕ) → lacks 10 front ≡ true → lacks 10 operands ≡ true
-    → lacks 10 (front ++ (role_word role ++ 32 ∷ operands)) ≡ true
-after-role front role operands f o =
-    lacks-append 10 front (role_word role ++ 32 ∷ operands) f (lacks-append 10 (role_word role) (32 ∷ operands) (role_word-plain role).0 o)
-
-datagram-plain : (x : DatagramEvent) → IsDatagramEvent x → lacks 10 (datagram_event_words x) ≡ true
-datagram-plain (datagram.Seal r p) h = after-role (codes "seal ") r (hex_of p.items) refl (lacks-hex_of 10 p.items (lit< tt) h.1)
-datagram-plain (datagram.Open r n) h = after-role (codes "open ") r (decimal n) refl (number-plain 10 n (lit< tt) h)
-datagram-plain (datagram.Raw r p) h = after-role (codes "foreign ") r (hex_of p.items) refl (lacks-hex_of 10 p.items (lit< tt) h.1)
-
 pub datagrams-one : (xs ys : List DatagramEvent) (u v : List ℕ) → All IsDatagramEvent xs → All IsDatagramEvent ys → begins_datagram u ≡ false
     → begins_datagram v ≡ false → lines_of datagram_event_words xs u ≡ lines_of datagram_event_words ys v
     → (map datagram_event_of xs ≡ map datagram_event_of ys) × (u ≡ v)
 datagrams-one xs ys u v h k hu hv e =
-    lines-one datagram_event_words IsDatagramEvent datagram_event_of begins_datagram datagram-plain datagram-begins datagram-one xs ys u v h k hu hv e
+    lines-one datagram_event_words IsDatagramEvent datagram_event_of begins_datagram datagram_event_words-line datagram-begins datagram-one xs ys u v h k hu hv e
 
 -- ---- lines that are expected
 

@@ -100,7 +100,7 @@ blocks-one once name (Some p) (Some q) u v h k e =
 
 -- ---- parties
 
-first-apart : (x y : List ℕ) → x ≡ y → (get_or x 0 0 == get_or y 0 0) ≡ false → ⊥
+pub first-apart : (x y : List ℕ) → x ≡ y → (get_or x 0 0 == get_or y 0 0) ≡ false → ⊥
 first-apart x y e differ = numbers-apart (get_or x 0 0) (get_or y 0 0) (first-byte x y e) differ
 
 -- of the same words both are keys of one kind, and what follows the answers is one

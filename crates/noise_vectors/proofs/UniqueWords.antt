@@ -1,6 +1,6 @@
 -- No word or line of a vector file is that of two values.
-use Rattle.std.proofs.Common.{arith, ◌≡◌, ◌∙◌, ◌+◌, ◌<◌, ◌^◌, ◌==◌, ap, sym, refl, subst, lit<, true, false, true≢false, not, ◌&&◌}
-use Rattle.std.proofs.Common.{ℕ, zero, suc, List, [], ◌∷◌, ◌++◌, map, codes, length, get_or, Option, Some, None}
+use Rattle.std.proofs.Common.{arith, ◌≡◌, ◌∙◌, ◌+◌, ◌<◌, ◌==◌, ap, sym, refl, subst, lit<, true, false, true≢false, not, ◌&&◌}
+use Rattle.std.proofs.Common.{ℕ, List, [], ◌∷◌, ◌++◌, map, codes, length, get_or, Option, Some, None}
 use Rattle.std.specs.Prelude.{decimal, nat_lt, IfSome}
 use Rattle.std.specs.List.{All, join_with_byte, list_all}
 use Rattle.std.proofs.lemmas.Bool.{and_parts, eq-eqb}
@@ -21,9 +21,10 @@ use Rattle.noise_vectors.specs.Cuts.{AreLengths}
 use Rattle.noise_vectors.specs.HexWord.{hex_of}
 use Rattle.noise_vectors.specs.VectorText.{key_word, lengths_word, own_word, role_word}
 use Rattle.noise_vectors.specs.Words.{IsKey, lacks}
-use Rattle.noise_vectors.proofs.CutLemmas.{hyphen-cuts}
-use Rattle.noise_vectors.proofs.KeyLemmas.{decoded-key, length-key}
+use Rattle.noise_vectors.proofs.CutLemmas.{hyphen-cuts, lacks-comma}
+use Rattle.noise_vectors.proofs.KeyLemmas.{decoded-key, length-key, bytes-at}
 use Rattle.noise_vectors.proofs.WordLemmas.{lacks-decimal, not_lacks}
+use Rattle.noise_vectors.proofs.AdditionLemmas.{width-small}
 
 -- ---- texts parted by a byte
 
@@ -51,11 +52,6 @@ parted-one byte (c ∷ cs) (d ∷ ds) x y h k e =
 
 abbrev is_byte : ℕ → Type 0
 is_byte b = b < 256
-
-bytes-at : (bytes : List ℕ) → All (λ b. b < 256) bytes → (i : ℕ) → get_or bytes i 0 < 256
-bytes-at [] h i = omega arith
-bytes-at (b ∷ rest) h zero = All-head is_byte b rest h
-bytes-at (b ∷ rest) h (suc i) = bytes-at rest (All-tail is_byte b rest h) i
 
 digits-one : (a b : List ℕ) → All (λ b. b < 256) a → All (λ b. b < 256) b → encode_lower a ≡ encode_lower b → a ≡ b
 digits-one a b h k e =
@@ -93,9 +89,6 @@ key_word-one (Some a) (Some b) h k e = ap Some (key-one a b h k e)
 
 abbrev is_small : ℕ → Type 0
 is_small n = n < 65536
-
-lacks-comma : (n : ℕ) → n < 65536 → lacks 44 (decimal n) ≡ true
-lacks-comma n h = lacks-decimal 44 n (lit< tt) (omega arith)
 
 number-one : (m n : ℕ) → m < 65536 → n < 65536 → decimal m ≡ decimal n → m ≡ n
 number-one m n h k e = decimal_injective m n (omega arith) (omega arith) e
@@ -142,11 +135,6 @@ width-one W64 W64 e = refl
 width-one W256 W256 e = refl
 width-one W1024 W1024 e = refl
 width-one a b e = absurd (numbers-apart (width_of a) (width_of b) e refl)
-
-width-small : (a : Window) → width_of a < 2 ^ 64
-width-small W64 = lit< tt
-width-small W256 = lit< tt
-width-small W1024 = lit< tt
 
 pub window-one : (a b : Window) → decimal (width_of a) ≡ decimal (width_of b) → a ≡ b
 window-one a b e = width-one a b (decimal_injective (width_of a) (width_of b) (width-small a) (width-small b) e)

@@ -9,9 +9,9 @@ use Rattle.noise_handshake.specs.View.{Reader, BeginsAs, cause_of}
 use Rattle.noise_handshake.specs.inner.Layout.{tokens_of, ArePlaced}
 use Rattle.noise_handshake.specs.inner.Listening.{Fails}
 use Rattle.noise_handshake.proofs.Layouts.{first-placed}
-use Rattle.noise_handshake.proofs.Views.{no-items}
 use Rattle.noise_handshake.proofs.Steps.{led-none, stopped, led, learned-on, stopped-later}
 use Rattle.noise_handshake.proofs.reading.+read_tokens.Goals as goal
+use Rattle.std.proofs.lemmas.List.{nil_from_length}
 
 pub bytes_from-rest-requires : goal.bytes_from-rest-requires
 bytes_from-rest-requires g t c =
@@ -179,7 +179,7 @@ returns-in_default-clause-read g t c r place s within are =
     let v : Reader = record { role = c.args.means.now.role; psks = c.args.means.now.psks; agree = g.K.Keys.agreement c.args.means.now.keys.now } in
     let m : List ℕ = c.args.message.now in
     let d = led-none v c.args.known.now c.args.secrets.now r (tokens_of c.args.placed.now) (drop place m) c.args.state.now
-    (ap tokens_of (no-items c.args.placed.now c.in_default.ensures.cases)) s in
+    (ap tokens_of (nil_from_length c.args.placed.now c.in_default.ensures.cases)) s in
     let none : place ≡ place + 0 = omega arith in (
       d.0,
       subst (λ (k : ℕ). BeginsAs v c.args.known.now c.args.secrets.now r (tokens_of c.args.placed.now) d.0 (drop place m) (drop k m)) none d.1,

@@ -4,7 +4,6 @@ use Rattle.std.specs.Prelude.{IsSome, IfSome, IsTrue}
 use Rattle.std.specs.Option.{ok_or}
 use Rattle.std.specs.List.{join_with_byte}
 use Rattle.std.specs.Cmp.Lexicographic.{pointwise}
-use Rattle.std.proofs.lemmas.Bool.Decides.{nat_tests}
 use Rattle.arrayvec.specs.ArrayVec.{ArrayVec}
 use Rattle.noise_names.specs.declared.faults.NameFault.TheVariants.{ModifierOrder}
 use Rattle.noise_names.specs.Names.{modifier, are_places}
@@ -13,17 +12,15 @@ use Rattle.noise_names.proofs.Modifiers.{fronts, fronts-push, join-push, are_num
 use Rattle.noise_names.proofs.Modifiers.{too_many_places}
 use Rattle.noise_names.proofs.section.parse_modifiers.Goals as goal
 use Rattle.noise_names.proofs.section.parse_modifiers.Goals.{then-is_full, else-is_full}
+use Rattle.std.proofs.lemmas.Bool.{eqb-true}
 
 not_empty : (xs : List ℕ) → eqb (length xs) 0 ≡ false → xs ≡ [] → ⊥
 not_empty [] e f = cc
 not_empty (x ∷ xs) e f = cc
 
-same_from_test : (m n : ℕ) → eqb m n ≡ true → m ≡ n
-same_from_test m n t = grind (arith, nat_tests)
-
 is_nil : (xs : List ℕ) → eqb (length xs) 0 ≡ true → xs ≡ []
 is_nil [] e = refl
-is_nil (x ∷ xs) e = let none : length (x ∷ xs) ≡ 0 = same_from_test (length (x ∷ xs)) 0 e in absurd (omega arith)
+is_nil (x ∷ xs) e = let none : length (x ∷ xs) ≡ 0 = eqb-true (length (x ∷ xs)) 0 e in absurd (omega arith)
 
 no_plus : (beyond more : List ℕ) → pointwise eqb (take 1 beyond) (43 ∷ []) ≡ false → beyond ≡ 43 ∷ more → ⊥
 no_plus beyond more h e = let t : pointwise eqb (take 1 (43 ∷ more)) (43 ∷ []) ≡ false =
@@ -31,7 +28,7 @@ no_plus beyond more h e = let t : pointwise eqb (take 1 (43 ∷ more)) (43 ∷ [
 
 plus : (beyond more : List ℕ) → pointwise eqb (take 1 beyond) (43 ∷ []) ≡ true → more ≡ drop 1 beyond → beyond ≡ 43 ∷ more
 plus [] more h e = absurd (cc)
-plus (b ∷ bs) more h e = let b_is : b ≡ 43 = same_from_test b 43 (first (eqb b 43) h) in cc where
+plus (b ∷ bs) more h e = let b_is : b ≡ 43 = eqb-true b 43 (first (eqb b 43) h) in cc where
   first : (x : Bool) → x && true ≡ true → x ≡ true
   first true h = refl
   first false h = h
@@ -94,7 +91,7 @@ loop-number-preserved c = (
   elim c.if-is_full.branch [
     | then-is_full w ↦ kept_full c.loop-number.too_many c.if-is_full.too_many c.loop-number.invariant.0 c.loop-number.numbers.items
         c.if-is_full.numbers.items c.in-Some.number c.loop-number.invariant.3
-        (same_from_test (length c.loop-number.numbers.items) 9 (sym w.if-is_full.ensures.value)) w.too_many-is
+        (eqb-true (length c.loop-number.numbers.items) 9 (sym w.if-is_full.ensures.value)) w.too_many-is
     | else-is_full w ↦ kept_more c.loop-number.too_many c.if-is_full.too_many c.loop-number.invariant.0 c.loop-number.numbers.items
         c.if-is_full.numbers.items c.in-Some.number c.loop-number.invariant.3 (ap (λ (v : ArrayVec ℕ). v.items) w.numbers-is
         ∙ w.push.ensures.items) w.too_many-is
@@ -111,7 +108,7 @@ returns-then-too_many c =
     let kept : Kept c.if-is_full.too_many done c.if-is_full.numbers.items = elim c.if-is_full.branch [
       | then-is_full w ↦ kept_full c.loop-number.too_many c.if-is_full.too_many c.loop-number.invariant.0 c.loop-number.numbers.items
           c.if-is_full.numbers.items c.in-Some.number c.loop-number.invariant.3
-          (same_from_test (length c.loop-number.numbers.items) 9 (sym w.if-is_full.ensures.value)) w.too_many-is
+          (eqb-true (length c.loop-number.numbers.items) 9 (sym w.if-is_full.ensures.value)) w.too_many-is
       | else-is_full w ↦ kept_more c.loop-number.too_many c.if-is_full.too_many c.loop-number.invariant.0 c.loop-number.numbers.items
           c.if-is_full.numbers.items c.in-Some.number c.loop-number.invariant.3 (ap (λ (v : ArrayVec ℕ). v.items) w.numbers-is
           ∙ w.push.ensures.items) w.too_many-is
@@ -129,7 +126,7 @@ returns c =
     let kept : Kept c.if-is_full.too_many done c.if-is_full.numbers.items = elim c.if-is_full.branch [
       | then-is_full w ↦ kept_full c.loop-number.too_many c.if-is_full.too_many c.loop-number.invariant.0 c.loop-number.numbers.items
           c.if-is_full.numbers.items c.in-Some.number c.loop-number.invariant.3
-          (same_from_test (length c.loop-number.numbers.items) 9 (sym w.if-is_full.ensures.value)) w.too_many-is
+          (eqb-true (length c.loop-number.numbers.items) 9 (sym w.if-is_full.ensures.value)) w.too_many-is
       | else-is_full w ↦ kept_more c.loop-number.too_many c.if-is_full.too_many c.loop-number.invariant.0 c.loop-number.numbers.items
           c.if-is_full.numbers.items c.in-Some.number c.loop-number.invariant.3 (ap (λ (v : ArrayVec ℕ). v.items) w.numbers-is
           ∙ w.push.ensures.items) w.too_many-is

@@ -7,8 +7,9 @@ use Rattle.noise_handshake.specs.declared.remote.Remote.{Remote}
 use Rattle.noise_handshake.specs.Message.{token_bytes, after_token, before_payload}
 use Rattle.noise_handshake.specs.View.{Reader, secrets_after}
 use Rattle.noise_trace.specs.inner.Carried.{known_next, Carries}
-use Rattle.noise_trace.proofs.Fronts.{some-same, parted, followed-on}
+use Rattle.noise_trace.proofs.Fronts.{parted, followed-on}
 use Rattle.noise_trace.proofs.tokens.+follow.Goals as goal
+use Rattle.std.proofs.lemmas.Option.{same_Some}
 
 pub returns-clause-followed : goal.returns-clause-followed
 returns-clause-followed g t c r xs more s carries spelled =
@@ -27,7 +28,7 @@ returns-clause-followed g t c r xs more s carries spelled =
     let to : ℕ = c.in_ok-to.to in
     let learned : Remote = c.in_ok-to.learned in
     let same : ◌≡◌ {A = ℕ × Remote} (to, learned) (from + length piece, known_next reads known token p.first) =
-    some-same {A = ℕ × Remote} (to, learned) (from + length piece, known_next reads known token p.first) (sym c.in_ok-to.was ∙ d.0) in
+    same_Some {A = ℕ × Remote} (to, learned) (from + length piece, known_next reads known token p.first) (sym c.in_ok-to.was ∙ d.0) in
     let place : to ≡ from + length piece = ap (λ (q : ℕ × Remote). q.0) same in
     let knows : learned ≡ known_next reads known token p.first = ap (λ (q : ℕ × Remote). q.1) same in
     let here : drop to m ≡ tail =

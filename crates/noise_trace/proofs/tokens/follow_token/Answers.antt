@@ -5,8 +5,8 @@ use Rattle.noise_names.specs.declared.token.Token.{Token}
 use Rattle.noise_state.specs.Standing.{StateStands}
 use Rattle.noise_handshake.specs.Message.{token_bytes, after_token}
 use Rattle.noise_handshake.specs.View.{Reader, Fits, known_after}
-use Rattle.noise_trace.proofs.Fronts.{some-same}
 use Rattle.noise_trace.proofs.tokens.follow_token.Goals as goal
+use Rattle.std.proofs.lemmas.Option.{same_Some}
 
 pub returns-in_err-width-in-E-clause-followed : goal.returns-in_err-width-in-E-clause-followed
 returns-in_err-width-in-E-clause-followed g c r x more s f e =
@@ -23,7 +23,7 @@ returns-in_ok-width-in-E-clause-followed g c r x more s f e =
     let here : c.args.rest.now ≡ x ++ more = subst (λ (t : Token). c.args.rest.now ≡ token_bytes r t x ++ more) c.in-E.is e in
     let told = c.take_e.ensures.taken r x more s long here in
     let same : ◌≡◌ {A = ℕ × List ℕ} (c.in_ok-width-in-E.width, c.in_ok-width-in-E.key) (length x, x) =
-    some-same {A = ℕ × List ℕ} (c.in_ok-width-in-E.width, c.in_ok-width-in-E.key) (length x, x) (sym c.in_ok-width-in-E.was ∙ told.0) in
+    same_Some {A = ℕ × List ℕ} (c.in_ok-width-in-E.width, c.in_ok-width-in-E.key) (length x, x) (sym c.in_ok-width-in-E.was ∙ told.0) in
     let all : ◌≡◌ {A = Option (ℕ × Remote)} (Some (c.in_ok-width-in-E.width, record c.args.known.now { e = Some c.in_ok-width-in-E.key }))
     (Some (length x, record c.args.known.now { e = Some x })) =
     ap (λ (q : ℕ × List ℕ). Some (q.0, record c.args.known.now { e = Some q.1 })) same in

@@ -13,10 +13,10 @@ use Rattle.noise_vectors.specs.WrongLine.{line_feeds}
 use Rattle.noise_vectors.specs.declared.faults.LineKind.TheVariants as kinds
 use Rattle.noise_vectors.specs.declared.faults.VectorFault.TheVariants.{Line}
 use Rattle.noise_vectors.specs.declared.vector.AllowedEvents.TheVariants.{SayOnly}
-use Rattle.noise_vectors.proofs.PartLemmas.{not-true}
 use Rattle.noise_vectors.proofs.PartyTold.{window-told}
 use Rattle.noise_vectors.proofs.ToldLemmas.{counted-here, counted-last, counted-step, first-line, low-of}
 use Rattle.noise_vectors.proofs.additions.read_datagrams.Goals as goal
+use Rattle.std.proofs.lemmas.Bool.{false_from_ne_true}
 
 abbrev AreRight : Option FileDatagrams → Type 0
 AreRight found = IfSome found (λ over. All IsDatagramEvent over.events.items)
@@ -79,7 +79,7 @@ pub returns-in_err-end-clause-told : goal.returns-in_err-end-clause-told
 returns-in_err-end-clause-told c =
     let other : ¬ (c.args.allowed ≡ SayOnly) = search rules in
     let p = err_from_is_err_and c.from_residual-in_err-end.result c.from_residual-in_err-end.ensures.1 in λ low.
-    let last = c.in_ok-line.ensures.last (not-true c.next.new.self.is_ended (λ yes. let bad = c.in_err-end.ensures.ended.1 yes in cc (bad))) in
+    let last = c.in_ok-line.ensures.last (false_from_ne_true c.next.new.self.is_ended (λ yes. let bad = c.in_err-end.ensures.ended.1 yes in cc (bad))) in
     let n = counted-last c.args.lines.now.number c.next.new.self.number (c.args.lines.now.number + line_feeds c.args.lines.now.rest.now) c.args.lines.now.rest.now c.in_ok-line.line.now low refl c.next.ensures.number c.in_ok-line.ensures.plain last in
     rw (p.1, p.2) (inr (inl (
       c.in_err-end.ensures.fault ∙ ap (λ (k : ℕ). Line k kinds.Ending) n,

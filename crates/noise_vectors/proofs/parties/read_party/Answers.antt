@@ -7,12 +7,12 @@ use Rattle.noise_vectors.specs.WrongLine.{line_feeds}
 use Rattle.noise_vectors.specs.declared.faults.LineKind.TheVariants as kinds
 use Rattle.noise_vectors.specs.declared.faults.VectorFault.TheVariants.{Line}
 use Rattle.noise_vectors.specs.declared.file_keys.FileKeys.TheVariants.{Xor, Table}
-use Rattle.noise_vectors.proofs.PartLemmas.{not-true}
 use Rattle.noise_vectors.proofs.PartyTold.{party-words, table-cut, table-line, table-told, xor-cut}
 use Rattle.noise_vectors.proofs.ToldLemmas.{counted-here, counted-last, counted-step, first-line, low-of}
 use Rattle.noise_vectors.specs.VectorText.{key_words}
 use Rattle.noise_vectors.proofs.PartyLemmas.{not-xor, party-read, words_of, xor-after}
 use Rattle.noise_vectors.proofs.parties.read_party.Goals as goal
+use Rattle.std.proofs.lemmas.Bool.{false_from_ne_true}
 
 pub returns-in_default-clause-every : goal.returns-in_default-clause-every
 returns-in_default-clause-every c = λ keys rest h other is.
@@ -124,7 +124,7 @@ pub returns-in_err-end-clause-told : goal.returns-in_err-end-clause-told
 returns-in_err-end-clause-told c =
     let front : c.as_slice.result.now ≡ codes "xor " = c.as_slice.ensures in
     let p = err_from_is_err_and c.from_residual-in_err-end.result c.from_residual-in_err-end.ensures.1 in λ low.
-    let last = c.in_ok-line.ensures.last (not-true c.next.new.self.is_ended (λ yes. let bad = c.in_err-end.ensures.ended.1 yes in cc (bad))) in
+    let last = c.in_ok-line.ensures.last (false_from_ne_true c.next.new.self.is_ended (λ yes. let bad = c.in_err-end.ensures.ended.1 yes in cc (bad))) in
     let n = counted-last c.args.lines.now.number c.next.new.self.number (c.args.lines.now.number + line_feeds c.args.lines.now.rest.now) c.args.lines.now.rest.now c.in_ok-line.line.now low refl c.next.ensures.number c.in_ok-line.ensures.plain last in
     rw (p.1, p.2) (inr (inl (
       c.in_err-end.ensures.fault ∙ ap (λ (k : ℕ). Line k kinds.Ending) n,
@@ -140,7 +140,7 @@ pub returns-in_err-end-2-clause-told : goal.returns-in_err-end-2-clause-told
 returns-in_err-end-2-clause-told c =
     let front : c.as_slice-2.result.now ≡ codes "table " = c.as_slice-2.ensures in
     let p = err_from_is_err_and c.from_residual-in_err-end-2.result c.from_residual-in_err-end-2.ensures.1 in λ low.
-    let last = c.in_ok-line.ensures.last (not-true c.next.new.self.is_ended (λ yes. let bad = c.in_err-end-2.ensures.ended.1 yes in cc (bad))) in
+    let last = c.in_ok-line.ensures.last (false_from_ne_true c.next.new.self.is_ended (λ yes. let bad = c.in_err-end-2.ensures.ended.1 yes in cc (bad))) in
     let n = counted-last c.args.lines.now.number c.next.new.self.number (c.args.lines.now.number + line_feeds c.args.lines.now.rest.now) c.args.lines.now.rest.now c.in_ok-line.line.now low refl c.next.ensures.number c.in_ok-line.ensures.plain last in
     rw (p.1, p.2) (inr (inl (
       c.in_err-end-2.ensures.fault ∙ ap (λ (k : ℕ). Line k kinds.Ending) n,

@@ -12,9 +12,9 @@ use Rattle.noise_handshake.specs.View.{reader, tokens_now}
 use Rattle.noise_trace.specs.Values.{values_of}
 use Rattle.noise_trace.specs.inner.Carried.{known_through, Carries}
 use Rattle.noise_trace.specs.inner.Front.{IsFront}
-use Rattle.noise_trace.proofs.Fronts.{some-same}
 use Rattle.noise_trace.proofs.Due.{message-done}
 use Rattle.noise_trace.proofs.before.BeforeMessage.whole.Goals as goal
+use Rattle.std.proofs.lemmas.Option.{same_Some}
 
 pub returns-clause-whole : goal.returns-clause-whole
 returns-clause-whole g c v xs payload sb ag carries e =
@@ -34,7 +34,7 @@ returns-clause-whole g c v xs payload sb ag carries e =
     let f : IsFront c.front-steps.result psks v.history reads v.remote ts xs =
     subst (λ (us : List Token). IsFront c.front-steps.result psks v.history reads v.remote us xs) all f0 in
     let same : ◌≡◌ {A = ℕ × Remote} (c.in-Some.from, c.in-Some.remote) (length first, knows) =
-    some-same {A = ℕ × Remote} (c.in-Some.from, c.in-Some.remote) (length first, knows) (sym c.in-Some.is ∙ f.end) in
+    same_Some {A = ℕ × Remote} (c.in-Some.from, c.in-Some.remote) (length first, knows) (sym c.in-Some.is ∙ f.end) in
     let from_is : c.in-Some.from ≡ length first = ap (λ (q : ℕ × Remote). q.0) same in
     let rest : c.bytes_from.result.now ≡ last =
     c.bytes_from.ensures ∙ ap (drop c.in-Some.from) e ∙ drop_at first last c.in-Some.from (sym from_is) in

@@ -12,9 +12,9 @@ use Rattle.noise_handshake.specs.View.{tokens_at, tokens_now}
 use Rattle.noise_trace.specs.Following.{Followed, Follows}
 use Rattle.noise_trace.specs.inner.Carried.{known_through}
 use Rattle.noise_trace.proofs.Due.{secrets-due}
-use Rattle.noise_trace.proofs.Fronts.{some-same}
 use Rattle.noise_trace.proofs.Later.{secrets-later, next-turn}
 use Rattle.noise_trace.proofs.schedule.Following.advance.Goals as goal
+use Rattle.std.proofs.lemmas.Option.{same_Some}
 
 pub next-next-requires-clause-secrets : goal.next-next-requires-clause-secrets
 next-next-requires-clause-secrets g c =
@@ -62,7 +62,7 @@ returns g c v xs payload f0 more carries spelled =
     let w = c.whole-steps.ensures.whole v xs payload f.before f.agree carries spelled in
     let knows : Remote = known_through (not (is_turn v.role v.passed)) v.remote ts xs in
     let same : ◌≡◌ {A = Remote × SymmetricState} (c.in-Some.remote, c.in-Some.state) (knows, w.state) =
-    some-same {A = Remote × SymmetricState} (c.in-Some.remote, c.in-Some.state) (knows, w.state) (sym c.in-Some.is ∙ w.left) in
+    same_Some {A = Remote × SymmetricState} (c.in-Some.remote, c.in-Some.state) (knows, w.state) (sym c.in-Some.is ∙ w.left) in
     let ms : c.messages-messages.result.now ≡ v.pattern.messages =
     c.messages-messages.ensures.same ∙ ap (λ (z : Plan). z.messages) (c.pattern.ensures.same ∙ f.pattern) in
     let due : c.tokens_at-tokens.result.now ≡ tokens_at v.pattern.messages (v.passed + 1) =
