@@ -6,3 +6,5 @@ pub mod Output
 pub mod Prefixes
 pub mod PrintedWords
 pub mod Told
+pub mod Verdicts
+pub mod Woven

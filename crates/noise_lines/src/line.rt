@@ -5,13 +5,14 @@ ghost use Rattle.std.specs.Io.KnownBytes.{Appends};
 ghost use Rattle.noise_lines.specs.Prefixes.{AppendsPrefix};
 ghost use Rattle.noise_lines.specs.PrintedWords.{is_printed};
 ghost use Rattle.noise_lines.specs.declared.faults.Fault.TheVariants.{Memory, Unwritable};
+ghost use Rattle.noise_names.specs.Text.{word_of};
 ghost use Rattle.noise_vectors.specs.HexWord.{hex_of};
 ghost use Rattle.noise_vectors.specs.VectorFile.{IsExpected};
 ghost use Rattle.noise_vectors.specs.VectorText as text;
 
 use crate::faults::Fault;
 use crate::output::write;
-use noise_names::Role;
+use noise_names::{Role, Token};
 use noise_vectors::hex_word;
 use std::alloc::{AllocError, Global};
 use std::io::Write;
@@ -92,5 +93,21 @@ pub fn role_word(role: Role) -> &'static str
     match role {
         Role::Initiator => "initiator",
         Role::Responder => "responder",
+    }
+}
+
+/// The word for a token, as in pattern texts (Noise, 7.1).
+pub fn token_word(token: Token) -> &'static str
+    ensures text { result.now ≡ word_of token }
+    ensures printed { IsTrue (is_printed result.now) }
+{
+    match token {
+        Token::E => "e",
+        Token::S => "s",
+        Token::Ee => "ee",
+        Token::Es => "es",
+        Token::Se => "se",
+        Token::Ss => "ss",
+        Token::Psk => "psk",
     }
 }

@@ -14,10 +14,8 @@ pub mod ReceivedLemmas
 pub mod EventLemmas
 pub mod KeptLemmas
 pub mod FollowLemmas
-pub mod FrontLemmas
 pub mod TracedRunLemmas
 pub mod LastTraceLemmas
 pub mod TracePerforming
 pub mod RoleLemmas
-pub mod WovenLemmas
 pub mod TracedWhole

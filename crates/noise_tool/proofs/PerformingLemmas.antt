@@ -1,5 +1,5 @@
 -- What `talk`, `replay` and `convert` have done, and why they haven't.
-use Rattle.std.proofs.Common.{◌≡◌, ◌∙◌, refl, sym, ap, subst, ◌⊎◌, inl, inr, ◌<◌, ◌≤◌, ℕ, List, [], ◌∷◌, Vec, Option, Some, None, Result, Ok, Err, OnOk, length, map}
+use Rattle.std.proofs.Common.{◌≡◌, ◌≢◌, ◌∙◌, refl, sym, ap, subst, ◌⊎◌, inl, inr, ◌<◌, ◌≤◌, ℕ, List, [], ◌∷◌, Vec, Option, Some, None, Result, Ok, Err, OnOk, length, map}
 use Rattle.std.specs.Global.{Global}
 use Rattle.std.specs.Prelude.{IfErr, IfSome}
 use Rattle.std.specs.Io.KnownBytes.{Appends}
@@ -9,6 +9,7 @@ use Rattle.noise_duel.specs.Acts.{lines_of}
 use Rattle.noise_duel.specs.Conversation.{say_events}
 use Rattle.noise_events.specs.Events.{Event as Act, Say as Said}
 use Rattle.noise_events.specs.declared.event.Event.{Event}
+use Rattle.noise_lines.specs.Verdicts.{IsMet}
 use Rattle.noise_tool.specs.Conversion.{MeetsItself}
 use Rattle.noise_tool.specs.Ends.{IsStartFault}
 use Rattle.noise_lines.specs.Faults.{of_vector, status_of}
@@ -16,7 +17,7 @@ use Rattle.noise_tool.specs.Performing.{HasConverted, HasRun, IsFault, IsOfLines
 use Rattle.noise_words.specs.declared.orders.Chosen.{Chosen}
 use Rattle.noise_words.specs.declared.orders.Chosen.TheVariants as order
 use Rattle.noise_lines.specs.Lines.{lines_text}
-use Rattle.noise_tool.specs.Running.{IsMet, IsRunOf, expected_in}
+use Rattle.noise_tool.specs.Running.{IsRunOf, expected_in}
 use Rattle.noise_lines.specs.Converted.{converted_text}
 use Rattle.noise_lines.specs.declared.faults.Fault.{Fault}
 use Rattle.noise_lines.specs.declared.faults.Fault.TheVariants as fault
@@ -24,7 +25,7 @@ use Rattle.noise_tool.specs.declared.running.Outcome.{Outcome}
 use Rattle.noise_lines.specs.Told.{LeavesOther, TellsRule}
 use Rattle.noise_tool.specs.TraceDone.{kept_of}
 use Rattle.noise_tool.proofs.TracePerforming.{trace-after}
-use Rattle.noise_vectors.specs.Expectations.{bytes_of}
+use Rattle.noise_vectors.specs.Expectations.{IsFirstUnmet, bytes_of}
 use Rattle.noise_vectors.specs.VectorFile.{IsAllowedFile, IsReadFault, IsVectorFile, say_of}
 use Rattle.noise_vectors.specs.WrongLine.{IsTold}
 use Rattle.noise_vectors.specs.declared.faults.VectorFault.{VectorFault}
@@ -116,35 +117,20 @@ pub no-start : (allowed : AllowedEvents) (known : Option (List ℕ)) (text : Lis
 no-start allowed None text file fault Other h right e why = tt
 no-start allowed (Some bytes) text file fault Other h right e why = inl (inr (inr (file, right, sym h ∙ e, why)))
 
--- only one fault is that of lines
-unmet-is : (outcome : Outcome) (before after : Option (List ℕ)) (why : Fault) → IsUnlike outcome before after why
-    → (n : ℕ) × (why ≡ fault.Unmet n) × IsUnlike outcome before after (fault.Unmet n)
-unmet-is outcome before after (fault.Unmet n) h = (n, refl, h)
-unmet-is outcome before after (fault.Rule f) h = absurd h
-unmet-is outcome before after (fault.Place f) h = absurd h
-unmet-is outcome before after (fault.Setup role f) h = absurd h
-unmet-is outcome before after (fault.Name f) h = absurd h
-unmet-is outcome before after fault.UnknownPattern h = absurd h
-unmet-is outcome before after (fault.Text f) h = absurd h
-unmet-is outcome before after (fault.Line n kind) h = absurd h
-unmet-is outcome before after fault.TooLong h = absurd h
-unmet-is outcome before after fault.Unreadable h = absurd h
-unmet-is outcome before after fault.Unwritable h = absurd h
-unmet-is outcome before after fault.Memory h = absurd h
-
 unmet-known : (allowed : AllowedEvents) (known : Option (List ℕ)) (file : VectorFile) (outcome : Outcome) (before after : Option (List ℕ)) (n : ℕ)
-    → Ran known file outcome → IsUnlike outcome before after (fault.Unmet n)
+    → Ran known file outcome → Appends before after (lines_text (bytes_of outcome.lines.items)) → bytes_of outcome.expected.items ≢ []
+    → IsFirstUnmet (bytes_of outcome.lines.items) (bytes_of outcome.expected.items) n
     → IfSome known (λ bytes. IsRunFault allowed bytes (fault.Unmet n) ⊎ IsUnmet bytes before after (fault.Unmet n))
-unmet-known allowed None file outcome before after n r h = tt
-unmet-known allowed (Some bytes) file outcome before after n r h = inr (record {
+unmet-known allowed None file outcome before after n r printed some unmet = tt
+unmet-known allowed (Some bytes) file outcome before after n r printed some unmet = inr (record {
   file = file;
   right = r.right;
   text_is = sym r.bytes ∙ r.spelled;
   lines = bytes_of outcome.lines.items;
   run = r.run;
-  printed = h.0;
-  some = λ none. h.1 (r.expected ∙ none);
-  unmet = rw (← r.expected) h.2;
+  printed = printed;
+  some = λ none. some (r.expected ∙ none);
+  unmet = rw (← r.expected) unmet;
 })
 
 unlike-of : (allowed : AllowedEvents) (known : Option (List ℕ)) (file : VectorFile) (outcome : Outcome) (before after : Option (List ℕ)) (why : Fault)
@@ -152,8 +138,9 @@ unlike-of : (allowed : AllowedEvents) (known : Option (List ℕ)) (file : Vector
     → (status_of why ≡ 3) ⊎ IfSome known (λ bytes. IsRunFault allowed bytes why ⊎ IsUnmet bytes before after why)
 unlike-of allowed known file outcome before after why r (inl outside) = inl outside
 unlike-of allowed known file outcome before after why r (inr h) =
-    let (n, is, unlike) = unmet-is outcome before after why h in
-    inr (rw is (unmet-known allowed known file outcome before after n r unlike))
+    let (printed, tells) = h in
+    let (n, is, some, unmet) = tells in
+    inr (rw is (unmet-known allowed known file outcome before after n r printed some unmet))
 
 pub no-run : (allowed : AllowedEvents) (known : Option (List ℕ)) (file : VectorFile) (outcome : Outcome) (before after : Option (List ℕ))
     (result : Result Unit Fault) → Ran known file outcome

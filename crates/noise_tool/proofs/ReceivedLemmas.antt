@@ -15,7 +15,8 @@ use Rattle.noise_duel.specs.Runs.SideReads.{accepts_handshake, accepts_transport
 use Rattle.noise_duel.specs.Runs.SideReceives.{is_idle, waits, reads_frame}
 use Rattle.noise_duel.specs.Sides.{Side}
 use Rattle.noise_vectors.specs.Expectations.{bytes_of}
-use Rattle.noise_tool.specs.TracedEnds.{IsOfNoFrame, Shows, traces_of}
+use Rattle.noise_lines.specs.Woven.{traces_of}
+use Rattle.noise_tool.specs.TracedEnds.{IsOfNoFrame, Shows}
 use Rattle.noise_tool.specs.Tracing.{blanks, came_traces, read_trace}
 use Rattle.noise_tool.specs.declared.moment_lines.Kept.{Kept}
 use Rattle.noise_tool.specs.declared.traced_end.TracedEnd.{TracedEnd}

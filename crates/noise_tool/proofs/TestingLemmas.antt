@@ -15,19 +15,20 @@ use Rattle.noise_vectors.specs.VectorFile.{IsVectorFile}
 use Rattle.noise_vectors.specs.VectorText.{text_of}
 use Rattle.noise_vectors.specs.declared.vector.AllowedEvents.TheVariants.{Any}
 use Rattle.noise_vectors.specs.declared.vector.VectorFile.{VectorFile}
+use Rattle.noise_lines.specs.Verdicts.{IsJudged, is_met, verdict_text}
+use Rattle.noise_lines.specs.Woven.{traces_of}
 use Rattle.noise_tool.specs.Ends.{IsStartFault}
 use Rattle.noise_tool.specs.Performing.{IsRunFault}
 use Rattle.noise_tool.specs.Running.{IsRunOf, expected_in}
 use Rattle.noise_tool.specs.Kept.{all_kept}
-use Rattle.noise_tool.specs.Testing.{HasTested, HaveTested, IsFront, IsJudged, IsTested, IsVerdictOn, Judged, RunsTo}
-use Rattle.noise_tool.specs.Testing.{is_met, tally_line, tested_text, verdict_text, verdicts_text}
-use Rattle.noise_tool.specs.TracedEnds.{traces_of}
+use Rattle.noise_tool.specs.Testing.{HasTested, HaveTested, IsFront, IsTested, IsVerdictOn, Judged, RunsTo}
+use Rattle.noise_tool.specs.Testing.{tally_line, tested_text, verdicts_text}
 use Rattle.noise_tool.specs.TracedText.{front_of}
 use Rattle.noise_tool.specs.Tracing.{HasTraces}
 use Rattle.noise_tool.specs.declared.moment_lines.Kept.{Kept}
 use Rattle.noise_tool.specs.declared.tracing.Traced.{Traced}
-use Rattle.noise_tool.specs.declared.verdict.Verdict.{Verdict}
-use Rattle.noise_tool.specs.declared.verdict.Verdict.TheVariants.{Met, Differs, CannotRun, ExpectsNothing}
+use Rattle.noise_lines.specs.declared.verdict.Verdict.{Verdict}
+use Rattle.noise_lines.specs.declared.verdict.Verdict.TheVariants.{Met, Differs, CannotRun, ExpectsNothing}
 
 -- ---- the verdict on a file
 

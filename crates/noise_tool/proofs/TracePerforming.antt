@@ -1,5 +1,5 @@
 -- What `trace` has done, and why it hasn't.
-use Rattle.std.proofs.Common.{◌≡◌, ◌∙◌, refl, sym, subst, ◌⊎◌, inl, inr, ℕ, List, [], ◌∷◌, Option, Some, None, Result, Ok, Err, OnOk}
+use Rattle.std.proofs.Common.{◌≡◌, ◌≢◌, ◌∙◌, refl, sym, subst, ◌⊎◌, inl, inr, ℕ, List, [], ◌∷◌, Option, Some, None, Result, Ok, Err, OnOk}
 use Rattle.std.specs.Prelude.{IfErr, IfSome}
 use Rattle.std.specs.Io.KnownBytes.{Appends}
 use Rattle.noise_lines.specs.Faults.{status_of}
@@ -13,13 +13,14 @@ use Rattle.noise_vectors.specs.declared.vector.AllowedEvents.TheVariants.{Any}
 use Rattle.noise_vectors.specs.declared.vector.VectorFile.{VectorFile}
 use Rattle.noise_words.specs.declared.orders.Chosen.TheVariants as order
 use Rattle.noise_words.specs.declared.orders.Traced.{Traced as Order}
+use Rattle.noise_lines.specs.Verdicts.{IsMet}
+use Rattle.noise_lines.specs.Woven.{traces_of}
 use Rattle.noise_tool.specs.Performing.{IsOfLines, IsRunFault}
 use Rattle.noise_tool.specs.Prefixes.{PrintsPrefix}
-use Rattle.noise_tool.specs.Running.{IsMet, expected_in}
+use Rattle.noise_tool.specs.Running.{expected_in}
 use Rattle.noise_tool.specs.TraceDone.{HasTraced, IsTraceUnmet, PrintsTrace, PrintsTracePrefix, kept_of}
 use Rattle.noise_tool.specs.TracedText.{IsTraceUnlike, trace_lines, trace_text}
 use Rattle.noise_tool.specs.Tracing.{HasTraces, IsTraceOf}
-use Rattle.noise_tool.specs.TracedEnds.{traces_of}
 use Rattle.noise_tool.specs.declared.moment_lines.Kept.{Kept}
 use Rattle.noise_tool.specs.declared.tracing.Traced.{Traced}
 use Rattle.noise_tool.proofs.MetLemmas.{met-or-unmet}
@@ -66,35 +67,21 @@ pub has-traced : (kept : Kept) (known : Option (List ℕ)) (file : VectorFile) (
 has-traced kept known file traced before after (Ok u) r printed met = traced-known kept known file traced before after r printed met
 has-traced kept known file traced before after (Err why) r printed met = tt
 
-unlike-is : (traced : Traced) (before after : Option (List ℕ)) (why : Fault) → IsTraceUnlike traced before after why
-    → (n : ℕ) × (why ≡ fault.Unmet n) × IsTraceUnlike traced before after (fault.Unmet n)
-unlike-is traced before after (fault.Unmet n) h = (n, refl, h)
-unlike-is traced before after (fault.Rule f) h = absurd h
-unlike-is traced before after (fault.Place f) h = absurd h
-unlike-is traced before after (fault.Setup role f) h = absurd h
-unlike-is traced before after (fault.Name f) h = absurd h
-unlike-is traced before after fault.UnknownPattern h = absurd h
-unlike-is traced before after (fault.Text f) h = absurd h
-unlike-is traced before after (fault.Line n kind) h = absurd h
-unlike-is traced before after fault.TooLong h = absurd h
-unlike-is traced before after fault.Unreadable h = absurd h
-unlike-is traced before after fault.Unwritable h = absurd h
-unlike-is traced before after fault.Memory h = absurd h
-
 unmet-known : (kept : Kept) (known : Option (List ℕ)) (file : VectorFile) (traced : Traced) (before after : Option (List ℕ)) (n : ℕ)
-    → RanTraced kept known file traced → IsTraceUnlike traced before after (fault.Unmet n)
+    → RanTraced kept known file traced → Appends before after (trace_text traced) → bytes_of traced.outcome.expected.items ≢ []
+    → IsFirstUnmet (bytes_of traced.outcome.lines.items) (bytes_of traced.outcome.expected.items) n
     → IfSome known (λ bytes. IsRunFault Any bytes (fault.Unmet n) ⊎ IsTraceUnmet kept bytes before after (fault.Unmet n))
-unmet-known kept None file traced before after n r h = tt
-unmet-known kept (Some bytes) file traced before after n r h = inr (record {
+unmet-known kept None file traced before after n r printed some unmet = tt
+unmet-known kept (Some bytes) file traced before after n r printed some unmet = inr (record {
   file = file;
   right = r.right;
   text_is = sym r.bytes ∙ r.spelled;
   lines = bytes_of traced.outcome.lines.items;
   traced = trace_lines traced;
   run = trace-of kept file traced r.run;
-  printed = h.0;
-  some = λ none. h.1 (r.expected ∙ none);
-  unmet = rw (← r.expected) h.2;
+  printed = printed;
+  some = λ none. some (r.expected ∙ none);
+  unmet = rw (← r.expected) unmet;
 })
 
 unlike-of : (kept : Kept) (known : Option (List ℕ)) (file : VectorFile) (traced : Traced) (before after : Option (List ℕ)) (why : Fault)
@@ -102,8 +89,9 @@ unlike-of : (kept : Kept) (known : Option (List ℕ)) (file : VectorFile) (trace
     → (status_of why ≡ 3) ⊎ IfSome known (λ bytes. IsRunFault Any bytes why ⊎ IsTraceUnmet kept bytes before after why)
 unlike-of kept known file traced before after why r (inl outside) = inl outside
 unlike-of kept known file traced before after why r (inr h) =
-    let (n, is, unlike) = unlike-is traced before after why h in
-    inr (rw is (unmet-known kept known file traced before after n r unlike))
+    let (printed, tells) = h in
+    let (n, is, some, unmet) = tells in
+    inr (rw is (unmet-known kept known file traced before after n r printed some unmet))
 
 pub no-trace : (kept : Kept) (known : Option (List ℕ)) (file : VectorFile) (traced : Traced) (before after : Option (List ℕ)) (result : Result Unit Fault)
     → RanTraced kept known file traced → IfErr result (λ why. (status_of why ≡ 3) ⊎ IsTraceUnlike traced before after why)

@@ -4,12 +4,13 @@ use Rattle.std.specs.Io.KnownBytes.{Appends}
 use Rattle.noise_names.specs.Plan.{Plan}
 use Rattle.noise_names.specs.Text.{Spells}
 use Rattle.noise_names.specs.Validity.{IsValid}
+use Rattle.noise_lines.specs.Verdicts.{IsMet, TellsUnmet}
 use Rattle.noise_tool.specs.Conversion.{MeetsItself}
 use Rattle.noise_tool.specs.Ends.{IsStartFault}
 use Rattle.noise_lines.specs.Faults.{of_vector}
 use Rattle.noise_lines.specs.Output.{IsCheckFault, IsShowFault, NamesPattern, check_text, list_text, show_text}
 use Rattle.noise_lines.specs.Lines.{lines_text}
-use Rattle.noise_tool.specs.Running.{IsMet, IsRunOf, expected_in}
+use Rattle.noise_tool.specs.Running.{IsRunOf, expected_in}
 use Rattle.noise_tool.specs.TraceDone.{HasTraced, IsTraceUnmet, kept_of}
 use Rattle.noise_lines.specs.Converted.{converted_text}
 use Rattle.noise_vectors.specs.Expectations.{IsFirstUnmet, bytes_of}
@@ -98,9 +99,8 @@ pub record HasUnmet (text : List ℕ) (before after : Option (List ℕ)) (number
 
 -- an outcome's lines were printed, and this is the first that differs from what is expected
 abbrev pub IsUnlike : Outcome → Option (List ℕ) → Option (List ℕ) → Fault → Type 0
-IsUnlike outcome before after (Unmet number) = Appends before after (lines_text (bytes_of outcome.lines.items))
-    × (bytes_of outcome.expected.items ≢ []) × IsFirstUnmet (bytes_of outcome.lines.items) (bytes_of outcome.expected.items) number
-IsUnlike outcome before after fault = ⊥
+IsUnlike outcome before after fault = Appends before after (lines_text (bytes_of outcome.lines.items))
+    × TellsUnmet (bytes_of outcome.expected.items) (bytes_of outcome.lines.items) fault
 
 -- the lines of the run aren't those that are expected
 abbrev pub IsUnmet : List ℕ → Option (List ℕ) → Option (List ℕ) → Fault → Type 0

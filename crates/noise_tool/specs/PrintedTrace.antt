@@ -3,7 +3,8 @@ use Rattle.std.specs.Prelude.{ℕ, ◌+◌, List, [], ◌∷◌, Bool, true, Opt
 use Rattle.noise_names.specs.declared.token.Role.{Role}
 use Rattle.noise_names.specs.declared.token.Role.TheVariants.{Initiator, Responder}
 use Rattle.noise_names.specs.declared.token.Token.{Token}
-use Rattle.noise_names.specs.declared.token.Token.TheVariants.{E, S, Ee, Es, Se, Ss, Psk}
+use Rattle.noise_names.specs.declared.token.Token.TheVariants.{E, S, Psk}
+use Rattle.noise_names.specs.Text.{word_of}
 use Rattle.noise_trace.specs.declared.start_step.StartPart.{StartPart}
 use Rattle.noise_trace.specs.declared.start_step.StartPart.TheVariants as start
 use Rattle.noise_trace.specs.declared.start_step.StartStep.{StartStep}
@@ -69,18 +70,9 @@ start_lines_from role psks number (s ∷ more) = start_line role psks number s �
 
 -- ---- a handshake message (Noise 5.3)
 
-abbrev pub token_word : Token → List ℕ
-token_word E = codes "e"
-token_word S = codes "s"
-token_word Ee = codes "ee"
-token_word Es = codes "es"
-token_word Se = codes "se"
-token_word Ss = codes "ss"
-token_word Psk = codes "psk"
-
 abbrev pub part_word : Part → List ℕ
 part_word part.Payload = codes "payload"
-part_word (part.Token token) = token_word token
+part_word (part.Token token) = word_of token
 
 -- what a static key or a payload goes through
 abbrev pub cipher_word : Act → List ℕ

@@ -1,5 +1,5 @@
 -- The run of a vector file: its lines, and whether they are those that the file expects.
-use Rattle.std.specs.Prelude.{◌≡◌, ◌⊎◌, ◌&&◌, ◌==◌, ℕ, List, [], ◌∷◌, ◌++◌, codes, length, map, Bool, true, false, Option, None, Some}
+use Rattle.std.specs.Prelude.{◌≡◌, ◌&&◌, ◌==◌, ℕ, List, [], ◌∷◌, ◌++◌, codes, length, map, Bool, true, false, Option, None, Some}
 use Rattle.noise_names.specs.declared.token.Role.{Role}
 use Rattle.noise_names.specs.Plan.{Plan}
 use Rattle.noise_names.specs.Validity.{IsValid}
@@ -79,7 +79,3 @@ pub record IsRunOf (file : VectorFile) (lines : List (List ℕ)) : Type 0 where
   pub after : List (List ℕ)
   pub are_last : AreLast (datagrams_in file.version) last after
   pub lines_are : lines ≡ map (note_line last) notes ++ after
-
--- nothing is expected, or these lines
-abbrev pub IsMet : List (List ℕ) → List (List ℕ) → Type 0
-IsMet expected lines = (expected ≡ []) ⊎ (lines ≡ expected)

@@ -1,41 +1,28 @@
 -- What `test` prints of vector files, and its exit status.
-use Rattle.std.specs.Prelude.{⊤, ◌≡◌, ◌≢◌, ◌⊎◌, ◌≤◌, ◌-◌, ◌==◌, if◌then◌else◌, ℕ, Bool, true, false, not, List, [], ◌∷◌, ◌++◌, Option, Some, None, IfSome}
-use Rattle.std.specs.Prelude.{Vec, codes, count_by, decimal, flat_map, length, map, option_map, slice_get}
-use Rattle.std.specs.Global.{Global}
+use Rattle.std.specs.Prelude.{⊤, ◌≡◌, ◌⊎◌, ◌≤◌, ◌==◌, if◌then◌else◌, ℕ, Bool, true, not, List, ◌++◌, Option, IfSome}
+use Rattle.std.specs.Prelude.{codes, count_by, decimal, flat_map, length, map}
 use Rattle.std.specs.List.{All}
 use Rattle.std.specs.Io.KnownBytes.{Appends}
 use Rattle.noise_names.specs.Text.{line}
 use Rattle.noise_lines.specs.Faults.{status_of}
 use Rattle.noise_lines.specs.Lines.{lines_text}
-use Rattle.noise_lines.specs.Told.{fault_line}
 use Rattle.noise_lines.specs.declared.faults.Fault.TheVariants.{Unreadable}
-use Rattle.noise_vectors.specs.Expectations.{IsFirstUnmet, bytes_of}
+use Rattle.noise_vectors.specs.Expectations.{bytes_of}
 use Rattle.noise_vectors.specs.VectorFile.{IsVectorFile}
 use Rattle.noise_vectors.specs.VectorText.{text_of}
 use Rattle.noise_vectors.specs.declared.vector.AllowedEvents.TheVariants.{Any}
 use Rattle.noise_vectors.specs.declared.vector.VectorFile.{VectorFile}
+use Rattle.noise_lines.specs.Woven.{traces_of}
 use Rattle.noise_tool.specs.Kept.{all_kept}
 use Rattle.noise_tool.specs.Performing.{IsRunFault}
 use Rattle.noise_tool.specs.Running.{IsRunOf, expected_in}
-use Rattle.noise_tool.specs.TracedEnds.{traces_of}
 use Rattle.noise_tool.specs.Tracing.{HasTraces, IsTraceTo}
 use Rattle.noise_tool.specs.declared.tracing.Traced.{Traced}
-use Rattle.noise_tool.specs.declared.verdict.Verdict.{Verdict}
-use Rattle.noise_tool.specs.declared.verdict.Verdict.TheVariants.{Met, Differs, CannotRun, ExpectsNothing}
+use Rattle.noise_lines.specs.declared.verdict.Verdict.{Verdict}
+use Rattle.noise_lines.specs.declared.verdict.Verdict.TheVariants.{Differs, CannotRun}
+use Rattle.noise_lines.specs.Verdicts.{IsJudged, is_met, verdict_text}
 
 -- ---- the verdict on a file
-
--- the bytes of a line, where there is one
-abbrev pub bytes_in : Option (Vec ℕ Global) → Option (List ℕ)
-bytes_in = option_map (λ l. l.items)
-
--- what the lines of a run come to, by those that are expected
-abbrev pub IsJudged : List (List ℕ) → List (List ℕ) → Verdict → Type 0
-IsJudged lines expected Met = (expected ≢ []) × (lines ≡ expected)
-IsJudged lines expected (Differs d) = (expected ≢ []) × IsFirstUnmet lines expected d.number
-    × (bytes_in d.expected ≡ slice_get expected (d.number - 1)) × (bytes_in d.printed ≡ slice_get lines (d.number - 1))
-IsJudged lines expected ExpectsNothing = expected ≡ []
-IsJudged lines expected (CannotRun why) = ⊥
 
 -- Where traces are wanted and the run differs, this is the front of a trace of this run, of all parts and both roles: up to the first line that differs,
 -- and what is shown there.
@@ -72,27 +59,7 @@ IsOfFault text _ = ⊥
 abbrev pub IsVerdict : Bool → List ℕ → Verdict → List (List ℕ) → Type 0
 IsVerdict traces text verdict front = IsOfFault text verdict ⊎ IsOfRun traces text verdict front
 
-abbrev pub is_met : Verdict → Bool
-is_met Met = true
-is_met _ = false
-
 -- ---- what is printed
-
--- a line of a word, the name of a file, and the rest
-abbrev pub named_line : List ℕ → List ℕ → List ℕ → List ℕ
-named_line word name rest = line (word ++ 32 ∷ (name ++ rest))
-
--- a line of a word, and one of the two lines that differ, if there is one
-abbrev pub shown_line : List ℕ → Option (List ℕ) → List ℕ
-shown_line word None = line word
-shown_line word (Some bytes) = line (word ++ 32 ∷ bytes)
-
-abbrev pub verdict_text : List ℕ → Verdict → List ℕ
-verdict_text name Met = named_line (codes "ok") name []
-verdict_text name (Differs d) = named_line (codes "differs") name (codes " at " ++ decimal d.number)
-    ++ (shown_line (codes "expected") (bytes_in d.expected) ++ shown_line (codes "printed") (bytes_in d.printed))
-verdict_text name (CannotRun why) = named_line (codes "fault") name (codes ": " ++ fault_line why)
-verdict_text name ExpectsNothing = named_line (codes "fault") name (codes ": no expect lines")
 
 -- with the front of a trace, where traces are wanted and the run differs
 abbrev pub tested_text : Bool → List ℕ → Verdict → List (List ℕ) → List ℕ

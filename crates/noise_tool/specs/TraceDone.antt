@@ -14,7 +14,8 @@ use Rattle.noise_words.specs.declared.orders.TracedPart.{TracedPart}
 use Rattle.noise_words.specs.declared.orders.TracedPart.TheVariants.{Handshake, Transport}
 use Rattle.noise_words.specs.declared.orders.TracedRole.{TracedRole}
 use Rattle.noise_words.specs.declared.orders.TracedRole.TheVariants.{Initiator, Responder}
-use Rattle.noise_tool.specs.Running.{IsMet, expected_in}
+use Rattle.noise_lines.specs.Verdicts.{IsMet}
+use Rattle.noise_tool.specs.Running.{expected_in}
 use Rattle.noise_tool.specs.Tracing.{IsTraceOf}
 use Rattle.noise_tool.specs.declared.moment_lines.Kept.{Kept}
 

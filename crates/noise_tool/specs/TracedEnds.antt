@@ -1,6 +1,5 @@
 -- What is kept of the key schedules in a run.
-use Rattle.std.specs.Prelude.{◌≡◌, ℕ, Bool, false, List, [], Vec, ◌++◌, length, map, None}
-use Rattle.std.specs.Global.{Global}
+use Rattle.std.specs.Prelude.{◌≡◌, ℕ, Bool, false, List, [], ◌++◌, length, None}
 use Rattle.noise_names.specs.declared.token.Role.{Role}
 use Rattle.noise_names.specs.declared.token.Role.TheVariants.{Initiator, Responder}
 use Rattle.noise_names.specs.Plan.{Plan, has_psk}
@@ -43,10 +42,6 @@ pub record EndsTraced (ends : TracedEnds) (d : Sides) : Type 0 where
   pub responder : TracedStands ends.responder d.responder.view
   pub first : ends.initiator.role ≡ Initiator
   pub second : ends.responder.role ≡ Responder
-
--- the lines after each note, as code holds them
-abbrev pub traces_of : List (Vec (Vec ℕ Global) Global) → List (List (List ℕ))
-traces_of traces = map (λ t. bytes_of t.items) traces
 
 -- whether a session has ended with what a note says of a write
 abbrev pub note_ends : Note → Bool

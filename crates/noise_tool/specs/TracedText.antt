@@ -1,15 +1,14 @@
 -- The text of a trace that is held.
-use Rattle.std.specs.Prelude.{◌≢◌, ℕ, List, [], ◌++◌, Option}
+use Rattle.std.specs.Prelude.{ℕ, List, [], ◌++◌, Option}
 use Rattle.std.specs.Io.KnownBytes.{Appends}
 use Rattle.noise_lines.specs.Lines.{lines_text}
 use Rattle.noise_lines.specs.declared.faults.Fault.{Fault}
-use Rattle.noise_lines.specs.declared.faults.Fault.TheVariants.{Unmet}
-use Rattle.noise_vectors.specs.Expectations.{IsFirstUnmet, bytes_of}
-use Rattle.noise_tool.specs.TracedEnds.{traces_of}
-use Rattle.noise_tool.specs.Tracing.{woven, woven_to}
+use Rattle.noise_vectors.specs.Expectations.{bytes_of}
+use Rattle.noise_lines.specs.Verdicts.{TellsUnmet}
+use Rattle.noise_lines.specs.Woven.{traces_of, woven, woven_to}
 use Rattle.noise_tool.specs.declared.tracing.Traced.{Traced}
-use Rattle.noise_tool.specs.declared.verdict.Verdict.{Verdict}
-use Rattle.noise_tool.specs.declared.verdict.Verdict.TheVariants.{Differs}
+use Rattle.noise_lines.specs.declared.verdict.Verdict.{Verdict}
+use Rattle.noise_lines.specs.declared.verdict.Verdict.TheVariants.{Differs}
 
 -- all of its lines
 abbrev pub trace_lines : Traced → List (List ℕ)
@@ -29,6 +28,5 @@ front_of _ t = []
 
 -- its lines were printed, and this is the first line of the run that differs from what is expected
 abbrev pub IsTraceUnlike : Traced → Option (List ℕ) → Option (List ℕ) → Fault → Type 0
-IsTraceUnlike t before after (Unmet number) = Appends before after (trace_text t) × (bytes_of t.outcome.expected.items ≢ [])
-    × IsFirstUnmet (bytes_of t.outcome.lines.items) (bytes_of t.outcome.expected.items) number
-IsTraceUnlike t before after fault = ⊥
+IsTraceUnlike t before after fault = Appends before after (trace_text t)
+    × TellsUnmet (bytes_of t.outcome.expected.items) (bytes_of t.outcome.lines.items) fault

@@ -1,5 +1,5 @@
 -- What is shown of the key schedules in a run, along what happens in it, and the lines of it.
-use Rattle.std.specs.Prelude.{◌≡◌, ℕ, List, [], ◌∷◌, ◌++◌, map, length, take, Option, None, Result}
+use Rattle.std.specs.Prelude.{◌≡◌, ℕ, List, [], ◌∷◌, ◌++◌, map, length, Option, None, Result}
 use Rattle.noise_names.specs.declared.token.Role.{Role}
 use Rattle.noise_names.specs.declared.token.Role.TheVariants.{Initiator, Responder}
 use Rattle.noise_names.specs.Plan.{Plan, has_psk}
@@ -17,6 +17,7 @@ use Rattle.noise_session.specs.Steps.{Told}
 use Rattle.noise_session.specs.Steps.Told.{Payload}
 use Rattle.noise_session.specs.Taking.{Judges}
 use Rattle.noise_session.specs.Taking.Judges.{accepted, refused, opened, dropped, exhausted}
+use Rattle.noise_lines.specs.Woven.{woven, woven_to}
 use Rattle.noise_session_trace.specs.Moments.{Shown, message_moment, opened_moment, sent_moment, stopped_moment, tried_moment}
 use Rattle.noise_session_trace.specs.Moments.Shown.{Nothing}
 use Rattle.noise_state.specs.History.{initiator_key, responder_key}
@@ -161,12 +162,6 @@ last_traces kept over d after (ready _ _ notes last are run) =
 
 -- ---- the whole
 
--- lines, and after each of them those that follow it
-abbrev pub woven : List (List ℕ) → List (List (List ℕ)) → List (List ℕ)
-woven [] traces = []
-woven (line ∷ lines) [] = line ∷ lines
-woven (line ∷ lines) (trace ∷ traces) = line ∷ (trace ++ woven lines traces)
-
 -- These are the lines of the file's run, as `replay` prints them (`IsRunOf`), and those of its key schedules: of the start of each end, and for each line
 -- of the run, as far as there are some, those that follow it.
 pub record HasTraces (kept : Kept) (file : VectorFile) (lines start : List (List ℕ)) (traces : List (List (List ℕ))) : Type 0 where
@@ -191,10 +186,6 @@ pub record IsTraceOf (kept : Kept) (file : VectorFile) (lines traced : List (Lis
   pub traces : List (List (List ℕ))
   pub shown : HasTraces kept file lines start traces
   pub traced_are : traced ≡ start ++ woven lines traces
-
--- the front of lines with those that follow each: up to the line of this number, from 1 on, and those that follow it; all where there are fewer lines
-abbrev pub woven_to : ℕ → List (List ℕ) → List (List (List ℕ)) → List (List ℕ)
-woven_to number lines traces = woven (take number lines) (take number traces)
 
 -- These are the lines of the file's run, and the front of what `trace` prints, up to the line of the run of this number and what is shown there.
 pub record IsTraceTo (kept : Kept) (file : VectorFile) (lines : List (List ℕ)) (number : ℕ) (front : List (List ℕ)) : Type 0 where

@@ -15,12 +15,10 @@ mod traced_end;
 mod traced_ends;
 mod traced_event;
 mod tracing;
-mod verdict;
 
 pub use laws::{conversions_meet_themselves, file_run_once};
-pub use noise_lines::{Fault, read_file, tell};
+pub use noise_lines::{Difference, Fault, Verdict, read_file, tell};
 pub use noise_words::{Chosen, LineFault, Order, Tested, chosen};
 pub use performing::perform;
 pub use report::entry_lines;
 pub use testing::{FilesByName, test};
-pub use verdict::{Difference, Verdict};

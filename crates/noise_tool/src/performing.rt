@@ -11,14 +11,16 @@ ghost use Rattle.noise_tool.specs.Prefixes.{PrintsConvertedPrefix, PrintsPrefix,
 ghost use Rattle.noise_lines.specs.Lines.{lines_text};
 ghost use Rattle.noise_lines.specs.Prefixes.{AppendsPrefix};
 ghost use Rattle.noise_lines.specs.Told.{LeavesOther, TellsRule, error_text};
-ghost use Rattle.noise_tool.specs.Running.{IsMet};
+ghost use Rattle.noise_lines.specs.Verdicts.{IsMet};
 ghost use Rattle.noise_lines.specs.declared.faults.Fault.{Fault};
 
 use crate::laws::conversions_meet_themselves;
 use crate::running::{Outcome, replay, run_vector};
 use crate::trace_file::trace_chosen;
-use noise_lines::{Fault, check, convert, flush, list, read_file, show, tell, write, write_lines};
-use noise_vectors::{AllowedEvents, first_unmet, read_vector};
+use noise_lines::{
+    Fault, check, compare, convert, flush, list, read_file, show, tell, write, write_lines,
+};
+use noise_vectors::{AllowedEvents, read_vector};
 use noise_words::Chosen;
 use std::alloc::Global;
 use std::io::{Read, Write};
@@ -115,13 +117,7 @@ fn print_outcome<O: Write>(outcome: &Outcome, out: &mut O) -> Result<(), Fault>
 {
     write_lines(&outcome.lines, out)?;
     flush(out)?;
-    if outcome.expected.is_empty() {
-        return Ok(());
-    }
-    match first_unmet(&outcome.lines, &outcome.expected) {
-        Some(number) => Err(Fault::Unmet(number)),
-        None => Ok(()),
-    }
+    compare(&outcome.lines, &outcome.expected)
 }
 
 // Prints a version 1 vector file as one of version 2.

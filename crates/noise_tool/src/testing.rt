@@ -11,14 +11,13 @@ ghost use Rattle.noise_tool.specs.Performing.{IsRunFault};
 ghost use Rattle.noise_tool.specs.Running.{IsRunOf, expected_in};
 ghost use Rattle.noise_tool.specs.Testing.{HasTested, HaveTested, IsTested, IsVerdictOn, RunsTo, tally_line, tested_text};
 ghost use Rattle.noise_tool.specs.TracedText.{front_of};
-ghost use Rattle.noise_tool.specs.declared.verdict.Verdict.TheVariants.{CannotRun};
+ghost use Rattle.noise_lines.specs.declared.verdict.Verdict.TheVariants.{CannotRun};
 
 use crate::moment_lines::ALL_KEPT;
 use crate::running::replay;
 use crate::trace_file::write_front;
 use crate::tracing::{Traced, trace};
-use crate::verdict::{Verdict, judge, verdict_lines};
-use noise_lines::{Fault, flush, tell, write};
+use noise_lines::{Fault, Verdict, flush, judge, tell, verdict_lines, write};
 use noise_vectors::{AllowedEvents, VectorFile, read_vector, vector_texts_are_unique};
 use std::alloc::{AllocError, Global};
 use std::io::Write;
@@ -130,7 +129,7 @@ fn write_run<O: Write>(
         → IfOk result (HasTested traces known name.now (O.contents out.old) (O.contents out.new)) }
     ensures fault { IfErr result (λ fault. status_of fault ≡ 3) }
 {
-    let verdict = judge(&traced.outcome)?;
+    let verdict = judge(&traced.outcome.lines, &traced.outcome.expected)?;
     write_verdict(alloc, name, traces, &verdict, traced, out)?;
     Ok(verdict.is_met())
 }

@@ -1,6 +1,6 @@
 //! Printing the trace of a vector file.
 
-ghost use Rattle.std.specs.Prelude.{◌≡◌, ◌∷◌, ◌⊎◌, ◌≤◌, [], IfErr, IfSome, MatchResult, OnOk, slice_get, take, unwrap_or};
+ghost use Rattle.std.specs.Prelude.{◌≡◌, ◌⊎◌, ◌≤◌, IfErr, IfSome, MatchResult, OnOk};
 ghost use Rattle.std.specs.Io.KnownBytes.{Appends};
 ghost use Rattle.noise_lines.specs.Faults.{status_of};
 ghost use Rattle.noise_lines.specs.Lines.{lines_text};
@@ -8,16 +8,14 @@ ghost use Rattle.noise_lines.specs.Prefixes.{AppendsPrefix};
 ghost use Rattle.noise_vectors.specs.Expectations.{bytes_of};
 ghost use Rattle.noise_vectors.specs.declared.vector.AllowedEvents.TheVariants.{Any};
 ghost use Rattle.noise_tool.specs.Performing.{IsOfLines, IsRunFault, IsShort};
-ghost use Rattle.noise_tool.specs.Running.{IsMet};
-ghost use Rattle.noise_tool.specs.TracedEnds.{traces_of};
+ghost use Rattle.noise_lines.specs.Verdicts.{IsMet};
 ghost use Rattle.noise_tool.specs.TracedText.{IsTraceUnlike, front_lines, trace_text};
-ghost use Rattle.noise_tool.specs.Tracing.{woven};
 ghost use Rattle.noise_tool.specs.TraceDone.{HasTraced, IsTraceUnmet, PrintsTracePrefix, keeps_end, keeps_first, keeps_second, keeps_start, kept_of};
 
 use crate::moment_lines::Kept;
 use crate::tracing::{Traced, trace};
-use noise_lines::{Fault, flush, read_file, write, write_lines};
-use noise_vectors::{AllowedEvents, first_unmet, read_vector, vector_texts_are_unique};
+use noise_lines::{Fault, compare, flush, read_file, write_traced, write_traced_to};
+use noise_vectors::{AllowedEvents, read_vector, vector_texts_are_unique};
 use noise_words::{Traced as ChosenTrace, TracedPart, TracedRole};
 use std::alloc::Global;
 use std::io::{Read, Write};
@@ -123,23 +121,16 @@ fn print_traced<O: Write>(traced: &Traced, out: &mut O) -> Result<(), Fault>
 {
     write_trace(traced, out)?;
     flush(out)?;
-    if traced.outcome.expected.is_empty() {
-        return Ok(());
-    }
-    match first_unmet(&traced.outcome.lines, &traced.outcome.expected) {
-        Some(number) => Err(Fault::Unmet(number)),
-        None => Ok(()),
-    }
+    compare(&traced.outcome.lines, &traced.outcome.expected)
 }
 
-// Writes the lines of the start, and then each line of the run and those that follow it.
+// Writes all of it.
 fn write_trace<O: Write>(traced: &Traced, out: &mut O) -> Result<(), Fault>
     ensures written { OnOk result (Appends (O.contents out.old) (O.contents out.new) (trace_text traced.now)) }
     ensures prefix { AppendsPrefix (O.contents out.old) (O.contents out.new) (trace_text traced.now) }
     ensures fault { IfErr result (λ fault. status_of fault ≡ 3) }
 {
-    write_lines(&traced.start, out)?;
-    write_woven(&traced.outcome.lines, &traced.traces, out)
+    write_traced(&traced.start, &traced.outcome.lines, &traced.traces, out)
 }
 
 /// Writes the front of it: up to the line of the run of this number, from 1 on, and those that follow that one; all of it where there are fewer.
@@ -151,53 +142,11 @@ pub(crate) fn write_front<O: Write>(
     ensures written { OnOk result (Appends (O.contents out.old) (O.contents out.new) (lines_text (front_lines traced.now number))) }
     ensures fault { IfErr result (λ fault. status_of fault ≡ 3) }
 {
-    write_lines(&traced.start, out)?;
-    let lines = front(traced.outcome.lines.as_slice(), number);
-    let traces = front(traced.traces.as_slice(), number);
-    write_woven(lines, traces, out)
-}
-
-// The first of these, so many, or all where there are fewer.
-fn front<T>(items: &[T], count: usize) -> &[T]
-    ensures { result.now ≡ take count items.now }
-{
-    let (first, _) = items.split_at(count.min(items.len()));
-    first
-}
-
-// Writes each of these lines, and those that follow it.
-fn write_woven<O: Write>(
-    lines: &[Vec<u8>],
-    traces: &[Vec<Vec<u8>>],
-    out: &mut O,
-) -> Result<(), Fault>
-    ensures written { OnOk result (Appends (O.contents out.old) (O.contents out.new) (lines_text (woven (bytes_of lines.now) (traces_of traces.now)))) }
-    ensures prefix { AppendsPrefix (O.contents out.old) (O.contents out.new) (lines_text (woven (bytes_of lines.now) (traces_of traces.now))) }
-    ensures fault { IfErr result (λ fault. status_of fault ≡ 3) }
-{
-    for (index, line) in lines.iter().enumerate() {
-        write_one(line, trace_at(traces, index), out)?;
-    }
-    Ok(())
-}
-
-// Writes a line, and those that follow it.
-fn write_one<O: Write>(line: &[u8], trace: &[Vec<u8>], out: &mut O) -> Result<(), Fault>
-    ensures written { OnOk result (Appends (O.contents out.old) (O.contents out.new) (lines_text (line.now ∷ bytes_of trace.now))) }
-    ensures prefix { AppendsPrefix (O.contents out.old) (O.contents out.new) (lines_text (line.now ∷ bytes_of trace.now)) }
-    ensures fault { IfErr result (λ fault. status_of fault ≡ 3) }
-{
-    write(line, out)?;
-    write(b"\n".as_slice(), out)?;
-    write_lines(trace, out)
-}
-
-// The lines that follow this line of the run, if there are some.
-fn trace_at(traces: &[Vec<Vec<u8>>], index: usize) -> &[Vec<u8>]
-    ensures { bytes_of result.now ≡ unwrap_or (slice_get (traces_of traces.now) index) [] }
-{
-    match traces.get(index) {
-        Some(trace) => trace,
-        None => &[],
-    }
+    write_traced_to(
+        number,
+        &traced.start,
+        &traced.outcome.lines,
+        &traced.traces,
+        out,
+    )
 }

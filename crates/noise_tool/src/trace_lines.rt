@@ -8,7 +8,7 @@ ghost use Rattle.noise_vectors.specs.VectorText as text;
 ghost use Rattle.noise_tool.specs.PrintedTrace as print;
 
 use crate::report::begun_line;
-use noise_lines::{Line, role_word};
+use noise_lines::{Line, role_word, token_word};
 use noise_names::{Role, Token};
 use noise_trace::{Part, StartPart, StartStep, StateValues, Step};
 use std::alloc::{AllocError, Global};
@@ -292,21 +292,6 @@ fn start_call_word(psks: bool, part: StartPart) -> &'static str
         StartPart::Name => "InitializeSymmetric",
         StartPart::Prologue => "MixHash",
         StartPart::Key(_, token) => mix_word(psks, token),
-    }
-}
-
-fn token_word(token: Token) -> &'static str
-    ensures text { result.now ≡ print.token_word token }
-    ensures printed { IsTrue (is_printed result.now) }
-{
-    match token {
-        Token::E => "e",
-        Token::S => "s",
-        Token::Ee => "ee",
-        Token::Es => "es",
-        Token::Se => "se",
-        Token::Ss => "ss",
-        Token::Psk => "psk",
     }
 }
 

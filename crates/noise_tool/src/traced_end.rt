@@ -15,8 +15,9 @@ ghost use Rattle.noise_session_trace.specs.Moments.{shown, stopped_moment};
 ghost use Rattle.noise_session_trace.specs.Moments.Shown.{Nothing};
 ghost use Rattle.noise_vectors.specs.Expectations.{bytes_of};
 ghost use Rattle.noise_vectors.specs.FileKeys.{agreement_of, public_of};
+ghost use Rattle.noise_lines.specs.Woven.{traces_of};
 ghost use Rattle.noise_tool.specs.Moments.{IsCounted, moment_lines};
-ghost use Rattle.noise_tool.specs.TracedEnds.{IsOfNoFrame, Shows, TracedStands, note_ends, traces_of};
+ghost use Rattle.noise_tool.specs.TracedEnds.{IsOfNoFrame, Shows, TracedStands, note_ends};
 ghost use Rattle.noise_tool.specs.Tracing.{about, act_of, came_traces, read_moment, read_trace, written_frame, written_message, written_moment, written_trace};
 
 use crate::moment_lines::{Kept, push_moment};

@@ -9,7 +9,8 @@ ghost use Rattle.noise_duel.specs.Sides.{Side, Sides, side, with_side};
 ghost use Rattle.noise_events.specs.Events.{Say, event_of};
 ghost use Rattle.noise_names.specs.declared.token.Role.{Role as Party};
 ghost use Rattle.noise_vectors.specs.Expectations.{bytes_of};
-ghost use Rattle.noise_tool.specs.TracedEnds.{EndsTraced, entry_frame, traces_of};
+ghost use Rattle.noise_lines.specs.Woven.{traces_of};
+ghost use Rattle.noise_tool.specs.TracedEnds.{EndsTraced, entry_frame};
 ghost use Rattle.noise_tool.specs.Tracing.{came_traces, happened_traces, written_frame, written_trace};
 
 use crate::moment_lines::Kept;

@@ -9,9 +9,10 @@ ghost use Rattle.noise_session.specs.Ends.{EndView};
 ghost use Rattle.noise_vectors.specs.Expectations.{bytes_of};
 ghost use Rattle.noise_vectors.specs.FileKeys.{agreement_of, public_of};
 ghost use Rattle.noise_vectors.specs.SameFile.{SaySame};
+ghost use Rattle.noise_lines.specs.Woven.{traces_of};
 ghost use Rattle.noise_tool.specs.Ends.{IsStartFault};
 ghost use Rattle.noise_tool.specs.Running.{AreLast, are_ready, datagrams_in, expected_in};
-ghost use Rattle.noise_tool.specs.TracedEnds.{AreOver, EndsTraced, HasRunTraced, IsNewSides, Shows, traces_of};
+ghost use Rattle.noise_tool.specs.TracedEnds.{AreOver, EndsTraced, HasRunTraced, IsNewSides, Shows};
 ghost use Rattle.noise_tool.specs.Tracing.{HasTraces, datagram_keys_of, last_traces};
 
 use crate::moment_lines::Kept;

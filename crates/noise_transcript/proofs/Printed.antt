@@ -13,9 +13,10 @@ use Rattle.noise_vectors.specs.declared.vector.VectorFile.{VectorFile}
 use Rattle.noise_lines.specs.Faults.{status_of}
 use Rattle.noise_lines.specs.Lines.{lines_text}
 use Rattle.noise_lines.specs.declared.faults.Fault.{Fault}
+use Rattle.noise_lines.specs.Verdicts.{IsMet}
 use Rattle.noise_tool.specs.OneRun.{OneRun}
 use Rattle.noise_tool.specs.Performing.{HasRun, HasUnmet, IsRunFault, IsUnmet}
-use Rattle.noise_tool.specs.Running.{IsMet, IsRunOf, expected_in}
+use Rattle.noise_tool.specs.Running.{IsRunOf, expected_in}
 use Rattle.noise_transcript.specs.Fitting.{HasFittingLines}
 use Rattle.noise_transcript.specs.Talked.{FittingLinesRun, talked_lines}
 use Rattle.noise_transcript.proofs.Refusals.{IsLeft, left-over}

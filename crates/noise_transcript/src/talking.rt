@@ -8,7 +8,8 @@ ghost use Rattle.noise_names.specs.Plan.{Plan};
 ghost use Rattle.noise_vectors.specs.VectorText.{text_of};
 ghost use Rattle.noise_vectors.specs.declared.vector.VectorFile.{VectorFile};
 ghost use Rattle.noise_lines.specs.Lines.{lines_text};
-ghost use Rattle.noise_tool.specs.Running.{IsMet, expected_in};
+ghost use Rattle.noise_lines.specs.Verdicts.{IsMet};
+ghost use Rattle.noise_tool.specs.Running.{expected_in};
 ghost use Rattle.noise_transcript.specs.Fitting.{HasFittingLines};
 ghost use Rattle.noise_transcript.specs.Talked.{talked_lines};
 

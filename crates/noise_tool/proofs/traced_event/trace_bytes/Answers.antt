@@ -1,5 +1,5 @@
 use Rattle.noise_duel.specs.Entries.{notes_of}
-use Rattle.noise_tool.specs.TracedEnds.{traces_of}
+use Rattle.noise_lines.specs.Woven.{traces_of}
 use Rattle.noise_tool.proofs.RoleLemmas.{received-initiator, received-responder}
 use Rattle.noise_tool.proofs.traced_event.trace_bytes.Goals as goal
 

@@ -4,7 +4,8 @@ use Rattle.noise_vectors.specs.Expectations.{bytes_of}
 use Rattle.noise_duel.specs.Entries.{note_of, notes_of}
 use Rattle.noise_duel.specs.Sides.{Sides, side}
 use Rattle.noise_events.specs.Events.{Deliver, Raw, Say, Write, event_of}
-use Rattle.noise_tool.specs.TracedEnds.{EndsTraced, traces_of}
+use Rattle.noise_lines.specs.Woven.{traces_of}
+use Rattle.noise_tool.specs.TracedEnds.{EndsTraced}
 use Rattle.noise_tool.proofs.EventLemmas.{Traces, event-same, frames-written, head-note, no-entries, none-first, of-deliver, of-missing, of-raw, of-write}
 use Rattle.noise_tool.proofs.ReceivedLemmas.{traces-push}
 use Rattle.noise_tool.proofs.RunningLemmas.{on_ok}

@@ -3,7 +3,8 @@ use Rattle.noise_duel.specs.HeldDuel.{DuelStands}
 use Rattle.noise_duel.specs.Sides.{Sides}
 use Rattle.noise_events.specs.Events.{events_of}
 use Rattle.noise_vectors.specs.FileKeys.{agreement_of, public_of}
-use Rattle.noise_tool.specs.TracedEnds.{EndsTraced, HasTracedTo, IsNewSides, traces_of}
+use Rattle.noise_lines.specs.Woven.{traces_of}
+use Rattle.noise_tool.specs.TracedEnds.{EndsTraced, HasTracedTo, IsNewSides}
 use Rattle.noise_tool.proofs.tracing.run_traced.Given as goal
 
 abbrev pub invariant-loop-event : goal.invariant-loop-event

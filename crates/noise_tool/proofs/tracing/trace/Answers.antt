@@ -1,8 +1,8 @@
 use Rattle.std.proofs.Common.{◌∙◌, ap, refl}
 use Rattle.noise_events.specs.Events.{events_of}
 use Rattle.noise_vectors.specs.Expectations.{bytes_of}
+use Rattle.noise_lines.specs.Woven.{traces_of}
 use Rattle.noise_tool.specs.Ends.{facing_in}
-use Rattle.noise_tool.specs.TracedEnds.{traces_of}
 use Rattle.noise_tool.proofs.TracedWhole.{traced-whole}
 use Rattle.noise_tool.proofs.tracing.trace.Goals as goal
 

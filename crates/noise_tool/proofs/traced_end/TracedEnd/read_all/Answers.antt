@@ -2,7 +2,7 @@ use Rattle.std.proofs.Common.{◌≤◌, ◌+◌, ◌∙◌, ◌∷◌, ◌++◌
 use Rattle.std.proofs.lemmas.List.{drop_all, drop_more}
 use Rattle.noise_duel.specs.Entries.{note_of, notes_of}
 use Rattle.noise_vectors.specs.Expectations.{bytes_of}
-use Rattle.noise_tool.specs.TracedEnds.{traces_of}
+use Rattle.noise_lines.specs.Woven.{traces_of}
 use Rattle.noise_tool.specs.Tracing.{came_traces, read_trace}
 use Rattle.noise_tool.proofs.ReceivedLemmas.{all-read, entry-step, traces-push}
 use Rattle.noise_tool.proofs.traced_end.TracedEnd.read_all.Goals as goal

@@ -4,7 +4,8 @@ use Rattle.noise_duel.specs.Entries.{notes_of}
 use Rattle.noise_duel.specs.Notes.{Note, held_note, noted_by}
 use Rattle.noise_duel.specs.Runs.{SideReceives}
 use Rattle.noise_duel.specs.Sides.{Side}
-use Rattle.noise_tool.specs.TracedEnds.{Shows, traces_of}
+use Rattle.noise_lines.specs.Woven.{traces_of}
+use Rattle.noise_tool.specs.TracedEnds.{Shows}
 use Rattle.noise_tool.specs.Tracing.{came_traces}
 use Rattle.noise_tool.proofs.ReceivedLemmas.{Remains}
 use Rattle.noise_tool.proofs.traced_end.TracedEnd.read_all.Given as goal

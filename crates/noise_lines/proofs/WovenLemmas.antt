@@ -1,16 +1,15 @@
 -- The text of a trace, written line by line.
-use Rattle.std.proofs.Common.{◌≡◌, ◌∙◌, refl, sym, ap, subst, ℕ, zero, suc, ◌+◌, List, [], ◌∷◌, ◌++◌, Option, Some, None, Vec, drop, slice_get, append_assoc, append-nil, add-one}
+use Rattle.std.proofs.Common.{◌≡◌, ◌∙◌, refl, sym, ap, ap₂, subst, ℕ, zero, suc, ◌+◌, List, [], ◌∷◌, ◌++◌, Option, Some, None, Vec, drop, take, slice_get, append_assoc, append-nil, add-one}
 use Rattle.std.specs.Global.{Global}
 use Rattle.std.specs.Prelude.{unwrap_or}
 use Rattle.std.specs.Io.KnownBytes.{Appends}
 use Rattle.std.proofs.KnownBytes.{Appends-trans}
+use Rattle.std.proofs.lemmas.List.{take-map}
 use Rattle.noise_lines.specs.Lines.{lines_text}
 use Rattle.noise_lines.specs.Prefixes.{AppendsPrefix}
 use Rattle.noise_vectors.specs.Expectations.{bytes_of}
-use Rattle.noise_tool.specs.Tracing.{woven}
-
-pub prefix-whole : (a b : Option (List ℕ)) (text : List ℕ) → Appends a b text → AppendsPrefix a b text
-prefix-whole a b text h = record { prefix = text; rest = []; begins = sym (append-nil text); appended = h }
+use Rattle.noise_lines.specs.Woven.{traces_of, woven, woven_to}
+use Rattle.noise_lines.proofs.PrefixLemmas.{prefix-after}
 
 pub prefix-more : (a b : Option (List ℕ)) (next more whole : List ℕ) → AppendsPrefix a b next → whole ≡ next ++ more → AppendsPrefix a b whole
 prefix-more a b next more whole p is = record {
@@ -18,16 +17,6 @@ prefix-more a b next more whole p is = record {
   rest = p.rest ++ more;
   begins = is ∙ ap (λ (t : List ℕ). t ++ more) p.begins ∙ append_assoc p.prefix p.rest more;
   appended = p.appended;
-}
-
-pub prefix-after : (a b c : Option (List ℕ)) (first next more whole : List ℕ) → Appends a b first → AppendsPrefix b c next
-    → whole ≡ first ++ (next ++ more) → AppendsPrefix a c whole
-prefix-after a b c first next more whole h p is = record {
-  prefix = first ++ p.prefix;
-  rest = p.rest ++ more;
-  begins = is ∙ ap (λ (t : List ℕ). first ++ (t ++ more)) p.begins ∙ ap (λ (t : List ℕ). first ++ t) (append_assoc p.prefix p.rest more)
-      ∙ sym (append_assoc first p.prefix (p.rest ++ more));
-  appended = Appends-trans a b c first p.prefix h p.appended;
 }
 
 -- a line, its LF (10), and the lines after it
@@ -113,3 +102,10 @@ line-here lines i x text here is =
     drop-bytes lines i ∙ ap bytes_of here
     ∙ ap (λ (t : List ℕ). t ∷ bytes_of (drop (i + 1) lines)) (sym is)
     ∙ ap (λ (ls : List (List ℕ)). text ∷ ls) (sym (drop-bytes lines (i + 1)))
+
+-- the front, by the fronts of the two
+pub front-woven : (number : ℕ) (all lines : List (Vec ℕ Global)) (every traces : List (Vec (Vec ℕ Global) Global)) → lines ≡ take number all
+    → traces ≡ take number every → woven (bytes_of lines) (traces_of traces) ≡ woven_to number (bytes_of all) (traces_of every)
+front-woven number all lines every traces lines_are traces_are =
+    ap₂ woven (ap bytes_of lines_are ∙ sym (take-map (λ (v : Vec ℕ Global). v.items) number all))
+    (ap traces_of traces_are ∙ sym (take-map (λ (t : Vec (Vec ℕ Global) Global). bytes_of t.items) number every))

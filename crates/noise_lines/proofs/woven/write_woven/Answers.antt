@@ -1,9 +1,9 @@
 use Rattle.std.proofs.Common.{◌∙◌, ◌+◌, ◌∷◌, ap, drop, sym}
 use Rattle.std.proofs.lemmas.List.{drop_more}
 use Rattle.noise_vectors.specs.Expectations.{bytes_of}
-use Rattle.noise_tool.specs.TracedEnds.{traces_of}
-use Rattle.noise_tool.proofs.WovenLemmas.{line-here, written-cut, written-more}
-use Rattle.noise_tool.proofs.trace_file.write_woven.Goals as goal
+use Rattle.noise_lines.specs.Woven.{traces_of}
+use Rattle.noise_lines.proofs.WovenLemmas.{line-here, written-cut, written-more}
+use Rattle.noise_lines.proofs.woven.write_woven.Goals as goal
 
 pub returns-in_err-write_one-clause-prefix : goal.returns-in_err-write_one-clause-prefix
 returns-in_err-write_one-clause-prefix g c =

@@ -1,7 +1,7 @@
 use Rattle.noise_vectors.specs.Expectations.{bytes_of}
-use Rattle.noise_tool.specs.TracedEnds.{traces_of}
-use Rattle.noise_tool.proofs.WovenLemmas.{Written}
-use Rattle.noise_tool.proofs.trace_file.write_woven.Given as goal
+use Rattle.noise_lines.specs.Woven.{traces_of}
+use Rattle.noise_lines.proofs.WovenLemmas.{Written}
+use Rattle.noise_lines.proofs.woven.write_woven.Given as goal
 
 -- what is written, and what is left
 abbrev pub invariant-loop-index : goal.invariant-loop-index

@@ -1,12 +1,12 @@
 //! What comes of a vector file that is tested.
 
-ghost use Rattle.std.specs.Prelude.{◌≡◌, ◌<◌, ◌++◌, IfOk, OnOk, slice_get};
+ghost use Rattle.std.specs.Prelude.{◌≡◌, ◌<◌, ◌++◌, IfErr, IfOk, OnOk, slice_get};
 ghost use Rattle.noise_vectors.specs.Expectations.{bytes_of};
-ghost use Rattle.noise_tool.specs.declared.verdict.Verdict.TheVariants.{CannotRun, Differs};
-ghost use Rattle.noise_tool.specs.Testing.{IsJudged, bytes_in, is_met, named_line, shown_line, verdict_text};
+ghost use Rattle.noise_lines.specs.declared.verdict.Verdict.TheVariants.{CannotRun, Differs};
+ghost use Rattle.noise_lines.specs.Verdicts.{IsJudged, IsMet, TellsUnmet, bytes_in, is_met, named_line, shown_line, verdict_text};
 
-use crate::running::Outcome;
-use noise_lines::{Fault, fault_line};
+use crate::faults::Fault;
+use crate::telling::fault_line;
 use noise_vectors::first_unmet;
 use std::alloc::{AllocError, Global};
 
@@ -46,17 +46,17 @@ impl Verdict {
     }
 }
 
-/// The verdict on a run, by the lines that are expected.
-pub fn judge(outcome: &Outcome) -> Result<Verdict, AllocError>
-    ensures { IfOk result (IsJudged (bytes_of outcome.now.lines.items) (bytes_of outcome.now.expected.items)) }
+/// The verdict on the lines of a run, by those that are expected.
+pub fn judge(lines: &[Vec<u8>], expected: &[Vec<u8>]) -> Result<Verdict, AllocError>
+    ensures { IfOk result (IsJudged (bytes_of lines.now) (bytes_of expected.now)) }
 {
-    if outcome.expected.is_empty() {
+    if expected.is_empty() {
         return Ok(Verdict::ExpectsNothing);
     }
-    match first_unmet(&outcome.lines, &outcome.expected) {
+    match first_unmet(lines, expected) {
         Some(number) => {
-            let expected = line_at(&outcome.expected, number - 1)?;
-            let printed = line_at(&outcome.lines, number - 1)?;
+            let printed = line_at(lines, number - 1)?;
+            let expected = line_at(expected, number - 1)?;
             Ok(Verdict::Differs(Difference {
                 number,
                 expected,
@@ -64,6 +64,20 @@ pub fn judge(outcome: &Outcome) -> Result<Verdict, AllocError>
             }))
         }
         None => Ok(Verdict::Met),
+    }
+}
+
+/// Whether the lines of a run are those that its file expects, where it expects any. The fault tells the number of the first line that differs.
+pub fn compare(lines: &[Vec<u8>], expected: &[Vec<u8>]) -> Result<(), Fault>
+    ensures met { OnOk result (IsMet (bytes_of expected.now) (bytes_of lines.now)) }
+    ensures unmet { IfErr result (TellsUnmet (bytes_of expected.now) (bytes_of lines.now)) }
+{
+    if expected.is_empty() {
+        return Ok(());
+    }
+    match first_unmet(lines, expected) {
+        Some(number) => Err(Fault::Unmet(number)),
+        None => Ok(()),
     }
 }
 

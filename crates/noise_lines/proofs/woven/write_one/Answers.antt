@@ -3,8 +3,9 @@ use Rattle.std.proofs.KnownBytes.{Appends-trans}
 use Rattle.noise_lines.specs.Lines.{lines_text}
 use Rattle.noise_lines.specs.Prefixes.{AppendsPrefix}
 use Rattle.noise_vectors.specs.Expectations.{bytes_of}
-use Rattle.noise_tool.proofs.WovenLemmas.{line-apart, prefix-after, prefix-more}
-use Rattle.noise_tool.proofs.trace_file.write_one.Goals as goal
+use Rattle.noise_lines.proofs.PrefixLemmas.{prefix-after}
+use Rattle.noise_lines.proofs.WovenLemmas.{line-apart, prefix-more}
+use Rattle.noise_lines.proofs.woven.write_one.Goals as goal
 
 pub returns-in_err-write-clause-prefix : goal.returns-in_err-write-clause-prefix
 returns-in_err-write-clause-prefix g c =
