@@ -4,9 +4,7 @@
 ghost use Rattle.std.specs.Prelude.{◌≡◌, IfErr, None};
 ghost use Rattle.noise_lines.specs.Faults.{status_of};
 
-use noise_tool::{
-    Chosen, Fault, FilesByName, LineFault, Order, Tested, chosen, perform, read_file, tell, test,
-};
+use noise_tool::{Chosen, Fault, FilesByName, LineFault, Order, chosen, perform, read_file, tell};
 use std::alloc::Global;
 use std::env;
 use std::fs::File;
@@ -17,8 +15,7 @@ fn main(rt: HostRuntime) -> ExitCode {
     let alloc = rt.alloc();
     let status = match words(&rt) {
         Ok(words) => match chosen(alloc, words) {
-            Ok(Order::Command(command)) => run(&rt, &command),
-            Ok(Order::Test(tested)) => run_test(&rt, &tested),
+            Ok(order) => run(&rt, &order),
             Err(LineFault::Memory) => ends_with(&rt, Fault::Memory),
             Err(LineFault::Line(error)) => print_line_fault(&rt, &error),
         },
@@ -35,23 +32,30 @@ fn words(rt: &HostRuntime) -> io::Result<Vec<String>> {
     Ok(env::args(rt)?.collect(rt.alloc())?)
 }
 
-// Does what the command asks for, on the file that it names, if it names one.
-fn run(rt: &HostRuntime, command: &Chosen) -> u8 {
+// Does what is asked for, on the file that the order names, if it is on one file.
+fn run(rt: &HostRuntime, order: &Order) -> u8 {
+    match order {
+        Order::Command(command) => run_command(rt, order, command),
+        Order::Test(_) => run_on(rt, order, &mut io::empty()),
+    }
+}
+
+fn run_command(rt: &HostRuntime, order: &Order, command: &Chosen) -> u8 {
     match command {
-        Chosen::List | Chosen::Show(_) => run_on(rt, command, &mut io::empty()),
+        Chosen::List | Chosen::Show(_) => run_on(rt, order, &mut io::empty()),
         Chosen::Check(name) | Chosen::Talk(name) | Chosen::Replay(name) | Chosen::Convert(name) =>
-            run_on_file(rt, command, name.as_str()),
-        Chosen::Trace(traced) => run_on_file(rt, command, traced.file.as_str()),
+            run_on_file(rt, order, name.as_str()),
+        Chosen::Trace(traced) => run_on_file(rt, order, traced.file.as_str()),
     }
 }
 
 // Does it on the file of this name: `-` is standard input.
-fn run_on_file(rt: &HostRuntime, command: &Chosen, name: &str) -> u8 {
+fn run_on_file(rt: &HostRuntime, order: &Order, name: &str) -> u8 {
     if name == "-" {
-        return run_on(rt, command, &mut rt.stdin());
+        return run_on(rt, order, &mut rt.stdin());
     }
     match open(rt, name) {
-        Ok(mut file) => run_on(rt, command, &mut file),
+        Ok(mut file) => run_on(rt, order, &mut file),
         Err(fault) => ends_with(rt, fault),
     }
 }
@@ -67,20 +71,12 @@ fn open(rt: &HostRuntime, name: &str) -> Result<File, Fault>
 }
 
 // The output goes through a buffer.
-fn run_on<R: Read>(rt: &HostRuntime, command: &Chosen, file: &mut R) -> u8 {
+fn run_on<R: Read>(rt: &HostRuntime, order: &Order, file: &mut R) -> u8 {
     match BufWriter::new(rt.alloc(), rt.stdout()) {
-        Ok(mut out) => perform(rt.alloc(), command, file, &mut out, &mut rt.stderr()),
-        Err(_) => ends_with(rt, Fault::Memory),
-    }
-}
-
-// Tests files.
-fn run_test(rt: &HostRuntime, tested: &Tested) -> u8 {
-    match BufWriter::new(rt.alloc(), rt.stdout()) {
-        Ok(mut out) => test(
+        Ok(mut out) => perform(
             rt.alloc(),
-            &tested.files,
-            tested.traces,
+            order,
+            file,
             &Opened { rt },
             &mut out,
             &mut rt.stderr(),

@@ -22,6 +22,9 @@ use Rattle.noise_lines.specs.declared.faults.Fault.TheVariants.{TooLong, Unmet}
 use Rattle.noise_tool.specs.declared.running.Outcome.{Outcome}
 use Rattle.noise_words.specs.declared.orders.Chosen.{Chosen}
 use Rattle.noise_words.specs.declared.orders.Chosen.TheVariants.{List as Listing, Show, Check, Talk, Replay, Convert, Trace}
+use Rattle.noise_words.specs.declared.orders.Order.{Order}
+use Rattle.noise_words.specs.declared.orders.Order.TheVariants.{Command, Test}
+use Rattle.noise_words.specs.declared.orders.Tested.{Tested}
 use Rattle.noise_vectors.specs.declared.faults.VectorFault.{VectorFault}
 use Rattle.noise_vectors.specs.declared.vector.AllowedEvents.{AllowedEvents}
 use Rattle.noise_vectors.specs.declared.vector.AllowedEvents.TheVariants.{SayOnly, Any, VersionOne}
@@ -133,3 +136,20 @@ LeavesFile _ before after = ⊤
 abbrev pub IsOfLines : Fault → Type 0
 IsOfLines (Unmet number) = ⊤
 IsOfLines fault = ⊥
+
+-- ---- what the words of a command line ask for
+
+-- of a command on at most one file
+abbrev pub IfCommand : Order → (Chosen → Type 0) → Type 0
+IfCommand (Command chosen) P = P chosen
+IfCommand (Test asked) P = ⊤
+
+-- of `test`
+abbrev pub IfTest : Order → (Tested → Type 0) → Type 0
+IfTest (Command chosen) P = ⊤
+IfTest (Test asked) P = P asked
+
+-- `test` reads its files by their names
+abbrev pub LeavesInput : {R : Type 0} → Order → R → R → Type 0
+LeavesInput (Command chosen) before after = LeavesFile chosen before after
+LeavesInput (Test asked) before after = after ≡ before

@@ -19,6 +19,6 @@ mod tracing;
 pub use laws::{conversions_meet_themselves, file_run_once};
 pub use noise_lines::{Difference, Fault, Verdict, read_file, tell};
 pub use noise_words::{Chosen, LineFault, Order, Tested, chosen};
-pub use performing::perform;
+pub use performing::{perform, perform_command};
 pub use report::entry_lines;
-pub use testing::{FilesByName, test};
+pub use testing::FilesByName;

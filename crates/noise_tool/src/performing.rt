@@ -1,12 +1,13 @@
 //! Doing what the command line asks for.
 
-ghost use Rattle.std.specs.Prelude.{◌≡◌, ◌⊎◌, ◌≤◌, IfErr, IfSome, MatchResult, OnOk};
+ghost use Rattle.std.specs.Prelude.{◌≡◌, ◌⊎◌, ◌≤◌, IfErr, IfSome, MatchResult, OnOk, map, string_bytes};
 ghost use Rattle.noise_lines.specs.Faults.{status_of};
 ghost use Rattle.std.specs.Io.KnownBytes.{Appends};
 ghost use Rattle.noise_vectors.specs.Expectations.{bytes_of};
 ghost use Rattle.noise_vectors.specs.declared.vector.AllowedEvents.TheVariants.{VersionOne};
 ghost use Rattle.noise_tool.specs.Performing.{HasConverted, HasRun, IsDone, IsFault, IsOfLines, IsRunFault, IsTooLongConverted, IsUnlike, IsUnmet};
-ghost use Rattle.noise_tool.specs.Performing.{IsShort, LeavesFile, ReadsShort};
+ghost use Rattle.noise_tool.specs.Performing.{IfCommand, IfTest, IsShort, LeavesFile, LeavesInput, ReadsShort};
+ghost use Rattle.noise_tool.specs.Testing.{IsTested};
 ghost use Rattle.noise_tool.specs.Prefixes.{PrintsConvertedPrefix, PrintsPrefix, PrintsRunPrefix};
 ghost use Rattle.noise_lines.specs.Lines.{lines_text};
 ghost use Rattle.noise_lines.specs.Prefixes.{AppendsPrefix};
@@ -16,14 +17,51 @@ ghost use Rattle.noise_lines.specs.declared.faults.Fault.{Fault};
 
 use crate::laws::conversions_meet_themselves;
 use crate::running::{Outcome, replay, run_vector};
+use crate::testing::{FilesByName, test};
 use crate::trace_file::trace_chosen;
 use noise_lines::{
     Fault, check, compare, convert, flush, list, read_file, show, tell, write, write_lines,
 };
 use noise_vectors::{AllowedEvents, read_vector};
-use noise_words::Chosen;
+use noise_words::{Chosen, Order};
 use std::alloc::Global;
 use std::io::{Read, Write};
+
+/// Does what the words of the command line ask for, and gives the exit status: a command on at most one file, which is opened, as `perform_command` does
+/// it, or `test`, with the files by their names. What isn't asked for is not read: of `file` nothing for `test`, `list` and `show`, of `files` nothing for
+/// a command.
+pub fn perform<R: Read, F: FilesByName, O: Write, E: Write>(
+    alloc: Global,
+    order: &Order,
+    file: &mut R,
+    files: &F,
+    out: &mut O,
+    err: &mut E,
+) -> u8
+    ensures status { result ≤ 3 }
+    ensures done { result ≡ 0 → IfCommand order.now (λ chosen. IsDone chosen (R.remaining file.old) (O.contents out.old) (O.contents out.new)) }
+    ensures fault { 1 ≤ result → IfCommand order.now (λ chosen. (result ≡ 3) ⊎ ((fault : Fault) × (status_of fault ≡ result)
+        × IsFault chosen (R.remaining file.old) (O.contents out.old) (O.contents out.new) fault
+        × (IsOfLines fault ⊎ LeavesOther fault out.old out.new err.old err.new)
+        × TellsRule fault (O.contents out.old) (O.contents out.new)
+        × AppendsPrefix (E.contents err.old) (E.contents err.new) (error_text fault))) }
+    ensures outside { result ≡ 3 → IfCommand order.now (λ chosen. (fault : Fault) × (status_of fault ≡ 3)
+        × AppendsPrefix (E.contents err.old) (E.contents err.new) (error_text fault)) }
+    ensures prefix { IfCommand order.now (λ chosen. (out.new ≡ out.old)
+        ⊎ PrintsPrefix chosen (R.remaining file.old) (O.contents out.old) (O.contents out.new)) }
+    ensures long { (2 ≤ result) ⊎ IfCommand order.now (λ chosen. ReadsShort chosen (R.remaining file.old)) }
+    ensures unwritten { result ≡ 2 → out.new ≡ out.old }
+    ensures quiet { result ≡ 0 → err.new ≡ err.old }
+    ensures unread { LeavesInput order.now file.old file.new }
+    ensures tested { IfTest order.now (λ asked. (result ≡ 3)
+        ⊎ (IsTested asked.traces (F.bytes_at files.now) (map string_bytes asked.files.items) (O.contents out.old) (O.contents out.new) result
+        × (err.new ≡ err.old))) }
+{
+    match order {
+        Order::Command(chosen) => perform_command(alloc, chosen, file, out, err),
+        Order::Test(asked) => test(alloc, &asked.files, asked.traces, files, out, err),
+    }
+}
 
 /// Does what was chosen, with the opened file, and gives the exit status: 0 without a fault; 1 where a pattern breaks a rule of validity or has
 /// fewer messages than a psk place needs, the ends of a vector file can't be made, or the lines of its run aren't those that it expects; 2 where
@@ -31,7 +69,7 @@ use std::io::{Read, Write};
 /// where the file can't be read, the output can't be written, or memory runs out. A refused write to `err` leaves the status. `list` and `show`
 /// read no byte of `file`. At each status what comes to the output is a prefix of a text that is right for status 0 or 1, and what comes to `err` is
 /// a prefix of the line of the fault.
-pub fn perform<R: Read, O: Write, E: Write>(
+pub fn perform_command<R: Read, O: Write, E: Write>(
     alloc: Global,
     chosen: &Chosen,
     file: &mut R,

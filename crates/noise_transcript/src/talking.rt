@@ -14,12 +14,12 @@ ghost use Rattle.noise_transcript.specs.Fitting.{HasFittingLines};
 ghost use Rattle.noise_transcript.specs.Talked.{talked_lines};
 
 use crate::laws::fitting_lines_run;
-use noise_tool::{Chosen, file_run_once, perform};
+use noise_tool::{Chosen, file_run_once, perform_command};
 use noise_vectors::vector_texts_are_unique;
 use std::alloc::Global;
 use std::io::{Read, Write};
 
-/// Does what `noise talk` does with the vector file of this name, by `perform`, and gives the exit status.
+/// Does what `noise talk` does with the vector file of this name, by `perform_command`, and gives the exit status.
 ///
 /// Of a vector file whose lines fit, at status 0 or 1 the output grew by exactly this: for each line the frame
 /// of its message in the transcript, and its payload as the other end accepted it; and then a line for each end. The status is 0 where these are the lines
@@ -46,5 +46,5 @@ pub fn talk<R: Read, O: Write, E: Write>(
     file_run_once();
     vector_texts_are_unique();
     let order = Chosen::Talk(name);
-    perform(alloc, &order, file, out, err)
+    perform_command(alloc, &order, file, out, err)
 }

@@ -9,8 +9,8 @@ returns-clause-printed g c f p lines fits is =
       once = c.file_run_once.ensures;
       unique = c.vector_texts_are_unique.ensures;
     } in
-    printed-at laws f p lines fits _ _ _ (outcome laws f p lines fits _ _ _ _ is c.perform.ensures.done
-    (λ low. elim (c.perform.ensures.fault low) [ inl e ↦ inl e | inr h ↦ inr (h.0, h.1, h.2) ]))
+    printed-at laws f p lines fits _ _ _ (outcome laws f p lines fits _ _ _ _ is c.perform_command.ensures.done
+    (λ low. elim (c.perform_command.ensures.fault low) [ inl e ↦ inl e | inr h ↦ inr (h.0, h.1, h.2) ]))
 
 pub returns-clause-met : goal.returns-clause-met
 returns-clause-met g c f p lines fits is =
@@ -19,8 +19,8 @@ returns-clause-met g c f p lines fits is =
       once = c.file_run_once.ensures;
       unique = c.vector_texts_are_unique.ensures;
     } in
-    met-at laws f p lines fits _ _ _ (outcome laws f p lines fits _ _ _ _ is c.perform.ensures.done
-    (λ low. elim (c.perform.ensures.fault low) [ inl e ↦ inl e | inr h ↦ inr (h.0, h.1, h.2) ]))
+    met-at laws f p lines fits _ _ _ (outcome laws f p lines fits _ _ _ _ is c.perform_command.ensures.done
+    (λ low. elim (c.perform_command.ensures.fault low) [ inl e ↦ inl e | inr h ↦ inr (h.0, h.1, h.2) ]))
 
 pub returns-clause-taken : goal.returns-clause-taken
 returns-clause-taken g c f p lines fits is =
@@ -29,5 +29,5 @@ returns-clause-taken g c f p lines fits is =
       once = c.file_run_once.ensures;
       unique = c.vector_texts_are_unique.ensures;
     } in
-    long-at laws f p lines fits _ _ _ (outcome laws f p lines fits _ _ _ _ is c.perform.ensures.done
-    (λ low. elim (c.perform.ensures.fault low) [ inl e ↦ inl e | inr h ↦ inr (h.0, h.1, h.2) ]))
+    long-at laws f p lines fits _ _ _ (outcome laws f p lines fits _ _ _ _ is c.perform_command.ensures.done
+    (λ low. elim (c.perform_command.ensures.fault low) [ inl e ↦ inl e | inr h ↦ inr (h.0, h.1, h.2) ]))

@@ -5,7 +5,7 @@ use Rattle.noise_tool.proofs.PerformingLemmas.{told-at-two, told-fault}
 use Rattle.noise_tool.proofs.PrefixLemmas.{told-itself, told-outside, told-prefix}
 use Rattle.noise_tool.specs.Performing.{ReadsShort}
 use Rattle.noise_tool.proofs.Shortness.{told-long}
-use Rattle.noise_tool.proofs.performing.perform.Goals as goal
+use Rattle.noise_tool.proofs.performing.perform_command.Goals as goal
 
 pub returns-in-Err-clause-fault : goal.returns-in-Err-clause-fault
 returns-in-Err-clause-fault g c = λ some.
