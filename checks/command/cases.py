@@ -1,4 +1,4 @@
-"""The cases below cases/: commands with what they print, tables of wrong texts, and the conversion of each file that is run."""
+"""The cases below cases/: commands with what they print, tables of texts and of lines, and the conversion of each file that is run."""
 
 import glob
 import os
@@ -33,17 +33,19 @@ class Cases:
                 self.run_case(path, line, expected)
         for path in self.files("table"):
             self.run_table(path)
+        for path in self.files("lines"):
+            self.run_lines(path)
         self.faults += [f"command: {path}: no command names it" for path in self.unnamed()]
 
     def unnamed(self):
         """The files that no command of their folder names."""
         texts = {}
-        for path in self.files("case") + self.files("commands"):
+        for path in self.files("case") + self.files("commands") + self.files("lines"):
             with open(path, encoding="utf-8") as file:
                 texts.setdefault(os.path.dirname(path), set()).update(file.read().split())
         for path in self.files("*"):
             folder, name = os.path.split(path)
-            if not name.endswith((".case", ".commands", ".table", ".long")) and name not in texts.get(folder, ()):
+            if not name.endswith((".case", ".commands", ".table", ".lines", ".long")) and name not in texts.get(folder, ()):
                 yield os.path.relpath(path, self.folder)
 
     def expect(self, name, expected, ran):
@@ -77,19 +79,51 @@ class Cases:
 
     def run_table(self, path):
         """Runs a table's command on the text of each row."""
-        with open(path, encoding="utf-8") as file:
-            rows = [shlex.split(line) for line in file if not line.startswith("#") and line.strip()]
-        (_, _, command, _), (_, status) = rows[:2]
-        for text, told in rows[2:]:
-            ran = run([command, "/dev/stdin"], given=text.replace("\\n", "\n").encode())
-            expected = f"standard error: {told}\nstatus: {status}\n"
-            self.expect(f"{os.path.relpath(path, self.folder)}: {text}", expected, ran)
+        command, status, _, rows = rows_of(path)
+        for text, told in rows:
+            self.run_text(f"{os.path.relpath(path, self.folder)}: {text}", command, bytes_of(text), status, told)
+
+    def run_lines(self, path):
+        """Runs a command on a file with one more line, or on the front of it with a last line that isn't ended, for each row."""
+        command, status, name, rows = rows_of(path)
+        with open(f"{os.path.dirname(path)}/{name}", "rb") as file:
+            lines = file.readlines()
+        for place, number, line, told in rows:
+            before, after = lines[: int(number) - 1], lines[int(number) - 1 :]
+            end = [b"\n", *after] if place == "before" else []
+            name = f"{os.path.relpath(path, self.folder)}: {place} {number}: {line}"
+            self.run_text(name, command, b"".join([*before, bytes_of(line), *end]), status, told)
+
+    def run_text(self, name, command, text, status, told):
+        """Runs a command on a text, of which this has to be told."""
+        self.expect(name, f"standard error: {told}\nstatus: {status}\n", run([command, "/dev/stdin"], given=text))
+
+
+def rows_of(path):
+    """The command of a table, the status of its runs, the file that it names or none, and its rows."""
+    with open(path, encoding="utf-8") as file:
+        rows = [shlex.split(line) for line in file if not line.startswith("#") and line.strip()]
+    (_, _, command, _), (_, status), *rows = rows
+    name = rows.pop(0)[1] if rows[0][0] == "file:" else None
+    return command, status, name, rows
+
+
+def bytes_of(text):
+    """The bytes of a row's text, with its escapes and repetitions written out."""
+    for escape, meant in (("\\n", "\n"), ("\\t", "\t"), ("\\x7f", "\x7f")):
+        text = text.replace(escape, meant)
+    return written_out(text.encode())
+
+
+def written_out(text):
+    """A text in which `{TEXT, N times}` stands for TEXT N times."""
+    return REPEATED.sub(lambda it: it[1] * int(it[2]), text)
 
 
 def write_out(path):
-    """Writes the file that a long one is short for: in it `{TEXT, N times}` stands for the text N times."""
+    """Writes the file that a long one is short for."""
     with open(path, "rb") as file:
-        text = REPEATED.sub(lambda it: it[1] * int(it[2]), file.read())
+        text = written_out(file.read())
     with open(path.removesuffix(".long"), "wb") as file:
         file.write(text)
 

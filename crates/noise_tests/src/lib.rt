@@ -1,5 +1,5 @@
-//! Tests of sessions, of two ends and of vector files, through public calls alone. A crate with tests of its own is proved twice, so they stand above the
-//! crates that they test.
+//! Tests of sessions and of two ends, through public calls alone. A crate with tests of its own is proved twice, so they stand above the crates that they
+//! test.
 #![tactic(auto)]
 
 #[cfg(test)]
