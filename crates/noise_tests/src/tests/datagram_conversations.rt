@@ -1,15 +1,18 @@
 //! Datagrams after a session that opened over frames: the caller has no condition, so what the law on datagrams asks of two ends can be met.
 
-ghost use Rattle.std.specs.Prelude.{◌⊎◌, IfSome};
+ghost use Rattle.std.specs.Prelude.{◌≡◌, ◌⊎◌, IfSome, Some, true};
 ghost use Rattle.noise_events.specs.DatagramEvents.{datagram_events_of};
 ghost use Rattle.noise_events.specs.declared.window.Window.TheVariants.{W64};
 ghost use Rattle.noise_session.specs.Datagrams.{datagrams_of};
+ghost use Rattle.noise_session.specs.EndDatagrams.{is_datagram_ready};
+ghost use Rattle.noise_session.specs.Ends.{hash_in};
 ghost use Rattle.noise_duel.specs.Sides.{Sides};
 ghost use Rattle.noise_conversation.specs.Datagrams.{DatagramsOverNetwork, HistoriesClash};
 
 use super::conversations::{both_keys, pattern};
 use noise_conversation::{run_datagrams, run_events};
-use noise_duel::{Cuts, DatagramDuel, DatagramEvent, DatagramReport, Event};
+use noise_duel::{Cuts, DatagramDuel, DatagramEvent, DatagramReport, Duel, Event};
+use noise_handshake::XorKeys;
 use noise_names::{Role, ValidPattern};
 use noise_session::Window;
 use std::alloc::Global;
@@ -36,22 +39,31 @@ fn over_datagrams(
         0,
         events,
     );
-    let (duel, _report) = match made {
-        Ok(made) => made,
-        Err(_) => return None,
+    let Ok((duel, _)) = made else {
+        return None;
     };
-    let first = duel.initiator().hash()?;
-    let second = duel.responder().hash()?;
-    if first != second {
+    let Some(_hash) = common_hash(&duel) else {
         return None;
-    }
-    let ready = duel.initiator().datagram_ready() && duel.responder().datagram_ready();
-    if !ready {
-        return None;
-    }
+    };
     match run_datagrams(alloc, duel, Window::W64, datagrams) {
         Ok(ran) => Some(ran),
         Err(_) => None,
+    }
+}
+
+// The hash that both ends tell, where it is one and both may go over to datagrams.
+fn common_hash(duel: &Duel<XorKeys, XorKeys>) -> Option<[u8; 32]>
+    ensures first { IfSome result (λ hash. hash_in duel.now.initiator.phase ≡ Some hash) }
+    ensures second { IfSome result (λ hash. hash_in duel.now.responder.phase ≡ Some hash) }
+    ensures ready { IfSome result (λ _. (is_datagram_ready duel.now.initiator ≡ true) × (is_datagram_ready duel.now.responder ≡ true)) }
+{
+    let first = duel.initiator().hash()?;
+    let second = duel.responder().hash()?;
+    let ready = duel.initiator().datagram_ready() && duel.responder().datagram_ready();
+    if ready && first == second {
+        Some(first)
+    } else {
+        None
     }
 }
 
