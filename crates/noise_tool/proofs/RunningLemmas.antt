@@ -1,13 +1,14 @@
 -- The lines after those of the events.
 use Rattle.std.proofs.Common.{◌≡◌, ◌∙◌, ap, ap₂, sym, refl, subst, ◌&&◌, ◌==◌, Bool, true, false, ℕ, List, [], ◌∷◌, ◌++◌, Option, Some, None, Result, Ok, Err, OnOk, length, map, codes, append_assoc}
 use Rattle.noise_names.specs.declared.token.Role.{Role}
+use Rattle.noise_session.specs.Datagrams.{DatagramView}
 use Rattle.noise_session.specs.EndDatagrams.{is_datagram_ready, is_untouched}
 use Rattle.noise_session.specs.Ends.{EndView, HeldEnd, IsToldBy}
 use Rattle.noise_session.specs.Progress.{Progress}
 use Rattle.noise_duel.specs.DatagramNotes.{DatagramNote}
 use Rattle.noise_events.specs.DatagramEvents.{datagram_events_of}
 use Rattle.noise_duel.specs.DatagramRuns.{DatagramRun}
-use Rattle.noise_duel.specs.DatagramSides.{DatagramSides}
+use Rattle.noise_duel.specs.DatagramSides.{DatagramSides, meeting}
 use Rattle.noise_duel.specs.HeldDuel.{HeldDuel}
 use Rattle.noise_duel.specs.Sides.{Sides}
 use Rattle.noise_vectors.specs.VectorText.{window_words}
@@ -49,27 +50,45 @@ pub after-without : {E : Type 0} (given : Option FileDatagrams) (d : Sides) (r :
 after-without given d r old new none h =
     on_ok r _ _ (λ e. (state_lines d, subst (λ (o : Option FileDatagrams). AreLast o d (state_lines d)) (sym none) (without d), e)) h
 
-pub after-unready : {E : Type 0} (given : Option FileDatagrams) (over : FileDatagrams) (d : Sides) (r : Result Unit E) (old one new : List (List ℕ))
-    → given ≡ Some over → are_ready d ≡ false → one ≡ old ++ codes "no-datagrams" ∷ [] → OnOk r (new ≡ one ++ state_lines d)
+pub after-unready : {E : Type 0} (given : Option FileDatagrams) (over : FileDatagrams) (d : Sides) (r : Result Unit E) (old new : List (List ℕ))
+    → given ≡ Some over → are_ready d ≡ false → OnOk r (new ≡ old ++ codes "no-datagrams" ∷ state_lines d)
     → OnOk r ((x : List (List ℕ)) × AreLast given d x × (new ≡ old ++ x))
-after-unready given over d r old one new some not_ready first h =
+after-unready given over d r old new some not_ready h =
     on_ok r _ _ (λ e. (
       codes "no-datagrams" ∷ state_lines d,
       subst (λ (o : Option FileDatagrams). AreLast o d (codes "no-datagrams" ∷ state_lines d)) (sym some) (unready over d not_ready),
-      e ∙ ap (λ (t : List (List ℕ)). t ++ state_lines d) first ∙ append_assoc old (codes "no-datagrams" ∷ []) (state_lines d),
+      e,
     )) h
 
-pub after-ready : {E : Type 0} (given : Option FileDatagrams) (over : FileDatagrams) (d : Sides) (notes : List (Role × DatagramNote))
-    (last : DatagramSides) (r : Result Unit E) (old one two new : List (List ℕ)) → given ≡ Some over → are_ready d ≡ true
-    → DatagramRun (gone_over d over.window) (datagram_events_of over.events.items) notes last
-    → one ≡ old ++ window_words over.window ∷ [] → two ≡ one ++ map datagram_line notes → OnOk r (new ≡ two ++ datagram_state_lines last)
+pub after-ready : {E : Type 0} (given : Option FileDatagrams) (over : FileDatagrams) (d : Sides) (r : Result Unit E) (old new : List (List ℕ))
+    → given ≡ Some over → are_ready d ≡ true
+    → OnOk r ((notes : List (Role × DatagramNote)) × (last : DatagramSides)
+    × DatagramRun (gone_over d over.window) (datagram_events_of over.events.items) notes last
+    × (new ≡ old ++ window_words over.window ∷ (map datagram_line notes ++ datagram_state_lines last)))
     → OnOk r ((x : List (List ℕ)) × AreLast given d x × (new ≡ old ++ x))
-after-ready given over d notes last r old one two new some are run first more h =
-    let lines : List (List ℕ) = window_words over.window ∷ (map datagram_line notes ++ datagram_state_lines last) in
+after-ready given over d r old new some are h =
+    on_ok r _ _ (λ x.
+      let lines : List (List ℕ) = window_words over.window ∷ (map datagram_line x.0 ++ datagram_state_lines x.1) in
+      (lines, subst (λ (o : Option FileDatagrams). AreLast o d lines) (sym some) (ready over d x.0 x.1 are x.2), x.3)) h
+
+-- the line of the window, those of the datagrams, and the states
+pub after-window : {E : Type 0} (over : FileDatagrams) (v w : DatagramView) (notes : List (Role × DatagramNote)) (last : DatagramSides) (r : Result Unit E)
+    (old one two new : List (List ℕ)) → DatagramRun (meeting v w) (datagram_events_of over.events.items) notes last
+    → one ≡ old ++ window_words over.window ∷ [] → two ≡ one ++ map datagram_line notes → OnOk r (new ≡ two ++ datagram_state_lines last)
+    → OnOk r ((notes : List (Role × DatagramNote)) × (last : DatagramSides) × DatagramRun (meeting v w) (datagram_events_of over.events.items) notes last
+    × (new ≡ old ++ window_words over.window ∷ (map datagram_line notes ++ datagram_state_lines last)))
+after-window over v w notes last r old one two new run first more h =
     on_ok r _ _ (λ e. (
-      lines,
-      subst (λ (o : Option FileDatagrams). AreLast o d lines) (sym some) (ready over d notes last are run),
+      notes,
+      last,
+      run,
       e ∙ ap (λ (t : List (List ℕ)). t ++ datagram_state_lines last) (more ∙ ap (λ (t : List (List ℕ)). t ++ map datagram_line notes) first)
           ∙ append_assoc (old ++ window_words over.window ∷ []) (map datagram_line notes) (datagram_state_lines last)
           ∙ append_assoc old (window_words over.window ∷ []) (map datagram_line notes ++ datagram_state_lines last),
     )) h
+
+-- the line of ends that don't go over, and the states
+pub after-word : {E : Type 0} (d : Sides) (r : Result Unit E) (old one new : List (List ℕ)) → one ≡ old ++ codes "no-datagrams" ∷ []
+    → OnOk r (new ≡ one ++ state_lines d) → OnOk r (new ≡ old ++ codes "no-datagrams" ∷ state_lines d)
+after-word d r old one new first h =
+    on_ok r _ _ (λ e. e ∙ ap (λ (t : List (List ℕ)). t ++ state_lines d) first ∙ append_assoc old (codes "no-datagrams" ∷ []) (state_lines d)) h

@@ -1,25 +1,35 @@
 //! The run of a vector file.
 
-ghost use Rattle.std.specs.Prelude.{◌≡◌, ◌++◌, ℕ, List, Option, IfErr, IfOk, OnOk};
+ghost use Rattle.std.specs.Prelude.{◌≡◌, ◌++◌, ◌∷◌, [], ℕ, List, Option, IfErr, IfOk, OnOk, codes, map};
 ghost use Rattle.std.specs.List.{All};
+ghost use Rattle.noise_duel.specs.DatagramNotes.{DatagramNote};
+ghost use Rattle.noise_duel.specs.DatagramReports.{DatagramDuelStands};
+ghost use Rattle.noise_duel.specs.DatagramRuns.{DatagramRun};
+ghost use Rattle.noise_duel.specs.DatagramSides.{DatagramSides, meeting};
 ghost use Rattle.noise_duel.specs.HeldDuel.{DuelStands, facing_as};
 ghost use Rattle.noise_duel.specs.Sides.{Sides};
+ghost use Rattle.noise_events.specs.DatagramEvents.{datagram_events_of};
 ghost use Rattle.noise_events.specs.Events.{events_of};
+ghost use Rattle.noise_names.specs.declared.token.Role.{Role};
+ghost use Rattle.noise_session.specs.Datagrams.{DatagramView};
 ghost use Rattle.noise_session.specs.Ends.{EndView};
 ghost use Rattle.noise_vectors.specs.Expectations.{bytes_of};
 ghost use Rattle.noise_vectors.specs.FileKeys.{agreement_of, public_of};
 ghost use Rattle.noise_vectors.specs.VectorFile.{IsAllowed, IsAllowedFile};
+ghost use Rattle.noise_vectors.specs.VectorText.{window_words};
 ghost use Rattle.noise_vectors.specs.declared.vector.AllowedEvents.TheVariants.{SayOnly};
 ghost use Rattle.noise_tool.specs.Ends.{IsStartFault};
 ghost use Rattle.noise_lines.specs.PrintedWords.{AreExpected};
+ghost use Rattle.noise_tool.specs.Printed.{state_lines};
+ghost use Rattle.noise_tool.specs.PrintedDatagrams.{datagram_line, datagram_state_lines};
 ghost use Rattle.noise_tool.specs.Running.{AreLast, IsRunOf, LeavesLines, datagrams_in, expected_in};
 
 use crate::datagram_report::{push_datagram_lines, push_datagram_states};
 use crate::ends::make_ends;
 use crate::report::{entry_lines, push_state_lines};
-use noise_duel::{Duel, Event};
+use noise_duel::{DatagramDuel, Duel, Event};
 use noise_lines::{Fault, Line};
-use noise_session::end_is_told;
+use noise_session::{Window, end_is_told};
 use noise_vectors::{AllowedEvents, FileDatagrams, FileKeys, VectorFile, Version, said_lines};
 use std::alloc::{AllocError, Global};
 
@@ -150,16 +160,49 @@ fn go_over(
         return push_state_lines(alloc, &duel, lines);
     };
     match duel.into_datagrams(over.window) {
-        Ok(duel) => {
-            let line = Line::new(alloc, "datagrams")?.number(over.window.width())?;
-            lines.push(line.into_bytes())?;
-            let (duel, report) = duel.run(alloc, &over.events)?;
-            push_datagram_lines(alloc, &report, lines)?;
-            push_datagram_states(alloc, &duel, lines)
-        }
-        Err(duel) => {
-            lines.push(Line::new(alloc, "no-datagrams")?.into_bytes())?;
-            push_state_lines(alloc, &duel, lines)
-        }
+        Ok(duel) => push_datagrams(alloc, duel, &over, lines),
+        Err(duel) => push_without_datagrams(alloc, &duel, lines),
     }
+}
+
+// Appends the line of two ends that go over to datagrams, the lines of those, and the states after them.
+fn push_datagrams(
+    alloc: Global,
+    duel: DatagramDuel,
+    over: &FileDatagrams,
+    lines: &mut Vec<Vec<u8>>,
+) -> Result<(), AllocError>
+    ensures after { (v w : DatagramView) → DatagramDuelStands duel (meeting v w)
+        → OnOk result ((notes : List (Role × DatagramNote)) × (last : DatagramSides)
+        × DatagramRun (meeting v w) (datagram_events_of over.now.events.items) notes last
+        × (bytes_of lines.new.items ≡ bytes_of lines.old.items ++ window_words over.now.window ∷ (map datagram_line notes ++ datagram_state_lines last))) }
+    ensures printed { AreExpected lines.old.items → OnOk result (AreExpected lines.new.items) }
+{
+    push_window(alloc, over.window, lines)?;
+    let (duel, report) = duel.run(alloc, &over.events)?;
+    push_datagram_lines(alloc, &report, lines)?;
+    push_datagram_states(alloc, &duel, lines)
+}
+
+// Appends the line of two ends that go over to datagrams with this window.
+fn push_window(alloc: Global, window: Window, lines: &mut Vec<Vec<u8>>) -> Result<(), AllocError>
+    ensures lines { OnOk result (bytes_of lines.new.items ≡ bytes_of lines.old.items ++ window_words window ∷ []) }
+    ensures printed { AreExpected lines.old.items → OnOk result (AreExpected lines.new.items) }
+{
+    let line = Line::new(alloc, "datagrams")?.number(window.width())?;
+    Ok(lines.push(line.into_bytes())?)
+}
+
+// Appends the line of two ends that don't go over, and their states.
+fn push_without_datagrams(
+    alloc: Global,
+    duel: &Duel<FileKeys, FileKeys>,
+    lines: &mut Vec<Vec<u8>>,
+) -> Result<(), AllocError>
+    ensures after { (d : Sides) → DuelStands public_of agreement_of public_of agreement_of duel.now d
+        → OnOk result (bytes_of lines.new.items ≡ bytes_of lines.old.items ++ codes "no-datagrams" ∷ state_lines d) }
+    ensures printed { AreExpected lines.old.items → OnOk result (AreExpected lines.new.items) }
+{
+    lines.push(Line::new(alloc, "no-datagrams")?.into_bytes())?;
+    push_state_lines(alloc, duel, lines)
 }
