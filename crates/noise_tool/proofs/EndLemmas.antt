@@ -1,5 +1,5 @@
 -- What two ends of a file start from, and what is reported where a setup is wrong.
-use Rattle.std.proofs.Common.{◌≡◌, ◌∙◌, ◌==◌, ap, sym, refl, subst, ℕ, Bool, true, false, List, length, Option, Some, None}
+use Rattle.std.proofs.Common.{◌≡◌, ◌∙◌, ◌==◌, ◌++◌, ap, sym, refl, subst, ℕ, Bool, true, false, List, length, Option, Some, None}
 use Rattle.std.specs.Prelude.{if◌then◌else◌}
 use Rattle.std.specs.Option.{option_map}
 use Rattle.noise_names.specs.declared.token.Role.{Role}
@@ -17,7 +17,10 @@ use Rattle.noise_lines.specs.declared.faults.Fault.TheVariants.{Setup}
 use Rattle.noise_vectors.specs.declared.file_keys.FileKeys.{FileKeys}
 use Rattle.noise_vectors.specs.declared.vector.VectorFile.{VectorFile}
 use Rattle.noise_vectors.specs.FileKeys.{public_of, agreement_of}
-use Rattle.noise_tool.specs.Ends.{IsPatternOf, IsStartFault, setup_of}
+use Rattle.noise_vectors.specs.SameFile.{SaySame}
+use Rattle.noise_tool.specs.Ends.{IsPatternOf, IsStartFault, known_before, setup_of}
+use Rattle.noise_tool.specs.Tracing.{start_lines_of, start_traces}
+use Rattle.noise_tool.specs.declared.moment_lines.Kept.{Kept}
 
 -- the same start in other words
 pub begun-same : (role : Role) (keys : FileKeys) (plan other : Plan) (prologue text : List ℕ) (remote known : Remote) (secrets psks : List (List ℕ))
@@ -64,6 +67,21 @@ pub both-set-up : (file : VectorFile) (plan : Plan) → setup_of file plan Initi
     → (role : Role) → setup_of file plan role ≡ None
 both-set-up file plan first second Initiator = first
 both-set-up file plan first second Responder = second
+
+-- ---- files that say the same start from the same
+
+pub same-setup : (f g : VectorFile) (plan : Plan) (role : Role) → SaySame f g → setup_of g plan role ≡ setup_of f plan role
+same-setup f g plan Initiator s = rw (s.initiator, s.responder, s.psks) refl
+same-setup f g plan Responder s = rw (s.initiator, s.responder, s.psks) refl
+
+pub same-start : (kept : Kept) (f g : VectorFile) (plan : Plan) → SaySame f g → start_traces kept g plan ≡ start_traces kept f plan
+same-start kept f g plan s =
+    ap (λ (t : List ℕ). lines t g.initiator g.responder) (sym s.prologue) ∙ ap (λ (k : FileKeys). lines f.prologue.items k g.responder) (sym s.initiator)
+    ∙ ap (λ (k : FileKeys). lines f.prologue.items f.initiator k) (sym s.responder) where
+      lines : List ℕ → FileKeys → FileKeys → List (List ℕ)
+      lines text first second =
+          start_lines_of kept Initiator plan text first (known_before plan Responder (public_of second))
+          ++ start_lines_of kept Responder plan text second (known_before plan Initiator (public_of first))
 
 -- ---- the role of an end
 

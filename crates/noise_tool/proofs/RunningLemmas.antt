@@ -68,8 +68,8 @@ pub after-ready : {E : Type 0} (given : Option FileDatagrams) (over : FileDatagr
     → OnOk r ((x : List (List ℕ)) × AreLast given d x × (new ≡ old ++ x))
 after-ready given over d r old new some are h =
     on_ok r _ _ (λ x.
-      let lines : List (List ℕ) = window_words over.window ∷ (map datagram_line x.0 ++ datagram_state_lines x.1) in
-      (lines, subst (λ (o : Option FileDatagrams). AreLast o d lines) (sym some) (ready over d x.0 x.1 are x.2), x.3)) h
+    let lines : List (List ℕ) = window_words over.window ∷ (map datagram_line x.0 ++ datagram_state_lines x.1) in
+    (lines, subst (λ (o : Option FileDatagrams). AreLast o d lines) (sym some) (ready over d x.0 x.1 are x.2), x.3)) h
 
 -- the line of the window, those of the datagrams, and the states
 pub after-window : {E : Type 0} (over : FileDatagrams) (v w : DatagramView) (notes : List (Role × DatagramNote)) (last : DatagramSides) (r : Result Unit E)

@@ -11,10 +11,12 @@ use Rattle.noise_keys.specs.declared.keys.Own.{Own}
 use Rattle.noise_keys.specs.declared.keys.Own.TheVariants.{Ephemeral, Static}
 use Rattle.noise_handshake.specs.declared.remote.Remote.{Remote}
 use Rattle.noise_keys.specs.declared.faults.SetupFault.{SetupFault}
+use Rattle.noise_handshake.specs.Held.{Held}
+use Rattle.noise_handshake.specs.Party.{Stands}
 use Rattle.noise_handshake.specs.Setup.{has_before, setup_fault}
 use Rattle.noise_duel.specs.Conversation.{facing}
 use Rattle.noise_duel.specs.HeldDuel.{HeldDuel, DuelStands}
-use Rattle.noise_duel.specs.Messages.{Start}
+use Rattle.noise_duel.specs.Messages.{Start, begun_as}
 use Rattle.noise_duel.specs.Sides.{Sides}
 use Rattle.noise_vectors.specs.FileKeys.{public_of, agreement_of}
 use Rattle.noise_lines.specs.Named.{IsNamed, IsUnnamed}
@@ -73,6 +75,15 @@ pub record AreEnds (file : VectorFile) (duel : HeldDuel FileKeys FileKeys) : Typ
   pub valid : IsValid plan
   pub set_up : (role : Role) → setup_of file plan role ≡ None
   pub stands : DuelStands public_of agreement_of public_of agreement_of duel (facing_in file plan)
+
+-- the handshakes of both start from it
+pub record AreHandshakes (file : VectorFile) (first second : Held FileKeys) : Type 0 where
+  pub plan : Plan
+  pub pattern : IsPatternOf file.block file.protocol plan
+  pub valid : IsValid plan
+  pub set_up : (role : Role) → setup_of file plan role ≡ None
+  pub initiator : Stands public_of agreement_of first (begun_as plan Initiator (start_of file plan Initiator))
+  pub responder : Stands public_of agreement_of second (begun_as plan Responder (start_of file plan Responder))
 
 -- by a valid pattern of the file, this is wrong with the setups
 abbrev pub HasSetupFault : VectorFile → Role → SetupFault → Plan → Type 0

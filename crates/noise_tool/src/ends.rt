@@ -3,11 +3,15 @@
 ghost use Rattle.std.specs.Prelude.{◌≡◌, ◌≤◌, IfOk, IfErr, false, length};
 ghost use Rattle.std.specs.Option.{option_map};
 ghost use Rattle.std.specs.Result.{result_err};
+ghost use Rattle.noise_duel.specs.HeldDuel.{DuelStands, facing_as};
 ghost use Rattle.noise_names.specs.Validity.{IsValid};
+ghost use Rattle.noise_names.specs.declared.token.Role.TheVariants.{Initiator, Responder};
 ghost use Rattle.noise_handshake.specs.Party.{Stands};
 ghost use Rattle.noise_handshake.specs.Setup.{begun, setup_fault};
+ghost use Rattle.noise_handshake.specs.View.{View};
+ghost use Rattle.noise_session.specs.Ends.{end_of};
 ghost use Rattle.noise_vectors.specs.FileKeys.{agreement_of, public_of};
-ghost use Rattle.noise_tool.specs.Ends.{AreEnds, IsPatternFault, IsPatternOf, IsStartFault, known_before};
+ghost use Rattle.noise_tool.specs.Ends.{AreEnds, AreHandshakes, IsPatternFault, IsPatternOf, IsStartFault, known_before};
 
 use noise_duel::{Duel, Event};
 use noise_handshake::{Handshake, Keys, Own, Remote};
@@ -15,7 +19,17 @@ use noise_lines::{Fault, named_pattern};
 use noise_names::{Pattern, ProtocolName, Role, Token, ValidPattern};
 use noise_session::{End, end_is_told};
 use noise_vectors::{FileKeys, VectorFile, Version};
-use std::alloc::Global;
+use std::alloc::{AllocError, Global};
+
+/// The handshakes of both ends that a file describes, and what the file says beside them.
+#[derive(Drop)]
+pub(crate) struct Beginning {
+    pub initiator: Handshake<FileKeys>,
+    pub responder: Handshake<FileKeys>,
+    pub interval: u64,
+    pub events: Vec<Event>,
+    pub version: Version,
+}
 
 /// The two ends that the file describes, before the first message, the file's events, and its version.
 ///
@@ -28,6 +42,24 @@ pub fn make_ends(
     ensures ends { IfOk result (λ made. AreEnds file made.0) }
     ensures events { IfOk result (λ made. made.1 ≡ file.events) }
     ensures version { IfOk result (λ made. made.2 ≡ file.version) }
+    ensures fault { IfErr result (λ fault. IsStartFault file fault) }
+{
+    let Beginning {
+        initiator,
+        responder,
+        interval,
+        events,
+        version,
+    } = begin(file)?;
+    let duel = duel_of(alloc, initiator, responder, interval)?;
+    Ok((duel, events, version))
+}
+
+// The handshakes of both ends, before the first message. The fault is that of `make_ends`.
+pub(crate) fn begin(file: VectorFile) -> Result<Beginning, Fault>
+    ensures handshakes { IfOk result (λ begun. AreHandshakes file begun.initiator begun.responder) }
+    ensures begins { IfOk result (λ begun. (begun.initiator.ended ≡ false) × (begun.responder.ended ≡ false)) }
+    ensures same { IfOk result (λ begun. (begun.interval ≡ file.interval) × (begun.events ≡ file.events) × (begun.version ≡ file.version)) }
     ensures fault { IfErr result (λ fault. IsStartFault file fault) }
 {
     let VectorFile {
@@ -61,17 +93,36 @@ pub fn make_ends(
         of_initiator,
         &psks,
     )?;
-    let initiator_end = End::new(alloc, first, interval)?;
-    let responder_end = End::new(alloc, second, interval)?;
+    Ok(Beginning {
+        initiator: first,
+        responder: second,
+        interval,
+        events,
+        version,
+    })
+}
+
+// The two ends of these handshakes.
+pub(crate) fn duel_of(
+    alloc: Global,
+    initiator: Handshake<FileKeys>,
+    responder: Handshake<FileKeys>,
+    interval: u64,
+) -> Result<Duel<FileKeys, FileKeys>, AllocError>
+    requires first { initiator.ended ≡ false }
+    requires second { responder.ended ≡ false }
+    requires roles { (v w : View) × Stands public_of agreement_of initiator v × Stands public_of agreement_of responder w × (v.role ≡ Initiator) × (w.role ≡ Responder) }
+    ensures { (v w : View) → Stands public_of agreement_of initiator v → Stands public_of agreement_of responder w
+        → IfOk result (λ duel. DuelStands public_of agreement_of public_of agreement_of duel (facing_as (end_of v interval) (end_of w interval))) }
+{
+    let first = End::new(alloc, initiator, interval)?;
+    let second = End::new(alloc, responder, interval)?;
     end_is_told::<FileKeys>();
-    Ok((Duel::new(initiator_end, responder_end), events, version))
+    Ok(Duel::new(first, second))
 }
 
 // The pattern that a file spells, or else that of its protocol's name.
-pub(crate) fn valid_pattern(
-    block: Option<Pattern>,
-    name: &ProtocolName,
-) -> Result<ValidPattern, Fault>
+fn valid_pattern(block: Option<Pattern>, name: &ProtocolName) -> Result<ValidPattern, Fault>
     ensures pattern { IfOk result (λ pattern. IsPatternOf block name.now pattern) }
     ensures valid { IfOk result (λ pattern. IsValid pattern) }
     ensures fault { IfErr result (λ fault. IsPatternFault block name.now fault) }
@@ -106,7 +157,7 @@ pub(crate) fn known_before(pattern: &Pattern, party: Role, keys: &FileKeys) -> R
 }
 
 // The handshake of one party, before any message.
-pub(crate) fn handshake(
+fn handshake(
     pattern: ValidPattern,
     role: Role,
     prologue: &[u8],

@@ -4,16 +4,16 @@ ghost use Rattle.std.specs.Prelude.{◌≡◌, ◌≤◌, ◌++◌, ℕ, List, N
 ghost use Rattle.noise_handshake.specs.Party.{Stands};
 ghost use Rattle.noise_handshake.specs.Setup.{setup_fault};
 ghost use Rattle.noise_handshake.specs.View.{View};
-ghost use Rattle.noise_names.specs.declared.token.Role.TheVariants.{Initiator, Responder};
+ghost use Rattle.noise_names.specs.declared.token.Role.{Role};
 ghost use Rattle.noise_session.specs.Ends.{end_of};
 ghost use Rattle.noise_vectors.specs.Expectations.{bytes_of};
 ghost use Rattle.noise_vectors.specs.FileKeys.{agreement_of, public_of};
 ghost use Rattle.noise_vectors.specs.SameFile.{SaySame};
-ghost use Rattle.noise_tool.specs.Ends.{IsStartFault};
+ghost use Rattle.noise_tool.specs.Ends.{IsStartFault, setup_of};
 ghost use Rattle.noise_tool.specs.TracedEnds.{AreTracedEnds, TracedStands};
-ghost use Rattle.noise_tool.specs.Tracing.{start_lines_of};
+ghost use Rattle.noise_tool.specs.Tracing.{start_lines_of, start_traces};
 
-use crate::ends::{handshake, known_before, valid_pattern};
+use crate::ends::{Beginning, begin, duel_of, known_before};
 use crate::moment_lines::Kept;
 use crate::trace_lines::push_start_lines;
 use crate::traced_end::TracedEnd;
@@ -21,7 +21,6 @@ use noise_duel::{Duel, Event};
 use noise_handshake::{Handshake, Remote};
 use noise_lines::Fault;
 use noise_names::{Role, ValidPattern};
-use noise_session::{End, end_is_told};
 use noise_session_trace::EndTrace;
 use noise_trace::{Following, start_steps};
 use noise_vectors::{FileKeys, VectorFile, Version};
@@ -60,61 +59,26 @@ pub fn make_traced_ends(
     ensures ends { IfOk result (λ made. AreTracedEnds kept file made) }
     ensures fault { IfErr result (λ fault. IsStartFault file fault) }
 {
-    let VectorFile {
-        protocol,
-        block,
-        prologue,
-        interval,
-        psks,
+    let Beginning {
         initiator,
         responder,
+        interval,
         events,
         version,
-    } = file;
-    let pattern = valid_pattern(block, &protocol)?;
-    let of_initiator = known_before(pattern.pattern(), Role::Initiator, &initiator);
-    let of_responder = known_before(pattern.pattern(), Role::Responder, &responder);
-    let lines = start_lines(
-        alloc,
-        kept,
-        &pattern,
-        &prologue,
-        &initiator,
-        &of_responder,
-        &responder,
-        &of_initiator,
-    )?;
-    let same = pattern.clone()?;
-    let first = handshake(
-        pattern,
-        Role::Initiator,
-        &prologue,
-        initiator,
-        of_responder,
-        &psks,
-    )?;
-    let second = handshake(
-        same,
-        Role::Responder,
-        &prologue,
-        responder,
-        of_initiator,
-        &psks,
-    )?;
+    } = begin(file)?;
+    let lines = start_lines(alloc, kept, initiator.pattern(), &again)?;
     let VectorFile {
         initiator: initiator_keys,
         responder: responder_keys,
         ..
     } = again;
     let ends = TracedEnds {
-        initiator: follow(alloc, &first, initiator_keys, interval),
-        responder: follow(alloc, &second, responder_keys, interval),
+        initiator: follow(alloc, &initiator, initiator_keys, interval),
+        responder: follow(alloc, &responder, responder_keys, interval),
     };
-    let initiator_end = End::new(alloc, first, interval)?;
-    let responder_end = End::new(alloc, second, interval)?;
-    end_is_told::<FileKeys>();
+    let duel = duel_of(alloc, initiator, responder, interval)?;
     Ok(TracedStart {
-        duel: Duel::new(initiator_end, responder_end),
+        duel,
         ends,
         lines,
         events,
@@ -140,32 +104,26 @@ fn follow(
     }
 }
 
-// The lines of the start of both ends, each with its own keys and those that it knows of the other party.
+// The lines of the start of both ends of a file, by this pattern.
 fn start_lines(
     alloc: Global,
     kept: Kept,
     pattern: &ValidPattern,
-    prologue: &[u8],
-    initiator: &FileKeys,
-    of_responder: &Remote,
-    responder: &FileKeys,
-    of_initiator: &Remote,
+    file: &VectorFile,
 ) -> Result<Vec<Vec<u8>>, AllocError>
-    ensures { (secrets : ℕ) → setup_fault pattern.now Initiator (public_of initiator.now) of_responder.now secrets ≡ None
-        → setup_fault pattern.now Responder (public_of responder.now) of_initiator.now secrets ≡ None
-        → IfOk result (λ lines. bytes_of lines.items
-        ≡ start_lines_of kept Initiator pattern.now prologue.now initiator.now of_responder.now
-        ++ start_lines_of kept Responder pattern.now prologue.now responder.now of_initiator.now) }
+    ensures { ((role : Role) → setup_of file.now pattern.now role ≡ None) → IfOk result (λ lines. bytes_of lines.items ≡ start_traces kept file.now pattern.now) }
 {
+    let of_initiator = known_before(pattern.pattern(), Role::Initiator, &file.initiator);
+    let of_responder = known_before(pattern.pattern(), Role::Responder, &file.responder);
     let mut lines = Vec::new(alloc);
     push_start(
         alloc,
         kept,
         pattern,
         Role::Initiator,
-        prologue,
-        initiator,
-        of_responder,
+        &file.prologue,
+        &file.initiator,
+        &of_responder,
         &mut lines,
     )?;
     push_start(
@@ -173,9 +131,9 @@ fn start_lines(
         kept,
         pattern,
         Role::Responder,
-        prologue,
-        responder,
-        of_initiator,
+        &file.prologue,
+        &file.responder,
+        &of_initiator,
         &mut lines,
     )?;
     Ok(lines)

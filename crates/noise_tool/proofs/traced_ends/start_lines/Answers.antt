@@ -1,0 +1,27 @@
+use Rattle.std.proofs.Common.{rules, ◌≡◌, ◌∙◌, ◌++◌, ap, ap₂, ℕ, List, length}
+use Rattle.noise_names.specs.declared.token.Role.TheVariants.{Initiator, Responder}
+use Rattle.noise_names.specs.Plan.{Plan}
+use Rattle.noise_handshake.specs.declared.remote.Remote.{Remote}
+use Rattle.noise_handshake.specs.Setup.{setup_fault}
+use Rattle.noise_vectors.specs.FileKeys.{public_of}
+use Rattle.noise_tool.specs.Ends.{known_before}
+use Rattle.noise_tool.specs.Tracing.{start_lines_of}
+use Rattle.noise_tool.proofs.traced_ends.start_lines.Goals as goal
+
+pub returns : goal.returns
+returns c = λ set_up.
+    let file = c.args.file.now in
+    let plan = c.args.pattern.now in
+    let known : c.known_before-of_responder.result ≡ known_before plan Responder (public_of file.responder) =
+    c.known_before-of_responder.ensures ∙ ap (λ (z : Plan). known_before z Responder (public_of file.responder)) c.pattern-2.ensures.same in
+    let known-2 : c.known_before-of_initiator.result ≡ known_before plan Initiator (public_of file.initiator) =
+    c.known_before-of_initiator.ensures ∙ ap (λ (z : Plan). known_before z Initiator (public_of file.initiator)) c.pattern.ensures.same in
+    let text : c.deref.result.now ≡ file.prologue.items = search rules in
+    let text-2 : c.deref-2.result.now ≡ file.prologue.items = search rules in
+    let first = c.in_ok-push_start.ensures (length file.psks.items)
+    (ap (λ (r : Remote). setup_fault plan Initiator (public_of file.initiator) r (length file.psks.items)) known ∙ set_up Initiator) in
+    let second = c.in_ok-push_start-2.ensures (length file.psks.items)
+    (ap (λ (r : Remote). setup_fault plan Responder (public_of file.responder) r (length file.psks.items)) known-2 ∙ set_up Responder) in
+    second ∙ ap₂ (λ (s t : List (List ℕ)). s ++ t)
+    ((rw c.new-lines.ensures.items at first) ∙ ap₂ (λ (t : List ℕ) (r : Remote). start_lines_of c.args.kept Initiator plan t file.initiator r) text known)
+    (ap₂ (λ (t : List ℕ) (r : Remote). start_lines_of c.args.kept Responder plan t file.responder r) text-2 known-2)
