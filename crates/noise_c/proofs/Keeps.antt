@@ -8,7 +8,7 @@ use Rattle.noise_handshake.specs.declared.faults.ReadFault.{ReadFault}
 use Rattle.noise_handshake.specs.declared.faults.ReadFault.TheVariants as read
 use Rattle.noise_handshake.specs.declared.late_faults.LateUnread.{LateUnread}
 use Rattle.noise_handshake.specs.declared.late_faults.LateUnread.TheVariants as unread
-use Rattle.noise_handshake.specs.Held.{Held, ended_as}
+use Rattle.noise_handshake.specs.Held.{Held, ended_as, message_len_of}
 use Rattle.noise_handshake.specs.Late.{with_later, after_late_unread, IsLateWhole}
 use Rattle.noise_keys.specs.Table.{Table}
 use Rattle.noise_handshake.specs.View.{View, Accepts}
@@ -52,6 +52,12 @@ module _ (old new : NoiseHandshake) (h h2 : Held Table) (p : Plan) (v : View) (o
 pub stands-for : (old : NoiseHandshake) (h : Held Table) (p : Plan) (v : View) → ((q : Plan) → IsPatternOf (text_in old) q → q ≡ h.pattern) → h ≡ held_in h.pattern old → (k : KeepsView old p v)
     → Stands public_in agreement_in (with_later h k.later) v
 stands-for old h p v one same k = subst (λ (z : Held Table). Stands public_in agreement_in (with_later z k.later) v) (ap (λ (q : Plan). held_in q old) (one p k.pattern) ∙ sym same) k.stands
+
+-- how long its message is, if one is due
+pub length-for : (old : NoiseHandshake) (h : Held Table) (p : Plan) (payload : ℕ) → ((q : Plan) → IsPatternOf (text_in old) q → q ≡ h.pattern) → h ≡ held_in h.pattern old
+    → IsPatternOf (text_in old) p → message_len_of (held_in p old) payload ≡ message_len_of h payload
+length-for old h p payload one same named =
+    ap (λ (z : Held Table). message_len_of z payload) (ap (λ (q : Plan). held_in q old) (one p named) ∙ sym same)
 
 -- what keeps a handshake is usable
 pub usable-kept : (new : NoiseHandshake) (h : Held Table) → new.mark ≡ HANDSHAKE → new.text_len ≤ 416 → new.answer_count ≤ 8 → new.secret_count ≤ 9

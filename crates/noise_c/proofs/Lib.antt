@@ -5,3 +5,4 @@ pub mod Named
 pub mod Moved
 pub mod Starts
 pub mod Wants
+pub mod Numbers

@@ -1,58 +1,193 @@
-use Rattle.std.proofs.Common.{◌≡◌, ℕ, refl, ap, subst, ◌∙◌, arith, length, take}
-use Rattle.std.specs.Prelude.{Option, Some, None, Result, Err, MatchOption}
+use Rattle.std.specs.Prelude.{Result, Ok, Err, Option, Some, None, MatchOption}
+use Rattle.std.proofs.Common.{◌≡◌, ◌≤◌, ◌<◌, ℕ, inl, inr, ⊎_elim, refl, ap, sym, subst, ◌∙◌, arith, length, take}
+use Rattle.std.proofs.lemmas.Bool.{false≢true}
+use Rattle.std.proofs.lemmas.Option.{same_Some}
+use Rattle.noise_names.specs.Plan.{Plan}
+use Rattle.noise_keys.specs.Table.{Table}
 use Rattle.noise_handshake.specs.declared.faults.WriteFault.{WriteFault}
 use Rattle.noise_handshake.specs.declared.faults.WriteFault.TheVariants as write
-use Rattle.noise_handshake.specs.Held.{Held, write_fault}
-use Rattle.noise_keys.specs.Table.{Table}
-use Rattle.noise_c.specs.Codes.{write_code}
-use Rattle.noise_c.specs.Kept.{held_in}
-use Rattle.noise_c.proofs.Keeps.{secrets-left, opened, usable-after, was-written, stands-for}
 use Rattle.noise_handshake.specs.declared.late_faults.LateUnwritten.{LateUnwritten}
 use Rattle.noise_handshake.specs.declared.late_faults.LateUnwritten.TheVariants as unwritten
 use Rattle.noise_handshake.specs.declared.late_faults.Want.{Want}
-use Rattle.noise_handshake.specs.Late.{LeavesLateUnwritten, IsLateOfTurn}
-use Rattle.noise_c.specs.Kept.{TellsWant}
-use Rattle.noise_c.proofs.Wants.{writes-answer}
+use Rattle.noise_handshake.specs.declared.late_faults.Want.TheVariants.{Secret}
+use Rattle.noise_handshake.specs.Held.{Held, length_unless, message_len_of, write_fault}
+use Rattle.noise_handshake.specs.Late.{LeavesLateUnwritten, IsLateOfTurn, IsLateWant, WantsSecretToWrite}
+use Rattle.noise_handshake.specs.View.{View}
+use Rattle.noise_c.specs.Codes.{write_code}
+use Rattle.noise_c.specs.Kept.{held_in, text_in, IsPatternOf, KeepsView, TellsWant}
+use Rattle.noise_c.proofs.Keeps.{secrets-left, opened, usable-after, was-written, stands-for, length-for}
+use Rattle.noise_c.proofs.Numbers.{other, above, wants-either, wants-other, wants-above, withheld-within, withheld-above, withheld-below, withheld-agreement}
+use Rattle.noise_c.proofs.Wants.{writes-answer, writes-secret}
 use Rattle.noise_c.proofs.writing.noise_write.Goals as goal
+use goal.{in-Some-message_len+else-needed-out, in_default-message_len}
 
-pub returns-in-Ok-clause-written : goal.returns-in-Ok-clause-written
-returns-in-Ok-clause-written c e p v k =
+pub returns-in_default : goal.returns-in_default
+returns-in_default c = record {
+  unusable = (λ _ u. false≢true (c.in_default.ensures.usable.1 u), λ _. refl);
+  written = other 23 0 refl;
+  stays = other 23 0 refl;
+  len = other 23 0 refl;
+  within = other 23 0 refl;
+  beyond = other 23 0 refl;
+  room = other 23 18 refl;
+  short = λ _ _ _ _ _. inr refl;
+  wanted = other 23 20 refl;
+  wanted_psk = other 23 40 refl;
+  asked = λ u _ _ _ _ _ _ _. absurd (false≢true (c.in_default.ensures.usable.1 u));
+  withheld = λ _. above 23 14 refl;
+  answered = other 23 14 refl;
+  unchanged = λ _. refl;
+  out = λ _ _. refl;
+  codes = inr (inr (inr (inr (inl refl))));
+}
+
+-- a message isn't both longer than the room and within it
+too-long : {A : Type 0} (n room : ℕ) → room < n → n ≤ room → A
+too-long n room more less = absurd (omega (arith, more, less))
+
+-- the only length of a message
+same-len : (o : Option ℕ) (m n : ℕ) → o ≡ Some m → o ≡ Some n → m ≡ n
+same-len o m n e f = same_Some m n (sym e ∙ f)
+
+pub returns-then-needed-out : goal.returns-then-needed-out
+returns-then-needed-out c =
     let old = c.args.kept.now in
     let h = c.in-Some.handshake in
+    let n : ℕ = length c.args.payload.now in
+    let needed : ℕ = c.in-Some-message_len.needed in
+    let len : (p : Plan) → IsPatternOf (text_in old) p → message_len_of (held_in p old) n ≡ Some needed =
+    λ p named. length-for old h p n c.in-Some.ensures.one c.in-Some.ensures.same named ∙ sym c.message_len.ensures ∙ c.in-Some-message_len.is in
+    record {
+      unusable = (other 18 23 refl, λ none. absurd (none (c.in-Some.ensures.usable.0 refl)));
+      written = other 18 0 refl;
+      stays = other 18 0 refl;
+      len = other 18 0 refl;
+      within = other 18 0 refl;
+      beyond = other 18 0 refl;
+      room = λ _. (c.if-needed-out.true, len);
+      short = λ _ _ _ _ _. inl refl;
+      wanted = other 18 20 refl;
+      wanted_psk = other 18 40 refl;
+      asked = λ _ p v k _ m e fits. too-long needed _ c.if-needed-out.true (subst (λ (z : ℕ). z ≤ length c.args.out.now) (same-len _ m needed e (len p k.pattern)) fits);
+      withheld = λ _. above 18 14 refl;
+      answered = other 18 14 refl;
+      unchanged = λ _. refl;
+      out = λ _ _. refl;
+      codes = inr (inr (inl refl));
+    }
+
+-- there is room for the message that is due
+some-fits : (o : Option ℕ) (needed room : ℕ) → o ≡ Some needed → needed ≤ room → (n : ℕ) → o ≡ Some n → n ≤ room
+some-fits o needed room e fits n f = subst (λ (z : ℕ). z ≤ room) (same-len o needed n e f) fits
+
+none-fits : (o : Option ℕ) (room : ℕ) → o ≡ None → (n : ℕ) → o ≡ Some n → n ≤ room
+none-fits o room e n f = cc (sym e ∙ f)
+
+-- nothing is wrong where a message has a length
+due : (o : Option WriteFault) (m n : ℕ) → length_unless o m ≡ Some n → o ≡ None
+due None m n e = refl
+due (Some fault) m n e = cc
+
+ok-err : {A : Type 0} (len : ℕ) (u : LateUnwritten) → ◌≡◌ {A = Result ℕ LateUnwritten} (Ok len) (Err u) → A
+ok-err len u e = cc
+
+want-same : (u : LateUnwritten) (a b : Want) → ◌≡◌ {A = Result ℕ LateUnwritten} (Err u) (Err (unwritten.Wants b)) → u ≡ unwritten.Wants a → a ≡ b
+want-same u a b e f = cc
+
+withheld-not : {A : Type 0} (u : LateUnwritten) (fault : WriteFault) (b : Want) → ◌≡◌ {A = Result ℕ LateUnwritten} (Err u) (Err (unwritten.Wants b)) → u ≡ unwritten.Withheld fault → A
+withheld-not u fault b e f = cc
+
+pub returns-in-Ok : goal.returns-in-Ok
+returns-in-Ok c =
+    let old = c.args.kept.now in
+    let new = c.keep.new.kept in
+    let h = c.in-Some.handshake in
     let h2 = c.write_or_ask.new.self in
+    let n : ℕ = length c.args.payload.now in
+    let usable = c.in-Some.ensures.usable.0 refl in
     let stays : h2.pattern ≡ h.pattern = c.in-Ok.ensures.state.pattern in
-    let same : held_in h2.pattern c.keep.new.kept ≡ h2 =
+    let same : held_in h2.pattern new ≡ h2 =
     c.keep.ensures.same h2 c.progress.ensures.same
     (c.in-Ok.ensures.state.keys ∙ ap (λ (z : Held Table). z.keys) c.in-Some.ensures.same)
     (c.in-Ok.ensures.state.role ∙ ap (λ (z : Held Table). z.role) c.in-Some.ensures.same)
-    (secrets-left c.args.kept.now c.in-Some.handshake h2 c.in-Ok.ensures.state.taken _ (c.in-Some.ensures.usable.0 refl).secrets
+    (secrets-left old h h2 c.in-Ok.ensures.state.taken _ usable.secrets
     c.in-Some.ensures.count c.in-Some.ensures.same c.in-Ok.ensures.state.secrets c.secrets.ensures.same) in
-    let s = opened old c.keep.new.kept h h2 p v c.in-Some.ensures.one c.in-Some.ensures.same stays c.keep.ensures.text same k in
-    let r = c.in-Ok.ensures.writes v k.later s in
-    was-written old c.keep.new.kept h h2 p v c.in-Some.ensures.one c.in-Some.ensures.same stays c.keep.ensures.text same k
-    c.args.payload.now (take c.in-Ok.len c.write_or_ask.new.out) r.0 r.1 r.2
+    record {
+      unusable = (other 0 23 refl, λ none. absurd (none usable));
+      written = λ _ p v k.
+          let s = opened old new h h2 p v c.in-Some.ensures.one c.in-Some.ensures.same stays c.keep.ensures.text same k in
+          let r = c.in-Ok.ensures.writes v k.later s in
+          was-written old new h h2 p v c.in-Some.ensures.one c.in-Some.ensures.same stays c.keep.ensures.text same k
+          c.args.payload.now (take c.in-Ok.len c.write_or_ask.new.out) r.0 r.1 r.2;
+      stays = λ _. usable-after old new h h2 usable c.keep.ensures.mark c.keep.ensures.text_len c.keep.ensures.answers
+          (omega (arith, c.keep.ensures.secrets, c.secrets.ensures.few)) c.keep.ensures.text c.in-Some.ensures.named stays
+          c.progress.ensures.valid same c.progress.ensures.whole;
+      len = λ _ p named. length-for old h p n c.in-Some.ensures.one c.in-Some.ensures.same named ∙ c.in-Ok.ensures.len.0;
+      within = λ _. (refl, c.in-Ok.ensures.len.1);
+      beyond = λ _. c.in-Ok.ensures.beyond;
+      room = other 0 18 refl;
+      short = λ p named m e more.
+          let f : message_len_of h n ≡ Some m = sym (length-for old h p n c.in-Some.ensures.one c.in-Some.ensures.same named) ∙ e in
+          too-long m (length c.args.out.now) more (elim c.match-message_len.branch [
+            | in-Some-message_len+else-needed-out w ↦ some-fits _ _ _ w.in-Some-message_len.is w.if-needed-out.false m (c.message_len.ensures ∙ f)
+            | in_default-message_len w ↦ none-fits _ _ w.in_default-message_len.is m (c.message_len.ensures ∙ f)
+          ]);
+      wanted = other 0 20 refl;
+      wanted_psk = other 0 40 refl;
+      asked = λ _ p v k w m e _.
+          let f : message_len_of h n ≡ Some m = sym (length-for old h p n c.in-Some.ensures.one c.in-Some.ensures.same k.pattern) ∙ e in
+          let s = stands-for old h p v c.in-Some.ensures.one c.in-Some.ensures.same k in
+          let x = subst (λ (i : ℕ). WantsSecretToWrite v i) (sym c.in-Some.ensures.count) w in
+          ok-err c.in-Ok.len _ (c.in-Ok.ensures.asked (due _ _ m f) v k.later s x);
+      withheld = above 10 0 refl;
+      answered = other 0 14 refl;
+      unchanged = above 1 0 refl;
+      out = above 1 0 refl;
+      codes = inl refl;
+    }
 
-pub returns-in-Ok-clause-stays : goal.returns-in-Ok-clause-stays
-returns-in-Ok-clause-stays c e =
-    let h2 = c.write_or_ask.new.self in
-    let same : held_in h2.pattern c.keep.new.kept ≡ h2 =
-    c.keep.ensures.same h2 c.progress.ensures.same
-    (c.in-Ok.ensures.state.keys ∙ ap (λ (z : Held Table). z.keys) c.in-Some.ensures.same)
-    (c.in-Ok.ensures.state.role ∙ ap (λ (z : Held Table). z.role) c.in-Some.ensures.same)
-    (secrets-left c.args.kept.now c.in-Some.handshake h2 c.in-Ok.ensures.state.taken _ (c.in-Some.ensures.usable.0 refl).secrets
-    c.in-Some.ensures.count c.in-Some.ensures.same c.in-Ok.ensures.state.secrets c.secrets.ensures.same) in
-    usable-after c.args.kept.now c.keep.new.kept c.in-Some.handshake h2 (c.in-Some.ensures.usable.0 refl) c.keep.ensures.mark c.keep.ensures.text_len c.keep.ensures.answers
-    (omega (arith, c.keep.ensures.secrets, c.secrets.ensures.few)) c.keep.ensures.text c.in-Some.ensures.named c.in-Ok.ensures.state.pattern
-    c.progress.ensures.valid same c.progress.ensures.whole
-
--- what writing wants is told
-pub returns-in-Err-Wants-clause-wanted : goal.returns-in-Err-Wants-clause-wanted
-returns-in-Err-Wants-clause-wanted c e p v k =
-    let s = stands-for c.args.kept.now c.in-Some.handshake p v c.in-Some.ensures.one c.in-Some.ensures.same k in
-    let n : ℕ = length c.in-Some.handshake.secrets in
-    let r = subst (λ (u : LateUnwritten). LeavesLateUnwritten v n (length c.args.payload.now) u) c.in-Err-Wants.field-0-is (c.in-Err-Wants.ensures.writes v k.later s).0 in
-    writes-answer v n c.in-Err-Wants.want c.tell.new.told c.tell.result
-    (subst (λ (w : Want). TellsWant w c.tell.new.told c.tell.result) c.in-Err-Wants.want-is c.tell.ensures) e r
+pub returns-in-Err-Wants : goal.returns-in-Err-Wants
+returns-in-Err-Wants c =
+    let old = c.args.kept.now in
+    let h = c.in-Some.handshake in
+    let n : ℕ = length c.args.payload.now in
+    let want = c.in-Err-Wants.want in
+    let told = c.tell.new.told in
+    let code : ℕ = c.tell.result in
+    let t : TellsWant want told code = subst (λ (w : Want). TellsWant w told code) c.in-Err-Wants.want-is c.tell.ensures in
+    let leaves : (p : Plan) (v : View) → KeepsView old p v → LeavesLateUnwritten v (length h.secrets) n (unwritten.Wants want) =
+    λ p v k. subst (λ (u : LateUnwritten). LeavesLateUnwritten v (length h.secrets) n u) c.in-Err-Wants.field-0-is
+    (c.in-Err-Wants.ensures.writes v k.later (stands-for old h p v c.in-Some.ensures.one c.in-Some.ensures.same k)).0 in
+    record {
+      unusable = (wants-other want told code 23 t refl refl, λ none. absurd (none (c.in-Some.ensures.usable.0 refl)));
+      written = wants-other want told code 0 t refl refl;
+      stays = wants-other want told code 0 t refl refl;
+      len = wants-other want told code 0 t refl refl;
+      within = wants-other want told code 0 t refl refl;
+      beyond = wants-other want told code 0 t refl refl;
+      room = wants-other want told code 18 t refl refl;
+      short = λ p named m e more.
+          let f : message_len_of h n ≡ Some m = sym (length-for old h p n c.in-Some.ensures.one c.in-Some.ensures.same named) ∙ e in
+          too-long m (length c.args.out.now) more (elim c.match-message_len.branch [
+            | in-Some-message_len+else-needed-out w ↦ some-fits _ _ _ w.in-Some-message_len.is w.if-needed-out.false m (c.message_len.ensures ∙ f)
+            | in_default-message_len w ↦ none-fits _ _ w.in_default-message_len.is m (c.message_len.ensures ∙ f)
+          ]);
+      wanted = λ e p v k. writes-answer v (length h.secrets) want told code t e (leaves p v k);
+      wanted_psk = λ e p v k.
+          let r = writes-secret v (length h.secrets) want told code t e (leaves p v k) in
+          (subst (λ (i : ℕ). WantsSecretToWrite v i) c.in-Some.ensures.count r.0, r.1);
+      asked = λ _ p v k w m e _.
+          let f : message_len_of h n ≡ Some m = sym (length-for old h p n c.in-Some.ensures.one c.in-Some.ensures.same k.pattern) ∙ e in
+          let s = stands-for old h p v c.in-Some.ensures.one c.in-Some.ensures.same k in
+          let x = subst (λ (i : ℕ). WantsSecretToWrite v i) (sym c.in-Some.ensures.count) w in
+          let same : want ≡ Secret h.remote.s = want-same c.in-Err-Wants.field-0 want _ (c.in-Err-Wants.ensures.asked (due _ _ m f) v k.later s x) c.in-Err-Wants.field-0-is in
+          (subst (λ (z : Want). TellsWant z told code) same t).0;
+      withheld = λ _. wants-above want told code 14 t refl refl;
+      answered = wants-other want told code 14 t refl refl;
+      unchanged = λ _. refl;
+      out = λ _ _. c.in-Err-Wants.ensures.asks (subst IsLateWant (sym c.in-Err-Wants.field-0-is) tt);
+      codes = ⊎_elim (λ e. inr (inr (inr (inl e)))) (λ e. inr (inr (inr (inr (inr e))))) (wants-either want told code t);
+    }
 
 -- only for want of an answer something is written
 kept-out : (o : Option WriteFault) (u : LateUnwritten) (fault : WriteFault) (Q : Type 0) → u ≡ unwritten.Withheld fault
@@ -64,8 +199,42 @@ kept-out None u write.TooLong Q e x differs = absurd (subst IsLateOfTurn e x)
 kept-out None u (write.Agreement token) Q e x differs = absurd (differs refl)
 kept-out (Some f) u fault Q e x differs = x.1
 
-pub returns-in-Err-Withheld-clause-out : goal.returns-in-Err-Withheld-clause-out
-returns-in-Err-Withheld-clause-out c some other =
-    kept-out (write_fault c.in-Some.handshake (length c.args.payload.now)) c.in-Err-Withheld.field-0 c.in-Err-Withheld.fault
-    (c.write_or_ask.new.out ≡ c.args.out.now) c.in-Err-Withheld.field-0-is c.in-Err-Withheld.ensures.fault
-    (λ e. other (c.write_code.ensures ∙ ap write_code c.in-Err-Withheld.fault-is ∙ e))
+pub returns-in-Err-Withheld : goal.returns-in-Err-Withheld
+returns-in-Err-Withheld c =
+    let old = c.args.kept.now in
+    let h = c.in-Some.handshake in
+    let n : ℕ = length c.args.payload.now in
+    let fault = c.in-Err-Withheld.fault in
+    let code : ℕ = c.write_code.result in
+    let is : code ≡ write_code fault = c.write_code.ensures ∙ ap write_code c.in-Err-Withheld.fault-is in
+    let leaves : (p : Plan) (v : View) → KeepsView old p v → LeavesLateUnwritten v (length h.secrets) n (unwritten.Withheld fault) =
+    λ p v k. subst (λ (u : LateUnwritten). LeavesLateUnwritten v (length h.secrets) n u) c.in-Err-Withheld.field-0-is
+    (c.in-Err-Withheld.ensures.writes v k.later (stands-for old h p v c.in-Some.ensures.one c.in-Some.ensures.same k)).0 in
+    record {
+      unusable = (withheld-below fault code 23 is refl, λ none. absurd (none (c.in-Some.ensures.usable.0 refl)));
+      written = withheld-above fault code 0 is refl;
+      stays = withheld-above fault code 0 is refl;
+      len = withheld-above fault code 0 is refl;
+      within = withheld-above fault code 0 is refl;
+      beyond = withheld-above fault code 0 is refl;
+      room = withheld-below fault code 18 is refl;
+      short = λ p named m e more.
+          let f : message_len_of h n ≡ Some m = sym (length-for old h p n c.in-Some.ensures.one c.in-Some.ensures.same named) ∙ e in
+          too-long m (length c.args.out.now) more (elim c.match-message_len.branch [
+            | in-Some-message_len+else-needed-out w ↦ some-fits _ _ _ w.in-Some-message_len.is w.if-needed-out.false m (c.message_len.ensures ∙ f)
+            | in_default-message_len w ↦ none-fits _ _ w.in_default-message_len.is m (c.message_len.ensures ∙ f)
+          ]);
+      wanted = withheld-below fault code 20 is refl;
+      wanted_psk = withheld-below fault code 40 is refl;
+      asked = λ _ p v k w m e _.
+          let f : message_len_of h n ≡ Some m = sym (length-for old h p n c.in-Some.ensures.one c.in-Some.ensures.same k.pattern) ∙ e in
+          let s = stands-for old h p v c.in-Some.ensures.one c.in-Some.ensures.same k in
+          let x = subst (λ (i : ℕ). WantsSecretToWrite v i) (sym c.in-Some.ensures.count) w in
+          withheld-not c.in-Err-Withheld.field-0 fault _ (c.in-Err-Withheld.ensures.asked (due _ _ m f) v k.later s x) c.in-Err-Withheld.field-0-is;
+      withheld = λ _ _ p v k. record { fault = fault; code_is = is; withholds = (leaves p v k).0 };
+      answered = λ e p v k. (leaves p v k).1 (withheld-agreement fault (sym is ∙ e));
+      unchanged = λ _. refl;
+      out = λ _ others. kept-out (write_fault h n) c.in-Err-Withheld.field-0 fault (c.write_or_ask.new.out ≡ c.args.out.now)
+          c.in-Err-Withheld.field-0-is c.in-Err-Withheld.ensures.fault (λ e. others (is ∙ e));
+      codes = inr (inl (withheld-within fault code is));
+    }
