@@ -1,5 +1,5 @@
 -- What is kept stands for what the handshake stood for.
-use Rattle.std.proofs.Common.{◌≡◌, ℕ, ◌+◌, ◌-◌, ◌++◌, ◌≤◌, List, length, drop, length-append, drop-drop, ap, sym, subst, ◌∙◌, arith, slice_range}
+use Rattle.std.proofs.Common.{◌≡◌, ℕ, ◌+◌, ◌-◌, ◌++◌, ◌≤◌, List, length, drop, length-append, drop-drop, ap, sym, subst, ◌∙◌, refl, arith, slice_range}
 use Rattle.std.proofs.Math.Seq.{drop-append_seam}
 use Rattle.noise_names.specs.Plan.{Plan}
 use Rattle.noise_names.specs.Validity.{IsValid}
@@ -18,6 +18,7 @@ use Rattle.noise_c.specs.declared.kept.NoiseHandshake.{NoiseHandshake}
 use Rattle.noise_c.specs.Kept.{public_in, agreement_in, text_in, held_in, IsPatternOf, IsUsable, KeepsView, WasRead, WasWritten, WasDeclined}
 use Rattle.noise_c.specs.declared.marks.TheConstants.{HANDSHAKE}
 use Rattle.noise_c.specs.Codes.{read_code, token_in}
+use Rattle.noise_c.proofs.Numbers.{IsPlain}
 
 module _ (old new : NoiseHandshake) (h h2 : Held Table) (p : Plan) (v : View) (one : (q : Plan) → IsPatternOf (text_in old) q → q ≡ h.pattern) (same : h ≡ held_in h.pattern old)
     (stays : h2.pattern ≡ h.pattern) (name : text_in new ≡ text_in old) (kept : held_in h2.pattern new ≡ h2) (k : KeepsView old p v) where
@@ -87,10 +88,42 @@ pub ended-kept : (old new : NoiseHandshake) (h h2 : Held Table) → new ≡ reco
 ended-kept old new h h2 n same e =
     ap (λ (q : Plan). held_in q new) (ap (λ (z : Held Table). z.pattern) e) ∙ ap (held_in h.pattern) n ∙ sym (e ∙ ap (λ (z : Held Table). ended_as z) same)
 
+-- and keeps what a call has left
+pub usable-ended : (old : NoiseHandshake) → IsUsable old → IsUsable (record old { ended = 1 })
+usable-ended old u = record {
+  mark = u.mark;
+  text = u.text;
+  answers = u.answers;
+  secrets = u.secrets;
+  pattern = u.pattern;
+  named = u.named;
+  valid = u.valid;
+  whole = (
+    u.whole.0,
+    record {
+      within = u.whole.1.within;
+      secrets = u.whole.1.secrets;
+      own_e = u.whole.1.own_e;
+      own_s = u.whole.1.own_s;
+      remote_e = u.whole.1.remote_e;
+      remote_s = u.whole.1.remote_s;
+      key = u.whole.1.key;
+      nonce = u.whole.1.nonce;
+    },
+  );
+}
+
 -- a refusal ends it
 pub refused-leaves : (h h2 : Held Table) (u : LateUnread) (fault : ReadFault) (token : ℕ) (cause : Cause) → h2 ≡ after_late_unread h u → u ≡ unread.Declined fault
     → fault ≡ read.Refused token cause → h2 ≡ ended_as h
 refused-leaves h h2 u fault token cause e f g = e ∙ ap (after_late_unread h) (f ∙ ap unread.Declined g)
+
+-- another fault leaves it as it was
+pub plain-leaves : (h h2 : Held Table) (u : LateUnread) (fault : ReadFault) → IsPlain fault → h2 ≡ after_late_unread h u → u ≡ unread.Declined fault → h2 ≡ h
+plain-leaves h h2 u read.NotYourTurn plain e f = e ∙ ap (after_late_unread h) f
+plain-leaves h h2 u read.Done plain e f = e ∙ ap (after_late_unread h) f
+plain-leaves h h2 u read.Ended plain e f = e ∙ ap (after_late_unread h) f
+plain-leaves h h2 u (read.Refused token cause) plain e f = absurd (plain token cause refl)
 
 -- the secrets that are left after a message stand at the same end
 secrets-after : (old : NoiseHandshake) (h h2 : Held Table) (taken : List (List ℕ)) → old.secret_count ≤ 9 → length h.secrets ≡ old.secret_count

@@ -1,13 +1,17 @@
 -- What an answer by number is not.
-use Rattle.std.proofs.Common.{◌≡◌, ◌≤◌, ◌⊎◌, inl, inr, ℕ, true, false, eqb, ltb, sym, subst, refl, arith}
+use Rattle.std.proofs.Common.{◌≡◌, ◌≤◌, ◌<◌, ◌⊎◌, inl, inr, ℕ, true, false, eqb, ltb, sym, subst, refl, arith}
 use Rattle.std.proofs.lemmas.Bool.{eqb-false}
 use borrow.Author.Tests.{ltb-true}
+use Rattle.noise_handshake.specs.declared.faults.Cause.{Cause}
+use Rattle.noise_handshake.specs.declared.faults.Cause.TheVariants.{Short, Tag, Agreement}
+use Rattle.noise_handshake.specs.declared.faults.ReadFault.{ReadFault}
+use Rattle.noise_handshake.specs.declared.faults.ReadFault.TheVariants as read
 use Rattle.noise_handshake.specs.declared.faults.WriteFault.{WriteFault}
 use Rattle.noise_handshake.specs.declared.faults.WriteFault.TheVariants as write
 use Rattle.noise_handshake.specs.declared.late_faults.Want.{Want}
 use Rattle.noise_handshake.specs.Held.{IsAgreement}
 use Rattle.noise_c.specs.declared.kept.NoiseTold.{NoiseTold}
-use Rattle.noise_c.specs.Codes.{write_code}
+use Rattle.noise_c.specs.Codes.{cause_code, read_code, write_code}
 use Rattle.noise_c.specs.Kept.{TellsWant}
 use Rattle.noise_c.proofs.Wants.{want-code}
 
@@ -19,40 +23,46 @@ other code wanted e same = absurd (eqb-false code wanted e same)
 pub above : {A : Type 0} (code last : ℕ) → ltb last code ≡ true → code ≤ last → A
 above code last e within = absurd (omega (arith, ltb-true last code e, within))
 
--- both numbers of a want
+-- a number before all these
+pub not-before : {A : Type 0} (code first wanted : ℕ) → first ≤ code → ltb wanted first ≡ true → code ≡ wanted → A
+not-before code first wanted from low e = absurd (omega (arith, from, ltb-true wanted first low, e))
+
+-- and one after them
+pub not-after : {A : Type 0} (code last wanted : ℕ) → code ≤ last → ltb last wanted ≡ true → code ≡ wanted → A
+not-after code last wanted to high e = absurd (omega (arith, to, ltb-true last wanted high, e))
+
+-- and none of them is within a lower limit
+pub beyond : {A : Type 0} (code first last : ℕ) → first ≤ code → ltb last first ≡ true → code ≤ last → A
+beyond code first last from low within = absurd (omega (arith, from, ltb-true last first low, within))
+
+-- a length isn't both above a limit and within it
+pub too-long : {A : Type 0} (n limit : ℕ) → limit < n → n ≤ limit → A
+too-long n limit more less = absurd (omega (arith, more, less))
+
+-- ---- the numbers of a want
+
 pub wants-either : (want : Want) (told : NoiseTold) (code : ℕ) → TellsWant want told code → (code ≡ 20) ⊎ (code ≡ 40)
 wants-either want told code t = want-code want told code (λ (n : ℕ). (n ≡ 20) ⊎ (n ≡ 40)) t (inl refl) (inr refl)
 
--- no other number
+pub wants-within : (want : Want) (told : NoiseTold) (code : ℕ) → TellsWant want told code → 20 ≤ code
+wants-within want told code t = want-code want told code (λ (n : ℕ). 20 ≤ n) t (omega arith) (omega arith)
+
 pub wants-other : {A : Type 0} (want : Want) (told : NoiseTold) (code wanted : ℕ) → TellsWant want told code → eqb 20 wanted ≡ false → eqb 40 wanted ≡ false
     → code ≡ wanted → A
 wants-other {A} want told code wanted t answer secret =
     want-code want told code (λ (n : ℕ). n ≡ wanted → A) t (other 20 wanted answer) (other 40 wanted secret)
 
--- which are above those of the faults
-pub wants-above : {A : Type 0} (want : Want) (told : NoiseTold) (code last : ℕ) → TellsWant want told code → ltb last 20 ≡ true → ltb last 40 ≡ true
-    → code ≤ last → A
-wants-above {A} want told code last t answer secret =
-    want-code want told code (λ (n : ℕ). n ≤ last → A) t (above 20 last answer) (above 40 last secret)
+-- ---- those of the faults of writing
 
--- the numbers of the faults of writing
-pub write-codes : (fault : WriteFault) → (10 ≤ write_code fault) × (write_code fault ≤ 14)
-write-codes write.Ended = (omega arith, omega arith)
-write-codes write.Done = (omega arith, omega arith)
-write-codes write.NotYourTurn = (omega arith, omega arith)
-write-codes write.TooLong = (omega arith, omega arith)
-write-codes (write.Agreement token) = (omega arith, omega arith)
+withheld-codes : (fault : WriteFault) → (10 ≤ write_code fault) × (write_code fault ≤ 14)
+withheld-codes write.Ended = (omega arith, omega arith)
+withheld-codes write.Done = (omega arith, omega arith)
+withheld-codes write.NotYourTurn = (omega arith, omega arith)
+withheld-codes write.TooLong = (omega arith, omega arith)
+withheld-codes (write.Agreement token) = (omega arith, omega arith)
 
 pub withheld-within : (fault : WriteFault) (code : ℕ) → code ≡ write_code fault → (10 ≤ code) × (code ≤ 14)
-withheld-within fault code is = subst (λ (n : ℕ). (10 ≤ n) × (n ≤ 14)) (sym is) (write-codes fault)
-
--- are above these
-pub withheld-above : {A : Type 0} (fault : WriteFault) (code wanted : ℕ) → code ≡ write_code fault → ltb wanted 10 ≡ true → code ≡ wanted → A
-withheld-above fault code wanted is low e = absurd (omega (arith, write-codes fault, is, ltb-true wanted 10 low, e))
-
--- and below these
-pub withheld-below : {A : Type 0} (fault : WriteFault) (code wanted : ℕ) → code ≡ write_code fault → ltb 14 wanted ≡ true → code ≡ wanted → A
-withheld-below fault code wanted is high e = absurd (omega (arith, write-codes fault, is, ltb-true 14 wanted high, e))
+withheld-within fault code is = subst (λ (n : ℕ). (10 ≤ n) × (n ≤ 14)) (sym is) (withheld-codes fault)
 
 -- the fault of the number of AGREEMENT
 pub withheld-agreement : (fault : WriteFault) → write_code fault ≡ 14 → IsAgreement fault
@@ -61,3 +71,43 @@ withheld-agreement write.Done e = other 12 14 refl e
 withheld-agreement write.NotYourTurn e = other 10 14 refl e
 withheld-agreement write.TooLong e = other 11 14 refl e
 withheld-agreement (write.Agreement token) e = tt
+
+-- ---- those of the faults of reading
+
+refused-codes : (cause : Cause) → (14 ≤ cause_code cause) × (cause_code cause ≤ 16)
+refused-codes Agreement = (omega arith, omega arith)
+refused-codes Short = (omega arith, omega arith)
+refused-codes Tag = (omega arith, omega arith)
+
+-- of a refusal
+pub refused-within : (fault : ReadFault) (code token : ℕ) (cause : Cause) → code ≡ read_code fault → fault ≡ read.Refused token cause → (14 ≤ code) × (code ≤ 16)
+refused-within fault code token cause is e =
+    subst (λ (n : ℕ). (14 ≤ n) × (n ≤ 16)) (sym (subst (λ (f : ReadFault). code ≡ read_code f) e is)) (refused-codes cause)
+
+pub refused-between : {A : Type 0} (code : ℕ) → (14 ≤ code) × (code ≤ 16) → (code ≤ 13) ⊎ (20 ≤ code) → A
+refused-between code within (inl low) = absurd (omega (arith, within, low))
+refused-between code within (inr high) = absurd (omega (arith, within, high))
+
+pub refused-among : (code : ℕ) → (14 ≤ code) × (code ≤ 16) → (12 ≤ code) × (code ≤ 16)
+refused-among code within = (omega (arith, within), within.1)
+
+abbrev pub IsPlain : ReadFault → Type 0
+IsPlain fault = (token : ℕ) (cause : Cause) → fault ≡ read.Refused token cause → ⊥
+
+plain-codes : (fault : ReadFault) → IsPlain fault → (read_code fault ≡ 10) ⊎ ((12 ≤ read_code fault) × (read_code fault ≤ 13))
+plain-codes read.NotYourTurn plain = inl refl
+plain-codes read.Done plain = inr (omega arith, omega arith)
+plain-codes read.Ended plain = inr (omega arith, omega arith)
+plain-codes (read.Refused token cause) plain = absurd (plain token cause refl)
+
+-- of another fault
+pub plain-among : (fault : ReadFault) (code : ℕ) → IsPlain fault → code ≡ read_code fault → (code ≡ 10) ⊎ ((12 ≤ code) × (code ≤ 13))
+plain-among fault code plain is = subst (λ (n : ℕ). (n ≡ 10) ⊎ ((12 ≤ n) × (n ≤ 13))) (sym is) (plain-codes fault plain)
+
+pub plain-within : (code : ℕ) → (code ≡ 10) ⊎ ((12 ≤ code) × (code ≤ 13)) → (10 ≤ code) × (code ≤ 13)
+plain-within code (inl e) = (omega (arith, e), omega (arith, e))
+plain-within code (inr w) = (omega (arith, w), w.1)
+
+pub plain-sort : {A B : Type 0} (code : ℕ) → (code ≡ 10) ⊎ ((12 ≤ code) × (code ≤ 13)) → A ⊎ ((code ≡ 10) ⊎ (((12 ≤ code) × (code ≤ 16)) ⊎ B))
+plain-sort code (inl e) = inr (inl e)
+plain-sort code (inr w) = inr (inr (inl (w.0, omega (arith, w.1))))

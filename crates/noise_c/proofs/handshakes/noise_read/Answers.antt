@@ -1,88 +1,200 @@
 use Rattle.std.specs.Prelude.{Result, Ok, Err}
-use Rattle.std.proofs.Common.{◌≡◌, ℕ, List, length, refl, ap, sym, subst, ◌∙◌, arith}
+use Rattle.std.proofs.Common.{◌≡◌, ◌≤◌, ◌⊎◌, ℕ, List, inl, inr, ⊎_elim, length, refl, ap, sym, subst, ◌∙◌, arith}
+use Rattle.std.proofs.lemmas.Bool.{false≢true}
+use Rattle.noise_keys.specs.Table.{Table}
 use Rattle.noise_handshake.specs.declared.faults.Cause.TheVariants.{Short, Tag, Agreement}
 use Rattle.noise_handshake.specs.declared.faults.ReadFault.{ReadFault}
 use Rattle.noise_handshake.specs.declared.faults.ReadFault.TheVariants as read
-use Rattle.noise_handshake.specs.Late.{with_later, LeavesLateUnread, after_late_declined, WantsSecretToRead}
-use Rattle.noise_handshake.specs.Held.{Held, ended_as}
-use Rattle.noise_keys.specs.Table.{Table}
 use Rattle.noise_handshake.specs.declared.late_faults.LateUnread.{LateUnread}
 use Rattle.noise_handshake.specs.declared.late_faults.LateUnread.TheVariants as unread
 use Rattle.noise_handshake.specs.declared.late_faults.Want.{Want}
 use Rattle.noise_handshake.specs.declared.late_faults.Want.TheVariants.{Secret}
+use Rattle.noise_handshake.specs.Held.{Held, ended_as}
+use Rattle.noise_handshake.specs.Late.{with_later, LeavesLateUnread, after_late_declined, WantsSecretToRead}
 use Rattle.noise_handshake.specs.Party.{Stands, DoesNotRead}
 use Rattle.noise_handshake.specs.View.{View, Refuses}
 use Rattle.noise_c.specs.Codes.{read_code, token_in}
-use Rattle.noise_c.specs.Kept.{public_in, agreement_in, held_in, TellsWant}
-use Rattle.noise_c.proofs.Keeps.{secrets-left, ended-kept, refused-leaves, usable-after, was-declined, opened, was-read, stands-for}
+use Rattle.noise_c.specs.Kept.{public_in, agreement_in, held_in, IsUsable, TellsWant}
+use Rattle.noise_c.proofs.Keeps.{secrets-left, ended-kept, plain-leaves, refused-leaves, usable-after, usable-ended, was-declined, opened, was-read, stands-for}
+use Rattle.noise_c.proofs.Numbers.{IsPlain, other, above, beyond, not-before, not-after, too-long, wants-either, wants-within, wants-other, plain-among, plain-within, plain-sort, refused-within, refused-between, refused-among}
 use Rattle.noise_c.proofs.Wants.{reads-answer, reads-secret}
 use Rattle.noise_c.proofs.handshakes.noise_read.Goals as goal
 
-pub returns-in-Ok-clause-accepted : goal.returns-in-Ok-clause-accepted
-returns-in-Ok-clause-accepted c e p v k =
+pub returns-in_default : goal.returns-in_default
+returns-in_default c =
+    let none : IsUsable c.args.kept.now → ⊥ = λ u. false≢true (c.in_default.ensures.usable.1 u) in
+    record {
+      unusable = (λ _. none, λ _. refl);
+      length = (other 23 24 refl, λ w. absurd (none w.1));
+      accepted = other 23 0 refl;
+      wanted = other 23 20 refl;
+      wanted_psk = other 23 40 refl;
+      asked = λ u _ _ _ _ _ _. absurd (none u);
+      declined = λ _. above 23 16 refl;
+      answered = other 23 14 refl;
+      left = λ _ _. refl;
+      unchanged = λ _. refl;
+      usable = other 23 0 refl;
+      stays = λ u. u;
+      codes = inr (inr (inr (inr (inl refl))));
+    }
+
+pub returns-then-message-gt-MAX_LEN : goal.returns-then-message-gt-MAX_LEN
+returns-then-message-gt-MAX_LEN c =
+    let usable = c.in-Some.ensures.usable.0 refl in
+    let long = c.if-message-gt-MAX_LEN.true in
+    record {
+      unusable = (other 24 23 refl, λ none. absurd (none usable));
+      length = (λ _. (long, usable), λ _. refl);
+      accepted = other 24 0 refl;
+      wanted = other 24 20 refl;
+      wanted_psk = other 24 40 refl;
+      asked = λ _ len _ _ _ _ _. too-long (length c.args.message.now) 65535 long len;
+      declined = λ _. above 24 16 refl;
+      answered = other 24 14 refl;
+      left = λ _ _. refl;
+      unchanged = λ _. refl;
+      usable = other 24 0 refl;
+      stays = λ u. u;
+      codes = inr (inr (inr (inr (inr (inl refl)))));
+    }
+
+ok-err : {A : Type 0} (x : ℕ × ℕ) (u : LateUnread) → ◌≡◌ {A = Result (ℕ × ℕ) LateUnread} (Ok x) (Err u) → A
+ok-err x u e = cc
+
+pub returns-in-Ok : goal.returns-in-Ok
+returns-in-Ok c =
     let old = c.args.kept.now in
+    let new = c.keep.new.kept in
     let h = c.in-Some.handshake in
     let h2 = c.read_or_ask.new.self in
+    let before = c.in-Some.ensures.usable.0 refl in
     let stays : h2.pattern ≡ h.pattern = c.in-Ok.ensures.state.pattern in
-    let same : held_in h2.pattern c.keep.new.kept ≡ h2 =
+    let same : held_in h2.pattern new ≡ h2 =
     c.keep.ensures.same h2 c.progress.ensures.same
     (c.in-Ok.ensures.state.keys ∙ ap (λ (z : Held Table). z.keys) c.in-Some.ensures.same)
     (c.in-Ok.ensures.state.role ∙ ap (λ (z : Held Table). z.role) c.in-Some.ensures.same)
-    (secrets-left c.args.kept.now c.in-Some.handshake h2 c.in-Ok.ensures.state.taken _ (c.in-Some.ensures.usable.0 refl).secrets
+    (secrets-left old h h2 c.in-Ok.ensures.state.taken _ before.secrets
     c.in-Some.ensures.count c.in-Some.ensures.same c.in-Ok.ensures.state.secrets c.secrets.ensures.same) in
-    let s = opened old c.keep.new.kept h h2 p v c.in-Some.ensures.one c.in-Some.ensures.same stays c.keep.ensures.text same k in
-    let r = c.in-Ok.ensures.reads v k.later s in
-    was-read old c.keep.new.kept h h2 p v c.in-Some.ensures.one c.in-Some.ensures.same stays c.keep.ensures.text same k
-    c.args.message.now c.read_or_ask.new.message c.in-Ok.start c.in-Ok.end c.in-Ok.ensures.range.0 r.0 r.1 r.2
+    let usable : IsUsable new = usable-after old new h h2 before c.keep.ensures.mark c.keep.ensures.text_len c.keep.ensures.answers
+    (omega (arith, c.keep.ensures.secrets, c.secrets.ensures.few)) c.keep.ensures.text c.in-Some.ensures.named stays
+    c.progress.ensures.valid same c.progress.ensures.whole in
+    record {
+      unusable = (other 0 23 refl, λ none. absurd (none before));
+      length = (other 0 24 refl, λ w. too-long (length c.args.message.now) 65535 w.0 c.if-message-gt-MAX_LEN.false);
+      accepted = λ _ p v k.
+          let s = opened old new h h2 p v c.in-Some.ensures.one c.in-Some.ensures.same stays c.keep.ensures.text same k in
+          let r = c.in-Ok.ensures.reads v k.later s in
+          was-read old new h h2 p v c.in-Some.ensures.one c.in-Some.ensures.same stays c.keep.ensures.text same k
+          c.args.message.now c.read_or_ask.new.message c.in-Ok.start c.in-Ok.end c.in-Ok.ensures.range.0 r.0 r.1 r.2;
+      wanted = other 0 20 refl;
+      wanted_psk = other 0 40 refl;
+      asked = λ _ _ p v k remote asks.
+          let s = stands-for old h p v c.in-Some.ensures.one c.in-Some.ensures.same k in
+          let w = subst (λ (i : ℕ). WantsSecretToRead v i c.args.message.now remote) (sym c.in-Some.ensures.count) asks in
+          ok-err (c.in-Ok.start, c.in-Ok.end) _ (c.in-Ok.ensures.asked v k.later s remote w);
+      declined = above 10 0 refl;
+      answered = other 0 14 refl;
+      left = λ _. above 1 0 refl;
+      unchanged = above 1 0 refl;
+      usable = λ _. usable;
+      stays = λ _. usable;
+      codes = inl refl;
+    }
 
-pub returns-in-Ok-clause-usable : goal.returns-in-Ok-clause-usable
-returns-in-Ok-clause-usable c e =
-    let h2 = c.read_or_ask.new.self in
-    let same : held_in h2.pattern c.keep.new.kept ≡ h2 =
-    c.keep.ensures.same h2 c.progress.ensures.same
-    (c.in-Ok.ensures.state.keys ∙ ap (λ (z : Held Table). z.keys) c.in-Some.ensures.same)
-    (c.in-Ok.ensures.state.role ∙ ap (λ (z : Held Table). z.role) c.in-Some.ensures.same)
-    (secrets-left c.args.kept.now c.in-Some.handshake h2 c.in-Ok.ensures.state.taken _ (c.in-Some.ensures.usable.0 refl).secrets
-    c.in-Some.ensures.count c.in-Some.ensures.same c.in-Ok.ensures.state.secrets c.secrets.ensures.same) in
-    usable-after c.args.kept.now c.keep.new.kept c.in-Some.handshake h2 (c.in-Some.ensures.usable.0 refl) c.keep.ensures.mark c.keep.ensures.text_len c.keep.ensures.answers
-    (omega (arith, c.keep.ensures.secrets, c.secrets.ensures.few)) c.keep.ensures.text c.in-Some.ensures.named c.in-Ok.ensures.state.pattern
-    c.progress.ensures.valid same c.progress.ensures.whole
+declined-not : {A : Type 0} (u : LateUnread) (fault : ReadFault) (b : Want) → ◌≡◌ {A = Result (ℕ × ℕ) LateUnread} (Err u) (Err (unread.Wants b)) → u ≡ unread.Declined fault → A
+declined-not u fault b e f = cc
 
-pub returns-in-Ok-clause-stays : goal.returns-in-Ok-clause-stays
-returns-in-Ok-clause-stays c u = returns-in-Ok-clause-usable c refl
+-- the fault of that number
+agreement-of : (v : View) (m : List ℕ) (fault : ReadFault) → read_code fault ≡ 14 → DoesNotRead v m fault → (token : ℕ) × Refuses v m token Agreement
+agreement-of v m read.Ended e d = other 13 14 refl e
+agreement-of v m read.Done e d = other 12 14 refl e
+agreement-of v m read.NotYourTurn e d = other 10 14 refl e
+agreement-of v m (read.Refused token Short) e d = other 15 14 refl e
+agreement-of v m (read.Refused token Tag) e d = other 16 14 refl e
+agreement-of v m (read.Refused token Agreement) e d = (token, d)
 
-pub returns-in-Refused-clause-declined : goal.returns-in-Refused-clause-declined
-returns-in-Refused-clause-declined c low high p v k =
+pub returns-in-Refused : goal.returns-in-Refused
+returns-in-Refused c =
     let old = c.args.kept.now in
     let new = record old { ended = 1 } in
     let h = c.in-Some.handshake in
     let h2 = c.read_or_ask.new.self in
-    let over : h2 ≡ ended_as h = refused-leaves h h2 _ c.in-Err-Declined.fault _ _ c.in-Err-Declined.ensures.state c.in-Err-Declined.field-0-is (sym c.in-Err-Declined.fault-is ∙ c.in-Refused.is) in
-    let same : held_in h2.pattern new ≡ h2 = ended-kept old new h h2 refl c.in-Some.ensures.same over in
-    let stays : h2.pattern ≡ h.pattern = ap (λ (z : Held Table). z.pattern) over in
-    let s = opened old new h h2 p v c.in-Some.ensures.one c.in-Some.ensures.same stays refl same k in
-    let r = subst (λ (z : LateUnread). LeavesLateUnread v (length h.secrets) c.args.message.now z × Stands public_in agreement_in (with_later h2 k.later) (after_late_declined v z))
-    c.in-Err-Declined.field-0-is (c.in-Err-Declined.ensures.reads v k.later s) in
-    was-declined old new h h2 p v c.in-Some.ensures.one c.in-Some.ensures.same stays refl same k
-    c.args.message.now c.in-Err-Declined.fault c.read_code-code.result.0 c.read_code-code.result.1
-    (c.read_code-code.ensures.code ∙ ap read_code c.in-Err-Declined.fault-is)
-    (c.read_code-code.ensures.token ∙ ap token_in c.in-Err-Declined.fault-is) r.0.0 r.1
+    let fault = c.in-Err-Declined.fault in
+    let code : ℕ = c.read_code-code.result.0 in
+    let is : code ≡ read_code fault = c.read_code-code.ensures.code ∙ ap read_code c.in-Err-Declined.fault-is in
+    let refused = sym c.in-Err-Declined.fault-is ∙ c.in-Refused.is in
+    let within : (14 ≤ code) × (code ≤ 16) = refused-within fault code _ _ is refused in
+    record {
+      unusable = (not-after code 16 23 within.1 refl, λ none. absurd (none (c.in-Some.ensures.usable.0 refl)));
+      length = (not-after code 16 24 within.1 refl, λ w. too-long (length c.args.message.now) 65535 w.0 c.if-message-gt-MAX_LEN.false);
+      accepted = not-before code 14 0 within.0 refl;
+      wanted = not-after code 16 20 within.1 refl;
+      wanted_psk = not-after code 16 40 within.1 refl;
+      asked = λ _ _ p v k remote asks.
+          let s = stands-for old h p v c.in-Some.ensures.one c.in-Some.ensures.same k in
+          let w = subst (λ (i : ℕ). WantsSecretToRead v i c.args.message.now remote) (sym c.in-Some.ensures.count) asks in
+          declined-not c.in-Err-Declined.field-0 fault (Secret remote) (c.in-Err-Declined.ensures.asked v k.later s remote w) c.in-Err-Declined.field-0-is;
+      declined = λ _ _ p v k.
+          let over : h2 ≡ ended_as h = refused-leaves h h2 _ fault _ _ c.in-Err-Declined.ensures.state c.in-Err-Declined.field-0-is refused in
+          let same : held_in h2.pattern new ≡ h2 = ended-kept old new h h2 refl c.in-Some.ensures.same over in
+          let stays : h2.pattern ≡ h.pattern = ap (λ (z : Held Table). z.pattern) over in
+          let s = opened old new h h2 p v c.in-Some.ensures.one c.in-Some.ensures.same stays refl same k in
+          let r = subst (λ (z : LateUnread). LeavesLateUnread v (length h.secrets) c.args.message.now z × Stands public_in agreement_in (with_later h2 k.later) (after_late_declined v z))
+          c.in-Err-Declined.field-0-is (c.in-Err-Declined.ensures.reads v k.later s) in
+          was-declined old new h h2 p v c.in-Some.ensures.one c.in-Some.ensures.same stays refl same k
+          c.args.message.now fault code c.read_code-code.result.1 is
+          (c.read_code-code.ensures.token ∙ ap token_in c.in-Err-Declined.fault-is) r.0.0 r.1;
+      answered = λ e p v k.
+          let r = c.in-Err-Declined.ensures.reads v k.later (stands-for old h p v c.in-Some.ensures.one c.in-Some.ensures.same k) in
+          let d = subst (λ (u : LateUnread). LeavesLateUnread v (length h.secrets) c.args.message.now u) c.in-Err-Declined.field-0-is r.0 in
+          let why = agreement-of v c.args.message.now fault (sym is ∙ e) d.0 in
+          d.1 why.0 why.1;
+      left = λ outside _. refused-between code within outside;
+      unchanged = λ _. c.in-Err-Declined.ensures.unchanged;
+      usable = not-before code 14 0 within.0 refl;
+      stays = usable-ended old;
+      codes = inr (inr (inl (refused-among code within)));
+    }
 
--- the fault of that number
-agreement-of : (v : View) (m : List ℕ) (fault : ReadFault) → read_code fault ≡ 14 → DoesNotRead v m fault → (token : ℕ) × Refuses v m token Agreement
-agreement-of v m read.Ended e d = absurd (omega (arith, e))
-agreement-of v m read.Done e d = absurd (omega (arith, e))
-agreement-of v m read.NotYourTurn e d = absurd (omega (arith, e))
-agreement-of v m (read.Refused token Short) e d = absurd (omega (arith, e))
-agreement-of v m (read.Refused token Tag) e d = absurd (omega (arith, e))
-agreement-of v m (read.Refused token Agreement) e d = (token, d)
-
-pub returns-in-Refused-clause-answered : goal.returns-in-Refused-clause-answered
-returns-in-Refused-clause-answered c e p v k =
-    let r = c.in-Err-Declined.ensures.reads v k.later (stands-for c.args.kept.now c.in-Some.handshake p v c.in-Some.ensures.one c.in-Some.ensures.same k) in
-    let d = subst (λ (u : LateUnread). LeavesLateUnread v (length c.in-Some.handshake.secrets) c.args.message.now u) c.in-Err-Declined.field-0-is r.0 in
-    let why = agreement-of v c.args.message.now c.in-Err-Declined.fault (sym (ap read_code c.in-Err-Declined.fault-is) ∙ sym c.read_code-code.ensures.code ∙ e) d.0 in
-    d.1 why.0 why.1
+pub returns-in_default-fault : goal.returns-in_default-fault
+returns-in_default-fault c =
+    let old = c.args.kept.now in
+    let h = c.in-Some.handshake in
+    let h2 = c.read_or_ask.new.self in
+    let fault = c.in-Err-Declined.fault in
+    let code : ℕ = c.read_code-code.result.0 in
+    let is : code ≡ read_code fault = c.read_code-code.ensures.code ∙ ap read_code c.in-Err-Declined.fault-is in
+    let plain : IsPlain fault = λ token cause e. c.in_default-fault.not-Refused token cause (c.in-Err-Declined.fault-is ∙ e) in
+    let among : (code ≡ 10) ⊎ ((12 ≤ code) × (code ≤ 13)) = plain-among fault code plain is in
+    let within : (10 ≤ code) × (code ≤ 13) = plain-within code among in
+    record {
+      unusable = (not-after code 13 23 within.1 refl, λ none. absurd (none (c.in-Some.ensures.usable.0 refl)));
+      length = (not-after code 13 24 within.1 refl, λ w. too-long (length c.args.message.now) 65535 w.0 c.if-message-gt-MAX_LEN.false);
+      accepted = not-before code 10 0 within.0 refl;
+      wanted = not-after code 13 20 within.1 refl;
+      wanted_psk = not-after code 13 40 within.1 refl;
+      asked = λ _ _ p v k remote asks.
+          let s = stands-for old h p v c.in-Some.ensures.one c.in-Some.ensures.same k in
+          let w = subst (λ (i : ℕ). WantsSecretToRead v i c.args.message.now remote) (sym c.in-Some.ensures.count) asks in
+          declined-not c.in-Err-Declined.field-0 fault (Secret remote) (c.in-Err-Declined.ensures.asked v k.later s remote w) c.in-Err-Declined.field-0-is;
+      declined = λ _ _ p v k.
+          let as_was : h2 ≡ h = plain-leaves h h2 _ fault plain c.in-Err-Declined.ensures.state c.in-Err-Declined.field-0-is in
+          let same : held_in h2.pattern old ≡ h2 = subst (λ (z : Held Table). held_in z.pattern old ≡ z) (sym as_was) (sym c.in-Some.ensures.same) in
+          let stays : h2.pattern ≡ h.pattern = ap (λ (z : Held Table). z.pattern) as_was in
+          let s = opened old old h h2 p v c.in-Some.ensures.one c.in-Some.ensures.same stays refl same k in
+          let r = subst (λ (z : LateUnread). LeavesLateUnread v (length h.secrets) c.args.message.now z × Stands public_in agreement_in (with_later h2 k.later) (after_late_declined v z))
+          c.in-Err-Declined.field-0-is (c.in-Err-Declined.ensures.reads v k.later s) in
+          was-declined old old h h2 p v c.in-Some.ensures.one c.in-Some.ensures.same stays refl same k
+          c.args.message.now fault code c.read_code-code.result.1 is
+          (c.read_code-code.ensures.token ∙ ap token_in c.in-Err-Declined.fault-is) r.0.0 r.1;
+      answered = not-after code 13 14 within.1 refl;
+      left = λ _ _. refl;
+      unchanged = λ _. c.in-Err-Declined.ensures.unchanged;
+      usable = not-before code 10 0 within.0 refl;
+      stays = λ u. u;
+      codes = plain-sort code among;
+    }
 
 -- what the message wants is told
 pub returns-in-Err-Wants-clause-wanted : goal.returns-in-Err-Wants-clause-wanted
@@ -102,14 +214,8 @@ returns-in-Err-Wants-clause-wanted_psk c e p v k =
     reads-secret v n c.args.message.now c.in-Err-Wants.want c.tell.new.told c.tell.result
     (subst (λ (w : Want). TellsWant w c.tell.new.told c.tell.result) c.in-Err-Wants.want-is c.tell.ensures) e r
 
-ok-err : (x : ℕ × ℕ) (u : LateUnread) → ◌≡◌ {A = Result (ℕ × ℕ) LateUnread} (Ok x) (Err u) → ⊥
-ok-err x u e = cc
-
 want-same : (u : LateUnread) (a b : Want) → ◌≡◌ {A = Result (ℕ × ℕ) LateUnread} (Err u) (Err (unread.Wants b)) → u ≡ unread.Wants a → a ≡ b
 want-same u a b e f = cc
-
-declined-not : (u : LateUnread) (fault : ReadFault) (b : Want) → ◌≡◌ {A = Result (ℕ × ℕ) LateUnread} (Err u) (Err (unread.Wants b)) → u ≡ unread.Declined fault → ⊥
-declined-not u fault b e f = cc
 
 pub returns-in-Err-Wants-clause-asked : goal.returns-in-Err-Wants-clause-asked
 returns-in-Err-Wants-clause-asked c usable len p v k remote asks =
@@ -119,20 +225,48 @@ returns-in-Err-Wants-clause-asked c usable len p v k remote asks =
     want-same c.in-Err-Wants.field-0 c.in-Err-Wants.want (Secret remote) (c.in-Err-Wants.ensures.asked v k.later s remote w) c.in-Err-Wants.field-0-is in
     subst (λ (z : Want). TellsWant z c.tell.new.told c.tell.result) (c.in-Err-Wants.want-is ∙ same) c.tell.ensures
 
-pub returns-in-Ok-clause-asked : goal.returns-in-Ok-clause-asked
-returns-in-Ok-clause-asked c usable len p v k remote asks =
-    let s = stands-for c.args.kept.now c.in-Some.handshake p v c.in-Some.ensures.one c.in-Some.ensures.same k in
-    let w = subst (λ (i : ℕ). WantsSecretToRead v i c.args.message.now remote) (sym c.in-Some.ensures.count) asks in
-    absurd (ok-err (c.in-Ok.start, c.in-Ok.end) (unread.Wants (Secret remote)) (c.in-Ok.ensures.asked v k.later s remote w))
+-- the number of a want is none of these
+pub returns-in-Err-Wants-clause-unusable : goal.returns-in-Err-Wants-clause-unusable
+returns-in-Err-Wants-clause-unusable c = (
+  wants-other c.in-Err-Wants.want c.tell.new.told c.tell.result 23
+      (subst (λ (w : Want). TellsWant w c.tell.new.told c.tell.result) c.in-Err-Wants.want-is c.tell.ensures) refl refl,
+  λ none. absurd (none (c.in-Some.ensures.usable.0 refl)),
+)
 
-pub returns-in-Refused-clause-asked : goal.returns-in-Refused-clause-asked
-returns-in-Refused-clause-asked c usable len p v k remote asks =
-    let s = stands-for c.args.kept.now c.in-Some.handshake p v c.in-Some.ensures.one c.in-Some.ensures.same k in
-    let w = subst (λ (i : ℕ). WantsSecretToRead v i c.args.message.now remote) (sym c.in-Some.ensures.count) asks in
-    absurd (declined-not c.in-Err-Declined.field-0 c.in-Err-Declined.fault (Secret remote) (c.in-Err-Declined.ensures.asked v k.later s remote w) c.in-Err-Declined.field-0-is)
+pub returns-in-Err-Wants-clause-length : goal.returns-in-Err-Wants-clause-length
+returns-in-Err-Wants-clause-length c = (
+  wants-other c.in-Err-Wants.want c.tell.new.told c.tell.result 24
+      (subst (λ (w : Want). TellsWant w c.tell.new.told c.tell.result) c.in-Err-Wants.want-is c.tell.ensures) refl refl,
+  λ w. too-long (length c.args.message.now) 65535 w.0 c.if-message-gt-MAX_LEN.false,
+)
 
-pub returns-in_default-fault-clause-asked : goal.returns-in_default-fault-clause-asked
-returns-in_default-fault-clause-asked c usable len p v k remote asks =
-    let s = stands-for c.args.kept.now c.in-Some.handshake p v c.in-Some.ensures.one c.in-Some.ensures.same k in
-    let w = subst (λ (i : ℕ). WantsSecretToRead v i c.args.message.now remote) (sym c.in-Some.ensures.count) asks in
-    absurd (declined-not c.in-Err-Declined.field-0 c.in-Err-Declined.fault (Secret remote) (c.in-Err-Declined.ensures.asked v k.later s remote w) c.in-Err-Declined.field-0-is)
+pub returns-in-Err-Wants-clause-accepted : goal.returns-in-Err-Wants-clause-accepted
+returns-in-Err-Wants-clause-accepted c =
+    wants-other c.in-Err-Wants.want c.tell.new.told c.tell.result 0
+    (subst (λ (w : Want). TellsWant w c.tell.new.told c.tell.result) c.in-Err-Wants.want-is c.tell.ensures) refl refl
+
+pub returns-in-Err-Wants-clause-declined : goal.returns-in-Err-Wants-clause-declined
+returns-in-Err-Wants-clause-declined c _ low =
+    let from : 20 ≤ c.tell.result = wants-within c.in-Err-Wants.want c.tell.new.told c.tell.result
+    (subst (λ (w : Want). TellsWant w c.tell.new.told c.tell.result) c.in-Err-Wants.want-is c.tell.ensures) in
+    beyond c.tell.result 20 16 from refl low
+
+pub returns-in-Err-Wants-clause-answered : goal.returns-in-Err-Wants-clause-answered
+returns-in-Err-Wants-clause-answered c =
+    wants-other c.in-Err-Wants.want c.tell.new.told c.tell.result 14
+    (subst (λ (w : Want). TellsWant w c.tell.new.told c.tell.result) c.in-Err-Wants.want-is c.tell.ensures) refl refl
+
+pub returns-in-Err-Wants-clause-unchanged : goal.returns-in-Err-Wants-clause-unchanged
+returns-in-Err-Wants-clause-unchanged c =
+    λ _. c.in-Err-Wants.ensures.unchanged
+
+pub returns-in-Err-Wants-clause-usable : goal.returns-in-Err-Wants-clause-usable
+returns-in-Err-Wants-clause-usable c =
+    wants-other c.in-Err-Wants.want c.tell.new.told c.tell.result 0
+    (subst (λ (w : Want). TellsWant w c.tell.new.told c.tell.result) c.in-Err-Wants.want-is c.tell.ensures) refl refl
+
+pub returns-in-Err-Wants-clause-codes : goal.returns-in-Err-Wants-clause-codes
+returns-in-Err-Wants-clause-codes c =
+    ⊎_elim (λ e. inr (inr (inr (inl e)))) (λ e. inr (inr (inr (inr (inr (inr e))))))
+    (wants-either c.in-Err-Wants.want c.tell.new.told c.tell.result
+    (subst (λ (w : Want). TellsWant w c.tell.new.told c.tell.result) c.in-Err-Wants.want-is c.tell.ensures))

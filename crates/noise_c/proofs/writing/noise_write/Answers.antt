@@ -1,5 +1,5 @@
 use Rattle.std.specs.Prelude.{Result, Ok, Err, Option, Some, None, MatchOption}
-use Rattle.std.proofs.Common.{◌≡◌, ◌≤◌, ◌<◌, ℕ, inl, inr, ⊎_elim, refl, ap, sym, subst, ◌∙◌, arith, length, take}
+use Rattle.std.proofs.Common.{◌≡◌, ◌≤◌, ℕ, inl, inr, ⊎_elim, refl, ap, sym, subst, ◌∙◌, arith, length, take}
 use Rattle.std.proofs.lemmas.Bool.{false≢true}
 use Rattle.std.proofs.lemmas.Option.{same_Some}
 use Rattle.noise_names.specs.Plan.{Plan}
@@ -16,7 +16,7 @@ use Rattle.noise_handshake.specs.View.{View}
 use Rattle.noise_c.specs.Codes.{write_code}
 use Rattle.noise_c.specs.Kept.{held_in, text_in, IsPatternOf, KeepsView, TellsWant}
 use Rattle.noise_c.proofs.Keeps.{secrets-left, opened, usable-after, was-written, stands-for, length-for}
-use Rattle.noise_c.proofs.Numbers.{other, above, wants-either, wants-other, wants-above, withheld-within, withheld-above, withheld-below, withheld-agreement}
+use Rattle.noise_c.proofs.Numbers.{other, above, beyond, not-before, not-after, too-long, wants-either, wants-within, wants-other, withheld-within, withheld-agreement}
 use Rattle.noise_c.proofs.Wants.{writes-answer, writes-secret}
 use Rattle.noise_c.proofs.writing.noise_write.Goals as goal
 use goal.{in-Some-message_len+else-needed-out, in_default-message_len}
@@ -40,10 +40,6 @@ returns-in_default c = record {
   out = λ _ _. refl;
   codes = inr (inr (inr (inr (inl refl))));
 }
-
--- a message isn't both longer than the room and within it
-too-long : {A : Type 0} (n room : ℕ) → room < n → n ≤ room → A
-too-long n room more less = absurd (omega (arith, more, less))
 
 -- the only length of a message
 same-len : (o : Option ℕ) (m n : ℕ) → o ≡ Some m → o ≡ Some n → m ≡ n
@@ -182,7 +178,7 @@ returns-in-Err-Wants c =
           let x = subst (λ (i : ℕ). WantsSecretToWrite v i) (sym c.in-Some.ensures.count) w in
           let same : want ≡ Secret h.remote.s = want-same c.in-Err-Wants.field-0 want _ (c.in-Err-Wants.ensures.asked (due _ _ m f) v k.later s x) c.in-Err-Wants.field-0-is in
           (subst (λ (z : Want). TellsWant z told code) same t).0;
-      withheld = λ _. wants-above want told code 14 t refl refl;
+      withheld = λ _. beyond code 20 14 (wants-within want told code t) refl;
       answered = wants-other want told code 14 t refl refl;
       unchanged = λ _. refl;
       out = λ _ _. c.in-Err-Wants.ensures.asks (subst IsLateWant (sym c.in-Err-Wants.field-0-is) tt);
@@ -207,25 +203,26 @@ returns-in-Err-Withheld c =
     let fault = c.in-Err-Withheld.fault in
     let code : ℕ = c.write_code.result in
     let is : code ≡ write_code fault = c.write_code.ensures ∙ ap write_code c.in-Err-Withheld.fault-is in
+    let within : (10 ≤ code) × (code ≤ 14) = withheld-within fault code is in
     let leaves : (p : Plan) (v : View) → KeepsView old p v → LeavesLateUnwritten v (length h.secrets) n (unwritten.Withheld fault) =
     λ p v k. subst (λ (u : LateUnwritten). LeavesLateUnwritten v (length h.secrets) n u) c.in-Err-Withheld.field-0-is
     (c.in-Err-Withheld.ensures.writes v k.later (stands-for old h p v c.in-Some.ensures.one c.in-Some.ensures.same k)).0 in
     record {
-      unusable = (withheld-below fault code 23 is refl, λ none. absurd (none (c.in-Some.ensures.usable.0 refl)));
-      written = withheld-above fault code 0 is refl;
-      stays = withheld-above fault code 0 is refl;
-      len = withheld-above fault code 0 is refl;
-      within = withheld-above fault code 0 is refl;
-      beyond = withheld-above fault code 0 is refl;
-      room = withheld-below fault code 18 is refl;
+      unusable = (not-after code 14 23 within.1 refl, λ none. absurd (none (c.in-Some.ensures.usable.0 refl)));
+      written = not-before code 10 0 within.0 refl;
+      stays = not-before code 10 0 within.0 refl;
+      len = not-before code 10 0 within.0 refl;
+      within = not-before code 10 0 within.0 refl;
+      beyond = not-before code 10 0 within.0 refl;
+      room = not-after code 14 18 within.1 refl;
       short = λ p named m e more.
           let f : message_len_of h n ≡ Some m = sym (length-for old h p n c.in-Some.ensures.one c.in-Some.ensures.same named) ∙ e in
           too-long m (length c.args.out.now) more (elim c.match-message_len.branch [
             | in-Some-message_len+else-needed-out w ↦ some-fits _ _ _ w.in-Some-message_len.is w.if-needed-out.false m (c.message_len.ensures ∙ f)
             | in_default-message_len w ↦ none-fits _ _ w.in_default-message_len.is m (c.message_len.ensures ∙ f)
           ]);
-      wanted = withheld-below fault code 20 is refl;
-      wanted_psk = withheld-below fault code 40 is refl;
+      wanted = not-after code 14 20 within.1 refl;
+      wanted_psk = not-after code 14 40 within.1 refl;
       asked = λ _ p v k w m e _.
           let f : message_len_of h n ≡ Some m = sym (length-for old h p n c.in-Some.ensures.one c.in-Some.ensures.same k.pattern) ∙ e in
           let s = stands-for old h p v c.in-Some.ensures.one c.in-Some.ensures.same k in
@@ -236,5 +233,5 @@ returns-in-Err-Withheld c =
       unchanged = λ _. refl;
       out = λ _ others. kept-out (write_fault h n) c.in-Err-Withheld.field-0 fault (c.write_or_ask.new.out ≡ c.args.out.now)
           c.in-Err-Withheld.field-0-is c.in-Err-Withheld.ensures.fault (λ e. others (is ∙ e));
-      codes = inr (inl (withheld-within fault code is));
+      codes = inr (inl within);
     }
