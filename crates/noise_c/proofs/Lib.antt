@@ -6,3 +6,4 @@ pub mod Moved
 pub mod Starts
 pub mod Wants
 pub mod Numbers
+pub mod Opening

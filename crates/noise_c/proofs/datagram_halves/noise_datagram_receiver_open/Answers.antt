@@ -1,0 +1,69 @@
+use Rattle.std.proofs.Common.{◌≡◌, ℕ, List, inl, inr, refl, ap, sym, subst, ◌∙◌}
+use Rattle.std.specs.Prelude.{Ok}
+use Rattle.std.proofs.lemmas.Bool.{false≢true}
+use Rattle.noise_session.specs.Datagrams.{Opens, accepting, nonce_named}
+use Rattle.noise_session.specs.DatagramHalves.{HeldDatagramReceiver, DatagramReceiverStands}
+use Rattle.noise_c.specs.KeptDatagramHalves.{datagram_receiver_kept_in}
+use Rattle.noise_c.proofs.Numbers.{other, above, not-before}
+use Rattle.noise_c.proofs.Opening.{declined-from, declined-not-struct, declined-among, from-ninth}
+use Rattle.noise_c.proofs.datagram_halves.noise_datagram_receiver_open.Goals as goal
+
+pub returns-in_default : goal.returns-in_default
+returns-in_default c = record {
+  unusable = (λ _. sym c.in_default.ensures.known, λ _. refl);
+  place = other 23 0 refl;
+  opens = other 23 0 refl;
+  declined = λ _ differs. absurd (differs refl);
+  beyond = other 23 0 refl;
+  same = other 23 0 refl;
+  known = other 23 0 refl;
+  unchanged = λ _. (refl, refl, refl);
+  codes = inr (inr (inr (inr (inr (inl refl)))));
+}
+
+-- but for the nonces that were opened it is as it was
+recent-alone : (new left h old : HeldDatagramReceiver) → new ≡ left → left ≡ record h { recent = left.recent } → h ≡ old → new ≡ record old { recent = new.recent }
+recent-alone new left h old e f g =
+    e ∙ f ∙ ap (λ (z : HeldDatagramReceiver). record z { recent = left.recent }) g ∙ ap (λ (z : HeldDatagramReceiver). record old { recent = z.recent }) (sym e)
+
+pub returns-in-Ok : goal.returns-in-Ok
+returns-in-Ok c =
+    let old = c.args.kept.now in
+    let bytes = c.args.datagram.now in
+    let left = c.open_within.new.self in
+    let new = c.kept_datagram_receiver.result in
+    record {
+      unusable = (other 0 23 refl, λ none. absurd (false≢true (sym none ∙ sym c.in-Some.ensures.known)));
+      place = λ _. (refl, c.in-Ok.ensures.len);
+      opens = λ _ v s.
+          let r = c.in-Ok.ensures.opens v (subst (λ (z : HeldDatagramReceiver). DatagramReceiverStands z v) (sym c.in-Some.ensures.same) s) in (
+            subst (λ (payload : List ℕ). Opens v bytes (Ok payload) (accepting v (nonce_named bytes))) (from-ninth c.open_within.new.datagram c.in-Ok.len) r.0,
+            subst (λ (z : HeldDatagramReceiver). DatagramReceiverStands z (accepting v (nonce_named bytes))) (sym c.kept_datagram_receiver.ensures.same) r.1,
+          );
+      declined = above 1 0 refl;
+      beyond = λ _. c.in-Ok.ensures.beyond;
+      same = λ _. recent-alone (datagram_receiver_kept_in new) left c.in-Some.receiver (datagram_receiver_kept_in old) c.kept_datagram_receiver.ensures.same c.in-Ok.ensures.same c.in-Some.ensures.same;
+      known = λ _. c.kept_datagram_receiver.ensures.known;
+      unchanged = above 1 0 refl;
+      codes = inl refl;
+    }
+
+pub returns-in-Err : goal.returns-in-Err
+returns-in-Err c =
+    let code : ℕ = c.datagram_code.result in
+    let from = declined-from c.in-Err.fault code c.datagram_code.ensures in
+    record {
+      unusable = (declined-not-struct c.in-Err.fault code c.datagram_code.ensures, λ none. absurd (false≢true (sym none ∙ sym c.in-Some.ensures.known)));
+      place = not-before code 11 0 from refl;
+      opens = not-before code 11 0 from refl;
+      declined = λ _ _. (
+        c.in-Err.fault,
+        c.datagram_code.ensures,
+        λ v s. c.in-Err.ensures.opens v (subst (λ (z : HeldDatagramReceiver). DatagramReceiverStands z v) (sym c.in-Some.ensures.same) s),
+      );
+      beyond = not-before code 11 0 from refl;
+      same = not-before code 11 0 from refl;
+      known = not-before code 11 0 from refl;
+      unchanged = λ _. (refl, c.in-Err.ensures.unchanged.1, refl);
+      codes = declined-among c.in-Err.fault code c.datagram_code.ensures;
+    }

@@ -1,0 +1,79 @@
+use Rattle.std.proofs.Common.{◌≡◌, ℕ, List, inl, inr, refl, ap, sym, subst, ◌∙◌}
+use Rattle.std.specs.Prelude.{Ok}
+use Rattle.std.proofs.lemmas.Bool.{false≢true}
+use Rattle.noise_session.specs.Datagrams.{HeldDatagrams, DatagramsStand, Opens, accepting, nonce_named}
+use Rattle.noise_c.specs.KeptDatagrams.{datagrams_kept_in}
+use Rattle.noise_c.proofs.Numbers.{other, above, not-before}
+use Rattle.noise_c.proofs.Opening.{declined-from, declined-not-struct, declined-among, from-ninth}
+use Rattle.noise_c.proofs.datagrams.noise_datagrams_open.Goals as goal
+
+pub returns-in_default : goal.returns-in_default
+returns-in_default c = record {
+  unusable = (λ _. sym c.in_default.ensures.known, λ _. refl);
+  place = other 23 0 refl;
+  opens = other 23 0 refl;
+  declined = λ _ differs. absurd (differs refl);
+  beyond = other 23 0 refl;
+  same = other 23 0 refl;
+  tells = other 23 0 refl;
+  known = other 23 0 refl;
+  unchanged = λ _. (refl, refl, refl);
+  codes = inr (inr (inr (inr (inr (inl refl)))));
+}
+
+-- but for the nonces that were opened it is as it was
+recent-alone : (new left h old : HeldDatagrams) → new ≡ left → left ≡ record h { recent = left.recent } → h ≡ old → new ≡ record old { recent = new.recent }
+recent-alone new left h old e f g =
+    e ∙ f ∙ ap (λ (z : HeldDatagrams). record z { recent = left.recent }) g ∙ ap (λ (z : HeldDatagrams). record old { recent = z.recent }) (sym e)
+
+pub returns-in-Ok : goal.returns-in-Ok
+returns-in-Ok c =
+    let old = c.args.kept.now in
+    let bytes = c.args.datagram.now in
+    let left = c.open_within.new.self in
+    let new = c.kept_datagrams.result in
+    record {
+      unusable = (other 0 23 refl, λ none. absurd (false≢true (sym none ∙ sym c.in-Some.ensures.known)));
+      place = λ _. (refl, c.in-Ok.ensures.len);
+      opens = λ _ v s.
+          let r = c.in-Ok.ensures.opens v (subst (λ (z : HeldDatagrams). DatagramsStand z v) (sym c.in-Some.ensures.same) s) in (
+            subst (λ (payload : List ℕ). Opens v bytes (Ok payload) (accepting v (nonce_named bytes))) (from-ninth c.open_within.new.datagram c.in-Ok.len) r.0,
+            subst (λ (z : HeldDatagrams). DatagramsStand z (accepting v (nonce_named bytes))) (sym c.kept_datagrams.ensures.same) r.1,
+          );
+      declined = above 1 0 refl;
+      beyond = λ _. c.in-Ok.ensures.beyond;
+      same = λ _. recent-alone (datagrams_kept_in new) left c.in-Some.datagrams (datagrams_kept_in old) c.kept_datagrams.ensures.same c.in-Ok.ensures.same c.in-Some.ensures.same;
+      tells = λ _. c.kept_datagrams.ensures.told;
+      known = λ _. c.kept_datagrams.ensures.known;
+      unchanged = above 1 0 refl;
+      codes = inl refl;
+    }
+
+pub returns-in-Err-clause-unusable : goal.returns-in-Err-clause-unusable
+returns-in-Err-clause-unusable c =
+    (declined-not-struct c.in-Err.fault c.datagram_code.result c.datagram_code.ensures, λ none. absurd (false≢true (sym none ∙ sym c.in-Some.ensures.known)))
+
+pub returns-in-Err-clause-place : goal.returns-in-Err-clause-place
+returns-in-Err-clause-place c = not-before c.datagram_code.result 11 0 (declined-from c.in-Err.fault c.datagram_code.result c.datagram_code.ensures) refl
+
+pub returns-in-Err-clause-opens : goal.returns-in-Err-clause-opens
+returns-in-Err-clause-opens c = not-before c.datagram_code.result 11 0 (declined-from c.in-Err.fault c.datagram_code.result c.datagram_code.ensures) refl
+
+pub returns-in-Err-clause-declined : goal.returns-in-Err-clause-declined
+returns-in-Err-clause-declined c = λ _ _.
+    (c.in-Err.fault, c.datagram_code.ensures, λ v s. c.in-Err.ensures.opens v (subst (λ (z : HeldDatagrams). DatagramsStand z v) (sym c.in-Some.ensures.same) s))
+
+pub returns-in-Err-clause-beyond : goal.returns-in-Err-clause-beyond
+returns-in-Err-clause-beyond c = not-before c.datagram_code.result 11 0 (declined-from c.in-Err.fault c.datagram_code.result c.datagram_code.ensures) refl
+
+pub returns-in-Err-clause-same : goal.returns-in-Err-clause-same
+returns-in-Err-clause-same c = not-before c.datagram_code.result 11 0 (declined-from c.in-Err.fault c.datagram_code.result c.datagram_code.ensures) refl
+
+pub returns-in-Err-clause-tells : goal.returns-in-Err-clause-tells
+returns-in-Err-clause-tells c = not-before c.datagram_code.result 11 0 (declined-from c.in-Err.fault c.datagram_code.result c.datagram_code.ensures) refl
+
+pub returns-in-Err-clause-known : goal.returns-in-Err-clause-known
+returns-in-Err-clause-known c = not-before c.datagram_code.result 11 0 (declined-from c.in-Err.fault c.datagram_code.result c.datagram_code.ensures) refl
+
+pub returns-in-Err-clause-codes : goal.returns-in-Err-clause-codes
+returns-in-Err-clause-codes c = declined-among c.in-Err.fault c.datagram_code.result c.datagram_code.ensures
