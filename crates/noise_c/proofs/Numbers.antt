@@ -1,4 +1,4 @@
--- What an answer by number is not.
+-- A number that an export answers is none of those that another clause is about.
 use Rattle.std.proofs.Common.{◌≡◌, ◌≤◌, ◌<◌, ◌⊎◌, inl, inr, ℕ, true, false, eqb, ltb, sym, subst, refl, arith}
 use Rattle.std.proofs.lemmas.Bool.{eqb-false}
 use borrow.Author.Tests.{ltb-true}
@@ -15,23 +15,23 @@ use Rattle.noise_c.specs.Codes.{cause_code, read_code, write_code}
 use Rattle.noise_c.specs.Kept.{TellsWant}
 use Rattle.noise_c.proofs.Wants.{want-code}
 
--- two numbers that differ
+-- it is another one
 pub other : {A : Type 0} (code wanted : ℕ) → eqb code wanted ≡ false → code ≡ wanted → A
 other code wanted e same = absurd (eqb-false code wanted e same)
 
--- a number above another
+-- it is above the last one
 pub above : {A : Type 0} (code last : ℕ) → ltb last code ≡ true → code ≤ last → A
 above code last e within = absurd (omega (arith, ltb-true last code e, within))
 
--- a number before all these
+-- it is from the first of its own numbers on, and the other one is before that
 pub not-before : {A : Type 0} (code first wanted : ℕ) → first ≤ code → ltb wanted first ≡ true → code ≡ wanted → A
 not-before code first wanted from low e = absurd (omega (arith, from, ltb-true wanted first low, e))
 
--- and one after them
+-- or up to the last of them, and the other one is after that
 pub not-after : {A : Type 0} (code last wanted : ℕ) → code ≤ last → ltb last wanted ≡ true → code ≡ wanted → A
 not-after code last wanted to high e = absurd (omega (arith, to, ltb-true last wanted high, e))
 
--- and none of them is within a lower limit
+-- the first of its own numbers is already above the last one
 pub beyond : {A : Type 0} (code first last : ℕ) → first ≤ code → ltb last first ≡ true → code ≤ last → A
 beyond code first last from low within = absurd (omega (arith, from, ltb-true last first low, within))
 
@@ -39,20 +39,20 @@ beyond code first last from low within = absurd (omega (arith, from, ltb-true la
 pub too-long : {A : Type 0} (n limit : ℕ) → limit < n → n ≤ limit → A
 too-long n limit more less = absurd (omega (arith, more, less))
 
--- ---- the numbers of a want
+-- ---- the numbers of a want: WANTED and WANTED_PSK
 
 pub wants-either : (want : Want) (told : NoiseTold) (code : ℕ) → TellsWant want told code → (code ≡ 20) ⊎ (code ≡ 40)
 wants-either want told code t = want-code want told code (λ (n : ℕ). (n ≡ 20) ⊎ (n ≡ 40)) t (inl refl) (inr refl)
 
-pub wants-within : (want : Want) (told : NoiseTold) (code : ℕ) → TellsWant want told code → 20 ≤ code
-wants-within want told code t = want-code want told code (λ (n : ℕ). 20 ≤ n) t (omega arith) (omega arith)
+pub wants-from : (want : Want) (told : NoiseTold) (code : ℕ) → TellsWant want told code → 20 ≤ code
+wants-from want told code t = want-code want told code (λ (n : ℕ). 20 ≤ n) t (omega arith) (omega arith)
 
 pub wants-other : {A : Type 0} (want : Want) (told : NoiseTold) (code wanted : ℕ) → TellsWant want told code → eqb 20 wanted ≡ false → eqb 40 wanted ≡ false
     → code ≡ wanted → A
 wants-other {A} want told code wanted t answer secret =
     want-code want told code (λ (n : ℕ). n ≡ wanted → A) t (other 20 wanted answer) (other 40 wanted secret)
 
--- ---- those of the faults of writing
+-- ---- the numbers of the faults of writing
 
 withheld-codes : (fault : WriteFault) → (10 ≤ write_code fault) × (write_code fault ≤ 14)
 withheld-codes write.Ended = (omega arith, omega arith)
@@ -72,14 +72,14 @@ withheld-agreement write.NotYourTurn e = other 10 14 refl e
 withheld-agreement write.TooLong e = other 11 14 refl e
 withheld-agreement (write.Agreement token) e = tt
 
--- ---- those of the faults of reading
+-- ---- the numbers of the faults of reading
 
 refused-codes : (cause : Cause) → (14 ≤ cause_code cause) × (cause_code cause ≤ 16)
 refused-codes Agreement = (omega arith, omega arith)
 refused-codes Short = (omega arith, omega arith)
 refused-codes Tag = (omega arith, omega arith)
 
--- of a refusal
+-- those of a refusal
 pub refused-within : (fault : ReadFault) (code token : ℕ) (cause : Cause) → code ≡ read_code fault → fault ≡ read.Refused token cause → (14 ≤ code) × (code ≤ 16)
 refused-within fault code token cause is e =
     subst (λ (n : ℕ). (14 ≤ n) × (n ≤ 16)) (sym (subst (λ (f : ReadFault). code ≡ read_code f) e is)) (refused-codes cause)
@@ -91,6 +91,7 @@ refused-between code within (inr high) = absurd (omega (arith, within, high))
 pub refused-among : (code : ℕ) → (14 ≤ code) × (code ≤ 16) → (12 ≤ code) × (code ≤ 16)
 refused-among code within = (omega (arith, within), within.1)
 
+-- no refusal
 abbrev pub IsPlain : ReadFault → Type 0
 IsPlain fault = (token : ℕ) (cause : Cause) → fault ≡ read.Refused token cause → ⊥
 
@@ -100,7 +101,7 @@ plain-codes read.Done plain = inr (omega arith, omega arith)
 plain-codes read.Ended plain = inr (omega arith, omega arith)
 plain-codes (read.Refused token cause) plain = absurd (plain token cause refl)
 
--- of another fault
+-- those of a fault that is none
 pub plain-among : (fault : ReadFault) (code : ℕ) → IsPlain fault → code ≡ read_code fault → (code ≡ 10) ⊎ ((12 ≤ code) × (code ≤ 13))
 plain-among fault code plain is = subst (λ (n : ℕ). (n ≡ 10) ⊎ ((12 ≤ n) × (n ≤ 13))) (sym is) (plain-codes fault plain)
 

@@ -16,7 +16,7 @@ use Rattle.noise_handshake.specs.View.{View, Refuses}
 use Rattle.noise_c.specs.Codes.{read_code, token_in}
 use Rattle.noise_c.specs.Kept.{public_in, agreement_in, held_in, IsUsable, TellsWant}
 use Rattle.noise_c.proofs.Keeps.{secrets-left, ended-kept, plain-leaves, refused-leaves, usable-after, usable-ended, was-declined, opened, was-read, stands-for}
-use Rattle.noise_c.proofs.Numbers.{IsPlain, other, above, beyond, not-before, not-after, too-long, wants-either, wants-within, wants-other, plain-among, plain-within, plain-sort, refused-within, refused-between, refused-among}
+use Rattle.noise_c.proofs.Numbers.{IsPlain, other, above, beyond, not-before, not-after, too-long, wants-either, wants-from, wants-other, plain-among, plain-within, plain-sort, refused-within, refused-between, refused-among}
 use Rattle.noise_c.proofs.Wants.{reads-answer, reads-secret}
 use Rattle.noise_c.proofs.handshakes.noise_read.Goals as goal
 
@@ -247,7 +247,7 @@ returns-in-Err-Wants-clause-accepted c =
 
 pub returns-in-Err-Wants-clause-declined : goal.returns-in-Err-Wants-clause-declined
 returns-in-Err-Wants-clause-declined c _ low =
-    let from : 20 ≤ c.tell.result = wants-within c.in-Err-Wants.want c.tell.new.told c.tell.result
+    let from : 20 ≤ c.tell.result = wants-from c.in-Err-Wants.want c.tell.new.told c.tell.result
     (subst (λ (w : Want). TellsWant w c.tell.new.told c.tell.result) c.in-Err-Wants.want-is c.tell.ensures) in
     beyond c.tell.result 20 16 from refl low
 

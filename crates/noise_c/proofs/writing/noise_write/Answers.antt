@@ -16,7 +16,7 @@ use Rattle.noise_handshake.specs.View.{View}
 use Rattle.noise_c.specs.Codes.{write_code}
 use Rattle.noise_c.specs.Kept.{held_in, text_in, IsPatternOf, KeepsView, TellsWant}
 use Rattle.noise_c.proofs.Keeps.{secrets-left, opened, usable-after, was-written, stands-for, length-for}
-use Rattle.noise_c.proofs.Numbers.{other, above, beyond, not-before, not-after, too-long, wants-either, wants-within, wants-other, withheld-within, withheld-agreement}
+use Rattle.noise_c.proofs.Numbers.{other, above, beyond, not-before, not-after, too-long, wants-either, wants-from, wants-other, withheld-within, withheld-agreement}
 use Rattle.noise_c.proofs.Wants.{writes-answer, writes-secret}
 use Rattle.noise_c.proofs.writing.noise_write.Goals as goal
 use goal.{in-Some-message_len+else-needed-out, in_default-message_len}
@@ -178,7 +178,7 @@ returns-in-Err-Wants c =
           let x = subst (λ (i : ℕ). WantsSecretToWrite v i) (sym c.in-Some.ensures.count) w in
           let same : want ≡ Secret h.remote.s = want-same c.in-Err-Wants.field-0 want _ (c.in-Err-Wants.ensures.asked (due _ _ m f) v k.later s x) c.in-Err-Wants.field-0-is in
           (subst (λ (z : Want). TellsWant z told code) same t).0;
-      withheld = λ _. beyond code 20 14 (wants-within want told code t) refl;
+      withheld = λ _. beyond code 20 14 (wants-from want told code t) refl;
       answered = wants-other want told code 14 t refl refl;
       unchanged = λ _. refl;
       out = λ _ _. c.in-Err-Wants.ensures.asks (subst IsLateWant (sym c.in-Err-Wants.field-0-is) tt);
