@@ -80,7 +80,8 @@ refused-codes Short = (omega arith, omega arith)
 refused-codes Tag = (omega arith, omega arith)
 
 -- those of a refusal
-pub refused-within : (fault : ReadFault) (code token : ℕ) (cause : Cause) → code ≡ read_code fault → fault ≡ read.Refused token cause → (14 ≤ code) × (code ≤ 16)
+pub refused-within : (fault : ReadFault) (code token : ℕ) (cause : Cause) → code ≡ read_code fault
+    → fault ≡ read.Refused token cause → (14 ≤ code) × (code ≤ 16)
 refused-within fault code token cause is e =
     subst (λ (n : ℕ). (14 ≤ n) × (n ≤ 16)) (sym (subst (λ (f : ReadFault). code ≡ read_code f) e is)) (refused-codes cause)
 

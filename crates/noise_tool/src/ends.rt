@@ -111,7 +111,8 @@ pub(crate) fn duel_of(
 ) -> Result<Duel<FileKeys, FileKeys>, AllocError>
     requires first { initiator.ended ≡ false }
     requires second { responder.ended ≡ false }
-    requires roles { (v w : View) × Stands public_of agreement_of initiator v × Stands public_of agreement_of responder w × (v.role ≡ Initiator) × (w.role ≡ Responder) }
+    requires roles { (v w : View) × Stands public_of agreement_of initiator v × Stands public_of agreement_of responder w
+        × (v.role ≡ Initiator) × (w.role ≡ Responder) }
     ensures { (v w : View) → Stands public_of agreement_of initiator v → Stands public_of agreement_of responder w
         → IfOk result (λ duel. DuelStands public_of agreement_of public_of agreement_of duel (facing_as (end_of v interval) (end_of w interval))) }
 {

@@ -111,7 +111,8 @@ fn start_lines(
     pattern: &ValidPattern,
     file: &VectorFile,
 ) -> Result<Vec<Vec<u8>>, AllocError>
-    ensures { ((role : Role) → setup_of file.now pattern.now role ≡ None) → IfOk result (λ lines. bytes_of lines.items ≡ start_traces kept file.now pattern.now) }
+    ensures { ((role : Role) → setup_of file.now pattern.now role ≡ None)
+        → IfOk result (λ lines. bytes_of lines.items ≡ start_traces kept file.now pattern.now) }
 {
     let of_initiator = known_before(pattern.pattern(), Role::Initiator, &file.initiator);
     let of_responder = known_before(pattern.pattern(), Role::Responder, &file.responder);

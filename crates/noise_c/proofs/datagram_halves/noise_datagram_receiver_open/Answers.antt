@@ -22,7 +22,8 @@ returns-in_default c = record {
 }
 
 -- but for the nonces that were opened it is as it was
-recent-alone : (new left h old : HeldDatagramReceiver) → new ≡ left → left ≡ record h { recent = left.recent } → h ≡ old → new ≡ record old { recent = new.recent }
+recent-alone : (new left h old : HeldDatagramReceiver) → new ≡ left → left ≡ record h { recent = left.recent } → h ≡ old
+    → new ≡ record old { recent = new.recent }
 recent-alone new left h old e f g =
     e ∙ f ∙ ap (λ (z : HeldDatagramReceiver). record z { recent = left.recent }) g ∙ ap (λ (z : HeldDatagramReceiver). record old { recent = z.recent }) (sym e)
 
@@ -42,7 +43,8 @@ returns-in-Ok c =
           );
       declined = above 1 0 refl;
       beyond = λ _. c.in-Ok.ensures.beyond;
-      same = λ _. recent-alone (datagram_receiver_kept_in new) left c.in-Some.receiver (datagram_receiver_kept_in old) c.kept_datagram_receiver.ensures.same c.in-Ok.ensures.same c.in-Some.ensures.same;
+      same = λ _. recent-alone (datagram_receiver_kept_in new) left c.in-Some.receiver (datagram_receiver_kept_in old)
+          c.kept_datagram_receiver.ensures.same c.in-Ok.ensures.same c.in-Some.ensures.same;
       known = λ _. c.kept_datagram_receiver.ensures.known;
       unchanged = above 1 0 refl;
       codes = inl refl;

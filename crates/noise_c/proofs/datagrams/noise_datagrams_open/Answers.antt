@@ -42,7 +42,8 @@ returns-in-Ok c =
           );
       declined = above 1 0 refl;
       beyond = λ _. c.in-Ok.ensures.beyond;
-      same = λ _. recent-alone (datagrams_kept_in new) left c.in-Some.datagrams (datagrams_kept_in old) c.kept_datagrams.ensures.same c.in-Ok.ensures.same c.in-Some.ensures.same;
+      same = λ _. recent-alone (datagrams_kept_in new) left c.in-Some.datagrams (datagrams_kept_in old)
+          c.kept_datagrams.ensures.same c.in-Ok.ensures.same c.in-Some.ensures.same;
       tells = λ _. c.kept_datagrams.ensures.told;
       known = λ _. c.kept_datagrams.ensures.known;
       unchanged = above 1 0 refl;
@@ -60,8 +61,12 @@ pub returns-in-Err-clause-opens : goal.returns-in-Err-clause-opens
 returns-in-Err-clause-opens c = not-before c.datagram_code.result 11 0 (declined-from c.in-Err.fault c.datagram_code.result c.datagram_code.ensures) refl
 
 pub returns-in-Err-clause-declined : goal.returns-in-Err-clause-declined
-returns-in-Err-clause-declined c = λ _ _.
-    (c.in-Err.fault, c.datagram_code.ensures, λ v s. c.in-Err.ensures.opens v (subst (λ (z : HeldDatagrams). DatagramsStand z v) (sym c.in-Some.ensures.same) s))
+returns-in-Err-clause-declined c = λ _ _. (
+  c.in-Err.fault,
+  c.datagram_code.ensures,
+  λ v s. c.in-Err.ensures.opens v
+      (subst (λ (z : HeldDatagrams). DatagramsStand z v) (sym c.in-Some.ensures.same) s),
+)
 
 pub returns-in-Err-clause-beyond : goal.returns-in-Err-clause-beyond
 returns-in-Err-clause-beyond c = not-before c.datagram_code.result 11 0 (declined-from c.in-Err.fault c.datagram_code.result c.datagram_code.ensures) refl

@@ -102,7 +102,8 @@ returns-in-Ok c =
       codes = inl refl;
     }
 
-declined-not : {A : Type 0} (u : LateUnread) (fault : ReadFault) (b : Want) → ◌≡◌ {A = Result (ℕ × ℕ) LateUnread} (Err u) (Err (unread.Wants b)) → u ≡ unread.Declined fault → A
+declined-not : {A : Type 0} (u : LateUnread) (fault : ReadFault) (b : Want) → ◌≡◌ {A = Result (ℕ × ℕ) LateUnread} (Err u) (Err (unread.Wants b))
+    → u ≡ unread.Declined fault → A
 declined-not u fault b e f = cc
 
 -- the fault of that number
@@ -140,7 +141,8 @@ returns-in-Refused c =
           let same : held_in h2.pattern new ≡ h2 = ended-kept old new h h2 refl c.in-Some.ensures.same over in
           let stays : h2.pattern ≡ h.pattern = ap (λ (z : Held Table). z.pattern) over in
           let s = opened old new h h2 p v c.in-Some.ensures.one c.in-Some.ensures.same stays refl same k in
-          let r = subst (λ (z : LateUnread). LeavesLateUnread v (length h.secrets) c.args.message.now z × Stands public_in agreement_in (with_later h2 k.later) (after_late_declined v z))
+          let r = subst (λ (z : LateUnread). LeavesLateUnread v (length h.secrets) c.args.message.now z
+          × Stands public_in agreement_in (with_later h2 k.later) (after_late_declined v z))
           c.in-Err-Declined.field-0-is (c.in-Err-Declined.ensures.reads v k.later s) in
           was-declined old new h h2 p v c.in-Some.ensures.one c.in-Some.ensures.same stays refl same k
           c.args.message.now fault code c.read_code-code.result.1 is
@@ -183,7 +185,8 @@ returns-in_default-fault c =
           let same : held_in h2.pattern old ≡ h2 = subst (λ (z : Held Table). held_in z.pattern old ≡ z) (sym as_was) (sym c.in-Some.ensures.same) in
           let stays : h2.pattern ≡ h.pattern = ap (λ (z : Held Table). z.pattern) as_was in
           let s = opened old old h h2 p v c.in-Some.ensures.one c.in-Some.ensures.same stays refl same k in
-          let r = subst (λ (z : LateUnread). LeavesLateUnread v (length h.secrets) c.args.message.now z × Stands public_in agreement_in (with_later h2 k.later) (after_late_declined v z))
+          let r = subst (λ (z : LateUnread). LeavesLateUnread v (length h.secrets) c.args.message.now z
+          × Stands public_in agreement_in (with_later h2 k.later) (after_late_declined v z))
           c.in-Err-Declined.field-0-is (c.in-Err-Declined.ensures.reads v k.later s) in
           was-declined old old h h2 p v c.in-Some.ensures.one c.in-Some.ensures.same stays refl same k
           c.args.message.now fault code c.read_code-code.result.1 is

@@ -64,7 +64,8 @@ returns-then-needed-out c =
       short = λ _ _ _ _ _. inl refl;
       wanted = other 18 20 refl;
       wanted_psk = other 18 40 refl;
-      asked = λ _ p v k _ m e fits. too-long needed _ c.if-needed-out.true (subst (λ (z : ℕ). z ≤ length c.args.out.now) (same-len _ m needed e (len p k.pattern)) fits);
+      asked = λ _ p v k _ m e fits. too-long needed _ c.if-needed-out.true
+          (subst (λ (z : ℕ). z ≤ length c.args.out.now) (same-len _ m needed e (len p k.pattern)) fits);
       withheld = λ _. above 18 14 refl;
       answered = other 18 14 refl;
       unchanged = λ _. refl;
@@ -90,7 +91,8 @@ ok-err len u e = cc
 want-same : (u : LateUnwritten) (a b : Want) → ◌≡◌ {A = Result ℕ LateUnwritten} (Err u) (Err (unwritten.Wants b)) → u ≡ unwritten.Wants a → a ≡ b
 want-same u a b e f = cc
 
-withheld-not : {A : Type 0} (u : LateUnwritten) (fault : WriteFault) (b : Want) → ◌≡◌ {A = Result ℕ LateUnwritten} (Err u) (Err (unwritten.Wants b)) → u ≡ unwritten.Withheld fault → A
+withheld-not : {A : Type 0} (u : LateUnwritten) (fault : WriteFault) (b : Want) → ◌≡◌ {A = Result ℕ LateUnwritten} (Err u) (Err (unwritten.Wants b))
+    → u ≡ unwritten.Withheld fault → A
 withheld-not u fault b e f = cc
 
 pub returns-in-Ok : goal.returns-in-Ok
@@ -176,7 +178,8 @@ returns-in-Err-Wants c =
           let f : message_len_of h n ≡ Some m = sym (length-for old h p n c.in-Some.ensures.one c.in-Some.ensures.same k.pattern) ∙ e in
           let s = stands-for old h p v c.in-Some.ensures.one c.in-Some.ensures.same k in
           let x = subst (λ (i : ℕ). WantsSecretToWrite v i) (sym c.in-Some.ensures.count) w in
-          let same : want ≡ Secret h.remote.s = want-same c.in-Err-Wants.field-0 want _ (c.in-Err-Wants.ensures.asked (due _ _ m f) v k.later s x) c.in-Err-Wants.field-0-is in
+          let same : want ≡ Secret h.remote.s = want-same c.in-Err-Wants.field-0 want _
+          (c.in-Err-Wants.ensures.asked (due _ _ m f) v k.later s x) c.in-Err-Wants.field-0-is in
           (subst (λ (z : Want). TellsWant z told code) same t).0;
       withheld = λ _. beyond code 20 14 (wants-from want told code t) refl;
       answered = wants-other want told code 14 t refl refl;

@@ -17,6 +17,7 @@ returns-clause-ends c =
       valid = a.valid;
       set_up = a.set_up;
       stands = subst (λ (i : ℕ). DuelStands public_of agreement_of public_of agreement_of c.in_ok-duel.duel
-          (facing_as (end_of (begun_as a.plan Initiator (start_of file a.plan Initiator)) i) (end_of (begun_as a.plan Responder (start_of file a.plan Responder)) i)))
+          (facing_as (end_of (begun_as a.plan Initiator (start_of file a.plan Initiator)) i)
+          (end_of (begun_as a.plan Responder (start_of file a.plan Responder)) i)))
           c.in_ok-initiator.ensures.same.0 (c.in_ok-duel.ensures _ _ a.initiator a.responder);
     }
