@@ -1,9 +1,9 @@
 -- What sealing and opening make of the bytes of a datagram, and of a view.
-use Rattle.std.proofs.Common.{◌≡◌, ℕ, ◌+◌, ◌-◌, ◌≤◌, Bool, true, false, List, [], ◌∷◌, ◌++◌, length, take, drop, Option, Some, None}
+use Rattle.std.proofs.Common.{◌≡◌, ◌≢◌, ℕ, ◌+◌, ◌-◌, ◌≤◌, ◌<◌, Bool, true, false, List, [], ◌∷◌, ◌++◌, length, take, drop, Option, Some, None}
 use Rattle.std.proofs.Common.{refl, sym, ◌∙◌, ap, subst, arith, length-drop}
 use Rattle.std.specs.Prelude.{◌&&◌, ◌==◌, nat_lt, if◌then◌else◌}
 use Rattle.std.specs.Int.{w64, to_be_bytes}
-use Rattle.std.proofs.lemmas.List.{drop_at, take_at, drop-drop, length-take-le, nil_from_length, append-nil}
+use Rattle.std.proofs.lemmas.List.{take-append-drop, drop_at, take_at, drop-drop, length-take-le, nil_from_length, append-nil}
 use Rattle.std.proofs.Math.Seq.{take-add}
 use borrow.Rule.Slice.PartMut.{put_mid}
 use Rattle.noise_names.specs.declared.token.Role.{Role}
@@ -56,6 +56,25 @@ rest-after-nonce bytes written n long rest =
     ∙ rest
     ∙ drop-drop n 8 bytes
 
+-- nothing but what was there is written after the nonce
+pub nothing-written : (bytes written : List ℕ) → written ≡ take (length bytes - 8) (drop 8 bytes) → put_mid 8 (length bytes - 8) bytes written ≡ bytes
+nothing-written bytes written same =
+    ap (put_mid 8 (length bytes - 8) bytes) same
+    ∙ ap (λ (xs : List ℕ). take 8 bytes ++ xs) (take-append-drop (length bytes - 8) (drop 8 bytes))
+    ∙ take-append-drop 8 bytes
+
+-- a datagram that is long enough has a nonce
+pub has-nonce : (n : ℕ) → 24 ≤ n → 8 ≤ n
+has-nonce n long = omega arith
+
+-- a nonce that isn't the last is below it
+pub below-last : (n : ℕ) → n < last_nonce + 1 → n ≢ last_nonce → n < last_nonce
+below-last n most apart = omega arith
+
+-- so many bytes from the ninth on
+pub payload-there : (n : ℕ) → 8 + n - 8 ≡ n
+payload-there n = omega arith
+
 pub piece-packet : (key : Option (List ℕ)) (n m : ℕ) (r : History) (writer : Role) (payload : List ℕ) → key ≡ Some (split_key r writer) → n ≡ m
     → ciphertext_under key n [] payload ≡ packet r writer 0 m payload
 piece-packet key n m r writer payload keyed same =
@@ -87,7 +106,27 @@ pub young-here : (h : HeldDatagramReceiver) (v : DatagramView) (bytes : List ℕ
 young-here h v bytes n p none same =
     ap (λ (w : ℕ). is_old w v.accepted n) p.width ∙ ap (λ (m : ℕ). is_old v.width v.accepted m) same ∙ (young v bytes none).0
 
+-- the first fault that fits is told, and one that doesn't fit is passed over
+pub first-fault : {X : Type 0} (b : Bool) (x : X) (rest : Option X) → b ≡ true → Some x ≡ (if b then Some x else rest)
+first-fault true x rest e = refl
+first-fault false x rest e = cc
+
+pub later-fault : {X : Type 0} (b : Bool) (x : X) (told rest : Option X) → b ≡ false → told ≡ rest → told ≡ (if b then Some x else rest)
+later-fault true x told rest e same = cc
+later-fault false x told rest e same = same
+
+-- whether nothing comes to the party that a view is of
+pub deaf-view : (h : HeldDatagramReceiver) (v : DatagramView) (deaf : Bool) → DatagramReceiverStands h v → deaf ≡ (h.one_way && same_role h.role Initiator)
+    → (v.one_way && same_role v.role Initiator) ≡ deaf
+deaf-view h v deaf p is = sym (is ∙ ap (λ (b : Bool). b && same_role h.role Initiator) p.one_way ∙ ap (λ (r : Role). v.one_way && same_role r Initiator) p.role)
+
 -- ---- views after a call
+-- only the opened nonces are others
+pub same-but-recent : (h r : HeldDatagramReceiver) (key : Option (List ℕ)) (recent : Ring) → h ≡ r → key ≡ h.key
+    → record h { key = key; recent = recent } ≡ record r { recent = recent }
+same-but-recent h r key recent is same =
+    ap (λ (k : Option (List ℕ)). record h { key = k; recent = recent }) same ∙ ap (λ (x : HeldDatagramReceiver). record x { recent = recent }) is
+
 pub half-sealed : (h : HeldDatagramSender) (v : DatagramView) (key : Option (List ℕ)) (nonce : ℕ) → DatagramSenderStands h v → key ≡ h.key → nonce ≡ h.nonce + 1
     → DatagramSenderStands (record h { key = key; nonce = nonce }) (record v { sent = v.sent + 1 })
 half-sealed h v key nonce p same more = record {

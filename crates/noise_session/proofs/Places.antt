@@ -77,10 +77,3 @@ room-after out m from room low =
 pub two-left : (out written : List ℕ) → 2 ≤ length out → 2 ≤ length (put_mid 2 (length out - 2) out written)
 two-left out written two =
     omega (arith, length-append (take 2 out) (written ++ drop (length out - 2) (drop 2 out)), length-take-le 2 out two)
-
--- the part of a buffer that is handed out, after its first two bytes
-pub handed-out : (xs lent : List ℕ) (from to : ℕ) → lent ≡ xs → slice_range (drop 2 xs) from to ≡ take (2 + to - (2 + from)) (drop (2 + from) lent)
-handed-out xs lent from to is =
-    let count : to - from ≡ 2 + to - (2 + from) = omega arith in
-    ap (take (to - from)) (drop-drop from 2 xs)
-    ∙ (ap (λ (k : ℕ). take k (drop (2 + from) xs)) count ∙ ap (λ (l : List ℕ). take (2 + to - (2 + from)) (drop (2 + from) l)) (sym is))

@@ -1,7 +1,9 @@
 //! The receiving half of datagrams (Noise, 11.4).
 #![tactic(auto)]
 
-ghost use Rattle.std.specs.Prelude.{◌≡◌, ◌≢◌, ◌≤◌, ◌<◌, ◌+◌, length, take, drop, is_some, true, Ok, Err, IsSome, IfSome, IfOk, IfNone, OnErr, MatchResult};
+ghost use Rattle.std.specs.Prelude.{◌≡◌, ◌≢◌, ◌≤◌, ◌<◌, ◌+◌, ◌&&◌, length, take, drop, is_some, true, Ok, Err, IsSome, IfSome, IfOk, IfNone, OnErr, MatchResult};
+ghost use Rattle.noise_names.specs.declared.token.Role.TheVariants.{Initiator};
+ghost use Rattle.noise_names.specs.Tokens.{same_role};
 ghost use Rattle.noise_state.specs.Cipher.{key_in};
 ghost use Rattle.noise_events.specs.Windows.{width_of};
 ghost use Rattle.noise_session.specs.Transport.{last_nonce};
@@ -117,13 +119,20 @@ impl DatagramReceiver {
         })
     }
 
+    // Whether nothing comes to this party: it is the initiator of a one-way session.
+    fn is_deaf(&self) -> bool
+        ensures { result ≡ (self.now.one_way && same_role self.now.role Initiator) }
+    {
+        self.one_way && self.role == Role::Initiator
+    }
+
     // Why such bytes aren't opened, whatever message they have.
     fn refusal(&self, datagram: &[u8]) -> Option<DatagramFault>
         ensures bounds { IfNone result ((24 ≤ length datagram.now) × (length datagram.now ≤ 65543) × (nonce_named datagram.now ≢ last_nonce)) }
         ensures young { IfNone result (self.now.recent.greatest < nonce_named datagram.now + width_of self.now.recent.window) }
         ensures told { (v : DatagramView) → DatagramReceiverStands self.now v → result ≡ datagram_fault v datagram.now }
     {
-        if self.one_way && self.role == Role::Initiator {
+        if self.is_deaf() {
             return Some(DatagramFault::OneWay);
         }
         if datagram.len() < OVERHEAD {

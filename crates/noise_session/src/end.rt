@@ -14,7 +14,6 @@ ghost use Rattle.std.specs.Io.KnownBytes.{Appends, Consumes, IsAtEnd};
 
 use crate::draining::write_out;
 use crate::incoming::{Incoming, zeros};
-use crate::outcome::Outcome;
 use crate::phase::Phase;
 use crate::receiving::receive_from;
 use crate::sending::send;
@@ -154,21 +153,7 @@ impl<K: Keys> End<K> {
             → (next : EndView) × Takes v piece.now result.0 (told result.1) next × EndStands K.public_of K.agreement n next)) }
     {
         let (count, outcome) = advance(&mut self.phase, &mut self.incoming, piece);
-        match outcome {
-            Outcome::Ended => (count, Step::Ended),
-            Outcome::YourTurn => (count, Step::YourTurn),
-            Outcome::Silent => (count, Step::Silent),
-            Outcome::More => (count, Step::More),
-            Outcome::Payload { from, to } => {
-                (
-                    count,
-                    Step::Payload(&self.incoming.buffer[2 + from..2 + to]),
-                )
-            }
-            Outcome::Dropped(cause) => (count, Step::Dropped(cause)),
-            Outcome::Refused { token, cause } => (count, Step::Refused { token, cause }),
-            Outcome::Exhausted => (count, Step::Exhausted),
-        }
+        (count, outcome.step(self.incoming.message()))
     }
 
     /// Reads the missing bytes of one frame from a reader, and no more, and returns what the frame came to. Where this end
@@ -187,21 +172,9 @@ impl<K: Keys> End<K> {
             → (bytes : List ℕ) × (next : EndView) × Receives v bytes (told_of result) next
             × Consumes (R.remaining (inner_of from.old)) (R.remaining (inner_of from.new)) bytes × EndStands K.public_of K.agreement n next)) }
     {
-        let found = receive_from(&mut self.phase, &mut self.incoming, from)?;
-        let Some(outcome) = found else {
-            return Ok(None);
-        };
-        match outcome {
-            Outcome::Ended => Ok(Some(Step::Ended)),
-            Outcome::YourTurn => Ok(Some(Step::YourTurn)),
-            Outcome::Silent => Ok(Some(Step::Silent)),
-            Outcome::More => Ok(Some(Step::More)),
-            Outcome::Payload { from, to } => {
-                Ok(Some(Step::Payload(&self.incoming.buffer[2 + from..2 + to])))
-            }
-            Outcome::Dropped(cause) => Ok(Some(Step::Dropped(cause))),
-            Outcome::Refused { token, cause } => Ok(Some(Step::Refused { token, cause })),
-            Outcome::Exhausted => Ok(Some(Step::Exhausted)),
+        match receive_from(&mut self.phase, &mut self.incoming, from)? {
+            None => Ok(None),
+            Some(outcome) => Ok(Some(outcome.step(self.incoming.message()))),
         }
     }
 

@@ -1,7 +1,7 @@
 //! The frame that is coming.
 #![tactic(auto)]
 
-ghost use Rattle.std.specs.Prelude.{◌≡◌, ◌≢◌, ◌≤◌, ◌<◌, ◌+◌, ◌-◌, ◌++◌, ◌↔◌, ℕ, List, [], length, take, IfOk, IfNone, IfSome, vec_capacity};
+ghost use Rattle.std.specs.Prelude.{◌≡◌, ◌≢◌, ◌≤◌, ◌<◌, ◌+◌, ◌-◌, ◌++◌, ◌↔◌, ℕ, List, [], length, take, drop, IfOk, IfNone, IfSome, vec_capacity};
 ghost use Rattle.noise_session.specs.Frames.{IsPartial, IsWhole, frame_length};
 ghost use Rattle.byteorder.specs.Endian.{big_bytes};
 ghost use Rattle.std.specs.Io.KnownBytes.{Consumes, IsAtEnd};
@@ -88,6 +88,13 @@ impl Incoming {
         ensures most { result ≤ 65536 }
     {
         self.held
+    }
+
+    // The message of the frame, with what the buffer holds after it.
+    pub(crate) fn message(&self) -> &[u8]
+        ensures { result.now ≡ drop 2 self.now.buffer.items }
+    {
+        &self.buffer[2..]
     }
 
     // Takes bytes up to the end of the frame's length, or of the frame once that is there, and returns how many.

@@ -1,16 +1,18 @@
-use Rattle.std.proofs.Common.{◌≡◌, ◌≢◌, ◌-◌, ◌≤◌, ◌<◌, length, take, drop, Some, None, sym, ◌∙◌, ap, subst, arith, length-drop}
+use Rattle.std.proofs.Common.{◌≡◌, ◌≢◌, ◌+◌, ◌-◌, ◌≤◌, ◌<◌, ℕ, List, length, take, drop, Option, Some, None, refl, sym, ◌∙◌, ap, subst, arith, length-drop}
+use Rattle.std.specs.Option.{IsSome}
 use Rattle.std.proofs.lemmas.List.{take_rest}
 use Rattle.std.proofs.lemmas.Slice.{take-put_mid_below}
 use borrow.Rule.Slice.PartMut.{put_mid}
 use Rattle.noise_names.specs.Tokens.{other}
 use Rattle.noise_state.specs.Cipher.{key_in, nonce_in}
+use Rattle.noise_events.specs.Windows.{width_of}
 use Rattle.noise_session.specs.Transport.{split_key, packet, last_nonce}
 use Rattle.noise_session.specs.contracts.datagram_receiver.DatagramReceiver.{the_view}
 use Rattle.noise_session.specs.Datagrams.{nonce_named, datagram_fault}
 use Rattle.noise_session.specs.DatagramHalves.{HeldDatagramReceiver, DatagramReceiverStands}
 use Rattle.noise_session.specs.Datagrams.Opens.{opened, refused, forged}
 use Rattle.noise_session.proofs.Unopened.{not_ok}
-use Rattle.noise_session.proofs.DatagramViews.{after-nonce, rest-after-nonce, piece-packet, young-here, half-opened}
+use Rattle.noise_session.proofs.DatagramViews.{has-nonce, below-last, same-but-recent, nothing-written, after-nonce, rest-after-nonce, piece-packet, young-here, half-opened}
 use Rattle.noise_session.proofs.datagram_receiver.DatagramReceiver.open_within.Goals as goal
 
 pub returns-in-Some-clause-opens : goal.returns-in-Some-clause-opens
@@ -65,3 +67,47 @@ returns-in-Err-clause-opens c v h =
     let piece = sym (piece-packet (key_in c.set_nonce.new.self) (nonce_in c.set_nonce.new.self) (nonce_named d) v.history (other v.role)
     payload keyed (c.set_nonce.ensures.nonce ∙ named)) in
     not_ok c.decrypt.result c.in-Err.field-0 c.in-Err.is (c.decrypt.ensures.accepts.1 (λ _. low, size, (payload, take_rest d 8 ∙ is ∙ piece))))
+
+pub returns-in-Some-clause-same : goal.returns-in-Some-clause-same
+returns-in-Some-clause-same c = refl
+
+pub returns-in-Some-clause-unchanged : goal.returns-in-Some-clause-unchanged
+returns-in-Some-clause-unchanged c = (refl, refl)
+
+pub nonce_of-nonce-requires : goal.nonce_of-nonce-requires
+nonce_of-nonce-requires c = has-nonce (length c.args.datagram.now) c.in_default.ensures.bounds.0
+
+pub slice_bounds-decrypt-count : goal.slice_bounds-decrypt-count
+slice_bounds-decrypt-count c = has-nonce (length c.args.datagram.now) c.in_default.ensures.bounds.0
+
+pub invariant_of-self : goal.invariant_of-self
+invariant_of-self c =
+    let d = c.args.datagram.now in
+    let young : c.self.inside.recent.greatest < nonce_named d + width_of c.self.inside.recent.window =
+    subst (λ (h : HeldDatagramReceiver). h.recent.greatest < nonce_named d + width_of h.recent.window) (sym c.self.view_is) c.in_default.ensures.young in
+    record {
+      key = subst IsSome (sym (c.decrypt.ensures.key ∙ c.set_nonce.ensures.key)) c.self.invariant.key;
+      ring = c.insert.ensures.ring c.self.invariant.ring
+          (subst (λ (n : ℕ). c.self.inside.recent.greatest < n + width_of c.self.inside.recent.window) (sym c.nonce_of-nonce.ensures) young)
+          (below-last c.nonce_of-nonce.result c.nonce_of-nonce.type_inv (λ same. c.in_default.ensures.bounds.2 (sym c.nonce_of-nonce.ensures ∙ same)));
+    }
+
+pub invariant_of-self-in-Err : goal.invariant_of-self-in-Err
+invariant_of-self-in-Err c = record {
+  key = subst IsSome (sym (c.decrypt.ensures.key ∙ c.set_nonce.ensures.key)) c.self.invariant.key;
+  ring = c.self.invariant.ring;
+}
+
+pub returns-in-Ok-clause-same : goal.returns-in-Ok-clause-same
+returns-in-Ok-clause-same c =
+    same-but-recent (the_view c.self.inside) c.args.self.now (key_in c.decrypt.new.self) c.insert.new.self c.self.view_is (c.decrypt.ensures.key ∙ c.set_nonce.ensures.key)
+
+pub returns-in-Err-clause-same : goal.returns-in-Err-clause-same
+returns-in-Err-clause-same c =
+    same-but-recent (the_view c.self.inside) c.args.self.now (key_in c.decrypt.new.self) c.self.inside.recent c.self.view_is (c.decrypt.ensures.key ∙ c.set_nonce.ensures.key)
+
+pub returns-in-Err-clause-unchanged : goal.returns-in-Err-clause-unchanged
+returns-in-Err-clause-unchanged c = (
+  ap (λ (k : Option (List ℕ)). record (the_view c.self.inside) { key = k }) (c.decrypt.ensures.key ∙ c.set_nonce.ensures.key) ∙ c.self.view_is,
+  nothing-written c.args.datagram.now c.decrypt.new.buf c.in-Err.ensures.unchanged,
+)
