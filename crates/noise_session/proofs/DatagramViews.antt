@@ -3,7 +3,7 @@ use Rattle.std.proofs.Common.{◌≡◌, ◌≢◌, ℕ, ◌+◌, ◌-◌, ◌�
 use Rattle.std.proofs.Common.{refl, sym, ◌∙◌, ap, subst, arith, length-drop}
 use Rattle.std.specs.Prelude.{◌&&◌, ◌==◌, nat_lt, if◌then◌else◌}
 use Rattle.std.specs.Int.{w64, to_be_bytes}
-use Rattle.std.proofs.lemmas.List.{take-append-drop, drop_at, take_at, drop-drop, length-take-le, nil_from_length, append-nil}
+use Rattle.std.proofs.lemmas.List.{drop_at, take_at, drop-drop, length-take-le, nil_from_length, append-nil}
 use Rattle.std.proofs.Math.Seq.{take-add}
 use borrow.Rule.Slice.PartMut.{put_mid}
 use Rattle.noise_names.specs.declared.token.Role.{Role}
@@ -55,13 +55,6 @@ rest-after-nonce bytes written n long rest =
     ∙ ap (drop n) (after-nonce bytes written long)
     ∙ rest
     ∙ drop-drop n 8 bytes
-
--- nothing but what was there is written after the nonce
-pub nothing-written : (bytes written : List ℕ) → written ≡ take (length bytes - 8) (drop 8 bytes) → put_mid 8 (length bytes - 8) bytes written ≡ bytes
-nothing-written bytes written same =
-    ap (put_mid 8 (length bytes - 8) bytes) same
-    ∙ ap (λ (xs : List ℕ). take 8 bytes ++ xs) (take-append-drop (length bytes - 8) (drop 8 bytes))
-    ∙ take-append-drop 8 bytes
 
 -- a datagram that is long enough has a nonce
 pub has-nonce : (n : ℕ) → 24 ≤ n → 8 ≤ n

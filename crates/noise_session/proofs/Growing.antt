@@ -1,8 +1,8 @@
 -- What is known of a frame when bytes come to those that are held.
 use Rattle.std.proofs.Common.{◌≡◌, ◌≢◌, ℕ, ◌+◌, ◌-◌, ◌==◌, ◌<◌, ◌≤◌, nat_lt, List, ◌++◌, length, take, drop, Bool, true, false, refl, sym, ◌∙◌, ap}
-use Rattle.std.proofs.Common.{subst, arith, length-append, append_assoc}
+use Rattle.std.proofs.Common.{subst, arith, length-append, length-drop, append_assoc}
 use Rattle.std.proofs.lemmas.Bool.Decides.{nat_tests}
-use Rattle.std.proofs.lemmas.List.{take-take, take-append-le, length-take-le, take-append-drop, drop-take, take_rest}
+use Rattle.std.proofs.lemmas.List.{take-take, take-append-le, length-take-le, take-append-drop, drop-take, take_rest, take_all}
 use Rattle.std.proofs.Math.Seq.{take-append-add}
 use Rattle.byteorder.specs.Endian.{big_bytes, big_number}
 use Rattle.byteorder.specs.Numbers.{big_from-take}
@@ -147,3 +147,34 @@ front-read old post read at n within fits =
     let front = length-take-le at old within in
     ap (λ (k : ℕ). take (k + n) (take at old ++ (read ++ post))) (sym front)
     ∙ (take-append-add (take at old) (read ++ post) n ∙ ap (λ (xs : List ℕ). take at old ++ xs) (take-append-le n read post fits))
+
+-- All bytes of a piece come, in two parts, where the frame isn't whole with them.
+module _ (old mid new piece : List ℕ) (first second : ℕ) (to_mid : mid ≡ old ++ take first piece)
+    (to_new : new ≡ mid ++ take second (take (length piece - first) (drop first piece))) (some : first ≤ length piece)
+    (more : second ≤ length (take (length piece - first) (drop first piece))) (all_first : length mid < frame_length old → first ≡ length piece)
+    (all_second : length new < frame_length mid → second ≡ length (take (length piece - first) (drop first piece))) (partial : IsPartial new) where
+  rest-long : length (take (length piece - first) (drop first piece)) ≡ length piece - first
+  rest-long = ap length (take_rest piece first) ∙ length-drop first piece
+
+  all-by : (b : Bool) → nat_lt (length mid) 2 ≡ b → first + second ≡ length piece
+  all-by true e =
+      let short = ltb-true (length mid) 2 e in
+      let grown : length mid ≡ length old + length (take first piece) = ap length to_mid ∙ length-append old (take first piece) in
+      let two = length-short old (omega arith) in
+      let whole = all_first (subst (λ (k : ℕ). length mid < k) (sym two) short) in
+      let rest = rest-long in
+      omega arith
+  all-by false e =
+      let long = ltb-false (length mid) 2 e in
+      let part = take second (take (length piece - first) (drop first piece)) in
+      let grown : length new ≡ length mid + length part = ap length to_new ∙ length-append mid part in
+      let frames = length-same new mid (omega arith) long (ap (take 2) to_new ∙ take-append-le 2 mid part long) in
+      let whole = all_second (subst (λ (k : ℕ). length new < k) frames partial) in
+      let rest = rest-long in
+      omega arith
+
+  pub all-came : new ≡ old ++ piece
+  all-came =
+      two-parts old mid new piece first second to_mid to_new
+      ∙ ap (λ (k : ℕ). old ++ take k piece) (all-by (nat_lt (length mid) 2) refl)
+      ∙ ap (λ (xs : List ℕ). old ++ xs) (take_all (length piece) piece (omega arith))

@@ -12,6 +12,7 @@ pub mod Cutting
 pub mod SentOnce
 pub mod Counterparts
 pub mod Ringing
+pub mod Clearing
 pub mod Rings
 pub mod DatagramViews
 pub mod DatagramSplitting

@@ -1,6 +1,7 @@
 -- Why a payload isn't written, by the faults of a handshake and of a transport.
 use Rattle.std.proofs.Common.{◌≡◌, ℕ, ◌==◌, nat_lt, List, length, Bool, true, false, not, ◌&&◌, Option, Some, None, Result, Ok, Err, MatchOption}
 use Rattle.std.proofs.Common.{IfErr, IsOk, if◌then◌else◌, refl}
+use Rattle.std.specs.Prelude.{⊤}
 use Rattle.noise_handshake.specs.declared.faults.WriteFault.{WriteFault}
 use Rattle.noise_handshake.specs.declared.faults.WriteFault.TheVariants as write
 use Rattle.noise_handshake.specs.Held.{Held, is_turn, write_fault, length_now, IsAgreement}
@@ -88,3 +89,9 @@ seal-due (Some f) n h = cc
 pub seal-refused : (o : Option SendFault) (f : SendFault) → MatchOption o (IsOk (unsealed f)) (λ e. unsealed f ≡ Err e) → o ≡ Some f
 seal-refused None f h = cc
 seal-refused (Some e) f h = cc
+
+-- what is refused without a change stays so where an `Err` is passed on
+pub refused-too : (o : Option SendFault) (r s : Result ℕ SendFault) (a b c d : List ℕ) → MatchOption o ⊤ (λ f. (r ≡ Err f) × (a ≡ b))
+    → ((f : SendFault) → r ≡ Err f → s ≡ Err f) → (a ≡ b → c ≡ d) → MatchOption o ⊤ (λ f. (s ≡ Err f) × (c ≡ d))
+refused-too None r s a b c d h passed same = tt
+refused-too (Some f) r s a b c d h passed same = (passed f h.0, same h.1)

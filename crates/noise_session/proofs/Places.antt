@@ -1,7 +1,7 @@
 -- Parts of a buffer.
 use Rattle.std.proofs.Common.{◌≡◌, ℕ, suc, ◌+◌, ◌-◌, ◌/◌, ◌%◌, ◌≤◌, List, ◌∷◌, ◌++◌, length, take, drop, arith, rules, refl, sym, ◌∙◌, ap}
 use Rattle.std.proofs.Common.{length-drop, length-append}
-use Rattle.std.proofs.lemmas.List.{places, same_lists, drop_at, drop-drop, take_rest, length-take-le, nil_from_length, append-nil}
+use Rattle.std.proofs.lemmas.List.{take-append-drop, places, same_lists, drop_at, drop-drop, take_rest, length-take-le, nil_from_length, append-nil}
 use borrow.Rule.Slice.PartMut.{put_mid}
 use Rattle.noise_session.specs.declared.outcome.Outcome.{Outcome}
 use Rattle.noise_session.specs.declared.outcome.Outcome.TheVariants as outcome
@@ -42,6 +42,13 @@ tells-after d m post rest len outcome.Exhausted two place long = refl
 -- what follows the first k of the first n
 pub drop-front : (xs : List ℕ) (k n : ℕ) → take (n - k) (drop k xs) ≡ drop k (take n xs)
 drop-front xs k n = same_lists _ _ (search (rules, places)) (λ j e h. grind (arith, places))
+
+-- a buffer whose end was written with what it was
+pub unwritten : (out written : List ℕ) (from : ℕ) → written ≡ take (length out - from) (drop from out) → put_mid from (length out - from) out written ≡ out
+unwritten out written from same =
+    ap (put_mid from (length out - from) out) same
+    ∙ ap (λ (xs : List ℕ). take from out ++ xs) (take-append-drop (length out - from) (drop from out))
+    ∙ take-append-drop from out
 
 -- what follows the first two bytes of a buffer, all of which was written
 after_two : (out written : List ℕ) → 2 ≤ length out → drop 2 (put_mid 2 (length out - 2) out written) ≡ written

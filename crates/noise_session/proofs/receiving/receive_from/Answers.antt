@@ -1,4 +1,4 @@
-use Rattle.std.proofs.Common.{◌≡◌, ◌≢◌, ℕ, ◌+◌, ◌++◌, List, [], length, drop, None, Some, sym, ◌∙◌, ap, subst, arith, rules, append-nil, length-append}
+use Rattle.std.proofs.Common.{◌≡◌, ◌≢◌, ℕ, ◌+◌, ◌++◌, List, [], length, drop, None, Some, sym, ◌∙◌, ap, subst, arith, append-nil, length-append}
 use Rattle.std.proofs.lemmas.List.{nil_from_length}
 use Rattle.std.specs.Io.KnownBytes.{Consumes}
 use Rattle.noise_session.specs.Frames.{frame, IsPartial}
@@ -27,7 +27,7 @@ returns-in-Some-clause-receives g c v s =
 
 pub returns-in-Filled-clause-receives : goal.returns-in-Filled-clause-receives
 returns-in-Filled-clause-receives g c v s =
-    let idle : idle_step (progress_in c.args.phase.now) ≡ None = search rules in
+    let idle : idle_step (progress_in c.args.phase.now) ≡ None = c.in_default.ensures.step in
     let none : idle_step (progress_of v) ≡ None = ap idle_step (sym (phase-progress g.K.Keys.public_of g.K.Keys.agreement c.args.phase.now v s.phase)) ∙ idle in
     let r = c.in-Filled.ensures.bytes in
     let piece = r.0 in
@@ -48,7 +48,7 @@ returns-in-Filled-clause-receives g c v s =
 
 pub returns-in-Failed-clause-receives : goal.returns-in-Failed-clause-receives
 returns-in-Failed-clause-receives g c v s =
-    let idle : idle_step (progress_in c.args.phase.now) ≡ None = search rules in
+    let idle : idle_step (progress_in c.args.phase.now) ≡ None = c.in_default.ensures.step in
     let none : idle_step (progress_of v) ≡ None = ap idle_step (sym (phase-progress g.K.Keys.public_of g.K.Keys.agreement c.args.phase.now v s.phase)) ∙ idle in
     let r = c.in-Failed.ensures.bytes in
     let bytes : bytes_of c.fill_from.new.self ≡ v.held ++ r.0 = r.2 ∙ ap (λ (xs : List ℕ). xs ++ r.0) s.held in
@@ -63,7 +63,7 @@ returns-in-Failed-clause-receives g c v s =
 
 pub returns-then-held-eq0-clause-receives : goal.returns-then-held-eq0-clause-receives
 returns-then-held-eq0-clause-receives g c v s =
-    let idle : idle_step (progress_in c.args.phase.now) ≡ None = search rules in
+    let idle : idle_step (progress_in c.args.phase.now) ≡ None = c.in_default.ensures.step in
     let none : idle_step (progress_of v) ≡ None = ap idle_step (sym (phase-progress g.K.Keys.public_of g.K.Keys.agreement c.args.phase.now v s.phase)) ∙ idle in
     let r = c.in-End.ensures.bytes in
     let old = bytes_of c.args.incoming.now in
@@ -77,7 +77,7 @@ returns-then-held-eq0-clause-receives g c v s =
 
 pub returns-else-held-eq0-clause-receives : goal.returns-else-held-eq0-clause-receives
 returns-else-held-eq0-clause-receives g c v s =
-    let idle : idle_step (progress_in c.args.phase.now) ≡ None = search rules in
+    let idle : idle_step (progress_in c.args.phase.now) ≡ None = c.in_default.ensures.step in
     let none : idle_step (progress_of v) ≡ None = ap idle_step (sym (phase-progress g.K.Keys.public_of g.K.Keys.agreement c.args.phase.now v s.phase)) ∙ idle in
     let r = c.in-End.ensures.bytes in
     let count = c.held.ensures.count in

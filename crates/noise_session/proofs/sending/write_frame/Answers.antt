@@ -1,10 +1,12 @@
-use Rattle.std.proofs.Common.{◌≡◌, ◌≤◌, ◌+◌, ◌-◌, ◌/◌, ◌%◌, ℕ, List, ◌∷◌, length, take, drop, None, Ok, sym, ap, subst, arith}
+use Rattle.std.proofs.Common.{◌≡◌, ◌≤◌, ◌+◌, ◌-◌, ◌/◌, ◌%◌, ℕ, List, ◌∷◌, length, take, drop, None, Ok, Err, sym, ◌∙◌, ap, subst, arith}
+use Rattle.std.proofs.lemmas.Result.{err_from_is_err_and}
 use Rattle.std.specs.Option.{ForSome}
 use borrow.Rule.Slice.PartMut.{put_mid}
 use Rattle.noise_session.specs.Progress.{Progress, refusal, message_length, length_unless, frame_len_of}
 use Rattle.noise_session.specs.Ends.{progress_in}
 use Rattle.noise_session.specs.Sending.{Sends}
-use Rattle.noise_session.proofs.Places.{written_frame, written_rest, room-after, two-left}
+use Rattle.noise_session.proofs.Making.{refused-too}
+use Rattle.noise_session.proofs.Places.{unwritten, written_frame, written_rest, room-after, two-left}
 use Rattle.noise_session.proofs.sending.write_frame.Goals as goal
 
 -- a frame that is due fits
@@ -53,3 +55,59 @@ returns-clause-rest g c =
     let rest : drop len c.write_message.new.out ≡ drop len (take (length out - 2) (drop 2 out)) =
     subst (λ (k : ℕ). drop len c.write_message.new.out ≡ drop len (take (length out - k) (drop k out))) start c.in_ok-len.ensures.rest in
     written_rest len out c.write_message.new.out c.write_u16.new.buf (omega arith) is rest
+
+pub write_message-requires-clause-due : goal.write_message-requires-clause-due
+write_message-requires-clause-due g c = c.requires.due
+
+pub returns-in_err-len-clause-due : goal.returns-in_err-len-clause-due
+returns-in_err-len-clause-due g c = c.write_message.ensures.due
+
+pub returns-in_err-len-clause-len : goal.returns-in_err-len-clause-len
+returns-in_err-len-clause-len g c =
+    let p = err_from_is_err_and c.from_residual.result c.from_residual.ensures.1 in
+    rw p.1 tt
+
+pub returns-in_err-len-clause-rest : goal.returns-in_err-len-clause-rest
+returns-in_err-len-clause-rest g c =
+    let p = err_from_is_err_and c.from_residual.result c.from_residual.ensures.1 in
+    rw p.1 tt
+
+pub returns-in_err-len-clause-refused : goal.returns-in_err-len-clause-refused
+returns-in_err-len-clause-refused g c =
+    let p = err_from_is_err_and c.from_residual.result c.from_residual.ensures.1 in
+    refused-too _ c.write_message.result c.from_residual.result _ _ _ _ c.write_message.ensures.refused
+    (λ fault e. p.1 ∙ ap (λ f. Err f) p.2 ∙ sym c.in_err-len.was ∙ e) (unwritten c.args.out.now c.write_message.new.out c.min-start.result)
+
+pub returns-in_err-len-clause-going : goal.returns-in_err-len-clause-going
+returns-in_err-len-clause-going g c =
+    let p = err_from_is_err_and c.from_residual.result c.from_residual.ensures.1 in
+    rw p.1 tt
+
+pub returns-in_err-len-clause-kept : goal.returns-in_err-len-clause-kept
+returns-in_err-len-clause-kept g c =
+    let p = err_from_is_err_and c.from_residual.result c.from_residual.ensures.1 in
+    rw (p.1, p.2) c.in_err-len.ensures.kept
+
+pub returns-in_err-len-clause-inner : goal.returns-in_err-len-clause-inner
+returns-in_err-len-clause-inner g c =
+    let p = err_from_is_err_and c.from_residual.result c.from_residual.ensures.1 in
+    rw (p.1, p.2) c.in_err-len.ensures.inner
+
+pub returns-in_err-len-clause-ok : goal.returns-in_err-len-clause-ok
+returns-in_err-len-clause-ok g c v s =
+    let p = err_from_is_err_and c.from_residual.result c.from_residual.ensures.1 in
+    rw p.1 tt
+
+pub returns-in_err-len-clause-err : goal.returns-in_err-len-clause-err
+returns-in_err-len-clause-err g c v s =
+    let p = err_from_is_err_and c.from_residual.result c.from_residual.ensures.1 in
+    rw (p.1, p.2) (c.in_err-len.ensures.err v s)
+
+pub returns-clause-due : goal.returns-clause-due
+returns-clause-due g c = c.write_message.ensures.due
+
+pub returns-clause-refused : goal.returns-clause-refused
+returns-clause-refused g c = rw c.in_ok-len.ensures.len.0 tt
+
+pub returns-clause-going : goal.returns-clause-going
+returns-clause-going g c = c.in_ok-len.ensures.going

@@ -12,7 +12,8 @@ use Rattle.noise_session.specs.Datagrams.{nonce_named, datagram_fault}
 use Rattle.noise_session.specs.DatagramHalves.{HeldDatagramReceiver, DatagramReceiverStands}
 use Rattle.noise_session.specs.Datagrams.Opens.{opened, refused, forged}
 use Rattle.noise_session.proofs.Unopened.{not_ok}
-use Rattle.noise_session.proofs.DatagramViews.{has-nonce, below-last, same-but-recent, nothing-written, after-nonce, rest-after-nonce, piece-packet, young-here, half-opened}
+use Rattle.noise_session.proofs.Places.{unwritten}
+use Rattle.noise_session.proofs.DatagramViews.{has-nonce, below-last, same-but-recent, after-nonce, rest-after-nonce, piece-packet, young-here, half-opened}
 use Rattle.noise_session.proofs.datagram_receiver.DatagramReceiver.open_within.Goals as goal
 
 pub returns-in-Some-clause-opens : goal.returns-in-Some-clause-opens
@@ -109,5 +110,5 @@ returns-in-Err-clause-same c =
 pub returns-in-Err-clause-unchanged : goal.returns-in-Err-clause-unchanged
 returns-in-Err-clause-unchanged c = (
   ap (λ (k : Option (List ℕ)). record (the_view c.self.inside) { key = k }) (c.decrypt.ensures.key ∙ c.set_nonce.ensures.key) ∙ c.self.view_is,
-  nothing-written c.args.datagram.now c.decrypt.new.buf c.in-Err.ensures.unchanged,
+  unwritten c.args.datagram.now c.decrypt.new.buf 8 c.in-Err.ensures.unchanged,
 )

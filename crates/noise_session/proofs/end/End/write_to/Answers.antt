@@ -1,5 +1,6 @@
-use Rattle.std.proofs.Common.{◌≡◌, ◌≤◌, ◌<◌, ℕ, List, [], ◌++◌, length, take, Ok, Err, Result, sym, ◌∙◌, ap, subst, arith, rules}
+use Rattle.std.proofs.Common.{◌≡◌, ◌≤◌, ◌<◌, ℕ, List, [], ◌++◌, length, take, Ok, Err, Result, sym, ◌∙◌, ap, subst, arith}
 use Rattle.std.proofs.lemmas.List.{length-take-le, take-take, take-append-le}
+use Rattle.std.proofs.lemmas.Result.{err_from_is_err_and}
 use Rattle.std.specs.Io.KnownBytes.{Appends}
 use Rattle.noise_session.specs.declared.faults.SendFault.{SendFault}
 use Rattle.noise_session.specs.Ends.{EndStands, PhaseStands, closed}
@@ -19,7 +20,8 @@ returns-in_err-len-clause-puts g c v s =
     let t : EndStands g.K.Keys.public_of g.K.Keys.agreement _ v = subst (λ u. EndStands g.K.Keys.public_of g.K.Keys.agreement u v) (sym c.self.view_is) s in
     let e = c.in_err-len.ensures.err v t in
     let fault = c.in_err-len.field-0.0 in
-    let same : c.from_residual.result ≡ Err fault = search rules in (
+    let p = err_from_is_err_and c.from_residual.result c.from_residual.ensures.1 in
+    let same : c.from_residual.result ≡ Err fault = p.1 ∙ ap (λ f. Err f) p.2 in (
       [],
       after_fault v fault,
       subst (λ (r : Result ℕ SendFault). Puts v c.args.payload.now r [] (after_fault v fault)) (sym same)

@@ -1,7 +1,8 @@
-use Rattle.std.proofs.Common.{◌≡◌, ◌-◌, length, take, drop, ap, arith, length-drop}
+use Rattle.std.proofs.Common.{◌≡◌, ◌-◌, ◌<◌, ℕ, length, take, drop, sym, ap, subst, arith, length-drop}
 use Rattle.std.proofs.lemmas.List.{length-take-le, take_rest}
+use Rattle.noise_session.specs.Frames.{IsPartial}
 use Rattle.noise_session.specs.inner.Incoming.{bytes_of}
-use Rattle.noise_session.proofs.Growing.{two-parts}
+use Rattle.noise_session.proofs.Growing.{two-parts, all-came}
 use Rattle.noise_session.proofs.incoming.Incoming.fill.Goals as goal
 
 pub returns-clause-whole : goal.returns-clause-whole
@@ -15,4 +16,16 @@ returns-clause-whole c =
       two-parts (bytes_of c.args.self.now) (bytes_of c.accept-first.new.self) (bytes_of self) piece first c.accept.result c.accept-first.ensures.taken
           c.accept.ensures.taken,
       omega arith,
+    )
+
+pub returns-then-self-clause-part : goal.returns-then-self-clause-part
+returns-then-self-clause-part c =
+    let new = c.accept.new.self in
+    let long : length (bytes_of new) ≡ new.held = length-take-le new.held new.buffer.items (omega (arith, new.room, new.most, new.within)) in
+    let partial : IsPartial (bytes_of new) =
+    subst (λ (k : ℕ). length (bytes_of new) < k) new.known (subst (λ (k : ℕ). k < new.whole) (sym long) c.if-self.true) in (
+      all-came (bytes_of c.args.self.now) (bytes_of c.accept-first.new.self) (bytes_of new) c.args.piece.now c.accept-first.result c.accept.result
+          c.accept-first.ensures.taken c.accept.ensures.taken c.accept-first.ensures.count c.accept.ensures.count
+          c.accept-first.ensures.all c.accept.ensures.all partial,
+      partial,
     )
