@@ -16,7 +16,7 @@ use Rattle.noise_vectors.specs.declared.vector.AllowedEvents.TheVariants.{SayOnl
 use Rattle.noise_vectors.proofs.PartyTold.{window-told}
 use Rattle.noise_vectors.proofs.ToldLemmas.{counted-here, counted-last, counted-step, first-line, low-of}
 use Rattle.noise_vectors.proofs.additions.read_datagrams.Goals as goal
-use Rattle.std.proofs.lemmas.Bool.{false_from_ne_true}
+use Rattle.std.proofs.lemmas.Bool.{false_from_ne_true, false≢true}
 
 abbrev AreRight : Option FileDatagrams → Type 0
 AreRight found = IfSome found (λ over. All IsDatagramEvent over.events.items)
@@ -39,7 +39,7 @@ returns-in_err-end-clause-every c =
     let text = e ∙ ap (λ (o : Option FileDatagrams). datagrams_text o rest) is in
     let read = c.in_ok-line.ensures.every (window_words d.window) (lines_of datagram_event_words d.events.items rest) (window_words-line d.window) text in
     let bad = c.in_err-end.ensures.ended.1 read.2 in
-    absurd (cc (bad))
+    absurd (false≢true bad)
 
 pub returns-in_err-events-clause-every : goal.returns-in_err-events-clause-every
 returns-in_err-events-clause-every c =
@@ -79,7 +79,7 @@ pub returns-in_err-end-clause-told : goal.returns-in_err-end-clause-told
 returns-in_err-end-clause-told c =
     let other : ¬ (c.args.allowed ≡ SayOnly) = search rules in
     let p = err_from_is_err_and c.from_residual-in_err-end.result c.from_residual-in_err-end.ensures.1 in λ low.
-    let last = c.in_ok-line.ensures.last (false_from_ne_true c.next.new.self.is_ended (λ yes. let bad = c.in_err-end.ensures.ended.1 yes in cc (bad))) in
+    let last = c.in_ok-line.ensures.last (false_from_ne_true c.next.new.self.is_ended (λ yes. false≢true (c.in_err-end.ensures.ended.1 yes))) in
     let n = counted-last c.args.lines.now.number c.next.new.self.number (c.args.lines.now.number + line_feeds c.args.lines.now.rest.now) c.args.lines.now.rest.now c.in_ok-line.line.now low refl c.next.ensures.number c.in_ok-line.ensures.plain last in
     rw (p.1, p.2) (inr (inl (
       c.in_err-end.ensures.fault ∙ ap (λ (k : ℕ). Line k kinds.Ending) n,

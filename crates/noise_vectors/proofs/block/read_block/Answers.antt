@@ -4,7 +4,7 @@ use Rattle.std.proofs.lemmas.Result.{err_from_is_err_and}
 use Rattle.noise_vectors.specs.WrongLine.{line_feeds}
 use Rattle.noise_vectors.proofs.PartLemmas.{block-ending, block-wrong}
 use Rattle.noise_vectors.proofs.block.read_block.Goals as goal
-use Rattle.std.proofs.lemmas.Bool.{false_from_ne_true}
+use Rattle.std.proofs.lemmas.Bool.{false_from_ne_true, false≢true}
 
 pub returns-in_err-text-clause-every : goal.returns-in_err-text-clause-every
 returns-in_err-text-clause-every c = λ pattern rest h named e.
@@ -44,7 +44,7 @@ pub returns-in_err-end-in-Ok-clause-told : goal.returns-in_err-end-in-Ok-clause-
 returns-in_err-end-in-Ok-clause-told c =
     let p = err_from_is_err_and c.from_residual-in_err-end-in-Ok.result c.from_residual-in_err-end-in-Ok.ensures.1 in λ low right.
     rw (p.1, p.2) (inl (block-ending c.args.lines.now.rest.now (c.args.lines.now.number + line_feeds c.args.lines.now.rest.now) c.take_block.new.lines.number _ c.in_err-end-in-Ok.ensures.fault
-    (c.in_ok-text.ensures.last low (false_from_ne_true c.take_block.new.lines.is_ended (λ yes. let bad = c.in_err-end-in-Ok.ensures.ended.1 yes in cc (bad))))
+    (c.in_ok-text.ensures.last low (false_from_ne_true c.take_block.new.lines.is_ended (λ yes. false≢true (c.in_err-end-in-Ok.ensures.ended.1 yes))))
     (λ before rest h e.
     let read = c.in_ok-text.ensures.every before rest h e in
     let ended = c.in_err-end-in-Ok.ensures.ended.1 read.2 in

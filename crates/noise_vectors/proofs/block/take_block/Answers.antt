@@ -9,7 +9,7 @@ use Rattle.noise_vectors.proofs.PartLemmas.{block-ending}
 use Rattle.std.proofs.lemmas.Result.{err_from_is_err_and}
 use Rattle.noise_vectors.proofs.ToldLemmas.{counted-last, counted-none, counted-step}
 use Rattle.noise_vectors.proofs.block.take_block.Goals as goal
-use Rattle.std.proofs.lemmas.Bool.{false_from_ne_true}
+use Rattle.std.proofs.lemmas.Bool.{false_from_ne_true, false≢true}
 
 pub loop-lines-init : goal.loop-lines-init
 loop-lines-init c = (([], refl), λ before rest h e. Left-start rest before c.args.lines.now.rest.now h e, λ low. refl, Read-none c.args.lines.now.rest.now)
@@ -94,7 +94,7 @@ returns-in_err-end-clause-told c =
     let p = err_from_is_err_and c.from_residual-in_err-end.result c.from_residual-in_err-end.ensures.1 in λ low.
     rw (p.1, p.2) (block-ending c.args.lines.now.rest.now (c.args.lines.now.number + line_feeds c.args.lines.now.rest.now) c.next.new.self.number _ c.in_err-end.ensures.fault
     (counted-last c.loop-lines.lines.number c.next.new.self.number (c.args.lines.now.number + line_feeds c.args.lines.now.rest.now) c.loop-lines.lines.rest.now c.in_ok-next.field-0.now low (c.loop-lines.invariant.2 low) c.next.ensures.number c.in_ok-next.ensures.plain
-    (c.in_ok-next.ensures.last (false_from_ne_true c.next.new.self.is_ended (λ yes. let bad = c.in_err-end.ensures.ended.1 yes in cc (bad)))))
+    (c.in_ok-next.ensures.last (false_from_ne_true c.next.new.self.is_ended (λ yes. false≢true (c.in_err-end.ensures.ended.1 yes)))))
     (λ before rest h e.
     let l = Left-step rest c.loop-lines.lines.rest.now c.in_ok-next.field-0.now c.next.new.self.rest.now c.next.new.self.is_ended (c.loop-lines.invariant.1 before rest h e) c.in_ok-next.ensures.every other in
     let ok = c.in_err-end.ensures.ended.1 l.1 in

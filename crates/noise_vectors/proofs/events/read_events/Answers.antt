@@ -1,4 +1,5 @@
 use Rattle.std.proofs.Common.{rules, refl, arith, ◌≡◌, ◌+◌, ◌∙◌, ap, sym, subst, ℕ, List, [], ◌∷◌, ◌++◌, length, vec_len, ◌<◌, ◌^◌}
+use Rattle.std.proofs.lemmas.Bool.{false≢true}
 use Rattle.std.specs.Prelude.{IsSome, IsTrue}
 use Rattle.std.specs.List.{All}
 use Rattle.std.proofs.lemmas.List.Elements.{All-nil, All-push}
@@ -28,19 +29,19 @@ loop-alloc-init c = (
 
 pub returns-in_default-clause-every : goal.returns-in_default-clause-every
 returns-in_default-clause-every c = λ events rest right allowed over e.
-    let some : ¬ (c.loop-alloc.lines.rest.now ≡ rest) = λ same. let yes = c.is_after_events.ensures.1 (subst AfterEvents (sym same) over) in cc (yes) in
+    let some : ¬ (c.loop-alloc.lines.rest.now ≡ rest) = λ same. false≢true (sym c.loop-alloc-test.true ∙ c.is_after_events.ensures.1 (subst AfterEvents (sym same) over)) in
     let f = LinesLeft-first (c.loop-alloc.invariant.3 events rest right allowed over e) some in
     let read = c.in_ok-line.ensures.every (event_words f.next) (lines_of event_words f.others rest) (event_words-line f.next f.next_good.0) f.left_is in
     let found : IsSome c.in_ok-event.field-0 = c.in_ok-event.ensures.every f.next f.next_good.0 f.next_good.1 read.0 in
-    absurd (let none = rw c.in_default.is at found in cc)
+    absurd (false≢true (rw c.in_default.is at found))
 
 pub returns-in_err-end-clause-every : goal.returns-in_err-end-clause-every
 returns-in_err-end-clause-every c = λ events rest right allowed over e.
-    let some : ¬ (c.loop-alloc.lines.rest.now ≡ rest) = λ same. let yes = c.is_after_events.ensures.1 (subst AfterEvents (sym same) over) in cc (yes) in
+    let some : ¬ (c.loop-alloc.lines.rest.now ≡ rest) = λ same. false≢true (sym c.loop-alloc-test.true ∙ c.is_after_events.ensures.1 (subst AfterEvents (sym same) over)) in
     let f = LinesLeft-first (c.loop-alloc.invariant.3 events rest right allowed over e) some in
     let read = c.in_ok-line.ensures.every (event_words f.next) (lines_of event_words f.others rest) (event_words-line f.next f.next_good.0) f.left_is in
     let bad = c.in_err-end.ensures.ended.1 read.2 in
-    absurd (cc (bad))
+    absurd (false≢true bad)
 
 pub loop-alloc-preserved : goal.loop-alloc-preserved
 loop-alloc-preserved c =
@@ -58,7 +59,7 @@ loop-alloc-preserved c =
       subst (λ (events : List Event). All IsEvent events) (sym pushed)
           (All-push IsEvent c.loop-alloc.events.items c.in-Some.event c.loop-alloc.invariant.2 is_event),
       λ events rest right allowed over e.
-          let some : ¬ (c.loop-alloc.lines.rest.now ≡ rest) = λ same. let yes = c.is_after_events.ensures.1 (subst AfterEvents (sym same) over) in cc (yes) in
+          let some : ¬ (c.loop-alloc.lines.rest.now ≡ rest) = λ same. false≢true (sym c.loop-alloc-test.true ∙ c.is_after_events.ensures.1 (subst AfterEvents (sym same) over)) in
           let f = LinesLeft-first (c.loop-alloc.invariant.3 events rest right allowed over e) some in
           let read = c.in_ok-line.ensures.every (event_words f.next) (lines_of event_words f.others rest) (event_words-line f.next f.next_good.0) f.left_is in
           FirstLine-step f len read.1,
@@ -80,10 +81,10 @@ returns-in_default-clause-told c =
     let few : length c.loop-alloc.events.items + 1 < 2 ^ 63 = omega (arith, long, len, some) in
     λ low.
     tells-wrong (event_lines c.args.allowed) c.args.lines.now.rest.now (c.args.lines.now.number + line_feeds c.args.lines.now.rest.now) _ c.loop-alloc.events.items c.loop-alloc.lines.rest.now c.in_ok-line.line.now c.next.new.self.rest.now c.next.new.self.is_ended c.loop-alloc.lines.number c.next.new.self.number
-    c.loop-alloc.invariant.0 (all-right c.args.allowed c.loop-alloc.events.items c.loop-alloc.invariant.2 c.loop-alloc.invariant.1) (omega (arith, few)) (λ over. let yes = c.is_after_events.ensures.1 over in cc (yes)) (c.loop-alloc.invariant.4 low) low c.next.ensures.number c.in_ok-line.ensures.ended c.in_ok-line.ensures.last c.in_ok-line.ensures.plain c.fault.ensures
+    c.loop-alloc.invariant.0 (all-right c.args.allowed c.loop-alloc.events.items c.loop-alloc.invariant.2 c.loop-alloc.invariant.1) (omega (arith, few)) (λ over. false≢true (sym c.loop-alloc-test.true ∙ c.is_after_events.ensures.1 over)) (c.loop-alloc.invariant.4 low) low c.next.ensures.number c.in_ok-line.ensures.ended c.in_ok-line.ensures.last c.in_ok-line.ensures.plain c.fault.ensures
     (λ event good same.
     let found : IsSome c.in_ok-event.field-0 = c.in_ok-event.ensures.every event good.0 good.1 same in
-    absurd (let none = rw c.in_default.is at found in cc))
+    absurd (false≢true (rw c.in_default.is at found)))
 
 pub returns-in_err-end-clause-told : goal.returns-in_err-end-clause-told
 returns-in_err-end-clause-told c =
@@ -96,7 +97,7 @@ returns-in_err-end-clause-told c =
     let is_event : IsEvent c.in-Some.event = rw c.in-Some.is at c.in_ok-event.ensures.right in
     let p = err_from_is_err_and c.from_residual-in_err-end.result c.from_residual-in_err-end.ensures.1 in λ low.
     rw (p.1, p.2) (tells-cut (event_lines c.args.allowed) c.args.lines.now.rest.now (c.args.lines.now.number + line_feeds c.args.lines.now.rest.now) _ c.loop-alloc.events.items c.in-Some.event c.loop-alloc.lines.rest.now c.in_ok-line.line.now c.next.new.self.is_ended c.loop-alloc.lines.number c.next.new.self.number
-    c.loop-alloc.invariant.0 (all-right c.args.allowed c.loop-alloc.events.items c.loop-alloc.invariant.2 c.loop-alloc.invariant.1) few (c.loop-alloc.invariant.4 low) low c.next.ensures.number c.in_ok-line.ensures.last c.in_ok-line.ensures.plain (λ yes. let bad = c.in_err-end.ensures.ended.1 yes in cc (bad))
+    c.loop-alloc.invariant.0 (all-right c.args.allowed c.loop-alloc.events.items c.loop-alloc.invariant.2 c.loop-alloc.invariant.1) few (c.loop-alloc.invariant.4 low) low c.next.ensures.number c.in_ok-line.ensures.last c.in_ok-line.ensures.plain (λ yes. false≢true (c.in_err-end.ensures.ended.1 yes))
     c.in_err-end.ensures.fault found (is_event, is_allowed))
 
 pub returns-clause-counted : goal.returns-clause-counted

@@ -18,7 +18,7 @@ use Rattle.noise_vectors.proofs.PartLemmas.{tells-cut, tells-wrong}
 use Rattle.noise_vectors.proofs.ToldLemmas.{counted-step}
 use Rattle.noise_vectors.proofs.HeldLemmas.{expect-more, held-good, held-lines, lines-long}
 use Rattle.noise_vectors.proofs.expected.read_expected.Goals as goal
-use Rattle.std.proofs.lemmas.Bool.{false_from_ne_true}
+use Rattle.std.proofs.lemmas.Bool.{false_from_ne_true, false≢true}
 
 abbrev IsRight : Vec ℕ Global → Type 0
 IsRight words = IsExpected words.items
@@ -35,7 +35,7 @@ loop-alloc-init c = (
 
 pub returns-in_default-clause-every : goal.returns-in_default-clause-every
 returns-in_default-clause-every c =
-    let some : ¬ (c.loop-alloc.lines.rest.now ≡ []) = λ e. let yes = c.is_empty.ensures.1 e in cc (yes) in
+    let some : ¬ (c.loop-alloc.lines.rest.now ≡ []) = λ e. false≢true (sym c.loop-alloc-test.true ∙ c.is_empty.ensures.1 e) in
     λ expected right e.
     let f = LinesLeft-first (c.loop-alloc.invariant.2 expected right e) some in
     let read = c.in_ok-line.ensures.every (expect_words f.next) (lines_of expect_words f.others []) (expected-line f.next.items f.next_good) f.left_is in
@@ -43,16 +43,16 @@ returns-in_default-clause-every c =
 
 pub returns-in_err-end-clause-every : goal.returns-in_err-end-clause-every
 returns-in_err-end-clause-every c =
-    let some : ¬ (c.loop-alloc.lines.rest.now ≡ []) = λ e. let yes = c.is_empty.ensures.1 e in cc (yes) in
+    let some : ¬ (c.loop-alloc.lines.rest.now ≡ []) = λ e. false≢true (sym c.loop-alloc-test.true ∙ c.is_empty.ensures.1 e) in
     λ expected right e.
     let f = LinesLeft-first (c.loop-alloc.invariant.2 expected right e) some in
     let read = c.in_ok-line.ensures.every (expect_words f.next) (lines_of expect_words f.others []) (expected-line f.next.items f.next_good) f.left_is in
     let bad = c.in_err-end.ensures.ended.1 read.2 in
-    absurd (cc (bad))
+    absurd (false≢true bad)
 
 pub loop-alloc-preserved : goal.loop-alloc-preserved
 loop-alloc-preserved c =
-    let some : ¬ (c.loop-alloc.lines.rest.now ≡ []) = λ e. let yes = c.is_empty.ensures.1 e in cc (yes) in
+    let some : ¬ (c.loop-alloc.lines.rest.now ≡ []) = λ e. false≢true (sym c.loop-alloc-test.true ∙ c.is_empty.ensures.1 e) in
     let ended : IsTrue c.next.new.self.is_ended = c.in_ok-end.ensures.ended.0 refl in
     let found : c.in_ok-line.line.now ≡ expect_words c.in_ok-words.words = search rules in
     let is_right : IsExpected c.in_ok-words.words.items = search rules in
@@ -81,7 +81,7 @@ returns-in_default-clause-told c =
     let few : length (bytes_of c.loop-alloc.expected.items) + 1 < 2 ^ 63 = omega (arith, long, len, some) in
     λ low.
     tells-wrong expect_lines c.args.lines.now.rest.now (c.args.lines.now.number + line_feeds c.args.lines.now.rest.now) _ (bytes_of c.loop-alloc.expected.items) c.loop-alloc.lines.rest.now c.in_ok-line.line.now c.next.new.self.rest.now c.next.new.self.is_ended c.loop-alloc.lines.number c.next.new.self.number
-    text (held-good c.loop-alloc.expected.items c.loop-alloc.invariant.1) (omega (arith, few)) (λ none. let yes = c.is_empty.ensures.1 none in cc (yes)) (c.loop-alloc.invariant.4 low) low c.next.ensures.number c.in_ok-line.ensures.ended c.in_ok-line.ensures.last c.in_ok-line.ensures.plain (c.fault.ensures ∙ ap (λ (k : LineKind). Line c.next.new.self.number k) c.loop-alloc.invariant.3)
+    text (held-good c.loop-alloc.expected.items c.loop-alloc.invariant.1) (omega (arith, few)) (λ none. false≢true (sym c.loop-alloc-test.true ∙ c.is_empty.ensures.1 none)) (c.loop-alloc.invariant.4 low) low c.next.ensures.number c.in_ok-line.ensures.ended c.in_ok-line.ensures.last c.in_ok-line.ensures.plain (c.fault.ensures ∙ ap (λ (k : LineKind). Line c.next.new.self.number k) c.loop-alloc.invariant.3)
     (λ words good same. c.in_default.ensures.every words good.0 same tt)
 
 pub returns-in_err-end-clause-told : goal.returns-in_err-end-clause-told
@@ -92,9 +92,9 @@ returns-in_err-end-clause-told c =
     let some = c.in_ok-line.ensures.shorter in
     let few : length (bytes_of c.loop-alloc.expected.items) + 1 < 2 ^ 63 = omega (arith, long, len, some) in
     let words : length c.in_ok-line.line.now ≡ 7 + length c.in-Some.words.now = ap length c.in-Some.ensures.text ∙ length-append (codes "expect ") c.in-Some.words.now in
-    let last : length c.loop-alloc.lines.rest.now ≡ length c.in_ok-line.line.now = ap length (c.in_ok-line.ensures.last (false_from_ne_true c.next.new.self.is_ended (λ yes. let bad = c.in_err-end.ensures.ended.1 yes in cc (bad)))) in
+    let last : length c.loop-alloc.lines.rest.now ≡ length c.in_ok-line.line.now = ap length (c.in_ok-line.ensures.last (false_from_ne_true c.next.new.self.is_ended (λ yes. false≢true (c.in_err-end.ensures.ended.1 yes)))) in
     let whole : length c.args.lines.now.rest.now < 2 ^ 63 = omega arith in
     let p = err_from_is_err_and c.from_residual-in_err-end.result c.from_residual-in_err-end.ensures.1 in λ low.
     rw (p.1, p.2) (tells-cut expect_lines c.args.lines.now.rest.now (c.args.lines.now.number + line_feeds c.args.lines.now.rest.now) _ (bytes_of c.loop-alloc.expected.items) c.in-Some.words.now c.loop-alloc.lines.rest.now c.in_ok-line.line.now c.next.new.self.is_ended c.loop-alloc.lines.number c.next.new.self.number
-    text (held-good c.loop-alloc.expected.items c.loop-alloc.invariant.1) few (c.loop-alloc.invariant.4 low) low c.next.ensures.number c.in_ok-line.ensures.last c.in_ok-line.ensures.plain (λ yes. let bad = c.in_err-end.ensures.ended.1 yes in cc (bad))
+    text (held-good c.loop-alloc.expected.items c.loop-alloc.invariant.1) few (c.loop-alloc.invariant.4 low) low c.next.ensures.number c.in_ok-line.ensures.last c.in_ok-line.ensures.plain (λ yes. false≢true (c.in_err-end.ensures.ended.1 yes))
     c.in_err-end.ensures.fault c.in-Some.ensures.text (c.in-Some.ensures.right, omega (arith, words, long, len, last, whole)))

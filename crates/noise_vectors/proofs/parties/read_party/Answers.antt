@@ -12,7 +12,7 @@ use Rattle.noise_vectors.proofs.ToldLemmas.{counted-here, counted-last, counted-
 use Rattle.noise_vectors.specs.VectorText.{key_words}
 use Rattle.noise_vectors.proofs.PartyLemmas.{not-xor, party-read, words_of, xor-after}
 use Rattle.noise_vectors.proofs.parties.read_party.Goals as goal
-use Rattle.std.proofs.lemmas.Bool.{false_from_ne_true}
+use Rattle.std.proofs.lemmas.Bool.{false_from_ne_true, false≢true}
 
 pub returns-in_default-clause-every : goal.returns-in_default-clause-every
 returns-in_default-clause-every c = λ keys rest h other is.
@@ -25,7 +25,7 @@ returns-in_err-end-clause-every c = λ keys rest h other is.
     let read = party-read c.args.role keys c.args.lines.now.rest.now rest c.in_ok-line.line.now c.next.new.self.rest.now c.next.new.self.is_ended
     h is c.in_ok-line.ensures.every in
     let bad = c.in_err-end.ensures.ended.1 read.2 in
-    absurd (cc (bad))
+    absurd (false≢true bad)
 
 pub returns-in-Some-keys_of-clause-every : goal.returns-in-Some-keys_of-clause-every
 returns-in-Some-keys_of-clause-every c =
@@ -50,14 +50,14 @@ returns-in_default-keys_of-2-clause-every c =
     let t = not-xor keys c.in-Some.words.now c.as_slice.result.now h words front c.in_default-keys_of.ensures.every in
     let bad = c.in_default-keys_of-2.ensures.every t.table.e t.table.s t.e t.s
     (t.words_are ∙ ap (λ (f : List ℕ). f ++ key_words t.table.e t.table.s) (sym front_table)) in
-    absurd (cc (bad))
+    absurd (false≢true bad)
 
 pub returns-in_err-end-2-clause-every : goal.returns-in_err-end-2-clause-every
 returns-in_err-end-2-clause-every c = λ keys rest h other is.
     let read = party-read c.args.role keys c.args.lines.now.rest.now rest c.in_ok-line.line.now c.next.new.self.rest.now c.next.new.self.is_ended
     h is c.in_ok-line.ensures.every in
     let bad = c.in_err-end-2.ensures.ended.1 read.2 in
-    absurd (cc (bad))
+    absurd (false≢true bad)
 
 pub returns-in_err-read_table-clause-every : goal.returns-in_err-read_table-clause-every
 returns-in_err-read_table-clause-every c =
@@ -69,7 +69,7 @@ returns-in_err-read_table-clause-every c =
     let t = not-xor keys c.in-Some.words.now c.as_slice.result.now h words front c.in_default-keys_of.ensures.every in
     let bad = c.in_err-read_table.ensures.every t.table.entries rest t.few t.entries_are other (read.1 ∙ t.after_is rest) in
     let no = bad.0 in
-    absurd (cc (no))
+    absurd (false≢true no)
 
 pub returns-clause-every : goal.returns-clause-every
 returns-clause-every c =
@@ -117,14 +117,14 @@ returns-in_default-keys_of-2-clause-told c =
           let t = not-xor keys c.in-Some.words.now c.as_slice.result.now h found front c.in_default-keys_of.ensures.every in
           let bad = c.in_default-keys_of-2.ensures.every t.table.e t.table.s t.e t.s
           (t.words_are ∙ ap (λ (f : List ℕ). f ++ key_words t.table.e t.table.s) (sym front_table)) in
-          cc (bad),
+          false≢true bad,
     )))
 
 pub returns-in_err-end-clause-told : goal.returns-in_err-end-clause-told
 returns-in_err-end-clause-told c =
     let front : c.as_slice.result.now ≡ codes "xor " = c.as_slice.ensures in
     let p = err_from_is_err_and c.from_residual-in_err-end.result c.from_residual-in_err-end.ensures.1 in λ low.
-    let last = c.in_ok-line.ensures.last (false_from_ne_true c.next.new.self.is_ended (λ yes. let bad = c.in_err-end.ensures.ended.1 yes in cc (bad))) in
+    let last = c.in_ok-line.ensures.last (false_from_ne_true c.next.new.self.is_ended (λ yes. false≢true (c.in_err-end.ensures.ended.1 yes))) in
     let n = counted-last c.args.lines.now.number c.next.new.self.number (c.args.lines.now.number + line_feeds c.args.lines.now.rest.now) c.args.lines.now.rest.now c.in_ok-line.line.now low refl c.next.ensures.number c.in_ok-line.ensures.plain last in
     rw (p.1, p.2) (inr (inl (
       c.in_err-end.ensures.fault ∙ ap (λ (k : ℕ). Line k kinds.Ending) n,
@@ -140,7 +140,7 @@ pub returns-in_err-end-2-clause-told : goal.returns-in_err-end-2-clause-told
 returns-in_err-end-2-clause-told c =
     let front : c.as_slice-2.result.now ≡ codes "table " = c.as_slice-2.ensures in
     let p = err_from_is_err_and c.from_residual-in_err-end-2.result c.from_residual-in_err-end-2.ensures.1 in λ low.
-    let last = c.in_ok-line.ensures.last (false_from_ne_true c.next.new.self.is_ended (λ yes. let bad = c.in_err-end-2.ensures.ended.1 yes in cc (bad))) in
+    let last = c.in_ok-line.ensures.last (false_from_ne_true c.next.new.self.is_ended (λ yes. false≢true (c.in_err-end-2.ensures.ended.1 yes))) in
     let n = counted-last c.args.lines.now.number c.next.new.self.number (c.args.lines.now.number + line_feeds c.args.lines.now.rest.now) c.args.lines.now.rest.now c.in_ok-line.line.now low refl c.next.ensures.number c.in_ok-line.ensures.plain last in
     rw (p.1, p.2) (inr (inl (
       c.in_err-end-2.ensures.fault ∙ ap (λ (k : ℕ). Line k kinds.Ending) n,

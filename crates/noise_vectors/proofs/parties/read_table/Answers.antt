@@ -1,4 +1,5 @@
 use Rattle.std.proofs.Common.{rules, ◌≡◌, ◌∙◌, ◌+◌, ◌≤◌, ap, subst, sym, refl, arith, ℕ, List, [], ◌∷◌, ◌++◌, true, false, true≢false, codes, length}
+use Rattle.std.proofs.lemmas.Bool.{false≢true}
 use Rattle.std.specs.Prelude.{IsTrue}
 use Rattle.std.specs.List.{All}
 use Rattle.std.proofs.lemmas.List.{length-append}
@@ -23,7 +24,7 @@ returns-in_default-clause-every c =
     let f = LinesLeft-begun (c.loop-lines.invariant.every entries rest few are other is) (codes "answer ") starts other in
     let read = c.in_ok-line.ensures.every (answer_words f.next) (lines_of answer_words f.others rest) (lacks-answer_words f.next f.next_good) f.left_is in
     let none = c.in_default.ensures.every f.next f.next_good read.0 in
-    absurd (cc (none))
+    absurd (false≢true none)
 
 pub returns-then-is_err-clause-every : goal.returns-then-is_err-clause-every
 returns-then-is_err-clause-every c =
@@ -40,7 +41,7 @@ returns-in_err-end-clause-every c =
     let f = LinesLeft-begun (c.loop-lines.invariant.every entries rest few are other is) (codes "answer ") starts other in
     let read = c.in_ok-line.ensures.every (answer_words f.next) (lines_of answer_words f.others rest) (lacks-answer_words f.next f.next_good) f.left_is in
     let bad = c.in_err-end.ensures.ended.1 read.2 in
-    absurd (cc (bad))
+    absurd (false≢true bad)
 
 pub loop-lines-preserved : goal.loop-lines-preserved
 loop-lines-preserved c =
@@ -50,7 +51,7 @@ loop-lines-preserved c =
     let added : c.add.new.self ≡ record c.loop-lines.table { entries = c.loop-lines.table.entries ++ found ∷ [] } = search rules in
     let one : length c.add.new.self.entries ≡ length c.loop-lines.table.entries + 1 =
     ap (λ (t : Table). length t.entries) added ∙ length-append c.loop-lines.table.entries (found ∷ []) in
-    let other : ¬ (length c.loop-lines.table.entries ≡ 8) = λ e. let full = c.add.ensures.full.1 e in cc (full, c.is_err.ensures.value, c.if-is_err.false) in
+    let other : ¬ (length c.loop-lines.table.entries ≡ 8) = λ e. false≢true (sym c.if-is_err.false ∙ c.is_err.ensures.value ∙ c.add.ensures.full.1 e) in
     let room : length c.add.new.self.entries ≤ 8 = omega (arith, c.loop-lines.invariant.few, one) in
     record {
       e = ap (λ (t : Table). t.e) added ∙ c.loop-lines.invariant.e;
@@ -81,7 +82,7 @@ returns-in_default-clause-told c =
     λ low.
     tells-wrong answer_lines c.args.lines.now.rest.now (c.args.lines.now.number + line_feeds c.args.lines.now.rest.now) _ c.loop-lines.table.entries c.loop-lines.lines.rest.now c.in_ok-line.line.now c.next.new.self.rest.now c.next.new.self.is_ended c.loop-lines.lines.number c.next.new.self.number
     c.loop-lines.invariant.text c.loop-lines.invariant.right c.loop-lines.invariant.few (λ over. true≢false (sym starts ∙ over)) (c.loop-lines.invariant.counted low) low c.next.ensures.number c.in_ok-line.ensures.ended c.in_ok-line.ensures.last c.in_ok-line.ensures.plain c.fault.ensures
-    (λ entry good same. let some = c.in_default.ensures.every entry good same in absurd (cc (some)))
+    (λ entry good same. let some = c.in_default.ensures.every entry good same in absurd (false≢true some))
 
 pub returns-then-is_err-clause-told : goal.returns-then-is_err-clause-told
 returns-then-is_err-clause-told c =
@@ -95,10 +96,10 @@ returns-then-is_err-clause-told c =
 pub returns-in_err-end-clause-told : goal.returns-in_err-end-clause-told
 returns-in_err-end-clause-told c =
     let found : TableEntry = record { own = c.in-Some.found.0; remote = c.in-Some.found.1; answer = c.in-Some.found.2 } in
-    let other : ¬ (length c.loop-lines.table.entries ≡ 8) = λ e. let full = c.add.ensures.full.1 e in cc (full, c.is_err.ensures.value, c.if-is_err.false) in
+    let other : ¬ (length c.loop-lines.table.entries ≡ 8) = λ e. false≢true (sym c.if-is_err.false ∙ c.is_err.ensures.value ∙ c.add.ensures.full.1 e) in
     let p = err_from_is_err_and c.from_residual-in_err-end.result c.from_residual-in_err-end.ensures.1 in λ low.
     rw (p.1, p.2) (tells-cut answer_lines c.args.lines.now.rest.now (c.args.lines.now.number + line_feeds c.args.lines.now.rest.now) _ c.loop-lines.table.entries found c.loop-lines.lines.rest.now c.in_ok-line.line.now c.next.new.self.is_ended c.loop-lines.lines.number c.next.new.self.number
-    c.loop-lines.invariant.text c.loop-lines.invariant.right (omega (arith, c.loop-lines.invariant.few, other)) (c.loop-lines.invariant.counted low) low c.next.ensures.number c.in_ok-line.ensures.last c.in_ok-line.ensures.plain (λ yes. let bad = c.in_err-end.ensures.ended.1 yes in cc (bad))
+    c.loop-lines.invariant.text c.loop-lines.invariant.right (omega (arith, c.loop-lines.invariant.few, other)) (c.loop-lines.invariant.counted low) low c.next.ensures.number c.in_ok-line.ensures.last c.in_ok-line.ensures.plain (λ yes. false≢true (c.in_err-end.ensures.ended.1 yes))
     c.in_err-end.ensures.fault c.in-Some.ensures.text c.in-Some.ensures.right)
 
 pub returns-clause-counted : goal.returns-clause-counted

@@ -1,4 +1,5 @@
 use Rattle.std.proofs.Common.{codes, decimal, refl, ◌++◌, ◌+◌, rules}
+use Rattle.std.proofs.lemmas.Bool.{false≢true}
 use Rattle.noise_vectors.proofs.ReadingLemmas.{interval-plain}
 use Rattle.std.proofs.lemmas.Result.{err_from_is_err_and}
 use Rattle.noise_vectors.specs.ReaderFaults.{IsIntervalLine}
@@ -18,7 +19,7 @@ pub returns-in_err-end-clause-every : goal.returns-in_err-end-clause-every
 returns-in_err-end-clause-every c = λ interval rest h e.
     let read = c.in_ok-line.ensures.every (codes "interval " ++ decimal interval) rest (interval-plain interval h) e in
     let ended = c.in_err-end.ensures.ended.1 read.2 in
-    absurd (cc (ended))
+    absurd (false≢true ended)
 
 pub returns-clause-every : goal.returns-clause-every
 returns-clause-every c = λ interval rest h e.
@@ -34,7 +35,7 @@ pub returns-in_err-end-clause-told : goal.returns-in_err-end-clause-told
 returns-in_err-end-clause-told c =
     let p = err_from_is_err_and c.from_residual-in_err-end.result c.from_residual-in_err-end.ensures.1 in λ low.
     rw (p.1, p.2) (line-cut IsIntervalLine c.args.lines.now.rest.now c.in_ok-line.line.now (c.args.lines.now.number + line_feeds c.args.lines.now.rest.now) kinds.Interval _ c.next.new.self.is_ended c.args.lines.now.number c.next.new.self.number
-    refl low c.next.ensures.number c.in_ok-line.ensures.last c.in_ok-line.ensures.plain (λ yes. let bad = c.in_err-end.ensures.ended.1 yes in cc (bad))
+    refl low c.next.ensures.number c.in_ok-line.ensures.last c.in_ok-line.ensures.plain (λ yes. false≢true (c.in_err-end.ensures.ended.1 yes))
     c.in_err-end.ensures.fault (c.in-Some.interval, search rules, c.in-Some.ensures.text))
 
 pub returns-clause-counted : goal.returns-clause-counted

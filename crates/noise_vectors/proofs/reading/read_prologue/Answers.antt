@@ -1,4 +1,5 @@
 use Rattle.std.proofs.Common.{codes, ◌++◌, ◌+◌, refl}
+use Rattle.std.proofs.lemmas.Bool.{false≢true}
 use Rattle.noise_vectors.specs.HexWord.{hex_of}
 use Rattle.noise_vectors.proofs.ReadingLemmas.{prologue-plain}
 use Rattle.std.proofs.lemmas.Result.{err_from_is_err_and}
@@ -13,13 +14,13 @@ pub returns-in_default-clause-every : goal.returns-in_default-clause-every
 returns-in_default-clause-every c = λ bytes rest h e.
     let read = c.in_ok-line.ensures.every (codes "prologue " ++ hex_of bytes) rest (prologue-plain bytes h) e in
     let some = c.in_ok-prologue.ensures.every bytes h read.0 in
-    absurd (cc (rw c.in_default.is at some))
+    absurd (false≢true (rw c.in_default.is at some))
 
 pub returns-in_err-end-clause-every : goal.returns-in_err-end-clause-every
 returns-in_err-end-clause-every c = λ bytes rest h e.
     let read = c.in_ok-line.ensures.every (codes "prologue " ++ hex_of bytes) rest (prologue-plain bytes h) e in
     let ended = c.in_err-end.ensures.ended.1 read.2 in
-    absurd (cc (ended))
+    absurd (false≢true ended)
 
 pub returns-clause-every : goal.returns-clause-every
 returns-clause-every c = λ bytes rest h e.
@@ -35,7 +36,7 @@ pub returns-in_err-end-clause-told : goal.returns-in_err-end-clause-told
 returns-in_err-end-clause-told c =
     let p = err_from_is_err_and c.from_residual-in_err-end.result c.from_residual-in_err-end.ensures.1 in λ low.
     rw (p.1, p.2) (line-cut IsPrologueLine c.args.lines.now.rest.now c.in_ok-line.line.now (c.args.lines.now.number + line_feeds c.args.lines.now.rest.now) kinds.Prologue _ c.next.new.self.is_ended c.args.lines.now.number c.next.new.self.number
-    refl low c.next.ensures.number c.in_ok-line.ensures.last c.in_ok-line.ensures.plain (λ yes. let bad = c.in_err-end.ensures.ended.1 yes in cc (bad))
+    refl low c.next.ensures.number c.in_ok-line.ensures.last c.in_ok-line.ensures.plain (λ yes. false≢true (c.in_err-end.ensures.ended.1 yes))
     c.in_err-end.ensures.fault (c.in-Some.prologue.items, rw c.in-Some.is at c.in_ok-prologue.ensures.right, rw c.in-Some.is at c.in_ok-prologue.ensures.text))
 
 pub returns-clause-counted : goal.returns-clause-counted

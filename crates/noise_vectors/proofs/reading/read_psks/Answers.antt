@@ -1,4 +1,5 @@
 use Rattle.std.proofs.Common.{rules, arith, ◌≡◌, ◌+◌, ◌≤◌, ◌∙◌, ap, subst, sym, refl, true, false, true≢false, List, ℕ, [], ◌∷◌, ◌++◌, codes, length}
+use Rattle.std.proofs.lemmas.Bool.{false≢true}
 use Rattle.std.specs.Prelude.{IsTrue}
 use Rattle.std.specs.Bool.{nat_eq}
 use Rattle.std.specs.List.{All, starts_with}
@@ -33,7 +34,7 @@ returns-in_default-clause-every c =
     let f = LinesLeft-begun (c.loop-lines.invariant.2 psks rest h other e) (codes "psk ") begun other in
     let read = c.in_ok-line.ensures.every (psk_words f.next) (lines_of psk_words f.others rest) (psk-plain f.next f.next_good) f.left_is in
     let some = c.in_default.ensures.every f.next f.next_good read.0 in
-    absurd (cc (some))
+    absurd (false≢true some)
 
 pub returns-then-is_err-clause-every : goal.returns-then-is_err-clause-every
 returns-then-is_err-clause-every c =
@@ -50,7 +51,7 @@ returns-in_err-end-clause-every c =
     let f = LinesLeft-begun (c.loop-lines.invariant.2 psks rest h other e) (codes "psk ") begun other in
     let read = c.in_ok-line.ensures.every (psk_words f.next) (lines_of psk_words f.others rest) (psk-plain f.next f.next_good) f.left_is in
     let ended = c.in_err-end.ensures.ended.1 read.2 in
-    absurd (cc (ended))
+    absurd (false≢true ended)
 
 pub loop-lines-preserved : goal.loop-lines-preserved
 loop-lines-preserved c =
@@ -89,7 +90,7 @@ returns-in_default-clause-told c =
     λ low.
     tells-wrong psk_lines c.args.lines.now.rest.now (c.args.lines.now.number + line_feeds c.args.lines.now.rest.now) _ c.loop-lines.psks.items c.loop-lines.lines.rest.now c.in_ok-line.line.now c.next.new.self.rest.now c.next.new.self.is_ended c.loop-lines.lines.number c.next.new.self.number
     c.loop-lines.invariant.0 c.loop-lines.invariant.1.1 c.loop-lines.invariant.1.0 (λ over. true≢false (sym begun ∙ over)) (c.loop-lines.invariant.3 low) low c.next.ensures.number c.in_ok-line.ensures.ended c.in_ok-line.ensures.last c.in_ok-line.ensures.plain c.fault.ensures
-    (λ psk key same. let some = c.in_default.ensures.every psk key same in absurd (cc (some)))
+    (λ psk key same. let some = c.in_default.ensures.every psk key same in absurd (false≢true some))
 
 pub returns-then-is_err-clause-told : goal.returns-then-is_err-clause-told
 returns-then-is_err-clause-told c =
@@ -108,7 +109,7 @@ returns-in_err-end-clause-told c =
     ap length pushed ∙ length-append c.loop-lines.psks.items (c.in-Some.psk ∷ []) in
     let p = err_from_is_err_and c.from_residual-in_err-end.result c.from_residual-in_err-end.ensures.1 in λ low.
     rw (p.1, p.2) (tells-cut psk_lines c.args.lines.now.rest.now (c.args.lines.now.number + line_feeds c.args.lines.now.rest.now) _ c.loop-lines.psks.items c.in-Some.psk c.loop-lines.lines.rest.now c.in_ok-line.line.now c.next.new.self.is_ended c.loop-lines.lines.number c.next.new.self.number
-    c.loop-lines.invariant.0 c.loop-lines.invariant.1.1 (omega (arith, few, more)) (c.loop-lines.invariant.3 low) low c.next.ensures.number c.in_ok-line.ensures.last c.in_ok-line.ensures.plain (λ yes. let bad = c.in_err-end.ensures.ended.1 yes in cc (bad))
+    c.loop-lines.invariant.0 c.loop-lines.invariant.1.1 (omega (arith, few, more)) (c.loop-lines.invariant.3 low) low c.next.ensures.number c.in_ok-line.ensures.last c.in_ok-line.ensures.plain (λ yes. false≢true (c.in_err-end.ensures.ended.1 yes))
     c.in_err-end.ensures.fault c.in-Some.ensures.text c.in-Some.ensures.right)
 
 pub returns-clause-counted : goal.returns-clause-counted
