@@ -24,3 +24,4 @@ pub mod UniqueTexts
 pub mod UniqueWords
 pub mod VectorLemmas
 pub mod WordLemmas
+pub mod Results

@@ -1,4 +1,4 @@
-use Rattle.std.proofs.Common.{rules, ◌≡◌, ◌∙◌, ◌+◌, ap, inl, inr, lit<, refl, subst, true, ℕ, List, [], ◌++◌, Option, codes}
+use Rattle.std.proofs.Common.{rules, ◌≡◌, ◌∙◌, ◌+◌, ap, inl, inr, lit<, refl, subst, true, ℕ, List, [], ◌++◌, Option, codes, sym}
 use Rattle.std.proofs.lemmas.List.Elements.{All-nil}
 use Rattle.std.specs.Prelude.{IfSome}
 use Rattle.std.specs.Bool.{nat_eq}
@@ -23,7 +23,8 @@ AreRight found = IfSome found (λ over. All IsDatagramEvent over.events.items)
 
 pub returns-in_default-clause-every : goal.returns-in_default-clause-every
 returns-in_default-clause-every c =
-    let begun : starts_with nat_eq c.args.lines.now.rest.now (codes "datagrams ") ≡ true = search rules in
+    let begun : starts_with nat_eq c.args.lines.now.rest.now (codes "datagrams ") ≡ true =
+    ap (starts_with nat_eq c.args.lines.now.rest.now) (sym c.as_slice.ensures) ∙ sym c.if-not-starts_with.ensures.value in
     λ over rest right allowed after e.
     let (d, is) = over-stands over c.args.lines.now.rest.now rest begun after e in
     let text = e ∙ ap (λ (o : Option FileDatagrams). datagrams_text o rest) is in
@@ -33,7 +34,8 @@ returns-in_default-clause-every c =
 
 pub returns-in_err-end-clause-every : goal.returns-in_err-end-clause-every
 returns-in_err-end-clause-every c =
-    let begun : starts_with nat_eq c.args.lines.now.rest.now (codes "datagrams ") ≡ true = search rules in
+    let begun : starts_with nat_eq c.args.lines.now.rest.now (codes "datagrams ") ≡ true =
+    ap (starts_with nat_eq c.args.lines.now.rest.now) (sym c.as_slice.ensures) ∙ sym c.if-not-starts_with.ensures.value in
     λ over rest right allowed after e.
     let (d, is) = over-stands over c.args.lines.now.rest.now rest begun after e in
     let text = e ∙ ap (λ (o : Option FileDatagrams). datagrams_text o rest) is in
@@ -44,7 +46,8 @@ returns-in_err-end-clause-every c =
 pub returns-in_err-events-clause-every : goal.returns-in_err-events-clause-every
 returns-in_err-events-clause-every c =
     let p = err_from_is_err_and c.from_residual-in_err-events.result c.from_residual-in_err-events.ensures.1 in
-    let begun : starts_with nat_eq c.args.lines.now.rest.now (codes "datagrams ") ≡ true = search rules in
+    let begun : starts_with nat_eq c.args.lines.now.rest.now (codes "datagrams ") ≡ true =
+    ap (starts_with nat_eq c.args.lines.now.rest.now) (sym c.as_slice.ensures) ∙ sym c.if-not-starts_with.ensures.value in
     λ over rest right allowed after e.
     let (d, is) = over-stands over c.args.lines.now.rest.now rest begun after e in
     let text = e ∙ ap (λ (o : Option FileDatagrams). datagrams_text o rest) is in
@@ -53,7 +56,8 @@ returns-in_err-events-clause-every c =
 
 pub returns-clause-every : goal.returns-clause-every
 returns-clause-every c =
-    let begun : starts_with nat_eq c.args.lines.now.rest.now (codes "datagrams ") ≡ true = search rules in
+    let begun : starts_with nat_eq c.args.lines.now.rest.now (codes "datagrams ") ≡ true =
+    ap (starts_with nat_eq c.args.lines.now.rest.now) (sym c.as_slice.ensures) ∙ sym c.if-not-starts_with.ensures.value in
     λ over rest right allowed after e.
     let (d, is) = over-stands over c.args.lines.now.rest.now rest begun after e in
     let text = e ∙ ap (λ (o : Option FileDatagrams). datagrams_text o rest) is in
@@ -62,7 +66,8 @@ returns-clause-every c =
 
 pub returns-in_default-clause-told : goal.returns-in_default-clause-told
 returns-in_default-clause-told c =
-    let begun : starts_with nat_eq c.args.lines.now.rest.now (codes "datagrams ") ≡ true = search rules in λ low.
+    let begun : starts_with nat_eq c.args.lines.now.rest.now (codes "datagrams ") ≡ true =
+    ap (starts_with nat_eq c.args.lines.now.rest.now) (sym c.as_slice.ensures) ∙ sym c.if-not-starts_with.ensures.value in λ low.
     inr (inr (inl (record {
       begun = begun;
       it = record {

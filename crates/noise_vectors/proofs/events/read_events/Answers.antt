@@ -15,6 +15,7 @@ use Rattle.noise_vectors.specs.WrongLine.{line_feeds}
 use Rattle.noise_vectors.proofs.PartLemmas.{tells-cut, tells-wrong}
 use Rattle.noise_vectors.proofs.ToldLemmas.{counted-step}
 use Rattle.noise_vectors.proofs.HeldLemmas.{lines-long}
+use Rattle.noise_vectors.proofs.Results.{chosen_ok}
 use Rattle.noise_vectors.proofs.events.read_events.Goals as goal
 
 pub loop-alloc-init : goal.loop-alloc-init
@@ -49,8 +50,10 @@ loop-alloc-preserved c =
     let found : c.in_ok-line.line.now ≡ event_words c.in-Some.event = rw c.in-Some.is at c.in_ok-event.ensures.text in
     let is_allowed : IsAllowed c.args.allowed c.in-Some.event = rw c.in-Some.is at c.in_ok-event.ensures.allowed in
     let is_event : IsEvent c.in-Some.event = rw c.in-Some.is at c.in_ok-event.ensures.right in
-    let pushed : c.push.new.self.items ≡ c.loop-alloc.events.items ++ c.in-Some.event ∷ [] = search rules in
-    let len : vec_len c.push.new.self ≡ vec_len c.loop-alloc.events + 1 = search rules in (
+    let pushed : c.push.new.self.items ≡ c.loop-alloc.events.items ++ c.in-Some.event ∷ [] =
+    chosen_ok c.push.result _ _ _ c.push.ensures.items (sym c.if-is_err.ensures.value) in
+    let len : vec_len c.push.new.self ≡ vec_len c.loop-alloc.events + 1 =
+    chosen_ok c.push.result _ _ _ c.push.ensures.len (sym c.if-is_err.ensures.value) in (
       lines_of-more event_words c.args.lines.now.rest.now c.loop-alloc.lines.rest.now c.in_ok-line.line.now c.next.new.self.rest.now
           c.loop-alloc.events.items c.in-Some.event c.loop-alloc.invariant.0 (c.in_ok-line.ensures.ended ended) found
           ∙ ap (λ (events : List Event). lines_of event_words events c.next.new.self.rest.now) (sym pushed),

@@ -18,6 +18,7 @@ use Rattle.noise_vectors.proofs.PartLemmas.{tells-cut, tells-wrong}
 use Rattle.noise_vectors.proofs.ToldLemmas.{counted-step}
 use Rattle.noise_vectors.proofs.HeldLemmas.{expect-more, held-good, held-lines, lines-long}
 use Rattle.noise_vectors.proofs.expected.read_expected.Goals as goal
+use Rattle.noise_vectors.proofs.Results.{chosen_ok}
 use Rattle.std.proofs.lemmas.Bool.{false_from_ne_true, false≢true}
 
 abbrev IsRight : Vec ℕ Global → Type 0
@@ -56,8 +57,10 @@ loop-alloc-preserved c =
     let ended : IsTrue c.next.new.self.is_ended = c.in_ok-end.ensures.ended.0 refl in
     let found : c.in_ok-line.line.now ≡ expect_words c.in_ok-words.words = search rules in
     let is_right : IsExpected c.in_ok-words.words.items = search rules in
-    let pushed : c.push.new.self.items ≡ c.loop-alloc.expected.items ++ c.in_ok-words.words ∷ [] = search rules in
-    let len : vec_len c.push.new.self ≡ vec_len c.loop-alloc.expected + 1 = search rules in (
+    let pushed : c.push.new.self.items ≡ c.loop-alloc.expected.items ++ c.in_ok-words.words ∷ [] =
+    chosen_ok c.push.result _ _ _ c.push.ensures.items (sym c.if-is_err.ensures.value) in
+    let len : vec_len c.push.new.self ≡ vec_len c.loop-alloc.expected + 1 =
+    chosen_ok c.push.result _ _ _ c.push.ensures.len (sym c.if-is_err.ensures.value) in (
       lines_of-more expect_words c.args.lines.now.rest.now c.loop-alloc.lines.rest.now c.in_ok-line.line.now c.next.new.self.rest.now
           c.loop-alloc.expected.items c.in_ok-words.words c.loop-alloc.invariant.0 (c.in_ok-line.ensures.ended ended) found
           ∙ ap (λ (expected : List (Vec ℕ Global)). lines_of expect_words expected c.next.new.self.rest.now) (sym pushed),

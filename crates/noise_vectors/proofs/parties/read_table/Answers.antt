@@ -1,11 +1,12 @@
 use Rattle.std.proofs.Common.{rules, ◌≡◌, ◌∙◌, ◌+◌, ◌≤◌, ap, subst, sym, refl, arith, ℕ, List, [], ◌∷◌, ◌++◌, true, false, true≢false, codes, length}
 use Rattle.std.proofs.lemmas.Bool.{false≢true}
 use Rattle.std.specs.Prelude.{IsTrue}
-use Rattle.std.specs.List.{All}
+use Rattle.std.specs.List.{All, starts_with}
 use Rattle.std.proofs.lemmas.List.{length-append}
 use Rattle.std.proofs.lemmas.List.Elements.{All-push}
 use Rattle.noise_keys.specs.Table.{Table}
 use Rattle.noise_keys.specs.Table.{TableEntry}
+use Rattle.std.specs.Bool.{nat_eq}
 use Rattle.noise_vectors.specs.VectorFile.{IsEntry}
 use Rattle.noise_vectors.specs.VectorText.{answer_words, line, lines_of}
 use Rattle.noise_vectors.proofs.LineLemmas.{lines_of-more, FirstLine-room, FirstLine-step, LinesLeft-begun, LinesLeft-end}
@@ -19,7 +20,8 @@ use Rattle.noise_vectors.proofs.parties.read_table.Goals as goal
 
 pub returns-in_default-clause-every : goal.returns-in_default-clause-every
 returns-in_default-clause-every c =
-    let starts : begins c.loop-lines.lines.rest.now ≡ true = search rules in
+    let starts : begins c.loop-lines.lines.rest.now ≡ true =
+    ap (starts_with nat_eq c.loop-lines.lines.rest.now) (sym c.as_slice.ensures) ∙ sym c.loop-lines-test.ensures.value in
     λ entries rest few are other is.
     let f = LinesLeft-begun (c.loop-lines.invariant.every entries rest few are other is) (codes "answer ") starts other in
     let read = c.in_ok-line.ensures.every (answer_words f.next) (lines_of answer_words f.others rest) (lacks-answer_words f.next f.next_good) f.left_is in
@@ -28,7 +30,8 @@ returns-in_default-clause-every c =
 
 pub returns-then-is_err-clause-every : goal.returns-then-is_err-clause-every
 returns-then-is_err-clause-every c =
-    let starts : begins c.loop-lines.lines.rest.now ≡ true = search rules in
+    let starts : begins c.loop-lines.lines.rest.now ≡ true =
+    ap (starts_with nat_eq c.loop-lines.lines.rest.now) (sym c.as_slice.ensures) ∙ sym c.loop-lines-test.ensures.value in
     let full : length c.loop-lines.table.entries ≡ 8 = c.add.ensures.full.0 (sym c.if-is_err.ensures.value) in
     λ entries rest few are other is.
     let f = LinesLeft-begun (c.loop-lines.invariant.every entries rest few are other is) (codes "answer ") starts other in
@@ -36,7 +39,8 @@ returns-then-is_err-clause-every c =
 
 pub returns-in_err-end-clause-every : goal.returns-in_err-end-clause-every
 returns-in_err-end-clause-every c =
-    let starts : begins c.loop-lines.lines.rest.now ≡ true = search rules in
+    let starts : begins c.loop-lines.lines.rest.now ≡ true =
+    ap (starts_with nat_eq c.loop-lines.lines.rest.now) (sym c.as_slice.ensures) ∙ sym c.loop-lines-test.ensures.value in
     λ entries rest few are other is.
     let f = LinesLeft-begun (c.loop-lines.invariant.every entries rest few are other is) (codes "answer ") starts other in
     let read = c.in_ok-line.ensures.every (answer_words f.next) (lines_of answer_words f.others rest) (lacks-answer_words f.next f.next_good) f.left_is in
@@ -45,7 +49,8 @@ returns-in_err-end-clause-every c =
 
 pub loop-lines-preserved : goal.loop-lines-preserved
 loop-lines-preserved c =
-    let starts : begins c.loop-lines.lines.rest.now ≡ true = search rules in
+    let starts : begins c.loop-lines.lines.rest.now ≡ true =
+    ap (starts_with nat_eq c.loop-lines.lines.rest.now) (sym c.as_slice.ensures) ∙ sym c.loop-lines-test.ensures.value in
     let ended : IsTrue c.next.new.self.is_ended = c.in_ok-end.ensures.ended.0 refl in
     let found : TableEntry = record { own = c.in-Some.found.0; remote = c.in-Some.found.1; answer = c.in-Some.found.2 } in
     let added : c.add.new.self ≡ record c.loop-lines.table { entries = c.loop-lines.table.entries ++ found ∷ [] } = search rules in
@@ -71,14 +76,16 @@ loop-lines-preserved c =
 
 pub returns-clause-every : goal.returns-clause-every
 returns-clause-every c =
-    let over : begins c.loop-lines.lines.rest.now ≡ false = search rules in
+    let over : begins c.loop-lines.lines.rest.now ≡ false =
+    ap (starts_with nat_eq c.loop-lines.lines.rest.now) (sym c.as_slice.ensures) ∙ sym c.loop-lines-test.ensures.value in
     let none : (entry : TableEntry) (after : List ℕ) → ¬ (c.loop-lines.lines.rest.now ≡ line (answer_words entry) after) =
     λ entry after e. true≢false (sym (ap begins e) ∙ over) in
     λ entries rest few are other is. (refl, LinesLeft-end (c.loop-lines.invariant.every entries rest few are other is) none)
 
 pub returns-in_default-clause-told : goal.returns-in_default-clause-told
 returns-in_default-clause-told c =
-    let starts : begins c.loop-lines.lines.rest.now ≡ true = search rules in
+    let starts : begins c.loop-lines.lines.rest.now ≡ true =
+    ap (starts_with nat_eq c.loop-lines.lines.rest.now) (sym c.as_slice.ensures) ∙ sym c.loop-lines-test.ensures.value in
     λ low.
     tells-wrong answer_lines c.args.lines.now.rest.now (c.args.lines.now.number + line_feeds c.args.lines.now.rest.now) _ c.loop-lines.table.entries c.loop-lines.lines.rest.now c.in_ok-line.line.now c.next.new.self.rest.now c.next.new.self.is_ended c.loop-lines.lines.number c.next.new.self.number
     c.loop-lines.invariant.text c.loop-lines.invariant.right c.loop-lines.invariant.few (λ over. true≢false (sym starts ∙ over)) (c.loop-lines.invariant.counted low) low c.next.ensures.number c.in_ok-line.ensures.ended c.in_ok-line.ensures.last c.in_ok-line.ensures.plain c.fault.ensures
@@ -86,7 +93,8 @@ returns-in_default-clause-told c =
 
 pub returns-then-is_err-clause-told : goal.returns-then-is_err-clause-told
 returns-then-is_err-clause-told c =
-    let starts : begins c.loop-lines.lines.rest.now ≡ true = search rules in
+    let starts : begins c.loop-lines.lines.rest.now ≡ true =
+    ap (starts_with nat_eq c.loop-lines.lines.rest.now) (sym c.as_slice.ensures) ∙ sym c.loop-lines-test.ensures.value in
     let full : length c.loop-lines.table.entries ≡ 8 = c.add.ensures.full.0 (sym c.if-is_err.ensures.value) in
     λ low.
     tells-wrong answer_lines c.args.lines.now.rest.now (c.args.lines.now.number + line_feeds c.args.lines.now.rest.now) _ c.loop-lines.table.entries c.loop-lines.lines.rest.now c.in_ok-line.line.now c.next.new.self.rest.now c.next.new.self.is_ended c.loop-lines.lines.number c.next.new.self.number

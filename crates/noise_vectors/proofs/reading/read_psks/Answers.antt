@@ -16,11 +16,12 @@ use Rattle.noise_vectors.specs.ReaderFaults.{psk_lines}
 use Rattle.noise_vectors.specs.WrongLine.{line_feeds}
 use Rattle.noise_vectors.proofs.PartLemmas.{tells-cut, tells-wrong}
 use Rattle.noise_vectors.proofs.ToldLemmas.{counted-step}
+use Rattle.noise_vectors.proofs.Results.{at_ok, at_err}
 use Rattle.noise_vectors.proofs.reading.read_psks.Goals as goal
 
 pub loop-lines-init : goal.loop-lines-init
 loop-lines-init c =
-    let none : c.new-psks.result.items ≡ [] = search rules in (
+    let none : c.new-psks.result.items ≡ [] = c.new-psks.ensures in (
       ap (λ (psks : List (List ℕ)). lines_of psk_words psks c.args.lines.now.rest.now) (sym none),
       subst ArePsks (sym none) (omega arith, All-nil IsKey),
       λ psks rest h other e. LinesLeft-start psk_words IsKey 9 (length c.new-psks.result.items) psks c.args.lines.now.rest.now rest (ap length none) e h.1 h.0,
@@ -29,7 +30,8 @@ loop-lines-init c =
 
 pub returns-in_default-clause-every : goal.returns-in_default-clause-every
 returns-in_default-clause-every c =
-    let begun : starts_with nat_eq c.loop-lines.lines.rest.now (codes "psk ") ≡ true = search rules in
+    let begun : starts_with nat_eq c.loop-lines.lines.rest.now (codes "psk ") ≡ true =
+    ap (starts_with nat_eq c.loop-lines.lines.rest.now) (sym c.as_slice.ensures) ∙ sym c.loop-lines-test.ensures.value in
     λ psks rest h other e.
     let f = LinesLeft-begun (c.loop-lines.invariant.2 psks rest h other e) (codes "psk ") begun other in
     let read = c.in_ok-line.ensures.every (psk_words f.next) (lines_of psk_words f.others rest) (psk-plain f.next f.next_good) f.left_is in
@@ -38,15 +40,17 @@ returns-in_default-clause-every c =
 
 pub returns-then-is_err-clause-every : goal.returns-then-is_err-clause-every
 returns-then-is_err-clause-every c =
-    let begun : starts_with nat_eq c.loop-lines.lines.rest.now (codes "psk ") ≡ true = search rules in
-    let full : length c.loop-lines.psks.items ≡ 9 = search rules in
+    let begun : starts_with nat_eq c.loop-lines.lines.rest.now (codes "psk ") ≡ true =
+    ap (starts_with nat_eq c.loop-lines.lines.rest.now) (sym c.as_slice.ensures) ∙ sym c.loop-lines-test.ensures.value in
+    let full : length c.loop-lines.psks.items ≡ 9 = at_err c.try_push.result c.try_push.ensures.full (sym c.if-is_err.ensures.value) in
     λ psks rest h other e.
     let f = LinesLeft-begun (c.loop-lines.invariant.2 psks rest h other e) (codes "psk ") begun other in
     absurd (omega (arith, FirstLine-room f))
 
 pub returns-in_err-end-clause-every : goal.returns-in_err-end-clause-every
 returns-in_err-end-clause-every c =
-    let begun : starts_with nat_eq c.loop-lines.lines.rest.now (codes "psk ") ≡ true = search rules in
+    let begun : starts_with nat_eq c.loop-lines.lines.rest.now (codes "psk ") ≡ true =
+    ap (starts_with nat_eq c.loop-lines.lines.rest.now) (sym c.as_slice.ensures) ∙ sym c.loop-lines-test.ensures.value in
     λ psks rest h other e.
     let f = LinesLeft-begun (c.loop-lines.invariant.2 psks rest h other e) (codes "psk ") begun other in
     let read = c.in_ok-line.ensures.every (psk_words f.next) (lines_of psk_words f.others rest) (psk-plain f.next f.next_good) f.left_is in
@@ -56,8 +60,10 @@ returns-in_err-end-clause-every c =
 pub loop-lines-preserved : goal.loop-lines-preserved
 loop-lines-preserved c =
     let ended : IsTrue c.next.new.self.is_ended = c.in_ok-end.ensures.ended.0 refl in
-    let begun : starts_with nat_eq c.loop-lines.lines.rest.now (codes "psk ") ≡ true = search rules in
-    let pushed : c.try_push.new.self.items ≡ c.loop-lines.psks.items ++ c.in-Some.psk ∷ [] = search rules in
+    let begun : starts_with nat_eq c.loop-lines.lines.rest.now (codes "psk ") ≡ true =
+    ap (starts_with nat_eq c.loop-lines.lines.rest.now) (sym c.as_slice.ensures) ∙ sym c.loop-lines-test.ensures.value in
+    let pushed : c.try_push.new.self.items ≡ c.loop-lines.psks.items ++ c.in-Some.psk ∷ [] =
+    at_ok c.try_push.result c.try_push.ensures.ok (sym c.if-is_err.ensures.value) in
     let is_key : IsKey c.in-Some.psk = c.in-Some.ensures.right in
     let few : length c.try_push.new.self.items ≤ 9 = search rules in
     let more : length c.try_push.new.self.items ≡ length c.loop-lines.psks.items + 1 =
@@ -79,14 +85,16 @@ loop-lines-preserved c =
 
 pub returns-clause-every : goal.returns-clause-every
 returns-clause-every c =
-    let over : starts_with nat_eq c.loop-lines.lines.rest.now (codes "psk ") ≡ false = search rules in
+    let over : starts_with nat_eq c.loop-lines.lines.rest.now (codes "psk ") ≡ false =
+    ap (starts_with nat_eq c.loop-lines.lines.rest.now) (sym c.as_slice.ensures) ∙ sym c.loop-lines-test.ensures.value in
     let none : (psk after : List ℕ) → ¬ (c.loop-lines.lines.rest.now ≡ line (psk_words psk) after) =
     λ psk after e. true≢false (sym (ap (λ (t : List ℕ). starts_with nat_eq t (codes "psk ")) e) ∙ over) in
     λ psks rest h other e. (refl, LinesLeft-end (c.loop-lines.invariant.2 psks rest h other e) none)
 
 pub returns-in_default-clause-told : goal.returns-in_default-clause-told
 returns-in_default-clause-told c =
-    let begun : starts_with nat_eq c.loop-lines.lines.rest.now (codes "psk ") ≡ true = search rules in
+    let begun : starts_with nat_eq c.loop-lines.lines.rest.now (codes "psk ") ≡ true =
+    ap (starts_with nat_eq c.loop-lines.lines.rest.now) (sym c.as_slice.ensures) ∙ sym c.loop-lines-test.ensures.value in
     λ low.
     tells-wrong psk_lines c.args.lines.now.rest.now (c.args.lines.now.number + line_feeds c.args.lines.now.rest.now) _ c.loop-lines.psks.items c.loop-lines.lines.rest.now c.in_ok-line.line.now c.next.new.self.rest.now c.next.new.self.is_ended c.loop-lines.lines.number c.next.new.self.number
     c.loop-lines.invariant.0 c.loop-lines.invariant.1.1 c.loop-lines.invariant.1.0 (λ over. true≢false (sym begun ∙ over)) (c.loop-lines.invariant.3 low) low c.next.ensures.number c.in_ok-line.ensures.ended c.in_ok-line.ensures.last c.in_ok-line.ensures.plain c.fault.ensures
@@ -94,8 +102,9 @@ returns-in_default-clause-told c =
 
 pub returns-then-is_err-clause-told : goal.returns-then-is_err-clause-told
 returns-then-is_err-clause-told c =
-    let begun : starts_with nat_eq c.loop-lines.lines.rest.now (codes "psk ") ≡ true = search rules in
-    let full : length c.loop-lines.psks.items ≡ 9 = search rules in
+    let begun : starts_with nat_eq c.loop-lines.lines.rest.now (codes "psk ") ≡ true =
+    ap (starts_with nat_eq c.loop-lines.lines.rest.now) (sym c.as_slice.ensures) ∙ sym c.loop-lines-test.ensures.value in
+    let full : length c.loop-lines.psks.items ≡ 9 = at_err c.try_push.result c.try_push.ensures.full (sym c.if-is_err.ensures.value) in
     λ low.
     tells-wrong psk_lines c.args.lines.now.rest.now (c.args.lines.now.number + line_feeds c.args.lines.now.rest.now) _ c.loop-lines.psks.items c.loop-lines.lines.rest.now c.in_ok-line.line.now c.next.new.self.rest.now c.next.new.self.is_ended c.loop-lines.lines.number c.next.new.self.number
     c.loop-lines.invariant.0 c.loop-lines.invariant.1.1 c.loop-lines.invariant.1.0 (λ over. true≢false (sym begun ∙ over)) (c.loop-lines.invariant.3 low) low c.next.ensures.number c.in_ok-line.ensures.ended c.in_ok-line.ensures.last c.in_ok-line.ensures.plain c.fault-then-is_err.ensures
@@ -103,7 +112,8 @@ returns-then-is_err-clause-told c =
 
 pub returns-in_err-end-clause-told : goal.returns-in_err-end-clause-told
 returns-in_err-end-clause-told c =
-    let pushed : c.try_push.new.self.items ≡ c.loop-lines.psks.items ++ c.in-Some.psk ∷ [] = search rules in
+    let pushed : c.try_push.new.self.items ≡ c.loop-lines.psks.items ++ c.in-Some.psk ∷ [] =
+    at_ok c.try_push.result c.try_push.ensures.ok (sym c.if-is_err.ensures.value) in
     let few : length c.try_push.new.self.items ≤ 9 = search rules in
     let more : length c.try_push.new.self.items ≡ length c.loop-lines.psks.items + 1 =
     ap length pushed ∙ length-append c.loop-lines.psks.items (c.in-Some.psk ∷ []) in
