@@ -1,0 +1,95 @@
+-- What the definitions by the token come to at a DH token.
+use Rattle.std.proofs.Common.{◌≡◌, ℕ, ◌+◌, ◌≤◌, List, [], ◌++◌, refl, arith}
+use Rattle.std.specs.Prelude.{Bool, true, Some, None, Option}
+use Rattle.noise_names.specs.declared.token.Token.{Token}
+use Rattle.noise_names.specs.declared.token.Token.TheVariants.{E, S, Ee, Es, Se, Ss, Psk}
+use Rattle.noise_state.specs.History.{History, MixKey, and_then}
+use Rattle.noise_handshake.specs.declared.faults.Cause.TheVariants.{Agreement}
+use Rattle.noise_handshake.specs.declared.remote.Remote.{Remote}
+use Rattle.noise_handshake.specs.Length.{keyed_after, token_width}
+use Rattle.noise_handshake.specs.Message.{token_bytes, after_token}
+use Rattle.noise_handshake.specs.Nonces.{nonce_after}
+use Rattle.noise_handshake.specs.View.{Reader, Fits, known_after, answered, own_at, remote_at, cause_of}
+use Rattle.noise_handshake.specs.Writing.{Writer, Gives}
+use Rattle.noise_handshake.specs.inner.Known.{e_after, s_after}
+use Rattle.noise_handshake.specs.inner.Listening.{Fails}
+
+-- what holds of the four DH tokens holds of a token that is neither a key nor a secret
+at-dh : (P : Token → Type 0) → P Ee → P Es → P Se → P Ss → (t : Token) → (t ≡ E → ⊥) → (t ≡ S → ⊥) → (t ≡ Psk → ⊥) → P t
+at-dh P a b c d E x y z = absurd (x refl)
+at-dh P a b c d S x y z = absurd (y refl)
+at-dh P a b c d Psk x y z = absurd (z refl)
+at-dh P a b c d Ee x y z = a
+at-dh P a b c d Es x y z = b
+at-dh P a b c d Se x y z = c
+at-dh P a b c d Ss x y z = d
+
+none-some : (o p : Option (List ℕ)) (x : List ℕ) → o ≡ None → o ≡ p → p ≡ Some x → ⊥
+none-some o p x e f g = cc
+
+some-of : (o p : Option (List ℕ)) (x : List ℕ) → o ≡ Some x → o ≡ p → p ≡ Some x
+some-of o p x e f = cc
+
+module _ (t : Token) (no_e : t ≡ E → ⊥) (no_s : t ≡ S → ⊥) (no_psk : t ≡ Psk → ⊥) where
+  pub dh-width : (key : Bool) → 0 ≡ token_width key t
+  dh-width key = at-dh (λ u. 0 ≡ token_width key u) refl refl refl refl t no_e no_s no_psk
+
+  pub dh-keyed : (psks key : Bool) → true ≡ keyed_after psks key t
+  dh-keyed psks key = at-dh (λ u. true ≡ keyed_after psks key u) refl refl refl refl t no_e no_s no_psk
+
+  pub dh-nonce : (psks key : Bool) (n : ℕ) → 0 ≡ nonce_after psks key n t
+  dh-nonce psks key n = at-dh (λ u. 0 ≡ nonce_after psks key n u) refl refl refl refl t no_e no_s no_psk
+
+  pub dh-e : (e : Bool) → e ≡ e_after e t
+  dh-e e = at-dh (λ u. e ≡ e_after e u) refl refl refl refl t no_e no_s no_psk
+
+  pub dh-s : (s : Bool) → s ≡ s_after s t
+  dh-s s = at-dh (λ u. s ≡ s_after s u) refl refl refl refl t no_e no_s no_psk
+
+  -- what it is read as, with its answer
+  pub dh-read : {St : Type 0} (stands : St → History → Type 0) (state : St) (v : Reader) (known : Remote) (secrets : List (List ℕ)) (r : History)
+      (m x : List ℕ) (o : Option (List ℕ))
+      → o ≡ answered v.agree (own_at v.role t) (remote_at v.role known t) → o ≡ Some x → stands state (and_then r (MixKey x))
+      → (x : List ℕ) × Fits v known secrets t x × (m ≡ token_bytes r t x ++ m) × stands state (after_token v.psks r t x) × (known ≡ known_after known t x)
+  dh-read stands state v known secrets r m x o e is h =
+      at-dh (λ u. o ≡ answered v.agree (own_at v.role u) (remote_at v.role known u)
+      → (x : List ℕ) × Fits v known secrets u x × (m ≡ token_bytes r u x ++ m) × stands state (after_token v.psks r u x) × (known ≡ known_after known u x))
+      (λ f. (x, some-of o _ x is f, refl, h, refl)) (λ f. (x, some-of o _ x is f, refl, h, refl)) (λ f. (x, some-of o _ x is f, refl, h, refl)) (λ f. (x, some-of o _ x is f, refl, h, refl))
+      t no_e no_s no_psk e
+
+  -- without one nothing fits
+  pub dh-fails : (v : Reader) (known : Remote) (secrets : List (List ℕ)) (r : History) (m : List ℕ) (key : Bool)
+      (o : Option (List ℕ)) → o ≡ answered v.agree (own_at v.role t) (remote_at v.role known t) → o ≡ None
+      → Fails v known secrets r t m × (Agreement ≡ cause_of key t m)
+  dh-fails v known secrets r m key o e is =
+      at-dh (λ u. o ≡ answered v.agree (own_at v.role u) (remote_at v.role known u) → Fails v known secrets r u m × (Agreement ≡ cause_of key u m))
+      (λ f. (λ x rest g _. none-some o _ x is f g, refl)) (λ f. (λ x rest g _. none-some o _ x is f g, refl))
+      (λ f. (λ x rest g _. none-some o _ x is f g, refl)) (λ f. (λ x rest g _. none-some o _ x is f g, refl))
+      t no_e no_s no_psk e
+
+  -- what it is written as, with its answer
+  pub dh-written : {St : Type 0} (stands : St → History → Type 0) (state : St) (w : Writer) (known : Remote) (secrets : List (List ℕ)) (r : History)
+      (m x : List ℕ) (o : Option (List ℕ))
+      → o ≡ answered w.agree (own_at w.role t) (remote_at w.role known t) → o ≡ Some x → m ≡ [] → stands state (and_then r (MixKey x))
+      → (x : List ℕ) × Gives w known secrets t x × (m ≡ token_bytes r t x) × stands state (after_token w.psks r t x)
+  dh-written stands state w known secrets r m x o e is none h =
+      at-dh (λ u. o ≡ answered w.agree (own_at w.role u) (remote_at w.role known u)
+      → (x : List ℕ) × Gives w known secrets u x × (m ≡ token_bytes r u x) × stands state (after_token w.psks r u x))
+      (λ f. (x, some-of o _ x is f, none, h)) (λ f. (x, some-of o _ x is f, none, h)) (λ f. (x, some-of o _ x is f, none, h)) (λ f. (x, some-of o _ x is f, none, h))
+      t no_e no_s no_psk e
+
+  -- without one it is not written
+  pub dh-lacks : (w : Writer) (known : Remote) (secrets : List (List ℕ)) (o : Option (List ℕ))
+      → o ≡ answered w.agree (own_at w.role t) (remote_at w.role known t) → o ≡ None → (x : List ℕ) → Gives w known secrets t x → ⊥
+  dh-lacks w known secrets o e is =
+      at-dh (λ u. o ≡ answered w.agree (own_at w.role u) (remote_at w.role known u) → (x : List ℕ) → Gives w known secrets u x → ⊥)
+      (λ f x g. none-some o _ x is f g) (λ f x g. none-some o _ x is f g) (λ f x g. none-some o _ x is f g) (λ f x g. none-some o _ x is f g)
+      t no_e no_s no_psk e
+
+-- a new key starts at nonce 0
+pub from_zero : (n m : ℕ) → n ≡ 0 → n ≤ m + 1
+from_zero n m e = omega (arith, e)
+
+-- and none is passed where it stays
+pub no_more : (n : ℕ) → n ≤ n + 1
+no_more n = omega arith
