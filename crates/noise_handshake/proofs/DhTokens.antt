@@ -86,10 +86,15 @@ module _ (t : Token) (no_e : t ≡ E → ⊥) (no_s : t ≡ S → ⊥) (no_psk :
       (λ f x g. none-some o _ x is f g) (λ f x g. none-some o _ x is f g) (λ f x g. none-some o _ x is f g) (λ f x g. none-some o _ x is f g)
       t no_e no_s no_psk e
 
--- a new key starts at nonce 0
+-- a nonce that starts anew, one that grows no more, one that stays, and a token that takes no bytes
 pub from_zero : (n m : ℕ) → n ≡ 0 → n ≤ m + 1
 from_zero n m e = omega (arith, e)
 
--- and none is passed where it stays
+pub less_one : (n m : ℕ) → n ≤ m → n ≤ m + 1
+less_one n m h = omega (arith, h)
+
 pub no_more : (n : ℕ) → n ≤ n + 1
 no_more n = omega arith
+
+pub none_taken : (n : ℕ) → 0 ≤ n
+none_taken n = omega arith

@@ -1,14 +1,19 @@
 use Rattle.std.proofs.Common.{◌≡◌, ap, ℕ, ◌+◌, ◌-◌, ◌≤◌, List, ◌∷◌, ◌++◌, length, drop, sym, subst, ◌∙◌, arith, length-drop, drop-drop}
 use Rattle.std.specs.Prelude.{Bool, is_some}
 use Rattle.noise_names.specs.declared.token.Token.{Token}
-use Rattle.noise_state.specs.Standing.{StateStands, keyed}
+use Rattle.noise_state.specs.Standing.{StateStands, keyed, nonce_now}
 use Rattle.noise_state.specs.History.{cipher_key}
 use Rattle.noise_handshake.specs.declared.layout.PlacedToken.{PlacedToken}
 use Rattle.noise_handshake.specs.Message.{token_bytes, after_token, after_tokens}
 use Rattle.noise_handshake.specs.View.{Reader, BeginsAs, cause_of}
 use Rattle.noise_handshake.specs.inner.Layout.{tokens_of, ArePlaced}
 use Rattle.noise_handshake.specs.inner.Listening.{Fails}
+use Rattle.noise_handshake.specs.Length.{keyed_after_tokens}
+use Rattle.noise_handshake.specs.Nonces.{nonce_after_tokens}
+use Rattle.noise_handshake.specs.inner.Known.{e_after_tokens, s_after_tokens}
+use Rattle.noise_handshake.proofs.DhTokens.{none_taken}
 use Rattle.noise_handshake.proofs.Layouts.{first-placed}
+use Rattle.noise_handshake.proofs.Stepwise.{keyed-on, e-on, s-on, nonce-on, bound-on, bound-first, some-token, one-later, nonce-left, secret-due, known-first, none-added, none-after}
 use Rattle.noise_handshake.proofs.Steps.{led-none, stopped, led, learned-on, stopped-later}
 use Rattle.noise_handshake.proofs.reading.+read_tokens.Goals as goal
 use Rattle.std.proofs.lemmas.List.{nil_from_length}
@@ -186,3 +191,69 @@ returns-in_default-clause-read g t c r place s within are =
       d.2,
       d.3,
     )
+
+pub returns-in_default-clause-within : goal.returns-in_default-clause-within
+returns-in_default-clause-within g t c = none_taken (length c.args.message.now)
+
+pub returns-in_default-clause-range : goal.returns-in_default-clause-range
+returns-in_default-clause-range g t c place within are = none-after place (length c.args.message.now) within
+
+pub returns-in_default-clause-key : goal.returns-in_default-clause-key
+returns-in_default-clause-key g t c = ap (λ (us : List Token). keyed_after_tokens c.args.means.now.psks (keyed c.args.state.now) us) (sym (ap tokens_of (nil_from_length c.args.placed.now c.in_default.ensures.cases)))
+
+pub returns-in_default-clause-e : goal.returns-in_default-clause-e
+returns-in_default-clause-e g t c = ap (λ (us : List Token). e_after_tokens (is_some c.args.known.now.e) us) (sym (ap tokens_of (nil_from_length c.args.placed.now c.in_default.ensures.cases)))
+
+pub returns-in_default-clause-s : goal.returns-in_default-clause-s
+returns-in_default-clause-s g t c = ap (λ (us : List Token). s_after_tokens (is_some c.args.known.now.s) us) (sym (ap tokens_of (nil_from_length c.args.placed.now c.in_default.ensures.cases)))
+
+pub returns-in_default-clause-nonce : goal.returns-in_default-clause-nonce
+returns-in_default-clause-nonce g t c = none-added (nonce_now c.args.state.now) (length (tokens_of c.args.placed.now))
+
+pub returns-in_default-clause-counted : goal.returns-in_default-clause-counted
+returns-in_default-clause-counted g t c = ap (λ (us : List Token). nonce_after_tokens c.args.means.now.psks (keyed c.args.state.now) (nonce_now c.args.state.now) us) (sym (ap tokens_of (nil_from_length c.args.placed.now c.in_default.ensures.cases)))
+
+pub returns-in-Err-clause-stop : goal.returns-in-Err-clause-stop
+returns-in-Err-clause-stop g t c = some-token (tokens_of c.args.placed.now) (tokens_of c.in-Some.later.now) c.in-Some.first.now.token (ap tokens_of c.in-Some.ensures.cases.0)
+
+pub returns-in-Err-clause-nonce : goal.returns-in-Err-clause-nonce
+returns-in-Err-clause-nonce g t c = bound-first (tokens_of c.args.placed.now) (tokens_of c.in-Some.later.now) c.in-Some.first.now.token (ap tokens_of c.in-Some.ensures.cases.0) (nonce_now c.args.state.now) (nonce_now c.read_token.new.state) c.in-Err.ensures.nonce
+
+pub returns-in-Ok-read_tokens-clause-key : goal.returns-in-Ok-read_tokens-clause-key
+returns-in-Ok-read_tokens-clause-key g t c = keyed-on (tokens_of c.args.placed.now) (tokens_of c.in-Some.later.now) c.in-Some.first.now.token (ap tokens_of c.in-Some.ensures.cases.0) c.args.means.now.psks (keyed c.args.state.now) (keyed c.read_token.new.state) (keyed c.read_tokens.new.state) c.in-Ok.ensures.key c.in-Ok-read_tokens.ensures.key
+
+pub returns-in-Ok-read_tokens-clause-e : goal.returns-in-Ok-read_tokens-clause-e
+returns-in-Ok-read_tokens-clause-e g t c = e-on (tokens_of c.args.placed.now) (tokens_of c.in-Some.later.now) c.in-Some.first.now.token (ap tokens_of c.in-Some.ensures.cases.0) (is_some c.args.known.now.e) (is_some c.read_token.new.known.e) (is_some c.read_tokens.new.known.e) c.in-Ok.ensures.e c.in-Ok-read_tokens.ensures.e
+
+pub returns-in-Ok-read_tokens-clause-s : goal.returns-in-Ok-read_tokens-clause-s
+returns-in-Ok-read_tokens-clause-s g t c = s-on (tokens_of c.args.placed.now) (tokens_of c.in-Some.later.now) c.in-Some.first.now.token (ap tokens_of c.in-Some.ensures.cases.0) (is_some c.args.known.now.s) (is_some c.read_token.new.known.s) (is_some c.read_tokens.new.known.s) c.in-Ok.ensures.s c.in-Ok-read_tokens.ensures.s
+
+pub returns-in-Ok-read_tokens-clause-nonce : goal.returns-in-Ok-read_tokens-clause-nonce
+returns-in-Ok-read_tokens-clause-nonce g t c =
+    bound-on (tokens_of c.args.placed.now) (tokens_of c.in-Some.later.now) c.in-Some.first.now.token (ap tokens_of c.in-Some.ensures.cases.0) (nonce_now c.args.state.now) (nonce_now c.read_token.new.state) (nonce_now c.read_tokens.new.state)
+    c.in-Ok.ensures.nonce c.in-Ok-read_tokens.ensures.nonce
+
+pub returns-in-Ok-read_tokens-clause-counted : goal.returns-in-Ok-read_tokens-clause-counted
+returns-in-Ok-read_tokens-clause-counted g t c =
+    nonce-on (tokens_of c.args.placed.now) (tokens_of c.in-Some.later.now) c.in-Some.first.now.token (ap tokens_of c.in-Some.ensures.cases.0) c.args.means.now.psks (keyed c.args.state.now) (keyed c.read_token.new.state)
+    (nonce_now c.args.state.now) (nonce_now c.read_token.new.state) (nonce_now c.read_tokens.new.state) c.in-Ok.ensures.key c.in-Ok.ensures.counted c.in-Ok-read_tokens.ensures.counted
+
+pub returns-in-Err-read_tokens-clause-stop : goal.returns-in-Err-read_tokens-clause-stop
+returns-in-Err-read_tokens-clause-stop g t c = one-later (tokens_of c.args.placed.now) (tokens_of c.in-Some.later.now) c.in-Some.first.now.token (ap tokens_of c.in-Some.ensures.cases.0) c.in-Err-read_tokens.k c.in-Err-read_tokens.ensures.stop
+
+pub returns-in-Err-read_tokens-clause-nonce : goal.returns-in-Err-read_tokens-clause-nonce
+returns-in-Err-read_tokens-clause-nonce g t c =
+    bound-on (tokens_of c.args.placed.now) (tokens_of c.in-Some.later.now) c.in-Some.first.now.token (ap tokens_of c.in-Some.ensures.cases.0) (nonce_now c.args.state.now) (nonce_now c.read_token.new.state) (nonce_now c.read_tokens.new.state)
+    c.in-Ok.ensures.nonce c.in-Err-read_tokens.ensures.nonce
+
+pub read_token-requires-clause-secret : goal.read_token-requires-clause-secret
+read_token-requires-clause-secret g t c = secret-due (tokens_of c.args.placed.now) (tokens_of c.in-Some.later.now) c.in-Some.first.now.token (ap tokens_of c.in-Some.ensures.cases.0) (length c.args.secrets.now) c.requires.secrets
+
+pub read_token-requires-clause-nonces : goal.read_token-requires-clause-nonces
+read_token-requires-clause-nonces g t c = nonce-left (tokens_of c.args.placed.now) (tokens_of c.in-Some.later.now) c.in-Some.first.now.token (ap tokens_of c.in-Some.ensures.cases.0) (nonce_now c.args.state.now) c.requires.nonces
+
+pub read_token-requires-clause-known : goal.read_token-requires-clause-known
+read_token-requires-clause-known g t c = known-first (tokens_of c.args.placed.now) (tokens_of c.in-Some.later.now) c.in-Some.first.now.token (ap tokens_of c.in-Some.ensures.cases.0) c.args.means.now.role (is_some c.args.known.now.e) (is_some c.args.known.now.s) c.requires.known
+
+pub secrets_after-others-requires : goal.secrets_after-others-requires
+secrets_after-others-requires g t c = secret-due (tokens_of c.args.placed.now) (tokens_of c.in-Some.later.now) c.in-Some.first.now.token (ap tokens_of c.in-Some.ensures.cases.0) (length c.args.secrets.now) c.requires.secrets

@@ -1,0 +1,66 @@
+-- What a message's tokens ask and leave, told of its first token and of those after it.
+use Rattle.std.proofs.Common.{◌≡◌, ℕ, suc, ◌+◌, ◌-◌, ◌^◌, ◌<◌, ◌≤◌, List, ◌∷◌, length, refl, sym, ap, subst, ◌∙◌, arith}
+use Rattle.std.specs.Prelude.{Bool, true, false, ◌&&◌, IsTrue, count_by}
+use Rattle.noise_names.specs.declared.token.Token.{Token}
+use Rattle.noise_names.specs.declared.token.Token.TheVariants.{Psk}
+use Rattle.noise_names.specs.declared.token.Role.{Role}
+use Rattle.noise_names.specs.Tokens.{is_psk}
+use Rattle.noise_handshake.specs.Length.{keyed_after, keyed_after_tokens}
+use Rattle.noise_handshake.specs.Nonces.{nonce_after, nonce_after_tokens}
+use Rattle.noise_handshake.specs.inner.Known.{is_known, are_known, e_after, s_after, e_after_tokens, s_after_tokens}
+use Rattle.noise_handshake.proofs.Later.{one-more}
+
+first-true : (a b : Bool) → IsTrue (a && b) → IsTrue a
+first-true true b h = refl
+first-true false b h = h
+
+module _ (tokens ts : List Token) (t : Token) (split : tokens ≡ t ∷ ts) where
+  pub keyed-on : (psks key key2 key3 : Bool) → key2 ≡ keyed_after psks key t → key3 ≡ keyed_after_tokens psks key2 ts
+      → key3 ≡ keyed_after_tokens psks key tokens
+  keyed-on psks key key2 key3 e f =
+      f ∙ ap (λ (b : Bool). keyed_after_tokens psks b ts) e ∙ ap (λ (us : List Token). keyed_after_tokens psks key us) (sym split)
+
+  pub e-on : (e e2 e3 : Bool) → e2 ≡ e_after e t → e3 ≡ e_after_tokens e2 ts → e3 ≡ e_after_tokens e tokens
+  e-on e e2 e3 f g = g ∙ ap (λ (b : Bool). e_after_tokens b ts) f ∙ ap (λ (us : List Token). e_after_tokens e us) (sym split)
+
+  pub s-on : (s s2 s3 : Bool) → s2 ≡ s_after s t → s3 ≡ s_after_tokens s2 ts → s3 ≡ s_after_tokens s tokens
+  s-on s s2 s3 f g = g ∙ ap (λ (b : Bool). s_after_tokens b ts) f ∙ ap (λ (us : List Token). s_after_tokens s us) (sym split)
+
+  pub nonce-on : (psks key key2 : Bool) (n n2 n3 : ℕ) → key2 ≡ keyed_after psks key t → n2 ≡ nonce_after psks key n t
+      → n3 ≡ nonce_after_tokens psks key2 n2 ts → n3 ≡ nonce_after_tokens psks key n tokens
+  nonce-on psks key key2 n n2 n3 e f g =
+      g ∙ ap (λ (b : Bool). nonce_after_tokens psks b n2 ts) e ∙ ap (λ (i : ℕ). nonce_after_tokens psks (keyed_after psks key t) i ts) f
+      ∙ ap (λ (us : List Token). nonce_after_tokens psks key n us) (sym split)
+
+  pub bound-on : (n n2 n3 : ℕ) → n2 ≤ n + 1 → n3 ≤ n2 + length ts → n3 ≤ n + length tokens
+  bound-on n n2 n3 h k = omega (arith, h, k, ap length split)
+
+  pub bound-first : (n n2 : ℕ) → n2 ≤ n + 1 → n2 ≤ n + length tokens
+  bound-first n n2 h = omega (arith, h, ap length split)
+
+  pub some-token : 0 < length tokens
+  some-token = omega (arith, ap length split)
+
+  pub one-later : (k : ℕ) → k < length ts → k + 1 < length tokens
+  one-later k h = omega (arith, h, ap length split)
+
+  pub nonce-left : (n : ℕ) → n + length tokens < 2 ^ 64 - 1 → n < 2 ^ 64 - 1
+  nonce-left n h = omega (arith, h)
+
+  pub secret-due : (n : ℕ) → count_by is_psk tokens ≤ n → t ≡ Psk → 0 < n
+  secret-due n h e =
+      let at : tokens ≡ Psk ∷ ts = split ∙ ap (λ (u : Token). u ∷ ts) e in
+      let due : count_by is_psk (Psk ∷ ts) ≤ n = subst (λ (us : List Token). count_by is_psk us ≤ n) at h in
+      let one : count_by is_psk (Psk ∷ ts) ≡ suc (count_by is_psk ts) = one-more ts in
+      omega (arith, due, one)
+
+  pub known-first : (role : Role) (e s : Bool) → IsTrue (are_known role e s tokens) → IsTrue (is_known role e s t)
+  known-first role e s h =
+      first-true (is_known role e s t) (are_known role (e_after e t) (s_after s t) ts) (subst (λ (us : List Token). IsTrue (are_known role e s us)) split h)
+
+-- with no tokens
+pub none-added : (n k : ℕ) → n ≤ n + k
+none-added n k = omega arith
+
+pub none-after : (n m : ℕ) → n ≤ m → n + 0 ≤ m
+none-after n m h = omega (arith, h)
