@@ -1,11 +1,13 @@
 -- What a message's tokens ask and leave, told of its first token and of those after it.
-use Rattle.std.proofs.Common.{◌≡◌, ℕ, suc, ◌+◌, ◌-◌, ◌^◌, ◌<◌, ◌≤◌, List, ◌∷◌, length, refl, sym, ap, subst, ◌∙◌, arith}
+use Rattle.std.proofs.Common.{◌≡◌, ℕ, suc, ◌+◌, ◌-◌, ◌^◌, ◌<◌, ◌≤◌, List, [], ◌∷◌, length, take, refl, sym, ap, subst, ◌∙◌, arith}
 use Rattle.std.specs.Prelude.{Bool, true, false, ◌&&◌, IsTrue, count_by}
 use Rattle.noise_names.specs.declared.token.Token.{Token}
 use Rattle.noise_names.specs.declared.token.Token.TheVariants.{Psk}
 use Rattle.noise_names.specs.declared.token.Role.{Role}
 use Rattle.noise_names.specs.Tokens.{is_psk}
-use Rattle.noise_handshake.specs.Length.{keyed_after, keyed_after_tokens}
+use Rattle.noise_handshake.specs.Length.{keyed_after, keyed_after_tokens, token_width, tokens_width}
+use Rattle.noise_handshake.specs.declared.remote.Remote.{Remote}
+use Rattle.noise_handshake.specs.Writing.{Writer, Gives, Given, LacksAnswerAt}
 use Rattle.noise_handshake.specs.Nonces.{nonce_after, nonce_after_tokens}
 use Rattle.noise_handshake.specs.inner.Known.{is_known, are_known, e_after, s_after, e_after_tokens, s_after_tokens}
 use Rattle.noise_handshake.proofs.Later.{one-more}
@@ -57,6 +59,41 @@ module _ (tokens ts : List Token) (t : Token) (split : tokens ≡ t ∷ ts) wher
   pub known-first : (role : Role) (e s : Bool) → IsTrue (are_known role e s tokens) → IsTrue (is_known role e s t)
   known-first role e s h =
       first-true (is_known role e s t) (are_known role (e_after e t) (s_after s t) ts) (subst (λ (us : List Token). IsTrue (are_known role e s us)) split h)
+
+  -- its place in what is counted on the way
+  pub place-fits : (n k : ℕ) → n + length tokens < 2 ^ 64 - 1 → k < length ts → k + 1 < 2 ^ 64
+  place-fits n k h j = omega (arith, h, j, ap length split)
+
+  -- how many bytes they take
+  pub width-on : (psks key key2 : Bool) (n k : ℕ) → n ≡ token_width key t → key2 ≡ keyed_after psks key t → k ≡ tokens_width psks key2 ts
+      → n + k ≡ tokens_width psks key tokens
+  width-on psks key key2 n k e f g =
+      ap (λ (i : ℕ). i + k) e ∙ ap (λ (i : ℕ). token_width key t + i) (g ∙ ap (λ (b : Bool). tokens_width psks b ts) f)
+      ∙ ap (λ (us : List Token). tokens_width psks key us) (sym split)
+
+  pub room-first : (psks key : Bool) (room : ℕ) → tokens_width psks key tokens ≤ room → token_width key t ≤ room
+  room-first psks key room h =
+      let all : token_width key t + tokens_width psks (keyed_after psks key t) ts ≤ room =
+      subst (λ (us : List Token). tokens_width psks key us ≤ room) split h in
+      omega (arith, all)
+
+  -- the first is a DH without an answer
+  pub lacks-first : (w : Writer) (known : Remote) (secrets : List (List ℕ)) → ((x : List ℕ) → Gives w known secrets t x → ⊥)
+      → LacksAnswerAt w known secrets tokens 0
+  lacks-first w known secrets h =
+      subst (λ (us : List Token). LacksAnswerAt w known secrets us 0) (sym split) (record {
+        within = one-of ts;
+        before = [];
+        given = tt;
+        none = none;
+      })
+    where
+      one-of : (us : List Token) → 0 < length (t ∷ us)
+      one-of us = omega arith
+
+      none : (xs : List (List ℕ)) → Given w known secrets (take 1 (t ∷ ts)) xs → ⊥
+      none [] g = g
+      none (x ∷ xs) g = h x g.0
 
 -- with no tokens
 pub none-added : (n k : ℕ) → n ≤ n + k

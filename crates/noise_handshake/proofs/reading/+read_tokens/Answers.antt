@@ -13,7 +13,7 @@ use Rattle.noise_handshake.specs.Nonces.{nonce_after_tokens}
 use Rattle.noise_handshake.specs.inner.Known.{e_after_tokens, s_after_tokens}
 use Rattle.noise_handshake.proofs.DhTokens.{none_taken}
 use Rattle.noise_handshake.proofs.Layouts.{first-placed}
-use Rattle.noise_handshake.proofs.Stepwise.{keyed-on, e-on, s-on, nonce-on, bound-on, bound-first, some-token, one-later, nonce-left, secret-due, known-first, none-added, none-after}
+use Rattle.noise_handshake.proofs.Stepwise.{keyed-on, e-on, s-on, nonce-on, bound-on, bound-first, some-token, one-later, place-fits, nonce-left, secret-due, known-first, none-added, none-after}
 use Rattle.noise_handshake.proofs.Steps.{led-none, stopped, led, learned-on, stopped-later}
 use Rattle.noise_handshake.proofs.reading.+read_tokens.Goals as goal
 use Rattle.std.proofs.lemmas.List.{nil_from_length}
@@ -257,3 +257,11 @@ read_token-requires-clause-known g t c = known-first (tokens_of c.args.placed.no
 
 pub secrets_after-others-requires : goal.secrets_after-others-requires
 secrets_after-others-requires g t c = secret-due (tokens_of c.args.placed.now) (tokens_of c.in-Some.later.now) c.in-Some.first.now.token (ap tokens_of c.in-Some.ensures.cases.0) (length c.args.secrets.now) c.requires.secrets
+
+pub overflow_add-result-in-Err-read_tokens : goal.overflow_add-result-in-Err-read_tokens
+overflow_add-result-in-Err-read_tokens g t c =
+    omega (
+      arith,
+      place-fits (tokens_of c.args.placed.now) (tokens_of c.in-Some.later.now) c.in-Some.first.now.token (ap tokens_of c.in-Some.ensures.cases.0)
+          (nonce_now c.args.state.now) c.in-Err-read_tokens.k c.requires.nonces c.in-Err-read_tokens.ensures.stop,
+    )

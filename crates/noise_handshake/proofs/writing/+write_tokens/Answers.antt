@@ -1,5 +1,5 @@
-use Rattle.noise_state.specs.Standing.{StateStands, keyed}
-use Rattle.std.proofs.Common.{◌≡◌, ap, ℕ, ◌+◌, ◌-◌, ◌≤◌, List, ◌∷◌, length, take, drop, ◌∙◌, arith, length-take, length-drop}
+use Rattle.noise_state.specs.Standing.{StateStands, keyed, nonce_now}
+use Rattle.std.proofs.Common.{◌≡◌, ap, ℕ, ◌+◌, ◌-◌, ◌≤◌, List, ◌∷◌, length, take, drop, sym, ◌∙◌, arith, length-take, length-drop}
 use Rattle.std.specs.Prelude.{Bool}
 use Rattle.noise_names.specs.declared.token.Token.{Token}
 use Rattle.noise_state.specs.History.{History}
@@ -7,6 +7,10 @@ use Rattle.noise_handshake.specs.Message.{after_token}
 use Rattle.noise_handshake.specs.Writing.{Writer}
 use Rattle.noise_handshake.specs.inner.Layout.{tokens_of}
 use Rattle.noise_handshake.proofs.Giving.{widths, given-on, front-on, after-on, lacks-on}
+use Rattle.noise_handshake.specs.Length.{keyed_after_tokens, tokens_width}
+use Rattle.noise_handshake.specs.Nonces.{nonce_after_tokens}
+use Rattle.std.proofs.lemmas.List.{nil_from_length}
+use Rattle.noise_handshake.proofs.Stepwise.{keyed-on, nonce-on, bound-on, bound-first, some-token, one-later, nonce-left, secret-due, none-added, place-fits, width-on, room-first, lacks-first}
 use Rattle.noise_handshake.proofs.Written.{joined, rest-after}
 use Rattle.noise_handshake.proofs.writing.+write_tokens.Goals as goal
 
@@ -74,3 +78,72 @@ returns-in-Err-clause-written g t c r s =
     let next : History = after_token c.args.means.now.psks r token a.0 in
     lacks-on w c.args.known.now c.args.secrets.now c.secrets_after-others.result.now r (tokens_of c.args.placed.now) (tokens_of c.in-Some.later.now) token a.0
     (ap tokens_of c.in-Some.ensures.cases.0) a.1 c.secrets_after-others.ensures c.in-Err.k (c.in-Err.ensures.written next a.3)
+
+pub returns-in_default-clause-width : goal.returns-in_default-clause-width
+returns-in_default-clause-width g t c = ap (λ (us : List Token). tokens_width c.args.means.now.psks (keyed c.args.state.now) us) (sym (ap tokens_of (nil_from_length c.args.placed.now c.in_default.ensures.cases)))
+
+pub returns-in_default-clause-keyed : goal.returns-in_default-clause-keyed
+returns-in_default-clause-keyed g t c = ap (λ (us : List Token). keyed_after_tokens c.args.means.now.psks (keyed c.args.state.now) us) (sym (ap tokens_of (nil_from_length c.args.placed.now c.in_default.ensures.cases)))
+
+pub returns-in_default-clause-used : goal.returns-in_default-clause-used
+returns-in_default-clause-used g t c = none-added (nonce_now c.args.state.now) (length (tokens_of c.args.placed.now))
+
+pub returns-in_default-clause-counted : goal.returns-in_default-clause-counted
+returns-in_default-clause-counted g t c = ap (λ (us : List Token). nonce_after_tokens c.args.means.now.psks (keyed c.args.state.now) (nonce_now c.args.state.now) us) (sym (ap tokens_of (nil_from_length c.args.placed.now c.in_default.ensures.cases)))
+
+pub returns-in_default-write_token-clause-width : goal.returns-in_default-write_token-clause-width
+returns-in_default-write_token-clause-width g t c = some-token (tokens_of c.args.placed.now) (tokens_of c.in-Some.later.now) c.in-Some.first.now.token (ap tokens_of c.in-Some.ensures.cases.0)
+
+pub returns-in_default-write_token-clause-used : goal.returns-in_default-write_token-clause-used
+returns-in_default-write_token-clause-used g t c = bound-first (tokens_of c.args.placed.now) (tokens_of c.in-Some.later.now) c.in-Some.first.now.token (ap tokens_of c.in-Some.ensures.cases.0) (nonce_now c.args.state.now) (nonce_now c.write_token.new.state) c.write_token.ensures.used
+
+pub returns-in_default-write_token-clause-written : goal.returns-in_default-write_token-clause-written
+returns-in_default-write_token-clause-written g t c r s =
+    let w : Writer = record {
+      role = c.args.means.now.role;
+      psks = c.args.means.now.psks;
+      own = g.K.Keys.public_of c.args.means.now.keys.now;
+      agree = g.K.Keys.agreement c.args.means.now.keys.now;
+    } in
+    lacks-first (tokens_of c.args.placed.now) (tokens_of c.in-Some.later.now) c.in-Some.first.now.token (ap tokens_of c.in-Some.ensures.cases.0) w c.args.known.now c.args.secrets.now (c.in_default-write_token.ensures.written r s)
+
+pub returns-in-Ok-clause-width : goal.returns-in-Ok-clause-width
+returns-in-Ok-clause-width g t c =
+    width-on (tokens_of c.args.placed.now) (tokens_of c.in-Some.later.now) c.in-Some.first.now.token (ap tokens_of c.in-Some.ensures.cases.0) c.args.means.now.psks (keyed c.args.state.now) (keyed c.write_token.new.state) c.in-Some-write_token.n c.in-Ok.more
+    c.in-Some-write_token.ensures.width c.in-Some-write_token.ensures.keyed c.in-Ok.ensures.width
+
+pub returns-in-Ok-clause-keyed : goal.returns-in-Ok-clause-keyed
+returns-in-Ok-clause-keyed g t c = keyed-on (tokens_of c.args.placed.now) (tokens_of c.in-Some.later.now) c.in-Some.first.now.token (ap tokens_of c.in-Some.ensures.cases.0) c.args.means.now.psks (keyed c.args.state.now) (keyed c.write_token.new.state) (keyed c.write_tokens.new.state) c.in-Some-write_token.ensures.keyed c.in-Ok.ensures.keyed
+
+pub returns-in-Ok-clause-used : goal.returns-in-Ok-clause-used
+returns-in-Ok-clause-used g t c =
+    bound-on (tokens_of c.args.placed.now) (tokens_of c.in-Some.later.now) c.in-Some.first.now.token (ap tokens_of c.in-Some.ensures.cases.0) (nonce_now c.args.state.now) (nonce_now c.write_token.new.state) (nonce_now c.write_tokens.new.state)
+    c.in-Some-write_token.ensures.used c.in-Ok.ensures.used
+
+pub returns-in-Ok-clause-counted : goal.returns-in-Ok-clause-counted
+returns-in-Ok-clause-counted g t c =
+    nonce-on (tokens_of c.args.placed.now) (tokens_of c.in-Some.later.now) c.in-Some.first.now.token (ap tokens_of c.in-Some.ensures.cases.0) c.args.means.now.psks (keyed c.args.state.now) (keyed c.write_token.new.state)
+    (nonce_now c.args.state.now) (nonce_now c.write_token.new.state) (nonce_now c.write_tokens.new.state) c.in-Some-write_token.ensures.keyed c.in-Some-write_token.ensures.counted c.in-Ok.ensures.counted
+
+pub returns-in-Err-clause-width : goal.returns-in-Err-clause-width
+returns-in-Err-clause-width g t c = one-later (tokens_of c.args.placed.now) (tokens_of c.in-Some.later.now) c.in-Some.first.now.token (ap tokens_of c.in-Some.ensures.cases.0) c.in-Err.k c.in-Err.ensures.width
+
+pub returns-in-Err-clause-used : goal.returns-in-Err-clause-used
+returns-in-Err-clause-used g t c =
+    bound-on (tokens_of c.args.placed.now) (tokens_of c.in-Some.later.now) c.in-Some.first.now.token (ap tokens_of c.in-Some.ensures.cases.0) (nonce_now c.args.state.now) (nonce_now c.write_token.new.state) (nonce_now c.write_tokens.new.state)
+    c.in-Some-write_token.ensures.used c.in-Err.ensures.used
+
+pub write_token-requires-clause-secret : goal.write_token-requires-clause-secret
+write_token-requires-clause-secret g t c = secret-due (tokens_of c.args.placed.now) (tokens_of c.in-Some.later.now) c.in-Some.first.now.token (ap tokens_of c.in-Some.ensures.cases.0) (length c.args.secrets.now) c.requires.secrets
+
+pub write_token-requires-clause-nonces : goal.write_token-requires-clause-nonces
+write_token-requires-clause-nonces g t c = nonce-left (tokens_of c.args.placed.now) (tokens_of c.in-Some.later.now) c.in-Some.first.now.token (ap tokens_of c.in-Some.ensures.cases.0) (nonce_now c.args.state.now) c.requires.nonces
+
+pub write_token-requires-clause-room : goal.write_token-requires-clause-room
+write_token-requires-clause-room g t c = room-first (tokens_of c.args.placed.now) (tokens_of c.in-Some.later.now) c.in-Some.first.now.token (ap tokens_of c.in-Some.ensures.cases.0) c.args.means.now.psks (keyed c.args.state.now) (length c.args.out.now) c.requires.room
+
+pub secrets_after-others-requires : goal.secrets_after-others-requires
+secrets_after-others-requires g t c = secret-due (tokens_of c.args.placed.now) (tokens_of c.in-Some.later.now) c.in-Some.first.now.token (ap tokens_of c.in-Some.ensures.cases.0) (length c.args.secrets.now) c.requires.secrets
+
+pub overflow_add-result-in-Err : goal.overflow_add-result-in-Err
+overflow_add-result-in-Err g t c = omega (arith, place-fits (tokens_of c.args.placed.now) (tokens_of c.in-Some.later.now) c.in-Some.first.now.token (ap tokens_of c.in-Some.ensures.cases.0) (nonce_now c.args.state.now) c.in-Err.k c.requires.nonces c.in-Err.ensures.width)
