@@ -2,7 +2,7 @@
 use Rattle.std.proofs.Common.{◌≡◌, ℕ, suc, ◌+◌, ◌-◌, ◌^◌, ◌<◌, ◌≤◌, List, [], ◌∷◌, length, take, refl, sym, ap, subst, ◌∙◌, arith}
 use Rattle.std.specs.Prelude.{Bool, true, false, ◌&&◌, IsTrue, count_by}
 use Rattle.noise_names.specs.declared.token.Token.{Token}
-use Rattle.noise_names.specs.declared.token.Token.TheVariants.{Psk}
+use Rattle.noise_names.specs.declared.token.Token.TheVariants.{E, S, Ee, Es, Se, Ss, Psk}
 use Rattle.noise_names.specs.declared.token.Role.{Role}
 use Rattle.noise_names.specs.Tokens.{is_psk}
 use Rattle.noise_handshake.specs.Length.{keyed_after, keyed_after_tokens, token_width, tokens_width}
@@ -10,11 +10,31 @@ use Rattle.noise_handshake.specs.declared.remote.Remote.{Remote}
 use Rattle.noise_handshake.specs.Writing.{Writer, Gives, Given, LacksAnswerAt}
 use Rattle.noise_handshake.specs.Nonces.{nonce_after, nonce_after_tokens}
 use Rattle.noise_handshake.specs.inner.Known.{is_known, are_known, e_after, s_after, e_after_tokens, s_after_tokens}
+use Rattle.std.specs.List.{list_all}
+use Rattle.noise_handshake.specs.View.{secrets_after, other_secrets}
 use Rattle.noise_handshake.proofs.Later.{one-more}
 
 first-true : (a b : Bool) → IsTrue (a && b) → IsTrue a
 first-true true b h = refl
 first-true false b h = h
+
+second-true : (a b : Bool) → IsTrue (a && b) → IsTrue b
+second-true true b h = h
+second-true false b h = absurd (cc)
+
+left-psk : (ts : List Token) (secrets : List (List ℕ)) → count_by is_psk (Psk ∷ ts) ≤ length secrets → count_by is_psk ts ≤ length (other_secrets secrets)
+left-psk ts [] h = absurd (omega (arith, h, one-more ts))
+left-psk ts (x ∷ xs) h = omega (arith, h, one-more ts)
+
+left-after : (t : Token) (ts : List Token) (secrets : List (List ℕ)) → count_by is_psk (t ∷ ts) ≤ length secrets
+    → count_by is_psk ts ≤ length (secrets_after secrets t)
+left-after Psk ts secrets h = left-psk ts secrets h
+left-after E ts secrets h = h
+left-after S ts secrets h = h
+left-after Ee ts secrets h = h
+left-after Es ts secrets h = h
+left-after Se ts secrets h = h
+left-after Ss ts secrets h = h
 
 module _ (tokens ts : List Token) (t : Token) (split : tokens ≡ t ∷ ts) where
   pub keyed-on : (psks key key2 key3 : Bool) → key2 ≡ keyed_after psks key t → key3 ≡ keyed_after_tokens psks key2 ts
@@ -77,6 +97,11 @@ module _ (tokens ts : List Token) (t : Token) (split : tokens ≡ t ∷ ts) wher
       subst (λ (us : List Token). tokens_width psks key us ≤ room) split h in
       omega (arith, all)
 
+  pub room-later : (psks key key2 : Bool) (room n : ℕ) → tokens_width psks key tokens ≤ room → n ≡ token_width key t → key2 ≡ keyed_after psks key t
+      → n + tokens_width psks key2 ts ≤ room
+  room-later psks key key2 room n h e f =
+      subst (λ (i : ℕ). i ≤ room) (sym (width-on psks key key2 n (tokens_width psks key2 ts) e f refl)) h
+
   -- the first is a DH without an answer
   pub lacks-first : (w : Writer) (known : Remote) (secrets : List (List ℕ)) → ((x : List ℕ) → Gives w known secrets t x → ⊥)
       → LacksAnswerAt w known secrets tokens 0
@@ -94,6 +119,30 @@ module _ (tokens ts : List Token) (t : Token) (split : tokens ≡ t ∷ ts) wher
       none : (xs : List (List ℕ)) → Given w known secrets (take 1 (t ∷ ts)) xs → ⊥
       none [] g = g
       none (x ∷ xs) g = h x g.0
+
+  pub all-first : (test : Token → Bool) → IsTrue (list_all test tokens) → IsTrue (test t)
+  all-first test h = first-true (test t) (list_all test ts) (subst (λ (us : List Token). IsTrue (list_all test us)) split h)
+
+  -- what those after it ask
+  pub all-later : (test : Token → Bool) → IsTrue (list_all test tokens) → IsTrue (list_all test ts)
+  all-later test h = second-true (test t) (list_all test ts) (subst (λ (us : List Token). IsTrue (list_all test us)) split h)
+
+  pub known-later : (role : Role) (e s e2 s2 : Bool) → e2 ≡ e_after e t → s2 ≡ s_after s t → IsTrue (are_known role e s tokens)
+      → IsTrue (are_known role e2 s2 ts)
+  known-later role e s e2 s2 f g h =
+      let l1 : IsTrue (are_known role (e_after e t) (s_after s t) ts) =
+      second-true (is_known role e s t) (are_known role (e_after e t) (s_after s t) ts) (subst (λ (us : List Token). IsTrue (are_known role e s us)) split h) in
+      let l2 : IsTrue (are_known role e2 (s_after s t) ts) = subst (λ (b : Bool). IsTrue (are_known role b (s_after s t) ts)) (sym f) l1 in
+      subst (λ (b : Bool). IsTrue (are_known role e2 b ts)) (sym g) l2
+
+  pub secrets-later : (secrets others : List (List ℕ)) → others ≡ secrets_after secrets t → count_by is_psk tokens ≤ length secrets
+      → count_by is_psk ts ≤ length others
+  secrets-later secrets others e h =
+      subst (λ (z : List (List ℕ)). count_by is_psk ts ≤ length z) (sym e)
+      (left-after t ts secrets (subst (λ (us : List Token). count_by is_psk us ≤ length secrets) split h))
+
+  pub nonces-later : (n n2 : ℕ) → n2 ≤ n + 1 → n + length tokens < 2 ^ 64 - 1 → n2 + length ts < 2 ^ 64 - 1
+  nonces-later n n2 e h = omega (arith, e, h, ap length split)
 
 -- with no tokens
 pub none-added : (n k : ℕ) → n ≤ n + k

@@ -1,4 +1,4 @@
-use Rattle.std.proofs.Common.{◌≡◌, ap, ℕ, ◌+◌, ◌-◌, ◌≤◌, List, ◌∷◌, ◌++◌, length, drop, sym, subst, ◌∙◌, arith, length-drop, drop-drop}
+use Rattle.std.proofs.Common.{◌≡◌, suc, ap, ℕ, ◌+◌, ◌-◌, ◌≤◌, List, ◌∷◌, ◌++◌, length, drop, sym, subst, ◌∙◌, arith, length-drop, drop-drop}
 use Rattle.std.specs.Prelude.{Bool, is_some}
 use Rattle.noise_names.specs.declared.token.Token.{Token}
 use Rattle.noise_state.specs.Standing.{StateStands, keyed, nonce_now}
@@ -13,7 +13,7 @@ use Rattle.noise_handshake.specs.Nonces.{nonce_after_tokens}
 use Rattle.noise_handshake.specs.inner.Known.{e_after_tokens, s_after_tokens}
 use Rattle.noise_handshake.proofs.DhTokens.{none_taken}
 use Rattle.noise_handshake.proofs.Layouts.{first-placed}
-use Rattle.noise_handshake.proofs.Stepwise.{keyed-on, e-on, s-on, nonce-on, bound-on, bound-first, some-token, one-later, place-fits, nonce-left, secret-due, known-first, none-added, none-after}
+use Rattle.noise_handshake.proofs.Stepwise.{keyed-on, e-on, s-on, nonce-on, bound-on, bound-first, some-token, one-later, place-fits, nonce-left, secret-due, known-first, none-added, none-after, known-later, secrets-later, nonces-later}
 use Rattle.noise_handshake.proofs.Steps.{led-none, stopped, led, learned-on, stopped-later}
 use Rattle.noise_handshake.proofs.reading.+read_tokens.Goals as goal
 use Rattle.std.proofs.lemmas.List.{nil_from_length}
@@ -264,4 +264,40 @@ overflow_add-result-in-Err-read_tokens g t c =
       arith,
       place-fits (tokens_of c.args.placed.now) (tokens_of c.in-Some.later.now) c.in-Some.first.now.token (ap tokens_of c.in-Some.ensures.cases.0)
           (nonce_now c.args.state.now) c.in-Err-read_tokens.k c.requires.nonces c.in-Err-read_tokens.ensures.stop,
+    )
+
+pub read_tokens-requires : goal.read_tokens-requires
+read_tokens-requires g t c κs k =
+    let all : List Token = tokens_of c.args.placed.now in
+    let later : List Token = tokens_of c.in-Some.later.now in
+    let token : Token = c.in-Some.first.now.token in
+    let split : all ≡ token ∷ later = ap tokens_of c.in-Some.ensures.cases.0 in
+    let fewer : length c.args.placed.now ≡ suc (length c.in-Some.later.now) = ap length c.in-Some.ensures.cases.0 in
+    let place : ℕ = c.requires.placed.0 in
+    let within : place ≤ length c.args.message.now = c.requires.placed.1 in
+    let psks : Bool = c.args.means.now.psks in
+    let m : List ℕ = c.args.message.now in
+    let first : PlacedToken = c.in-Some.first.now in
+    let u = first-placed psks (keyed c.args.state.now) place c.args.placed.now first c.in-Some.later.now c.in-Some.ensures.cases.0 c.requires.placed.2 in
+    let wide : c.in-Ok.n ≡ first.width = c.in-Ok.ensures.width ∙ sym u.1 in
+    let count : length c.bytes_from-rest.result.now ≡ length m - place =
+    ap length (c.bytes_from-rest.ensures ∙ ap (λ (i : ℕ). drop i m) u.0) ∙ length-drop place m in
+    let next : place + first.width ≤ length m = omega (arith, within, count, wide, c.in-Ok.ensures.range) in
+    let placed : ArePlaced psks (keyed c.read_token.new.state) (place + first.width) c.in-Some.later.now =
+    subst (λ (b : Bool). ArePlaced psks b (place + first.width) c.in-Some.later.now) (sym c.in-Ok.ensures.key) u.2 in (
+      omega (arith, fewer, c.decreases),
+      (
+        k,
+        (
+          (place + first.width, next, placed),
+          (
+            secrets-later all later token split c.args.secrets.now c.secrets_after-others.result.now c.secrets_after-others.ensures c.requires.secrets,
+            (
+              nonces-later all later token split (nonce_now c.args.state.now) (nonce_now c.read_token.new.state) c.in-Ok.ensures.nonce c.requires.nonces,
+              known-later all later token split c.args.means.now.role (is_some c.args.known.now.e) (is_some c.args.known.now.s)
+                  (is_some c.read_token.new.known.e) (is_some c.read_token.new.known.s) c.in-Ok.ensures.e c.in-Ok.ensures.s c.requires.known,
+            ),
+          ),
+        ),
+      ),
     )

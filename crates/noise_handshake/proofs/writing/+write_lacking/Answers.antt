@@ -1,4 +1,8 @@
-use Rattle.std.proofs.Common.{ap, refl}
+use Rattle.std.proofs.Common.{◌≡◌, suc, ap, refl, length, arith}
+use Rattle.std.specs.Prelude.{is_some}
+use Rattle.noise_handshake.specs.inner.Known.{is_known}
+use Rattle.noise_handshake.specs.inner.Speaking.{has_own}
+use Rattle.noise_handshake.proofs.Stepwise.{secret-due, all-first, all-later, secrets-later}
 use Rattle.noise_handshake.specs.Writing.{Writer}
 use Rattle.noise_handshake.specs.inner.Layout.{tokens_of}
 use Rattle.noise_handshake.proofs.Lacked.{asked-later, asked-first}
@@ -26,3 +30,31 @@ returns-in-None g t c =
     } in
     asked-first w c.args.known.now c.args.secrets.now (tokens_of c.args.placed.now) (tokens_of c.in_ok-first.later.now) c.in_ok-first.first.now.token
     (ap tokens_of c.in_ok-first.ensures.cases.0) c.in-None.ensures.text (c.in-None.ensures.dh refl) c.asked_at.result c.asked_at.ensures
+
+pub text_at-requires-clause-secret : goal.text_at-requires-clause-secret
+text_at-requires-clause-secret g t c = secret-due (tokens_of c.args.placed.now) (tokens_of c.in_ok-first.later.now) c.in_ok-first.first.now.token (ap tokens_of c.in_ok-first.ensures.cases.0) (length c.args.secrets.now) c.requires.secrets
+
+pub text_at-requires-clause-own : goal.text_at-requires-clause-own
+text_at-requires-clause-own g t c = all-first (tokens_of c.args.placed.now) (tokens_of c.in_ok-first.later.now) c.in_ok-first.first.now.token (ap tokens_of c.in_ok-first.ensures.cases.0) (has_own (g.K.Keys.public_of c.args.means.now.keys.now)) c.requires.own
+
+pub text_at-requires-clause-known : goal.text_at-requires-clause-known
+text_at-requires-clause-known g t c = all-first (tokens_of c.args.placed.now) (tokens_of c.in_ok-first.later.now) c.in_ok-first.first.now.token (ap tokens_of c.in_ok-first.ensures.cases.0) (is_known c.args.means.now.role (is_some c.args.known.now.e) (is_some c.args.known.now.s)) c.requires.known
+
+pub secrets_after-others-requires : goal.secrets_after-others-requires
+secrets_after-others-requires g t c = secret-due (tokens_of c.args.placed.now) (tokens_of c.in_ok-first.later.now) c.in_ok-first.first.now.token (ap tokens_of c.in_ok-first.ensures.cases.0) (length c.args.secrets.now) c.requires.secrets
+
+pub write_lacking-requires : goal.write_lacking-requires
+write_lacking-requires g t c κs k =
+    let fewer : length c.args.placed.now ≡ suc (length c.in_ok-first.later.now) = ap length c.in_ok-first.ensures.cases.0 in (
+      omega (arith, fewer, c.decreases),
+      (
+        k,
+        (
+          secrets-later (tokens_of c.args.placed.now) (tokens_of c.in_ok-first.later.now) c.in_ok-first.first.now.token (ap tokens_of c.in_ok-first.ensures.cases.0) c.args.secrets.now c.secrets_after-others.result.now c.secrets_after-others.ensures c.requires.secrets,
+          (
+            all-later (tokens_of c.args.placed.now) (tokens_of c.in_ok-first.later.now) c.in_ok-first.first.now.token (ap tokens_of c.in_ok-first.ensures.cases.0) (has_own (g.K.Keys.public_of c.args.means.now.keys.now)) c.requires.own,
+            all-later (tokens_of c.args.placed.now) (tokens_of c.in_ok-first.later.now) c.in_ok-first.first.now.token (ap tokens_of c.in_ok-first.ensures.cases.0) (is_known c.args.means.now.role (is_some c.args.known.now.e) (is_some c.args.known.now.s)) c.requires.known,
+          ),
+        ),
+      ),
+    )

@@ -1,6 +1,6 @@
 use Rattle.noise_state.specs.Standing.{StateStands, keyed, nonce_now}
-use Rattle.std.proofs.Common.{◌≡◌, ap, ℕ, ◌+◌, ◌-◌, ◌≤◌, List, ◌∷◌, length, take, drop, sym, ◌∙◌, arith, length-take, length-drop}
-use Rattle.std.specs.Prelude.{Bool}
+use Rattle.std.proofs.Common.{◌≡◌, suc, ap, ℕ, ◌+◌, ◌-◌, ◌≤◌, List, ◌∷◌, length, take, drop, sym, ◌∙◌, arith, length-take, length-drop}
+use Rattle.std.specs.Prelude.{Bool, is_some}
 use Rattle.noise_names.specs.declared.token.Token.{Token}
 use Rattle.noise_state.specs.History.{History}
 use Rattle.noise_handshake.specs.Message.{after_token}
@@ -10,7 +10,9 @@ use Rattle.noise_handshake.proofs.Giving.{widths, given-on, front-on, after-on, 
 use Rattle.noise_handshake.specs.Length.{keyed_after_tokens, tokens_width}
 use Rattle.noise_handshake.specs.Nonces.{nonce_after_tokens}
 use Rattle.std.proofs.lemmas.List.{nil_from_length}
-use Rattle.noise_handshake.proofs.Stepwise.{keyed-on, nonce-on, bound-on, bound-first, some-token, one-later, nonce-left, secret-due, none-added, place-fits, width-on, room-first, lacks-first}
+use Rattle.noise_handshake.proofs.Stepwise.{keyed-on, nonce-on, bound-on, bound-first, some-token, one-later, nonce-left, secret-due, none-added, place-fits, width-on, room-first, room-later, lacks-first, all-first, all-later, secrets-later, nonces-later}
+use Rattle.noise_handshake.specs.inner.Known.{is_known}
+use Rattle.noise_handshake.specs.inner.Speaking.{has_own}
 use Rattle.noise_handshake.proofs.Written.{joined, rest-after}
 use Rattle.noise_handshake.proofs.writing.+write_tokens.Goals as goal
 
@@ -147,3 +149,44 @@ secrets_after-others-requires g t c = secret-due (tokens_of c.args.placed.now) (
 
 pub overflow_add-result-in-Err : goal.overflow_add-result-in-Err
 overflow_add-result-in-Err g t c = omega (arith, place-fits (tokens_of c.args.placed.now) (tokens_of c.in-Some.later.now) c.in-Some.first.now.token (ap tokens_of c.in-Some.ensures.cases.0) (nonce_now c.args.state.now) c.in-Err.k c.requires.nonces c.in-Err.ensures.width)
+
+pub write_token-requires-clause-own : goal.write_token-requires-clause-own
+write_token-requires-clause-own g t c =
+    all-first (tokens_of c.args.placed.now) (tokens_of c.in-Some.later.now) c.in-Some.first.now.token (ap tokens_of c.in-Some.ensures.cases.0)
+    (has_own (g.K.Keys.public_of c.args.means.now.keys.now)) c.requires.own
+
+pub write_token-requires-clause-known : goal.write_token-requires-clause-known
+write_token-requires-clause-known g t c =
+    all-first (tokens_of c.args.placed.now) (tokens_of c.in-Some.later.now) c.in-Some.first.now.token (ap tokens_of c.in-Some.ensures.cases.0)
+    (is_known c.args.means.now.role (is_some c.args.known.now.e) (is_some c.args.known.now.s)) c.requires.known
+
+pub write_tokens-requires : goal.write_tokens-requires
+write_tokens-requires g t c κs k =
+    let all : List Token = tokens_of c.args.placed.now in
+    let later : List Token = tokens_of c.in-Some.later.now in
+    let token : Token = c.in-Some.first.now.token in
+    let split : all ≡ token ∷ later = ap tokens_of c.in-Some.ensures.cases.0 in
+    let fewer : length c.args.placed.now ≡ suc (length c.in-Some.later.now) = ap length c.in-Some.ensures.cases.0 in
+    let n : ℕ = c.in-Some-write_token.n in
+    let out : List ℕ = c.write_token.new.out in
+    let key2 : Bool = keyed c.write_token.new.state in
+    let room : n + tokens_width c.args.means.now.psks key2 later ≤ length c.args.out.now =
+    room-later all later token split c.args.means.now.psks (keyed c.args.state.now) key2 (length c.args.out.now) n c.requires.room c.in-Some-write_token.ensures.width c.in-Some-write_token.ensures.keyed in (
+      omega (arith, fewer, c.decreases),
+      (
+        k,
+        (
+          secrets-later all later token split c.args.secrets.now c.secrets_after-others.result.now c.secrets_after-others.ensures c.requires.secrets,
+          (
+            all-later all later token split (has_own (g.K.Keys.public_of c.args.means.now.keys.now)) c.requires.own,
+            (
+              all-later all later token split (is_known c.args.means.now.role (is_some c.args.known.now.e) (is_some c.args.known.now.s)) c.requires.known,
+              (
+                omega (arith, room, length-take (length out - n) (drop n out), length-drop n out),
+                nonces-later all later token split (nonce_now c.args.state.now) (nonce_now c.write_token.new.state) c.in-Some-write_token.ensures.used c.requires.nonces,
+              ),
+            ),
+          ),
+        ),
+      ),
+    )
