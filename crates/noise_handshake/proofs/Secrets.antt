@@ -8,6 +8,7 @@ use Rattle.noise_handshake.specs.declared.faults.Cause.{Cause}
 use Rattle.noise_handshake.specs.declared.remote.Remote.{Remote}
 use Rattle.noise_handshake.specs.Message.{token_bytes, after_token}
 use Rattle.noise_handshake.specs.View.{Reader, Fits, known_after, first_secret, cause_of}
+use Rattle.noise_handshake.specs.Writing.{Writer, Gives}
 use Rattle.noise_handshake.specs.inner.Listening.{Fails}
 
 pub first_secret-read : (secrets : List (List ℕ)) → get_or secrets 0 [] ≡ first_secret secrets
@@ -47,3 +48,11 @@ on_ok (Err cause) p = tt
 
 pub of_width : (result : Result ℕ Cause) (n m : ℕ) → n ≡ m → IfOk result (λ k. k ≡ n) → IfOk result (λ k. k ≡ m)
 of_width result n m e h = subst (λ (i : ℕ). IfOk result (λ k. k ≡ i)) e h
+
+-- what a token is written as, at the token that it was written as
+pub written-as : {St : Type 0} (stands : St → History → Type 0) (state : St) (w : Writer) (known : Remote) (secrets : List (List ℕ)) (r : History)
+    (out : List ℕ) (t u : Token) → u ≡ t
+    → (x : List ℕ) × Gives w known secrets t x × (out ≡ token_bytes r t x) × stands state (after_token w.psks r t x)
+    → (x : List ℕ) × Gives w known secrets u x × (out ≡ token_bytes r u x) × stands state (after_token w.psks r u x)
+written-as stands state w known secrets r out t u e h =
+    subst (λ (z : Token). (x : List ℕ) × Gives w known secrets z x × (out ≡ token_bytes r z x) × stands state (after_token w.psks r z x)) (sym e) h
