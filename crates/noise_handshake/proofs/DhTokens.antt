@@ -1,5 +1,5 @@
 -- What the definitions by the token come to at a DH token.
-use Rattle.std.proofs.Common.{◌≡◌, ℕ, ◌+◌, ◌≤◌, List, [], ◌++◌, refl, arith}
+use Rattle.std.proofs.Common.{◌≡◌, ℕ, ◌+◌, ◌≤◌, List, ◌++◌, refl, arith}
 use Rattle.std.specs.Prelude.{Bool, true, Some, None, Option}
 use Rattle.noise_names.specs.declared.token.Token.{Token}
 use Rattle.noise_names.specs.declared.token.Token.TheVariants.{E, S, Ee, Es, Se, Ss, Psk}
@@ -10,7 +10,6 @@ use Rattle.noise_handshake.specs.Length.{keyed_after, token_width}
 use Rattle.noise_handshake.specs.Message.{token_bytes, after_token}
 use Rattle.noise_handshake.specs.Nonces.{nonce_after}
 use Rattle.noise_handshake.specs.View.{Reader, Fits, known_after, answered, own_at, remote_at, cause_of}
-use Rattle.noise_handshake.specs.Writing.{Writer, Gives}
 use Rattle.noise_handshake.specs.inner.Known.{e_after, s_after}
 use Rattle.noise_handshake.specs.inner.Listening.{Fails}
 
@@ -65,25 +64,6 @@ module _ (t : Token) (no_e : t ≡ E → ⊥) (no_s : t ≡ S → ⊥) (no_psk :
       at-dh (λ u. o ≡ answered v.agree (own_at v.role u) (remote_at v.role known u) → Fails v known secrets r u m × (Agreement ≡ cause_of key u m))
       (λ f. (λ x rest g _. none-some o _ x is f g, refl)) (λ f. (λ x rest g _. none-some o _ x is f g, refl))
       (λ f. (λ x rest g _. none-some o _ x is f g, refl)) (λ f. (λ x rest g _. none-some o _ x is f g, refl))
-      t no_e no_s no_psk e
-
-  -- what it is written as, with its answer
-  pub dh-written : {St : Type 0} (stands : St → History → Type 0) (state : St) (w : Writer) (known : Remote) (secrets : List (List ℕ)) (r : History)
-      (m x : List ℕ) (o : Option (List ℕ))
-      → o ≡ answered w.agree (own_at w.role t) (remote_at w.role known t) → o ≡ Some x → m ≡ [] → stands state (and_then r (MixKey x))
-      → (x : List ℕ) × Gives w known secrets t x × (m ≡ token_bytes r t x) × stands state (after_token w.psks r t x)
-  dh-written stands state w known secrets r m x o e is none h =
-      at-dh (λ u. o ≡ answered w.agree (own_at w.role u) (remote_at w.role known u)
-      → (x : List ℕ) × Gives w known secrets u x × (m ≡ token_bytes r u x) × stands state (after_token w.psks r u x))
-      (λ f. (x, some-of o _ x is f, none, h)) (λ f. (x, some-of o _ x is f, none, h)) (λ f. (x, some-of o _ x is f, none, h)) (λ f. (x, some-of o _ x is f, none, h))
-      t no_e no_s no_psk e
-
-  -- without one it is not written
-  pub dh-lacks : (w : Writer) (known : Remote) (secrets : List (List ℕ)) (o : Option (List ℕ))
-      → o ≡ answered w.agree (own_at w.role t) (remote_at w.role known t) → o ≡ None → (x : List ℕ) → Gives w known secrets t x → ⊥
-  dh-lacks w known secrets o e is =
-      at-dh (λ u. o ≡ answered w.agree (own_at w.role u) (remote_at w.role known u) → (x : List ℕ) → Gives w known secrets u x → ⊥)
-      (λ f x g. none-some o _ x is f g) (λ f x g. none-some o _ x is f g) (λ f x g. none-some o _ x is f g) (λ f x g. none-some o _ x is f g)
       t no_e no_s no_psk e
 
 -- a nonce that starts anew, one that grows no more, one that stays, and a token that takes no bytes
