@@ -1,7 +1,7 @@
 //! Exports: what a handshake tells of itself.
 #![tactic(auto)]
 
-ghost use Rattle.std.specs.Prelude.{◌≡◌, ◌<◌, ◌⊎◌, ◌↔◌, Some, None};
+ghost use Rattle.std.specs.Prelude.{◌≡◌, ◌≤◌, ◌<◌, ◌⊎◌, ◌↔◌, Some, None, replicate};
 ghost use Rattle.noise_names.specs.Plan.{Plan};
 ghost use Rattle.noise_state.specs.History.{hash};
 ghost use Rattle.noise_handshake.specs.View.{View};
@@ -64,6 +64,8 @@ pub extern "C" fn noise_remote_static(kept: &NoiseHandshake, key: &mut NoiseKey)
     ensures unusable { result ≡ STRUCT ↔ (IsUsable kept.now → ⊥) }
     ensures same { result ≡ OK → key_in key.new ≡ key_in kept.now.remote_s }
     ensures key { result ≡ OK → (p : Plan) (v : View) → KeepsView kept.now p v → key_in key.new ≡ v.remote.s }
+    ensures flag { result ≡ OK → key.new.present ≤ 1 }
+    ensures zeros { result ≡ OK → key.new.present ≡ 0 → key.new.bytes ≡ replicate 32 0 }
     ensures unchanged { OK < result → key.new ≡ key.old }
     ensures codes { (result ≡ OK) ⊎ (result ≡ STRUCT) }
 {

@@ -1,7 +1,7 @@
 //! Exports: handshakes.
 #![tactic(auto)]
 
-ghost use Rattle.std.specs.Prelude.{◌≡◌, ◌≤◌, ◌<◌, ◌+◌, ◌⊎◌, ◌↔◌, List, Option, ℕ, length, slice_range};
+ghost use Rattle.std.specs.Prelude.{◌≡◌, ◌≤◌, ◌<◌, ◌+◌, ◌⊎◌, ◌↔◌, List, Option, ℕ, length, take, drop, slice_range};
 ghost use Rattle.noise_names.specs.Plan.{Plan};
 ghost use Rattle.noise_handshake.specs.View.{View};
 ghost use Rattle.noise_handshake.specs.Wanting.{WantsToRead};
@@ -94,6 +94,9 @@ pub extern "C" fn noise_read(
     ensures length { result ≡ LENGTH ↔ ((65535 < length message.old) × IsUsable kept.old) }
     ensures accepted { result ≡ OK → (p : Plan) (v : View) → KeepsView kept.old p v
         → WasRead p v message.old (slice_range message.new told.new.from (told.new.from + told.new.len)) kept.new }
+    ensures extent { result ≡ OK → told.new.from + told.new.len ≤ length message.new }
+    ensures around { result ≡ OK → (take told.new.from message.new ≡ take told.new.from message.old)
+        × (drop (told.new.from + told.new.len) message.new ≡ drop (told.new.from + told.new.len) message.old) }
     ensures wanted { result ≡ WANTED → (p : Plan) (v : View) → KeepsView kept.old p v
         → WantsToRead v message.old (own_in told.new.of_static) told.new.remote }
     ensures wanted_psk { result ≡ WANTED_PSK → (p : Plan) (v : View) → KeepsView kept.old p v

@@ -1,7 +1,7 @@
 //! From what C keeps to a handshake, and back.
 #![tactic(auto)]
 
-ghost use Rattle.std.specs.Prelude.{◌≡◌, ◌≤◌, ◌-◌, ◌↔◌, ◌⊎◌, length, drop, map, IfSome, IsSome, IfOk, IfErr, IsOk};
+ghost use Rattle.std.specs.Prelude.{◌≡◌, ◌≤◌, ◌-◌, ◌↔◌, ◌⊎◌, length, replicate, drop, map, IfSome, IsSome, IfOk, IfErr, IsOk};
 ghost use Rattle.noise_handshake.specs.Held.{Held};
 ghost use Rattle.noise_handshake.specs.Parts.{held_of, HasProgress};
 ghost use Rattle.noise_handshake.specs.Late.{IsLateWhole};
@@ -22,7 +22,9 @@ use noise_state::StateParts;
 
 // How C keeps a key.
 pub(crate) fn kept_key(key: Option<[u8; 32]>) -> NoiseKey
-    ensures { key_in result ≡ key }
+    ensures same { key_in result ≡ key }
+    ensures flag { result.present ≤ 1 }
+    ensures zeros { result.present ≡ 0 → result.bytes ≡ replicate 32 0 }
 {
     match key {
         Some(bytes) => NoiseKey { present: 1, bytes },

@@ -1,7 +1,7 @@
 //! Exports: transports.
 #![tactic(auto)]
 
-ghost use Rattle.std.specs.Prelude.{◌≡◌, ◌≢◌, ◌↔◌, ◌<◌, ◌+◌, ◌⊎◌, ℕ, List, length, take, drop, slice_range, true, false, MatchOption};
+ghost use Rattle.std.specs.Prelude.{◌≡◌, ◌≢◌, ◌≤◌, ◌↔◌, ◌<◌, ◌+◌, ◌⊎◌, ℕ, List, replicate, length, take, drop, slice_range, true, false, MatchOption};
 ghost use Rattle.noise_names.specs.Plan.{Plan};
 ghost use Rattle.noise_handshake.specs.View.{View};
 ghost use Rattle.noise_session.specs.HeldTransport.{TransportView, TransportStands, transport_of, next_packet, due_packet, no_packet};
@@ -228,6 +228,8 @@ pub extern "C" fn noise_transport_hash(kept: &NoiseTransport, hash: &mut [u8; 32
 pub extern "C" fn noise_transport_remote_static(kept: &NoiseTransport, key: &mut NoiseKey) -> u32
     ensures unusable { result ≡ STRUCT ↔ is_transport kept.now ≡ false }
     ensures key { result ≡ OK → key_in key.new ≡ (transport_kept_in kept.now).remote_static }
+    ensures flag { result ≡ OK → key.new.present ≤ 1 }
+    ensures zeros { result ≡ OK → key.new.present ≡ 0 → key.new.bytes ≡ replicate 32 0 }
     ensures unchanged { OK < result → key.new ≡ key.old }
     ensures codes { (result ≡ OK) ⊎ (result ≡ STRUCT) }
 {

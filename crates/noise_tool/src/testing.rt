@@ -3,6 +3,9 @@
 ghost use Rattle.std.specs.Prelude.{◌≡◌, ◌⊎◌, ◌<◌, ◌≤◌, [], ℕ, Bool, List, Option, IfErr, IfOk, IfSome, OnOk, length, map, string_bytes, vec_len};
 ghost use Rattle.std.specs.Io.KnownBytes.{Appends};
 ghost use Rattle.noise_lines.specs.Faults.{status_of};
+ghost use Rattle.noise_lines.specs.Prefixes.{AppendsPrefix};
+ghost use Rattle.noise_lines.specs.Told.{error_text};
+ghost use Rattle.noise_lines.specs.declared.faults.Fault.{Fault};
 ghost use Rattle.noise_lines.specs.declared.faults.Fault.TheVariants.{TooLong};
 ghost use Rattle.noise_vectors.specs.Expectations.{bytes_of};
 ghost use Rattle.noise_vectors.specs.declared.vector.AllowedEvents.TheVariants.{Any};
@@ -51,6 +54,7 @@ pub fn test<F: FilesByName, O: Write, E: Write>(
 ) -> u8
     ensures tested { (result ≡ 3) ⊎ IsTested traces (F.bytes_at files.now) (map string_bytes names.now) (O.contents out.old) (O.contents out.new) result }
     ensures quiet { (result ≡ 3) ⊎ (err.new ≡ err.old) }
+    ensures outside { result ≡ 3 → (fault : Fault) × (status_of fault ≡ 3) × AppendsPrefix (E.contents err.old) (E.contents err.new) (error_text fault) }
 {
     match test_all(alloc, names, traces, files, out) {
         Ok(status) => status,

@@ -15,5 +15,5 @@ pub returns-in-Ok-clause-tells : goal.returns-in-Ok-clause-tells
 returns-in-Ok-clause-tells c e p v k =
     let o = c.in-Ok.ensures.opens p v k in (
       c.kept_datagrams.ensures.told.0 ∙ c.hash-hash.ensures ∙ o.hash,
-      ap key_in c.kept_datagrams.ensures.told.1 ∙ c.kept_key-remote_static.ensures ∙ c.remote_static.ensures ∙ o.remote_static,
+      ap key_in c.kept_datagrams.ensures.told.1 ∙ c.kept_key-remote_static.ensures.same ∙ c.remote_static.ensures ∙ o.remote_static,
     )

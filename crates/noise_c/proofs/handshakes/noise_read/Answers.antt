@@ -1,4 +1,4 @@
-use Rattle.std.specs.Prelude.{Result, Ok, Err}
+use Rattle.std.specs.Prelude.{Result, Ok, Err, take, drop, ◌+◌, ◌-◌}
 use Rattle.std.proofs.Common.{◌≡◌, ◌≤◌, ◌⊎◌, ℕ, List, inl, inr, ⊎_elim, length, refl, ap, sym, subst, ◌∙◌, arith}
 use Rattle.std.proofs.lemmas.Bool.{false≢true}
 use Rattle.noise_keys.specs.Table.{Table}
@@ -35,6 +35,8 @@ returns-in_default c =
       left = λ _ _. refl;
       unchanged = λ _. refl;
       usable = other 23 0 refl;
+      extent = other 23 0 refl;
+      around = other 23 0 refl;
       stays = λ u. u;
       codes = inr (inr (inr (inr (inl refl))));
     }
@@ -55,12 +57,20 @@ returns-then-message-gt-MAX_LEN c =
       left = λ _ _. refl;
       unchanged = λ _. refl;
       usable = other 24 0 refl;
+      extent = other 24 0 refl;
+      around = other 24 0 refl;
       stays = λ u. u;
       codes = inr (inr (inr (inr (inr (inl refl)))));
     }
 
 ok-err : {A : Type 0} (x : ℕ × ℕ) (u : LateUnread) → ◌≡◌ {A = Result (ℕ × ℕ) LateUnread} (Ok x) (Err u) → A
 ok-err x u e = cc
+
+ends : (old new : List ℕ) (start end : ℕ) → start ≤ end → (take start new ≡ take start old) × (drop end new ≡ drop end old)
+    → (take start new ≡ take start old) × (drop (start + (end - start)) new ≡ drop (start + (end - start)) old)
+ends old new start end r both =
+    let n : end ≡ start + (end - start) = omega (arith, r) in
+    (both.0, subst (λ (z : ℕ). drop z new ≡ drop z old) n both.1)
 
 pub returns-in-Ok : goal.returns-in-Ok
 returns-in-Ok c =
@@ -98,6 +108,8 @@ returns-in-Ok c =
       left = λ _. above 1 0 refl;
       unchanged = above 1 0 refl;
       usable = λ _. usable;
+      extent = λ _. omega (arith, c.in-Ok.ensures.range.0, c.in-Ok.ensures.range.1);
+      around = λ _. (ends c.args.message.now c.read_or_ask.new.message c.in-Ok.start c.in-Ok.end c.in-Ok.ensures.range.0 c.in-Ok.ensures.beyond);
       stays = λ _. usable;
       codes = inl refl;
     }
@@ -155,6 +167,8 @@ returns-in-Refused c =
       left = λ outside _. refused-between code within outside;
       unchanged = λ _. c.in-Err-Declined.ensures.unchanged;
       usable = not-before code 14 0 within.0 refl;
+      extent = not-before code 14 0 within.0 refl;
+      around = not-before code 14 0 within.0 refl;
       stays = usable-ended old;
       codes = inr (inr (inl (refused-among code within)));
     }
@@ -195,6 +209,8 @@ returns-in_default-fault c =
       left = λ _ _. refl;
       unchanged = λ _. c.in-Err-Declined.ensures.unchanged;
       usable = not-before code 10 0 within.0 refl;
+      extent = not-before code 10 0 within.0 refl;
+      around = not-before code 10 0 within.0 refl;
       stays = λ u. u;
       codes = plain-sort code among;
     }
@@ -273,3 +289,13 @@ returns-in-Err-Wants-clause-codes c =
     ⊎_elim (λ e. inr (inr (inr (inl e)))) (λ e. inr (inr (inr (inr (inr (inr e))))))
     (wants-either c.in-Err-Wants.want c.tell.new.told c.tell.result
     (subst (λ (w : Want). TellsWant w c.tell.new.told c.tell.result) c.in-Err-Wants.want-is c.tell.ensures))
+
+pub returns-in-Err-Wants-clause-extent : goal.returns-in-Err-Wants-clause-extent
+returns-in-Err-Wants-clause-extent c =
+    wants-other c.in-Err-Wants.want c.tell.new.told c.tell.result 0
+    (subst (λ (w : Want). TellsWant w c.tell.new.told c.tell.result) c.in-Err-Wants.want-is c.tell.ensures) refl refl
+
+pub returns-in-Err-Wants-clause-around : goal.returns-in-Err-Wants-clause-around
+returns-in-Err-Wants-clause-around c =
+    wants-other c.in-Err-Wants.want c.tell.new.told c.tell.result 0
+    (subst (λ (w : Want). TellsWant w c.tell.new.told c.tell.result) c.in-Err-Wants.want-is c.tell.ensures) refl refl
