@@ -1,7 +1,8 @@
 -- The toy keys have an answer at each DH.
 use Rattle.std.proofs.Common.{◌≡◌, refl, ℕ, List, Option, Some, None}
 use Rattle.std.specs.Prelude.{true, is_some, IsSome}
-use Rattle.noise_names.specs.declared.token.Role.TheVariants.{Initiator}
+use Rattle.noise_names.specs.declared.token.Role.{Role}
+use Rattle.noise_names.specs.declared.token.Role.TheVariants.{Initiator, Responder}
 use Rattle.noise_names.specs.declared.token.Token.{Token}
 use Rattle.noise_names.specs.declared.token.Token.TheVariants.{E, S, Ee, Es, Se, Ss, Psk}
 use Rattle.noise_keys.specs.declared.keys.Own.{Own}
@@ -20,16 +21,22 @@ gives (Some e) (Some s) x None he hs hl = absurd (cc)
 gives (Some e) (Some s) Ephemeral (Some l) he hs hl = refl
 gives (Some e) (Some s) Static (Some l) he hs hl = refl
 
-there : (e s : Option (List ℕ)) (t : Token) → is_dh t ≡ true → IsSome e → IsSome s
-    → IsSome (remote_at Initiator (public_keys (λ own. key_of own e s)) t)
-there e s E d f g = absurd (cc)
-there e s S d f g = absurd (cc)
-there e s Psk d f g = absurd (cc)
-there e s Ee d f g = f
-there e s Es d f g = g
-there e s Se d f g = f
-there e s Ss d f g = g
+there : (role : Role) (e s : Option (List ℕ)) (t : Token) → is_dh t ≡ true → IsSome e → IsSome s
+    → IsSome (remote_at role (public_keys (λ own. key_of own e s)) t)
+there role e s E d f g = absurd (cc)
+there role e s S d f g = absurd (cc)
+there role e s Psk d f g = absurd (cc)
+there Initiator e s Ee d f g = f
+there Initiator e s Es d f g = g
+there Initiator e s Se d f g = f
+there Initiator e s Ss d f g = g
+there Responder e s Ee d f g = f
+there Responder e s Es d f g = f
+there Responder e s Se d f g = g
+there Responder e s Ss d f g = g
 
 pub xor-keys-answer : XorKeysAnswer
-xor-keys-answer p prologue psks a b ae as-is be bs t d o =
-    gives a.e a.s (own_at Initiator t) (remote_at Initiator (public_keys (λ own. key_of own b.e b.s)) t) ae as-is (there b.e b.s t d be bs)
+xor-keys-answer p prologue psks a b ae as-is be bs t d o = (
+  gives a.e a.s (own_at Initiator t) (remote_at Initiator (public_keys (λ own. key_of own b.e b.s)) t) ae as-is (there Initiator b.e b.s t d be bs),
+  gives b.e b.s (own_at Responder t) (remote_at Responder (public_keys (λ own. key_of own a.e a.s)) t) be bs (there Responder a.e a.s t d ae as-is),
+)

@@ -47,7 +47,7 @@ module _ {K : Type 0} (public_of : K → Own → Option (List ℕ)) (agreement :
     pub stands : DuelStands public_of agreement public_of agreement duel last
     pub through : ComeThrough (material_of s.initiator s.responder) p prologue interval lines last
 
--- the initiator has an answer at each DH of the pattern
+-- both parties have an answer at each DH of the pattern
 abbrev pub HaveAnswers : Plan → Starts → Type 0
 HaveAnswers p s = HasAnswers p s.initiator s.responder
 

@@ -23,7 +23,6 @@ use Rattle.noise_duel.specs.Agreement.{KeysAgree, Knows}
 use Rattle.noise_duel.proofs.HashedTexts.{Alike}
 use Rattle.noise_duel.proofs.HashedMessages.{AreLines, AllAlike}
 use Rattle.noise_duel.proofs.Forward.{SecretAt, SecretsFit, UseSecrets, message-same}
-use Rattle.std.proofs.lemmas.Option.{same_Some}
 use Rattle.noise_names.specs.Roles.{same_role-self, same_role-other}
 use Rattle.noise_names.specs.Lists.{cons-same}
 
@@ -139,7 +138,7 @@ module _ (a b : Start) (agrees : KeysAgree a b) where
       → answered a.agree x known ≡ Some s → answered b.agree y other ≡ Some t → s ≡ t
   dh-same x y None other s t f g h i = cc
   dh-same x y (Some k) None s t f g h i = cc
-  dh-same x y (Some k) (Some l) s t f g h i = same_Some s t (sym h ∙ agrees x y l k (g l refl) (f k refl) ∙ i)
+  dh-same x y (Some k) (Some l) s t f g h i = agrees x y l k s t (g l refl) (f k refl) h i
 
   module _ (psks : Bool) where
     text-same : (mine : Bool) (ka kb : Remote) (secrets : List (List ℕ)) (r : History) (t : Token) (x y : List ℕ) → Knows ka b.own → Knows kb a.own

@@ -36,12 +36,17 @@ set-own : LawsBelow → (p : Plan) (role : Role) (s : Start) → IsSetUp p role 
     → is_some (s.own x) ≡ true
 set-own laws p role s h x k = laws.set_own p role s.own s.remote (length s.secrets) h x k
 
+-- two answers that are there are one
 answers-same : (agree their_agree : Own → List ℕ → Option (List ℕ)) (x y : Own) (mine theirs : Option (List ℕ))
-    → ((k l : List ℕ) → mine ≡ Some k → theirs ≡ Some l → agree x l ≡ their_agree y k)
-    → is_some mine ≡ true → is_some theirs ≡ true → answered agree x theirs ≡ answered their_agree y mine
-answers-same agree their_agree x y None theirs f g h = cc
+    → ((k l r s : List ℕ) → mine ≡ Some k → theirs ≡ Some l → agree x l ≡ Some r → their_agree y k ≡ Some s → r ≡ s)
+    → is_some (answered agree x theirs) ≡ true → is_some (answered their_agree y mine) ≡ true → answered agree x theirs ≡ answered their_agree y mine
+answers-same agree their_agree x y None None f g h = cc
+answers-same agree their_agree x y None (Some l) f g h = cc
 answers-same agree their_agree x y (Some k) None f g h = cc
-answers-same agree their_agree x y (Some k) (Some l) f g h = f k l refl refl
+answers-same agree their_agree x y (Some k) (Some l) f g h =
+    let r = there-is (agree x l) [] g in
+    let s = there-is (their_agree y k) [] h in
+    r ∙ ap Some (f k l (unwrap_or (agree x l) []) (unwrap_or (their_agree y k) []) refl refl r s) ∙ sym s
 
 abbrev true-key : (s : Start) → Own → List ℕ
 true-key s x = unwrap_or (s.own x) no_key
@@ -64,11 +69,12 @@ module _ (laws : LawsBelow) (p : Plan) (prologue : List ℕ) (a b : Start) (vali
   meets t d h =
       let x : Own = own_at Initiator t in
       let y : Own = own_at Responder t in
-      ap (answered a.agree x) (remote-own Initiator b.own t)
+      let e = remote-own Initiator b.own t in
+      let f = remote-own Responder a.own t in
+      ap (answered a.agree x) e
       ∙ answers-same a.agree b.agree x y (a.own x) (b.own y) (alike.keys x y)
-      (set-own laws p Initiator a alike.initiator x (laws.dh_key_is_among p Initiator t valid d h))
-      (set-own laws p Responder b alike.responder y (laws.dh_key_is_among p Responder t valid d h))
-      ∙ ap (answered b.agree y) (sym (remote-own Responder a.own t))
+      (sym (ap (λ o. is_some (answered a.agree x o)) e) ∙ (answers t d h).0) (sym (ap (λ o. is_some (answered b.agree y o)) f) ∙ (answers t d h).1)
+      ∙ ap (answered b.agree y) (sym f)
 
   answers-a : (t : Token) → is_dh t ≡ true → occurs t (places_of p) ≡ true
       → answered a.agree (own_at Initiator t) (remote_at Initiator (public_keys_in material Responder) t) ≡ Some (unwrap_or (answer-at t) [])
@@ -76,7 +82,7 @@ module _ (laws : LawsBelow) (p : Plan) (prologue : List ℕ) (a b : Start) (vali
       ap (answered a.agree (own_at Initiator t))
       (remote-own Initiator (λ x. Some (true-key b x)) t ∙ sym (own-b (own_at Responder t) (laws.dh_key_is_among p Responder t valid d h))
       ∙ sym (remote-own Initiator b.own t))
-      ∙ there-is (answer-at t) [] (answers t d h)
+      ∙ there-is (answer-at t) [] (answers t d h).0
 
   answers-b : (t : Token) → is_dh t ≡ true → occurs t (places_of p) ≡ true
       → answered b.agree (own_at Responder t) (remote_at Responder (public_keys_in material Initiator) t) ≡ Some (unwrap_or (answer-at t) [])
@@ -84,7 +90,7 @@ module _ (laws : LawsBelow) (p : Plan) (prologue : List ℕ) (a b : Start) (vali
       ap (answered b.agree (own_at Responder t))
       (remote-own Responder (λ x. Some (true-key a x)) t ∙ sym (own-a (own_at Initiator t) (laws.dh_key_is_among p Initiator t valid d h))
       ∙ sym (remote-own Responder a.own t))
-      ∙ sym (meets t d h) ∙ there-is (answer-at t) [] (answers t d h)
+      ∙ sym (meets t d h) ∙ there-is (answer-at t) [] (answers t d h).0
 
   part-a : IsPart material p Initiator prologue a
   part-a = record {

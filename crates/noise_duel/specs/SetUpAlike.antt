@@ -29,10 +29,11 @@ pub record AreSetUpAlike (p : Plan) (prologue : List ℕ) (a b : Start) : Type 0
 abbrev pub HasLongKeys : Start → Type 0
 HasLongKeys s = (x : Own) (k : List ℕ) → s.own x ≡ Some k → length k ≡ 32
 
--- the initiator has an answer at each DH of the pattern
+-- both parties have an answer at each DH of the pattern
 abbrev pub HasAnswers : Plan → Start → Start → Type 0
 HasAnswers p a b = (t : Token) → is_dh t ≡ true → occurs t (places_of p) ≡ true
-    → is_some (answered a.agree (own_at Initiator t) (remote_at Initiator (public_keys b.own) t)) ≡ true
+    → (is_some (answered a.agree (own_at Initiator t) (remote_at Initiator (public_keys b.own) t)) ≡ true)
+    × (is_some (answered b.agree (own_at Responder t) (remote_at Responder (public_keys a.own) t)) ≡ true)
 
 -- The key material of two parties: both parties' public keys, the initiator's answer at each DH token, and the psks. 32 zeros stand for a key that there
 -- isn't, and no bytes for an answer: no message of a pattern that the parties are set up for has them.

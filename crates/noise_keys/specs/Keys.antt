@@ -3,6 +3,7 @@ use Rattle.std.specs.Prelude.{◌≡◌, ℕ, List, [], ◌∷◌, Option, Some,
 use Rattle.std.specs.List.{zip}
 use Rattle.std.proofs.Common.{sym, ap, ◌∙◌}
 use Rattle.std.proofs.lemmas.Nat.{xor_comm}
+use Rattle.std.proofs.lemmas.Option.{same_Some}
 use Rattle.noise_keys.specs.declared.keys.Own.{Own}
 use Rattle.noise_keys.specs.declared.keys.Own.TheVariants.{Ephemeral, Static}
 
@@ -31,3 +32,7 @@ xored-comm (x ∷ xs) (y ∷ ys) =
 pub xor_answer-commutes : (k l : Option (List ℕ)) (p q : List ℕ) → k ≡ Some p → l ≡ Some q → xor_answer k q ≡ xor_answer l p
 xor_answer-commutes k l p q ek el =
     ap (λ (o : Option (List ℕ)). xor_answer o q) ek ∙ ap Some (xored-comm p q) ∙ sym (ap (λ (o : Option (List ℕ)). xor_answer o p) el)
+
+-- so the two answers are one
+pub xor_answer-same : (k l : Option (List ℕ)) (p q r s : List ℕ) → k ≡ Some p → l ≡ Some q → xor_answer k q ≡ Some r → xor_answer l p ≡ Some s → r ≡ s
+xor_answer-same k l p q r s ek el er es = same_Some r s (sym er ∙ xor_answer-commutes k l p q ek el ∙ es)

@@ -32,8 +32,10 @@ pub trait Keys: Drop {
         ensures { result ≡ agreement self.now own remote.now };
 }
 
-/// Keys whose two sides agree: DH of one's own key and the other's public key is the same from both ends (Noise, 4.1).
+/// Keys whose two sides agree: where both ends have a result of DH between their own key and the other's public key, it is one (Noise, 4.1).
+///
+/// Either end may have none, as keys in a device that fails, or that refuses the other's public key (Noise, 12.1).
 pub trait Agreeing: Keys {
-    ghost commutes: { (a b : Self) (x y : Own) (p q : List ℕ) → Self.public_of a x ≡ Some p → Self.public_of b y ≡ Some q
-        → Self.agreement a x q ≡ Self.agreement b y p };
+    ghost commutes: { (a b : Self) (x y : Own) (p q r s : List ℕ) → Self.public_of a x ≡ Some p → Self.public_of b y ≡ Some q
+        → Self.agreement a x q ≡ Some r → Self.agreement b y p ≡ Some s → r ≡ s };
 }

@@ -40,9 +40,9 @@ impl Keys for XorKeys {
 }
 
 impl Agreeing for XorKeys {
-    ghost use Rattle.noise_keys.specs.Keys.{key_of, xor_answer-commutes};
+    ghost use Rattle.noise_keys.specs.Keys.{key_of, xor_answer-same};
 
-    ghost commutes = { λ a b x y p q ep eq. xor_answer-commutes (key_of x a.e a.s) (key_of y b.e b.s) p q ep eq };
+    ghost commutes = { λ a b x y p q r s ep eq er es. xor_answer-same (key_of x a.e a.s) (key_of y b.e b.s) p q r s ep eq er es };
 }
 
 // The xor of two keys, byte by byte.

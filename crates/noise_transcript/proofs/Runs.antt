@@ -58,8 +58,12 @@ module _ (laws : Laws) (file : VectorFile) (p : Plan) (lines : List (Role × Lis
       let mine = laws.own p Initiator a.own a.remote (length a.secrets) (fits.set_up Initiator) (own_at Initiator t) (laws.keys p Initiator t fits.valid d o) in
       let theirs = laws.own p Responder b.own b.remote (length b.secrets) (fits.set_up Responder) (own_at Responder t)
       (laws.keys p Responder t fits.valid d o) in
-      xor-answers file.initiator fits.initiator (own_at Initiator t) (remote_at Initiator (public_keys b.own) t) mine
-      (ap (λ (key : Option (List ℕ)). is_some key) (remote-own b.own t) ∙ theirs)
+      (
+        xor-answers file.initiator fits.initiator (own_at Initiator t) (remote_at Initiator (public_keys b.own) t) mine
+            (ap (λ (key : Option (List ℕ)). is_some key) (remote-own Initiator b.own t) ∙ theirs),
+        xor-answers file.responder fits.responder (own_at Responder t) (remote_at Responder (public_keys a.own) t) theirs
+            (ap (λ (key : Option (List ℕ)). is_some key) (remote-own Responder a.own t) ∙ mine),
+      )
 
   alike : AreSetUpAlike p file.prologue.items a b
   alike = record {

@@ -1,12 +1,14 @@
 -- Keys whose DH is the xor of bytes: those of two parties agree, and have an answer wherever a setup without a fault needs one.
 use Rattle.std.proofs.Common.{◌≡◌, ◌∙◌, refl, ap, sym, ℕ, List, length, Option, Some, None}
 use Rattle.std.specs.Prelude.{true, is_some, IfSome}
+use Rattle.noise_names.specs.declared.token.Role.{Role}
 use Rattle.noise_names.specs.declared.token.Role.TheVariants.{Initiator, Responder}
+use Rattle.noise_names.specs.Tokens.{other}
 use Rattle.noise_names.specs.declared.token.Token.{Token}
 use Rattle.noise_names.specs.declared.token.Token.TheVariants.{E, S, Ee, Es, Se, Ss, Psk}
 use Rattle.noise_keys.specs.declared.keys.Own.{Own}
 use Rattle.noise_keys.specs.declared.keys.Own.TheVariants.{Ephemeral, Static}
-use Rattle.noise_keys.specs.Keys.{key_of, xor_answer, xor_answer-commutes}
+use Rattle.noise_keys.specs.Keys.{key_of, xor_answer, xor_answer-same}
 use Rattle.noise_handshake.specs.Setup.{public_keys}
 use Rattle.noise_handshake.specs.View.{answered, own_at, remote_at}
 use Rattle.noise_vectors.specs.FileKeys.{agreement_of, public_of}
@@ -33,11 +35,11 @@ long-keys (Table keys) h x k e = long-in (key_of x keys.e keys.s) (of-own keys.e
 
 -- ---- they agree
 
-pub keys-agree : (f g : FileKeys) → IsXor f → IsXor g → (x y : Own) (k l : List ℕ) → public_of f x ≡ Some k → public_of g y ≡ Some l
-    → agreement_of f x l ≡ agreement_of g y k
-keys-agree (Xor a) (Xor b) i j x y k l e h = xor_answer-commutes (key_of x a.e a.s) (key_of y b.e b.s) k l e h
-keys-agree (Xor a) (Table b) i j x y k l e h = absurd j
-keys-agree (Table a) g i j x y k l e h = absurd i
+pub keys-agree : (f g : FileKeys) → IsXor f → IsXor g → (x y : Own) (k l r s : List ℕ) → public_of f x ≡ Some k → public_of g y ≡ Some l
+    → agreement_of f x l ≡ Some r → agreement_of g y k ≡ Some s → r ≡ s
+keys-agree (Xor a) (Xor b) i j x y k l r s e h m n = xor_answer-same (key_of x a.e a.s) (key_of y b.e b.s) k l r s e h m n
+keys-agree (Xor a) (Table b) i j x y k l r s e h m n = absurd j
+keys-agree (Table a) g i j x y k l r s e h m n = absurd i
 
 -- ---- they have answers
 
@@ -55,12 +57,19 @@ pub xor-answers : (keys : FileKeys) → IsXor keys → (x : Own) (l : Option (Li
 xor-answers (Xor keys) i x l h k = answers (agreement_of (Xor keys)) x l k (λ m. gives (key_of x keys.e keys.s) m h)
 xor-answers (Table keys) i x l h k = absurd i
 
--- the responder's key at a DH token
-pub remote-own : (theirs : Own → Option (List ℕ)) (t : Token) → remote_at Initiator (public_keys theirs) t ≡ theirs (own_at Responder t)
-remote-own theirs E = refl
-remote-own theirs S = refl
-remote-own theirs Ee = refl
-remote-own theirs Es = refl
-remote-own theirs Se = refl
-remote-own theirs Ss = refl
-remote-own theirs Psk = refl
+-- the other party's key at a DH token
+pub remote-own : (role : Role) (theirs : Own → Option (List ℕ)) (t : Token) → remote_at role (public_keys theirs) t ≡ theirs (own_at (other role) t)
+remote-own Initiator theirs E = refl
+remote-own Initiator theirs S = refl
+remote-own Initiator theirs Ee = refl
+remote-own Initiator theirs Es = refl
+remote-own Initiator theirs Se = refl
+remote-own Initiator theirs Ss = refl
+remote-own Initiator theirs Psk = refl
+remote-own Responder theirs E = refl
+remote-own Responder theirs S = refl
+remote-own Responder theirs Ee = refl
+remote-own Responder theirs Es = refl
+remote-own Responder theirs Se = refl
+remote-own Responder theirs Ss = refl
+remote-own Responder theirs Psk = refl
