@@ -1,5 +1,5 @@
 -- What the memory that C keeps stands for.
-use Rattle.std.specs.Prelude.{◌≡◌, ◌⊎◌, ℕ, ◌≤◌, ◌==◌, nat_eq, nat_lt, Bool, true, false, not, List, [], ◌∷◌, ◌++◌, length, take, map, Option, Some, None, if◌then◌else◌, drop, ◌-◌}
+use Rattle.std.specs.Prelude.{◌≡◌, ◌⊎◌, ℕ, ◌≤◌, ◌==◌, nat_eq, nat_lt, Bool, true, false, not, List, [], ◌∷◌, ◌++◌, length, take, map, Option, Some, None, if◌then◌else◌, replicate, drop, ◌-◌}
 use Rattle.std.specs.List.{ends_with}
 use Rattle.noise_names.specs.declared.token.Role.{Role}
 use Rattle.noise_names.specs.declared.token.Role.TheVariants.{Initiator, Responder}
@@ -39,6 +39,14 @@ use Rattle.noise_c.specs.declared.codes.TheConstants.{EPHEMERAL_MISSING, LENGTH,
 -- a key, if there is one
 abbrev pub key_in : NoiseKey → Option (List ℕ)
 key_in k = if k.present == 0 then None else Some k.bytes
+
+-- how it is kept and told: of no key, zeros
+abbrev pub no_key : NoiseKey
+no_key = record { present = 0; bytes = replicate 32 0 }
+
+abbrev pub kept_key : Option (List ℕ) → NoiseKey
+kept_key None = no_key
+kept_key (Some bytes) = record { present = 1; bytes = bytes }
 
 abbrev pub own_in : ℕ → Own
 own_in of_static = if of_static == 0 then Ephemeral else Static
@@ -177,6 +185,17 @@ remote_told told = if told.remote_known == 0 then None else Some told.remote
 abbrev pub TellsWant : Want → NoiseTold → ℕ → Type 0
 TellsWant (Answer own key) told code = (code ≡ WANTED) × (own_in told.of_static ≡ own) × (told.remote ≡ key)
 TellsWant (Secret remote) told code = (code ≡ WANTED_PSK) × (remote_told told ≡ remote)
+
+-- Of a DH answer that is wanted, 0 or 1 is told for the key pair, and the other party's key; all else is as it was.
+pub record TellsAnswer (old new : NoiseTold) : Type 0 where
+  pub flag : new.of_static ≤ 1
+  pub rest : new ≡ record old { of_static = new.of_static; remote = new.remote }
+
+-- Of a secret that is wanted, the other party's static key is told with 1, or zeros with 0; all else is as it was.
+pub record TellsRemote (old new : NoiseTold) : Type 0 where
+  pub flag : new.remote_known ≤ 1
+  pub zeros : new.remote_known ≡ 0 → new.remote ≡ replicate 32 0
+  pub rest : new ≡ record old { remote = new.remote; remote_known = new.remote_known }
 
 -- the public keys that are handed in, with no answer yet
 abbrev pub table_of : NoiseSetup → Table

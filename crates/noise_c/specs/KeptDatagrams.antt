@@ -6,7 +6,8 @@ use Rattle.noise_session.specs.Datagrams.{HeldDatagrams, unsealed}
 use Rattle.noise_session.specs.Windows.{is_ring}
 use Rattle.noise_c.specs.declared.kept_datagrams.NoiseDatagrams.{NoiseDatagrams}
 use Rattle.noise_c.specs.declared.marks.TheConstants.{DATAGRAMS}
-use Rattle.noise_c.specs.KeptTransport.{is_party, party_in, no_key}
+use Rattle.noise_c.specs.Kept.{no_key}
+use Rattle.noise_c.specs.KeptTransport.{is_party, party_in}
 use Rattle.noise_c.specs.TransportCodes.{sealing_code}
 use Rattle.noise_c.specs.declared.codes.TheConstants.{ROOM, STRUCT}
 

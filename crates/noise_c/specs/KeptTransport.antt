@@ -5,10 +5,9 @@ use Rattle.noise_names.specs.declared.token.Role.TheVariants.{Initiator, Respond
 use Rattle.noise_handshake.specs.Held.{Held}
 use Rattle.noise_keys.specs.Table.{Table}
 use Rattle.noise_session.specs.HeldTransport.{HeldTransport, seal_fault, open_fault}
-use Rattle.noise_c.specs.declared.kept.NoiseKey.{NoiseKey}
 use Rattle.noise_c.specs.declared.kept_transport.NoiseTransport.{NoiseTransport}
 use Rattle.noise_c.specs.declared.marks.TheConstants.{TRANSPORT}
-use Rattle.noise_c.specs.Kept.{key_in}
+use Rattle.noise_c.specs.Kept.{key_in, no_key}
 use Rattle.noise_c.specs.TransportCodes.{sealing_code, open_code}
 use Rattle.noise_c.specs.declared.codes.TheConstants.{ENDED, OK, ROOM, STRUCT}
 use Rattle.noise_c.specs.declared.transport_codes.TheConstants.{NOT_DONE}
@@ -25,9 +24,6 @@ abbrev pub is_transport : NoiseTransport → Bool
 is_transport k = (k.mark == TRANSPORT) && is_party k.party
 
 -- memory of zeros
-abbrev pub no_key : NoiseKey
-no_key = record { present = 0; bytes = replicate 32 0 }
-
 abbrev pub no_transport : NoiseTransport
 no_transport = record {
   mark = 0;

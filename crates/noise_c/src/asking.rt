@@ -1,12 +1,12 @@
 //! Exports: what a handshake tells of itself.
 #![tactic(auto)]
 
-ghost use Rattle.std.specs.Prelude.{◌≡◌, ◌≤◌, ◌<◌, ◌⊎◌, ◌↔◌, Some, None, replicate};
+ghost use Rattle.std.specs.Prelude.{◌≡◌, ◌<◌, ◌⊎◌, ◌↔◌, Some, None};
 ghost use Rattle.noise_names.specs.Plan.{Plan};
 ghost use Rattle.noise_state.specs.History.{hash};
 ghost use Rattle.noise_handshake.specs.View.{View};
 ghost use Rattle.noise_handshake.specs.Held.{message_len_of};
-ghost use Rattle.noise_c.specs.Kept.{key_in, text_in, held_in, IsPatternOf, IsUsable, KeepsView, TellsStage};
+ghost use Rattle.noise_c.specs.Kept.{key_in, kept_key, text_in, held_in, IsPatternOf, IsUsable, KeepsView, TellsStage};
 ghost use Rattle.noise_c.specs.declared.codes.TheConstants.{NOT_DUE, OK, STRUCT};
 
 use crate::codes::{NOT_DUE, OK, STRUCT};
@@ -62,10 +62,8 @@ pub extern "C" fn noise_hash(kept: &NoiseHandshake, out: &mut [u8; 32]) -> u32
 #[unsafe(no_mangle)]
 pub extern "C" fn noise_remote_static(kept: &NoiseHandshake, key: &mut NoiseKey) -> u32
     ensures unusable { result ≡ STRUCT ↔ (IsUsable kept.now → ⊥) }
-    ensures same { result ≡ OK → key_in key.new ≡ key_in kept.now.remote_s }
-    ensures key { result ≡ OK → (p : Plan) (v : View) → KeepsView kept.now p v → key_in key.new ≡ v.remote.s }
-    ensures flag { result ≡ OK → key.new.present ≤ 1 }
-    ensures zeros { result ≡ OK → key.new.present ≡ 0 → key.new.bytes ≡ replicate 32 0 }
+    ensures same { result ≡ OK → key.new ≡ kept_key (key_in kept.now.remote_s) }
+    ensures key { result ≡ OK → (p : Plan) (v : View) → KeepsView kept.now p v → key.new ≡ kept_key v.remote.s }
     ensures unchanged { OK < result → key.new ≡ key.old }
     ensures codes { (result ≡ OK) ⊎ (result ≡ STRUCT) }
 {

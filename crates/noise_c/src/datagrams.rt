@@ -7,7 +7,7 @@ ghost use Rattle.noise_handshake.specs.View.{View};
 ghost use Rattle.noise_session.specs.declared.datagram_fault.DatagramFault.{DatagramFault};
 ghost use Rattle.noise_session.specs.Datagrams.{DatagramView, DatagramsStand, Opens, datagram, datagrams_of, accepting, nonce_named};
 ghost use Rattle.noise_state.specs.History.{hash};
-ghost use Rattle.noise_c.specs.Kept.{key_in, held_in, IsUsable, KeepsView};
+ghost use Rattle.noise_c.specs.Kept.{key_in, kept_key, held_in, IsUsable, KeepsView};
 ghost use Rattle.noise_c.specs.TransportCodes.{datagram_code};
 ghost use Rattle.noise_c.specs.KeptTransport.{finish_code};
 ghost use Rattle.noise_c.specs.KeptDatagrams.{is_window, window_in, is_datagrams, datagrams_kept_in, datagrams_seal_code};
@@ -19,6 +19,7 @@ use crate::finishing::opened_of;
 use crate::held::kept_key;
 use crate::kept::{NoiseHandshake, NoiseKey, NoiseTold};
 use crate::kept_datagrams::{NoiseDatagrams, datagrams_of, kept_datagrams, window_named};
+use crate::kept_keys::key_of;
 use crate::transport_codes::{WINDOW, datagram_code, seal_code};
 use noise_session::Datagrams;
 
@@ -237,13 +238,13 @@ pub extern "C" fn noise_datagrams_hash(kept: &NoiseDatagrams, hash: &mut [u8; 32
 #[unsafe(no_mangle)]
 pub extern "C" fn noise_datagrams_remote_static(kept: &NoiseDatagrams, key: &mut NoiseKey) -> u32
     ensures unusable { result ≡ STRUCT ↔ is_datagrams kept.now ≡ false }
-    ensures key { result ≡ OK → key.new ≡ kept.now.remote_static }
+    ensures key { result ≡ OK → key.new ≡ kept_key (key_in kept.now.remote_static) }
     ensures unchanged { OK < result → key.new ≡ key.old }
     ensures codes { (result ≡ OK) ⊎ (result ≡ STRUCT) }
 {
     if datagrams_of(kept).is_none() {
         return STRUCT;
     }
-    *key = kept.remote_static;
+    *key = kept_key(key_of(&kept.remote_static));
     OK
 }

@@ -1,12 +1,12 @@
 //! Exports: handshakes.
 #![tactic(auto)]
 
-ghost use Rattle.std.specs.Prelude.{◌≡◌, ◌≤◌, ◌<◌, ◌+◌, ◌⊎◌, ◌↔◌, List, Option, ℕ, length, take, drop, slice_range};
+ghost use Rattle.std.specs.Prelude.{◌≡◌, ◌≤◌, ◌<◌, ◌+◌, ◌-◌, ◌⊎◌, ◌↔◌, List, Option, ℕ, length, take, drop, slice_range};
 ghost use Rattle.noise_names.specs.Plan.{Plan};
 ghost use Rattle.noise_handshake.specs.View.{View};
 ghost use Rattle.noise_handshake.specs.Wanting.{WantsToRead};
 ghost use Rattle.noise_handshake.specs.Late.{WantsSecretToRead};
-ghost use Rattle.noise_c.specs.Kept.{own_in, remote_told, IsAdded, IsUsable, KeepsView, TellsWant, WasRead, WasDeclined};
+ghost use Rattle.noise_c.specs.Kept.{own_in, remote_told, IsAdded, IsUsable, KeepsView, TellsAnswer, TellsRemote, TellsWant, WasRead, WasDeclined};
 ghost use Rattle.noise_c.specs.declared.codes.TheConstants.{AGREEMENT, DONE, ENDED, FULL, LENGTH, NOT_YOUR_TURN, OK, STRUCT, TAG, WANTED, WANTED_PSK};
 
 use crate::codes::{FULL, LENGTH, OK, STRUCT, WANTED, WANTED_PSK, read_code};
@@ -51,7 +51,8 @@ pub extern "C" fn noise_answer(
 }
 
 fn number_of(own: Own) -> u8
-    ensures { own_in result ≡ own }
+    ensures same { own_in result ≡ own }
+    ensures flag { result ≤ 1 }
 {
     match own {
         Own::Static => 1,
@@ -61,7 +62,9 @@ fn number_of(own: Own) -> u8
 
 // Tells what is wanted, and returns the number of that.
 pub(crate) fn tell(want: Want, told: &mut NoiseTold) -> u32
-    ensures { TellsWant want told.new result }
+    ensures want { TellsWant want told.new result }
+    ensures answer { result ≡ WANTED → TellsAnswer told.old told.new }
+    ensures remote { result ≡ WANTED_PSK → TellsRemote told.old told.new }
 {
     match want {
         Want::Answer { own, key } => {
@@ -79,6 +82,15 @@ pub(crate) fn tell(want: Want, told: &mut NoiseTold) -> u32
     }
 }
 
+// Tells where a payload is in a message.
+fn tell_payload(start: usize, end: usize, told: &mut NoiseTold)
+    requires { start ≤ end }
+    ensures { told.new ≡ record told.old { from = start; len = end - start } }
+{
+    told.from = start;
+    told.len = end - start;
+}
+
 /// Reads a message in place, and returns where its payload is. At any answer but OK its bytes are unchanged.
 ///
 /// WANTED tells the DH answer that is lacking, and WANTED_PSK the other party's static key as it is known before the psk token whose
@@ -94,17 +106,22 @@ pub extern "C" fn noise_read(
     ensures length { result ≡ LENGTH ↔ ((65535 < length message.old) × IsUsable kept.old) }
     ensures accepted { result ≡ OK → (p : Plan) (v : View) → KeepsView kept.old p v
         → WasRead p v message.old (slice_range message.new told.new.from (told.new.from + told.new.len)) kept.new }
-    ensures extent { result ≡ OK → told.new.from + told.new.len ≤ length message.new }
-    ensures around { result ≡ OK → (take told.new.from message.new ≡ take told.new.from message.old)
+    ensures place { result ≡ OK → (told.new ≡ record told.old { from = told.new.from; len = told.new.len })
+        × (told.new.from + told.new.len ≤ length message.new) }
+    ensures beyond { result ≡ OK → (take told.new.from message.new ≡ take told.new.from message.old)
         × (drop (told.new.from + told.new.len) message.new ≡ drop (told.new.from + told.new.len) message.old) }
     ensures wanted { result ≡ WANTED → (p : Plan) (v : View) → KeepsView kept.old p v
         → WantsToRead v message.old (own_in told.new.of_static) told.new.remote }
+    ensures told { result ≡ WANTED → TellsAnswer told.old told.new }
     ensures wanted_psk { result ≡ WANTED_PSK → (p : Plan) (v : View) → KeepsView kept.old p v
         → WantsSecretToRead v kept.old.secret_count message.old (remote_told told.new) }
+    ensures told_psk { result ≡ WANTED_PSK → TellsRemote told.old told.new }
     ensures asked { IsUsable kept.old → length message.old ≤ 65535 → (p : Plan) (v : View) → KeepsView kept.old p v → (remote : Option (List ℕ))
         → WantsSecretToRead v kept.old.secret_count message.old remote → (result ≡ WANTED_PSK) × (remote_told told.new ≡ remote) }
     ensures declined { NOT_YOUR_TURN ≤ result → result ≤ TAG → (p : Plan) (v : View) → KeepsView kept.old p v
         → WasDeclined p v message.old result told.new.token kept.new }
+    ensures token { NOT_YOUR_TURN ≤ result → result ≤ TAG → told.new ≡ record told.old { token = told.new.token } }
+    ensures quiet { (result ≡ STRUCT) ⊎ (result ≡ LENGTH) → told.new ≡ told.old }
     ensures answered { result ≡ AGREEMENT → (p : Plan) (v : View) → KeepsView kept.old p v → ⊥ }
     ensures left { (result ≤ ENDED) ⊎ (WANTED ≤ result) → OK < result → kept.new ≡ kept.old }
     ensures unchanged { OK < result → message.new ≡ message.old }
@@ -121,8 +138,7 @@ pub extern "C" fn noise_read(
     }
     match handshake.read_or_ask(message) {
         Ok((start, end)) => {
-            told.from = start;
-            told.len = end - start;
+            tell_payload(start, end, told);
             let left = handshake.secrets().len() as u8;
             keep(&handshake.progress(), left, kept);
             OK

@@ -1,7 +1,7 @@
 //! From what C keeps to a handshake, and back.
 #![tactic(auto)]
 
-ghost use Rattle.std.specs.Prelude.{◌≡◌, ◌≤◌, ◌-◌, ◌↔◌, ◌⊎◌, length, replicate, drop, map, IfSome, IsSome, IfOk, IfErr, IsOk};
+ghost use Rattle.std.specs.Prelude.{◌≡◌, ◌≤◌, ◌-◌, ◌↔◌, ◌⊎◌, length, drop, map, IfSome, IsSome, IfOk, IfErr, IsOk};
 ghost use Rattle.noise_handshake.specs.Held.{Held};
 ghost use Rattle.noise_handshake.specs.Parts.{held_of, HasProgress};
 ghost use Rattle.noise_handshake.specs.Late.{IsLateWhole};
@@ -9,7 +9,7 @@ ghost use Rattle.noise_keys.specs.Table.{Table};
 ghost use Rattle.noise_names.specs.Plan.{Plan};
 ghost use Rattle.noise_names.specs.Text.{Spells};
 ghost use Rattle.noise_names.specs.Validity.{IsValid};
-ghost use Rattle.noise_c.specs.Kept.{key_in, public_in, role_in, table_in, text_in, held_in, IsNamed, IsPatternOf, IsPatternFault, is_text, IsUsable};
+ghost use Rattle.noise_c.specs.Kept.{key_in, kept_key, public_in, role_in, table_in, text_in, held_in, IsNamed, IsPatternOf, IsPatternFault, is_text, IsUsable};
 ghost use Rattle.noise_c.specs.declared.codes.TheConstants.{NAME, PATTERN};
 
 use crate::codes::{NAME, PATTERN};
@@ -23,8 +23,7 @@ use noise_state::StateParts;
 // How C keeps a key.
 pub(crate) fn kept_key(key: Option<[u8; 32]>) -> NoiseKey
     ensures same { key_in result ≡ key }
-    ensures flag { result.present ≤ 1 }
-    ensures zeros { result.present ≡ 0 → result.bytes ≡ replicate 32 0 }
+    ensures exact { result ≡ kept_key key }
 {
     match key {
         Some(bytes) => NoiseKey { present: 1, bytes },

@@ -1,11 +1,11 @@
 //! Exports: transports.
 #![tactic(auto)]
 
-ghost use Rattle.std.specs.Prelude.{◌≡◌, ◌≢◌, ◌≤◌, ◌↔◌, ◌<◌, ◌+◌, ◌⊎◌, ℕ, List, replicate, length, take, drop, slice_range, true, false, MatchOption};
+ghost use Rattle.std.specs.Prelude.{◌≡◌, ◌≢◌, ◌↔◌, ◌<◌, ◌+◌, ◌⊎◌, ℕ, List, length, take, drop, slice_range, true, false, MatchOption};
 ghost use Rattle.noise_names.specs.Plan.{Plan};
 ghost use Rattle.noise_handshake.specs.View.{View};
 ghost use Rattle.noise_session.specs.HeldTransport.{TransportView, TransportStands, transport_of, next_packet, due_packet, no_packet};
-ghost use Rattle.noise_c.specs.Kept.{key_in, held_in, IsUsable, KeepsView};
+ghost use Rattle.noise_c.specs.Kept.{kept_key, held_in, IsUsable, KeepsView};
 ghost use Rattle.noise_c.specs.TransportCodes.{open_code};
 ghost use Rattle.noise_c.specs.KeptTransport.{is_transport, transport_kept_in, finish_code, transport_seal_code, transport_open_refusal};
 ghost use Rattle.noise_c.specs.declared.codes.TheConstants.{ENDED, LENGTH, OK, ROOM, SHORT, STRUCT, TAG, TOO_LONG};
@@ -227,9 +227,7 @@ pub extern "C" fn noise_transport_hash(kept: &NoiseTransport, hash: &mut [u8; 32
 #[unsafe(no_mangle)]
 pub extern "C" fn noise_transport_remote_static(kept: &NoiseTransport, key: &mut NoiseKey) -> u32
     ensures unusable { result ≡ STRUCT ↔ is_transport kept.now ≡ false }
-    ensures key { result ≡ OK → key_in key.new ≡ (transport_kept_in kept.now).remote_static }
-    ensures flag { result ≡ OK → key.new.present ≤ 1 }
-    ensures zeros { result ≡ OK → key.new.present ≡ 0 → key.new.bytes ≡ replicate 32 0 }
+    ensures key { result ≡ OK → key.new ≡ kept_key (transport_kept_in kept.now).remote_static }
     ensures unchanged { OK < result → key.new ≡ key.old }
     ensures codes { (result ≡ OK) ⊎ (result ≡ STRUCT) }
 {

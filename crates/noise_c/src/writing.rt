@@ -7,7 +7,7 @@ ghost use Rattle.noise_handshake.specs.View.{View};
 ghost use Rattle.noise_handshake.specs.Held.{message_len_of};
 ghost use Rattle.noise_handshake.specs.Late.{WantsSecretToWrite};
 ghost use Rattle.noise_handshake.specs.Wanting.{WantsToWrite};
-ghost use Rattle.noise_c.specs.Kept.{own_in, remote_told, text_in, held_in, IsPatternOf, IsUsable, KeepsView, WasWritten, WasWithheld};
+ghost use Rattle.noise_c.specs.Kept.{own_in, remote_told, text_in, held_in, IsPatternOf, IsUsable, KeepsView, TellsAnswer, TellsRemote, WasWritten, WasWithheld};
 ghost use Rattle.noise_c.specs.declared.codes.TheConstants.{AGREEMENT, NOT_YOUR_TURN, OK, ROOM, STRUCT, WANTED, WANTED_PSK};
 
 use crate::codes::{OK, ROOM, STRUCT, write_code};
@@ -33,18 +33,21 @@ pub extern "C" fn noise_write(
     ensures stays { result ≡ OK → IsUsable kept.new }
     ensures len { result ≡ OK → (p : Plan) → IsPatternOf (text_in kept.old) p
         → message_len_of (held_in p kept.old) (length payload.now) ≡ Some told.new.len }
-    ensures within { result ≡ OK → (told.new.from ≡ 0) × (told.new.len ≤ length out.new) }
+    ensures place { result ≡ OK → (told.new ≡ record told.old { from = 0; len = told.new.len }) × (told.new.len ≤ length out.new) }
     ensures beyond { result ≡ OK → drop told.new.len out.new ≡ drop told.new.len out.old }
-    ensures room { result ≡ ROOM → (length out.old < told.new.len) × ((p : Plan) → IsPatternOf (text_in kept.old) p
-        → message_len_of (held_in p kept.old) (length payload.now) ≡ Some told.new.len) }
+    ensures room { result ≡ ROOM → (told.new ≡ record told.old { len = told.new.len }) × (length out.old < told.new.len)
+        × ((p : Plan) → IsPatternOf (text_in kept.old) p → message_len_of (held_in p kept.old) (length payload.now) ≡ Some told.new.len) }
     ensures short { (p : Plan) → IsPatternOf (text_in kept.old) p → (n : ℕ) → message_len_of (held_in p kept.old) (length payload.now) ≡ Some n
         → length out.old < n → (result ≡ ROOM) ⊎ (result ≡ STRUCT) }
     ensures wanted { result ≡ WANTED → (p : Plan) (v : View) → KeepsView kept.old p v → WantsToWrite v (own_in told.new.of_static) told.new.remote }
+    ensures told { result ≡ WANTED → TellsAnswer told.old told.new }
     ensures wanted_psk { result ≡ WANTED_PSK → (p : Plan) (v : View) → KeepsView kept.old p v
         → WantsSecretToWrite v kept.old.secret_count × (remote_told told.new ≡ v.remote.s) }
+    ensures told_psk { result ≡ WANTED_PSK → TellsRemote told.old told.new }
     ensures asked { IsUsable kept.old → (p : Plan) (v : View) → KeepsView kept.old p v → WantsSecretToWrite v kept.old.secret_count → (n : ℕ)
         → message_len_of (held_in p kept.old) (length payload.now) ≡ Some n → n ≤ length out.old → result ≡ WANTED_PSK }
     ensures withheld { NOT_YOUR_TURN ≤ result → result ≤ AGREEMENT → (p : Plan) (v : View) → KeepsView kept.old p v → WasWithheld v (length payload.now) result }
+    ensures quiet { (NOT_YOUR_TURN ≤ result) × (result ≤ AGREEMENT) ⊎ (result ≡ STRUCT) → told.new ≡ told.old }
     ensures answered { result ≡ AGREEMENT → (p : Plan) (v : View) → KeepsView kept.old p v → ⊥ }
     ensures unchanged { OK < result → kept.new ≡ kept.old }
     ensures out { OK < result → (result ≡ AGREEMENT → ⊥) → out.new ≡ out.old }

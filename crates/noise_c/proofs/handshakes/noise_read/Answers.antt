@@ -1,4 +1,4 @@
-use Rattle.std.specs.Prelude.{Result, Ok, Err, take, drop, ◌+◌, ◌-◌}
+use Rattle.std.specs.Prelude.{Result, Ok, Err, take, drop, slice_range, ◌+◌, ◌-◌}
 use Rattle.std.proofs.Common.{◌≡◌, ◌≤◌, ◌⊎◌, ℕ, List, inl, inr, ⊎_elim, length, refl, ap, sym, subst, ◌∙◌, arith}
 use Rattle.std.proofs.lemmas.Bool.{false≢true}
 use Rattle.noise_keys.specs.Table.{Table}
@@ -14,7 +14,8 @@ use Rattle.noise_handshake.specs.Late.{with_later, LeavesLateUnread, after_late_
 use Rattle.noise_handshake.specs.Party.{Stands, DoesNotRead}
 use Rattle.noise_handshake.specs.View.{View, Refuses}
 use Rattle.noise_c.specs.Codes.{read_code, token_in}
-use Rattle.noise_c.specs.Kept.{public_in, agreement_in, held_in, IsUsable, TellsWant}
+use Rattle.noise_c.specs.declared.kept.NoiseTold.{NoiseTold}
+use Rattle.noise_c.specs.Kept.{public_in, agreement_in, held_in, IsUsable, TellsWant, WasRead}
 use Rattle.noise_c.proofs.Keeps.{secrets-left, ended-kept, plain-leaves, refused-leaves, usable-after, usable-ended, was-declined, opened, was-read, stands-for}
 use Rattle.noise_c.proofs.Numbers.{IsPlain, other, above, beyond, not-before, not-after, too-long, wants-either, wants-from, wants-other, plain-among, plain-within, plain-sort, refused-within, refused-between, refused-among}
 use Rattle.noise_c.proofs.Wants.{reads-answer, reads-secret}
@@ -35,8 +36,12 @@ returns-in_default c =
       left = λ _ _. refl;
       unchanged = λ _. refl;
       usable = other 23 0 refl;
-      extent = other 23 0 refl;
-      around = other 23 0 refl;
+      place = other 23 0 refl;
+      beyond = other 23 0 refl;
+      told = other 23 20 refl;
+      told_psk = other 23 40 refl;
+      token = λ _. above 23 16 refl;
+      quiet = λ _. refl;
       stays = λ u. u;
       codes = inr (inr (inr (inr (inl refl))));
     }
@@ -57,8 +62,12 @@ returns-then-message-gt-MAX_LEN c =
       left = λ _ _. refl;
       unchanged = λ _. refl;
       usable = other 24 0 refl;
-      extent = other 24 0 refl;
-      around = other 24 0 refl;
+      place = other 24 0 refl;
+      beyond = other 24 0 refl;
+      told = other 24 20 refl;
+      told_psk = other 24 40 refl;
+      token = λ _. above 24 16 refl;
+      quiet = λ _. refl;
       stays = λ u. u;
       codes = inr (inr (inr (inr (inr (inl refl)))));
     }
@@ -66,9 +75,13 @@ returns-then-message-gt-MAX_LEN c =
 ok-err : {A : Type 0} (x : ℕ × ℕ) (u : LateUnread) → ◌≡◌ {A = Result (ℕ × ℕ) LateUnread} (Ok x) (Err u) → A
 ok-err x u e = cc
 
-ends : (old new : List ℕ) (start end : ℕ) → start ≤ end → (take start new ≡ take start old) × (drop end new ≡ drop end old)
-    → (take start new ≡ take start old) × (drop (start + (end - start)) new ≡ drop (start + (end - start)) old)
-ends old new start end r both =
+-- the bytes before and after a payload stay
+abbrev IsKept : List ℕ → List ℕ → ℕ → ℕ → Type 0
+IsKept old new start end = (take start new ≡ take start old) × (drop end new ≡ drop end old)
+
+-- the same by its length
+around : (old new : List ℕ) (start end : ℕ) → start ≤ end → IsKept old new start end → IsKept old new start (start + (end - start))
+around old new start end r both =
     let n : end ≡ start + (end - start) = omega (arith, r) in
     (both.0, subst (λ (z : ℕ). drop z new ≡ drop z old) n both.1)
 
@@ -76,6 +89,10 @@ pub returns-in-Ok : goal.returns-in-Ok
 returns-in-Ok c =
     let old = c.args.kept.now in
     let new = c.keep.new.kept in
+    let m = c.read_or_ask.new.message in
+    let start : ℕ = c.in-Ok.start in
+    let end : ℕ = c.in-Ok.end in
+    let is : record c.args.told.now { from = start; len = end - start } ≡ c.tell_payload.new.told = sym c.tell_payload.ensures in
     let h = c.in-Some.handshake in
     let h2 = c.read_or_ask.new.self in
     let before = c.in-Some.ensures.usable.0 refl in
@@ -95,8 +112,9 @@ returns-in-Ok c =
       accepted = λ _ p v k.
           let s = opened old new h h2 p v c.in-Some.ensures.one c.in-Some.ensures.same stays c.keep.ensures.text same k in
           let r = c.in-Ok.ensures.reads v k.later s in
-          was-read old new h h2 p v c.in-Some.ensures.one c.in-Some.ensures.same stays c.keep.ensures.text same k
-          c.args.message.now c.read_or_ask.new.message c.in-Ok.start c.in-Ok.end c.in-Ok.ensures.range.0 r.0 r.1 r.2;
+          subst (λ (t : NoiseTold). WasRead p v c.args.message.now (slice_range m t.from (t.from + t.len)) new) is
+          (was-read old new h h2 p v c.in-Some.ensures.one c.in-Some.ensures.same stays c.keep.ensures.text same k
+          c.args.message.now m start end c.in-Ok.ensures.range.0 r.0 r.1 r.2);
       wanted = other 0 20 refl;
       wanted_psk = other 0 40 refl;
       asked = λ _ _ p v k remote asks.
@@ -108,8 +126,14 @@ returns-in-Ok c =
       left = λ _. above 1 0 refl;
       unchanged = above 1 0 refl;
       usable = λ _. usable;
-      extent = λ _. omega (arith, c.in-Ok.ensures.range.0, c.in-Ok.ensures.range.1);
-      around = λ _. (ends c.args.message.now c.read_or_ask.new.message c.in-Ok.start c.in-Ok.end c.in-Ok.ensures.range.0 c.in-Ok.ensures.beyond);
+      place = λ _. subst (λ (t : NoiseTold). (t ≡ record c.args.told.now { from = t.from; len = t.len }) × (t.from + t.len ≤ length m)) is
+          (refl, omega (arith, c.in-Ok.ensures.range.0, c.in-Ok.ensures.range.1));
+      beyond = λ _. subst (λ (t : NoiseTold). IsKept c.args.message.now m t.from (t.from + t.len)) is
+          (around c.args.message.now m start end c.in-Ok.ensures.range.0 c.in-Ok.ensures.beyond);
+      told = other 0 20 refl;
+      told_psk = other 0 40 refl;
+      token = above 10 0 refl;
+      quiet = ⊎_elim (other 0 23 refl) (other 0 24 refl);
       stays = λ _. usable;
       codes = inl refl;
     }
@@ -167,8 +191,12 @@ returns-in-Refused c =
       left = λ outside _. refused-between code within outside;
       unchanged = λ _. c.in-Err-Declined.ensures.unchanged;
       usable = not-before code 14 0 within.0 refl;
-      extent = not-before code 14 0 within.0 refl;
-      around = not-before code 14 0 within.0 refl;
+      place = not-before code 14 0 within.0 refl;
+      beyond = not-before code 14 0 within.0 refl;
+      told = not-after code 16 20 within.1 refl;
+      told_psk = not-after code 16 40 within.1 refl;
+      token = λ _ _. refl;
+      quiet = ⊎_elim (not-after code 16 23 within.1 refl) (not-after code 16 24 within.1 refl);
       stays = usable-ended old;
       codes = inr (inr (inl (refused-among code within)));
     }
@@ -209,8 +237,12 @@ returns-in_default-fault c =
       left = λ _ _. refl;
       unchanged = λ _. c.in-Err-Declined.ensures.unchanged;
       usable = not-before code 10 0 within.0 refl;
-      extent = not-before code 10 0 within.0 refl;
-      around = not-before code 10 0 within.0 refl;
+      place = not-before code 10 0 within.0 refl;
+      beyond = not-before code 10 0 within.0 refl;
+      told = not-after code 13 20 within.1 refl;
+      told_psk = not-after code 13 40 within.1 refl;
+      token = λ _ _. refl;
+      quiet = ⊎_elim (not-after code 13 23 within.1 refl) (not-after code 13 24 within.1 refl);
       stays = λ u. u;
       codes = plain-sort code among;
     }
@@ -222,7 +254,7 @@ returns-in-Err-Wants-clause-wanted c e p v k =
     let n : ℕ = length c.in-Some.handshake.secrets in
     let r = subst (λ (u : LateUnread). LeavesLateUnread v n c.args.message.now u) c.in-Err-Wants.field-0-is (c.in-Err-Wants.ensures.reads v k.later s).0 in
     reads-answer v n c.args.message.now c.in-Err-Wants.want c.tell.new.told c.tell.result
-    (subst (λ (w : Want). TellsWant w c.tell.new.told c.tell.result) c.in-Err-Wants.want-is c.tell.ensures) e r
+    (subst (λ (w : Want). TellsWant w c.tell.new.told c.tell.result) c.in-Err-Wants.want-is c.tell.ensures.want) e r
 
 pub returns-in-Err-Wants-clause-wanted_psk : goal.returns-in-Err-Wants-clause-wanted_psk
 returns-in-Err-Wants-clause-wanted_psk c e p v k =
@@ -231,7 +263,7 @@ returns-in-Err-Wants-clause-wanted_psk c e p v k =
     let r = subst (λ (u : LateUnread). LeavesLateUnread v n c.args.message.now u) c.in-Err-Wants.field-0-is
     (subst (λ (i : ℕ). LeavesLateUnread v i c.args.message.now c.in-Err-Wants.field-0) c.in-Some.ensures.count (c.in-Err-Wants.ensures.reads v k.later s).0) in
     reads-secret v n c.args.message.now c.in-Err-Wants.want c.tell.new.told c.tell.result
-    (subst (λ (w : Want). TellsWant w c.tell.new.told c.tell.result) c.in-Err-Wants.want-is c.tell.ensures) e r
+    (subst (λ (w : Want). TellsWant w c.tell.new.told c.tell.result) c.in-Err-Wants.want-is c.tell.ensures.want) e r
 
 want-same : (u : LateUnread) (a b : Want) → ◌≡◌ {A = Result (ℕ × ℕ) LateUnread} (Err u) (Err (unread.Wants b)) → u ≡ unread.Wants a → a ≡ b
 want-same u a b e f = cc
@@ -242,38 +274,38 @@ returns-in-Err-Wants-clause-asked c usable len p v k remote asks =
     let w = subst (λ (i : ℕ). WantsSecretToRead v i c.args.message.now remote) (sym c.in-Some.ensures.count) asks in
     let same : c.in-Err-Wants.want ≡ Secret remote =
     want-same c.in-Err-Wants.field-0 c.in-Err-Wants.want (Secret remote) (c.in-Err-Wants.ensures.asked v k.later s remote w) c.in-Err-Wants.field-0-is in
-    subst (λ (z : Want). TellsWant z c.tell.new.told c.tell.result) (c.in-Err-Wants.want-is ∙ same) c.tell.ensures
+    subst (λ (z : Want). TellsWant z c.tell.new.told c.tell.result) (c.in-Err-Wants.want-is ∙ same) c.tell.ensures.want
 
 -- the number of a want is none of these
 pub returns-in-Err-Wants-clause-unusable : goal.returns-in-Err-Wants-clause-unusable
 returns-in-Err-Wants-clause-unusable c = (
   wants-other c.in-Err-Wants.want c.tell.new.told c.tell.result 23
-      (subst (λ (w : Want). TellsWant w c.tell.new.told c.tell.result) c.in-Err-Wants.want-is c.tell.ensures) refl refl,
+      (subst (λ (w : Want). TellsWant w c.tell.new.told c.tell.result) c.in-Err-Wants.want-is c.tell.ensures.want) refl refl,
   λ none. absurd (none (c.in-Some.ensures.usable.0 refl)),
 )
 
 pub returns-in-Err-Wants-clause-length : goal.returns-in-Err-Wants-clause-length
 returns-in-Err-Wants-clause-length c = (
   wants-other c.in-Err-Wants.want c.tell.new.told c.tell.result 24
-      (subst (λ (w : Want). TellsWant w c.tell.new.told c.tell.result) c.in-Err-Wants.want-is c.tell.ensures) refl refl,
+      (subst (λ (w : Want). TellsWant w c.tell.new.told c.tell.result) c.in-Err-Wants.want-is c.tell.ensures.want) refl refl,
   λ w. too-long (length c.args.message.now) 65535 w.0 c.if-message-gt-MAX_LEN.false,
 )
 
 pub returns-in-Err-Wants-clause-accepted : goal.returns-in-Err-Wants-clause-accepted
 returns-in-Err-Wants-clause-accepted c =
     wants-other c.in-Err-Wants.want c.tell.new.told c.tell.result 0
-    (subst (λ (w : Want). TellsWant w c.tell.new.told c.tell.result) c.in-Err-Wants.want-is c.tell.ensures) refl refl
+    (subst (λ (w : Want). TellsWant w c.tell.new.told c.tell.result) c.in-Err-Wants.want-is c.tell.ensures.want) refl refl
 
 pub returns-in-Err-Wants-clause-declined : goal.returns-in-Err-Wants-clause-declined
 returns-in-Err-Wants-clause-declined c _ low =
     let from : 20 ≤ c.tell.result = wants-from c.in-Err-Wants.want c.tell.new.told c.tell.result
-    (subst (λ (w : Want). TellsWant w c.tell.new.told c.tell.result) c.in-Err-Wants.want-is c.tell.ensures) in
+    (subst (λ (w : Want). TellsWant w c.tell.new.told c.tell.result) c.in-Err-Wants.want-is c.tell.ensures.want) in
     beyond c.tell.result 20 16 from refl low
 
 pub returns-in-Err-Wants-clause-answered : goal.returns-in-Err-Wants-clause-answered
 returns-in-Err-Wants-clause-answered c =
     wants-other c.in-Err-Wants.want c.tell.new.told c.tell.result 14
-    (subst (λ (w : Want). TellsWant w c.tell.new.told c.tell.result) c.in-Err-Wants.want-is c.tell.ensures) refl refl
+    (subst (λ (w : Want). TellsWant w c.tell.new.told c.tell.result) c.in-Err-Wants.want-is c.tell.ensures.want) refl refl
 
 pub returns-in-Err-Wants-clause-unchanged : goal.returns-in-Err-Wants-clause-unchanged
 returns-in-Err-Wants-clause-unchanged c =
@@ -282,20 +314,32 @@ returns-in-Err-Wants-clause-unchanged c =
 pub returns-in-Err-Wants-clause-usable : goal.returns-in-Err-Wants-clause-usable
 returns-in-Err-Wants-clause-usable c =
     wants-other c.in-Err-Wants.want c.tell.new.told c.tell.result 0
-    (subst (λ (w : Want). TellsWant w c.tell.new.told c.tell.result) c.in-Err-Wants.want-is c.tell.ensures) refl refl
+    (subst (λ (w : Want). TellsWant w c.tell.new.told c.tell.result) c.in-Err-Wants.want-is c.tell.ensures.want) refl refl
 
 pub returns-in-Err-Wants-clause-codes : goal.returns-in-Err-Wants-clause-codes
 returns-in-Err-Wants-clause-codes c =
     ⊎_elim (λ e. inr (inr (inr (inl e)))) (λ e. inr (inr (inr (inr (inr (inr e))))))
     (wants-either c.in-Err-Wants.want c.tell.new.told c.tell.result
-    (subst (λ (w : Want). TellsWant w c.tell.new.told c.tell.result) c.in-Err-Wants.want-is c.tell.ensures))
+    (subst (λ (w : Want). TellsWant w c.tell.new.told c.tell.result) c.in-Err-Wants.want-is c.tell.ensures.want))
 
-pub returns-in-Err-Wants-clause-extent : goal.returns-in-Err-Wants-clause-extent
-returns-in-Err-Wants-clause-extent c =
+pub returns-in-Err-Wants-clause-place : goal.returns-in-Err-Wants-clause-place
+returns-in-Err-Wants-clause-place c =
     wants-other c.in-Err-Wants.want c.tell.new.told c.tell.result 0
-    (subst (λ (w : Want). TellsWant w c.tell.new.told c.tell.result) c.in-Err-Wants.want-is c.tell.ensures) refl refl
+    (subst (λ (w : Want). TellsWant w c.tell.new.told c.tell.result) c.in-Err-Wants.want-is c.tell.ensures.want) refl refl
 
-pub returns-in-Err-Wants-clause-around : goal.returns-in-Err-Wants-clause-around
-returns-in-Err-Wants-clause-around c =
+pub returns-in-Err-Wants-clause-beyond : goal.returns-in-Err-Wants-clause-beyond
+returns-in-Err-Wants-clause-beyond c =
     wants-other c.in-Err-Wants.want c.tell.new.told c.tell.result 0
-    (subst (λ (w : Want). TellsWant w c.tell.new.told c.tell.result) c.in-Err-Wants.want-is c.tell.ensures) refl refl
+    (subst (λ (w : Want). TellsWant w c.tell.new.told c.tell.result) c.in-Err-Wants.want-is c.tell.ensures.want) refl refl
+
+pub returns-in-Err-Wants-clause-token : goal.returns-in-Err-Wants-clause-token
+returns-in-Err-Wants-clause-token c _ low =
+    let from : 20 ≤ c.tell.result = wants-from c.in-Err-Wants.want c.tell.new.told c.tell.result
+    (subst (λ (w : Want). TellsWant w c.tell.new.told c.tell.result) c.in-Err-Wants.want-is c.tell.ensures.want) in
+    beyond c.tell.result 20 16 from refl low
+
+pub returns-in-Err-Wants-clause-quiet : goal.returns-in-Err-Wants-clause-quiet
+returns-in-Err-Wants-clause-quiet c =
+    let t : TellsWant c.in-Err-Wants.want c.tell.new.told c.tell.result = subst (λ (w : Want). TellsWant w c.tell.new.told c.tell.result) c.in-Err-Wants.want-is c.tell.ensures.want in
+    ⊎_elim (wants-other c.in-Err-Wants.want c.tell.new.told c.tell.result 23 t refl refl)
+    (wants-other c.in-Err-Wants.want c.tell.new.told c.tell.result 24 t refl refl)
