@@ -110,10 +110,10 @@
    - The address of a kept struct is a multiple of 8, as its declaration here ensures.
    - One thread at a time uses a kept struct. Several threads may use different structs at once: the library has no other state. For a thread that
      sends and one that receives, split the transport or the datagrams: each half is a struct of its own, and needs no lock.
-   - Never use a copy of a kept struct beside the original. Both would seal with the same nonce and key, which reveals what was sealed.
-     You may move a struct. You may read or open a message on a copy and then discard the copy. Two copies of a noise_transport or a
-     noise_datagrams may be used like its halves if, from then on, one only seals and the other only opens: each call uses and changes only the
-     state of its own direction.
+   - Never write or seal with two copies of a kept struct: both would use the same nonce and key, which reveals what was sealed. So never use a
+     copy beside the original, but in two ways. You may read or open a message on a copy and then discard the copy. And two copies of a
+     noise_transport or a noise_datagrams may be used like its halves if, from then on, one only seals and the other only opens: each call uses
+     and changes only the state of its own direction. You may move a struct.
    - Each handshake has a new ephemeral key pair. A pair that was used before makes the same keys again.
    - X25519 may give all zeros; some libraries, such as OpenSSL, return an error then. If you want such a key refused (Noise, 12.1), don't pass
      the result to noise_answer, and end the handshake.
@@ -259,7 +259,7 @@ typedef struct {
     uint8_t messages;              /* how many messages the pattern has, 1 to 8 */
     uint8_t passed;                /* how many of them have been written or read */
     uint8_t ended;                 /* 1 if a refused message has ended it, else 0 */
-    uint8_t writes_next;           /* 1 if this party writes the next message, if there is one; else 0 */
+    uint8_t writes_next;           /* 1 if this party writes the next message, else 0; without a meaning if there is none */
 } noise_stage_told;
 
 /* What is wrong with a pattern text. */
@@ -384,7 +384,8 @@ uint32_t noise_transport_remote_static(const noise_transport *t, noise_key *key)
 
 /* Splits a transport into the half that seals and the half that opens, for two threads. Ask for the hash, the other party's static key and the nonces
    before.
-   OK: *sender and *receiver may have held anything before; *t is now all zeros, and each call with it returns STRUCT · STRUCT: all is unchanged. */
+   OK: *sender and *receiver may have held anything before; each field of *t is now zeros, and each call with it returns STRUCT · STRUCT: all is
+   unchanged. */
 uint32_t noise_transport_split(noise_transport *t, noise_sender *sender, noise_receiver *receiver);
 
 /* Return the size of a noise_sender and of a noise_receiver, in bytes. */
@@ -433,7 +434,8 @@ uint32_t noise_datagrams_remote_static(const noise_datagrams *d, noise_key *key)
 
 /* Splits the state for datagrams into the half that seals and the half that opens, for two threads. Ask for the hash and the other party's static
    key before.
-   OK: *sender and *receiver may have held anything before; *d is now all zeros, and each call with it returns STRUCT · STRUCT: all is unchanged. */
+   OK: *sender and *receiver may have held anything before; each field of *d is now zeros, and each call with it returns STRUCT · STRUCT: all is
+   unchanged. */
 uint32_t noise_datagrams_split(noise_datagrams *d, noise_datagram_sender *sender, noise_datagram_receiver *receiver);
 
 /* Return the size of a noise_datagram_sender and of a noise_datagram_receiver, in bytes. */

@@ -26,8 +26,8 @@ pub extern "C" fn noise_datagram_receiver_size() -> usize {
     std::mem::size_of::<NoiseDatagramReceiver>()
 }
 
-/// Splits the state for datagrams into its sending and its receiving half, as for two threads. The state is none any more: its memory
-/// is of zeros. At STRUCT all is unchanged.
+/// Splits the state for datagrams into its sending and its receiving half, as for two threads. The state is none any more: each of its
+/// fields is zeros. At STRUCT all is unchanged.
 #[unsafe(no_mangle)]
 pub extern "C" fn noise_datagrams_split(
     kept: &mut NoiseDatagrams,

@@ -24,8 +24,8 @@ pub extern "C" fn noise_receiver_size() -> usize {
     std::mem::size_of::<NoiseHalf>()
 }
 
-/// Splits a transport into its sending and its receiving half, as for two threads. The transport is none any more: its memory is of
-/// zeros. At STRUCT all is unchanged.
+/// Splits a transport into its sending and its receiving half, as for two threads. The transport is none any more: each of its
+/// fields is zeros. At STRUCT all is unchanged.
 #[unsafe(no_mangle)]
 pub extern "C" fn noise_transport_split(
     kept: &mut NoiseTransport,
