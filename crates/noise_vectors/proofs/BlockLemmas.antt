@@ -1,5 +1,5 @@
 -- The text of a pattern as lines none of which is `end`, and such lines as they are read.
-use Rattle.std.proofs.Common.{arith, ◌≡◌, ◌∙◌, ◌+◌, ◌-◌, ◌==◌, not, Bool, true, false, ap, refl, subst, sym, ℕ, List, [], ◌∷◌, ◌++◌, codes, length, take}
+use Rattle.std.proofs.Common.{arith, inl, inr, ◌≡◌, ◌∙◌, ◌+◌, ◌-◌, ◌==◌, not, Bool, true, false, ap, refl, subst, sym, ℕ, List, [], ◌∷◌, ◌++◌, codes, length, take}
 use Rattle.std.specs.List.{All, list_all}
 use Rattle.std.proofs.Math.Seq.{take-append_seam}
 use Rattle.std.proofs.lemmas.Bool.{and_parts}
@@ -17,13 +17,19 @@ use Rattle.noise_names.specs.Text.{text_of as pattern_text}
 use Rattle.noise_names.specs.Tokens.{other}
 use Rattle.noise_names.specs.Facts.{section_bytes-all}
 use Rattle.noise_vectors.specs.Block.{IsInner, itself}
+use Rattle.noise_vectors.specs.OwnPattern.{HasName}
+use Rattle.noise_vectors.specs.ReaderFaults.{IsCutBlock}
 use Rattle.noise_vectors.specs.VectorText.{line, lines_of}
 use Rattle.noise_vectors.specs.Words.{lacks}
 use Rattle.noise_vectors.specs.WrongLine.{Block, IsFirstLine}
+use Rattle.noise_vectors.specs.declared.faults.LineKind.TheVariants as kinds
+use Rattle.noise_vectors.specs.declared.faults.VectorFault.{VectorFault}
+use Rattle.noise_vectors.specs.declared.faults.VectorFault.TheVariants.{Line}
 use Rattle.noise_vectors.proofs.LackLemmas.{all_weaker, lacks-append}
 use Rattle.noise_vectors.proofs.LineLemmas.{lines_of-more}
 use Rattle.noise_vectors.proofs.ToldLemmas.{first-line}
 use Rattle.noise_vectors.proofs.ReadingLemmas.{no_line_feed}
+use Rattle.noise_vectors.proofs.UniqueWords.{parted-one}
 
 -- ---- lists of lines
 
@@ -230,7 +236,7 @@ Read-step start left words after r h e = record {
 
 -- with `end` after them they are the block's
 pub Read-end : (start left words after : List ℕ) (is_ended : Bool) → Read start left → (is_ended ≡ true → left ≡ line words after)
-    → (is_ended ≡ false → left ≡ words) → lacks 10 words ≡ true → words ≡ codes "end"
+    → (is_ended ≡ false → (left ≡ words) × ¬ (words ≡ [])) → lacks 10 words ≡ true → words ≡ codes "end"
     → (block : Block start) × (take (length start - length left) start ≡ lines_of itself block.lines [])
 Read-end start left words after is_ended r ended last plain is = (
   record {
@@ -242,3 +248,86 @@ Read-end start left words after is_ended r ended last plain is = (
   },
   front-before start left r.lines r.start_is,
 )
+
+-- ---- where no line `end` is left
+
+-- a line is no empty text
+no-line : (words rest : List ℕ) → ¬ ([] ≡ line words rest)
+no-line [] rest e = absurd (cc e)
+no-line (b ∷ bs) rest e = absurd (cc e)
+
+-- nor one without a line feed
+no-feed : (words other rest : List ℕ) → lacks 10 words ≡ true → ¬ (words ≡ line other rest)
+no-feed [] other rest plain e = no-line other rest e
+no-feed (b ∷ bs) [] rest plain e =
+    let first : b ≡ 10 = cc (e) in
+    let parts = and_parts (not (b == 10)) (lacks 10 bs) plain in
+    absurd (cc (rw first at parts.0))
+no-feed (b ∷ bs) (d ∷ ds) rest plain e =
+    let more : bs ≡ line ds rest = cc (e) in
+    let parts = and_parts (not (b == 10)) (lacks 10 bs) plain in
+    no-feed bs ds rest parts.1 more
+
+-- the block's last line is another than this one
+end-next : (left words after : List ℕ) → left ≡ line words after → IsInner words → ¬ IsFirstLine (codes "end") left
+end-next left words after e h (plain, inl (is, some)) = no-feed (codes "end") words after refl (sym is ∙ e)
+end-next left words after e h (plain, inr (rest, is)) = h.1 (sym (parted-one 10 (codes "end") words rest after refl h.0 (sym is ∙ e)).0)
+
+-- what is left of a block after one line more
+block-step : (left words after : List ℕ) (lines : List (List ℕ)) (end_ : List ℕ) → left ≡ line words after → IsInner words → All IsInner lines
+    → IsFirstLine (codes "end") end_ → left ≡ lines_of itself lines end_ → Block after
+block-step left words after [] end_ e h inner ends is =
+    absurd (end-next left words after e h (subst (IsFirstLine (codes "end")) (sym is) ends))
+block-step left words after (x ∷ xs) end_ e h inner ends is =
+    let first = All-head IsInner x xs inner in
+    record {
+      lines = xs;
+      inner = All-tail IsInner x xs inner;
+      after = end_;
+      ends = ends;
+      left_is = (parted-one 10 words x after (lines_of itself xs end_) h.0 first.0 (sym e ∙ is)).1;
+    }
+
+-- and after the lines that were read
+block-left : (start left : List ℕ) (lines : List (List ℕ)) → All IsInner lines → start ≡ lines_of itself lines left → Block start → Block left
+block-left start left [] inner e b = subst Block e b
+block-left start left (x ∷ xs) inner e b =
+    block-left (lines_of itself xs left) left xs (All-tail IsInner x xs inner) refl
+    (block-step start x (lines_of itself xs left) b.lines b.after e (All-head IsInner x xs inner) b.inner b.ends b.left_is)
+
+-- there is none in a text without line feeds that isn't `end`
+none-in : (left : List ℕ) (lines : List (List ℕ)) (end_ : List ℕ) → lacks 10 left ≡ true → ¬ (left ≡ codes "end") → IsFirstLine (codes "end") end_
+    → ¬ (left ≡ lines_of itself lines end_)
+none-in left [] end_ plain other (p, inl (is, some)) e = other (e ∙ is)
+none-in left [] end_ plain other (p, inr (rest, is)) e = no-feed left (codes "end") rest plain (e ∙ is)
+none-in left (x ∷ xs) end_ plain other ends e = no-feed left x (lines_of itself xs end_) plain e
+
+pub no-block : (left : List ℕ) → lacks 10 left ≡ true → ¬ (left ≡ codes "end") → ¬ Block left
+no-block left plain other b = none-in left b.lines b.after plain other b.ends b.left_is
+
+-- nor in the text before it
+pub Read-open : (start left : List ℕ) → Read start left → lacks 10 left ≡ true → ¬ (left ≡ codes "end") → ¬ Block start
+Read-open start left r plain other b = no-block left plain other (block-left start left r.lines r.inner r.start_is b)
+
+-- where `end` has no line feed the lines before it are the text's others
+cut-end : (from text : List ℕ) (b : Block from) → text ≡ lines_of itself b.lines [] → ((rest : List ℕ) → ¬ (b.after ≡ line (codes "end") rest))
+    → from ≡ text ++ codes "end"
+cut-end from text b is none = at b.ends
+  where
+    at : IsFirstLine (codes "end") b.after → from ≡ text ++ codes "end"
+    at (plain, inl (last, some)) = b.left_is ∙ ap (lines_of itself b.lines) last ∙ sym (lines_of-after b.lines [] (codes "end"))
+        ∙ ap (λ (t : List ℕ). t ++ codes "end") (sym is)
+    at (plain, inr (rest, more)) = absurd (none rest more)
+
+pub block-cut : (name : Section) (from text : List ℕ) (total number : ℕ) (fault : VectorFault) (p : Plan) → IsPattern p → HasName p name
+    → text ≡ pattern_text p → (block : Block from) × (text ≡ lines_of itself block.lines [])
+    → ((before : List (List ℕ)) (rest : List ℕ) → All IsInner before → ¬ (from ≡ lines_of itself before (line (codes "end") rest)))
+    → fault ≡ Line number kinds.Ending → number ≡ total + 1 → IsCutBlock name from total fault
+block-cut name from text total number fault p right named spelled (b, is) none told n = record {
+  pattern = p;
+  right = right;
+  named = named;
+  text_is = cut-end from text b is (λ rest more. none b.lines rest b.inner (b.left_is ∙ ap (lines_of itself b.lines) more))
+      ∙ ap (λ (t : List ℕ). t ++ codes "end") spelled;
+  fault_is = told ∙ ap (λ (k : ℕ). Line k kinds.Ending) n;
+}

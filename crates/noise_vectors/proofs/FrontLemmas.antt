@@ -37,7 +37,7 @@ front-line words rest = sym (append_assoc words (10 ∷ []) rest)
 pub front-lines : {A : Type 0} (words : A → List ℕ) (xs : List A) → IsFront (lines_of words xs)
 front-lines words xs rest = sym (lines_of-after words xs [] rest)
 
-front-block : (block : Option Plan) → IsFront (block_text block)
+pub front-block : (block : Option Plan) → IsFront (block_text block)
 front-block None rest = refl
 front-block (Some p) rest =
     ap (λ (t : List ℕ). pattern_text p ++ t) (front-line (codes "end") rest) ∙ sym (append_assoc (pattern_text p) (line (codes "end") []) rest)

@@ -6,7 +6,7 @@ use Rattle.std.proofs.lemmas.List.{append_assoc, length-append}
 use Rattle.std.proofs.lemmas.List.Elements.{All-head, All-push, All-tail}
 use Rattle.noise_names.specs.FaultLines.{fault-line}
 use Rattle.noise_names.specs.Names.{Section}
-use Rattle.noise_vectors.specs.Block.{IsInner, itself}
+use Rattle.noise_vectors.specs.Block.{itself}
 use Rattle.noise_vectors.specs.ReaderFaults.{IsWrongBlock, Listed, TellsAfter, TellsLine, TellsOpen}
 use Rattle.noise_vectors.specs.VectorText.{header_words, line, lines_of}
 use Rattle.noise_vectors.specs.Words.{lacks}
@@ -44,7 +44,7 @@ header-one false true e = absurd (numbers-apart _ _ (ap (λ (t : List ℕ). get_
 
 pub line-wrong : (IsGood : List ℕ → Type 0) (rest words after : List ℕ) (total : ℕ) (kind : LineKind) (fault : VectorFault) (is_ended : Bool)
     (number next : ℕ) → number + line_feeds rest ≡ total → total < 2 ^ 63 → (number + 1 < 2 ^ 64 → next ≡ number + 1)
-    → (is_ended ≡ true → rest ≡ line words after) → (is_ended ≡ false → rest ≡ words) → lacks 10 words ≡ true
+    → (is_ended ≡ true → rest ≡ line words after) → (is_ended ≡ false → (rest ≡ words) × ¬ (words ≡ [])) → lacks 10 words ≡ true
     → fault ≡ Line next kind → ¬ IsGood words → TellsLine IsGood rest total kind fault
 line-wrong IsGood rest words after total kind fault is_ended number next same low step ended last plain is bad =
     inr (inr (
@@ -67,18 +67,17 @@ line-missing IsGood rest total kind fault number next same low step none is =
 
 pub line-cut : (IsGood : List ℕ → Type 0) (rest words : List ℕ) (total : ℕ) (kind : LineKind) (fault : VectorFault) (is_ended : Bool)
     (number next : ℕ) → number + line_feeds rest ≡ total → total < 2 ^ 63 → (number + 1 < 2 ^ 64 → next ≡ number + 1)
-    → (is_ended ≡ false → rest ≡ words) → lacks 10 words ≡ true → ¬ (is_ended ≡ true)
+    → (is_ended ≡ false → (rest ≡ words) × ¬ (words ≡ [])) → lacks 10 words ≡ true → ¬ (is_ended ≡ true)
     → fault ≡ Line next kinds.Ending → IsGood words → TellsLine IsGood rest total kind fault
 line-cut IsGood rest words total kind fault is_ended number next same low step last plain open_ is good =
-    let e = last (false_from_ne_true is_ended open_) in
+    let e = (last (false_from_ne_true is_ended open_)).0 in
     let n = counted-last number next total rest words low same step plain e in
     inr (inl (is ∙ ap (λ (k : ℕ). Line k kinds.Ending) n, inr (subst IsGood (sym e) good)))
 
 -- ---- what a reader of a pattern tells
 
 pub block-ending : (from : List ℕ) (total number : ℕ) (fault : VectorFault) → fault ≡ Line number kinds.Ending → number ≡ total + 1
-    → ((before : List (List ℕ)) (rest : List ℕ) → All IsInner before → ¬ (from ≡ lines_of itself before (line (codes "end") rest)))
-    → TellsOpen from total fault
+    → ¬ Block from → TellsOpen from total fault
 block-ending from total number fault is n none = (is ∙ ap (λ (k : ℕ). Line k kinds.Ending) n, none)
 
 -- a line that is told of the block is one of its lines, or the next
@@ -111,7 +110,7 @@ block-wrong name from text total before place number all low sum (block, is) wro
 pub tells-wrong : {A : Type 0} (of : Listed A) (from : List ℕ) (total : ℕ) (fault : VectorFault) (done : List A) (rest words after : List ℕ)
     (is_ended : Bool) (number next : ℕ) → from ≡ lines_of of.words done rest → All of.Good done → of.Few (length done) → ¬ of.Over rest
     → number + line_feeds rest ≡ total → total < 2 ^ 63 → (number + 1 < 2 ^ 64 → next ≡ number + 1)
-    → (is_ended ≡ true → rest ≡ line words after) → (is_ended ≡ false → rest ≡ words) → lacks 10 words ≡ true
+    → (is_ended ≡ true → rest ≡ line words after) → (is_ended ≡ false → (rest ≡ words) × ¬ (words ≡ [])) → lacks 10 words ≡ true
     → fault ≡ Line next (of.kind done) → ((x : A) → of.Good x → words ≡ of.words x → of.Full (length done))
     → TellsAfter of from total fault
 tells-wrong of from total fault done rest words after is_ended number next text are few stands same low step ended last plain is full =
@@ -135,10 +134,10 @@ tells-wrong of from total fault done rest words after is_ended number next text 
 pub tells-cut : {A : Type 0} (of : Listed A) (from : List ℕ) (total : ℕ) (fault : VectorFault) (done : List A) (x : A) (rest words : List ℕ)
     (is_ended : Bool) (number next : ℕ) → from ≡ lines_of of.words done rest → All of.Good done → of.Few (length done + 1)
     → number + line_feeds rest ≡ total → total < 2 ^ 63 → (number + 1 < 2 ^ 64 → next ≡ number + 1)
-    → (is_ended ≡ false → rest ≡ words) → lacks 10 words ≡ true → ¬ (is_ended ≡ true)
+    → (is_ended ≡ false → (rest ≡ words) × ¬ (words ≡ [])) → lacks 10 words ≡ true → ¬ (is_ended ≡ true)
     → fault ≡ Line next kinds.Ending → words ≡ of.words x → of.Good x → TellsAfter of from total fault
 tells-cut of from total fault done x rest words is_ended number next text are few same low step last plain open_ is found good =
-    let e = last (false_from_ne_true is_ended open_) in
+    let e = (last (false_from_ne_true is_ended open_)).0 in
     let n = counted-last number next total rest words low same step plain e in
     let more : length (done ++ x ∷ []) ≡ length done + 1 = length-append done (x ∷ []) in
     inr (inl (

@@ -10,13 +10,13 @@ use Rattle.std.proofs.lemmas.List.Elements.{All-nil}
 use Rattle.noise_names.specs.Fundamental.{fundamental_of, fundamentals}
 use Rattle.noise_names.specs.Names.{IsSection, Section, name_bytes}
 use Rattle.noise_names.specs.Plan.{Plan}
-use Rattle.noise_vectors.specs.Block.{itself}
+use Rattle.noise_names.specs.Text.{text_of as pattern_text}
 use Rattle.noise_vectors.specs.HexWord.{hex_of}
 use Rattle.noise_vectors.specs.ReaderFaults.{IsHeaderLine, IsIntervalLine, IsPrologueLine, IsProtocolLine, TellsBlock, TellsLine}
 use Rattle.noise_vectors.specs.SameFile.{expected_of}
 use Rattle.noise_vectors.specs.WrongLine.{IsCutShort, IsEnded, IsOpenBlock, IsTold, line_feeds, up_to_interval, up_to_prologue, up_to_protocol}
 use Rattle.noise_vectors.specs.VectorFile.{ArePsks, IsAllowed, IsAllowedFile, IsAllowedVersion, IsEvent, IsExpected, IsOwn, IsShort, IsVectorFile, IsVersion}
-use Rattle.noise_vectors.specs.VectorText.{block_text, header_words, is_second, line, lines_of, text_of, version_text}
+use Rattle.noise_vectors.specs.VectorText.{block_text, header_words, is_second, line, text_of, version_text}
 use Rattle.noise_vectors.specs.Words.{IsKey, lacks}
 use Rattle.noise_vectors.specs.declared.faults.LineKind.TheVariants as kinds
 use Rattle.noise_vectors.specs.declared.faults.VectorFault.{VectorFault}
@@ -29,7 +29,8 @@ use Rattle.noise_vectors.specs.declared.vector.VectorFile.{VectorFile}
 use Rattle.noise_vectors.specs.declared.vector.Version.{Version}
 use Rattle.noise_vectors.specs.declared.vector.Version.TheVariants.{One, Two}
 use Rattle.noise_vectors.proofs.AdditionLemmas.{no-second}
-use Rattle.noise_vectors.proofs.FrontLemmas.{cut-before, cut-within, ended-block, ended-line, front-interval, front-line, front-prologue, front-protocol, told-line}
+use Rattle.noise_vectors.proofs.BlockLemmas.{no-block}
+use Rattle.noise_vectors.proofs.FrontLemmas.{cut-before, cut-within, ended-block, ended-line, front-block, front-both, front-interval, front-line, front-prologue, front-protocol, told-line}
 use Rattle.noise_vectors.proofs.ReadingLemmas.{interval-plain, prologue-plain, protocol-plain}
 use Rattle.noise_vectors.proofs.ToldLemmas.{feeds-line}
 use Rattle.noise_vectors.proofs.UniqueTexts.{blocks-after, header-plain}
@@ -189,10 +190,6 @@ pub line-some : (words rest : List ℕ) → ¬ ([] ≡ line words rest)
 line-some [] rest e = absurd (cc e)
 line-some (b ∷ bs) rest e = absurd (cc e)
 
-lines-some : (before : List (List ℕ)) (words rest : List ℕ) → ¬ ([] ≡ lines_of itself before (line words rest))
-lines-some [] words rest e = line-some words rest e
-lines-some (b ∷ bs) words rest e = line-some b (lines_of itself bs (line words rest)) e
-
 -- the text ends within the line of a name
 protocol-cut : (alloc : Global) (allowed : AllowedEvents) (text left : List ℕ) (second : Bool) (number : ℕ) (name : Section) (known : Option Plan)
     → fundamental_of name.base ≡ known → text ≡ line (header_words second) left → (allowed ≡ VersionOne → second ≡ false) → IsSection name
@@ -211,7 +208,7 @@ protocol-cut alloc allowed text left second number name None is e one h words n 
         text_is = ap (λ (t : List ℕ). t ++ codes "\n") e ∙ append_assoc (header_words second) (10 ∷ left) (codes "\n")
             ∙ ap (λ (t : List ℕ). line (header_words second) (t ++ codes "\n")) words;
       };
-      open_ = λ before rest inner. lines-some before (codes "end") rest;
+      open_ = no-block [] refl (λ e. cc e);
       counted = n;
     })
 protocol-cut alloc allowed text left second number name (Some pattern) is e one h words n =
@@ -361,11 +358,11 @@ header-lacks true = refl
 header-lacks false = refl
 
 -- a fault of the block comes of a name whose pattern a file spells
-pub block-told : (allowed : AllowedEvents) (text left : List ℕ) (second : Bool) (name : Section) (total : ℕ) (fault : VectorFault)
+pub block-told : (alloc : Global) (allowed : AllowedEvents) (text left : List ℕ) (second : Bool) (name : Section) (total : ℕ) (fault : VectorFault)
     → text ≡ line (header_words second) (line (codes "protocol " ++ name_bytes name) left)
     → (allowed ≡ VersionOne → second ≡ false) → IsSection name → fundamental_of name.base ≡ None → total ≡ line_feeds text
     → TellsBlock name left total fault → IsTold allowed text fault
-block-told allowed text left second name total fault e one h unknown all (inl tells) =
+block-told alloc allowed text left second name total fault e one h unknown all (inl tells) =
     told-of allowed text fault (Line (total + 1) kinds.Ending) tells.0 (inr (record {
       whole = text;
       whole_is = inl refl;
@@ -373,7 +370,18 @@ block-told allowed text left second name total fault e one h unknown all (inl te
       open_ = tells.1;
       counted = next-number text total all;
     }))
-block-told allowed text left second name total fault e one h unknown all (inr it) =
+block-told alloc allowed text left second name total fault e one h unknown all (inr (inl it)) =
+    let own : IsOwn name (Some it.pattern) = ((λ some. unknown, λ none. refl), (it.right, it.named)) in
+    let file = plain alloc second name (Some it.pattern) in
+    let here = codes "protocol " ++ name_bytes name in
+    let front = front-both (line (header_words second)) (line here) (front-line (header_words second)) (front-line here) in
+    told-of allowed text fault (Line (total + 1) kinds.Ending) it.fault_is (inl (cut-within allowed text left (total + 1) file
+    (λ rest. line (header_words second) (line here rest)) (block_text (Some it.pattern)) (after_block file)
+    (plain-right alloc second name (Some it.pattern) h own) (plain-allowed alloc allowed second name (Some it.pattern) one) front
+    (front-block (Some it.pattern)) e
+    (ap (λ (t : List ℕ). t ++ codes "\n") it.text_is ∙ append_assoc (pattern_text it.pattern) (codes "end") (codes "\n"))
+    (ap (λ (s : Bool). line (header_words s) (after_header file)) (version_of-second alloc second)) (next-number text total all)))
+block-told alloc allowed text left second name total fault e one h unknown all (inr (inr it)) =
     let whole = ap line_feeds e in
     let header = feeds-line (header_words second) (line (codes "protocol " ++ name_bytes name) left) (header-lacks second) in
     let protocol = feeds-line (codes "protocol " ++ name_bytes name) left (protocol-plain name h) in

@@ -86,7 +86,7 @@ counted-none number next total rest low same step e =
     omega (arith, same, none, n)
 
 -- what was read is the text's first line
-pub first-line : (text words rest : List ℕ) (is_ended : Bool) → (is_ended ≡ true → text ≡ line words rest) → (is_ended ≡ false → text ≡ words)
+pub first-line : (text words rest : List ℕ) (is_ended : Bool) → (is_ended ≡ true → text ≡ line words rest) → (is_ended ≡ false → (text ≡ words) × ¬ (words ≡ []))
     → lacks 10 words ≡ true → IsFirstLine words text
 first-line text words rest true ended last plain = (plain, inr (rest, ended refl))
 first-line text words rest false ended last plain = (plain, inl (last refl))
@@ -106,7 +106,7 @@ begun-front (b ∷ bs) rest (f ∷ fs) plain h =
 
 pub begun-line : (words text front : List ℕ) → IsFirstLine words text → lacks 10 front ≡ true → starts_with nat_eq text front ≡ true
     → starts_with nat_eq words front ≡ true
-begun-line words text front (plain, inl e) lack h = rw (← e) h
+begun-line words text front (plain, inl (e, some)) lack h = rw (← e) h
 begun-line words text front (plain, inr (rest, e)) lack h = begun-front words rest front lack (subst (λ (t : List ℕ). starts_with nat_eq t front ≡ true) e h)
 
 -- and the text where the line does
@@ -125,7 +125,7 @@ same-test false true f g = absurd (true≢false (sym (g refl)))
 same-test false false f g = refl
 
 text-begun : (words text front : List ℕ) → IsFirstLine words text → starts_with nat_eq words front ≡ true → starts_with nat_eq text front ≡ true
-text-begun words text front (plain, inl e) h = rw e h
+text-begun words text front (plain, inl (e, some)) h = rw e h
 text-begun words text front (plain, inr (rest, e)) h = rw e (line-begun words rest front h)
 
 -- a text begins as its first line does

@@ -6,10 +6,14 @@ use Rattle.noise_events.specs.declared.event.Event.{Event}
 use Rattle.noise_events.specs.declared.window.Window.{Window}
 use Rattle.noise_keys.specs.Table.{TableEntry}
 use Rattle.noise_keys.specs.Table as Tables
+use Rattle.noise_names.specs.Limits.{IsPattern}
 use Rattle.noise_names.specs.Names.{IsSection, Section, name_bytes}
+use Rattle.noise_names.specs.Plan.{Plan}
+use Rattle.noise_names.specs.Text.{text_of as pattern_text}
 use Rattle.noise_names.specs.declared.token.Role.{Role}
-use Rattle.noise_vectors.specs.Block.{IsInner, itself}
+use Rattle.noise_vectors.specs.Block.{itself}
 use Rattle.noise_vectors.specs.HexWord.{hex_of}
+use Rattle.noise_vectors.specs.OwnPattern.{HasName}
 use Rattle.noise_vectors.specs.VectorFile.{AreKeys, IsAllowed, IsDatagramEvent, IsEntry, IsEvent, IsExpected, IsShort}
 use Rattle.noise_vectors.specs.VectorText.{AfterDatagrams, AfterEvents, answer_words, datagram_event_words, datagrams_text, event_words, expect_line}
 use Rattle.noise_vectors.specs.VectorText.{header_words, line, lines_of, party_text, psk_words, window_words}
@@ -221,11 +225,17 @@ TellsVersion allowed second from total fault =
 
 -- ---- the pattern
 
--- the text ends where no line `end` with its line feed is left
+-- the text ends where no line `end` is left
 abbrev pub TellsOpen : List ℕ → ℕ → VectorFault → Type 0
-TellsOpen from total fault =
-    (fault ≡ Line (total + 1) kinds.Ending)
-    × ((before : List (List ℕ)) (rest : List ℕ) → All IsInner before → ¬ (from ≡ lines_of itself before (line (codes "end") rest)))
+TellsOpen from total fault = (fault ≡ Line (total + 1) kinds.Ending) × ¬ Block from
+
+-- the text ends with the line `end` of this name's pattern, without its line feed
+pub record IsCutBlock (name : Section) (from : List ℕ) (total : ℕ) (fault : VectorFault) : Type 0 where
+  pub pattern : Plan
+  pub right : IsPattern pattern
+  pub named : HasName pattern name
+  pub text_is : from ≡ pattern_text pattern ++ codes "end"
+  pub fault_is : fault ≡ Line (total + 1) kinds.Ending
 
 -- a line of the pattern of this name is wrong
 pub record IsWrongBlock (name : Section) (from : List ℕ) (total : ℕ) (fault : VectorFault) : Type 0 where
@@ -237,4 +247,4 @@ pub record IsWrongBlock (name : Section) (from : List ℕ) (total : ℕ) (fault 
   pub fault_is : fault ≡ Line number kinds.Pattern
 
 abbrev pub TellsBlock : Section → List ℕ → ℕ → VectorFault → Type 0
-TellsBlock name from total fault = TellsOpen from total fault ⊎ IsWrongBlock name from total fault
+TellsBlock name from total fault = TellsOpen from total fault ⊎ IsCutBlock name from total fault ⊎ IsWrongBlock name from total fault

@@ -25,9 +25,9 @@ use Rattle.noise_vectors.specs.declared.vector.VectorFile.{VectorFile}
 abbrev pub line_feeds : List ℕ → ℕ
 line_feeds text = count_by (λ b. b == 10) text
 
--- the text's first line: a line feed or the text's end follows it
+-- the text's first line: a line feed or the text's end follows it, and before the text's end there is at least one byte
 abbrev pub IsFirstLine : List ℕ → List ℕ → Type 0
-IsFirstLine words text = IsTrue (lacks 10 words) × ((text ≡ words) ⊎ ((rest : List ℕ) × (text ≡ line words rest)))
+IsFirstLine words text = IsTrue (lacks 10 words) × (((text ≡ words) × ¬ (words ≡ [])) ⊎ ((rest : List ℕ) × (text ≡ line words rest)))
 
 -- each line of the text has its line feed
 abbrev pub IsEnded : List ℕ → Type 0
@@ -132,15 +132,6 @@ pub record HasOwnName (allowed : AllowedEvents) (text : List ℕ) : Type 0 where
   pub left : List ℕ
   pub text_is : text ≡ line (header_words second) (line (codes "protocol " ++ name_bytes name) left)
 
--- The text ends before that pattern does: no line `end` with its line feed is left. The number is that of the text's last line, if it has no line
--- feed, or of a further one.
-pub record IsOpenBlock (allowed : AllowedEvents) (text : List ℕ) (number : ℕ) : Type 0 where
-  pub whole : List ℕ
-  pub whole_is : (whole ≡ text) ⊎ (whole ≡ text ++ codes "\n")
-  pub it : HasOwnName allowed whole
-  pub open_ : (before : List (List ℕ)) (rest : List ℕ) → All IsInner before → ¬ (it.left ≡ lines_of itself before (line (codes "end") rest))
-  pub counted : number ≡ line_feeds text + 1
-
 -- The lines of that pattern: those before the next line `end`. This may be the text's last one, without a line feed.
 pub record Block (left : List ℕ) : Type 0 where
   pub lines : List (List ℕ)
@@ -148,6 +139,15 @@ pub record Block (left : List ℕ) : Type 0 where
   pub after : List ℕ  -- the text from the line `end` on
   pub ends : IsFirstLine (codes "end") after
   pub left_is : left ≡ lines_of itself lines after
+
+-- The text ends before that pattern does: no line `end` is left, neither with its line feed nor without. The number is that of the text's last line, if
+-- it has no line feed, or of a further one.
+pub record IsOpenBlock (allowed : AllowedEvents) (text : List ℕ) (number : ℕ) : Type 0 where
+  pub whole : List ℕ
+  pub whole_is : (whole ≡ text) ⊎ (whole ≡ text ++ codes "\n")
+  pub it : HasOwnName allowed whole
+  pub open_ : ¬ Block it.left
+  pub counted : number ≡ line_feeds text + 1
 
 -- the first of them is the pattern section of the name, and a colon
 abbrev pub HasHeading : Section → List ℕ → Type 0

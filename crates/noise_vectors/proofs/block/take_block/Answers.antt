@@ -2,7 +2,7 @@ use Rattle.std.proofs.Common.{rules, ◌≡◌, ◌∙◌, ◌+◌, ◌-◌, ap,
 use Rattle.std.specs.Prelude.{IsTrue}
 use Rattle.std.proofs.lemmas.Slice.Eq.{bytes_eq-Decides}
 use Rattle.noise_vectors.specs.VectorText.{line}
-use Rattle.noise_vectors.proofs.BlockLemmas.{front-is, Left-last, Left-next, Left-start, Left-step, Read-end, Read-none, Read-step}
+use Rattle.noise_vectors.proofs.BlockLemmas.{front-is, Left-last, Left-next, Left-start, Left-step, Read-end, Read-none, Read-open, Read-step}
 use Rattle.noise_vectors.proofs.LineLemmas.{Ends-after, Ends-whole}
 use Rattle.noise_vectors.specs.WrongLine.{line_feeds}
 use Rattle.noise_vectors.proofs.PartLemmas.{block-ending}
@@ -77,25 +77,23 @@ returns-then-eq-clause-counted c = λ low ended.
 
 pub returns-then-eq-clause-last : goal.returns-then-eq-clause-last
 returns-then-eq-clause-last c = λ low open_.
-    counted-last c.loop-lines.lines.number c.next.new.self.number (c.args.lines.now.number + line_feeds c.args.lines.now.rest.now) c.loop-lines.lines.rest.now c.in_ok-next.field-0.now low (c.loop-lines.invariant.2 low) c.next.ensures.number c.in_ok-next.ensures.plain (c.in_ok-next.ensures.last open_)
+    counted-last c.loop-lines.lines.number c.next.new.self.number (c.args.lines.now.number + line_feeds c.args.lines.now.rest.now) c.loop-lines.lines.rest.now c.in_ok-next.field-0.now low (c.loop-lines.invariant.2 low) c.next.ensures.number c.in_ok-next.ensures.plain (c.in_ok-next.ensures.last open_).0
 
 pub returns-in_err-next-clause-told : goal.returns-in_err-next-clause-told
 returns-in_err-next-clause-told c =
-    let p = err_from_is_err_and c.from_residual.result c.from_residual.ensures.1 in λ low.
+    let p = err_from_is_err_and c.from_residual.result c.from_residual.ensures.1 in
+    let none = c.in_err-next.ensures.missing.0 in λ low.
     rw (p.1, p.2) (block-ending c.args.lines.now.rest.now (c.args.lines.now.number + line_feeds c.args.lines.now.rest.now) c.next.new.self.number _ c.in_err-next.ensures.missing.1
-    (counted-none c.loop-lines.lines.number c.next.new.self.number (c.args.lines.now.number + line_feeds c.args.lines.now.rest.now) c.loop-lines.lines.rest.now low (c.loop-lines.invariant.2 low) c.next.ensures.number c.in_err-next.ensures.missing.0)
-    (λ before rest h e. Left-next rest c.loop-lines.lines.rest.now (c.loop-lines.invariant.1 before rest h e) c.in_err-next.ensures.every))
+    (counted-none c.loop-lines.lines.number c.next.new.self.number (c.args.lines.now.number + line_feeds c.args.lines.now.rest.now) c.loop-lines.lines.rest.now low (c.loop-lines.invariant.2 low) c.next.ensures.number none)
+    (Read-open c.args.lines.now.rest.now c.loop-lines.lines.rest.now c.loop-lines.invariant.3 (rw none refl) (λ e. let bad : [] ≡ codes "end" = sym none ∙ e in cc bad)))
 
 pub returns-in_err-end-clause-told : goal.returns-in_err-end-clause-told
 returns-in_err-end-clause-told c =
     let word : c.as_slice.result.now ≡ codes "end" = c.as_slice.ensures in
     let other : ¬ (c.in_ok-next.field-0.now ≡ codes "end") =
     λ e. let yes = (bytes_eq-Decides c.in_ok-next.field-0.now c.as_slice.result.now).1 (e ∙ sym word) in cc (c.eq.ensures, yes) in
+    let last = (c.in_ok-next.ensures.last (false_from_ne_true c.next.new.self.is_ended (λ yes. false≢true (c.in_err-end.ensures.ended.1 yes)))).0 in
     let p = err_from_is_err_and c.from_residual-in_err-end.result c.from_residual-in_err-end.ensures.1 in λ low.
     rw (p.1, p.2) (block-ending c.args.lines.now.rest.now (c.args.lines.now.number + line_feeds c.args.lines.now.rest.now) c.next.new.self.number _ c.in_err-end.ensures.fault
-    (counted-last c.loop-lines.lines.number c.next.new.self.number (c.args.lines.now.number + line_feeds c.args.lines.now.rest.now) c.loop-lines.lines.rest.now c.in_ok-next.field-0.now low (c.loop-lines.invariant.2 low) c.next.ensures.number c.in_ok-next.ensures.plain
-    (c.in_ok-next.ensures.last (false_from_ne_true c.next.new.self.is_ended (λ yes. false≢true (c.in_err-end.ensures.ended.1 yes)))))
-    (λ before rest h e.
-    let l = Left-step rest c.loop-lines.lines.rest.now c.in_ok-next.field-0.now c.next.new.self.rest.now c.next.new.self.is_ended (c.loop-lines.invariant.1 before rest h e) c.in_ok-next.ensures.every other in
-    let ok = c.in_err-end.ensures.ended.1 l.1 in
-    cc (ok)))
+    (counted-last c.loop-lines.lines.number c.next.new.self.number (c.args.lines.now.number + line_feeds c.args.lines.now.rest.now) c.loop-lines.lines.rest.now c.in_ok-next.field-0.now low (c.loop-lines.invariant.2 low) c.next.ensures.number c.in_ok-next.ensures.plain last)
+    (Read-open c.args.lines.now.rest.now c.loop-lines.lines.rest.now c.loop-lines.invariant.3 (rw last c.in_ok-next.ensures.plain) (λ e. other (sym last ∙ e))))

@@ -95,7 +95,7 @@ returns-in_err-end-clause-told c =
     let some = c.in_ok-line.ensures.shorter in
     let few : length (bytes_of c.loop-alloc.expected.items) + 1 < 2 ^ 63 = omega (arith, long, len, some) in
     let words : length c.in_ok-line.line.now ≡ 7 + length c.in-Some.words.now = ap length c.in-Some.ensures.text ∙ length-append (codes "expect ") c.in-Some.words.now in
-    let last : length c.loop-alloc.lines.rest.now ≡ length c.in_ok-line.line.now = ap length (c.in_ok-line.ensures.last (false_from_ne_true c.next.new.self.is_ended (λ yes. false≢true (c.in_err-end.ensures.ended.1 yes)))) in
+    let last : length c.loop-alloc.lines.rest.now ≡ length c.in_ok-line.line.now = ap length (c.in_ok-line.ensures.last (false_from_ne_true c.next.new.self.is_ended (λ yes. false≢true (c.in_err-end.ensures.ended.1 yes)))).0 in
     let whole : length c.args.lines.now.rest.now < 2 ^ 63 = omega arith in
     let p = err_from_is_err_and c.from_residual-in_err-end.result c.from_residual-in_err-end.ensures.1 in λ low.
     rw (p.1, p.2) (tells-cut expect_lines c.args.lines.now.rest.now (c.args.lines.now.number + line_feeds c.args.lines.now.rest.now) _ (bytes_of c.loop-alloc.expected.items) c.in-Some.words.now c.loop-alloc.lines.rest.now c.in_ok-line.line.now c.next.new.self.is_ended c.loop-alloc.lines.number c.next.new.self.number

@@ -124,7 +124,7 @@ pub returns-in_err-end-clause-told : goal.returns-in_err-end-clause-told
 returns-in_err-end-clause-told c =
     let front : c.as_slice.result.now ≡ codes "xor " = c.as_slice.ensures in
     let p = err_from_is_err_and c.from_residual-in_err-end.result c.from_residual-in_err-end.ensures.1 in λ low.
-    let last = c.in_ok-line.ensures.last (false_from_ne_true c.next.new.self.is_ended (λ yes. false≢true (c.in_err-end.ensures.ended.1 yes))) in
+    let last = (c.in_ok-line.ensures.last (false_from_ne_true c.next.new.self.is_ended (λ yes. false≢true (c.in_err-end.ensures.ended.1 yes)))).0 in
     let n = counted-last c.args.lines.now.number c.next.new.self.number (c.args.lines.now.number + line_feeds c.args.lines.now.rest.now) c.args.lines.now.rest.now c.in_ok-line.line.now low refl c.next.ensures.number c.in_ok-line.ensures.plain last in
     rw (p.1, p.2) (inr (inl (
       c.in_err-end.ensures.fault ∙ ap (λ (k : ℕ). Line k kinds.Ending) n,
@@ -140,7 +140,7 @@ pub returns-in_err-end-2-clause-told : goal.returns-in_err-end-2-clause-told
 returns-in_err-end-2-clause-told c =
     let front : c.as_slice-2.result.now ≡ codes "table " = c.as_slice-2.ensures in
     let p = err_from_is_err_and c.from_residual-in_err-end-2.result c.from_residual-in_err-end-2.ensures.1 in λ low.
-    let last = c.in_ok-line.ensures.last (false_from_ne_true c.next.new.self.is_ended (λ yes. false≢true (c.in_err-end-2.ensures.ended.1 yes))) in
+    let last = (c.in_ok-line.ensures.last (false_from_ne_true c.next.new.self.is_ended (λ yes. false≢true (c.in_err-end-2.ensures.ended.1 yes)))).0 in
     let n = counted-last c.args.lines.now.number c.next.new.self.number (c.args.lines.now.number + line_feeds c.args.lines.now.rest.now) c.args.lines.now.rest.now c.in_ok-line.line.now low refl c.next.ensures.number c.in_ok-line.ensures.plain last in
     rw (p.1, p.2) (inr (inl (
       c.in_err-end-2.ensures.fault ∙ ap (λ (k : ℕ). Line k kinds.Ending) n,

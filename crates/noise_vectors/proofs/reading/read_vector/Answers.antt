@@ -150,7 +150,7 @@ returns-in_err-block-clause-told c =
     let two = c.in_ok-protocol.ensures.counted (low-of (line_feeds c.args.text.now) c.read_header.new.lines.number c.read_header.new.lines.rest.now low one) ∙ one in
     let tells = c.in_err-block.ensures.told (low-of (line_feeds c.args.text.now) c.read_protocol.new.lines.number c.read_protocol.new.lines.rest.now low two)
     c.in_ok-protocol.ensures.right in
-    rw (p.1, p.2) (block-told c.args.allowed c.args.text.now c.read_protocol.new.lines.rest.now c.in_ok-second.second c.in_ok-protocol.protocol
+    rw (p.1, p.2) (block-told c.args.alloc c.args.allowed c.args.text.now c.read_protocol.new.lines.rest.now c.in_ok-second.second c.in_ok-protocol.protocol
     (c.read_protocol.new.lines.number + line_feeds c.read_protocol.new.lines.rest.now) c.in_err-block.field-0.0
     (sym c.new-lines.ensures.0 ∙ c.in_ok-second.ensures.text
     ∙ ap (λ (t : List ℕ). line (header_words c.in_ok-second.second) t) c.in_ok-protocol.ensures.text)
