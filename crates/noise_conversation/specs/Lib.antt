@@ -1,5 +1,6 @@
 pub mod Agreement
 pub mod Clash
+pub mod Conversed
 pub mod Datagrams
 pub mod Entries
 pub mod Exactly

@@ -11,11 +11,11 @@ use Rattle.noise_keys.specs.declared.xor_keys.XorKeys.{XorKeys}
 use Rattle.noise_keys.specs.Keys.{key_of, xor_answer}
 use Rattle.noise_handshake.specs.Counterparts.{shown_before}
 use Rattle.noise_handshake.specs.Setup.{setup_fault}
+use Rattle.noise_session.specs.Ends.{EndStands}
 use Rattle.noise_duel.specs.Messages.{Start}
-use Rattle.noise_duel.specs.Conversation.{ComeThrough, after_conversation, payloads_in, start_in, transcript}
-use Rattle.noise_duel.specs.HeldDuel.{DuelStands, HeldDuel}
+use Rattle.noise_duel.specs.Conversation.{end_after, history_in, transcript}
+use Rattle.noise_duel.specs.HeldDuel.{HeldDuel}
 use Rattle.noise_duel.specs.SetUpAlike.{HasAnswers, material_of}
-use Rattle.noise_duel.specs.Sides.{Sides}
 use Rattle.noise_conversation.specs.declared.fault.ConversationFault.{ConversationFault}
 use Rattle.noise_conversation.specs.declared.fault.ConversationFault.TheVariants.{Setup, Memory}
 
@@ -41,12 +41,6 @@ module _ {K : Type 0} (public_of : K → Own → Option (List ℕ)) (agreement :
     responder = start_by p Responder prologue psks responder initiator;
   }
 
-  -- The two ends are those that wrote and accepted all messages of the lines: they hold the history, the counts and the keys after them.
-  pub record AreAfter (p : Plan) (s : Starts) (prologue : List ℕ) (interval : ℕ) (lines : List (Role × List ℕ)) (duel : HeldDuel K K) : Type 0 where
-    pub last : Sides
-    pub stands : DuelStands public_of agreement public_of agreement duel last
-    pub through : ComeThrough (material_of s.initiator s.responder) p prologue interval lines last
-
 -- both parties have an answer at each DH of the pattern
 abbrev pub HaveAnswers : Plan → Starts → Type 0
 HaveAnswers p s = HasAnswers p s.initiator s.responder
@@ -57,13 +51,19 @@ transcript_of p s prologue interval lines = transcript (material_of s.initiator 
 
 -- the history after those of them that are handshake messages
 abbrev pub history_of : Plan → Starts → List ℕ → List (Role × List ℕ) → History
-history_of p s prologue lines =
-    let w = material_of s.initiator s.responder in
-    after_conversation w p 0 w.secrets (start_in w p prologue) (payloads_in (length p.messages) lines)
+history_of p s prologue lines = history_in (material_of s.initiator s.responder) p prologue lines
 
 -- the handshake hash (Noise 11.2), if there is a line for each handshake message
 abbrev pub hash_of_lines : Plan → Starts → List ℕ → List (Role × List ℕ) → Option (List ℕ)
 hash_of_lines p s prologue lines = if nat_le (length p.messages) (length lines) then Some (hash (history_of p s prologue lines)) else None
+
+module _ {K : Type 0} (public_of : K → Own → Option (List ℕ)) (agreement : K → Own → List ℕ → Option (List ℕ)) where
+  -- The two ends are those after the lines: they hold the pattern, the roles, the keys and the psks to come, the counts, the interval and the history.
+  pub record AreAfter (p : Plan) (s : Starts) (prologue : List ℕ) (interval : ℕ) (lines : List (Role × List ℕ)) (duel : HeldDuel K K) : Type 0 where
+    pub initiator : EndStands public_of agreement duel.initiator
+        (end_after p Initiator s.initiator s.responder interval (history_of p s prologue lines) lines)
+    pub responder : EndStands public_of agreement duel.responder
+        (end_after p Responder s.responder s.initiator interval (history_of p s prologue lines) lines)
 
 -- the first of two faults
 abbrev pub or_next : Option SetupFault → Option SetupFault → Option SetupFault

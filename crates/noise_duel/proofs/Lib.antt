@@ -17,6 +17,7 @@ pub mod Parts
 pub mod Steps
 pub mod EquallyFar
 pub mod Transcripts
+pub mod Leaving
 pub mod SetUpAlike
 pub mod OwnFrames
 pub mod Happening

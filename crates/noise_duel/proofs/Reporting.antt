@@ -22,7 +22,7 @@ use Rattle.noise_session.specs.declared.phase.Phase.TheVariants as phase
 use Rattle.noise_session.specs.Ends.{EndView, EndStands, HeldEnd, IsToldBy, PhaseStands}
 use Rattle.noise_session.specs.Transport.{transport_key}
 use Rattle.noise_duel.specs.declared.report.Report.{Report}
-use Rattle.noise_duel.specs.Conversation.{KeyMaterial, HaveParts, InTurn, LinesComeThrough}
+use Rattle.noise_duel.specs.Conversation.{KeyMaterial, HaveParts, InTurn, LinesComeThrough, LinesLeave}
 use Rattle.noise_duel.specs.Conversation.{facing, payloads_in, say_events}
 use Rattle.noise_duel.specs.Entries.{notes_of}
 use Rattle.noise_events.specs.Events.{Event}
@@ -139,17 +139,18 @@ module _ {K L : Type 0} (public_k : K → Own → Option (List ℕ)) (agreement_
 
 module _ {A B : Type 0} (public_a : A → Own → Option (List ℕ)) (agreement_a : A → Own → List ℕ → Option (List ℕ))
     (public_b : B → Own → Option (List ℕ)) (agreement_b : B → Own → List ℕ → Option (List ℕ)) where
-  pub all-through : LinesComeThrough → EndsStand
+  pub all-through : LinesComeThrough → LinesLeave → EndsStand
       → ((e : HeldEnd A) (v : EndView) → EndStands public_a agreement_a e v → IsToldBy v e)
       → ((e : HeldEnd B) (v : EndView) → EndStands public_b agreement_b e v → IsToldBy v e)
       → (w : KeyMaterial) (p : Plan) (prologue : List ℕ) (a b : Start) (interval : ℕ) (lines : List (Role × List ℕ))
       → HaveParts w p prologue a b → InTurn p 0 lines → (duel : HeldDuel A B) (report : Report)
       → Reports public_a agreement_a public_b agreement_b (facing p a b interval interval) (say_events lines) duel report
-      → HaveComeThrough public_a agreement_a public_b agreement_b w p prologue interval lines duel report
-  all-through come stand told_a told_b w p prologue a b interval lines parts turns duel report left =
+      → HaveComeThrough public_a agreement_a public_b agreement_b w p prologue a b interval lines duel report
+  all-through come leave stand told_a told_b w p prologue a b interval lines parts turns duel report left =
       let notes : List (Role × Note) = notes_of report.entries.items in
       let last : Sides = left.last in
       let it = come w p prologue a b interval lines notes last parts turns left.run in
+      let views = leave w p prologue a b interval lines notes last parts turns left.run in
       let stands = stand p a b interval interval (say_events lines) notes last left.run in
       let mine = stands.0 in
       let theirs = stands.1 in
@@ -184,6 +185,8 @@ module _ {A B : Type 0} (public_a : A → Own → Option (List ℕ)) (agreement_
         entries = it.0;
         initiator_frames = left.frames.initiator ∙ it.1.frames Initiator;
         responder_frames = left.frames.responder ∙ it.1.frames Responder;
+        initiator = subst (λ (z : EndView). EndStands public_a agreement_a duel.initiator z) views.0 left.stands.initiator;
+        responder = subst (λ (z : EndView). EndStands public_b agreement_b duel.responder z) views.1 left.stands.responder;
         last = last;
         stands = left.stands;
         through = it.1;

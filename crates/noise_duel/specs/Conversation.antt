@@ -1,7 +1,7 @@
 -- A whole conversation, in which no party has a state: what all messages are, from both parties' public keys, the DH answers and the secrets
 -- (Noise 5.3, 9.2 and 13).
 use Rattle.std.specs.Prelude.{◌≡◌, ℕ, ◌+◌, ◌≤◌, ◌<◌, List, [], ◌∷◌, ◌++◌, length, drop, take, count_by, map, Some, true, if◌then◌else◌, IsTrue, ⊤, None}
-use Rattle.std.specs.Prelude.{nat_lt, MatchBool}
+use Rattle.std.specs.Prelude.{nat_lt, MatchBool, false, min}
 use Rattle.noise_names.specs.declared.token.Role.{Role}
 use Rattle.noise_names.specs.declared.token.Role.TheVariants.{Initiator, Responder}
 use Rattle.noise_names.specs.declared.token.Token.{Token}
@@ -18,10 +18,10 @@ use Rattle.noise_keys.specs.declared.keys.Own.TheVariants.{Ephemeral, Static}
 use Rattle.noise_handshake.specs.declared.remote.Remote.{Remote}
 use Rattle.noise_handshake.specs.Message.{message_bytes, after_payload}
 use Rattle.noise_handshake.specs.View.{start, tokens_at, first_secret, other_secrets, own_at, remote_at, answered}
-use Rattle.noise_handshake.specs.Setup.{has_before, token_of}
-use Rattle.noise_handshake.specs.Counterparts.{is_dh}
+use Rattle.noise_handshake.specs.Setup.{has_before, secrets_of, token_of}
+use Rattle.noise_handshake.specs.Counterparts.{is_dh, shown_after}
 use Rattle.noise_session.specs.Counterparts.{EndCounterparts}
-use Rattle.noise_session.specs.Ends.{end_of}
+use Rattle.noise_session.specs.Ends.{EndView, end_of}
 use Rattle.noise_session.specs.Steps.Told.{Payload}
 use Rattle.noise_session.specs.Frames.{frame}
 use Rattle.noise_session.specs.Transport.{packet, last_nonce}
@@ -130,12 +130,15 @@ frames_by role (m ∷ ms) = (if same_role m.0 role then frame m.1 ∷ [] else []
 abbrev pub payloads_in : ℕ → List (Role × List ℕ) → List (List ℕ)
 payloads_in k lines = map (λ l. l.1) (take k lines)
 
+-- the history after those of lines that are handshake messages
+abbrev pub history_in : KeyMaterial → Plan → List ℕ → List (Role × List ℕ) → History
+history_in w p prologue lines = after_conversation w p 0 w.secrets (start_in w p prologue) (payloads_in (length p.messages) lines)
+
 -- all messages of lines with their writers, the handshake's and then the packets
 abbrev pub transcript : KeyMaterial → Plan → List ℕ → ℕ → List (Role × List ℕ) → List (Role × List ℕ)
 transcript w p prologue interval lines =
     in_turn 0 (messages_of (conversation w p 0 w.secrets (start_in w p prologue) (payloads_in (length p.messages) lines)))
-    ++ packets_of (after_conversation w p 0 w.secrets (start_in w p prologue) (payloads_in (length p.messages) lines)) interval 0 0
-    (drop (length p.messages) lines)
+    ++ packets_of (history_in w p prologue lines) interval 0 0 (drop (length p.messages) lines)
 
 -- two new ends of one pattern, with these intervals
 abbrev pub facing : Plan → Start → Start → ℕ → ℕ → Sides
@@ -149,11 +152,39 @@ pub record ComeThrough (w : KeyMaterial) (p : Plan) (prologue : List ℕ) (inter
   pub frames : (role : Role) → (side d role).frames ≡ frames_by role (transcript w p prologue interval lines)
   pub initiator : d.initiator.passed ≡ conversation w p 0 w.secrets (start_in w p prologue) (payloads_in (length p.messages) lines)
   pub responder : d.responder.passed ≡ d.initiator.passed
-  pub history : d.initiator.view.party.history ≡ after_conversation w p 0 w.secrets (start_in w p prologue) (payloads_in (length p.messages) lines)
+  pub history : d.initiator.view.party.history ≡ history_in w p prologue lines
   pub count : d.initiator.view.party.passed ≡ length (payloads_in (length p.messages) lines)
   pub ends : EndCounterparts d.initiator.view d.responder.view
   pub there : d.responder.received ≡ d.initiator.sent
   pub back : d.initiator.received ≡ d.responder.sent
+
+-- how many lines are a role's
+abbrev pub lines_by : Role → List (Role × List ℕ) → ℕ
+lines_by role lines = count_by (λ l. same_role l.0 role) lines
+
+-- The end of a role that starts from this, and faces a party that starts from that, once lines have come through and this is the history: so many messages
+-- of the handshake have passed, the psks after theirs are to come, and the other lines were transport messages.
+abbrev pub end_after : Plan → Role → Start → Start → ℕ → History → List (Role × List ℕ) → EndView
+end_after p role s theirs interval r lines =
+    let passed : ℕ = min (length p.messages) (length lines) in
+    let rest : List (Role × List ℕ) = drop (length p.messages) lines in
+    record {
+      party = record {
+        pattern = p;
+        role = role;
+        secrets = drop (secrets_of (take passed p.messages)) s.secrets;
+        own = s.own;
+        agree = s.agree;
+        remote = shown_after p (other role) passed theirs.own;
+        passed = passed;
+        history = r;
+        ended = false;
+      };
+      interval = interval;
+      sent = lines_by role rest;
+      received = lines_by (other role) rest;
+      held = [];
+    }
 
 -- key material with public keys of 32 bytes, and two parties with their parts of it, in a valid pattern
 pub record HaveParts (w : KeyMaterial) (p : Plan) (prologue : List ℕ) (a b : Start) : Type 0 where
@@ -169,6 +200,14 @@ LinesComeThrough = (w : KeyMaterial) (p : Plan) (prologue : List ℕ) (a b : Sta
     (notes : List (Role × Note)) (d : Sides) → HaveParts w p prologue a b → InTurn p 0 lines
     → Run (facing p a b interval interval) (say_events lines) notes d
     → (notes ≡ notes_of_lines 0 0 lines) × ComeThrough w p prologue interval lines d
+
+-- The two ends left are those after the lines.
+abbrev pub LinesLeave : Type 0
+LinesLeave = (w : KeyMaterial) (p : Plan) (prologue : List ℕ) (a b : Start) (interval : ℕ) (lines : List (Role × List ℕ))
+    (notes : List (Role × Note)) (d : Sides) → HaveParts w p prologue a b → InTurn p 0 lines
+    → Run (facing p a b interval interval) (say_events lines) notes d
+    → (d.initiator.view ≡ end_after p Initiator a b interval (history_in w p prologue lines) lines)
+    × (d.responder.view ≡ end_after p Responder b a interval (history_in w p prologue lines) lines)
 
 -- There is such a run.
 abbrev pub LinesRun : Type 0

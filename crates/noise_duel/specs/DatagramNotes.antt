@@ -1,6 +1,5 @@
 -- What is noted of what happens to the datagrams of two parties.
 use Rattle.std.specs.Prelude.{ℕ, List}
-use Rattle.noise_names.specs.declared.token.Role.{Role}
 use Rattle.noise_session.specs.declared.faults.SendFault.{SendFault}
 use Rattle.noise_session.specs.declared.datagram_fault.DatagramFault.{DatagramFault}
 

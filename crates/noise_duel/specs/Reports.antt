@@ -10,10 +10,10 @@ use Rattle.noise_keys.specs.declared.keys.Own.TheVariants.{Static}
 use Rattle.noise_handshake.specs.Passed.{passed_places}
 use Rattle.noise_session.specs.declared.phase.Phase.{Phase}
 use Rattle.noise_session.specs.declared.phase.Phase.TheVariants as phase
-use Rattle.noise_session.specs.Ends.{hash_in, remote_static_in}
+use Rattle.noise_session.specs.Ends.{EndStands, hash_in, remote_static_in}
 use Rattle.noise_duel.specs.declared.report.Report.{Report}
 use Rattle.noise_duel.specs.Agreement.{VisiblyEqual}
-use Rattle.noise_duel.specs.Conversation.{KeyMaterial, ComeThrough, frames_by, notes_of_lines, payloads_in, transcript}
+use Rattle.noise_duel.specs.Conversation.{KeyMaterial, ComeThrough, end_after, frames_by, history_in, notes_of_lines, payloads_in, transcript}
 use Rattle.noise_duel.specs.Entries.{bytes_of, notes_of}
 use Rattle.noise_events.specs.Events.{Event}
 use Rattle.noise_duel.specs.HeldDuel.{HeldDuel, DuelStands, HasFrames}
@@ -64,12 +64,14 @@ module _ {A B : Type 0} (public_a : A → Own → Option (List ℕ)) (agreement_
     pub stands : DuelStands public_a agreement_a public_b agreement_b duel last
 
   -- All lines have come through: the report has just each line as written and then as accepted, with its payload, and the frames of the transcript; the
-  -- ends left have come equally far, with one history, and so with equal hashes and keys, and each knows the other's static key once it was shown.
-  pub record HaveComeThrough (w : KeyMaterial) (p : Plan) (prologue : List ℕ) (interval : ℕ) (lines : List (Role × List ℕ))
+  -- ends left are those after the lines, with one history, and so with equal hashes and keys, and each knows the other's static key once it was shown.
+  pub record HaveComeThrough (w : KeyMaterial) (p : Plan) (prologue : List ℕ) (a b : Start) (interval : ℕ) (lines : List (Role × List ℕ))
       (duel : HeldDuel A B) (report : Report) : Type 0 where
     pub entries : notes_of report.entries.items ≡ notes_of_lines 0 0 lines
     pub initiator_frames : bytes_of report.initiator.items ≡ frames_by Initiator (transcript w p prologue interval lines)
     pub responder_frames : bytes_of report.responder.items ≡ frames_by Responder (transcript w p prologue interval lines)
+    pub initiator : EndStands public_a agreement_a duel.initiator (end_after p Initiator a b interval (history_in w p prologue lines) lines)
+    pub responder : EndStands public_b agreement_b duel.responder (end_after p Responder b a interval (history_in w p prologue lines) lines)
     pub last : Sides
     pub stands : DuelStands public_a agreement_a public_b agreement_b duel last
     pub through : ComeThrough w p prologue interval lines last

@@ -115,7 +115,7 @@ impl<A: Keys, B: Keys> Duel<A, B> {
         ensures comes_through { (w : KeyMaterial) (p : Plan) (prologue : List ℕ) (a b : Start) (interval : ℕ)
             → HaveParts w p prologue a b → InTurn p 0 (lines_of lines.now)
             → DuelStands A.public_of A.agreement B.public_of B.agreement self (facing p a b interval interval)
-            → IfOk result (λ r. HaveComeThrough A.public_of A.agreement B.public_of B.agreement w p prologue interval (lines_of lines.now) r.0 r.1) }
+            → IfOk result (λ r. HaveComeThrough A.public_of A.agreement B.public_of B.agreement w p prologue a b interval (lines_of lines.now) r.0 r.1) }
     {
         let mut report = Report::new(alloc);
         for (role, payload, cuts) in lines {

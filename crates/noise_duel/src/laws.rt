@@ -5,7 +5,7 @@ ghost use Rattle.noise_duel.specs.Agreement.{HashTells, SecretsTell, KeysTell, K
 ghost use Rattle.noise_duel.specs.Below.{LawsBelow};
 ghost use Rattle.noise_duel.specs.Clash.{ClashStands, ClashFound, ClashTold};
 ghost use Rattle.noise_duel.specs.Invariant.{EndsStand};
-ghost use Rattle.noise_duel.specs.Conversation.{LinesComeThrough, LinesRun};
+ghost use Rattle.noise_duel.specs.Conversation.{LinesComeThrough, LinesLeave, LinesRun};
 ghost use Rattle.noise_duel.specs.OwnFrames.{EndsFrame};
 ghost use Rattle.noise_duel.specs.Runs.{RunOnce};
 ghost use Rattle.noise_duel.specs.SetUpAlike.{AlikeAreParts};
@@ -74,12 +74,15 @@ pub fn ends_agree()
 }
 
 /// Lines in turn that fit, between two new ends with their parts of one key material, all come through: each frame is that of the transcript, each
-/// payload is accepted at once at the other end, and both ends have one history and the same packets. For all such lines there is a run.
+/// payload is accepted at once at the other end, and both ends have one history and the same packets. The two ends left are those after the lines, with
+/// the interval, the counts, the keys and the psks that they then have. For all such lines there is a run.
 pub fn lines_come_through()
     ensures come { LinesComeThrough }
+    ensures leave { LinesLeave }
     ensures can { LinesRun }
 {
     laws_below();
+    ends_stand();
 }
 
 /// Two parties of a valid pattern that are set up alike, with keys that agree and an answer at each DH token, have their parts of one key material.

@@ -12,11 +12,9 @@ use Rattle.noise_handshake.specs.declared.remote.Remote.{Remote}
 use Rattle.noise_handshake.specs.Setup.{public_keys, setup_fault, token_of}
 use Rattle.noise_handshake.specs.View.{own_at, remote_at}
 use Rattle.noise_events.specs.Events.{Event}
-use Rattle.noise_duel.specs.Conversation.{HaveParts, KeyMaterial, LinesComeThrough, LinesRun, say_events, transcript}
-use Rattle.noise_duel.specs.Invariant.{EndsStand}
+use Rattle.noise_duel.specs.Conversation.{HaveParts, KeyMaterial, LinesComeThrough, LinesLeave, LinesRun, history_in, transcript}
 use Rattle.noise_duel.specs.Messages.{Start}
 use Rattle.noise_duel.specs.Notes.{Note}
-use Rattle.noise_duel.specs.OwnFrames.{EndsFrame}
 use Rattle.noise_duel.specs.Runs.{Run}
 use Rattle.noise_duel.specs.SetUpAlike.{AlikeAreParts, AreParts, AreSetUpAlike, HasAnswers, material_of}
 use Rattle.noise_duel.specs.Sides.{Sides}
@@ -41,9 +39,8 @@ pub record Laws : Type 0 where
       → is_among role (token_of (own_at role t)) (places_of p) ≡ true
   pub parts : AlikeAreParts
   pub come : LinesComeThrough
+  pub leave : LinesLeave
   pub can : LinesRun
-  pub stand : EndsStand
-  pub frame : EndsFrame
   pub turns : LinesTakeTurns
 
 module _ (laws : Laws) (file : VectorFile) (p : Plan) (lines : List (Role × List ℕ)) (fits : HasFittingLines file p lines) where
@@ -57,8 +54,7 @@ module _ (laws : Laws) (file : VectorFile) (p : Plan) (lines : List (Role × Lis
   answers t d o =
       let mine = laws.own p Initiator a.own a.remote (length a.secrets) (fits.set_up Initiator) (own_at Initiator t) (laws.keys p Initiator t fits.valid d o) in
       let theirs = laws.own p Responder b.own b.remote (length b.secrets) (fits.set_up Responder) (own_at Responder t)
-      (laws.keys p Responder t fits.valid d o) in
-      (
+      (laws.keys p Responder t fits.valid d o) in (
         xor-answers file.initiator fits.initiator (own_at Initiator t) (remote_at Initiator (public_keys b.own) t) mine
             (ap (λ (key : Option (List ℕ)). is_some key) (remote-own Initiator b.own t) ∙ theirs),
         xor-answers file.responder fits.responder (own_at Responder t) (remote_at Responder (public_keys a.own) t) theirs
@@ -97,13 +93,12 @@ fitting-lines-run laws file p lines fits =
     let notes : List (Role × Note) = made.0 in
     let last : Sides = made.1 in
     let come = laws.come w p text a b i lines notes last both turns made.2 in
-    let stand = laws.stand p a b i i (say_events lines) notes last made.2 in
-    let frames = laws.frame p a b i i (say_events lines) notes last made.2 in
+    let left = laws.leave w p text a b i lines notes last both turns made.2 in
     let said : List (Role × List ℕ) = transcript w p text i lines in
     let exchanged : map (note_line last) notes ≡ exchange_lines 0 0 lines said =
     ap (λ (ns : List (Role × Note)). map (note_line last) ns) come.0
     ∙ noted-lines last 0 0 [] [] lines said (same-writers w p text i lines turns) refl refl (come.1.frames Initiator) (come.1.frames Responder) in
-    let reached = both-there w p text a b i lines last come.1 stand.0 stand.1 frames.0 frames.1 in
+    let reached = both-there p a b i (history_in w p text lines) lines last left.0 left.1 in
     record {
       plan = p;
       pattern = fits.named;

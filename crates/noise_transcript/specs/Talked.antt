@@ -1,12 +1,12 @@
 -- What is printed of lines that come through: the transcript and the payloads, and how far both ends have come then.
-use Rattle.std.specs.Prelude.{ℕ, ◌+◌, nat_lt, List, [], ◌∷◌, ◌++◌, codes, count_by, decimal, drop, length, if◌then◌else◌}
+use Rattle.std.specs.Prelude.{ℕ, ◌+◌, nat_lt, List, [], ◌∷◌, ◌++◌, codes, decimal, drop, length, if◌then◌else◌}
 use Rattle.noise_names.specs.declared.token.Role.{Role}
 use Rattle.noise_names.specs.declared.token.Role.TheVariants.{Initiator, Responder}
 use Rattle.noise_names.specs.Plan.{Plan}
-use Rattle.noise_names.specs.Tokens.{other, same_role}
+use Rattle.noise_names.specs.Tokens.{other}
 use Rattle.noise_state.specs.History.{hash}
 use Rattle.noise_session.specs.Frames.{frame}
-use Rattle.noise_duel.specs.Conversation.{KeyMaterial, after_conversation, payloads_in, start_in}
+use Rattle.noise_duel.specs.Conversation.{KeyMaterial, history_in, lines_by}
 use Rattle.noise_duel.specs.SetUpAlike.{material_of}
 use Rattle.noise_conversation.specs.Setup.{Starts, transcript_of}
 use Rattle.noise_vectors.specs.HexWord.{hex_of}
@@ -34,10 +34,6 @@ exchange_lines i j ((Responder, payload) ∷ lines) ((writer, message) ∷ messa
     wrote_line Responder j (frame message) ∷ payload_line Initiator payload ∷ exchange_lines i (j + 1) lines messages
 exchange_lines i j lines messages = []
 
--- how many lines are a role's
-abbrev pub lines_by : Role → List (Role × List ℕ) → ℕ
-lines_by role lines = count_by (λ l. same_role l.0 role) lines
-
 -- How far a role's end has come after all lines: so many messages of the handshake have passed; or all of them have, it has sent and received so many
 -- transport messages, and this is the handshake's hash (Noise 11.2).
 abbrev pub reached_words : Plan → List (Role × List ℕ) → List ℕ → Role → List (List ℕ)
@@ -59,7 +55,7 @@ material_in file p = material_of (start_of file p Initiator) (start_of file p Re
 
 -- the hash of the handshake messages that have passed
 abbrev pub hash_after : KeyMaterial → Plan → List ℕ → List (Role × List ℕ) → List ℕ
-hash_after w p prologue lines = hash (after_conversation w p 0 w.secrets (start_in w p prologue) (payloads_in (length p.messages) lines))
+hash_after w p prologue lines = hash (history_in w p prologue lines)
 
 -- all lines that are printed of a file's lines: each message of the transcript, with its payload at the other end, and then one for each end
 abbrev pub talked_lines : VectorFile → Plan → List (Role × List ℕ) → List (List ℕ)

@@ -4,7 +4,7 @@
 ghost use Rattle.noise_transcript.specs.Talked.{FittingLinesRun};
 
 use noise_conversation::fitting_lines_take_turns;
-use noise_duel::{alike_are_parts, ends_stand, lines_come_through};
+use noise_duel::{alike_are_parts, lines_come_through};
 use noise_handshake::{setup_is_whole, tokens_stand};
 
 /// The lines of a file's run, where the lines that it says fit: each message of the transcript as a frame, with its payload at the other end, and then how
@@ -16,6 +16,5 @@ pub fn fitting_lines_run()
     tokens_stand();
     alike_are_parts();
     lines_come_through();
-    ends_stand();
     fitting_lines_take_turns();
 }

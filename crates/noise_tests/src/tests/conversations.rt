@@ -2,18 +2,20 @@
 
 ghost use Rattle.std.specs.Prelude.{IsSome};
 
+use super::transport::{KEY, sealed};
+use noise_aead::rekey;
 use noise_conversation::{converse, lines_fit, run_events, xor_keys_answer};
-use noise_duel::{Cuts, Event};
+use noise_duel::{Cuts, Duel, Event, Report};
 use noise_handshake::XorKeys;
 use noise_names::{Pattern, PskPlaces, Role, ValidPattern, fundamental};
 use std::alloc::{AllocError, Global};
 use std::process::Abort;
 
-// Lines for both parties in turn through the handshake, and then three of the initiator's.
-fn lines_for(
-    alloc: Global,
-    pattern: &ValidPattern,
-) -> Result<Vec<(Role, Vec<u8>, Cuts)>, AllocError> {
+/// Lines that a duel says.
+type Lines = Vec<(Role, Vec<u8>, Cuts)>;
+
+// Lines for both parties in turn through the handshake.
+fn handshake_lines(alloc: Global, pattern: &ValidPattern) -> Result<Lines, AllocError> {
     let mut lines = Vec::new(alloc);
     let mut turn = Role::Initiator;
     for _ in pattern.pattern().messages() {
@@ -21,11 +23,16 @@ fn lines_for(
         lines.push((turn, payload, Cuts::whole()))?;
         turn = turn.other();
     }
-    for _ in 0..3 {
+    Ok(lines)
+}
+
+// So many more lines of the initiator's, each with the payload `hi`.
+fn say_more(alloc: Global, count: usize, lines: &mut Lines) -> Result<(), AllocError> {
+    for _ in 0..count {
         let payload = Vec::from_slice(alloc, b"hi")?;
         lines.push((Role::Initiator, payload, Cuts::whole()))?;
     }
-    Ok(lines)
+    Ok(())
 }
 
 // Both key pairs, each key of one byte throughout.
@@ -39,18 +46,30 @@ pub fn both_keys(ephemeral: u8, fixed: u8) -> XorKeys
     }
 }
 
-// Two parties with both key pairs each, whose transport key is renewed after each message, say these lines.
-fn comes_through(rt: &impl Abort, alloc: Global, pattern: ValidPattern, psks: &[[u8; 32]]) {
-    let lines = lines_for(alloc, &pattern).expect(rt, "memory");
-    let fit = lines_fit(&pattern, &lines);
+// Two parties with both key pairs each, whose transport key is renewed after each message, say these lines, which have to fit.
+fn conversed(
+    rt: &impl Abort,
+    alloc: Global,
+    pattern: ValidPattern,
+    psks: &[[u8; 32]],
+    lines: &[(Role, Vec<u8>, Cuts)],
+) -> (Duel<XorKeys, XorKeys>, Report) {
+    let fit = lines_fit(&pattern, lines);
     assert!(rt; fit);
-    let initiator = both_keys(0x11, 0x22);
-    let responder = both_keys(0x33, 0x44);
+    let initiator = both_keys(0x11, 0x33);
+    let responder = both_keys(0x22, 0x44);
     xor_keys_answer();
     let made = converse(
-        alloc, pattern, b"tests", initiator, responder, psks, 1, &lines,
+        alloc, pattern, b"tests", initiator, responder, psks, 1, lines,
     );
-    let (duel, report) = made.expect(rt, "a conversation");
+    made.expect(rt, "a conversation")
+}
+
+// They say all messages of the handshake, and three more.
+fn comes_through(rt: &impl Abort, alloc: Global, pattern: ValidPattern, psks: &[[u8; 32]]) {
+    let mut lines = handshake_lines(alloc, &pattern).expect(rt, "memory");
+    say_more(alloc, 3, &mut lines).expect(rt, "memory");
+    let (duel, report) = conversed(rt, alloc, pattern, psks, &lines);
     let open = duel.responder().hash().is_some();
     assert!(rt; open);
     let told = report.entries.len() / 2;
@@ -97,6 +116,35 @@ fn of_an_own_text(rt: HostRuntime) {
     let pattern = Pattern::parse_text(text).expect(&rt, "a pattern");
     let pattern = pattern.check().expect(&rt, "a valid pattern");
     comes_through(&rt, rt.alloc(), pattern, &[]);
+}
+
+// The frame of a transport message of 18 bytes.
+fn framed(message: [u8; 18]) -> [u8; 20] {
+    let mut frame = [0; 20];
+    frame[1] = 18;
+    frame[2..].copy_from_slice(&message);
+    frame
+}
+
+// The ends of a conversation that is the handshake alone renew their keys as they were told to: here before each message but the first.
+#[test]
+fn renews_after_the_handshake(rt: HostRuntime) {
+    let alloc = rt.alloc();
+    let pattern = pattern(&rt, b"NN", &[]);
+    let lines = handshake_lines(alloc, &pattern).expect(&rt, "memory");
+    let (duel, _) = conversed(&rt, alloc, pattern, &[], &lines);
+    let mut more = Vec::new(alloc);
+    say_more(alloc, 2, &mut more).expect(&rt, "memory");
+    let (_, report) = duel.converse(alloc, &more).expect(&rt, "memory");
+    let entries = format!(in alloc; "{:?}", report.entries).expect(&rt, "memory");
+    assert!(rt;
+        entries.as_str()
+            == "[(Initiator, Wrote(0)), (Responder, Payload([104, 105])), (Initiator, Wrote(1)), (Responder, Payload([104, 105]))]"
+    );
+    let frames = format!(in alloc; "{:?}", report.initiator).expect(&rt, "memory");
+    let wanted = [framed(sealed(&KEY, 0)), framed(sealed(&rekey(&KEY), 1))];
+    let wanted = format!(in alloc; "{:?}", wanted).expect(&rt, "memory");
+    assert!(rt; frames.as_str() == wanted.as_str());
 }
 
 #[test]

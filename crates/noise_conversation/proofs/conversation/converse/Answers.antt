@@ -1,73 +1,7 @@
-use Rattle.std.proofs.Common.{◌≡◌, ◌∙◌, ap, sym, subst, List}
 use Rattle.std.proofs.lemmas.Result.{err_from_is_err_and}
-use Rattle.noise_names.specs.declared.token.Role.{Role}
-use Rattle.noise_names.specs.declared.token.Role.TheVariants.{Initiator, Responder}
-use Rattle.noise_state.specs.History.{History}
-use Rattle.noise_handshake.specs.Counterparts.{counterpart}
-use Rattle.noise_handshake.specs.View.{View}
-use Rattle.noise_session.specs.Ends.{EndView, end_of}
-use Rattle.noise_duel.specs.Acts.{lines_of}
-use Rattle.noise_duel.specs.Conversation.{ComeThrough, HaveParts, say_events}
-use Rattle.noise_duel.specs.Messages.{Start, begun_as}
-use Rattle.noise_duel.specs.Notes.{Note}
-use Rattle.noise_duel.specs.SetUpAlike.{AreParts, material_of}
-use Rattle.noise_conversation.specs.Lines.{untaken}
-use Rattle.noise_conversation.specs.Setup.{Starts, history_of, start_by, starts}
-use Rattle.noise_conversation.proofs.Fit.{in-turn, none-untaken}
-use Rattle.noise_conversation.proofs.Told.{hash-told, same-pattern}
 use Rattle.noise_conversation.proofs.conversation.converse.Goals as goal
 
-pub returns-in_err-duel-clause-setup : goal.returns-in_err-duel-clause-setup
-returns-in_err-duel-clause-setup g c =
+pub returns-in_err-made-clause-setup : goal.returns-in_err-made-clause-setup
+returns-in_err-made-clause-setup g c =
     let p = err_from_is_err_and c.from_residual.result c.from_residual.ensures.1 in
-    rw (p.1, p.2) c.in_err-duel.ensures.setup
-
-pub returns : goal.returns
-returns g c =
-    let p = c.args.pattern in
-    let text = c.args.prologue.now in
-    let lines = lines_of c.args.lines.now in
-    let a : Start = start_by g.K.Keys.public_of g.K.Keys.agreement p Initiator text c.args.psks.now c.args.initiator c.args.responder in
-    let b : Start = start_by g.K.Keys.public_of g.K.Keys.agreement p Responder text c.args.psks.now c.args.responder c.args.initiator in
-    let alike = c.in_ok-duel.ensures.alike in
-    let parts : AreParts p text a b = c.alike_are_parts.ensures p text a b alike.4 alike.0 alike.1 alike.2 c.requires.answers in
-    let have : HaveParts (material_of a b) p text a b = record {
-      pattern = alike.3;
-      valid = alike.4;
-      long = parts.long;
-      initiator = parts.initiator;
-      responder = parts.responder;
-    } in
-    let turns = in-turn p 0 lines c.requires.lines in
-    let s : Starts = starts g.K.Keys.public_of g.K.Keys.agreement p text c.args.psks.now c.args.initiator c.args.responder in
-    let left = c.in_ok-made.ensures.reports (end_of (begun_as p Initiator a) c.args.interval) (end_of (begun_as p Responder b) c.args.interval)
-    c.in_ok-duel.ensures.stands in
-    let through : ComeThrough (material_of a b) p text c.args.interval lines left.last =
-    (c.lines_come_through.ensures.come (material_of a b) p text a b c.args.interval lines _ left.last have turns left.run).1 in
-    let origin = c.ends_stand.ensures.stand p a b c.args.interval c.args.interval (say_events lines) _ left.last left.run in
-    let first : EndView = left.last.initiator.view in
-    let second : EndView = left.last.responder.view in
-    let r : History = history_of p s text lines in
-    let pattern : first.party.pattern ≡ p = ap (λ (v : View). v.pattern) origin.0.party ∙ same-pattern _ _ _ origin.0.passes in
-    let there : second.party ≡ counterpart first.party second.party.own second.party.agree = through.ends.parties.there in
-    let told = hash-told first p r lines pattern through.count through.history in
-    let told-there = hash-told second p r lines (ap (λ (v : View). v.pattern) there ∙ pattern) (ap (λ (v : View). v.passed) there ∙ through.count)
-    (ap (λ (v : View). v.history) there ∙ through.history) in
-    let says = c.end_is_told.ensures _ first left.stands.initiator in
-    let says-there = c.end_is_told.ensures _ second left.stands.responder in
-    let come = c.in_ok-made.ensures.comes_through (material_of a b) p text a b c.args.interval have turns c.in_ok-duel.ensures.stands in
-    record {
-      setup = c.in_ok-duel.ensures.setup;
-      initiator_frames = come.initiator_frames;
-      responder_frames = come.responder_frames;
-      payloads = come.entries;
-      taken = (
-        λ role. subst (λ (notes : List (Role × Note)). untaken role notes ≡ 0) (sym come.entries) (none-untaken role 0 0 lines),
-        says.held ∙ through.ends.held,
-        says-there.held ∙ through.ends.held_there,
-      );
-      ends = record { last = left.last; stands = left.stands; through = through };
-      hash = (says.hash ∙ told, says-there.hash ∙ told-there);
-      keys_there = come.keys_there;
-      keys_back = come.keys_back;
-    }
+    rw (p.1, p.2) c.in_err-made.ensures.setup

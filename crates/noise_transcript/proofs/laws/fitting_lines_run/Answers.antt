@@ -7,8 +7,7 @@ returns c = fitting-lines-run (record {
   keys = c.tokens_stand.ensures.keys;
   parts = c.alike_are_parts.ensures;
   come = c.lines_come_through.ensures.come;
+  leave = c.lines_come_through.ensures.leave;
   can = c.lines_come_through.ensures.can;
-  stand = c.ends_stand.ensures.stand;
-  frame = c.ends_stand.ensures.frame;
   turns = c.fitting_lines_take_turns.ensures;
 })

@@ -33,6 +33,6 @@ returns-clause-reports g c v w st =
 
 pub returns-clause-comes_through : goal.returns-clause-comes_through
 returns-clause-comes_through g c w p prologue a b interval parts turns st =
-    all-through g.A.Keys.public_of g.A.Keys.agreement g.B.Keys.public_of g.B.Keys.agreement c.lines_come_through.ensures.come c.ends_stand.ensures.stand
+    all-through g.A.Keys.public_of g.A.Keys.agreement g.B.Keys.public_of g.B.Keys.agreement c.lines_come_through.ensures.come c.lines_come_through.ensures.leave c.ends_stand.ensures.stand
     c.end_is_told.ensures c.end_is_told-2.ensures w p prologue a b interval (lines_of c.args.lines.now) parts turns c.loop-role.self c.loop-role.report
     (returns-clause-reports g c (end_of (begun_as p Initiator a) interval) (end_of (begun_as p Responder b) interval) st)

@@ -1,5 +1,5 @@
 use Rattle.std.proofs.Common.{[]}
-use Rattle.noise_tests.proofs.tests.conversations.comes_through.Goals as goal
+use Rattle.noise_tests.proofs.tests.conversations.conversed.Goals as goal
 
 pub converse-made-requires-clause-answers : goal.converse-made-requires-clause-answers
 converse-made-requires-clause-answers g c =
