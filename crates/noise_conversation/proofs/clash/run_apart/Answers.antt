@@ -1,7 +1,7 @@
 use Rattle.noise_conversation.proofs.clash.run_apart.Goals as goal
 
-pub returns : goal.returns
-returns g c p a b i j stands apart =
+pub returns-clause-clash : goal.returns-clause-clash
+returns-clause-clash g c p a b i j stands apart =
     let told = c.in_ok-made.ensures.agrees p a b i j stands in
     record {
       reports = told.0;
