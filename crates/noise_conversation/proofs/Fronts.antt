@@ -103,11 +103,14 @@ frame-after mine sent frames h n bytes e same is =
     by None f g = absurd (cc)
     by (Some m) f g = let same : frame m.message ≡ frame bytes = cc in (m, f, frame-is m.message bytes same)
 
+abbrev with_message : List ℕ → List ℕ → TransportMessage
+with_message message payload = record { message = message; payload = payload }
+
 module _ (r : History) (writer : Role) (interval opening : ℕ) (frames mine own written : List (List ℕ)) (notes : List (Role × Note))
     (sent received : List TransportMessage) where
   front-or-forged : frames ≡ map frame (mine ++ map (λ (m : TransportMessage). m.message) sent) → opening ≡ length mine → opening ≡ length own
       → written ≡ own ++ contents sent → told_to (other writer) notes ≡ own ++ contents received → PrefixOrForged r writer interval sent received
-      → FrontOrForged r writer interval opening frames written notes
+      → FrontOrForged r writer interval opening frames received written notes
   front-or-forged f m o w t agree = elim agree [
     | inl front ↦ inl (
       front.0,
@@ -123,7 +126,8 @@ module _ (r : History) (writer : Role) (interval opening : ℕ) (frames mine own
           ap (λ (k : ℕ). take k (told_to (other writer) notes)) same ∙ ap (take (length own + n)) t ∙ take-after own (contents received) (contents sent) n e
           ∙ ap (take (length own + n)) (sym w) ∙ ap (λ (k : ℕ). take k written) (sym same)
 
-      at : (n : ℕ) → ForgedAt r writer interval (in_stream sent) (in_stream received) n → ForgedFrame r writer interval opening frames notes (n + opening)
+      at : (n : ℕ) → ForgedAt r writer interval (in_stream sent) (in_stream received) n
+          → ForgedFrame r writer interval opening frames received notes (n + opening)
       at n forged =
           let same : n + opening ≡ length own + n = omega (arith, o) in
           let turned : n + opening ≡ opening + n = omega arith in
@@ -136,6 +140,7 @@ module _ (r : History) (writer : Role) (interval opening : ℕ) (frames mine own
             payload = forged.forged.payload;
             nonce = n;
             number = turned;
+            came = forged.came ∙ ap (λ (m : List ℕ). Some (with_message m forged.forged.payload)) forged.packet_at;
             place = p.0;
             is_at = p.1;
             entry = there;
@@ -171,7 +176,7 @@ module _ (framed : EndsFrame) (one : SecretsMakeOne) (come : PayloadsCome) where
       ]
     where
       entries : HaveOneHistory d → PayloadsAgree interval d
-          → EntriesAgree p d.initiator.view.party.history interval events notes d.initiator.frames d.responder.frames
+          → EntriesAgree p interval events notes d.initiator.frames d.responder.frames d
       entries history agree =
           let k = ends-kept p a b interval interval events notes d run in
           let f = framed p a b interval interval events notes d run in

@@ -32,8 +32,8 @@ module _ {K : Type 0} (public_of : K → Own → Option (List ℕ)) (agreement :
         → PayloadsAgree interval reports.last ⊎ HistoriesCollide reports.last
     -- the same of the report's own entries and frames, and of the keys that the ends left hold
     pub entries : (hash : List ℕ) → hash_in duel.initiator.phase ≡ Some hash → hash_in duel.responder.phase ≡ Some hash
-        → EntriesAgree p reports.last.initiator.view.party.history interval events (notes_of report.entries.items)
-        (bytes_of report.initiator.items) (bytes_of report.responder.items) ⊎ HistoriesCollide reports.last
+        → EntriesAgree p interval events (notes_of report.entries.items) (bytes_of report.initiator.items) (bytes_of report.responder.items) reports.last
+        ⊎ HistoriesCollide reports.last
     pub keys : (hash : List ℕ) → hash_in duel.initiator.phase ≡ Some hash → hash_in duel.responder.phase ≡ Some hash
         → KeysMeet events (notes_of report.entries.items) duel ⊎ HistoriesCollide reports.last
 
