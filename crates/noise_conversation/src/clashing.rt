@@ -1,7 +1,7 @@
 //! Where the texts that two parties hashed clash.
 #![tactic(auto)]
 
-ghost use Rattle.std.specs.Prelude.{◌≡◌, ◌+◌, ◌<◌, ◌^◌, length};
+ghost use Rattle.std.specs.Prelude.{◌≡◌};
 ghost use Rattle.noise_duel.specs.Clash.{clash, first_clash};
 ghost use Rattle.noise_duel.specs.Entries.{bytes_of};
 
@@ -14,19 +14,6 @@ fn is_clash(left: &[u8], right: &[u8]) -> bool
     left != right && Sha256::digest(left) == Sha256::digest(right)
 }
 
-// The first position at which the texts clash, counted from this one.
-fn clash_from(position: usize, left: &[Vec<u8>], right: &[Vec<u8>]) -> Option<usize>
-    requires { position + length left.now < 2 ^ 64 }
-    ensures { result ≡ first_clash position (bytes_of left.now) (bytes_of right.now) }
-{
-    let (text, lefts) = left.split_first()?;
-    let (other, rights) = right.split_first()?;
-    if is_clash(text, other) {
-        return Some(position);
-    }
-    clash_from(position + 1, lefts, rights)
-}
-
 /// The first position, counted from 0, at which two lists have different texts with one SHA-256 digest. None where there is none.
 ///
 /// It is the position that `run_apart` speaks of, where the lists are those of the texts whose digests were the handshake hash of each party, the first one
@@ -34,5 +21,11 @@ fn clash_from(position: usize, left: &[Vec<u8>], right: &[Vec<u8>]) -> Option<us
 pub fn find_clash(left: &[Vec<u8>], right: &[Vec<u8>]) -> Option<usize>
     ensures { result ≡ first_clash 0 (bytes_of left.now) (bytes_of right.now) }
 {
-    clash_from(0, left, right)
+    let count = left.len().min(right.len());
+    for position in 0..count {
+        if is_clash(&left[position], &right[position]) {
+            return Some(position);
+        }
+    }
+    None
 }

@@ -1,11 +1,12 @@
 //! A run of two ends of unequal prologues, which no vector file describes.
 
 use super::support::end;
-use noise_conversation::run_apart;
+use noise_conversation::{find_clash, run_apart};
 use noise_duel::{Cuts, Duel, Event};
 use noise_handshake::XorKeys;
 use noise_names::Role;
 use noise_session::End;
+use sha2::{Digest, Sha256};
 use std::alloc::Global;
 use std::process::Abort;
 
@@ -41,4 +42,27 @@ fn refuses_another_prologue(rt: HostRuntime) {
     let (_, report) = ran.expect(&rt, "memory");
     let text = format!(in alloc; "{:?}", report.entries).expect(&rt, "memory");
     assert!(rt; text.as_str() == TOLD);
+}
+
+// The texts that a party of NN hashes as it mixes these pieces, the first one first (MixHash; Noise, 5.2).
+fn hashed(rt: &impl Abort, alloc: Global, pieces: &[&[u8]]) -> Vec<Vec<u8>> {
+    let mut hash = *b"Noise_NN_25519_ChaChaPoly_SHA256";
+    let mut texts = Vec::new(alloc);
+    for piece in pieces {
+        let mut text = Vec::from_slice(alloc, &hash).expect(rt, "memory");
+        text.extend_from_slice(piece).expect(rt, "memory");
+        hash = Sha256::digest(&text);
+        texts.push(text).expect(rt, "memory");
+    }
+    texts
+}
+
+// Each text of one of the two differs from that of the other, and so does each digest.
+#[test]
+fn no_clash_is_known(rt: HostRuntime) {
+    let alloc = rt.alloc();
+    let first = hashed(&rt, alloc, &[b"", &[0x11; 32], b"\x07"]);
+    let second = hashed(&rt, alloc, &[b"other", &[0x11; 32], b"\x07"]);
+    assert!(rt; find_clash(&first, &second).is_none());
+    assert!(rt; find_clash(&first, &first).is_none());
 }
