@@ -1,5 +1,5 @@
 -- Parts of a buffer.
-use Rattle.std.proofs.Common.{◌≡◌, ℕ, suc, ◌+◌, ◌-◌, ◌/◌, ◌%◌, ◌≤◌, List, ◌∷◌, ◌++◌, length, take, drop, arith, rules, refl, sym, ◌∙◌, ap}
+use Rattle.std.proofs.Common.{◌≡◌, ℕ, ◌+◌, ◌-◌, ◌≤◌, List, ◌++◌, length, take, drop, arith, rules, refl, sym, ◌∙◌, ap}
 use Rattle.std.proofs.Common.{length-drop, length-append}
 use Rattle.std.proofs.lemmas.List.{take-append-drop, places, same_lists, drop_at, drop-drop, take_rest, length-take-le, nil_from_length, append-nil}
 use borrow.Rule.Slice.PartMut.{put_mid}
@@ -58,21 +58,22 @@ after_two out written two =
     drop_at (take 2 out) (written ++ post) 2 (length-take-le 2 out two)
     ∙ (ap (λ (p : List ℕ). written ++ p) (nil_from_length post none) ∙ append-nil written)
 
--- A message of n bytes was written after the first two, and its length over them.
-module _ (n : ℕ) (out written new : List ℕ) (two : 2 ≤ length out)
-    (is : new ≡ (n / 256 % 256) ∷ (n % 256) ∷ drop 2 (put_mid 2 (length out - 2) out written)) where
-  over_two : new ≡ (n / 256 % 256) ∷ (n % 256) ∷ written
-  over_two = is ∙ ap (λ (xs : List ℕ). (n / 256 % 256) ∷ (n % 256) ∷ xs) (after_two out written two)
+-- A message of n bytes was written after the first two, and the frame's length over them.
+module _ (n k : ℕ) (out written new : List ℕ) (two : 2 ≤ length out) (whole : k ≡ n + 2) where
+  over_two : drop 2 new ≡ drop 2 (put_mid 2 (length out - 2) out written) → drop 2 new ≡ written
+  over_two is = is ∙ after_two out written two
 
-  pub written_rest : drop n written ≡ drop n (take (length out - 2) (drop 2 out)) → drop (2 + n) new ≡ drop (2 + n) out
-  written_rest rest =
-      sym (drop-drop n 2 new)
-      ∙ (ap (λ (xs : List ℕ). drop n (drop 2 xs)) over_two ∙ (rest ∙ (ap (drop n) (take_rest out 2) ∙ drop-drop n 2 out)))
+  pub framed_rest : drop 2 new ≡ drop 2 (put_mid 2 (length out - 2) out written)
+      → drop n written ≡ drop n (take (length out - 2) (drop 2 out)) → drop k new ≡ drop k out
+  framed_rest is rest =
+      let count : k ≡ 2 + n = omega arith in
+      ap (λ (j : ℕ). drop j new) count
+      ∙ (sym (drop-drop n 2 new)
+      ∙ (ap (drop n) (over_two is)
+      ∙ (rest ∙ (ap (drop n) (take_rest out 2) ∙ (drop-drop n 2 out ∙ ap (λ (j : ℕ). drop j out) (sym count))))))
 
-  pub written_frame : n ≤ length written → take (2 + n) new ≡ frame (take n written)
-  written_frame within =
-      let two_more : 2 + n ≡ suc (suc n) = omega arith in
-      ap (take (2 + n)) over_two ∙ rw (two_more, length-take-le n written within) refl
+  pub framed : take k new ≡ frame (take n (drop 2 (put_mid 2 (length out - 2) out written))) → take k new ≡ frame (take n written)
+  framed is = is ∙ ap (λ (xs : List ℕ). frame (take n xs)) (after_two out written two)
 
 -- what is left after the first bytes of a buffer holds a message
 pub room-after : (out : List ℕ) (m from : ℕ) → 2 + m ≤ length out → from ≤ 2 → m ≤ length (take (length out - from) (drop from out))
@@ -80,7 +81,12 @@ room-after out m from room low =
     let rest : take (length out - from) (drop from out) ≡ drop from out = take_rest out from in
     omega (arith, ap length rest, length-drop from out)
 
--- what is written after the first two bytes leaves them there
-pub two-left : (out written : List ℕ) → 2 ≤ length out → 2 ≤ length (put_mid 2 (length out - 2) out written)
-two-left out written two =
-    omega (arith, length-append (take 2 out) (written ++ drop (length out - 2) (drop 2 out)), length-take-le 2 out two)
+-- what is written after the first two bytes leaves room for the whole
+pub room-left : (n : ℕ) (out written : List ℕ) → 2 ≤ length out → n ≤ length written → n + 2 ≤ length (put_mid 2 (length out - 2) out written)
+room-left n out written two within =
+    omega (
+      arith,
+      length-append (take 2 out) (written ++ drop (length out - 2) (drop 2 out)),
+      length-append written (drop (length out - 2) (drop 2 out)),
+      length-take-le 2 out two,
+    )

@@ -11,6 +11,7 @@ mod draining;
 mod end;
 mod faults;
 mod filling;
+mod framing;
 mod incoming;
 mod laws;
 mod outcome;
@@ -37,6 +38,7 @@ pub use datagram_sender::DatagramSender;
 pub use datagrams::Datagrams;
 pub use end::End;
 pub use faults::{OpenFault, ReceiveFault, SendFault};
+pub use framing::frame_message;
 pub use laws::{
     accepted_exactly, cuts_alike, end_is_told, sent_once, taken_once, written_is_taken,
 };

@@ -93,6 +93,20 @@ impl Receiver {
         self.cipher
     }
 
+    /// The role of this party.
+    pub fn role(&self) -> Role
+        ensures { result ≡ self.now.role }
+    {
+        self.role
+    }
+
+    /// Whether only the initiator writes (Noise, 7.4).
+    pub fn one_way(&self) -> bool
+        ensures { result ≡ self.now.one_way }
+    {
+        self.one_way
+    }
+
     /// The nonce of the next message that is opened.
     pub fn nonce(&self) -> u64
         ensures { result ≡ self.now.nonce }

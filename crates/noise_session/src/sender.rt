@@ -1,13 +1,16 @@
 //! The sending half of a transport (Noise, 5.2 and 11.3).
 #![tactic(auto)]
 
-ghost use Rattle.std.specs.Prelude.{◌≡◌, ◌≤◌, ◌+◌, [], length, take, drop, None, Err, IsOk, IsSome, IfOk, OnOk, OnErr, MatchOption};
+ghost use Rattle.std.specs.Prelude.{◌≡◌, ◌≤◌, ◌<◌, ◌+◌, [], length, take, drop, None, Err, IsOk, IsSome, IfOk, OnOk, OnErr, MatchOption};
 ghost use Rattle.noise_state.specs.Cipher.{key_in, nonce_in};
 ghost use Rattle.noise_state.specs.History.{ciphertext_under};
+ghost use Rattle.noise_session.specs.Frames.{frame};
 ghost use Rattle.noise_session.specs.Halves.{sender_fault};
 ghost use Rattle.noise_session.specs.HeldTransport.{TransportView, SenderStands, next_packet, renewed_key};
 ghost use Rattle.noise_session.specs.Parts.{half_in};
+ghost use Rattle.noise_session.specs.Transport.{last_nonce};
 
+use crate::framing::frame_message;
 use crate::parts::key_and_nonce;
 use crate::renewal::renew;
 use crate::{HalfParts, SendFault};
@@ -100,13 +103,15 @@ impl Sender {
         self.cipher
     }
 
-    pub(crate) fn role(&self) -> Role
+    /// The role of this party.
+    pub fn role(&self) -> Role
         ensures { result ≡ self.now.role }
     {
         self.role
     }
 
-    pub(crate) fn one_way(&self) -> bool
+    /// Whether only the initiator writes (Noise, 7.4).
+    pub fn one_way(&self) -> bool
         ensures { result ≡ self.now.one_way }
     {
         self.one_way
@@ -134,7 +139,8 @@ impl Sender {
 
     // Why a payload of this length isn't sealed now.
     fn refusal(&self, payload_len: usize) -> Option<SendFault>
-        ensures { result ≡ sender_fault self.now payload_len }
+        ensures fault { result ≡ sender_fault self.now payload_len }
+        ensures below { result ≡ None → self.now.nonce < last_nonce }
     {
         if self.one_way && self.role == Role::Responder {
             return Some(SendFault::OneWay);
@@ -155,6 +161,7 @@ impl Sender {
     pub fn seal(&mut self, payload: &[u8], out: &mut [u8]) -> Result<usize, SendFault>
         requires { sender_fault self.old (length payload.now) ≡ None → length payload.now + 16 ≤ length out.old }
         ensures fault { MatchOption (sender_fault self.old (length payload.now)) (IsOk result) (λ fault. result ≡ Err fault) }
+        ensures below { OnOk result (self.old.nonce < last_nonce) }
         ensures len { IfOk result (λ n. (n ≡ length payload.now + 16) × (n ≤ length out.new)) }
         ensures rest { IfOk result (λ n. drop n out.new ≡ drop n out.old) }
         ensures counted { OnOk result (self.new ≡ record self.old { key = self.new.key; nonce = self.old.nonce + 1 }) }
@@ -182,6 +189,7 @@ impl Sender {
     ) -> Result<usize, SendFault>
         requires { sender_fault self.old payload_len ≡ None → payload_len + 16 ≤ length buffer.old }
         ensures fault { MatchOption (sender_fault self.old payload_len) (IsOk result) (λ fault. result ≡ Err fault) }
+        ensures below { OnOk result (self.old.nonce < last_nonce) }
         ensures len { IfOk result (λ n. (n ≡ payload_len + 16) × (n ≤ length buffer.new)) }
         ensures rest { IfOk result (λ n. drop n buffer.new ≡ drop n buffer.old) }
         ensures counted { OnOk result (self.new ≡ record self.old { key = self.new.key; nonce = self.old.nonce + 1 }) }
@@ -199,6 +207,32 @@ impl Sender {
                 renew(&mut self.cipher, self.interval);
                 Ok(len)
             }
+            Err(_) => unreachable!(),
+        }
+    }
+
+    /// Seals a payload as a frame into the first bytes of `out`, 18 more than it has: the message after its length in 2 big-endian
+    /// bytes (Noise, 3 and 13). Returns how many.
+    ///
+    /// `out` holds them where the payload has at most 65519 bytes. The faults are those of `seal`.
+    pub fn seal_frame(&mut self, payload: &[u8], out: &mut [u8]) -> Result<usize, SendFault>
+        requires { sender_fault self.old (length payload.now) ≡ None → length payload.now + 18 ≤ length out.old }
+        ensures fault { MatchOption (sender_fault self.old (length payload.now)) (IsOk result) (λ fault. result ≡ Err fault) }
+        ensures below { OnOk result (self.old.nonce < last_nonce) }
+        ensures len { IfOk result (λ n. (n ≡ length payload.now + 18) × (n ≤ length out.new)) }
+        ensures rest { IfOk result (λ n. drop n out.new ≡ drop n out.old) }
+        ensures counted { OnOk result (self.new ≡ record self.old { key = self.new.key; nonce = self.old.nonce + 1 }) }
+        ensures unchanged { OnErr result ((self.new ≡ self.old) × (out.new ≡ out.old)) }
+        ensures sealed { IfOk result (λ n. take n out.new ≡ frame (ciphertext_under self.old.key self.old.nonce [] payload.now)) }
+        ensures renewed { OnOk result (self.new.key ≡ renewed_key self.old.interval (self.old.nonce + 1) self.old.key) }
+        ensures seals { (v : TransportView) → SenderStands self.old v → IfOk result (λ n.
+            (take n out.new ≡ frame (next_packet v payload.now)) × SenderStands self.new (record v { sent = v.sent + 1 })) }
+    {
+        if let Some(fault) = self.refusal(payload.len()) {
+            return Err(fault);
+        }
+        match self.seal(payload, &mut out[2..]) {
+            Ok(len) => Ok(frame_message(out, len)),
             Err(_) => unreachable!(),
         }
     }

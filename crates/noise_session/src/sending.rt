@@ -13,9 +13,9 @@ ghost use Rattle.noise_session.specs.Sending.{Sends, after_fault};
 ghost use Rattle.noise_session.specs.Faults.{ends};
 
 use crate::SendFault;
+use crate::framing::frame_message;
 use crate::incoming::Incoming;
 use crate::phase::Phase;
-use byteorder::{BigEndian, ByteOrder};
 use noise_handshake::{Keys, WriteFault};
 
 // Writes a payload as a message into the first bytes of `out`, and returns how many.
@@ -89,8 +89,7 @@ fn write_frame<K: Keys>(
 {
     let start = out.len().min(2);
     let len = write_message(phase, payload, &mut out[start..])?;
-    BigEndian::write_u16(out, len as u16);
-    Ok(2 + len)
+    Ok(frame_message(out, len))
 }
 
 // Writes a payload as a frame into the first bytes of `out`, and returns how many. Nothing is held where that ends the session.

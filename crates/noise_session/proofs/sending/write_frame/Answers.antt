@@ -1,12 +1,13 @@
-use Rattle.std.proofs.Common.{◌≡◌, ◌≤◌, ◌+◌, ◌-◌, ◌/◌, ◌%◌, ℕ, List, ◌∷◌, length, take, drop, None, Ok, Err, sym, ◌∙◌, ap, subst, arith}
+use Rattle.std.proofs.Common.{◌≡◌, ◌≤◌, ◌+◌, ◌-◌, ℕ, List, length, take, drop, None, Ok, Err, sym, ◌∙◌, ap, subst, arith}
 use Rattle.std.proofs.lemmas.Result.{err_from_is_err_and}
 use Rattle.std.specs.Option.{ForSome}
 use borrow.Rule.Slice.PartMut.{put_mid}
 use Rattle.noise_session.specs.Progress.{Progress, refusal, message_length, length_unless, frame_len_of}
 use Rattle.noise_session.specs.Ends.{progress_in}
+use Rattle.noise_session.specs.Frames.{frame}
 use Rattle.noise_session.specs.Sending.{Sends}
 use Rattle.noise_session.proofs.Making.{refused-too}
-use Rattle.noise_session.proofs.Places.{unwritten, written_frame, written_rest, room-after, two-left}
+use Rattle.noise_session.proofs.Places.{unwritten, framed, framed_rest, room-after, room-left}
 use Rattle.noise_session.proofs.sending.write_frame.Goals as goal
 
 -- a frame that is due fits
@@ -20,41 +21,50 @@ write_message-requires-clause-room g c = λ due.
     room-after out (message_length (progress_in c.args.phase.now) n) c.min-start.result
     (due-fits (progress_in c.args.phase.now) n (length out) c.requires.room due) (omega arith)
 
-pub write_u16-requires : goal.write_u16-requires
-write_u16-requires g c =
+pub frame_message-requires-clause-room : goal.frame_message-requires-clause-room
+frame_message-requires-clause-room g c =
     let n = length c.args.payload.now in
     let out = c.args.out.now in
+    let len = c.in_ok-len.len in
     let room = due-fits (progress_in c.args.phase.now) n (length out) c.requires.room c.in_ok-len.ensures.len.0 in
     let start : 2 ≡ c.min-start.result = omega arith in
-    subst (λ (k : ℕ). 2 ≤ length (put_mid k (length out - k) out c.write_message.new.out)) start (two-left out c.write_message.new.out (omega arith))
+    subst (λ (k : ℕ). len + 2 ≤ length (put_mid k (length out - k) out c.write_message.new.out)) start
+    (room-left len out c.write_message.new.out (omega arith) c.in_ok-len.ensures.len.2)
 
 pub returns-clause-ok : goal.returns-clause-ok
 returns-clause-ok g c v s =
     let n = length c.args.payload.now in
     let out = c.args.out.now in
     let len = c.in_ok-len.len in
+    let whole = c.frame_message.result in
+    let written = c.write_message.new.out in
+    let new = c.frame_message.new.out in
     let room = due-fits (progress_in c.args.phase.now) n (length out) c.requires.room c.in_ok-len.ensures.len.0 in
     let start : c.min-start.result ≡ 2 = omega arith in
-    let is : c.write_u16.new.buf ≡ (len / 256 % 256) ∷ (len % 256) ∷ drop 2 (put_mid 2 (length out - 2) out c.write_message.new.out) =
-    subst (λ (k : ℕ). c.write_u16.new.buf ≡ (len / 256 % 256) ∷ (len % 256) ∷ drop 2 (put_mid k (length out - k) out c.write_message.new.out)) start
-    c.write_u16.ensures in
-    let w = c.in_ok-len.ensures.ok v s in
-    let framed = written_frame len out c.write_message.new.out c.write_u16.new.buf (omega arith) is c.in_ok-len.ensures.len.2 in
-    (w.0, subst (λ (f : List ℕ). Sends v c.args.payload.now (Ok f) w.0) (sym framed) w.1, w.2, w.3)
+    let is : take whole new ≡ frame (take len (drop 2 (put_mid 2 (length out - 2) out written))) =
+    subst (λ (k : ℕ). take whole new ≡ frame (take len (drop 2 (put_mid k (length out - k) out written)))) start c.frame_message.ensures.frame in
+    let w = c.in_ok-len.ensures.ok v s in (
+      w.0,
+      subst (λ (f : List ℕ). Sends v c.args.payload.now (Ok f) w.0)
+          (sym (framed len whole out written new (omega arith) c.frame_message.ensures.len.0 is)) w.1,
+      w.2,
+      w.3,
+    )
 
 pub returns-clause-rest : goal.returns-clause-rest
 returns-clause-rest g c =
     let n = length c.args.payload.now in
     let out = c.args.out.now in
     let len = c.in_ok-len.len in
+    let written = c.write_message.new.out in
+    let new = c.frame_message.new.out in
     let room = due-fits (progress_in c.args.phase.now) n (length out) c.requires.room c.in_ok-len.ensures.len.0 in
     let start : c.min-start.result ≡ 2 = omega arith in
-    let is : c.write_u16.new.buf ≡ (len / 256 % 256) ∷ (len % 256) ∷ drop 2 (put_mid 2 (length out - 2) out c.write_message.new.out) =
-    subst (λ (k : ℕ). c.write_u16.new.buf ≡ (len / 256 % 256) ∷ (len % 256) ∷ drop 2 (put_mid k (length out - k) out c.write_message.new.out)) start
-    c.write_u16.ensures in
-    let rest : drop len c.write_message.new.out ≡ drop len (take (length out - 2) (drop 2 out)) =
-    subst (λ (k : ℕ). drop len c.write_message.new.out ≡ drop len (take (length out - k) (drop k out))) start c.in_ok-len.ensures.rest in
-    written_rest len out c.write_message.new.out c.write_u16.new.buf (omega arith) is rest
+    let is : drop 2 new ≡ drop 2 (put_mid 2 (length out - 2) out written) =
+    subst (λ (k : ℕ). drop 2 new ≡ drop 2 (put_mid k (length out - k) out written)) start c.frame_message.ensures.rest in
+    let rest : drop len written ≡ drop len (take (length out - 2) (drop 2 out)) =
+    subst (λ (k : ℕ). drop len written ≡ drop len (take (length out - k) (drop k out))) start c.in_ok-len.ensures.rest in
+    framed_rest len c.frame_message.result out written new (omega arith) c.frame_message.ensures.len.0 is rest
 
 pub write_message-requires-clause-due : goal.write_message-requires-clause-due
 write_message-requires-clause-due g c = c.requires.due
