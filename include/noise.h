@@ -3,8 +3,8 @@
    WHAT THE LIBRARY DOES. It runs a handshake pattern message by message. After the handshake it seals (encrypts) and opens (decrypts) transport
    messages or datagrams. It does no curve arithmetic, draws no random bytes, opens no socket and allocates no memory. The caller supplies public
    keys, computes X25519 when a call asks for it, and keeps the state in structs, the kept structs: noise_handshake, noise_transport and
-   noise_datagrams; and the halves into which the last two can be split, noise_sender and noise_receiver, noise_datagram_sender and
-   noise_datagram_receiver.
+   noise_datagrams; the halves into which the last two can be split, noise_sender and noise_receiver, noise_datagram_sender and
+   noise_datagram_receiver; and noise_cipher.
 
    THE ORDER OF CALLS
 
@@ -15,6 +15,8 @@
          noise_transport_seal, _open              as often as needed
        noise_finish_datagrams                   in place of noise_finish, for a network that loses, repeats and reorders messages
          noise_datagrams_seal, _open              as often as needed
+       noise_finish_ciphers                     in place of noise_finish, for a protocol that has a transport of its own
+         noise_cipher_encrypt, _decrypt           as often as needed
        noise_transport_split                    for a thread that sends and one that receives, each with a struct of its own
          noise_sender_seal, noise_receiver_open   as often as needed
        noise_datagrams_split                    the same for datagrams
@@ -177,10 +179,10 @@ enum noise_code {
     NOISE_WANTED = 20,             /* the call needs a result of X25519: `told` says which. Pass it to noise_answer, then repeat the call */
     NOISE_FULL = 21,               /* noise_answer: the struct has 8 answers already. No pattern needs more: see noise_answer */
 
-    /* Transport and datagrams. */
+    /* Transport, datagrams and cipher states. */
     NOISE_ONE_WAY = 22,            /* a one-way pattern (N, K, X): the responder can't seal, and the initiator can't open */
     NOISE_STRUCT = 23,             /* the kept struct holds no state that a call could have made: it wasn't started, was changed, or comes from another build */
-    NOISE_LENGTH = 24,             /* the prologue or the message has more than 65535 bytes */
+    NOISE_LENGTH = 24,             /* the prologue, the message or the associated data has more than 65535 bytes */
     NOISE_WINDOW = 25,             /* noise_finish_datagrams: the window isn't 64, 256 or 1024 */
     NOISE_RESERVED = 26,           /* the datagram has the nonce 2^64 - 1, which no datagram may have: drop it */
     NOISE_OLD = 27,                /* the datagram's nonce is below the window, which ends at the greatest nonce opened: drop it */
@@ -225,6 +227,9 @@ typedef struct { NOISE_ALIGNED unsigned char kept[56]; } noise_sender;
 typedef struct { NOISE_ALIGNED unsigned char kept[56]; } noise_receiver;
 typedef struct { NOISE_ALIGNED unsigned char kept[48]; } noise_datagram_sender;
 typedef struct { NOISE_ALIGNED unsigned char kept[192]; } noise_datagram_receiver;
+
+/* A cipher state (Noise, 5.1), for the messages that this party writes or for those that it reads. */
+typedef struct { NOISE_ALIGNED unsigned char kept[48]; } noise_cipher;
 
 /* A public key, or none if present is 0. */
 typedef struct {
@@ -448,6 +453,42 @@ uint32_t noise_datagram_sender_seal(noise_datagram_sender *s, const uint8_t *pay
     noise_told *told);
 uint32_t noise_datagram_receiver_open(noise_datagram_receiver *r, uint8_t *datagram, size_t datagram_len, noise_told *told);
 
+/* CIPHER STATES, for a protocol that has a transport of its own: its messages have associated data, name their nonces, or come in another format. */
+
+/* Returns the size of a noise_cipher, in bytes. */
+size_t noise_cipher_size(void);
+
+/* Makes the two cipher states of a handshake (Split: Noise, 5.2), once all its messages have been written or read: one to encrypt what this party
+   sends, one to decrypt what it receives, both at nonce 0. Of a one-way pattern (N, K, X) the one for the responder's messages has no key (Noise,
+   7.4): each call with it returns ONE_WAY.
+   OK · STRUCT · NOT_DONE · ENDED. At any code but OK *send and *receive are unchanged. *h is always unchanged: after OK overwrite it, and make
+   nothing else from it. */
+uint32_t noise_finish_ciphers(const noise_handshake *h, noise_cipher *send, noise_cipher *receive);
+
+/* Encrypts the text in the first text_len bytes of buffer, in place, with associated data, which isn't in the message (EncryptWithAd). Nor is the nonce.
+   OK: the message is the first told->len bytes of buffer, 16 more than the text; the bytes after it are unchanged; the next nonce is one greater ·
+   STRUCT: the struct is no cipher state, or that for receiving · ONE_WAY · LENGTH: the associated data has more than 65535 bytes · ROOM: buffer has
+   fewer bytes than the message · EXHAUSTED · TOO_LONG: the text has more than 65519 bytes. If several apply, the first is returned. At any code but
+   OK *c and buffer are unchanged. */
+uint32_t noise_cipher_encrypt(noise_cipher *c, const uint8_t *ad, size_t ad_len, uint8_t *buffer, size_t buffer_len, size_t text_len, noise_told *told);
+
+/* Decrypts a message in place (DecryptWithAd).
+   OK: the text is now the told->len bytes of message from told->from on; the next nonce is one greater · STRUCT: the struct is no cipher state, or
+   that for sending · ONE_WAY · LENGTH: the associated data has more than 65535 bytes · EXHAUSTED · TOO_LONG: the message has more than 65535 bytes ·
+   SHORT: fewer than 16 · TAG: the key, the nonce, the associated data or the message isn't that of encryption. If several apply, the first is
+   returned. At any code but OK *c and message are unchanged. */
+uint32_t noise_cipher_decrypt(noise_cipher *c, const uint8_t *ad, size_t ad_len, uint8_t *message, size_t message_len, noise_told *told);
+
+/* Replaces the key by the one that follows from it (Rekey: Noise, 11.3); the nonce stays. The other party does so between the same two messages.
+   OK · STRUCT · ONE_WAY. */
+uint32_t noise_cipher_rekey(noise_cipher *c);
+
+/* Returns the nonce of the next message, and sets it (Noise, 11.4). Never encrypt twice at one nonce with one key: whoever has both messages learns
+   how their texts differ, and can forge messages of that nonce; if it is told their texts, of every nonce that they share. When decrypting, the
+   caller refuses a nonce that was decrypted before: this library doesn't. OK · STRUCT · ONE_WAY. */
+uint32_t noise_cipher_nonce(const noise_cipher *c, uint64_t *nonce);
+uint32_t noise_cipher_set_nonce(noise_cipher *c, uint64_t nonce);
+
 /* CODES IN WORDS */
 
 /* Returns one sentence that says what a code means; for a number that is no code, that it is none. */
@@ -475,7 +516,7 @@ static inline const char *noise_text(uint32_t code) {
     case NOISE_FULL: return "The handshake holds as many results of X25519 as it can.";
     case NOISE_ONE_WAY: return "The pattern is one-way: the responder seals nothing, and the initiator opens nothing.";
     case NOISE_STRUCT: return "The struct holds no state that a call could have made.";
-    case NOISE_LENGTH: return "The prologue or the message has more than 65535 bytes.";
+    case NOISE_LENGTH: return "The prologue, the message or the associated data has more than 65535 bytes.";
     case NOISE_WINDOW: return "The window is not 64, 256 or 1024.";
     case NOISE_RESERVED: return "The datagram has the nonce that no datagram may have.";
     case NOISE_OLD: return "The datagram is older than the window.";
@@ -579,6 +620,18 @@ static inline uint32_t noise_datagram_receiver_open_inline(noise_datagram_receiv
     return noise_datagram_receiver_open(r, datagram || datagram_len ? datagram : &nothing, datagram_len, told);
 }
 
+static inline uint32_t noise_cipher_encrypt_inline(noise_cipher *c, const uint8_t *ad, size_t ad_len, uint8_t *buffer, size_t buffer_len,
+    size_t text_len, noise_told *told) {
+    uint8_t nothing[2] = {0, 0};
+    return noise_cipher_encrypt(c, ad || ad_len ? ad : nothing, ad_len, buffer || buffer_len ? buffer : nothing + 1, buffer_len, text_len, told);
+}
+
+static inline uint32_t noise_cipher_decrypt_inline(noise_cipher *c, const uint8_t *ad, size_t ad_len, uint8_t *message, size_t message_len,
+    noise_told *told) {
+    uint8_t nothing[2] = {0, 0};
+    return noise_cipher_decrypt(c, ad || ad_len ? ad : nothing, ad_len, message || message_len ? message : nothing + 1, message_len, told);
+}
+
 #define noise_start(h, pattern, pattern_len, prologue, prologue_len, setup) \
     noise_start_inline(h, pattern, pattern_len, prologue, prologue_len, setup)
 #define noise_write(h, payload, payload_len, out, out_len, told) noise_write_inline(h, payload, payload_len, out, out_len, told)
@@ -597,6 +650,9 @@ static inline uint32_t noise_datagram_receiver_open_inline(noise_datagram_receiv
 #define noise_datagram_sender_seal(s, payload, payload_len, out, out_len, told) \
     noise_datagram_sender_seal_inline(s, payload, payload_len, out, out_len, told)
 #define noise_datagram_receiver_open(r, datagram, datagram_len, told) noise_datagram_receiver_open_inline(r, datagram, datagram_len, told)
+#define noise_cipher_encrypt(c, ad, ad_len, buffer, buffer_len, text_len, told) \
+    noise_cipher_encrypt_inline(c, ad, ad_len, buffer, buffer_len, text_len, told)
+#define noise_cipher_decrypt(c, ad, ad_len, message, message_len, told) noise_cipher_decrypt_inline(c, ad, ad_len, message, message_len, told)
 
 #ifdef __cplusplus
 }

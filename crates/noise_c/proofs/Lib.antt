@@ -7,3 +7,4 @@ pub mod Starts
 pub mod Wants
 pub mod Numbers
 pub mod Opening
+pub mod Ciphering

@@ -7,3 +7,4 @@ pub mod KeptTransport
 pub mod KeptDatagrams
 pub mod KeptHalves
 pub mod KeptDatagramHalves
+pub mod KeptCipher

@@ -1,5 +1,7 @@
--- The numbers of the faults of transports and datagrams.
+-- The numbers of the faults of transports, datagrams and cipher states.
 use Rattle.std.specs.Prelude.{ℕ, Option, Some, None}
+use Rattle.noise_state.specs.declared.cipher.CipherFault.{CipherFault}
+use Rattle.noise_state.specs.declared.cipher.CipherFault.TheVariants as cipher
 use Rattle.noise_session.specs.declared.faults.SendFault.{SendFault}
 use Rattle.noise_session.specs.declared.faults.SendFault.TheVariants as unsealed
 use Rattle.noise_session.specs.declared.faults.OpenFault.{OpenFault}
@@ -33,3 +35,9 @@ datagram_code declined.OneWay = 22
 datagram_code declined.Reserved = 26
 datagram_code declined.Old = 27
 datagram_code declined.Repeated = 28
+
+abbrev pub cipher_code : CipherFault → ℕ
+cipher_code cipher.TooLong = 11
+cipher_code cipher.Short = 15
+cipher_code cipher.Tag = 16
+cipher_code cipher.Exhausted = 17

@@ -7,6 +7,7 @@ ghost use Rattle.noise_c.specs.declared.codes.TheConstants.{NAME, NAME_TAKEN, NO
 ghost use Rattle.noise_c.specs.declared.codes.TheConstants.{PSK_PLACE, REMOTE_MISSING, REMOTE_UNEXPECTED, ROOM, RULE, SHORT, STATIC_MISSING, STRUCT, TAG, TOKEN, TOO_LONG, TURN, WANTED, WANTED_PSK};
 ghost use Rattle.noise_c.specs.declared.transport_codes.TheConstants.{EXHAUSTED, NOT_DONE, OLD, ONE_WAY, REPEATED, RESERVED, WINDOW};
 ghost use Rattle.noise_c.specs.declared.marks.TheConstants.{HANDSHAKE, TRANSPORT, SENDER, RECEIVER, DATAGRAMS, DATAGRAM_SENDER, DATAGRAM_RECEIVER};
+ghost use Rattle.noise_c.specs.declared.marks.TheConstants.{SENDING_CIPHER, RECEIVING_CIPHER};
 
 /// The answers have the numbers of `include/noise.h`.
 pub fn answers_are_numbered()
@@ -60,5 +61,8 @@ pub fn marks_differ()
     ensures datagrams { DATAGRAMS ≡ 0x4e6f_0501 }
     ensures datagram_sender { DATAGRAM_SENDER ≡ 0x4e6f_0601 }
     ensures datagram_receiver { DATAGRAM_RECEIVER ≡ 0x4e6f_0701 }
-    ensures differ { IsDistinct nat_eq (HANDSHAKE ∷ TRANSPORT ∷ SENDER ∷ RECEIVER ∷ DATAGRAMS ∷ DATAGRAM_SENDER ∷ DATAGRAM_RECEIVER ∷ []) }
+    ensures sending_cipher { SENDING_CIPHER ≡ 0x4e6f_0801 }
+    ensures receiving_cipher { RECEIVING_CIPHER ≡ 0x4e6f_0901 }
+    ensures differ { IsDistinct nat_eq (HANDSHAKE ∷ TRANSPORT ∷ SENDER ∷ RECEIVER ∷ DATAGRAMS ∷ DATAGRAM_SENDER ∷ DATAGRAM_RECEIVER
+        ∷ SENDING_CIPHER ∷ RECEIVING_CIPHER ∷ []) }
 {}

@@ -5,6 +5,8 @@
 pub mod answered;
 mod asking;
 mod checking;
+mod cipher_finishing;
+mod ciphers;
 mod codes;
 mod datagram_halves;
 mod datagram_splitting;
@@ -14,6 +16,7 @@ mod halves;
 mod handshakes;
 mod held;
 mod kept;
+mod kept_cipher;
 mod kept_datagram_halves;
 mod kept_datagrams;
 mod kept_halves;

@@ -17,3 +17,7 @@ pub(crate) const DATAGRAMS: u32 = 0x4e6f_0501;
 pub(crate) const DATAGRAM_SENDER: u32 = 0x4e6f_0601;
 
 pub(crate) const DATAGRAM_RECEIVER: u32 = 0x4e6f_0701;
+
+pub(crate) const SENDING_CIPHER: u32 = 0x4e6f_0801;
+
+pub(crate) const RECEIVING_CIPHER: u32 = 0x4e6f_0901;

@@ -2,10 +2,11 @@
 #![tactic(auto)]
 
 ghost use Rattle.std.specs.Prelude.{◌≡◌};
-ghost use Rattle.noise_c.specs.TransportCodes.{seal_code, open_code, datagram_code};
+ghost use Rattle.noise_c.specs.TransportCodes.{seal_code, open_code, datagram_code, cipher_code};
 
 use crate::codes::{AGREEMENT, SHORT, TAG, TOO_LONG};
 use noise_session::{DatagramFault, OpenFault, SendFault};
+use noise_state::CipherFault;
 
 pub(crate) const EXHAUSTED: u32 = 17;
 
@@ -57,5 +58,17 @@ pub(crate) fn datagram_code(fault: DatagramFault) -> u32
         DatagramFault::Reserved => RESERVED,
         DatagramFault::Old => OLD,
         DatagramFault::Repeated => REPEATED,
+    }
+}
+
+// The number of a fault of a cipher state.
+pub(crate) fn cipher_code(fault: CipherFault) -> u32
+    ensures { result ≡ cipher_code fault }
+{
+    match fault {
+        CipherFault::TooLong => TOO_LONG,
+        CipherFault::Short => SHORT,
+        CipherFault::Tag => TAG,
+        CipherFault::Exhausted => EXHAUSTED,
     }
 }

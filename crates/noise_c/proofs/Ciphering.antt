@@ -1,0 +1,31 @@
+-- A message whose tag is wrong is no text's.
+use Rattle.std.proofs.Common.{◌≡◌, ◌≤◌, ℕ, List, length, false, true, ap, sym, ◌∙◌, refl}
+use Rattle.noise_state.specs.declared.cipher.CipherState.{CipherState}
+use Rattle.noise_state.specs.declared.cipher.CipherFault.{CipherFault}
+use Rattle.noise_state.specs.declared.cipher.CipherFault.TheVariants as cipher
+use Rattle.noise_state.specs.Cipher.{key_in, keyed_in, nonce_in, HasNonce, DecryptRefused}
+use Rattle.noise_state.specs.History.{ciphertext_under}
+use Rattle.noise_c.specs.declared.kept_cipher.NoiseCipher.{NoiseCipher}
+use Rattle.noise_c.specs.KeptCipher.{cipher_kept_in, encrypted}
+use Rattle.noise_c.specs.TransportCodes.{cipher_code}
+use Rattle.noise_c.proofs.Numbers.{other}
+use Rattle.noise_c.proofs.Finished.{contrary}
+
+-- the bytes are those of some text, and nothing else stands in the way
+abbrev Accepted : CipherState → List ℕ → List ℕ → Type 0
+Accepted c ad message = HasNonce (keyed_in c) (nonce_in c) × (length message ≤ 65535)
+    × ((plain : List ℕ) × (message ≡ ciphertext_under (key_in c) (nonce_in c) ad plain))
+
+refused : (c : CipherState) (ad message : List ℕ) (fault : CipherFault) → cipher_code fault ≡ 16
+    → DecryptRefused (keyed_in c) (nonce_in c) (length message) fault → (Accepted c ad message → false ≡ true)
+    → (text : List ℕ) → message ≡ ciphertext_under (key_in c) (nonce_in c) ad text → ⊥
+refused c ad message cipher.TooLong e r never text same = other 11 16 refl e
+refused c ad message cipher.Short e r never text same = other 15 16 refl e
+refused c ad message cipher.Exhausted e r never text same = other 17 16 refl e
+refused c ad message cipher.Tag e r never text same = contrary (never (r.0, r.1, (text, same)))
+
+pub forged : (k : NoiseCipher) (c : CipherState) (ad message : List ℕ) (fault : CipherFault) (code : ℕ) → c ≡ cipher_kept_in k → code ≡ cipher_code fault
+    → DecryptRefused (keyed_in c) (nonce_in c) (length message) fault → (Accepted c ad message → false ≡ true)
+    → code ≡ 16 → (text : List ℕ) → message ≡ encrypted k ad text → ⊥
+forged k c ad message fault code kept is r never e text same =
+    refused c ad message fault (sym is ∙ e) r never text (same ∙ ap (λ (z : CipherState). ciphertext_under (key_in z) (nonce_in z) ad text) (sym kept))
