@@ -4,7 +4,7 @@
    messages or datagrams. It does no curve arithmetic, draws no random bytes, opens no socket and allocates no memory. The caller supplies public
    keys, computes X25519 when a call asks for it, and keeps the state in structs, the kept structs: noise_handshake, noise_transport and
    noise_datagrams; the halves into which the last two can be split, noise_sender and noise_receiver, noise_datagram_sender and
-   noise_datagram_receiver; and noise_cipher.
+   noise_datagram_receiver; noise_stream_sender and noise_stream_receiver; and noise_cipher.
 
    THE ORDER OF CALLS
 
@@ -15,6 +15,8 @@
          noise_transport_seal, _open              as often as needed
        noise_finish_datagrams                   in place of noise_finish, for a network that loses, repeats and reorders messages
          noise_datagrams_seal, _open              as often as needed
+       noise_finish_stream                      in place of noise_finish, for bytes with an end, over a stream as TCP
+         noise_stream_write, _end, _read          as often as needed
        noise_finish_ciphers                     in place of noise_finish, for a protocol that has a transport of its own
          noise_cipher_encrypt, _decrypt           as often as needed
        noise_transport_split                    for a thread that sends and one that receives, each with a struct of its own
@@ -202,16 +204,24 @@ enum noise_code {
     NOISE_RULE = 39,               /* the pattern isn't valid: it breaks the rule told.rule at told.message, told.token */
 
     /* noise_write, noise_read of a handshake that was started with fewer psks than its pattern has psk tokens. */
-    NOISE_WANTED_PSK = 40          /* the call needs the psk of a psk token: pass it to noise_set_psk, then repeat the call. `told` has the other
+    NOISE_WANTED_PSK = 40,         /* the call needs the psk of a psk token: pass it to noise_set_psk, then repeat the call. `told` has the other
                                       party's static public key, if it is known */
+
+    /* Streams and frames. */
+    NOISE_END = 41,                /* the other party has ended the stream, and all of it came: no fault */
+    NOISE_MORE = 42,               /* the frame isn't complete: told.wanted says how many bytes more it needs */
+    NOISE_CLOSED = 43,             /* the stream was ended, or refused, at an earlier call */
+    NOISE_CUT = 44                 /* the connection ended before the stream did */
 };
 
 /* Sizes, in bytes. */
 enum {
     NOISE_KEY_LEN = 32,            /* a public key, a result of X25519, a psk, a handshake hash */
     NOISE_TAG_LEN = 16,            /* a transport message has so many bytes more than its payload */
+    NOISE_STREAM_OVERHEAD = 18,    /* a frame of a stream has so many bytes more than its payload: 2 of its length, 16 of the tag */
     NOISE_DATAGRAM_OVERHEAD = 24,  /* a datagram has so many bytes more than its payload: 8 of the nonce, 16 of the tag */
     NOISE_MAX_MESSAGE = 65535,     /* the longest message of a handshake or a transport; a transport's payload has at most 65519 */
+    NOISE_MAX_FRAME = 65537,       /* the longest frame of a message */
     NOISE_MAX_DATAGRAM = 65543,    /* the longest datagram; its payload has 65519 */
     NOISE_MAX_PROLOGUE = 65535,
     NOISE_MAX_PSKS = 9
@@ -227,6 +237,10 @@ typedef struct { NOISE_ALIGNED unsigned char kept[56]; } noise_sender;
 typedef struct { NOISE_ALIGNED unsigned char kept[56]; } noise_receiver;
 typedef struct { NOISE_ALIGNED unsigned char kept[48]; } noise_datagram_sender;
 typedef struct { NOISE_ALIGNED unsigned char kept[192]; } noise_datagram_receiver;
+
+/* The halves of a stream of bytes that has an end: one writes, the other reads. */
+typedef struct { NOISE_ALIGNED unsigned char kept[64]; } noise_stream_sender;
+typedef struct { NOISE_ALIGNED unsigned char kept[64]; } noise_stream_receiver;
 
 /* A cipher state (Noise, 5.1), for the messages that this party writes or for those that it reads. */
 typedef struct { NOISE_ALIGNED unsigned char kept[48]; } noise_cipher;
@@ -258,6 +272,15 @@ typedef struct {
                                       it is known before the psk token, also from the very message that is read; zeros if it isn't known */
     uint8_t remote_known;          /* WANTED_PSK: 1 if that static key is known, else 0 */
 } noise_told;
+
+/* What a call of a stream returns beside its code. */
+typedef struct {
+    size_t from;                   /* OK of noise_stream_read, noise_frame_find: where payload or message begins */
+    size_t len;                    /* OK of these: its length. OK of noise_stream_write, _end: how many bytes to send */
+    size_t used;                   /* OK, END of these: how many first bytes of the buffer aren't needed any more. OK of
+                                      noise_stream_write: how many first bytes of the payload were written */
+    size_t wanted;                 /* MORE: so many bytes more are needed, exactly once the frame's first 2 are there */
+} noise_stream_told;
 
 /* The progress of a handshake. */
 typedef struct {
@@ -453,6 +476,41 @@ uint32_t noise_datagram_sender_seal(noise_datagram_sender *s, const uint8_t *pay
     noise_told *told);
 uint32_t noise_datagram_receiver_open(noise_datagram_receiver *r, uint8_t *datagram, size_t datagram_len, noise_told *told);
 
+/* Return the size of a noise_stream_sender and of a noise_stream_receiver, in bytes. */
+size_t noise_stream_sender_size(void);
+size_t noise_stream_receiver_size(void);
+
+/* Frames, for the messages of a handshake over a stream: the length in 2 bytes, the higher first, and the message
+   (Noise, 13). noise_frame_message puts the length in front of a message that noise_write has written to buffer + 2: OK
+   · LENGTH · ROOM. noise_frame_find looks for the message at the start of a buffer: OK · MORE. */
+uint32_t noise_frame_message(uint8_t *buffer, size_t buffer_len, size_t message_len, noise_stream_told *told);
+uint32_t noise_frame_find(const uint8_t *buffer, size_t buffer_len, noise_stream_told *told);
+
+/* STREAMS: bytes in order, with an end, in frames. A stream that ends is whole: what a reader has got before END is
+   what the other party has written before noise_stream_end, whatever the network did.
+
+   Makes the two structs of a handshake whose messages have all passed. Each direction renews its key after `interval`
+   of its frames (Noise, 11.3), the same number at both parties; 0 means never. OK · STRUCT · NOT_DONE · ENDED. */
+uint32_t noise_finish_stream(const noise_handshake *h, uint64_t interval, noise_stream_sender *sender,
+    noise_stream_receiver *receiver);
+
+/* Writes the frame of the first bytes of payload, of at most 65519, to the start of out: send it, and then write the
+   rest. Of no bytes it makes none. The end is a frame of its own: send it after the last write, and only if nothing
+   went wrong. OK · STRUCT · ROOM: out has fewer than those bytes and 18 · CLOSED · ONE_WAY · EXHAUSTED. */
+uint32_t noise_stream_write(noise_stream_sender *s, const uint8_t *payload, size_t payload_len, uint8_t *out,
+    size_t out_len, noise_stream_told *told);
+uint32_t noise_stream_end(noise_stream_sender *s, uint8_t *out, size_t out_len, noise_stream_told *told);
+
+/* Opens the frame at the start of the buffer, in place. The buffer begins with the first byte that isn't used yet, and
+   can hold 65537 bytes. OK: a payload of 1 byte or more · MORE: receive more, at most told->wanted at a time if there
+   is no room for others, and call again · END · SHORT, TAG, EXHAUSTED, ONE_WAY: the stream is broken for good: close
+   the connection, and don't end your own stream · CLOSED · STRUCT. */
+uint32_t noise_stream_read(noise_stream_receiver *r, uint8_t *buffer, size_t buffer_len, noise_stream_told *told);
+
+/* Says, when the connection has ended with `left` unused bytes in the buffer, whether that cuts the stream. OK, which
+   is 0: the other party had ended it, and nothing is left · CUT · STRUCT. */
+uint32_t noise_stream_is_cut(const noise_stream_receiver *r, size_t left);
+
 /* CIPHER STATES, for a protocol that has a transport of its own: its messages have associated data, name their nonces, or come in another format. */
 
 /* Returns the size of a noise_cipher, in bytes. */
@@ -533,6 +591,10 @@ static inline const char *noise_text(uint32_t code) {
     case NOISE_ENDING: return "The line has no line feed, or there is no message.";
     case NOISE_RULE: return "The pattern is not valid.";
     case NOISE_WANTED_PSK: return "The call needs the secret of a psk token.";
+    case NOISE_END: return "The other party has ended the stream, and all of it came.";
+    case NOISE_MORE: return "The frame is not complete.";
+    case NOISE_CLOSED: return "The stream was ended or refused before.";
+    case NOISE_CUT: return "The connection ended before the stream did.";
     default: return "This number is not a code of the library.";
     }
 }
@@ -632,6 +694,32 @@ static inline uint32_t noise_cipher_decrypt_inline(noise_cipher *c, const uint8_
     return noise_cipher_decrypt(c, ad || ad_len ? ad : nothing, ad_len, message || message_len ? message : nothing + 1, message_len, told);
 }
 
+static inline uint32_t noise_frame_message_inline(uint8_t *buffer, size_t buffer_len, size_t message_len, noise_stream_told *told) {
+    uint8_t nothing = 0;
+    return noise_frame_message(buffer || buffer_len ? buffer : &nothing, buffer_len, message_len, told);
+}
+
+static inline uint32_t noise_frame_find_inline(const uint8_t *buffer, size_t buffer_len, noise_stream_told *told) {
+    const uint8_t nothing = 0;
+    return noise_frame_find(buffer || buffer_len ? buffer : &nothing, buffer_len, told);
+}
+
+static inline uint32_t noise_stream_write_inline(noise_stream_sender *s, const uint8_t *payload, size_t payload_len, uint8_t *out, size_t out_len,
+    noise_stream_told *told) {
+    uint8_t nothing[2] = {0, 0};
+    return noise_stream_write(s, payload || payload_len ? payload : nothing, payload_len, out || out_len ? out : nothing + 1, out_len, told);
+}
+
+static inline uint32_t noise_stream_end_inline(noise_stream_sender *s, uint8_t *out, size_t out_len, noise_stream_told *told) {
+    uint8_t nothing = 0;
+    return noise_stream_end(s, out || out_len ? out : &nothing, out_len, told);
+}
+
+static inline uint32_t noise_stream_read_inline(noise_stream_receiver *r, uint8_t *buffer, size_t buffer_len, noise_stream_told *told) {
+    uint8_t nothing = 0;
+    return noise_stream_read(r, buffer || buffer_len ? buffer : &nothing, buffer_len, told);
+}
+
 #define noise_start(h, pattern, pattern_len, prologue, prologue_len, setup) \
     noise_start_inline(h, pattern, pattern_len, prologue, prologue_len, setup)
 #define noise_write(h, payload, payload_len, out, out_len, told) noise_write_inline(h, payload, payload_len, out, out_len, told)
@@ -650,6 +738,11 @@ static inline uint32_t noise_cipher_decrypt_inline(noise_cipher *c, const uint8_
 #define noise_datagram_sender_seal(s, payload, payload_len, out, out_len, told) \
     noise_datagram_sender_seal_inline(s, payload, payload_len, out, out_len, told)
 #define noise_datagram_receiver_open(r, datagram, datagram_len, told) noise_datagram_receiver_open_inline(r, datagram, datagram_len, told)
+#define noise_frame_message(buffer, buffer_len, message_len, told) noise_frame_message_inline(buffer, buffer_len, message_len, told)
+#define noise_frame_find(buffer, buffer_len, told) noise_frame_find_inline(buffer, buffer_len, told)
+#define noise_stream_write(s, payload, payload_len, out, out_len, told) noise_stream_write_inline(s, payload, payload_len, out, out_len, told)
+#define noise_stream_end(s, out, out_len, told) noise_stream_end_inline(s, out, out_len, told)
+#define noise_stream_read(r, buffer, buffer_len, told) noise_stream_read_inline(r, buffer, buffer_len, told)
 #define noise_cipher_encrypt(c, ad, ad_len, buffer, buffer_len, text_len, told) \
     noise_cipher_encrypt_inline(c, ad, ad_len, buffer, buffer_len, text_len, told)
 #define noise_cipher_decrypt(c, ad, ad_len, message, message_len, told) noise_cipher_decrypt_inline(c, ad, ad_len, message, message_len, told)

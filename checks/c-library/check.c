@@ -10,6 +10,7 @@ static void check_declared_sizes(void) {
     MUST(noise_receiver_size() == sizeof(noise_receiver));
     MUST(noise_datagram_sender_size() == sizeof(noise_datagram_sender));
     MUST(noise_datagram_receiver_size() == sizeof(noise_datagram_receiver));
+    MUST(noise_stream_sender_size() == sizeof(noise_stream_sender) && noise_stream_receiver_size() == sizeof(noise_stream_receiver));
     MUST(noise_cipher_size() == sizeof(noise_cipher));
 }
 
@@ -26,6 +27,7 @@ int main(int count, char **words) {
     check_halves();
     check_datagram_halves();
     check_ciphers();
+    check_streams();
     check_changed_structs();
     check_late_secrets();
     puts("c-library: all codes, bytes and places were right");

@@ -74,6 +74,7 @@ void check_datagrams(void);
 void check_halves(void);
 void check_datagram_halves(void);
 void check_ciphers(void);
+void check_streams(void);
 void check_changed_structs(void);
 void check_late_secrets(void);
 

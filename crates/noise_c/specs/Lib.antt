@@ -8,3 +8,4 @@ pub mod KeptDatagrams
 pub mod KeptHalves
 pub mod KeptDatagramHalves
 pub mod KeptCipher
+pub mod KeptStreams

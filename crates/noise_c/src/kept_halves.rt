@@ -24,7 +24,7 @@ pub struct NoiseHalf {
 }
 
 // The parts of the half of this kind that C keeps, if a call has left it.
-fn parts_of(kept: &NoiseHalf, mark: u32) -> Option<HalfParts>
+pub(crate) fn parts_of(kept: &NoiseHalf, mark: u32) -> Option<HalfParts>
     ensures known { is_some result ≡ is_half mark kept.now }
     ensures same { IfSome result (λ parts. half_in parts ≡ half_kept_in kept.now) }
 {
@@ -43,7 +43,7 @@ fn parts_of(kept: &NoiseHalf, mark: u32) -> Option<HalfParts>
 }
 
 // How C keeps a half of this kind.
-fn kept_half(parts: HalfParts, mark: u32) -> NoiseHalf
+pub(crate) fn kept_half(parts: HalfParts, mark: u32) -> NoiseHalf
     ensures known { is_half mark result ≡ true }
     ensures same { half_kept_in result ≡ half_in parts }
 {

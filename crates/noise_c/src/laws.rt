@@ -7,7 +7,8 @@ ghost use Rattle.noise_c.specs.declared.codes.TheConstants.{NAME, NAME_TAKEN, NO
 ghost use Rattle.noise_c.specs.declared.codes.TheConstants.{PSK_PLACE, REMOTE_MISSING, REMOTE_UNEXPECTED, ROOM, RULE, SHORT, STATIC_MISSING, STRUCT, TAG, TOKEN, TOO_LONG, TURN, WANTED, WANTED_PSK};
 ghost use Rattle.noise_c.specs.declared.transport_codes.TheConstants.{EXHAUSTED, NOT_DONE, OLD, ONE_WAY, REPEATED, RESERVED, WINDOW};
 ghost use Rattle.noise_c.specs.declared.marks.TheConstants.{HANDSHAKE, TRANSPORT, SENDER, RECEIVER, DATAGRAMS, DATAGRAM_SENDER, DATAGRAM_RECEIVER};
-ghost use Rattle.noise_c.specs.declared.marks.TheConstants.{SENDING_CIPHER, RECEIVING_CIPHER};
+ghost use Rattle.noise_c.specs.declared.marks.TheConstants.{SENDING_CIPHER, RECEIVING_CIPHER, STREAM_SENDER, STREAM_RECEIVER};
+ghost use Rattle.noise_c.specs.declared.stream_codes.TheConstants.{CLOSED, CUT, END, MORE};
 
 /// The answers have the numbers of `include/noise.h`.
 pub fn answers_are_numbered()
@@ -50,6 +51,10 @@ pub fn answers_are_numbered()
     ensures ending { ENDING ≡ 38 }
     ensures rule { RULE ≡ 39 }
     ensures wanted_psk { WANTED_PSK ≡ 40 }
+    ensures end { END ≡ 41 }
+    ensures more { MORE ≡ 42 }
+    ensures closed { CLOSED ≡ 43 }
+    ensures cut { CUT ≡ 44 }
 {}
 
 /// The mark of each kind of kept struct, and that no two kinds have the same.
@@ -63,6 +68,8 @@ pub fn marks_differ()
     ensures datagram_receiver { DATAGRAM_RECEIVER ≡ 0x4e6f_0701 }
     ensures sending_cipher { SENDING_CIPHER ≡ 0x4e6f_0801 }
     ensures receiving_cipher { RECEIVING_CIPHER ≡ 0x4e6f_0901 }
+    ensures stream_sender { STREAM_SENDER ≡ 0x4e6f_0a01 }
+    ensures stream_receiver { STREAM_RECEIVER ≡ 0x4e6f_0b01 }
     ensures differ { IsDistinct nat_eq (HANDSHAKE ∷ TRANSPORT ∷ SENDER ∷ RECEIVER ∷ DATAGRAMS ∷ DATAGRAM_SENDER ∷ DATAGRAM_RECEIVER
-        ∷ SENDING_CIPHER ∷ RECEIVING_CIPHER ∷ []) }
+        ∷ SENDING_CIPHER ∷ RECEIVING_CIPHER ∷ STREAM_SENDER ∷ STREAM_RECEIVER ∷ []) }
 {}

@@ -21,3 +21,7 @@ pub(crate) const DATAGRAM_RECEIVER: u32 = 0x4e6f_0701;
 pub(crate) const SENDING_CIPHER: u32 = 0x4e6f_0801;
 
 pub(crate) const RECEIVING_CIPHER: u32 = 0x4e6f_0901;
+
+pub(crate) const STREAM_SENDER: u32 = 0x4e6f_0a01;
+
+pub(crate) const STREAM_RECEIVER: u32 = 0x4e6f_0b01;
