@@ -31,6 +31,17 @@ none-there p b is on =
 pub some-there : (p : List ℕ) (b : Bool) → b ≡ (length p == 0) → b ≡ false → p ≢ []
 some-there p b is off e = both b (is ∙ ap (λ (xs : List ℕ). length xs == 0) e) off
 
+-- whether the next nonce is the end's
+pub last-there : (n : ℕ) (b : Bool) → b ≡ (n + 1 == last_nonce) → b ≡ true → n + 1 ≡ last_nonce
+last-there n b is on =
+    let told : (n + 1 == last_nonce) ≡ true = sym is ∙ on in
+    grind (arith, nat_tests)
+
+pub below-last : (m n : ℕ) (b : Bool) → m ≡ n → b ≡ (n + 1 == last_nonce) → b ≡ false → m < last_nonce → m + 1 < last_nonce
+below-last m n b same is off low =
+    let told : (n + 1 == last_nonce) ≡ false = sym is ∙ off in
+    grind (arith, nat_tests)
+
 pub asks-some : (p : List ℕ) → p ≢ [] → ToWrite p ≢ ToWrite []
 asks-some p some e = some cc
 

@@ -12,6 +12,7 @@ pub record Begins (buffer message : List ℕ) : Type 0 where
 
 -- What is told of a buffer: how many bytes more its frame wants, or where the message of its frame lies.
 abbrev pub Frames : List ℕ → Framed → Type 0
-Frames buffer (framed.Wants count) = IsPartial buffer × (count ≡ frame_length buffer - length buffer) × (1 ≤ count) × (count ≤ 65535)
+Frames buffer (framed.Wants count) = IsPartial buffer × (count ≡ frame_length buffer - length buffer) × (1 ≤ count)
+    × (count ≤ 65535)
 Frames buffer (framed.Message from to) =
     (from ≡ 2) × (from ≤ to) × (to ≤ length buffer) × (to ≤ 65537) × Begins buffer (slice_range buffer from to)

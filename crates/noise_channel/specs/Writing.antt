@@ -1,5 +1,6 @@
 -- What a call of a writer puts on a stream, and what its calls put there together.
-use Rattle.std.specs.Prelude.{◌≡◌, ◌≢◌, ℕ, ◌+◌, ◌<◌, ◌==◌, List, [], ◌∷◌, ◌++◌, length, take, min, Bool, true, false, Result, Ok, Err, if◌then◌else◌}
+use Rattle.std.specs.Prelude.{◌≡◌, ◌≢◌, ℕ, ◌+◌, ◌<◌, ◌==◌, List, [], ◌∷◌, ◌++◌, length, take, min, Bool, true, false}
+use Rattle.std.specs.Prelude.{Result, Ok, Err, if◌then◌else◌}
 use Rattle.noise_session.specs.Transport.{last_nonce}
 use Rattle.noise_channel.specs.declared.fault.StreamFault.{StreamFault}
 use Rattle.noise_channel.specs.declared.fault.StreamFault.TheVariants as fault
@@ -24,12 +25,18 @@ pub data Put : Type 0 where
 abbrev pub taken_from : List ℕ → ℕ
 taken_from payload = min (length payload) 65519
 
--- One call. An empty payload is nothing, and no end; each other one, and the end, is a frame at the next nonce, of which the last is left for the end.
+abbrev pub first_part : List ℕ → List ℕ
+first_part payload = take (taken_from payload) payload
+
+-- One call. An empty payload is nothing, and no end; each other one, and the end, is a frame at the next nonce, of
+-- which the last is left for the end.
 pub data Writes : Direction → WriterState → Asked → Put → WriterState → Type 0 where
   skips : (d : Direction) (n : ℕ) → Writes d (Speaks n) (ToWrite []) (Wrote 0 []) (Speaks n)
   writes : (d : Direction) (n : ℕ) (payload : List ℕ) → payload ≢ [] → d.silent ≡ false → n + 1 < last_nonce
-      → Writes d (Speaks n) (ToWrite payload) (Wrote (taken_from payload) (frame_at d n (take (taken_from payload) payload))) (Speaks (n + 1))
-  ends : (d : Direction) (n : ℕ) → d.silent ≡ false → n < last_nonce → Writes d (Speaks n) ToEnd (Wrote 0 (frame_at d n [])) HasEnded
+      → Writes d (Speaks n) (ToWrite payload) (Wrote (taken_from payload) (frame_at d n (first_part payload)))
+      (Speaks (n + 1))
+  ends : (d : Direction) (n : ℕ) → d.silent ≡ false → n < last_nonce
+      → Writes d (Speaks n) ToEnd (Wrote 0 (frame_at d n [])) HasEnded
   one_way : (d : Direction) (n : ℕ) (asked : Asked) → asked ≢ ToWrite [] → d.silent ≡ true
       → Writes d (Speaks n) asked (Failed fault.OneWay) (Speaks n)
   exhausted : (d : Direction) (n : ℕ) (payload : List ℕ) → payload ≢ [] → d.silent ≡ false → n + 1 ≡ last_nonce
@@ -53,7 +60,8 @@ pub record Call : Type 0 where
 -- Calls of one writer, in order.
 pub data WritesAll : Direction → WriterState → List Call → WriterState → Type 0 where
   stops : (d : Direction) (s : WriterState) → WritesAll d s [] s
-  goes_on : (d : Direction) (s t u : WriterState) (asked : Asked) (put : Put) (more : List Call) → Writes d s asked put t → WritesAll d t more u
+  goes_on : (d : Direction) (s t u : WriterState) (asked : Asked) (put : Put) (more : List Call)
+      → Writes d s asked put t → WritesAll d t more u
       → WritesAll d s (record { asked = asked; put = put } ∷ more) u
 
 -- the bytes that calls put out

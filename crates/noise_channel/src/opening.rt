@@ -8,23 +8,27 @@ ghost use Rattle.noise_session.specs.HeldTransport.{TransportView, ReceiverStand
 
 use noise_session::{OpenFault, Receiver};
 
-// Opens the message of the frame of `whole` bytes that the buffer begins with, in place, and returns the payload's length.
+// Opens the message of the frame of `whole` bytes that the buffer begins with, in place, and returns the payload's
+// length.
 pub(crate) fn open_frame(
     receiver: &mut Receiver,
     buffer: &mut [u8],
     whole: usize,
 ) -> Result<usize, OpenFault>
     requires range { (2 ≤ whole) × (whole ≤ 65537) × (whole ≤ length buffer.old) }
-    ensures fault { MatchOption (receiver_fault receiver.old) (IfErr result (λ fault. fault ≡ no_packet (whole - 2))) (λ fault. result ≡ Err fault) }
+    ensures fault { MatchOption (receiver_fault receiver.old)
+        (IfErr result (λ fault. fault ≡ no_packet (whole - 2))) (λ fault. result ≡ Err fault) }
     ensures len { IfOk result (λ n. n + 18 ≡ whole) }
     ensures before { take 2 buffer.new ≡ take 2 buffer.old }
     ensures beyond { IfOk result (λ n. drop (2 + n) buffer.new ≡ drop (2 + n) buffer.old) }
-    ensures counted { OnOk result (receiver.new ≡ record receiver.old { key = receiver.new.key; nonce = receiver.old.nonce + 1 }) }
+    ensures counted { OnOk result
+        (receiver.new ≡ record receiver.old { key = receiver.new.key; nonce = receiver.old.nonce + 1 }) }
     ensures unchanged { OnErr result ((receiver.new ≡ receiver.old) × (buffer.new ≡ buffer.old)) }
     ensures opens { (v : TransportView) → ReceiverStands receiver.old v → MatchResult result
         (λ n. (slice_range buffer.old 2 whole ≡ due_packet v (slice_range buffer.new 2 (2 + n)))
         × ReceiverStands receiver.new (record v { received = v.received + 1 }))
-        (λ _. receiver_fault receiver.old ≡ None → (payload : List ℕ) → slice_range buffer.old 2 whole ≢ due_packet v payload) }
+        (λ _. receiver_fault receiver.old ≡ None → (payload : List ℕ)
+        → slice_range buffer.old 2 whole ≢ due_packet v payload) }
 {
     receiver.open_within(&mut buffer[2..whole])
 }

@@ -1,0 +1,101 @@
+-- What a reader has given out, once it has met the end and nothing is left.
+use Rattle.std.proofs.Common.{◌≡◌, ◌⊎◌, inl, inr, ℕ, ◌+◌, ◌-◌, List, [], ◌++◌, length, take, drop, Bool, true, false, not, refl, sym, ◌∙◌, ap, subst, append-nil}
+use Rattle.std.proofs.lemmas.List.{drop-drop, nil_from_length, take_rest}
+use Rattle.noise_session.specs.HeldTransport.{TransportView}
+use Rattle.noise_channel.specs.declared.next.StreamState.TheVariants as reading
+use Rattle.noise_channel.specs.Streams.{Direction, incoming, outgoing}
+use Rattle.noise_channel.specs.Writing.{WriterState, Call, WritesAll, payloads_taken, has_ended}
+use Rattle.noise_channel.specs.Writing.WriterState.{Speaks}
+use Rattle.noise_channel.specs.declared.next.Next.{Next}
+use Rattle.noise_channel.specs.declared.next.Next.TheVariants as next
+use Rattle.noise_channel.specs.Reading.{ReaderState, Given, Reads, Leaves, given}
+use Rattle.noise_channel.specs.Reading.Given.{Wants, Refused, Closed}
+use Rattle.noise_channel.specs.Reading.ReaderState.{Listens, AtEnd, Broken}
+use Rattle.noise_channel.specs.Halves.{HeldReader, ReaderStands}
+use Rattle.noise_channel.specs.Runs.{Run, ForgedAt, uses, payloads, sealed_on}
+use Rattle.noise_channel.specs.Runs.Run.{arrives, calls, stops}
+use Rattle.noise_channel_agreement.specs.Agreement.{IsWholeOrForged}
+
+-- what follows a payload's frame is as it came
+pub after-used : (to used : ℕ) (old new : List ℕ) → to + 16 ≡ used → drop to new ≡ drop to old → drop used new ≡ drop used old
+after-used to used old new is same =
+    subst (λ (k : ℕ). drop k new ≡ drop k old) is (sym (drop-drop 16 to new) ∙ ap (drop 16) same ∙ drop-drop 16 to old)
+
+-- the rest of the buffer
+pub rest-of : (used : ℕ) (old new : List ℕ) → drop used new ≡ drop used old → take (length new - used) (drop used new) ≡ drop used old
+rest-of used old new same = take_rest new used ∙ same
+
+-- what reading on comes to, from one call to the next
+abbrev pub ReadsOn : TransportView → ReaderState → List ℕ → ℕ → HeldReader → Type 0
+ReadsOn v s came count after =
+    (out : List (List ℕ)) × (left : List ℕ) × (t : ReaderState) × Run (incoming v) s came [] out t left × (length left ≡ count) × ReaderStands after v t
+
+-- a call that used a frame
+pub goes-further : (v : TransportView) (s : ReaderState) (came rest : List ℕ) (g : Given) (count : ℕ) (mid after : HeldReader)
+    → (t : ReaderState) × Reads (incoming v) s came g t × ReaderStands mid v t → rest ≡ drop (uses g) came
+    → ((t : ReaderState) → ReaderStands mid v t → ReadsOn v t rest count after) → ReadsOn v s came count after
+goes-further v s came rest g count mid after call same later =
+    let o = later call.0 call.2 in (
+      payloads g ++ o.0,
+      o.1,
+      o.2,
+      calls (incoming v) s call.0 o.2 came [] o.1 g o.0 call.1 (subst (λ (bytes : List ℕ). Run (incoming v) call.0 bytes [] o.0 o.2 o.1) same o.3),
+      o.4,
+      o.5,
+    )
+
+-- a call that used nothing
+module _ (v : TransportView) (s : ReaderState) (came new : List ℕ) (after : HeldReader) where
+  stays : (g : Given) → uses g ≡ 0 → payloads g ≡ [] → new ≡ came → (t : ReaderState) × Reads (incoming v) s came g t × ReaderStands after v t
+      → ReadsOn v s came (length new) after
+  stays g none nothing same call =
+      let run : Run (incoming v) s came [] (payloads g ++ []) call.0 came =
+      calls (incoming v) s call.0 call.0 came [] came g [] call.1
+      (subst (λ (k : ℕ). Run (incoming v) call.0 (drop k came) [] [] call.0 came) (sym none) (stops (incoming v) call.0 came)) in
+      ([], came, call.0, subst (λ (ps : List (List ℕ)). Run (incoming v) s came [] (ps ++ []) call.0 came) nothing run, ap length (sym same), call.2)
+
+  pub stops-there : (r : Next) → ((from to used : ℕ) → r ≡ next.Payload from to used → ⊥) → ((used : ℕ) → r ≡ next.End used → ⊥)
+      → Leaves came new r → (t : ReaderState) × Reads (incoming v) s came (given new r) t × ReaderStands after v t → ReadsOn v s came (length new) after
+  stops-there (next.Wants count) some none left call = stays (Wants count) refl refl left.0 call
+  stops-there (next.Payload from to used) some none left call = absurd (some from to used refl)
+  stops-there (next.End used) some none left call = absurd (none used refl)
+  stops-there (next.Refused cause) some none left call = stays (Refused cause) refl refl left call
+  stops-there next.Closed some none left call = stays Closed refl refl left call
+
+ended-as : (r : HeldReader) (w : TransportView) (t : ReaderState) → r.state ≡ reading.Ended → ReaderStands r w t → t ≡ AtEnd
+ended-as r w (Listens n) is stands = absurd (let e : reading.Ended ≡ reading.Open = sym is ∙ stands.0 in cc)
+ended-as r w AtEnd is stands = refl
+ended-as r w Broken is stands = absurd (let e : reading.Ended ≡ reading.Broken = sym is ∙ stands in cc)
+
+-- bytes that stand in the buffer came there at once
+came-at-once : (d : Direction) (s t : ReaderState) (came left : List ℕ) (out : List (List ℕ)) → Run d s came [] out t left → Run d s [] came out t left
+came-at-once d s t came left out run =
+    subst (λ (bytes : List ℕ). Run d s [] bytes out t left) (append-nil came) (arrives d s t [] came [] left out run)
+
+pub was-off : (b : Bool) → not b ≡ true → b ≡ false
+was-off true e = let f : false ≡ true = e in cc
+was-off false e = refl
+
+abbrev pub Whole : TransportView → TransportView → List Call → WriterState → List ℕ → Type 0
+Whole v w made u came =
+    (out : List (List ℕ)) × Run (incoming w) (Listens 0) [] came out AtEnd []
+    × (((out ≡ payloads_taken made) × (has_ended u ≡ true))
+    ⊎ ((i : ℕ) × ForgedAt (outgoing v) 0 (sealed_on (payloads_taken made) (has_ended u)) (sealed_on out true) came i))
+
+pub whole : (v w : TransportView) (made : List Call) (u : WriterState) (came left : List ℕ) (out : List (List ℕ)) (t : ReaderState) (r : HeldReader)
+    → IsWholeOrForged v w → WritesAll (outgoing v) (Speaks 0) made u → Run (incoming w) (Listens 0) came [] out t left → length left ≡ 0
+    → r.state ≡ reading.Ended → ReaderStands r w t → Whole v w made u came
+whole v w made u came left out t r agrees all run none ended stands =
+    (out, over, elim (agrees made u came [] out AtEnd all over) [ inl h ↦ inl (written h) | inr h ↦ inr (h.0, h.2) ])
+  where
+    over : Run (incoming w) (Listens 0) [] came out AtEnd []
+    over =
+        subst (λ (s : ReaderState). Run (incoming w) (Listens 0) [] came out s []) (ended-as r w t ended stands)
+        (subst (λ (bytes : List ℕ). Run (incoming w) (Listens 0) [] came out t bytes) (nil_from_length left none)
+        (came-at-once (incoming w) (Listens 0) t came left out run))
+
+    written : ((more : List (List ℕ)) × (payloads_taken made ≡ out ++ more) × (AtEnd ≡ AtEnd → (more ≡ []) × (has_ended u ≡ true)))
+        → (out ≡ payloads_taken made) × (has_ended u ≡ true)
+    written h =
+        let e = h.2 refl in
+        (sym (h.1 ∙ ap (λ (ps : List (List ℕ)). out ++ ps) e.0 ∙ append-nil out), e.1)

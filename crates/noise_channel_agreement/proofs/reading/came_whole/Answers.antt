@@ -1,0 +1,10 @@
+use Rattle.std.proofs.Common.{◌∙◌}
+use Rattle.noise_channel.specs.Reading.ReaderState.{Listens}
+use Rattle.noise_channel_agreement.proofs.Wholly.{whole, was-off}
+use Rattle.noise_channel_agreement.proofs.reading.came_whole.Goals as goal
+
+pub returns : goal.returns
+returns c v w asked u agrees stands all told =
+    let o = c.read_all-left.ensures.run w (Listens 0) stands in
+    let over = c.is_cut.ensures.0 (was-off c.is_cut.result told) in
+    whole v w asked u c.args.came.now o.1 o.0 o.2 c.read_all-left.new.receiver agrees all o.3 (o.4 ∙ over.1) over.0 o.5
