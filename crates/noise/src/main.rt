@@ -1,7 +1,7 @@
 //! The command `noise`: handshake patterns, and two ends of a Noise session that are run on a vector file. Each call is of `noise_tool`.
 #![tactic(auto)]
 
-ghost use Rattle.std.specs.Prelude.{◌≡◌, IfErr, None};
+ghost use Rattle.std.specs.Prelude.{◌≡◌, true, IfErr, None};
 ghost use Rattle.noise_lines.specs.Faults.{status_of};
 
 use noise_tool::{Chosen, Fault, FilesByName, LineFault, Order, chosen, perform, read_file, tell};
@@ -93,6 +93,8 @@ struct Opened<'a> {
 
 impl FilesByName for Opened<'_> {
     ghost bytes_at = { λ _ _. None };
+
+    ghost unreadable = { λ _ _. true };
 
     fn read(&self, alloc: Global, name: &str) -> Result<Vec<u8>, Fault> {
         if name == "-" {

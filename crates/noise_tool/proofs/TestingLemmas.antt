@@ -1,13 +1,22 @@
 -- What comes of vector files that are tested.
-use Rattle.std.proofs.Common.{◌≡◌, ◌∙◌, refl, sym, ap, ap₂, subst, ◌⊎◌, inl, inr, ◌≢◌, ◌≤◌, ◌+◌, ◌==◌, if◌then◌else◌, ℕ, Bool, true, false, not, List, [], ◌∷◌, ◌++◌, Option, Some, None, length, arith}
-use Rattle.std.specs.Prelude.{IfErr, IfOk, IfSome, Result, Ok, Err, cond, count_by}
+use Rattle.std.proofs.Common.{◌≡◌, ◌∙◌, refl, sym, ap, ap₂, subst, ◌⊎◌, inl, inr, ◌≢◌, ◌≤◌, ◌+◌, ◌==◌, if◌then◌else◌, ℕ, Bool, true, false, not, List, [], ◌∷◌, ◌++◌, Option, Some, None, String, drop, length, string_bytes, take, append_assoc, append-nil, arith}
+use Rattle.std.specs.Prelude.{IfErr, IfOk, IfSome, IsTrue, Result, Ok, Err, cond, count_by, map}
+use Rattle.std.specs.Global.{Global}
 use Rattle.std.specs.List.{sum_by}
 use Rattle.std.specs.Io.KnownBytes.{Appends, Keeps}
 use Rattle.std.proofs.KnownBytes.{Appends-nil, Appends-trans}
-use Rattle.std.proofs.lemmas.List.{flat_map_more, map_push}
+use Rattle.std.proofs.lemmas.List.{flat_map_more, map-append, map_push, take-append-drop}
 use Rattle.std.proofs.lemmas.List.Elements.{All-nil, All-push}
 use Rattle.std.proofs.lemmas.List.Sums.{sum_by-append}
-use Rattle.noise_lines.specs.Faults.{status_of}
+use Rattle.noise_names.specs.Names.{Section}
+use Rattle.noise_names.specs.Plan.{Plan}
+use Rattle.noise_lines.specs.Faults.{of_vector, status_of}
+use Rattle.noise_lines.specs.Lines.{lines_text}
+use Rattle.noise_lines.specs.Prefixes.{AppendsPrefix}
+use Rattle.noise_lines.specs.Told.{IsToldOf, LeavesOutput, error_text}
+use Rattle.noise_lines.specs.declared.verdict.Difference.{Difference}
+use Rattle.noise_vectors.specs.declared.faults.VectorFault.{VectorFault}
+use Rattle.noise_vectors.specs.declared.faults.VectorFault.TheVariants as vector
 use Rattle.noise_lines.specs.declared.faults.Fault.{Fault}
 use Rattle.noise_lines.specs.declared.faults.Fault.TheVariants as fault
 use Rattle.noise_vectors.specs.Expectations.{bytes_of}
@@ -17,12 +26,12 @@ use Rattle.noise_vectors.specs.declared.vector.AllowedEvents.TheVariants.{Any}
 use Rattle.noise_vectors.specs.declared.vector.VectorFile.{VectorFile}
 use Rattle.noise_lines.specs.Verdicts.{IsJudged, is_met, verdict_text}
 use Rattle.noise_lines.specs.Woven.{traces_of}
-use Rattle.noise_tool.specs.Ends.{IsStartFault}
+use Rattle.noise_tool.specs.Ends.{IsPatternFault, IsStartFault}
 use Rattle.noise_tool.specs.Performing.{IsRunFault}
 use Rattle.noise_tool.specs.Running.{IsRunOf, expected_in}
 use Rattle.noise_tool.specs.Kept.{all_kept}
-use Rattle.noise_tool.specs.Testing.{HasTested, HaveTested, IsFront, IsTested, IsVerdictOn, Judged, RunsTo}
-use Rattle.noise_tool.specs.Testing.{tally_line, tested_text, verdicts_text}
+use Rattle.noise_tool.specs.Testing.{EndsTest, HasBegun, HasTested, HaveTested, IsFront, IsOfFile, IsTested, IsVerdictOn, Judged, RunsTo, TestsPrefix}
+use Rattle.noise_tool.specs.Testing.{failed_in, passed_in, tally_line, tested_text, verdicts_text}
 use Rattle.noise_tool.specs.TracedText.{front_of}
 use Rattle.noise_tool.specs.Tracing.{HasTraces}
 use Rattle.noise_tool.specs.declared.moment_lines.Kept.{Kept}
@@ -115,19 +124,30 @@ front-is true file t (CannotRun why) shown = tt
 front-is true file t ExpectsNothing shown = tt
 front-is false file t verdict shown = tt
 
-pub judged-known : (traces : Bool) (known : Option (List ℕ)) (t : Traced) (verdict : Verdict) → IfSome known (λ bytes. RunsTo traces bytes t)
-    → IsJudged (bytes_of t.outcome.lines.items) (bytes_of t.outcome.expected.items) verdict → IsVerdictOn traces known verdict (front_of verdict t)
-judged-known traces None t verdict runs judged = tt
-judged-known traces (Some bytes) t verdict runs judged = inr (record {
-  file = runs.file;
-  right = runs.right;
-  text_is = runs.text_is;
-  short = runs.short;
-  lines = bytes_of t.outcome.lines.items;
-  run = runs.run;
-  judged = subst (λ (expected : List (List ℕ)). IsJudged (bytes_of t.outcome.lines.items) expected verdict) runs.expected judged;
-  front_is = front-is traces runs.file t verdict runs.shown;
-})
+-- a verdict on lines is of the file
+judged-file : (lines expected : List (List ℕ)) (verdict : Verdict) → IsJudged lines expected verdict → IsOfFile verdict
+judged-file lines expected Met h = tt
+judged-file lines expected (Differs d) h = tt
+judged-file lines expected ExpectsNothing h = tt
+judged-file lines expected (CannotRun why) h = absurd h
+
+pub judged-known : (traces : Bool) (known : Option (List ℕ)) (unreadable : Bool) (t : Traced) (verdict : Verdict)
+    → IfSome known (λ bytes. RunsTo traces bytes t) → IsJudged (bytes_of t.outcome.lines.items) (bytes_of t.outcome.expected.items) verdict
+    → IsVerdictOn traces known unreadable verdict (front_of verdict t)
+judged-known traces None unreadable t verdict runs judged = inr (judged-file _ _ verdict judged, tt)
+judged-known traces (Some bytes) unreadable t verdict runs judged = inr (
+  judged-file _ _ verdict judged,
+  inr (record {
+    file = runs.file;
+    right = runs.right;
+    text_is = runs.text_is;
+    short = runs.short;
+    lines = bytes_of t.outcome.lines.items;
+    run = runs.run;
+    judged = subst (λ (expected : List (List ℕ)). IsJudged (bytes_of t.outcome.lines.items) expected verdict) runs.expected judged;
+    front_is = front-is traces runs.file t verdict runs.shown;
+  }),
+)
 
 -- nothing is added to a verdict on a file that isn't run
 text-unrun : (traces : Bool) (name : List ℕ) (why : Fault) (front : List (List ℕ))
@@ -135,49 +155,82 @@ text-unrun : (traces : Bool) (name : List ℕ) (why : Fault) (front : List (List
 text-unrun true name why front = refl
 text-unrun false name why front = refl
 
-pub unrun-tested : (traces : Bool) (known : Option (List ℕ)) (name : List ℕ) (a e : Option (List ℕ)) (why : Fault) (verdict : Verdict) (text : List ℕ)
-    → verdict ≡ CannotRun why → IsVerdictOn traces known verdict [] → text ≡ verdict_text name verdict → Appends a e text
-    → HasTested traces known name a e false
-unrun-tested traces known name a e why verdict text is right text_is printed = record {
+-- a fault ends the command, or is a verdict
+sort-of : (why : Fault) → EndsTest why ⊎ (why ≡ fault.Unreadable) ⊎ (status_of why ≤ 2)
+sort-of (fault.Unmet n) = inr (inr (omega arith))
+sort-of (fault.Rule f) = inr (inr (omega arith))
+sort-of (fault.Place f) = inr (inr (omega arith))
+sort-of (fault.Setup role f) = inr (inr (omega arith))
+sort-of (fault.Name f) = inr (inr (omega arith))
+sort-of fault.UnknownPattern = inr (inr (omega arith))
+sort-of (fault.Text f) = inr (inr (omega arith))
+sort-of (fault.Line n kind) = inr (inr (omega arith))
+sort-of fault.TooLong = inr (inr (omega arith))
+sort-of fault.Unreadable = inr (inl refl)
+sort-of fault.Unwritable = inl (inr refl)
+sort-of fault.Memory = inl (inl refl)
+
+-- the verdict on a file that isn't run
+pub fault-known : (traces : Bool) (known : Option (List ℕ)) (unreadable : Bool) (why : Fault) → ¬ EndsTest why
+    → (why ≡ fault.Unreadable → IsTrue unreadable) → (status_of why ≡ 3) ⊎ IfSome known (λ bytes. IsRunFault Any bytes why)
+    → IsVerdictOn traces known unreadable (CannotRun why) []
+fault-known traces known unreadable why other failed h = of-sort (sort-of why) known h
+  where
+    of-sort : EndsTest why ⊎ (why ≡ fault.Unreadable) ⊎ (status_of why ≤ 2) → (known : Option (List ℕ))
+        → (status_of why ≡ 3) ⊎ IfSome known (λ bytes. IsRunFault Any bytes why) → IsVerdictOn traces known unreadable (CannotRun why) []
+    of-sort (inl ends) known h = absurd (other ends)
+    of-sort (inr (inl is)) known h = inl (ap CannotRun is, failed is)
+    of-sort (inr (inr few)) known (inl three) = absurd (omega (arith, few, three))
+    of-sort (inr (inr few)) None (inr h) = inr (few, tt)
+    of-sort (inr (inr few)) (Some bytes) (inr h) = inr (few, inl h)
+
+pub unrun-tested : (traces : Bool) (known : Option (List ℕ)) (unreadable : Bool) (name : List ℕ) (a e : Option (List ℕ)) (why : Fault) (verdict : Verdict)
+    (text : List ℕ) → verdict ≡ CannotRun why → ¬ EndsTest why → (why ≡ fault.Unreadable → IsTrue unreadable)
+    → (status_of why ≡ 3) ⊎ IfSome known (λ bytes. IsRunFault Any bytes why) → text ≡ verdict_text name verdict → Appends a e text
+    → HasTested traces known unreadable name a e false
+unrun-tested traces known unreadable name a e why verdict text is other failed fails text_is printed = record {
   verdict = CannotRun why;
   front = [];
-  right = subst (λ (v : Verdict). IsVerdictOn traces known v []) is right;
+  right = fault-known traces known unreadable why other failed fails;
   printed = subst (λ (t : List ℕ). Appends a e t) (text_is ∙ ap (verdict_text name) is ∙ text-unrun traces name why []) printed;
   met_is = refl;
 }
 
--- no fault has another status
-status-bound : (why : Fault) → status_of why ≤ 3
-status-bound (fault.Unmet n) = omega arith
-status-bound (fault.Rule f) = omega arith
-status-bound (fault.Place f) = omega arith
-status-bound (fault.Setup role f) = omega arith
-status-bound (fault.Name f) = omega arith
-status-bound fault.UnknownPattern = omega arith
-status-bound (fault.Text f) = omega arith
-status-bound (fault.Line n kind) = omega arith
-status-bound fault.TooLong = omega arith
-status-bound fault.Unreadable = omega arith
-status-bound fault.Unwritable = omega arith
-status-bound fault.Memory = omega arith
+pub unrun-begun : (traces : Bool) (known : Option (List ℕ)) (unreadable : Bool) (name : List ℕ) (a e : Option (List ℕ)) (why : Fault) (verdict : Verdict)
+    (text : List ℕ) → verdict ≡ CannotRun why → ¬ EndsTest why → (why ≡ fault.Unreadable → IsTrue unreadable)
+    → (status_of why ≡ 3) ⊎ IfSome known (λ bytes. IsRunFault Any bytes why) → text ≡ verdict_text name verdict → AppendsPrefix a e text
+    → HasBegun traces known unreadable name a e
+unrun-begun traces known unreadable name a e why verdict text is other failed fails text_is grown = record {
+  verdict = CannotRun why;
+  front = [];
+  right = fault-known traces known unreadable why other failed fails;
+  grown = subst (λ (t : List ℕ). AppendsPrefix a e t) (text_is ∙ ap (verdict_text name) is ∙ text-unrun traces name why []) grown;
+}
 
-pub fault-known : (traces : Bool) (known : Option (List ℕ)) (why : Fault) → status_of why ≢ 3
-    → (status_of why ≡ 3) ⊎ IfSome known (λ bytes. IsRunFault Any bytes why) → IsVerdictOn traces known (CannotRun why) []
-fault-known traces known why other (inl three) = absurd (other three)
-fault-known traces None why other (inr h) = tt
-fault-known traces (Some bytes) why other (inr h) = inl (inr (omega (arith, status-bound why, other), h))
+-- a text isn't run for what it says, or for want of memory
+of_vector-read : (why : VectorFault) → ¬ (of_vector why ≡ fault.Unreadable)
+of_vector-read (vector.Line n kind) e = absurd (cc e)
+of_vector-read vector.Memory e = absurd (cc e)
 
-pub unreadable-known : (traces : Bool) (known : Option (List ℕ)) → IsVerdictOn traces known (CannotRun fault.Unreadable) []
-unreadable-known traces None = tt
-unreadable-known traces (Some bytes) = inl (inl refl)
+pub vector-read : (why : VectorFault) (f : Fault) → f ≡ of_vector why → ¬ (f ≡ fault.Unreadable)
+vector-read why f is e = of_vector-read why (sym is ∙ e)
+
+no-pattern-read : (block : Option Plan) (name : Section) → ¬ IsPatternFault block name fault.Unreadable
+no-pattern-read None name h = h
+no-pattern-read (Some pattern) name h = h
+
+pub start-read : (file : VectorFile) (result : Result Traced Fault) → IfErr result (λ why. IsStartFault file why)
+    → IfErr result (λ why. ¬ (why ≡ fault.Unreadable))
+start-read file (Ok t) h = tt
+start-read file (Err why) h = λ e. no-pattern-read file.block file.protocol (subst (IsStartFault file) e h)
 
 -- ---- several files
 
-pub none-tested : (traces : Bool) (bytes_at : List ℕ → Option (List ℕ)) (out : Option (List ℕ)) → HaveTested traces bytes_at [] out out 0 0
-none-tested traces bytes_at out = record {
+pub none-tested : (traces : Bool) (bytes_at : List ℕ → Option (List ℕ)) (unreadable : List ℕ → Bool) (out : Option (List ℕ)) → HaveTested traces bytes_at unreadable [] out out 0 0
+none-tested traces bytes_at unreadable out = record {
   verdicts = [];
   named = refl;
-  right = All-nil (λ (v : Judged). IsVerdictOn traces (bytes_at v.name) v.verdict v.front);
+  right = All-nil (λ (v : Judged). IsVerdictOn traces (bytes_at v.name) (unreadable v.name) v.verdict v.front);
   printed = Appends-nil out;
   passed_is = refl;
   failed_is = refl;
@@ -188,15 +241,15 @@ counted {X = X} p xs x =
     let last : 0 + cond (p x) 1 0 ≡ cond (p x) 1 0 = omega arith in
     sum_by-append (λ (y : X). cond (p y) 1 0) xs (x ∷ []) ∙ ap (λ (n : ℕ). sum_by (λ (y : X). cond (p y) 1 0) xs + n) last
 
-tested-more : (traces : Bool) (bytes_at : List ℕ → Option (List ℕ)) (names : List (List ℕ)) (name : List ℕ) (a m e : Option (List ℕ)) (passed failed : ℕ)
-    (met : Bool) (p f : ℕ) → HaveTested traces bytes_at names a m passed failed → HasTested traces (bytes_at name) name m e met → p ≡ passed + cond met 1 0
-    → f ≡ failed + cond (not met) 1 0 → HaveTested traces bytes_at (names ++ name ∷ []) a e p f
-tested-more traces bytes_at names name a m e passed failed met p f before one p_is f_is =
+tested-more : (traces : Bool) (bytes_at : List ℕ → Option (List ℕ)) (unreadable : List ℕ → Bool) (names : List (List ℕ)) (name : List ℕ) (a m e : Option (List ℕ)) (passed failed : ℕ)
+    (met : Bool) (p f : ℕ) → HaveTested traces bytes_at unreadable names a m passed failed → HasTested traces (bytes_at name) (unreadable name) name m e met → p ≡ passed + cond met 1 0
+    → f ≡ failed + cond (not met) 1 0 → HaveTested traces bytes_at unreadable (names ++ name ∷ []) a e p f
+tested-more traces bytes_at unreadable names name a m e passed failed met p f before one p_is f_is =
     let this : Judged = record { name = name; verdict = one.verdict; front = one.front } in
     record {
       verdicts = before.verdicts ++ this ∷ [];
       named = map_push (λ (v : Judged). v.name) before.verdicts this ∙ ap (λ (ns : List (List ℕ)). ns ++ name ∷ []) before.named;
-      right = All-push (λ (v : Judged). IsVerdictOn traces (bytes_at v.name) v.verdict v.front) before.verdicts this before.right one.right;
+      right = All-push (λ (v : Judged). IsVerdictOn traces (bytes_at v.name) (unreadable v.name) v.verdict v.front) before.verdicts this before.right one.right;
       printed = subst (λ (t : List ℕ). Appends a e t) (flat_map_more (λ (v : Judged). tested_text traces v.name v.verdict v.front) [] before.verdicts this)
           (Appends-trans a m e (verdicts_text traces before.verdicts) (tested_text traces name one.verdict one.front) before.printed one.printed);
       passed_is = p_is ∙ ap₂ (λ (n : ℕ) (b : Bool). n + cond b 1 0) before.passed_is one.met_is
@@ -206,28 +259,34 @@ tested-more traces bytes_at names name a m e passed failed met p f before one p_
     }
 
 -- one file more, which passed
-pub passed-more : (traces : Bool) (bytes_at : List ℕ → Option (List ℕ)) (names all : List (List ℕ)) (name : List ℕ) (a m e : Option (List ℕ))
-    (passed failed : ℕ) (met : Bool) → all ≡ names ++ name ∷ [] → met ≡ true → HaveTested traces bytes_at names a m passed failed
-    → HasTested traces (bytes_at name) name m e met → HaveTested traces bytes_at all a e (passed + 1) failed
-passed-more traces bytes_at names all name a m e passed failed met all_is is before one =
+pub passed-more : (traces : Bool) (bytes_at : List ℕ → Option (List ℕ)) (unreadable : List ℕ → Bool) (names all : List (List ℕ)) (name : List ℕ) (a m e : Option (List ℕ))
+    (passed failed : ℕ) (met : Bool) → all ≡ names ++ name ∷ [] → met ≡ true → HaveTested traces bytes_at unreadable names a m passed failed
+    → HasTested traces (bytes_at name) (unreadable name) name m e met → HaveTested traces bytes_at unreadable all a e (passed + 1) failed
+passed-more traces bytes_at unreadable names all name a m e passed failed met all_is is before one =
     let more : passed + 1 ≡ passed + cond met 1 0 = rw is refl in
     let same : failed ≡ failed + cond (not met) 1 0 = rw is (omega arith) in
-    rw all_is (tested-more traces bytes_at names name a m e passed failed met (passed + 1) failed before one more same)
+    rw all_is (tested-more traces bytes_at unreadable names name a m e passed failed met (passed + 1) failed before one more same)
 
 -- one file more, which failed
-pub failed-more : (traces : Bool) (bytes_at : List ℕ → Option (List ℕ)) (names all : List (List ℕ)) (name : List ℕ) (a m e : Option (List ℕ))
-    (passed failed : ℕ) (met : Bool) → all ≡ names ++ name ∷ [] → met ≡ false → HaveTested traces bytes_at names a m passed failed
-    → HasTested traces (bytes_at name) name m e met → HaveTested traces bytes_at all a e passed (failed + 1)
-failed-more traces bytes_at names all name a m e passed failed met all_is is before one =
+pub failed-more : (traces : Bool) (bytes_at : List ℕ → Option (List ℕ)) (unreadable : List ℕ → Bool) (names all : List (List ℕ)) (name : List ℕ) (a m e : Option (List ℕ))
+    (passed failed : ℕ) (met : Bool) → all ≡ names ++ name ∷ [] → met ≡ false → HaveTested traces bytes_at unreadable names a m passed failed
+    → HasTested traces (bytes_at name) (unreadable name) name m e met → HaveTested traces bytes_at unreadable all a e passed (failed + 1)
+failed-more traces bytes_at unreadable names all name a m e passed failed met all_is is before one =
     let same : passed ≡ passed + cond met 1 0 = rw is (omega arith) in
     let more : failed + 1 ≡ failed + cond (not met) 1 0 = rw is refl in
-    rw all_is (tested-more traces bytes_at names name a m e passed failed met passed (failed + 1) before one same more)
+    rw all_is (tested-more traces bytes_at unreadable names name a m e passed failed met passed (failed + 1) before one same more)
+
+kept-appends : (a b c : Option (List ℕ)) (bs : List ℕ) → Appends a b bs → Keeps b c → Appends a c bs
+kept-appends None b c bs p q = tt
+kept-appends (Some x) None c bs p q = absurd p
+kept-appends (Some x) (Some y) None bs p q = absurd q
+kept-appends (Some x) (Some y) (Some z) bs p q = q ∙ p
 
 -- the line of how many passed and failed is written after them
-pub whole-tested : (traces : Bool) (bytes_at : List ℕ → Option (List ℕ)) (names : List (List ℕ)) (a m n e : Option (List ℕ)) (passed failed status : ℕ)
-    (tally : List ℕ) → HaveTested traces bytes_at names a m passed failed → tally ≡ tally_line passed failed → Appends m n tally → Keeps n e
-    → status ≡ (if failed == 0 then 0 else 1) → IsTested traces bytes_at names a e status
-whole-tested traces bytes_at names a m n e passed failed status tally before tally_is written kept status_is =
+pub whole-tested : (traces : Bool) (bytes_at : List ℕ → Option (List ℕ)) (unreadable : List ℕ → Bool) (names : List (List ℕ)) (a m n e : Option (List ℕ)) (passed failed status : ℕ)
+    (tally : List ℕ) → HaveTested traces bytes_at unreadable names a m passed failed → tally ≡ tally_line passed failed → Appends m n tally → Keeps n e
+    → status ≡ (if failed == 0 then 0 else 1) → IsTested traces bytes_at unreadable names a e status
+whole-tested traces bytes_at unreadable names a m n e passed failed status tally before tally_is written kept status_is =
     record {
       verdicts = before.verdicts;
       named = before.named;
@@ -237,9 +296,179 @@ whole-tested traces bytes_at names a m n e passed failed status tally before tal
           (Appends-trans a m n (verdicts_text traces before.verdicts) tally before.printed written)) kept;
       status_is = status_is ∙ ap (λ (k : ℕ). if k == 0 then 0 else 1) before.failed_is;
     }
-  where
-    kept-appends : (a b c : Option (List ℕ)) (bs : List ℕ) → Appends a b bs → Keeps b c → Appends a c bs
-    kept-appends None b c bs p q = tt
-    kept-appends (Some x) None c bs p q = absurd p
-    kept-appends (Some x) (Some y) None bs p q = absurd q
-    kept-appends (Some x) (Some y) (Some z) bs p q = q ∙ p
+
+-- ---- a prefix of what is printed
+
+whole-prefix : (a e : Option (List ℕ)) (text : List ℕ) → Appends a e text → AppendsPrefix a e text
+whole-prefix a e text h = record { prefix = text; rest = []; begins = sym (append-nil text); appended = h }
+
+more-prefix : (a e : Option (List ℕ)) (text more : List ℕ) → AppendsPrefix a e text → AppendsPrefix a e (text ++ more)
+more-prefix a e text more p = record {
+  prefix = p.prefix;
+  rest = p.rest ++ more;
+  begins = ap (λ (t : List ℕ). t ++ more) p.begins ∙ append_assoc p.prefix p.rest more;
+  appended = p.appended;
+}
+
+after-prefix : (a m e : Option (List ℕ)) (first next : List ℕ) → Appends a m first → AppendsPrefix m e next → AppendsPrefix a e (first ++ next)
+after-prefix a m e first next h p = record {
+  prefix = first ++ p.prefix;
+  rest = p.rest;
+  begins = ap (λ (t : List ℕ). first ++ t) p.begins ∙ sym (append_assoc first p.prefix p.rest);
+  appended = Appends-trans a m e first p.prefix h p.appended;
+}
+
+pub none-prefix : (a : Option (List ℕ)) (text : List ℕ) → AppendsPrefix a a text
+none-prefix a text = record { prefix = []; rest = text; begins = refl; appended = Appends-nil a }
+
+pub err-any : {T E : Type 0} (result : Result T E) (P : Type 0) → P → IfErr result (λ _. P)
+err-any (Ok x) P h = tt
+err-any (Err e) P h = h
+
+-- the text of a verdict is what is printed first
+verdict-first : (traces : Bool) (name : List ℕ) (verdict : Verdict) (front : List (List ℕ))
+    → (more : List ℕ) × (verdict_text name verdict ++ more ≡ tested_text traces name verdict front)
+verdict-first true name (Differs d) front = (lines_text front, refl)
+verdict-first true name Met front = ([], append-nil _)
+verdict-first true name (CannotRun why) front = ([], append-nil _)
+verdict-first true name ExpectsNothing front = ([], append-nil _)
+verdict-first false name verdict front = ([], append-nil _)
+
+pub verdict-prefix : (traces : Bool) (name : List ℕ) (verdict : Verdict) (front : List (List ℕ)) (a e : Option (List ℕ)) (text : List ℕ)
+    → text ≡ verdict_text name verdict → AppendsPrefix a e text → AppendsPrefix a e (tested_text traces name verdict front)
+verdict-prefix traces name verdict front a e text is grown =
+    let more = verdict-first traces name verdict front in
+    subst (λ (t : List ℕ). AppendsPrefix a e t) more.1 (more-prefix a e (verdict_text name verdict) more.0
+    (subst (λ (t : List ℕ). AppendsPrefix a e t) is grown))
+
+pub front-prefix : (traces : Bool) (name : List ℕ) (d : Difference) (t : Traced) (a m e : Option (List ℕ)) (text : List ℕ) → traces ≡ true
+    → text ≡ verdict_text name (Differs d) → Appends a m text → AppendsPrefix m e (lines_text (front_of (Differs d) t))
+    → AppendsPrefix a e (tested_text traces name (Differs d) (front_of (Differs d) t))
+front-prefix traces name d t a m e text wanted is written grown =
+    rw wanted (after-prefix a m e (verdict_text name (Differs d)) (lines_text (front_of (Differs d) t))
+    (subst (λ (x : List ℕ). Appends a m x) is written) grown)
+
+pub judged-begun : (traces : Bool) (known : Option (List ℕ)) (unreadable : Bool) (name : List ℕ) (t : Traced) (verdict : Verdict) (a e : Option (List ℕ))
+    → IfSome known (λ bytes. RunsTo traces bytes t) → IsJudged (bytes_of t.outcome.lines.items) (bytes_of t.outcome.expected.items) verdict
+    → AppendsPrefix a e (tested_text traces name verdict (front_of verdict t)) → HasBegun traces known unreadable name a e
+judged-begun traces known unreadable name t verdict a e runs judged grown = record {
+  verdict = verdict;
+  front = front_of verdict t;
+  right = judged-known traces known unreadable t verdict runs judged;
+  grown = grown;
+}
+
+-- no file more than these
+pub none-begun : (traces : Bool) (bytes_at : List ℕ → Option (List ℕ)) (unreadable : List ℕ → Bool) (names others all : List (List ℕ))
+    (a e : Option (List ℕ)) (passed failed : ℕ) → names ++ others ≡ all → HaveTested traces bytes_at unreadable names a e passed failed
+    → TestsPrefix traces bytes_at unreadable all a e
+none-begun traces bytes_at unreadable names others all a e passed failed is before = record {
+  verdicts = before.verdicts;
+  others = others;
+  named = ap (λ (ns : List (List ℕ)). ns ++ others) before.named ∙ is;
+  right = before.right;
+  last = [];
+  last_is = inl refl;
+  grown = subst (λ (t : List ℕ). AppendsPrefix a e t) (sym (append-nil (verdicts_text traces before.verdicts)))
+      (whole-prefix a e (verdicts_text traces before.verdicts) before.printed);
+}
+
+-- the next file has begun
+pub one-begun : {O : Type 0} (contents : O → Option (List ℕ)) (traces : Bool) (bytes_at : List ℕ → Option (List ℕ)) (unreadable : List ℕ → Bool)
+    (names others all : List (List ℕ)) (name : List ℕ) (a : Option (List ℕ)) (old new : O) (passed failed : ℕ) → names ++ name ∷ others ≡ all
+    → HaveTested traces bytes_at unreadable names a (contents old) passed failed
+    → (new ≡ old) ⊎ HasBegun traces (bytes_at name) (unreadable name) name (contents old) (contents new)
+    → TestsPrefix traces bytes_at unreadable all a (contents new)
+one-begun {O = O} contents traces bytes_at unreadable names others all name a old new passed failed is before (inl same) =
+    subst (λ (o : O). TestsPrefix traces bytes_at unreadable all a (contents o)) (sym same)
+    (none-begun traces bytes_at unreadable names (name ∷ others) all a (contents old) passed failed is before)
+one-begun contents traces bytes_at unreadable names others all name a old new passed failed is before (inr one) =
+    let this : Judged = record { name = name; verdict = one.verdict; front = one.front } in
+    let text = tested_text traces name one.verdict one.front in
+    let named : map (λ (v : Judged). v.name) (before.verdicts ++ this ∷ []) ≡ names ++ name ∷ [] =
+    map_push (λ (v : Judged). v.name) before.verdicts this ∙ ap (λ (ns : List (List ℕ)). ns ++ name ∷ []) before.named in
+    let whole : verdicts_text traces before.verdicts ++ text ≡ verdicts_text traces (before.verdicts ++ this ∷ []) ++ [] =
+    flat_map_more (λ (v : Judged). tested_text traces v.name v.verdict v.front) [] before.verdicts this
+    ∙ sym (append-nil (verdicts_text traces (before.verdicts ++ this ∷ []))) in
+    record {
+      verdicts = before.verdicts ++ this ∷ [];
+      others = others;
+      named = ap (λ (ns : List (List ℕ)). ns ++ others) named ∙ append_assoc names (name ∷ []) others ∙ is;
+      right = All-push (λ (v : Judged). IsVerdictOn traces (bytes_at v.name) (unreadable v.name) v.verdict v.front) before.verdicts this before.right one.right;
+      last = [];
+      last_is = inl refl;
+      grown = subst (λ (t : List ℕ). AppendsPrefix a (contents new) t) whole
+          (after-prefix a (contents old) (contents new) (verdicts_text traces before.verdicts) text before.printed one.grown);
+    }
+
+-- all files are tested, and the last line has begun
+pub last-begun : (traces : Bool) (bytes_at : List ℕ → Option (List ℕ)) (unreadable : List ℕ → Bool) (names : List (List ℕ)) (a m e : Option (List ℕ))
+    (passed failed : ℕ) (tally : List ℕ) → HaveTested traces bytes_at unreadable names a m passed failed → tally ≡ tally_line passed failed
+    → AppendsPrefix m e tally → TestsPrefix traces bytes_at unreadable names a e
+last-begun traces bytes_at unreadable names a m e passed failed tally before tally_is grown = record {
+  verdicts = before.verdicts;
+  others = [];
+  named = append-nil _ ∙ before.named;
+  right = before.right;
+  last = tally;
+  last_is = inr (refl, tally_is ∙ ap₂ tally_line before.passed_is before.failed_is);
+  grown = after-prefix a m e (verdicts_text traces before.verdicts) tally before.printed grown;
+}
+
+-- and written, and kept
+pub kept-begun : (traces : Bool) (bytes_at : List ℕ → Option (List ℕ)) (unreadable : List ℕ → Bool) (names : List (List ℕ)) (a m n e : Option (List ℕ))
+    (passed failed : ℕ) (tally : List ℕ) → HaveTested traces bytes_at unreadable names a m passed failed → tally ≡ tally_line passed failed
+    → Appends m n tally → Keeps n e → TestsPrefix traces bytes_at unreadable names a e
+kept-begun traces bytes_at unreadable names a m n e passed failed tally before tally_is written kept =
+    last-begun traces bytes_at unreadable names a m e passed failed tally before tally_is
+    (whole-prefix m e tally (kept-appends m n e tally written kept))
+
+-- all of it is printed
+pub tested-begun : (traces : Bool) (bytes_at : List ℕ → Option (List ℕ)) (unreadable : List ℕ → Bool) (names : List (List ℕ)) (a e : Option (List ℕ))
+    (status : ℕ) → IsTested traces bytes_at unreadable names a e status → TestsPrefix traces bytes_at unreadable names a e
+tested-begun traces bytes_at unreadable names a e status t = record {
+  verdicts = t.verdicts;
+  others = [];
+  named = append-nil _ ∙ t.named;
+  right = t.right;
+  last = tally_line (passed_in t.verdicts) (failed_in t.verdicts);
+  last_is = inr (refl, refl);
+  grown = whole-prefix a e _ t.printed;
+}
+
+-- the place of a file among the names
+pub names-at : (names : List (String Global)) (i : ℕ) (name : List ℕ) → map string_bytes (take (i + 1) names) ≡ map string_bytes (take i names) ++ name ∷ []
+    → map string_bytes (take i names) ++ name ∷ map string_bytes (drop (i + 1) names) ≡ map string_bytes names
+names-at names i name here =
+    sym (append_assoc (map string_bytes (take i names)) (name ∷ []) (map string_bytes (drop (i + 1) names)))
+    ∙ ap (λ (ns : List (List ℕ)). ns ++ map string_bytes (drop (i + 1) names)) (sym here)
+    ∙ sym (map-append string_bytes (take (i + 1) names) (drop (i + 1) names)) ∙ ap (map string_bytes) (take-append-drop (i + 1) names)
+
+-- ---- what is reported where the command ends
+
+ends-three : (why : Fault) → EndsTest why → status_of why ≡ 3
+ends-three why (inl is) = ap status_of is
+ends-three why (inr is) = ap status_of is
+
+pub told-three : (why : Fault) (result : ℕ) → EndsTest why → (result ≡ status_of why) ⊎ (result ≡ 3) → result ≡ 3
+told-three why result ends (inl is) = is ∙ ends-three why ends
+told-three why result ends (inr is) = is
+
+pub told-ends : (why : Fault) (result : ℕ) (a b : Option (List ℕ)) → EndsTest why
+    → (told : Fault) × IsToldOf why told × (status_of told ≡ result) × AppendsPrefix a b (error_text told)
+    → (f : Fault) × EndsTest f × AppendsPrefix a b (error_text f)
+told-ends why result a b ends (told, inl is, status, grown) = (told, subst EndsTest (sym is) ends, grown)
+told-ends why result a b ends (told, inr (inl is), status, grown) = (told, inl is, grown)
+told-ends why result a b ends (told, inr (inr is), status, grown) = (told, inr is, grown)
+
+-- what is reported leaves the output
+pub told-left : {O : Type 0} (contents : O → Option (List ℕ)) (why : Fault) (middle new : O) → EndsTest why → LeavesOutput contents why middle new
+    → new ≡ middle
+told-left contents why middle new (inl is) h = subst (λ (f : Fault). LeavesOutput contents f middle new) is h
+told-left contents why middle new (inr is) h = subst (λ (f : Fault). LeavesOutput contents f middle new) is h
+
+pub left-begun : {O : Type 0} (contents : O → Option (List ℕ)) (traces : Bool) (bytes_at : List ℕ → Option (List ℕ)) (unreadable : List ℕ → Bool)
+    (names : List (List ℕ)) (a : Option (List ℕ)) (why : Fault) (middle new : O) → EndsTest why → LeavesOutput contents why middle new
+    → TestsPrefix traces bytes_at unreadable names a (contents middle) → TestsPrefix traces bytes_at unreadable names a (contents new)
+left-begun {O = O} contents traces bytes_at unreadable names a why middle new ends left begun =
+    subst (λ (o : O). TestsPrefix traces bytes_at unreadable names a (contents o)) (sym (told-left contents why middle new ends left)) begun

@@ -1,12 +1,14 @@
 -- What `test` prints of vector files, and its exit status.
-use Rattle.std.specs.Prelude.{⊤, ◌≡◌, ◌⊎◌, ◌≤◌, ◌==◌, if◌then◌else◌, ℕ, Bool, true, not, List, ◌++◌, Option, IfSome}
+use Rattle.std.specs.Prelude.{⊤, ◌≡◌, ◌⊎◌, ◌≤◌, ◌==◌, if◌then◌else◌, ℕ, Bool, true, not, List, [], ◌++◌, Option, IfSome, IsTrue}
 use Rattle.std.specs.Prelude.{codes, count_by, decimal, flat_map, length, map}
 use Rattle.std.specs.List.{All}
 use Rattle.std.specs.Io.KnownBytes.{Appends}
 use Rattle.noise_names.specs.Text.{line}
 use Rattle.noise_lines.specs.Faults.{status_of}
 use Rattle.noise_lines.specs.Lines.{lines_text}
-use Rattle.noise_lines.specs.declared.faults.Fault.TheVariants.{Unreadable}
+use Rattle.noise_lines.specs.Prefixes.{AppendsPrefix}
+use Rattle.noise_lines.specs.declared.faults.Fault.{Fault}
+use Rattle.noise_lines.specs.declared.faults.Fault.TheVariants.{Memory, Unreadable, Unwritable}
 use Rattle.noise_vectors.specs.Expectations.{bytes_of}
 use Rattle.noise_vectors.specs.VectorFile.{IsVectorFile}
 use Rattle.noise_vectors.specs.VectorText.{text_of}
@@ -51,9 +53,9 @@ pub record RunsTo (traces : Bool) (text : List ℕ) (traced : Traced) : Type 0 w
   pub expected : bytes_of traced.outcome.expected.items ≡ expected_in file.version
   pub shown : traces ≡ true → HasTraces all_kept file (bytes_of traced.outcome.lines.items) (bytes_of traced.start.items) (traces_of traced.traces.items)
 
--- the verdict is why the file isn't run: it can't be read, or has this fault
+-- the verdict is why the file isn't run
 abbrev pub IsOfFault : List ℕ → Verdict → Type 0
-IsOfFault text (CannotRun why) = (why ≡ Unreadable) ⊎ ((status_of why ≤ 2) × IsRunFault Any text why)
+IsOfFault text (CannotRun why) = IsRunFault Any text why
 IsOfFault text _ = ⊥
 
 abbrev pub IsVerdict : Bool → List ℕ → Verdict → List (List ℕ) → Type 0
@@ -88,33 +90,66 @@ verdicts_text traces verdicts = flat_map (λ v. tested_text traces v.name v.verd
 abbrev pub tally_line : ℕ → ℕ → List ℕ
 tally_line passed failed = line (decimal passed ++ (codes " passed, " ++ (decimal failed ++ codes " failed")))
 
--- the bytes of a file, where they are known, have this verdict, and this is the front of a trace
-abbrev pub IsVerdictOn : Bool → Option (List ℕ) → Verdict → List (List ℕ) → Type 0
-IsVerdictOn traces known verdict front = IfSome known (λ text. IsVerdict traces text verdict front)
+-- what the file says is the reason, and nothing outside it: neither memory nor a read or a write that was refused
+abbrev pub IsOfFile : Verdict → Type 0
+IsOfFile (CannotRun why) = status_of why ≤ 2
+IsOfFile verdict = ⊤
+
+-- The verdict on a file: that it can't be read, where it may be that it can't; else one that is of the file and that its bytes have, where they are known,
+-- and this is the front of a trace.
+abbrev pub IsVerdictOn : Bool → Option (List ℕ) → Bool → Verdict → List (List ℕ) → Type 0
+IsVerdictOn traces known unreadable verdict front =
+    ((verdict ≡ CannotRun Unreadable) × IsTrue unreadable) ⊎ (IsOfFile verdict × IfSome known (λ text. IsVerdict traces text verdict front))
 
 -- one file is tested: the output grew by the text of its verdict, and the front of a trace where that is wanted
-pub record HasTested (traces : Bool) (known : Option (List ℕ)) (name : List ℕ) (before after : Option (List ℕ)) (met : Bool) : Type 0 where
+pub record HasTested (traces : Bool) (known : Option (List ℕ)) (unreadable : Bool) (name : List ℕ) (before after : Option (List ℕ)) (met : Bool)
+    : Type 0 where
   pub verdict : Verdict
   pub front : List (List ℕ)
-  pub right : IsVerdictOn traces known verdict front
+  pub right : IsVerdictOn traces known unreadable verdict front
   pub printed : Appends before after (tested_text traces name verdict front)
   pub met_is : met ≡ is_met verdict
 
 -- the files of these names are tested, in order: the output grew by the texts of their verdicts
-pub record HaveTested (traces : Bool) (bytes_at : List ℕ → Option (List ℕ)) (names : List (List ℕ)) (before after : Option (List ℕ)) (passed failed : ℕ)
-    : Type 0 where
+pub record HaveTested (traces : Bool) (bytes_at : List ℕ → Option (List ℕ)) (unreadable : List ℕ → Bool) (names : List (List ℕ))
+    (before after : Option (List ℕ)) (passed failed : ℕ) : Type 0 where
   pub verdicts : Verdicts
   pub named : map (λ v. v.name) verdicts ≡ names
-  pub right : All (λ v. IsVerdictOn traces (bytes_at v.name) v.verdict v.front) verdicts
+  pub right : All (λ v. IsVerdictOn traces (bytes_at v.name) (unreadable v.name) v.verdict v.front) verdicts
   pub printed : Appends before after (verdicts_text traces verdicts)
   pub passed_is : passed ≡ passed_in verdicts
   pub failed_is : failed ≡ failed_in verdicts
 
 -- The same, and after it the output has the line of how many passed and failed. The status is 0 if none failed, and else 1.
-pub record IsTested (traces : Bool) (bytes_at : List ℕ → Option (List ℕ)) (names : List (List ℕ)) (before after : Option (List ℕ)) (status : ℕ)
-    : Type 0 where
+pub record IsTested (traces : Bool) (bytes_at : List ℕ → Option (List ℕ)) (unreadable : List ℕ → Bool) (names : List (List ℕ))
+    (before after : Option (List ℕ)) (status : ℕ) : Type 0 where
   pub verdicts : Verdicts
   pub named : map (λ v. v.name) verdicts ≡ names
-  pub right : All (λ v. IsVerdictOn traces (bytes_at v.name) v.verdict v.front) verdicts
+  pub right : All (λ v. IsVerdictOn traces (bytes_at v.name) (unreadable v.name) v.verdict v.front) verdicts
   pub printed : Appends before after (verdicts_text traces verdicts ++ tally_line (passed_in verdicts) (failed_in verdicts))
   pub status_is : status ≡ (if failed_in verdicts == 0 then 0 else 1)
+
+-- ---- where the command ends before its work is done
+
+-- memory ran out, or the output wasn't written
+abbrev pub EndsTest : Fault → Type 0
+EndsTest fault = (fault ≡ Memory) ⊎ (fault ≡ Unwritable)
+
+-- one file is tested, and the output grew by a prefix of the text of its verdict, and of the front of a trace where that is wanted
+pub record HasBegun (traces : Bool) (known : Option (List ℕ)) (unreadable : Bool) (name : List ℕ) (before after : Option (List ℕ)) : Type 0 where
+  pub verdict : Verdict
+  pub front : List (List ℕ)
+  pub right : IsVerdictOn traces known unreadable verdict front
+  pub grown : AppendsPrefix before after (tested_text traces name verdict front)
+
+-- The output grew by a prefix of what is printed of the files of these names: the texts of the verdicts on the first of them, and after those of all files
+-- the last line.
+pub record TestsPrefix (traces : Bool) (bytes_at : List ℕ → Option (List ℕ)) (unreadable : List ℕ → Bool) (names : List (List ℕ))
+    (before after : Option (List ℕ)) : Type 0 where
+  pub verdicts : Verdicts
+  pub others : List (List ℕ)
+  pub named : map (λ v. v.name) verdicts ++ others ≡ names
+  pub right : All (λ v. IsVerdictOn traces (bytes_at v.name) (unreadable v.name) v.verdict v.front) verdicts
+  pub last : List ℕ
+  pub last_is : (last ≡ []) ⊎ ((others ≡ []) × (last ≡ tally_line (passed_in verdicts) (failed_in verdicts)))
+  pub grown : AppendsPrefix before after (verdicts_text traces verdicts ++ last)

@@ -7,7 +7,7 @@ ghost use Rattle.noise_vectors.specs.Expectations.{bytes_of};
 ghost use Rattle.noise_vectors.specs.declared.vector.AllowedEvents.TheVariants.{VersionOne};
 ghost use Rattle.noise_tool.specs.Performing.{HasConverted, HasRun, IsDone, IsFault, IsOfLines, IsRunFault, IsTooLongConverted, IsUnlike, IsUnmet};
 ghost use Rattle.noise_tool.specs.Performing.{IfCommand, IfTest, IsShort, LeavesFile, LeavesInput, ReadsShort};
-ghost use Rattle.noise_tool.specs.Testing.{IsTested};
+ghost use Rattle.noise_tool.specs.Testing.{EndsTest, IsTested, TestsPrefix};
 ghost use Rattle.noise_tool.specs.Prefixes.{PrintsConvertedPrefix, PrintsPrefix, PrintsRunPrefix};
 ghost use Rattle.noise_lines.specs.Lines.{lines_text};
 ghost use Rattle.noise_lines.specs.Prefixes.{AppendsPrefix};
@@ -54,8 +54,12 @@ pub fn perform<R: Read, F: FilesByName, O: Write, E: Write>(
     ensures quiet { result ≡ 0 → err.new ≡ err.old }
     ensures unread { LeavesInput order.now file.old file.new }
     ensures tested { IfTest order.now (λ asked. (result ≡ 3)
-        ⊎ (IsTested asked.traces (F.bytes_at files.now) (map string_bytes asked.files.items) (O.contents out.old) (O.contents out.new) result
-        × (err.new ≡ err.old))) }
+        ⊎ (IsTested asked.traces (F.bytes_at files.now) (F.unreadable files.now) (map string_bytes asked.files.items) (O.contents out.old)
+        (O.contents out.new) result × (err.new ≡ err.old))) }
+    ensures test_outside { result ≡ 3 → IfTest order.now (λ asked. (fault : Fault) × EndsTest fault
+        × AppendsPrefix (E.contents err.old) (E.contents err.new) (error_text fault)) }
+    ensures test_prefix { IfTest order.now (λ asked. TestsPrefix asked.traces (F.bytes_at files.now) (F.unreadable files.now)
+        (map string_bytes asked.files.items) (O.contents out.old) (O.contents out.new)) }
 {
     match order {
         Order::Command(chosen) => perform_command(alloc, chosen, file, out, err),

@@ -1,18 +1,18 @@
 //! The command `test`: vector files are run, and each run is compared with what its file expects.
 
-ghost use Rattle.std.specs.Prelude.{◌≡◌, ◌⊎◌, ◌<◌, ◌≤◌, [], ℕ, Bool, List, Option, IfErr, IfOk, IfSome, OnOk, length, map, string_bytes, vec_len};
+ghost use Rattle.std.specs.Prelude.{◌≡◌, ◌⊎◌, ◌<◌, ◌≤◌, ℕ, Bool, List, Option, IfErr, IfOk, IfSome, IsTrue, OnOk, length, map, string_bytes, vec_len};
 ghost use Rattle.std.specs.Io.KnownBytes.{Appends};
 ghost use Rattle.noise_lines.specs.Faults.{status_of};
 ghost use Rattle.noise_lines.specs.Prefixes.{AppendsPrefix};
 ghost use Rattle.noise_lines.specs.Told.{error_text};
 ghost use Rattle.noise_lines.specs.declared.faults.Fault.{Fault};
-ghost use Rattle.noise_lines.specs.declared.faults.Fault.TheVariants.{TooLong};
+ghost use Rattle.noise_lines.specs.declared.faults.Fault.TheVariants.{TooLong, Unreadable};
 ghost use Rattle.noise_vectors.specs.Expectations.{bytes_of};
 ghost use Rattle.noise_vectors.specs.declared.vector.AllowedEvents.TheVariants.{Any};
 ghost use Rattle.noise_tool.specs.Ends.{IsStartFault};
 ghost use Rattle.noise_tool.specs.Performing.{IsRunFault};
 ghost use Rattle.noise_tool.specs.Running.{IsRunOf, expected_in};
-ghost use Rattle.noise_tool.specs.Testing.{HasTested, HaveTested, IsTested, IsVerdictOn, RunsTo, tally_line, tested_text};
+ghost use Rattle.noise_tool.specs.Testing.{EndsTest, HasBegun, HasTested, HaveTested, IsTested, RunsTo, TestsPrefix, tally_line, tested_text};
 ghost use Rattle.noise_tool.specs.TracedText.{front_of};
 ghost use Rattle.noise_lines.specs.declared.verdict.Verdict.TheVariants.{CannotRun};
 
@@ -30,10 +30,14 @@ pub trait FilesByName {
     /// The bytes of the file of each name, where they are known.
     ghost bytes_at: { Self → List ℕ → Option (List ℕ) };
 
+    /// Whether it may be that the file of each name can't be read.
+    ghost unreadable: { Self → List ℕ → Bool };
+
     /// The bytes of the file of this name. A file of more than 4194304 bytes is too long.
     fn read(&self, alloc: Global, name: &str) -> Result<Vec<u8>, Fault>
         ensures bytes { IfOk result (λ text. IfSome (bytes_at self.now name.now) (λ bytes. text.items ≡ bytes)) }
         ensures bound { IfOk result (λ text. vec_len text ≤ 4194304) }
+        ensures failed { IfErr result (λ fault. fault ≡ Unreadable → IsTrue (unreadable self.now name.now)) }
         ensures fault { IfErr result (λ fault. (status_of fault ≡ 3)
             ⊎ ((fault ≡ TooLong) × IfSome (bytes_at self.now name.now) (λ bytes. 4194304 < length bytes))) };
 }
@@ -52,9 +56,12 @@ pub fn test<F: FilesByName, O: Write, E: Write>(
     out: &mut O,
     err: &mut E,
 ) -> u8
-    ensures tested { (result ≡ 3) ⊎ IsTested traces (F.bytes_at files.now) (map string_bytes names.now) (O.contents out.old) (O.contents out.new) result }
+    ensures tested { (result ≡ 3) ⊎ IsTested traces (F.bytes_at files.now) (F.unreadable files.now) (map string_bytes names.now) (O.contents out.old) (O.contents out.new) result }
     ensures quiet { (result ≡ 3) ⊎ (err.new ≡ err.old) }
-    ensures outside { result ≡ 3 → (fault : Fault) × (status_of fault ≡ 3) × AppendsPrefix (E.contents err.old) (E.contents err.new) (error_text fault) }
+    ensures outside { result ≡ 3 → (fault : Fault) × EndsTest fault × AppendsPrefix (E.contents err.old) (E.contents err.new) (error_text fault) }
+
+    // However it ends, what comes to the output is a prefix of what it prints of these files.
+    ensures prefix { TestsPrefix traces (F.bytes_at files.now) (F.unreadable files.now) (map string_bytes names.now) (O.contents out.old) (O.contents out.new) }
 {
     match test_all(alloc, names, traces, files, out) {
         Ok(status) => status,
@@ -69,9 +76,10 @@ fn test_all<F: FilesByName, O: Write>(
     files: &F,
     out: &mut O,
 ) -> Result<u8, Fault>
-    ensures tested { IfOk result (λ status. IsTested traces (F.bytes_at files.now) (map string_bytes names.now) (O.contents out.old) (O.contents out.new)
+    ensures tested { IfOk result (λ status. IsTested traces (F.bytes_at files.now) (F.unreadable files.now) (map string_bytes names.now) (O.contents out.old) (O.contents out.new)
         status) }
-    ensures fault { IfErr result (λ fault. status_of fault ≡ 3) }
+    ensures prefix { IfErr result (λ fault. TestsPrefix traces (F.bytes_at files.now) (F.unreadable files.now) (map string_bytes names.now) (O.contents out.old) (O.contents out.new)) }
+    ensures fault { IfErr result EndsTest }
 {
     let (passed, failed) = test_each(alloc, names, traces, files, out)?;
     let tally = tally(alloc, passed, failed)?;
@@ -88,9 +96,10 @@ fn test_each<F: FilesByName, O: Write>(
     files: &F,
     out: &mut O,
 ) -> Result<(usize, usize), Fault>
-    ensures tested { IfOk result (λ counts. HaveTested traces (F.bytes_at files.now) (map string_bytes names.now) (O.contents out.old) (O.contents out.new)
+    ensures tested { IfOk result (λ counts. HaveTested traces (F.bytes_at files.now) (F.unreadable files.now) (map string_bytes names.now) (O.contents out.old) (O.contents out.new)
         counts.0 counts.1) }
-    ensures fault { IfErr result (λ fault. status_of fault ≡ 3) }
+    ensures prefix { IfErr result (λ fault. TestsPrefix traces (F.bytes_at files.now) (F.unreadable files.now) (map string_bytes names.now) (O.contents out.old) (O.contents out.new)) }
+    ensures fault { IfErr result EndsTest }
 {
     let mut passed: usize = 0;
     let mut failed: usize = 0;
@@ -112,8 +121,11 @@ fn test_file<F: FilesByName, O: Write>(
     files: &F,
     out: &mut O,
 ) -> Result<bool, Fault>
-    ensures tested { IfOk result (HasTested traces (F.bytes_at files.now name.now) name.now (O.contents out.old) (O.contents out.new)) }
-    ensures fault { IfErr result (λ fault. status_of fault ≡ 3) }
+    ensures tested { IfOk result (HasTested traces (F.bytes_at files.now name.now) (F.unreadable files.now name.now) name.now (O.contents out.old)
+        (O.contents out.new)) }
+    ensures prefix { IfErr result (λ fault. (out.new ≡ out.old)
+        ⊎ HasBegun traces (F.bytes_at files.now name.now) (F.unreadable files.now name.now) name.now (O.contents out.old) (O.contents out.new)) }
+    ensures fault { IfErr result EndsTest }
 {
     match run_named(alloc, name, traces, files) {
         Ok(traced) => write_run(alloc, name, traces, &traced, out),
@@ -129,9 +141,11 @@ fn write_run<O: Write>(
     traced: &Traced,
     out: &mut O,
 ) -> Result<bool, Fault>
-    ensures tested { (known : Option (List ℕ)) → IfSome known (λ text. RunsTo traces text traced.now)
-        → IfOk result (HasTested traces known name.now (O.contents out.old) (O.contents out.new)) }
-    ensures fault { IfErr result (λ fault. status_of fault ≡ 3) }
+    ensures tested { (known : Option (List ℕ)) (unreadable : Bool) → IfSome known (λ text. RunsTo traces text traced.now)
+        → IfOk result (HasTested traces known unreadable name.now (O.contents out.old) (O.contents out.new)) }
+    ensures prefix { (known : Option (List ℕ)) (unreadable : Bool) → IfSome known (λ text. RunsTo traces text traced.now)
+        → IfErr result (λ fault. (out.new ≡ out.old) ⊎ HasBegun traces known unreadable name.now (O.contents out.old) (O.contents out.new)) }
+    ensures fault { IfErr result EndsTest }
 {
     let verdict = judge(&traced.outcome.lines, &traced.outcome.expected)?;
     write_verdict(alloc, name, traces, &verdict, traced, out)?;
@@ -149,7 +163,9 @@ fn write_verdict<O: Write>(
 ) -> Result<(), Fault>
     ensures written { OnOk result (Appends (O.contents out.old) (O.contents out.new)
         (tested_text traces name.now verdict.now (front_of verdict.now traced.now))) }
-    ensures fault { IfErr result (λ fault. status_of fault ≡ 3) }
+    ensures prefix { IfErr result (λ fault. AppendsPrefix (O.contents out.old) (O.contents out.new)
+        (tested_text traces name.now verdict.now (front_of verdict.now traced.now))) }
+    ensures fault { IfErr result EndsTest }
 {
     let text = verdict_lines(alloc, name, verdict)?;
     write(&text, out)?;
@@ -169,9 +185,13 @@ fn write_unrun<O: Write>(
     fault: Fault,
     out: &mut O,
 ) -> Result<bool, Fault>
-    ensures tested { (traces : Bool) (known : Option (List ℕ)) → (status_of fault ≡ 3) ⊎ IfSome known (λ text. IsRunFault Any text fault)
-        → IfOk result (HasTested traces known name.now (O.contents out.old) (O.contents out.new)) }
-    ensures fault { IfErr result (λ fault. status_of fault ≡ 3) }
+    ensures tested { (traces : Bool) (known : Option (List ℕ)) (unreadable : Bool) → (fault ≡ Unreadable → IsTrue unreadable)
+        → (status_of fault ≡ 3) ⊎ IfSome known (λ text. IsRunFault Any text fault)
+        → IfOk result (HasTested traces known unreadable name.now (O.contents out.old) (O.contents out.new)) }
+    ensures prefix { (traces : Bool) (known : Option (List ℕ)) (unreadable : Bool) → (fault ≡ Unreadable → IsTrue unreadable)
+        → (status_of fault ≡ 3) ⊎ IfSome known (λ text. IsRunFault Any text fault)
+        → IfErr result (λ _. (out.new ≡ out.old) ⊎ HasBegun traces known unreadable name.now (O.contents out.old) (O.contents out.new)) }
+    ensures fault { IfErr result EndsTest }
 {
     let verdict = fault_verdict(fault)?;
     let text = verdict_lines(alloc, name, &verdict)?;
@@ -181,14 +201,12 @@ fn write_unrun<O: Write>(
 
 // The verdict on a file that has this fault.
 fn fault_verdict(fault: Fault) -> Result<Verdict, Fault>
-    ensures verdict { (traces : Bool) (known : Option (List ℕ)) → (status_of fault ≡ 3) ⊎ IfSome known (λ text. IsRunFault Any text fault)
-        → IfOk result (λ verdict. IsVerdictOn traces known verdict []) }
     ensures unrun { IfOk result (λ verdict. verdict ≡ CannotRun fault) }
-    ensures fault { IfErr result (λ fault. status_of fault ≡ 3) }
+    ensures other { OnOk result (¬ EndsTest fault) }
+    ensures fault { IfErr result EndsTest }
 {
     match fault {
-        Fault::Unreadable => Ok(Verdict::CannotRun(Fault::Unreadable)),
-        fault if fault.status() == 3 => Err(fault),
+        Fault::Memory | Fault::Unwritable => Err(fault),
         fault => Ok(Verdict::CannotRun(fault)),
     }
 }
@@ -201,6 +219,7 @@ fn run_named<F: FilesByName>(
     files: &F,
 ) -> Result<Traced, Fault>
     ensures runs { IfOk result (λ traced. IfSome (F.bytes_at files.now name.now) (λ text. RunsTo traces text traced)) }
+    ensures failed { IfErr result (λ fault. fault ≡ Unreadable → IsTrue (F.unreadable files.now name.now)) }
     ensures fault { IfErr result (λ fault. (status_of fault ≡ 3) ⊎ IfSome (F.bytes_at files.now name.now) (λ text. IsRunFault Any text fault)) }
 {
     let text = files.read(alloc, name)?;
@@ -210,6 +229,7 @@ fn run_named<F: FilesByName>(
 // The same of the file of this text.
 fn run_text(alloc: Global, text: &[u8], traces: bool) -> Result<Traced, Fault>
     ensures runs { length text.now ≤ 4194304 → IfOk result (RunsTo traces text.now) }
+    ensures read { IfErr result (λ fault. ¬ (fault ≡ Unreadable)) }
     ensures fault { IfErr result (λ fault. (status_of fault ≡ 3) ⊎ IsRunFault Any text.now fault) }
 {
     let vector = read_vector(alloc, text, AllowedEvents::Any)?;

@@ -5,6 +5,7 @@ ghost use Rattle.std.specs.Io.KnownBytes.{Appends};
 ghost use Rattle.noise_lines.specs.Faults.{status_of};
 ghost use Rattle.noise_lines.specs.Lines.{lines_text};
 ghost use Rattle.noise_lines.specs.Prefixes.{AppendsPrefix};
+ghost use Rattle.noise_lines.specs.declared.faults.Fault.TheVariants.{Unwritable};
 ghost use Rattle.noise_vectors.specs.Expectations.{bytes_of};
 ghost use Rattle.noise_vectors.specs.declared.vector.AllowedEvents.TheVariants.{Any};
 ghost use Rattle.noise_tool.specs.Performing.{IsOfLines, IsRunFault, IsShort};
@@ -140,7 +141,8 @@ pub(crate) fn write_front<O: Write>(
     out: &mut O,
 ) -> Result<(), Fault>
     ensures written { OnOk result (Appends (O.contents out.old) (O.contents out.new) (lines_text (front_lines traced.now number))) }
-    ensures fault { IfErr result (λ fault. status_of fault ≡ 3) }
+    ensures prefix { AppendsPrefix (O.contents out.old) (O.contents out.new) (lines_text (front_lines traced.now number)) }
+    ensures fault { IfErr result (λ fault. fault ≡ Unwritable) }
 {
     write_traced_to(
         number,

@@ -1,5 +1,5 @@
 use Rattle.std.proofs.Common.{◌∙◌, sym}
-use Rattle.noise_tool.proofs.TestingLemmas.{runs-traced, runs-untraced, start-fault}
+use Rattle.noise_tool.proofs.TestingLemmas.{runs-traced, runs-untraced, start-fault, start-read, vector-read}
 use Rattle.noise_tool.proofs.testing.run_text.Goals as goal
 
 pub trace-requires : goal.trace-requires
@@ -24,3 +24,9 @@ returns-then-not-traces-clause-runs c =
 pub returns-then-not-traces-clause-fault : goal.returns-then-not-traces-clause-fault
 returns-then-not-traces-clause-fault c =
     start-fault c.args.text.now c.in_ok-vector.vector c.untraced.result c.in_ok-vector.ensures.right c.in_ok-vector.ensures.text c.untraced.ensures.fault
+
+pub returns-clause-read : goal.returns-clause-read
+returns-clause-read c = start-read c.in_ok-vector.vector c.trace.result c.trace.ensures.fault
+
+pub returns-then-not-traces-clause-read : goal.returns-then-not-traces-clause-read
+returns-then-not-traces-clause-read c = start-read c.in_ok-vector.vector c.untraced.result c.untraced.ensures.fault
