@@ -13,17 +13,19 @@ typedef struct {
 } snapshot;
 
 static noise_handshake *h;
-static noise_transport *t;
-static noise_datagrams *d;
 static noise_sender *ts;
 static noise_receiver *tr;
 static noise_datagram_sender *ds;
 static noise_datagram_receiver *dr;
+static noise_cipher *cs, *cr;
+static noise_stream_sender *xs;
+static noise_stream_receiver *xr;
+static noise_stream_told *place;
 static noise_told *told;
 static noise_stage_told *stage;
 static noise_key *key;
 static uint8_t *hash, *nothing;
-static uint64_t *send, *receive;
+static uint64_t *nonce;
 static size_t *len;
 static unsigned long calls, usable;
 
@@ -32,17 +34,19 @@ static const uint64_t handshake_faults = CODE(NOISE_STRUCT) | CODE(NOISE_ENDED) 
 
 static void make_places(void) {
     h = (noise_handshake *)place_at_edge(sizeof *h);
-    t = (noise_transport *)place_at_edge(sizeof *t);
-    d = (noise_datagrams *)place_at_edge(sizeof *d);
     ts = (noise_sender *)place_at_edge(sizeof *ts);
     tr = (noise_receiver *)place_at_edge(sizeof *tr);
     ds = (noise_datagram_sender *)place_at_edge(sizeof *ds);
     dr = (noise_datagram_receiver *)place_at_edge(sizeof *dr);
+    cs = (noise_cipher *)place_at_edge(sizeof *cs);
+    cr = (noise_cipher *)place_at_edge(sizeof *cr);
+    xs = (noise_stream_sender *)place_at_edge(sizeof *xs);
+    xr = (noise_stream_receiver *)place_at_edge(sizeof *xr);
+    place = (noise_stream_told *)place_at_edge(sizeof *place);
     told = (noise_told *)place_at_edge(sizeof *told);
     stage = (noise_stage_told *)place_at_edge(sizeof *stage);
     key = (noise_key *)place_at_edge(sizeof *key);
-    send = (uint64_t *)place_at_edge(sizeof *send);
-    receive = (uint64_t *)place_at_edge(sizeof *receive);
+    nonce = (uint64_t *)place_at_edge(sizeof *nonce);
     len = (size_t *)place_at_edge(sizeof *len);
     hash = place_at_edge(32);
     nothing = place_at_edge(0);
@@ -71,76 +75,70 @@ static const uint64_t open_faults = CODE(NOISE_STRUCT) | CODE(NOISE_ONE_WAY) | C
 static const uint64_t datagram_faults =
     CODE(NOISE_STRUCT) | CODE(NOISE_ONE_WAY) | CODE(NOISE_RESERVED) | CODE(NOISE_OLD) | CODE(NOISE_REPEATED) | CODE(NOISE_TAG);
 
-// Seals and opens with the halves of a transport or of datagrams, of any content.
+// Seals and opens with halves of any content.
 static void use_halves(const noise_sender *sender, const noise_receiver *receiver, const uint8_t *message) {
     *ts = *sender;
     *tr = *receiver;
-    uint32_t code = noise_sender_seal(ts, bytes_of(1, 0, 24), 24, bytes_of(0, 0, 40), 40, told);
+    uint32_t code = noise_seal(ts, bytes_of(1, 0, 24), 24, bytes_of(0, 0, 40), 40, told);
     must_be(code, seal_faults);
     if (code == NOISE_OK) MUST(told->len == 40);
-    code = noise_receiver_open(tr, bytes_of(2, message, 40), 40, told);
+    code = noise_seal_in_place(ts, bytes_of(0, 0, 40), 40, 24, told);
+    must_be(code, seal_faults);
+    if (code == NOISE_OK) MUST(told->len == 40);
+    code = noise_open(tr, bytes_of(2, message, 40), 40, told);
     must_be(code, open_faults);
     if (code == NOISE_OK) MUST(told->len == 24 && told->from == 0);
+    must_be(noise_sender_nonce(ts, nonce), CODE(NOISE_STRUCT));
+    must_be(noise_receiver_nonce(tr, nonce), CODE(NOISE_STRUCT));
 }
 
 static void use_datagram_halves(const noise_datagram_sender *sender, const noise_datagram_receiver *receiver, const uint8_t *datagram) {
     *ds = *sender;
     *dr = *receiver;
-    uint32_t code = noise_datagram_sender_seal(ds, bytes_of(1, 0, 24), 24, bytes_of(0, 0, 48), 48, told);
+    uint32_t code = noise_datagram_seal(ds, bytes_of(1, 0, 24), 24, bytes_of(0, 0, 48), 48, told);
     must_be(code, seal_faults);
     if (code == NOISE_OK) MUST(told->len == 48);
-    code = noise_datagram_receiver_open(dr, bytes_of(2, datagram, 48), 48, told);
+    code = noise_datagram_seal_in_place(ds, bytes_of(0, 0, 48), 48, 24, told);
+    must_be(code, seal_faults);
+    if (code == NOISE_OK) MUST(told->len == 48);
+    code = noise_datagram_open(dr, bytes_of(2, datagram, 48), 48, told);
     must_be(code, datagram_faults);
     if (code == NOISE_OK) MUST(told->len == 24 && told->from == 8);
+    must_be(noise_datagram_sender_nonce(ds, nonce), CODE(NOISE_STRUCT));
 }
 
-// Seals and opens with a transport or datagrams of any content, and with their halves.
-static void use_transport(const noise_transport *of, const uint8_t *right) {
-    uint8_t *out = bytes_of(0, 0, 40), *text = bytes_of(1, 0, 24);
-    *t = *of;
-    uint32_t code = noise_transport_seal(t, text, 24, out, 40, told);
+static void use_ciphers(const noise_cipher *send, const noise_cipher *receive, const uint8_t *message) {
+    *cs = *send;
+    *cr = *receive;
+    const uint64_t held = CODE(NOISE_STRUCT) | CODE(NOISE_ONE_WAY);
+    uint32_t code = noise_cipher_encrypt(cs, bytes_of(1, 0, 24), 24, bytes_of(0, 0, 40), 40, 24, told);
     must_be(code, seal_faults);
     if (code == NOISE_OK) MUST(told->len == 40);
-    code = noise_transport_seal_in_place(t, bytes_of(0, 0, 40), 40, 24, told);
-    must_be(code, seal_faults);
-    if (code == NOISE_OK) MUST(told->len == 40);
-    code = noise_transport_open(t, bytes_of(2, right, 40), 40, told);
+    code = noise_cipher_decrypt(cr, bytes_of(1, 0, 0), 0, bytes_of(2, message, 40), 40, told);
     must_be(code, open_faults);
-    if (code == NOISE_OK) MUST(told->len == 24 && told->from <= 16);
-    must_be(noise_transport_nonces(t, send, receive), CODE(NOISE_STRUCT));
-    must_be(noise_transport_hash(t, hash), CODE(NOISE_STRUCT));
-    must_be(noise_transport_remote_static(t, key), CODE(NOISE_STRUCT));
-    *t = *of;
-    code = noise_transport_split(t, ts, tr);
-    must_be(code, CODE(NOISE_STRUCT));
-    if (code != NOISE_OK) return;
-    noise_sender sender = *ts;
-    noise_receiver receiver = *tr;
-    use_halves(&sender, &receiver, right);
+    if (code == NOISE_OK) MUST(told->len == 24 && told->from == 0);
+    must_be(noise_cipher_nonce(cs, nonce), held);
+    must_be(noise_cipher_rekey(cs), held);
+    must_be(noise_cipher_set_nonce(cr, 5), held);
 }
 
-static void use_datagrams(const noise_datagrams *of, const uint8_t *datagram) {
-    uint8_t *out = bytes_of(0, 0, 48), *text = bytes_of(1, 0, 24);
-    *d = *of;
-    uint32_t code = noise_datagrams_seal(d, text, 24, out, 48, told);
-    must_be(code, seal_faults);
-    if (code == NOISE_OK) MUST(told->len == 48);
-    code = noise_datagrams_seal_in_place(d, bytes_of(0, 0, 48), 48, 24, told);
-    must_be(code, seal_faults);
-    if (code == NOISE_OK) MUST(told->len == 48);
-    code = noise_datagrams_open(d, bytes_of(2, datagram, 48), 48, told);
-    must_be(code, datagram_faults);
-    if (code == NOISE_OK) MUST(told->len == 24 && told->from == 8);
-    must_be(noise_datagrams_nonce(d, send), CODE(NOISE_STRUCT));
-    must_be(noise_datagrams_hash(d, hash), CODE(NOISE_STRUCT));
-    must_be(noise_datagrams_remote_static(d, key), CODE(NOISE_STRUCT));
-    *d = *of;
-    code = noise_datagrams_split(d, ds, dr);
-    must_be(code, CODE(NOISE_STRUCT));
-    if (code != NOISE_OK) return;
-    noise_datagram_sender sender = *ds;
-    noise_datagram_receiver receiver = *dr;
-    use_datagram_halves(&sender, &receiver, datagram);
+static void use_stream(const noise_stream_sender *sender, const noise_stream_receiver *receiver, const uint8_t *message) {
+    uint8_t frame[42] = {0, 40};
+    memcpy(frame + 2, message, 40);
+    *xs = *sender;
+    *xr = *receiver;
+    uint32_t code = noise_stream_write(xs, bytes_of(1, 0, 24), 24, bytes_of(0, 0, 42), 42, place);
+    must_be(code, seal_faults | CODE(NOISE_CLOSED));
+    if (code == NOISE_OK) MUST(place->len == 42 && place->used == 24);
+    code = noise_stream_end(xs, bytes_of(0, 0, 18), 18, place);
+    must_be(code, seal_faults | CODE(NOISE_CLOSED));
+    if (code == NOISE_OK) MUST(place->len == 18);
+    must_be(noise_stream_is_cut(xr, 0), CODE(NOISE_STRUCT) | CODE(NOISE_CUT));
+    code = noise_stream_read(xr, bytes_of(2, frame, 41), 41, place);
+    must_be(code, CODE(NOISE_STRUCT) | CODE(NOISE_MORE) | CODE(NOISE_CLOSED));
+    code = noise_stream_read(xr, bytes_of(2, frame, 42), 42, place);
+    must_be(code, open_faults | CODE(NOISE_CLOSED));
+    if (code == NOISE_OK) MUST(place->from == 2 && place->len == 24 && place->used == 42);
 }
 
 static void read_with(const snapshot *s) {
@@ -176,18 +174,25 @@ static void use_handshake(const snapshot *s) {
     must_be(noise_remote_static(h, key), CODE(NOISE_STRUCT));
     must_be(noise_stage(h, stage), CODE(NOISE_STRUCT));
     uint64_t not_yet = CODE(NOISE_STRUCT) | CODE(NOISE_NOT_DONE) | CODE(NOISE_ENDED);
-    uint32_t code = noise_finish(h, 2, t);
+    uint32_t code = noise_finish(h, 2, ts, tr);
     must_be(code, not_yet);
-    if (code == NOISE_OK) {
-        noise_transport begun = *t;
-        use_transport(&begun, s->message);
-    }
-    code = noise_finish_datagrams(h, 256, d);
+    noise_sender sender = *ts;
+    noise_receiver receiver = *tr;
+    if (code == NOISE_OK) use_halves(&sender, &receiver, s->message);
+    code = noise_finish_datagrams(h, 256, ds, dr);
     must_be(code, not_yet);
-    if (code == NOISE_OK) {
-        noise_datagrams begun = *d;
-        use_datagrams(&begun, s->message);
-    }
+    noise_datagram_sender datagram_sender = *ds;
+    noise_datagram_receiver datagram_receiver = *dr;
+    if (code == NOISE_OK) use_datagram_halves(&datagram_sender, &datagram_receiver, s->message);
+    code = noise_finish_ciphers(h, cs, cr);
+    must_be(code, not_yet);
+    noise_cipher send = *cs, receive = *cr;
+    if (code == NOISE_OK) use_ciphers(&send, &receive, s->message);
+    code = noise_finish_stream(h, 2, xs, xr);
+    must_be(code, not_yet);
+    noise_stream_sender writer = *xs;
+    noise_stream_receiver reader = *xr;
+    if (code == NOISE_OK) use_stream(&writer, &reader, s->message);
     MUST(!memcmp(h, &s->h, sizeof *h));
     must_be(noise_answer(h, 1, public_key(0, false), public_key(0, true)), CODE(NOISE_FULL));
 }
@@ -278,73 +283,47 @@ static unsigned run_of(const plan *p, snapshot *at) {
     return count;
 }
 
-// The halves of these, with each byte changed, with random bytes, and of random bytes alone.
-static void try_halves(noise_transport whole, noise_datagrams datagrams, const uint8_t *message, const uint8_t *datagram) {
-    noise_sender sender, other_sender;
-    noise_receiver receiver, other_receiver;
-    noise_datagram_sender datagram_sender, other_datagram_sender;
-    noise_datagram_receiver datagram_receiver, other_datagram_receiver;
-    MUST(noise_transport_split(&whole, &sender, &receiver) == NOISE_OK);
-    MUST(noise_datagrams_split(&datagrams, &datagram_sender, &datagram_receiver) == NOISE_OK);
-    for (size_t i = 0; i < sizeof datagram_receiver; i++)
-        for (size_t v = 0; v < sizeof values; v++) {
-            other_sender = sender, other_receiver = receiver;
-            other_datagram_sender = datagram_sender, other_datagram_receiver = datagram_receiver;
-            other_sender.kept[i % sizeof sender] = other_receiver.kept[i % sizeof receiver] = values[v];
-            other_datagram_sender.kept[i % sizeof datagram_sender] = other_datagram_receiver.kept[i] = values[v];
-            use_halves(&other_sender, &other_receiver, message);
-            use_datagram_halves(&other_datagram_sender, &other_datagram_receiver, datagram);
-        }
-    for (unsigned round = 0; round < RANDOM_ROUNDS; round++) {
-        other_datagram_receiver = datagram_receiver;
-        for (unsigned n = random_number() % 9; n; n--)
-            other_datagram_receiver.kept[random_number() % sizeof other_datagram_receiver] = (uint8_t)random_number();
-        use_datagram_halves(&datagram_sender, &other_datagram_receiver, datagram);
-        fill_randomly(other_sender.kept, sizeof other_sender);
-        fill_randomly(other_receiver.kept, sizeof other_receiver);
-        fill_randomly(other_datagram_sender.kept, sizeof other_datagram_sender);
-        fill_randomly(other_datagram_receiver.kept, sizeof other_datagram_receiver);
-        use_halves(&other_sender, &other_receiver, message);
-        use_datagram_halves(&other_datagram_sender, &other_datagram_receiver, datagram);
-    }
+// Structs with a changed byte, with some random ones, and of random bytes alone: all that one party has after a handshake.
+typedef struct {
+    transport t;
+    datagrams d;
+    noise_cipher send, receive;
+    stream x;
+} opened;
+
+static void use_opened(const opened *of, const uint8_t *message, const uint8_t *datagram) {
+    use_halves(&of->t.s, &of->t.r, message);
+    use_datagram_halves(&of->d.s, &of->d.r, datagram);
+    use_ciphers(&of->send, &of->receive, message);
+    use_stream(&of->x.s, &of->x.r, message);
 }
 
-static void try_transports(const plan *p) {
+static void try_opened(const plan *p) {
     end ends[2] = {begin(p, 0), begin(p, 1)};
-    noise_transport right, other_right;
-    noise_datagrams mine, others;
+    opened right;
+    transport other;
+    datagrams others;
     uint8_t message[40], datagram[48];
     unsigned taker = p->one_way;                         // who can take messages, of the other
     pass_all(p, ends);
-    MUST(noise_finish(&ends[taker].h, 3, &right) == NOISE_OK && noise_finish(&ends[!taker].h, 3, &other_right) == NOISE_OK);
-    MUST(noise_transport_seal(&other_right, public_key(1, true), 24, message, 40, told) == NOISE_OK);
-    MUST(noise_finish_datagrams(&ends[taker].h, 256, &mine) == NOISE_OK && noise_finish_datagrams(&ends[!taker].h, 256, &others) == NOISE_OK);
-    for (unsigned i = 0; i < 5; i++) MUST(noise_datagrams_seal(&others, public_key(1, true), 24, datagram, 48, told) == NOISE_OK);
+    MUST(finish(&ends[taker].h, 3, &right.t) == NOISE_OK && finish(&ends[!taker].h, 3, &other) == NOISE_OK);
+    MUST(finish_datagrams(&ends[taker].h, 256, &right.d) == NOISE_OK && finish_datagrams(&ends[!taker].h, 256, &others) == NOISE_OK);
+    MUST(noise_finish_ciphers(&ends[taker].h, &right.send, &right.receive) == NOISE_OK && finish_stream(&ends[taker].h, 3, &right.x) == NOISE_OK);
+    MUST(noise_seal(&other.s, public_key(1, true), 24, message, 40, told) == NOISE_OK);
+    for (unsigned i = 0; i < 5; i++) MUST(noise_datagram_seal(&others.s, public_key(1, true), 24, datagram, 48, told) == NOISE_OK);
     for (size_t i = 0; i < sizeof right; i++)
         for (size_t v = 0; v < sizeof values; v++) {
-            noise_transport changed = right;
-            changed.kept[i] = values[v];
-            use_transport(&changed, message);
-        }
-    for (size_t i = 0; i < sizeof mine; i++)
-        for (size_t v = 0; v < sizeof values; v++) {
-            noise_datagrams changed = mine;
-            changed.kept[i] = values[v];
-            use_datagrams(&changed, datagram);
+            opened changed = right;
+            ((uint8_t *)&changed)[i] = values[v];
+            use_opened(&changed, message, datagram);
         }
     for (unsigned round = 0; round < RANDOM_ROUNDS; round++) {
-        noise_transport changed = right;
-        noise_datagrams other = mine;
-        for (unsigned n = random_number() % 9; n; n--) changed.kept[random_number() % sizeof changed] = (uint8_t)random_number();
-        for (unsigned n = random_number() % 9; n; n--) other.kept[random_number() % sizeof other] = (uint8_t)random_number();
-        use_transport(&changed, message);
-        use_datagrams(&other, datagram);
-        fill_randomly(changed.kept, sizeof changed);
-        fill_randomly(other.kept, sizeof other);
-        use_transport(&changed, message);
-        use_datagrams(&other, datagram);
+        opened changed = right;
+        for (unsigned n = random_number() % 20; n; n--) ((uint8_t *)&changed)[random_number() % sizeof changed] = (uint8_t)random_number();
+        use_opened(&changed, message, datagram);
+        fill_randomly((uint8_t *)&changed, sizeof changed);
+        use_opened(&changed, message, datagram);
     }
-    try_halves(right, mine, message, datagram);
 }
 
 // A name and a pattern text with each byte changed, cut at each length, and setups of random bytes.
@@ -388,7 +367,7 @@ void check_changed_structs(void) {
             try_random(&at[n]);
         }
         try_filled(&at[0]);
-        try_transports(&plans[i]);
+        try_opened(&plans[i]);
         try_patterns(&plans[i]);
     }
     printf("c-library: changed structs: %u stages, %lu calls, %lu of them went well\n", stages, calls, usable);

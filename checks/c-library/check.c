@@ -4,12 +4,11 @@
 
 static void check_declared_sizes(void) {
     MUST(noise_handshake_size() == sizeof(noise_handshake));
-    MUST(noise_transport_size() == sizeof(noise_transport));
-    MUST(noise_datagrams_size() == sizeof(noise_datagrams));
     MUST(noise_sender_size() == sizeof(noise_sender));
     MUST(noise_receiver_size() == sizeof(noise_receiver));
     MUST(noise_datagram_sender_size() == sizeof(noise_datagram_sender));
     MUST(noise_datagram_receiver_size() == sizeof(noise_datagram_receiver));
+    MUST(noise_version() == NOISE_VERSION);
     MUST(noise_stream_sender_size() == sizeof(noise_stream_sender) && noise_stream_receiver_size() == sizeof(noise_stream_receiver));
     MUST(noise_cipher_size() == sizeof(noise_cipher));
 }

@@ -5,7 +5,7 @@ enum { ROOM = 120, ROUNDS = 20 };
 
 static uint8_t first[NOISE_MAX_MESSAGE + 20], second[NOISE_MAX_MESSAGE + 20], payload[NOISE_MAX_MESSAGE + 20];
 
-static void open_pair(const char *pattern, uint64_t interval, noise_cipher send[2], noise_cipher receive[2], noise_transport t[2]) {
+static void open_pair(const char *pattern, uint64_t interval, noise_cipher send[2], noise_cipher receive[2], transport t[2]) {
     plan p = plan_of(pattern, -1);
     end ends[2] = {begin(&p, 0), begin(&p, 1)};
     pass_all(&p, ends);
@@ -13,7 +13,7 @@ static void open_pair(const char *pattern, uint64_t interval, noise_cipher send[
         noise_handshake old = ends[role].h;
         MUST(noise_finish_ciphers(&ends[role].h, &send[role], &receive[role]) == NOISE_OK);
         MUST(!memcmp(&old, &ends[role].h, sizeof old));
-        MUST(noise_finish(&ends[role].h, interval, &t[role]) == NOISE_OK);
+        MUST(finish(&ends[role].h, interval, &t[role]) == NOISE_OK);
     }
 }
 
@@ -25,7 +25,7 @@ static void must_be_at(const noise_cipher *c, uint64_t nonce) {
 // Without associated data a message is the transport message of its nonce; a rekey after each `interval` messages is the transport's.
 static void check_beside_transport(uint64_t interval) {
     noise_cipher send[2], receive[2];
-    noise_transport t[2];
+    transport t[2];
     noise_told told;
     open_pair("XX", interval, send, receive, t);
     for (unsigned n = 0; n < ROUNDS; n++)
@@ -37,7 +37,7 @@ static void check_beside_transport(uint64_t interval) {
             memset(first + len, 0x55, ROOM - len);
             MUST(noise_cipher_encrypt(&send[role], NULL, 0, first, ROOM, len, &told) == NOISE_OK && told.from == 0 && told.len == len + 16);
             MUST(first[len + 16] == 0x55);
-            MUST(noise_transport_seal(&t[role], payload, len, second, ROOM, &told) == NOISE_OK && !memcmp(first, second, len + 16));
+            MUST(noise_seal(&t[role].s, payload, len, second, ROOM, &told) == NOISE_OK && !memcmp(first, second, len + 16));
             MUST(noise_cipher_decrypt(&receive[!role], NULL, 0, first, len + 16, &told) == NOISE_OK && told.from == 0 && told.len == len);
             MUST(!memcmp(first, payload, len));
             if (interval && (n + 1) % interval == 0) {
@@ -66,7 +66,7 @@ static void must_not_encrypt(noise_cipher *c, const uint8_t *ad, size_t ad_len, 
 static void check_data(void) {
     static const uint8_t head[] = "a header of a packet";
     noise_cipher send[2], receive[2];
-    noise_transport t[2];
+    transport t[2];
     noise_told told;
     uint8_t sealed[4][ROOM];
     open_pair("IK", 0, send, receive, t);
@@ -97,7 +97,7 @@ static void check_data(void) {
 static void check_refusals_of_ciphers(void) {
     static const uint8_t head[NOISE_MAX_MESSAGE + 1];
     noise_cipher send[2], receive[2];
-    noise_transport t[2];
+    transport t[2];
     noise_told told;
     open_pair("NN", 0, send, receive, t);
     for (size_t room = 0; room < 26; room++) must_not_encrypt(&send[0], NULL, 0, room, 10, NOISE_ROOM);
@@ -124,7 +124,7 @@ static void check_refusals_of_ciphers(void) {
 static void check_one_way(void) {
     for (unsigned i = 0; i < 3; i++) {
         noise_cipher send[2], receive[2];
-        noise_transport t[2];
+        transport t[2];
         noise_told told;
         uint64_t nonce = 77;
         open_pair(patterns[i], 0, send, receive, t);
@@ -147,7 +147,7 @@ static void check_one_way(void) {
 // A struct of which one byte of the mark differs holds nothing, nor does one of zeros.
 static void check_marks(void) {
     noise_cipher send[2], receive[2];
-    noise_transport t[2];
+    transport t[2];
     uint64_t nonce;
     open_pair("XX", 0, send, receive, t);
     for (unsigned i = 0; i < 4; i++)
@@ -163,7 +163,7 @@ static void check_marks(void) {
     noise_cipher zeros = {{0}};
     must_not_encrypt(&zeros, NULL, 0, sizeof second, 10, NOISE_STRUCT);
     must_not_decrypt(&zeros, NULL, 0, first, 30, NOISE_STRUCT);
-    memcpy(&zeros, &t[0], sizeof zeros);
+    memcpy(&zeros, &t[0].s, sizeof zeros);
     must_not_encrypt(&zeros, NULL, 0, sizeof second, 10, NOISE_STRUCT);
 }
 

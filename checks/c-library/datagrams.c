@@ -6,12 +6,12 @@ enum { ROOM = NOISE_MAX_DATAGRAM + 1, COUNT = 3100 };
 static uint8_t message[ROOM], before[ROOM], payload[ROOM];
 static uint8_t sealed[COUNT][40];                        // datagrams with payloads of 16 bytes
 
-static void open_pair(const plan *p, uint32_t window, noise_datagrams d[2], noise_transport t[2]) {
+static void open_pair(const plan *p, uint32_t window, datagrams d[2], transport t[2]) {
     end ends[2] = {begin(p, 0), begin(p, 1)};
     pass_all(p, ends);
     for (unsigned role = 0; role < 2; role++) {
-        MUST(noise_finish_datagrams(&ends[role].h, window, &d[role]) == NOISE_OK);
-        MUST(noise_finish(&ends[role].h, 0, &t[role]) == NOISE_OK);
+        MUST(finish_datagrams(&ends[role].h, window, &d[role]) == NOISE_OK);
+        MUST(finish(&ends[role].h, 0, &t[role]) == NOISE_OK);
     }
 }
 
@@ -21,26 +21,26 @@ static uint64_t nonce_of(const uint8_t *datagram) {
     return nonce;
 }
 
-static void seal_some(noise_datagrams *d, unsigned from, unsigned to) {
+static void seal_some(datagrams *d, unsigned from, unsigned to) {
     noise_told told;
     uint64_t send;
     for (unsigned n = from; n < to; n++) {
         fill(payload, 16, n);
-        MUST(noise_datagrams_nonce(d, &send) == NOISE_OK && send == n);
-        MUST(noise_datagrams_seal(d, payload, 16, sealed[n], 40, &told) == NOISE_OK && told.len == 40);
+        MUST(noise_datagram_sender_nonce(&d->s, &send) == NOISE_OK && send == n);
+        MUST(noise_datagram_seal(&d->s, payload, 16, sealed[n], 40, &told) == NOISE_OK && told.len == 40);
         MUST(nonce_of(sealed[n]) == n);
     }
 }
 
-static uint32_t open_it(noise_datagrams *d, const uint8_t *datagram, size_t len, noise_told *told) {
-    noise_datagrams old = *d;
+static uint32_t open_it(datagrams *d, const uint8_t *datagram, size_t len, noise_told *told) {
+    datagrams old = *d;
     memcpy(message, datagram, len);
-    uint32_t code = noise_datagrams_open(d, message, len, told);
+    uint32_t code = noise_datagram_open(&d->r, message, len, told);
     if (code != NOISE_OK) MUST(!memcmp(&old, d, sizeof old) && !memcmp(message, datagram, len));
     return code;
 }
 
-static void must_open(noise_datagrams *d, unsigned n, uint32_t code) {
+static void must_open(datagrams *d, unsigned n, uint32_t code) {
     noise_told told;
     MUST(open_it(d, sealed[n], 40, &told) == code);
     if (code != NOISE_OK) return;
@@ -51,8 +51,8 @@ static void must_open(noise_datagrams *d, unsigned n, uint32_t code) {
 static void check_windows(void) {
     static const uint32_t windows[] = {64, 256, 1024};
     plan p = plan_of("XX", -1);
-    noise_datagrams d[2];
-    noise_transport t[2];
+    datagrams d[2];
+    transport t[2];
     for (unsigned i = 0; i < 3; i++) {
         unsigned w = windows[i];
         open_pair(&p, w, d, t);
@@ -76,16 +76,16 @@ static void check_windows(void) {
 static void check_against_transport(void) {
     for (unsigned i = 0; i < PATTERNS; i++) {
         plan p = plan_of(patterns[i], 0);
-        noise_datagrams d[2];
-        noise_transport t[2];
+        datagrams d[2];
+        transport t[2];
         noise_told told;
         open_pair(&p, 256, d, t);
         for (unsigned role = 0; role < (p.one_way ? 1 : 2); role++)
             for (unsigned n = 0; n < 5; n++) {
                 size_t len = length_of(n + role);
                 fill(payload, len, n);
-                MUST(noise_datagrams_seal(&d[role], payload, len, before, sizeof before, &told) == NOISE_OK && told.len == len + 24);
-                MUST(noise_transport_seal(&t[role], payload, len, message, sizeof message, &told) == NOISE_OK && told.len == len + 16);
+                MUST(noise_datagram_seal(&d[role].s, payload, len, before, sizeof before, &told) == NOISE_OK && told.len == len + 24);
+                MUST(noise_seal(&t[role].s, payload, len, message, sizeof message, &told) == NOISE_OK && told.len == len + 16);
                 MUST(nonce_of(before) == n && !memcmp(before + 8, message, len + 16));
                 MUST(open_it(&d[!role], before, len + 24, &told) == NOISE_OK && told.len == len && !memcmp(message + told.from, payload, len));
             }
@@ -94,21 +94,21 @@ static void check_against_transport(void) {
 
 static void check_sizes(void) {
     plan p = plan_of("IK", -1);
-    noise_datagrams d[2], old;
-    noise_transport t[2];
+    datagrams d[2], old;
+    transport t[2];
     noise_told told;
     open_pair(&p, 64, d, t);
     old = d[0];
     memset(message, 0x44, sizeof message);
-    MUST(noise_datagrams_seal(&d[0], payload, NOISE_MAX_DATAGRAM - 23, message, sizeof message, &told) == NOISE_TOO_LONG);
-    MUST(noise_datagrams_seal(&d[0], payload, sizeof payload, message, sizeof message, &told) == NOISE_ROOM);
-    for (size_t room = 0; room < 34; room++) MUST(noise_datagrams_seal(&d[0], payload, 10, message, room, &told) == NOISE_ROOM);
+    MUST(noise_datagram_seal(&d[0].s, payload, NOISE_MAX_DATAGRAM - 23, message, sizeof message, &told) == NOISE_TOO_LONG);
+    MUST(noise_datagram_seal(&d[0].s, payload, sizeof payload, message, sizeof message, &told) == NOISE_ROOM);
+    for (size_t room = 0; room < 34; room++) MUST(noise_datagram_seal(&d[0].s, payload, 10, message, room, &told) == NOISE_ROOM);
     MUST(!memcmp(&old, &d[0], sizeof old));
     for (size_t i = 0; i < sizeof message; i++) MUST(message[i] == 0x44);
-    MUST(noise_datagrams_seal(&d[0], payload, 10, message, 34, &told) == NOISE_OK && told.len == 34 && message[34] == 0x44);
-    MUST(noise_datagrams_open(&d[1], message, 34, &told) == NOISE_OK && told.from == 8 && told.len == 10);
+    MUST(noise_datagram_seal(&d[0].s, payload, 10, message, 34, &told) == NOISE_OK && told.len == 34 && message[34] == 0x44);
+    MUST(noise_datagram_open(&d[1].r, message, 34, &told) == NOISE_OK && told.from == 8 && told.len == 10);
     fill(payload, NOISE_MAX_DATAGRAM - 24, 8);
-    MUST(noise_datagrams_seal(&d[0], payload, NOISE_MAX_DATAGRAM - 24, before, NOISE_MAX_DATAGRAM, &told) == NOISE_OK);
+    MUST(noise_datagram_seal(&d[0].s, payload, NOISE_MAX_DATAGRAM - 24, before, NOISE_MAX_DATAGRAM, &told) == NOISE_OK);
     MUST(told.len == NOISE_MAX_DATAGRAM);
     MUST(open_it(&d[1], before, ROOM, &told) == NOISE_TOO_LONG);
     MUST(open_it(&d[1], before, NOISE_MAX_DATAGRAM - 1, &told) == NOISE_TAG);
@@ -119,8 +119,8 @@ static void check_sizes(void) {
 
 static void check_changed(void) {
     plan p = plan_of("KK", 0);
-    noise_datagrams d[2];
-    noise_transport t[2];
+    datagrams d[2];
+    transport t[2];
     noise_told told;
     open_pair(&p, 64, d, t);
     seal_some(&d[0], 0, 200);
@@ -146,11 +146,11 @@ static void check_changed(void) {
 static void check_one_way(void) {
     for (unsigned i = 0; i < 3; i++) {
         plan p = plan_of(patterns[i], -1);
-        noise_datagrams d[2];
-        noise_transport t[2];
+        datagrams d[2];
+        transport t[2];
         noise_told told;
         open_pair(&p, 64, d, t);
-        MUST(noise_datagrams_seal(&d[1], payload, 5, message, sizeof message, &told) == NOISE_ONE_WAY);
+        MUST(noise_datagram_seal(&d[1].s, payload, 5, message, sizeof message, &told) == NOISE_ONE_WAY);
         seal_some(&d[0], 0, 5);
         must_open(&d[1], 3, NOISE_OK);
         MUST(open_it(&d[0], sealed[1], 40, &told) == NOISE_ONE_WAY);
@@ -160,26 +160,26 @@ static void check_one_way(void) {
 // At the nonce 2^64 - 1 nothing is sealed. The kept nonce is set to it here, which no program does.
 static void check_exhausted(void) {
     plan p = plan_of("NN", -1);
-    noise_datagrams d[2], old;
-    noise_transport t[2];
+    datagrams d[2], old;
+    transport t[2];
     noise_told told;
     uint64_t send;
     open_pair(&p, 64, d, t);
     old = d[0];
     seal_some(&d[0], 0, 1);
     size_t at = 0;
-    while (at < sizeof old && old.kept[at] == d[0].kept[at]) at++;
-    MUST(at % 8 == 0 && at < sizeof old);
-    memset(d[0].kept + at, 0xff, 8);
-    MUST(noise_datagrams_nonce(&d[0], &send) == NOISE_OK && send == UINT64_MAX);
+    while (at < sizeof old.s && old.s.kept[at] == d[0].s.kept[at]) at++;
+    MUST(at % 8 == 0 && at < sizeof old.s);
+    memset(d[0].s.kept + at, 0xff, 8);
+    MUST(noise_datagram_sender_nonce(&d[0].s, &send) == NOISE_OK && send == UINT64_MAX);
     old = d[0];
-    MUST(noise_datagrams_seal(&d[0], payload, 5, message, sizeof message, &told) == NOISE_EXHAUSTED && !memcmp(&old, &d[0], sizeof old));
-    d[0].kept[at] = 0xfe;
-    MUST(noise_datagrams_seal(&d[0], payload, 16, before, 40, &told) == NOISE_OK && nonce_of(before) == UINT64_MAX - 1);
+    MUST(noise_datagram_seal(&d[0].s, payload, 5, message, sizeof message, &told) == NOISE_EXHAUSTED && !memcmp(&old, &d[0], sizeof old));
+    d[0].s.kept[at] = 0xfe;
+    MUST(noise_datagram_seal(&d[0].s, payload, 16, before, 40, &told) == NOISE_OK && nonce_of(before) == UINT64_MAX - 1);
     MUST(open_it(&d[1], before, 40, &told) == NOISE_OK);
     MUST(open_it(&d[1], before, 40, &told) == NOISE_REPEATED);
     must_open(&d[1], 0, NOISE_OLD);
-    MUST(noise_datagrams_seal(&d[0], payload, 5, message, sizeof message, &told) == NOISE_EXHAUSTED);
+    MUST(noise_datagram_seal(&d[0].s, payload, 5, message, sizeof message, &told) == NOISE_EXHAUSTED);
 }
 
 void check_datagrams(void) {

@@ -138,6 +138,18 @@ void pass_all(const plan *p, end ends[2]) {
     }
 }
 
+uint32_t finish(const noise_handshake *h, uint64_t interval, transport *t) {
+    return noise_finish(h, interval, &t->s, &t->r);
+}
+
+uint32_t finish_datagrams(const noise_handshake *h, uint32_t window, datagrams *d) {
+    return noise_finish_datagrams(h, window, &d->s, &d->r);
+}
+
+uint32_t finish_stream(const noise_handshake *h, uint64_t interval, stream *x) {
+    return noise_finish_stream(h, interval, &x->s, &x->r);
+}
+
 uint8_t *place_at_edge(size_t size) {
     size_t page = (size_t)sysconf(_SC_PAGESIZE), room = (size + page - 1) / page * page;
     uint8_t *at = mmap(0, room + page, PROT_READ | PROT_WRITE, MAP_PRIVATE | MAP_ANONYMOUS, -1, 0);

@@ -32,6 +32,22 @@ typedef struct {
     size_t prologue_len;
 } plan;
 
+// The halves of a party.
+typedef struct {
+    noise_sender s;
+    noise_receiver r;
+} transport;
+
+typedef struct {
+    noise_datagram_sender s;
+    noise_datagram_receiver r;
+} datagrams;
+
+typedef struct {
+    noise_stream_sender s;
+    noise_stream_receiver r;
+} stream;
+
 typedef struct {
     unsigned role;                        // 0 the initiator, 1 the responder
     noise_handshake h;
@@ -61,6 +77,9 @@ void fill(uint8_t *payload, size_t len, unsigned number);
 size_t length_of(unsigned number);
 // Passes all messages between the two ends.
 void pass_all(const plan *p, end ends[2]);
+uint32_t finish(const noise_handshake *h, uint64_t interval, transport *t);
+uint32_t finish_datagrams(const noise_handshake *h, uint32_t window, datagrams *d);
+uint32_t finish_stream(const noise_handshake *h, uint64_t interval, stream *x);
 
 // A place for `size` bytes; no byte after it may be touched.
 uint8_t *place_at_edge(size_t size);

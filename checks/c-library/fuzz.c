@@ -23,7 +23,7 @@ typedef uint32_t writing(void *kept, const uint8_t *payload, size_t payload_len,
 typedef uint32_t opening(void *kept, uint8_t *message, size_t message_len, noise_told *told);
 
 static place kept_place, first_place, second_place, out_place, told_place;
-static uint8_t payload[ROOM], message[ROOM], before[ROOM], datagrams[MOST_DATAGRAMS][400];
+static uint8_t payload[ROOM], message[ROOM], before[ROOM], datagrams_sealed[MOST_DATAGRAMS][400];
 static size_t datagram_lens[MOST_DATAGRAMS];
 static uint64_t state;
 static unsigned long calls, went_well, rounds;
@@ -39,6 +39,8 @@ static const uint64_t open_codes = CODE(NOISE_OK) | CODE(NOISE_STRUCT) | CODE(NO
     | CODE(NOISE_SHORT) | CODE(NOISE_TAG);
 static const uint64_t datagram_codes = CODE(NOISE_OK) | CODE(NOISE_STRUCT) | CODE(NOISE_ONE_WAY) | CODE(NOISE_SHORT) | CODE(NOISE_TOO_LONG)
     | CODE(NOISE_RESERVED) | CODE(NOISE_OLD) | CODE(NOISE_REPEATED) | CODE(NOISE_TAG);
+static const uint64_t cipher_codes = CODE(NOISE_OK) | CODE(NOISE_STRUCT) | CODE(NOISE_ONE_WAY) | CODE(NOISE_LENGTH) | CODE(NOISE_ROOM)
+    | CODE(NOISE_EXHAUSTED) | CODE(NOISE_TOO_LONG) | CODE(NOISE_SHORT) | CODE(NOISE_TAG);
 static const uint64_t start_codes = CODE(NOISE_OK) | CODE(NOISE_NAME) | CODE(NOISE_PATTERN) | CODE(NOISE_EPHEMERAL_MISSING)
     | CODE(NOISE_STATIC_MISSING) | CODE(NOISE_REMOTE_MISSING) | CODE(NOISE_REMOTE_UNEXPECTED) | CODE(NOISE_PSK_COUNT) | CODE(NOISE_LENGTH);
 
@@ -113,20 +115,12 @@ static uint32_t write_handshake(void *kept, const uint8_t *bytes, size_t len, ui
     return noise_write((noise_handshake *)kept, bytes, len, out, out_len, told);
 }
 
-static uint32_t seal_transport(void *kept, const uint8_t *bytes, size_t len, uint8_t *out, size_t out_len, noise_told *told) {
-    return noise_transport_seal((noise_transport *)kept, bytes, len, out, out_len, told);
+static uint32_t seal_next(void *kept, const uint8_t *bytes, size_t len, uint8_t *out, size_t out_len, noise_told *told) {
+    return noise_seal((noise_sender *)kept, bytes, len, out, out_len, told);
 }
 
-static uint32_t seal_datagrams(void *kept, const uint8_t *bytes, size_t len, uint8_t *out, size_t out_len, noise_told *told) {
-    return noise_datagrams_seal((noise_datagrams *)kept, bytes, len, out, out_len, told);
-}
-
-static uint32_t seal_with_sender(void *kept, const uint8_t *bytes, size_t len, uint8_t *out, size_t out_len, noise_told *told) {
-    return noise_sender_seal((noise_sender *)kept, bytes, len, out, out_len, told);
-}
-
-static uint32_t seal_with_datagram_sender(void *kept, const uint8_t *bytes, size_t len, uint8_t *out, size_t out_len, noise_told *told) {
-    return noise_datagram_sender_seal((noise_datagram_sender *)kept, bytes, len, out, out_len, told);
+static uint32_t seal_datagram(void *kept, const uint8_t *bytes, size_t len, uint8_t *out, size_t out_len, noise_told *told) {
+    return noise_datagram_seal((noise_datagram_sender *)kept, bytes, len, out, out_len, told);
 }
 
 // Puts the payload into the buffer from `from` on, as far as there is room, and at a refusal the filling again: call_writing compares that.
@@ -144,14 +138,14 @@ static void take_payload(uint8_t *out, size_t out_len, size_t from, const uint8_
 
 static uint32_t seal_in_place(void *kept, const uint8_t *bytes, size_t len, uint8_t *out, size_t out_len, noise_told *told) {
     put_payload(out, out_len, 0, bytes, len);
-    uint32_t code = noise_transport_seal_in_place((noise_transport *)kept, out, out_len, len, told);
+    uint32_t code = noise_seal_in_place((noise_sender *)kept, out, out_len, len, told);
     if (code != NOISE_OK) take_payload(out, out_len, 0, bytes, len);
     return code;
 }
 
 static uint32_t seal_datagram_in_place(void *kept, const uint8_t *bytes, size_t len, uint8_t *out, size_t out_len, noise_told *told) {
     put_payload(out, out_len, 8, bytes, len);
-    uint32_t code = noise_datagrams_seal_in_place((noise_datagrams *)kept, out, out_len, len, told);
+    uint32_t code = noise_datagram_seal_in_place((noise_datagram_sender *)kept, out, out_len, len, told);
     if (code != NOISE_OK) take_payload(out, out_len, 8, bytes, len);
     return code;
 }
@@ -160,23 +154,29 @@ static uint32_t read_handshake(void *kept, uint8_t *bytes, size_t len, noise_tol
     return noise_read((noise_handshake *)kept, bytes, len, told);
 }
 
-static uint32_t open_transport(void *kept, uint8_t *bytes, size_t len, noise_told *told) {
-    return noise_transport_open((noise_transport *)kept, bytes, len, told);
+static uint32_t open_next(void *kept, uint8_t *bytes, size_t len, noise_told *told) {
+    return noise_open((noise_receiver *)kept, bytes, len, told);
 }
 
-static uint32_t open_datagrams(void *kept, uint8_t *bytes, size_t len, noise_told *told) {
-    return noise_datagrams_open((noise_datagrams *)kept, bytes, len, told);
+static uint32_t open_datagram(void *kept, uint8_t *bytes, size_t len, noise_told *told) {
+    return noise_datagram_open((noise_datagram_receiver *)kept, bytes, len, told);
 }
 
-static uint32_t open_with_receiver(void *kept, uint8_t *bytes, size_t len, noise_told *told) {
-    return noise_receiver_open((noise_receiver *)kept, bytes, len, told);
+// The associated data of a cipher state: some bytes of the payload's place, and of each other call none.
+static size_t ad_len;
+
+static uint32_t encrypt_in_place(void *kept, const uint8_t *bytes, size_t len, uint8_t *out, size_t out_len, noise_told *told) {
+    put_payload(out, out_len, 0, bytes, len);
+    uint32_t code = noise_cipher_encrypt((noise_cipher *)kept, put_bytes(&second_place, payload, ad_len, true), ad_len, out, out_len, len, told);
+    if (code != NOISE_OK) take_payload(out, out_len, 0, bytes, len);
+    return code;
 }
 
-static uint32_t open_with_datagram_receiver(void *kept, uint8_t *bytes, size_t len, noise_told *told) {
-    return noise_datagram_receiver_open((noise_datagram_receiver *)kept, bytes, len, told);
+static uint32_t decrypt_in_place(void *kept, uint8_t *bytes, size_t len, noise_told *told) {
+    return noise_cipher_decrypt((noise_cipher *)kept, put_bytes(&second_place, payload, ad_len, true), ad_len, bytes, len, told);
 }
 
-// A refused call of a transport or of datagrams returns nothing but its code.
+// A refused call of a half returns nothing but its code.
 static void must_be_untold(const noise_told *told) {
     for (size_t i = 0; i < sizeof *told; i++) MUST(((const uint8_t *)told)[i] == 0x5e);
 }
@@ -283,63 +283,18 @@ static void ask_handshake(const noise_handshake *h) {
     ASK(h, noise_handshake, 32, begun, noise_hash(k, o));
     ASK(h, noise_handshake, sizeof(noise_key), begun, noise_remote_static(k, o));
     ASK(h, noise_handshake, sizeof(noise_stage_told), begun, noise_stage(k, o));
-    ASK(h, noise_handshake, sizeof(noise_transport), ends_codes, noise_finish(k, random_number(), o));
-    ASK(h, noise_handshake, sizeof(noise_datagrams), ends_codes | CODE(NOISE_WINDOW), noise_finish_datagrams(k, window, o));
+    // The two halves of each kind, one after the other in one place.
+    ASK(h, noise_handshake, sizeof(transport), ends_codes, finish(k, random_number(), o));
+    ASK(h, noise_handshake, sizeof(datagrams), ends_codes | CODE(NOISE_WINDOW), finish_datagrams(k, window, o));
+    ASK(h, noise_handshake, sizeof(stream), ends_codes, finish_stream(k, random_number(), o));
+    ASK(h, noise_handshake, 2 * sizeof(noise_cipher), ends_codes, noise_finish_ciphers(k, o, (noise_cipher *)o + 1));
 }
 
-static void ask_transport(const noise_transport *t) {
-    ASK(t, noise_transport, 32, begun, noise_transport_hash(k, o));
-    ASK(t, noise_transport, sizeof(noise_key), begun, noise_transport_remote_static(k, o));
-    const noise_transport *k = put(&kept_place, t, sizeof *t, true);
-    uint64_t *send = put(&out_place, NULL, 8, false), *receive = put(&told_place, NULL, 8, false);
-    counted(noise_transport_nonces(k, send, receive), begun);
-}
-
-static void ask_datagrams(const noise_datagrams *d) {
-    ASK(d, noise_datagrams, 8, begun, noise_datagrams_nonce(k, o));
-    ASK(d, noise_datagrams, 32, begun, noise_datagrams_hash(k, o));
-    ASK(d, noise_datagrams, sizeof(noise_key), begun, noise_datagrams_remote_static(k, o));
-}
-
-// Fields of zeros. The few bytes between fields may have any value: no contract speaks of them, and the two compilers differ there.
-static void must_be_zeros(const uint8_t *bytes, size_t size) {
-    enum { MOST_BETWEEN = 8 };
-    size_t others = 0;
-    for (size_t i = 0; i < size; i++) others += bytes[i] != 0;
-    MUST(others <= MOST_BETWEEN);
-}
-
-// What a split has left: at OK a struct of zeros and two halves, else all as it was.
-static void must_be_split(uint32_t code, const void *old, size_t size, const void *sender, size_t sender_size, const void *receiver, size_t receiver_size) {
-    if (code == NOISE_OK) {
-        must_be_zeros(kept_place.at, size);
-        return;
-    }
-    memset(before, 0x5e, sizeof(noise_datagrams));
-    MUST(!memcmp(kept_place.at, old, size));
-    MUST(!memcmp(sender, before, sender_size) && !memcmp(receiver, before, receiver_size));
-}
-
-static uint32_t split_transport(const noise_transport *t, noise_sender *sender, noise_receiver *receiver) {
-    noise_transport *there = put(&kept_place, t, sizeof *t, false);
-    noise_sender *sender_there = put(&first_place, NULL, sizeof *sender, false);
-    noise_receiver *receiver_there = put(&out_place, NULL, sizeof *receiver, false);
-    uint32_t code = counted(noise_transport_split(there, sender_there, receiver_there), begun);
-    must_be_split(code, t, sizeof *t, sender_there, sizeof *sender, receiver_there, sizeof *receiver);
-    *sender = *sender_there;
-    *receiver = *receiver_there;
-    return code;
-}
-
-static uint32_t split_datagrams(const noise_datagrams *d, noise_datagram_sender *sender, noise_datagram_receiver *receiver) {
-    noise_datagrams *there = put(&kept_place, d, sizeof *d, false);
-    noise_datagram_sender *sender_there = put(&first_place, NULL, sizeof *sender, false);
-    noise_datagram_receiver *receiver_there = put(&out_place, NULL, sizeof *receiver, false);
-    uint32_t code = counted(noise_datagrams_split(there, sender_there, receiver_there), begun);
-    must_be_split(code, d, sizeof *d, sender_there, sizeof *sender, receiver_there, sizeof *receiver);
-    *sender = *sender_there;
-    *receiver = *receiver_there;
-    return code;
+static void ask_halves(const transport *t, const datagrams *d, const noise_cipher *c) {
+    ASK(&t->s, noise_sender, 8, begun, noise_sender_nonce(k, o));
+    ASK(&t->r, noise_receiver, 8, begun, noise_receiver_nonce(k, o));
+    ASK(&d->s, noise_datagram_sender, 8, begun, noise_datagram_sender_nonce(k, o));
+    ASK(c, noise_cipher, 8, begun | CODE(NOISE_ONE_WAY), noise_cipher_nonce(k, o));
 }
 
 // All calls on a copy whose bytes may be changed, with bytes of any kind.
@@ -358,36 +313,72 @@ static void disturb_handshake(const noise_handshake *h, unsigned role) {
     call_opening(read_handshake, &copy, sizeof copy, read_codes, bytes, len, &told);
 }
 
-static void disturb_transport(const noise_transport *t) {
-    noise_transport copy = *t;
-    noise_told told;
-    if (!one_in(3)) change_bytes(copy.kept, sizeof copy);
-    ask_transport(&copy);
-    call_writing(one_in(2) ? seal_transport : seal_in_place, &copy, sizeof copy, seal_codes, random_len(), random_len(), &told);
-    call_opening(open_transport, &copy, sizeof copy, open_codes, payload, random_len(), &told);
-    noise_sender sender;
-    noise_receiver receiver;
-    if (split_transport(one_in(2) ? t : &copy, &sender, &receiver) != NOISE_OK) return;
-    if (!one_in(3)) change_bytes(sender.kept, sizeof sender);
-    if (!one_in(3)) change_bytes(receiver.kept, sizeof receiver);
-    call_writing(seal_with_sender, &sender, sizeof sender, seal_codes, random_len(), random_len(), &told);
-    call_opening(open_with_receiver, &receiver, sizeof receiver, open_codes, payload, random_len(), &told);
+// All that one party has after a handshake.
+typedef struct {
+    transport t;
+    datagrams d;
+    stream x;
+    noise_cipher send, receive;
+} party;
+
+static const uint64_t stream_write_codes = CODE(NOISE_OK) | CODE(NOISE_STRUCT) | CODE(NOISE_ROOM) | CODE(NOISE_CLOSED) | CODE(NOISE_ONE_WAY)
+    | CODE(NOISE_EXHAUSTED);
+static const uint64_t stream_read_codes = CODE(NOISE_OK) | CODE(NOISE_STRUCT) | CODE(NOISE_MORE) | CODE(NOISE_END) | CODE(NOISE_CLOSED)
+    | CODE(NOISE_SHORT) | CODE(NOISE_TAG) | CODE(NOISE_EXHAUSTED) | CODE(NOISE_ONE_WAY);
+
+// Writes a frame of `len` bytes of `payload`, or the end, to `message`, with room for `out_len`.
+static uint32_t write_stream(noise_stream_sender *s, bool ends, size_t len, size_t out_len, noise_stream_told *told) {
+    noise_stream_sender *there = put(&kept_place, s, sizeof *s, false);
+    const uint8_t *bytes = put_bytes(&first_place, payload, len, true);
+    uint8_t *out = put_bytes(&out_place, NULL, out_len, false);
+    noise_stream_told *told_there = put(&told_place, NULL, sizeof *told, false);
+    memset(before, 0x5e, out_len > sizeof *told ? out_len : sizeof *told);
+    uint32_t code = ends ? noise_stream_end(there, out, out_len, told_there) : noise_stream_write(there, bytes, len, out, out_len, told_there);
+    counted(code, stream_write_codes);
+    *told = *told_there;
+    size_t written = code == NOISE_OK ? told->len : 0;
+    MUST(written <= out_len && !memcmp(out_place.at + written, before, out_len - written));
+    if (code != NOISE_OK) MUST(!memcmp(there, s, sizeof *s) && !memcmp(told_there, before, sizeof *told));
+    *s = *there;
+    memcpy(message, out_place.at, written);
+    return code;
 }
 
-static void disturb_datagrams(const noise_datagrams *d) {
-    noise_datagrams copy = *d;
+// Reads a stream's frame in these bytes. What a refused one leaves is a half that is closed.
+static uint32_t read_stream(noise_stream_receiver *r, uint8_t *bytes, size_t len, noise_stream_told *told) {
+    noise_stream_receiver *there = put(&kept_place, r, sizeof *r, false);
+    uint8_t *buffer = put_bytes(&out_place, bytes, len, false);
+    noise_stream_told *told_there = put(&told_place, NULL, sizeof *told, false);
+    uint32_t code = counted(noise_stream_read(there, buffer, len, told_there), stream_read_codes);
+    *told = *told_there;
+    if (code == NOISE_OK) MUST(told->used <= len && told->from + told->len + NOISE_TAG_LEN == told->used && told->len);
+    if (code == NOISE_END) MUST(told->used == NOISE_STREAM_OVERHEAD && len >= told->used);
+    if (code == NOISE_MORE) MUST(told->wanted && told->wanted <= NOISE_MAX_FRAME);
+    if (code != NOISE_OK) MUST(!memcmp(out_place.at, bytes, len));
+    if (is_in(code, CODE(NOISE_MORE) | CODE(NOISE_CLOSED) | CODE(NOISE_STRUCT))) MUST(!memcmp(there, r, sizeof *r));
+    if (is_in(code, open_codes & ~begun)) MUST(noise_stream_read(there, buffer ? buffer : message, len, told) == NOISE_CLOSED);
+    *r = *there;
+    memcpy(bytes, out_place.at, len);
+    return code;
+}
+
+static void disturb_party(const party *of) {
+    party copy = *of;
     noise_told told;
-    if (!one_in(3)) change_bytes(copy.kept, sizeof copy);
-    ask_datagrams(&copy);
-    call_writing(one_in(2) ? seal_datagrams : seal_datagram_in_place, &copy, sizeof copy, seal_codes, random_len(), random_len(), &told);
-    call_opening(open_datagrams, &copy, sizeof copy, datagram_codes, payload, random_len(), &told);
-    noise_datagram_sender sender;
-    noise_datagram_receiver receiver;
-    if (split_datagrams(one_in(2) ? d : &copy, &sender, &receiver) != NOISE_OK) return;
-    if (!one_in(3)) change_bytes(sender.kept, sizeof sender);
-    if (!one_in(3)) change_bytes(receiver.kept, sizeof receiver);
-    call_writing(seal_with_datagram_sender, &sender, sizeof sender, seal_codes, random_len(), random_len(), &told);
-    call_opening(open_with_datagram_receiver, &receiver, sizeof receiver, datagram_codes, payload, random_len(), &told);
+    if (!one_in(3)) change_bytes((uint8_t *)&copy, sizeof copy);
+    ask_halves(&copy.t, &copy.d, one_in(2) ? &copy.send : &copy.receive);
+    call_writing(one_in(2) ? seal_next : seal_in_place, &copy.t.s, sizeof copy.t.s, seal_codes, random_len(), random_len(), &told);
+    call_opening(open_next, &copy.t.r, sizeof copy.t.r, open_codes, payload, random_len(), &told);
+    call_writing(one_in(2) ? seal_datagram : seal_datagram_in_place, &copy.d.s, sizeof copy.d.s, seal_codes, random_len(), random_len(), &told);
+    call_opening(open_datagram, &copy.d.r, sizeof copy.d.r, datagram_codes, payload, random_len(), &told);
+    noise_stream_told place;
+    write_stream(&copy.x.s, one_in(4), random_len(), random_len(), &place);
+    read_stream(&copy.x.r, payload, random_len(), &place);
+    ad_len = random_len();
+    call_writing(encrypt_in_place, &copy.send, sizeof copy.send, cipher_codes, random_len(), random_len(), &told);
+    call_opening(decrypt_in_place, &copy.receive, sizeof copy.receive, cipher_codes, payload, random_len(), &told);
+    noise_cipher *there = put(&kept_place, &copy.send, sizeof copy.send, false);
+    counted(one_in(2) ? noise_cipher_rekey(there) : noise_cipher_set_nonce(there, random_number()), begun | CODE(NOISE_ONE_WAY));
 }
 
 static uint32_t start_there(noise_handshake *h, const void *pattern, size_t len, size_t prologue_len, const noise_setup *setup) {
@@ -457,70 +448,63 @@ static void shake_hands(const plan *p, noise_handshake h[2], unsigned given[2]) 
     }
 }
 
-// An end of a stream or of a network: whole, or split into its halves.
-typedef struct {
-    bool is_split;
-    noise_transport t;
-    noise_sender sender;
-    noise_receiver receiver;
-} stream_end;
-
-typedef struct {
-    bool is_split;
-    noise_datagrams d;
-    noise_datagram_sender sender;
-    noise_datagram_receiver receiver;
-} network_end;
-
-static void split_stream(stream_end *e) {
-    e->is_split = true;
-    MUST(split_transport(&e->t, &e->sender, &e->receiver) == NOISE_OK);
-}
-
-static void split_network(network_end *e) {
-    e->is_split = true;
-    MUST(split_datagrams(&e->d, &e->sender, &e->receiver) == NOISE_OK);
-}
-
-static uint32_t seal_in_stream(stream_end *e, size_t len, size_t room, noise_told *told) {
-    if (e->is_split) return call_writing(seal_with_sender, &e->sender, sizeof e->sender, seal_codes, len, room, told);
-    return call_writing(one_in(2) ? seal_transport : seal_in_place, &e->t, sizeof e->t, seal_codes, len, room, told);
-}
-
-static uint32_t open_in_stream(stream_end *e, size_t len, noise_told *told) {
-    if (e->is_split) return call_opening(open_with_receiver, &e->receiver, sizeof e->receiver, open_codes, message, len, told);
-    return call_opening(open_transport, &e->t, sizeof e->t, open_codes, message, len, told);
-}
-
-static uint32_t seal_in_network(network_end *e, size_t len, size_t room, noise_told *told) {
-    if (e->is_split) return call_writing(seal_with_datagram_sender, &e->sender, sizeof e->sender, seal_codes, len, room, told);
-    return call_writing(one_in(2) ? seal_datagrams : seal_datagram_in_place, &e->d, sizeof e->d, seal_codes, len, room, told);
-}
-
-static uint32_t open_in_network(network_end *e, size_t len, noise_told *told) {
-    if (e->is_split) return call_opening(open_with_datagram_receiver, &e->receiver, sizeof e->receiver, datagram_codes, message, len, told);
-    return call_opening(open_datagrams, &e->d, sizeof e->d, datagram_codes, message, len, told);
-}
-
-static void use_stream(const plan *p, const noise_handshake h[2]) {
-    stream_end ends[2] = {{.is_split = false}, {.is_split = false}};
+static void use_halves(const plan *p, party parties[2]) {
     noise_told told;
-    uint64_t interval = below(5);
-    for (unsigned role = 0; role < 2; role++) MUST(noise_finish(&h[role], interval, &ends[role].t) == NOISE_OK);
     for (size_t n = below(12); n; n--) {
         unsigned sender = p->one_way ? 0 : (unsigned)below(2);
         size_t len = random_len() % (NOISE_MAX_MESSAGE - NOISE_TAG_LEN + 1), sealed = len + NOISE_TAG_LEN;
-        stream_end *any = &ends[below(2)];
-        if (!any->is_split) disturb_transport(&any->t);
-        if (!any->is_split && one_in(3)) split_stream(any);
-        MUST(seal_in_stream(&ends[sender], len, below(sealed), &told) == NOISE_ROOM);
-        MUST(seal_in_stream(&ends[sender], len, sealed, &told) == NOISE_OK && told.len == sealed);
+        noise_sender *s = &parties[sender].t.s;
+        noise_receiver *r = &parties[!sender].t.r;
+        writing *seal = one_in(2) ? seal_next : seal_in_place;
+        disturb_party(&parties[below(2)]);
+        MUST(call_writing(seal, s, sizeof *s, seal_codes, len, below(sealed), &told) == NOISE_ROOM);
+        MUST(call_writing(seal, s, sizeof *s, seal_codes, len, sealed, &told) == NOISE_OK && told.len == sealed);
         size_t at = below(sealed);
         message[at] ^= 0x40;
-        MUST(open_in_stream(&ends[!sender], sealed, &told) == NOISE_TAG);
+        MUST(call_opening(open_next, r, sizeof *r, open_codes, message, sealed, &told) == NOISE_TAG);
         message[at] ^= 0x40;
-        MUST(open_in_stream(&ends[!sender], sealed, &told) == NOISE_OK);
+        MUST(call_opening(open_next, r, sizeof *r, open_codes, message, sealed, &told) == NOISE_OK);
         MUST(told.len == len && !memcmp(message + told.from, payload, len));
+    }
+}
+
+static void use_stream(const plan *p, party parties[2]) {
+    noise_stream_told told;
+    unsigned sender = p->one_way ? 0 : (unsigned)below(2);
+    noise_stream_sender *s = &parties[sender].x.s;
+    noise_stream_receiver *r = &parties[!sender].x.r, broken;
+    for (size_t n = below(8); n; n--) {
+        size_t len = 1 + random_len(), part = len < 65519 ? len : 65519, frame = part + NOISE_STREAM_OVERHEAD;
+        MUST(write_stream(s, false, len, below(frame), &told) == NOISE_ROOM);
+        MUST(write_stream(s, false, len, frame + below(20), &told) == NOISE_OK && told.used == part && told.len == frame);
+        MUST(read_stream(r, message, below(frame), &told) == NOISE_MORE);
+        size_t at = 2 + below(frame - 2);
+        message[at] ^= 0x40, broken = *r;
+        MUST(read_stream(&broken, message, frame, &told) == NOISE_TAG);
+        message[at] ^= 0x40;
+        MUST(read_stream(r, message, frame + below(20), &told) == NOISE_OK && told.len == part && told.used == frame);
+        MUST(!memcmp(message + told.from, payload, part) && noise_stream_is_cut(r, 0) == NOISE_CUT);
+    }
+    MUST(write_stream(s, true, 0, below(18), &told) == NOISE_ROOM && write_stream(s, true, 0, 18, &told) == NOISE_OK);
+    MUST(read_stream(r, message, 18, &told) == NOISE_END && noise_stream_is_cut(r, 0) == NOISE_OK);
+    MUST(write_stream(s, one_in(2), 9, 99, &told) == NOISE_CLOSED && read_stream(r, message, 18, &told) == NOISE_CLOSED);
+}
+
+static void use_ciphers(const plan *p, party parties[2]) {
+    noise_told told;
+    for (size_t n = below(8); n; n--) {
+        unsigned sender = p->one_way ? 0 : (unsigned)below(2);
+        noise_cipher *s = &parties[sender].send, *r = &parties[!sender].receive;
+        size_t len = random_len() % (NOISE_MAX_MESSAGE - NOISE_TAG_LEN + 1), sealed = len + NOISE_TAG_LEN, data = random_len() % (NOISE_MAX_MESSAGE + 1);
+        ad_len = data;
+        MUST(call_writing(encrypt_in_place, s, sizeof *s, cipher_codes, len, below(sealed), &told) == NOISE_ROOM);
+        MUST(call_writing(encrypt_in_place, s, sizeof *s, cipher_codes, len, sealed, &told) == NOISE_OK && told.len == sealed);
+        ad_len = data ? data - 1 : 1;
+        MUST(call_opening(decrypt_in_place, r, sizeof *r, cipher_codes, message, sealed, &told) == NOISE_TAG);
+        ad_len = data;
+        MUST(call_opening(decrypt_in_place, r, sizeof *r, cipher_codes, message, sealed, &told) == NOISE_OK);
+        MUST(told.len == len && !memcmp(message + told.from, payload, len));
+        if (one_in(3)) MUST(noise_cipher_rekey(s) == NOISE_OK && noise_cipher_rekey(r) == NOISE_OK);
     }
 }
 
@@ -530,19 +514,18 @@ static uint32_t wanted_of(const bool *opened, size_t greatest, bool is_any, size
     return opened[nonce] ? NOISE_REPEATED : NOISE_OK;
 }
 
-static void open_in_any_order(network_end *e, size_t count, size_t window) {
+static void open_in_any_order(noise_datagram_receiver *r, size_t count, size_t window) {
     bool opened[MOST_DATAGRAMS] = {false}, is_any = false;
     size_t greatest = 0;
     noise_told told;
     for (size_t n = 2 * count; n; n--) {
         size_t nonce = below(count), len = datagram_lens[nonce];
-        if (!e->is_split && one_in(20)) split_network(e);
         uint32_t wanted = wanted_of(opened, greatest, is_any, nonce, window);
-        memcpy(message, datagrams[nonce], len);
+        memcpy(message, datagrams_sealed[nonce], len);
         message[8 + below(len - 8)] ^= 0x11;
-        MUST(open_in_network(e, len, &told) == (wanted == NOISE_OK ? NOISE_TAG : wanted));
-        memcpy(message, datagrams[nonce], len);
-        MUST(open_in_network(e, len, &told) == wanted);
+        MUST(call_opening(open_datagram, r, sizeof *r, datagram_codes, message, len, &told) == (wanted == NOISE_OK ? NOISE_TAG : wanted));
+        memcpy(message, datagrams_sealed[nonce], len);
+        MUST(call_opening(open_datagram, r, sizeof *r, datagram_codes, message, len, &told) == wanted);
         if (wanted != NOISE_OK) continue;
         MUST(told.len == len - NOISE_DATAGRAM_OVERHEAD && !memcmp(message + told.from, payload, told.len));
         opened[nonce] = is_any = true;
@@ -550,25 +533,20 @@ static void open_in_any_order(network_end *e, size_t count, size_t window) {
     }
 }
 
-static void use_network(const plan *p, const noise_handshake h[2]) {
-    network_end ends[2] = {{.is_split = false}, {.is_split = false}};
+static void use_network(const plan *p, party parties[2], uint32_t window) {
     noise_told told;
-    uint32_t window = (uint32_t[]){64, 256, 1024}[below(3)];
     unsigned sender = p->one_way ? 0 : (unsigned)below(2);
-    for (unsigned role = 0; role < 2; role++) MUST(noise_finish_datagrams(&h[role], window, &ends[role].d) == NOISE_OK);
+    noise_datagram_sender *s = &parties[sender].d.s;
     size_t count = 1 + below(one_in(2) ? MOST_DATAGRAMS : 10);
     for (size_t i = 0; i < count; i++) {
         size_t len = below(300);
         datagram_lens[i] = len + NOISE_DATAGRAM_OVERHEAD;
-        if (!ends[sender].is_split && one_in(20)) split_network(&ends[sender]);
-        MUST(seal_in_network(&ends[sender], len, datagram_lens[i] + below(9), &told) == NOISE_OK);
-        MUST(told.len == datagram_lens[i]);
-        memcpy(datagrams[i], message, told.len);
+        writing *seal = one_in(2) ? seal_datagram : seal_datagram_in_place;
+        MUST(call_writing(seal, s, sizeof *s, seal_codes, len, datagram_lens[i] + below(9), &told) == NOISE_OK && told.len == datagram_lens[i]);
+        memcpy(datagrams_sealed[i], message, told.len);
     }
-    for (unsigned role = 0; role < 2; role++)
-        if (!ends[role].is_split) disturb_datagrams(&ends[role].d);
-    open_in_any_order(&ends[!sender], count, window);
-    if (!ends[!sender].is_split) disturb_datagrams(&ends[!sender].d);
+    open_in_any_order(&parties[!sender].d.r, count, window);
+    for (unsigned role = 0; role < 2; role++) disturb_party(&parties[role]);
 }
 
 static void try_round(void) {
@@ -587,8 +565,18 @@ static void try_round(void) {
     for (size_t i = 0; i < 512; i++) payload[below(sizeof payload)] = (uint8_t)random_number();
     shake_hands(&p, h, given);
     ask_handshake(&h[0]);
-    use_stream(&p, h);
-    use_network(&p, h);
+    party parties[2];
+    uint64_t interval = below(5);
+    uint32_t window = (uint32_t[]){64, 256, 1024}[below(3)];
+    for (unsigned role = 0; role < 2; role++) {
+        MUST(finish(&h[role], interval, &parties[role].t) == NOISE_OK && finish_datagrams(&h[role], window, &parties[role].d) == NOISE_OK);
+        MUST(noise_finish_ciphers(&h[role], &parties[role].send, &parties[role].receive) == NOISE_OK);
+        MUST(finish_stream(&h[role], interval, &parties[role].x) == NOISE_OK);
+    }
+    use_halves(&p, parties);
+    use_ciphers(&p, parties);
+    use_stream(&p, parties);
+    use_network(&p, parties, window);
     rounds++;
 }
 

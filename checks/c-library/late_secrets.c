@@ -95,12 +95,12 @@ static void try_beside(const plan *p, unsigned given0, unsigned given1) {
         for (unsigned role = 0; role < 2; role++) must_be_alike(&late[role].x.h, &whole[role].h);
     }
     for (unsigned role = 0; role < 2; role++) {
-        noise_transport t, u;
+        transport t, u;
         MUST(late[role].asked == p->psks - (role ? given1 : given0));
         MUST(noise_set_psk(&late[role].x.h, secret(0)) == NOISE_PSK_COUNT);
-        MUST(noise_finish(&late[role].x.h, 0, &t) == NOISE_OK && noise_finish(&whole[role].h, 0, &u) == NOISE_OK);
+        MUST(finish(&late[role].x.h, 0, &t) == NOISE_OK && finish(&whole[role].h, 0, &u) == NOISE_OK);
         if (p->one_way && role) continue;
-        MUST(noise_transport_seal(&t, payload, 9, message, 25, &told) == NOISE_OK && noise_transport_seal(&u, payload, 9, other, 25, &again) == NOISE_OK);
+        MUST(noise_seal(&t.s, payload, 9, message, 25, &told) == NOISE_OK && noise_seal(&u.s, payload, 9, other, 25, &again) == NOISE_OK);
         MUST(is_same(message, other, 25));
     }
 }

@@ -6,8 +6,11 @@
 typedef struct {
     union {
         noise_handshake h;
-        noise_transport t;
-        noise_datagrams d;
+        noise_sender s;
+        noise_receiver r;
+        noise_datagram_sender ds;
+        noise_datagram_receiver dr;
+        noise_cipher c;
     } kept;
     noise_told told;
     uint32_t code;
@@ -63,39 +66,86 @@ static void check_handshake(void) {
 
 static void check_transport_calls(end ends[2]) {
     static uint8_t empty, some[16], other[16];
-    left first = blank;
-    MUST(noise_finish(&ends[0].h, 0, &first.kept.t) == NOISE_OK);
-    left a = first, b = first;
-    a.code = noise_transport_seal(&a.kept.t, NULL, 0, NULL, 0, &a.told);
-    b.code = noise_transport_seal(&b.kept.t, &empty, 0, &empty, 0, &b.told);
+    transport t;
+    MUST(finish(&ends[0].h, 0, &t) == NOISE_OK);
+    left a = {.kept.s = t.s}, b = a;
+    a.code = noise_seal(&a.kept.s, NULL, 0, NULL, 0, &a.told);
+    b.code = noise_seal(&b.kept.s, &empty, 0, &empty, 0, &b.told);
     must_be_same(&a, &b, NOISE_ROOM);
-    a.code = noise_transport_open(&a.kept.t, NULL, 0, &a.told);
-    b.code = noise_transport_open(&b.kept.t, &empty, 0, &b.told);
-    must_be_same(&a, &b, NOISE_SHORT);
-    a.code = noise_transport_seal(&a.kept.t, NULL, 0, some, sizeof some, &a.told);
-    b.code = noise_transport_seal(&b.kept.t, &empty, 0, other, sizeof other, &b.told);
+    a.code = noise_seal_in_place(&a.kept.s, NULL, 0, 0, &a.told);
+    b.code = noise_seal_in_place(&b.kept.s, &empty, 0, 0, &b.told);
+    must_be_same(&a, &b, NOISE_ROOM);
+    a.code = noise_seal(&a.kept.s, NULL, 0, some, sizeof some, &a.told);
+    b.code = noise_seal(&b.kept.s, &empty, 0, other, sizeof other, &b.told);
     must_be_same(&a, &b, NOISE_OK);
     MUST(a.told.len == 16 && !memcmp(some, other, sizeof some));
+    a = b = (left){.kept.r = t.r};
+    a.code = noise_open(&a.kept.r, NULL, 0, &a.told);
+    b.code = noise_open(&b.kept.r, &empty, 0, &b.told);
+    must_be_same(&a, &b, NOISE_SHORT);
 }
 
 static void check_datagram_calls(end ends[2]) {
     static uint8_t empty, some[24], other[24];
-    left first = blank;
-    MUST(noise_finish_datagrams(&ends[0].h, 64, &first.kept.d) == NOISE_OK);
-    left a = first, b = first;
-    a.code = noise_datagrams_seal(&a.kept.d, NULL, 0, NULL, 0, &a.told);
-    b.code = noise_datagrams_seal(&b.kept.d, &empty, 0, &empty, 0, &b.told);
+    datagrams d;
+    MUST(finish_datagrams(&ends[0].h, 64, &d) == NOISE_OK);
+    left a = {.kept.ds = d.s}, b = a;
+    a.code = noise_datagram_seal(&a.kept.ds, NULL, 0, NULL, 0, &a.told);
+    b.code = noise_datagram_seal(&b.kept.ds, &empty, 0, &empty, 0, &b.told);
     must_be_same(&a, &b, NOISE_ROOM);
-    a.code = noise_datagrams_seal_in_place(&a.kept.d, NULL, 0, 0, &a.told);
-    b.code = noise_datagrams_seal_in_place(&b.kept.d, &empty, 0, 0, &b.told);
+    a.code = noise_datagram_seal_in_place(&a.kept.ds, NULL, 0, 0, &a.told);
+    b.code = noise_datagram_seal_in_place(&b.kept.ds, &empty, 0, 0, &b.told);
     must_be_same(&a, &b, NOISE_ROOM);
-    a.code = noise_datagrams_open(&a.kept.d, NULL, 0, &a.told);
-    b.code = noise_datagrams_open(&b.kept.d, &empty, 0, &b.told);
-    must_be_same(&a, &b, NOISE_SHORT);
-    a.code = noise_datagrams_seal(&a.kept.d, NULL, 0, some, sizeof some, &a.told);
-    b.code = noise_datagrams_seal(&b.kept.d, &empty, 0, other, sizeof other, &b.told);
+    a.code = noise_datagram_seal(&a.kept.ds, NULL, 0, some, sizeof some, &a.told);
+    b.code = noise_datagram_seal(&b.kept.ds, &empty, 0, other, sizeof other, &b.told);
     must_be_same(&a, &b, NOISE_OK);
     MUST(a.told.len == 24 && !memcmp(some, other, sizeof some));
+    a = b = (left){.kept.dr = d.r};
+    a.code = noise_datagram_open(&a.kept.dr, NULL, 0, &a.told);
+    b.code = noise_datagram_open(&b.kept.dr, &empty, 0, &b.told);
+    must_be_same(&a, &b, NOISE_SHORT);
+}
+
+static void check_stream_calls(end ends[2]) {
+    static uint8_t empty;
+    stream a, b;
+    noise_stream_told told, other;
+    MUST(finish_stream(&ends[0].h, 0, &a) == NOISE_OK);
+    b = a;
+    MUST(noise_stream_write(&a.s, NULL, 0, NULL, 0, &told) == NOISE_OK && noise_stream_write(&b.s, &empty, 0, &empty, 0, &other) == NOISE_OK);
+    MUST(told.used == 0 && told.len == 0 && other.used == 0 && other.len == 0);
+    MUST(noise_stream_write(&a.s, &empty, 1, NULL, 0, &told) == NOISE_ROOM && noise_stream_end(&a.s, NULL, 0, &told) == NOISE_ROOM);
+    MUST(noise_stream_read(&a.r, NULL, 0, &told) == NOISE_MORE && told.wanted == 2);
+    MUST(noise_frame_find(NULL, 0, &told) == NOISE_MORE && told.wanted == 2 && noise_frame_message(NULL, 0, 0, &told) == NOISE_ROOM);
+    MUST(!memcmp(&a, &b, sizeof a));
+}
+
+static void check_cipher_calls(end ends[2]) {
+    static uint8_t empty, some[16], other[16];
+    noise_cipher send, receive;
+    MUST(noise_finish_ciphers(&ends[0].h, &send, &receive) == NOISE_OK);
+    left a = {.kept.c = send}, b = a;
+    a.code = noise_cipher_encrypt(&a.kept.c, NULL, 0, NULL, 0, 0, &a.told);
+    b.code = noise_cipher_encrypt(&b.kept.c, &empty, 0, &empty, 0, 0, &b.told);
+    must_be_same(&a, &b, NOISE_ROOM);
+    a.code = noise_cipher_encrypt(&a.kept.c, NULL, 0, some, sizeof some, 0, &a.told);
+    b.code = noise_cipher_encrypt(&b.kept.c, &empty, 0, other, sizeof other, 0, &b.told);
+    must_be_same(&a, &b, NOISE_OK);
+    MUST(a.told.len == 16 && !memcmp(some, other, sizeof some));
+    a = b = (left){.kept.c = receive};
+    a.code = noise_cipher_decrypt(&a.kept.c, NULL, 0, NULL, 0, &a.told);
+    b.code = noise_cipher_decrypt(&b.kept.c, &empty, 0, &empty, 0, &b.told);
+    must_be_same(&a, &b, NOISE_SHORT);
+}
+
+// A macro is an object: so its name may be a pointer to a function, and its arguments may have commas of their own.
+static void check_macros(void) {
+    uint32_t (*check)(const uint8_t *, size_t, noise_pattern_told *) = noise_check_pattern;
+    noise_pattern_told told;
+    MUST(check(NULL, 0, &told) == NOISE_HEADING);
+    MUST(noise_check_pattern((const uint8_t[]){'N', ':', 10}, 3, &(noise_pattern_told){.line = 9}) != NOISE_OK);
+    struct { int noise_open; } a = {.noise_open = 3};
+    MUST(a.noise_open == 3);
 }
 
 void check_null(void) {
@@ -106,4 +156,7 @@ void check_null(void) {
     pass_all(&p, ends);
     check_transport_calls(ends);
     check_datagram_calls(ends);
+    check_stream_calls(ends);
+    check_cipher_calls(ends);
+    check_macros();
 }

@@ -90,8 +90,8 @@ static void must_refuse(end *x, uint32_t reading, uint32_t writing) {
 static void check_turns(void) {
     plan p = plan_of("XX", -1);
     end ends[2] = {begin(&p, 0), begin(&p, 1)};
-    noise_transport t;
-    noise_datagrams d;
+    transport t;
+    datagrams d;
     noise_told told;
     check_stage(&ends[0], 3, 0, false);
     check_stage(&ends[1], 3, 0, false);
@@ -99,7 +99,7 @@ static void check_turns(void) {
         end *writer = &ends[m % 2], *reader = &ends[1 - m % 2];
         must_refuse(writer, NOISE_NOT_YOUR_TURN, 0);
         must_refuse(reader, 0, NOISE_NOT_YOUR_TURN);
-        MUST(noise_finish(&writer->h, 0, &t) == NOISE_NOT_DONE && noise_finish_datagrams(&reader->h, 64, &d) == NOISE_NOT_DONE);
+        MUST(finish(&writer->h, 0, &t) == NOISE_NOT_DONE && finish_datagrams(&reader->h, 64, &d) == NOISE_NOT_DONE);
         MUST(write_on(writer, payload, 5, message, sizeof message, &told) == NOISE_OK);
         MUST(read_on(reader, message, told.len, &told) == NOISE_OK);
         check_stage(writer, 3, m + 1, false);
@@ -109,20 +109,20 @@ static void check_turns(void) {
         must_refuse(&ends[role], NOISE_DONE, NOISE_DONE);
         for (unsigned window = 0; window < 2000; window++) {
             bool is_one = window == 64 || window == 256 || window == 1024;
-            MUST(noise_finish_datagrams(&ends[role].h, window, &d) == (is_one ? NOISE_OK : NOISE_WINDOW));
+            MUST(finish_datagrams(&ends[role].h, window, &d) == (is_one ? NOISE_OK : NOISE_WINDOW));
         }
-        MUST(noise_finish_datagrams(&ends[role].h, UINT32_MAX, &d) == NOISE_WINDOW);
+        MUST(finish_datagrams(&ends[role].h, UINT32_MAX, &d) == NOISE_WINDOW);
     }
 }
 
 // Behind a refused message nothing passes any more, but the hash is still told.
 static void must_have_ended(end *x, unsigned messages, unsigned passed) {
-    noise_transport t;
-    noise_datagrams d;
+    transport t;
+    datagrams d;
     uint8_t hash[32];
     check_stage(x, messages, passed, true);
     must_refuse(x, NOISE_ENDED, NOISE_ENDED);
-    MUST(noise_finish(&x->h, 0, &t) == NOISE_ENDED && noise_finish_datagrams(&x->h, 64, &d) == NOISE_ENDED);
+    MUST(finish(&x->h, 0, &t) == NOISE_ENDED && finish_datagrams(&x->h, 64, &d) == NOISE_ENDED);
     MUST(noise_hash(&x->h, hash) == NOISE_OK);
 }
 
@@ -293,25 +293,26 @@ static void check_differences(void) {
 // Structs that nothing has begun.
 static void check_unbegun(void) {
     noise_handshake h = {{0}}, zeros = h;
-    noise_transport t, no_transport = {{0}};
-    noise_datagrams d, no_datagrams = {{0}};
+    transport t, no_transport = {{{0}}, {{0}}};
+    datagrams d, no_datagrams = {{{0}}, {{0}}};
     noise_told told;
     noise_stage_told stage;
     noise_key key;
     uint8_t hash[32];
-    uint64_t send, receive;
+    uint64_t nonce;
     size_t len;
     MUST(noise_read(&h, message, 48, &told) == NOISE_STRUCT && noise_write(&h, payload, 5, message, 99, &told) == NOISE_STRUCT);
     MUST(noise_message_len(&h, 5, &len) == NOISE_STRUCT && noise_hash(&h, hash) == NOISE_STRUCT);
     MUST(noise_remote_static(&h, &key) == NOISE_STRUCT && noise_stage(&h, &stage) == NOISE_STRUCT);
-    MUST(noise_finish(&h, 0, &t) == NOISE_STRUCT && noise_finish_datagrams(&h, 64, &d) == NOISE_STRUCT);
+    MUST(finish(&h, 0, &t) == NOISE_STRUCT && finish_datagrams(&h, 64, &d) == NOISE_STRUCT);
     MUST(is_same(&h, &zeros, sizeof h));
     t = no_transport, d = no_datagrams;
-    MUST(noise_transport_seal(&t, payload, 5, message, 99, &told) == NOISE_STRUCT && noise_transport_open(&t, message, 48, &told) == NOISE_STRUCT);
-    MUST(noise_transport_nonces(&t, &send, &receive) == NOISE_STRUCT && noise_transport_hash(&t, hash) == NOISE_STRUCT);
-    MUST(noise_transport_remote_static(&t, &key) == NOISE_STRUCT && is_same(&t, &no_transport, sizeof t));
-    MUST(noise_datagrams_seal(&d, payload, 5, message, 99, &told) == NOISE_STRUCT && noise_datagrams_open(&d, message, 48, &told) == NOISE_STRUCT);
-    MUST(noise_datagrams_nonce(&d, &send) == NOISE_STRUCT && is_same(&d, &no_datagrams, sizeof d));
+    MUST(noise_seal(&t.s, payload, 5, message, 99, &told) == NOISE_STRUCT && noise_open(&t.r, message, 48, &told) == NOISE_STRUCT);
+    MUST(noise_seal_in_place(&t.s, message, 48, 5, &told) == NOISE_STRUCT && noise_sender_nonce(&t.s, &nonce) == NOISE_STRUCT);
+    MUST(noise_receiver_nonce(&t.r, &nonce) == NOISE_STRUCT && is_same(&t, &no_transport, sizeof t));
+    MUST(noise_datagram_seal(&d.s, payload, 5, message, 99, &told) == NOISE_STRUCT && noise_datagram_open(&d.r, message, 48, &told) == NOISE_STRUCT);
+    MUST(noise_datagram_seal_in_place(&d.s, message, 48, 5, &told) == NOISE_STRUCT && noise_datagram_sender_nonce(&d.s, &nonce) == NOISE_STRUCT);
+    MUST(is_same(&d, &no_datagrams, sizeof d));
 }
 
 void check_refusals(void) {

@@ -15,12 +15,11 @@ static const char *most_of;
 
 static plan p;
 static end ends[2];
-static noise_transport t[2];
-static noise_datagrams d[2];
-static noise_sender senders[2];
-static noise_receiver receivers[2];
-static noise_datagram_sender datagram_senders[2];
-static noise_datagram_receiver datagram_receivers[2];
+static transport t[2];
+static datagrams d[2];
+static stream x[2];
+static noise_stream_told place;
+static noise_cipher send[2], receive[2];
 static noise_told told;
 static uint8_t payload[NOISE_MAX_MESSAGE], message[LONGEST];
 static const uint8_t *pattern;
@@ -34,21 +33,28 @@ static void do_start(void) { code = noise_start(&ends[role].h, pattern, pattern_
 static void do_write(void) { code = noise_write(&ends[role].h, payload, len, message, room, &told); }
 static void do_read(void) { code = noise_read(&ends[role].h, message, len, &told); }
 static void do_answer(void) { hand_in(&ends[role], &told); }
-static void do_finish(void) { code = noise_finish(&ends[role].h, 1, &t[role]); }
-static void do_finish_datagrams(void) { code = noise_finish_datagrams(&ends[role].h, 1024, &d[role]); }
-static void do_seal(void) { code = noise_transport_seal(&t[role], payload, len, message, room, &told); }
-static void do_open(void) { code = noise_transport_open(&t[role], message, len, &told); }
-static void do_seal_datagram(void) { code = noise_datagrams_seal(&d[role], payload, len, message, room, &told); }
-static void do_open_datagram(void) { code = noise_datagrams_open(&d[role], message, len, &told); }
+static void do_finish(void) { code = finish(&ends[role].h, 1, &t[role]); }
+static void do_finish_datagrams(void) { code = finish_datagrams(&ends[role].h, 1024, &d[role]); }
+static void do_finish_stream(void) { code = finish_stream(&ends[role].h, 1, &x[role]); }
+static void do_finish_ciphers(void) { code = noise_finish_ciphers(&ends[role].h, &send[role], &receive[role]); }
+static void do_seal(void) { code = noise_seal(&t[role].s, payload, len, message, room, &told); }
+static void do_seal_in_place(void) { code = noise_seal_in_place(&t[role].s, message, room, len, &told); }
+static void do_open(void) { code = noise_open(&t[role].r, message, len, &told); }
+static void do_seal_datagram(void) { code = noise_datagram_seal(&d[role].s, payload, len, message, room, &told); }
+static void do_seal_datagram_in_place(void) { code = noise_datagram_seal_in_place(&d[role].s, message, room, len, &told); }
+static void do_open_datagram(void) { code = noise_datagram_open(&d[role].r, message, len, &told); }
+static void do_encrypt(void) { code = noise_cipher_encrypt(&send[role], payload, 30, message, room, len, &told); }
+static void do_decrypt(void) { code = noise_cipher_decrypt(&receive[role], payload, 30, message, len, &told); }
 
-static void do_seal_in_place(void) { code = noise_transport_seal_in_place(&t[role], message, room, len, &told); }
-static void do_seal_datagram_in_place(void) { code = noise_datagrams_seal_in_place(&d[role], message, room, len, &told); }
-static void do_split(void) { code = noise_transport_split(&t[role], &senders[role], &receivers[role]); }
-static void do_split_datagrams(void) { code = noise_datagrams_split(&d[role], &datagram_senders[role], &datagram_receivers[role]); }
-static void do_send(void) { code = noise_sender_seal(&senders[role], payload, len, message, room, &told); }
-static void do_receive(void) { code = noise_receiver_open(&receivers[role], message, len, &told); }
-static void do_send_datagram(void) { code = noise_datagram_sender_seal(&datagram_senders[role], payload, len, message, room, &told); }
-static void do_receive_datagram(void) { code = noise_datagram_receiver_open(&datagram_receivers[role], message, len, &told); }
+static void do_stream_write(void) {
+    code = noise_stream_write(&x[role].s, payload, len, message, room, &place);
+    told.len = place.len;
+}
+static void do_stream_end(void) {
+    code = noise_stream_end(&x[role].s, message, room, &place);
+    told.len = place.len;
+}
+static void do_stream_read(void) { code = noise_stream_read(&x[role].r, message, len, &place); }
 
 static void do_ask(void) {
     noise_stage_told stage;
@@ -126,24 +132,82 @@ static void measure_all(void) {
         measure("a call that asks", do_ask);
         measure("noise_finish", do_finish);
         measure("noise_finish_datagrams", do_finish_datagrams);
+        measure("noise_finish_ciphers", do_finish_ciphers);
+        measure("noise_finish_stream", do_finish_stream);
     }
     measure("noise_check_pattern", do_check);
     static const size_t lens[] = {0, 1, 64, 1000, NOISE_MAX_MESSAGE - NOISE_TAG_LEN};
     for (size_t i = 0; i < sizeof lens / sizeof *lens; i++) {
-        pass_sealed("noise_transport_seal", do_seal, "noise_transport_open", do_open, lens[i]);
-        pass_sealed("noise_datagrams_seal", do_seal_datagram, "noise_datagrams_open", do_open_datagram, lens[i]);
-        pass_sealed("noise_transport_seal_in_place", do_seal_in_place, "noise_transport_open", do_open, lens[i]);
-        pass_sealed("noise_datagrams_seal_in_place", do_seal_datagram_in_place, "noise_datagrams_open", do_open_datagram, lens[i]);
-    }
-    for (role = 0; role < 2; role++) {
-        measure("noise_transport_split", do_split);
-        measure("noise_datagrams_split", do_split_datagrams);
+        pass_sealed("noise_seal", do_seal, "noise_open", do_open, lens[i]);
+        pass_sealed("noise_seal_in_place", do_seal_in_place, "noise_open", do_open, lens[i]);
+        pass_sealed("noise_datagram_seal", do_seal_datagram, "noise_datagram_open", do_open_datagram, lens[i]);
+        pass_sealed("noise_datagram_seal_in_place", do_seal_datagram_in_place, "noise_datagram_open", do_open_datagram, lens[i]);
+        pass_sealed("noise_cipher_encrypt", do_encrypt, "noise_cipher_decrypt", do_decrypt, lens[i]);
+        if (!lens[i]) continue;
+        stream right = x[1];
+        len = lens[i], room = sizeof message, role = 0;
+        measure("noise_stream_write", do_stream_write);
+        MUST(code == NOISE_OK);
+        len = told.len, role = 1;
+        message[len - 1] ^= 1;
+        measure("noise_stream_read", do_stream_read);
+        MUST(code == NOISE_TAG);
+        message[len - 1] ^= 1;
+        x[1] = right;
+        measure("noise_stream_read", do_stream_read);
         MUST(code == NOISE_OK);
     }
-    for (size_t i = 0; i < sizeof lens / sizeof *lens; i++) {
-        pass_sealed("noise_sender_seal", do_send, "noise_receiver_open", do_receive, lens[i]);
-        pass_sealed("noise_datagram_sender_seal", do_send_datagram, "noise_datagram_receiver_open", do_receive_datagram, lens[i]);
+    role = 0;
+    measure("noise_stream_end", do_stream_end);
+    MUST(code == NOISE_OK);
+    len = told.len, role = 1;
+    measure("noise_stream_read", do_stream_read);
+    MUST(code == NOISE_END);
+}
+
+// Whether 8 bytes of a secret are still somewhere on the stack that a call and noise_wipe_stack have used.
+static bool is_left(const uint8_t *secret_bytes, size_t secret_len) {
+    for (size_t at = 0; at + 8 <= STACK; at++)
+        for (size_t i = 0; i + 8 <= secret_len; i += 8)
+            if (!memcmp(stack + at, secret_bytes + i, 8)) return true;
+    return false;
+}
+
+static void (*wiped_call)(void);
+static void do_and_wipe(void) {
+    wiped_call();
+    noise_wipe_stack();
+}
+
+// noise_start leaves psks on the stack, and the others keys: noise_wipe_stack overwrites them.
+static void check_wiping(void) {
+    bool ever_left = false;
+    void (*const calls[])(void) = {do_start, do_finish, do_finish_ciphers, do_seal};
+    p = plan_of("XX", 3);
+    pattern = (const uint8_t *)p.name;
+    pattern_len = strlen(p.name);
+    for (role = 0; role < 2; role++) {
+        ends[role].role = role;
+        setup = setup_of(&p, role);
+        do_start();
+        MUST(code == NOISE_OK);
     }
+    noise_handshake begun = ends[0].h;
+    pass_all(&p, ends);
+    role = 0, len = 100, room = sizeof message;
+    for (size_t i = 0; i < sizeof calls / sizeof *calls; i++) {
+        noise_handshake done = ends[0].h;
+        if (i == 0) ends[0].h = begun;
+        wiped_call = calls[i];
+        taken_by(wiped_call);
+        MUST(code == NOISE_OK);
+        const uint8_t *secrets[] = {secret(0), t[0].s.kept + 6, t[0].r.kept + 6, send[0].kept + 5, receive[0].kept + 5};
+        for (size_t n = 0; n < (i ? 5 : 1); n++) ever_left = ever_left || is_left(secrets[n], 32);
+        taken_by(do_and_wipe);
+        for (size_t n = 0; n < (i ? 5 : 1); n++) MUST(!is_left(secrets[n], 32));
+        if (i == 0) ends[0].h = done;
+    }
+    printf("c-library: stack: secrets were %s there, and noise_wipe_stack overwrote them\n", ever_left ? "left" : "not left");
 }
 
 int main(int count, char **words) {
@@ -156,6 +220,7 @@ int main(int count, char **words) {
             : i == PATTERNS ? plan_of("XX", 3) : plan_of_text("XX1psk0+psk3:\n  -> psk, e\n  <- e, ee, s\n  -> es, s, se, psk\n", "XX", 2, true);
         if (!p.one_way || i == 0) measure_all();
     }
+    check_wiping();
     printf("c-library: stack: at most %zu bytes, by %s\n", most, most_of);
     return most > strtoul(words[1], NULL, 10);
 }

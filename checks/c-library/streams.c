@@ -4,20 +4,15 @@
 
 enum { PART = NOISE_MAX_MESSAGE - NOISE_TAG_LEN, ROOM = NOISE_MAX_FRAME + 10 };
 
-typedef struct {
-    noise_stream_sender s;
-    noise_stream_receiver r;
-} stream;
-
 static uint8_t payload[2 * PART], out[ROOM], other[ROOM], buffer[ROOM];
 
-static void open_pair(const char *pattern, uint64_t interval, stream x[2], noise_transport t[2]) {
+static void open_pair(const char *pattern, uint64_t interval, stream x[2], transport t[2]) {
     plan p = plan_of(pattern, -1);
     end ends[2] = {begin(&p, 0), begin(&p, 1)};
     pass_all(&p, ends);
     for (unsigned role = 0; role < 2; role++) {
-        MUST(noise_finish_stream(&ends[role].h, interval, &x[role].s, &x[role].r) == NOISE_OK);
-        MUST(noise_finish(&ends[role].h, interval, &t[role]) == NOISE_OK);
+        MUST(finish_stream(&ends[role].h, interval, &x[role]) == NOISE_OK);
+        MUST(finish(&ends[role].h, interval, &t[role]) == NOISE_OK);
     }
 }
 
@@ -29,7 +24,7 @@ static void must_be_cut(const stream *x, size_t left, bool is) {
 static void check_frames(uint64_t interval) {
     static const size_t lens[] = {1, 2, 100, 0, 17, PART - 1, PART, PART + 1, 2 * PART, 5};
     stream x[2];
-    noise_transport t[2];
+    transport t[2];
     noise_stream_told told;
     noise_told sealed;
     open_pair("XX", interval, x, t);
@@ -40,7 +35,7 @@ static void check_frames(uint64_t interval) {
         MUST(noise_stream_write(&x[0].s, payload, len, out, sizeof out, &told) == NOISE_OK && told.used == part);
         MUST(told.len == (len ? part + NOISE_STREAM_OVERHEAD : 0) && out[told.len] == 0x55);
         if (!len) continue;
-        MUST(noise_transport_seal(&t[0], payload, part, other, sizeof other, &sealed) == NOISE_OK);
+        MUST(noise_seal(&t[0].s, payload, part, other, sizeof other, &sealed) == NOISE_OK);
         MUST((size_t)(out[0] << 8 | out[1]) == sealed.len && !memcmp(out + 2, other, sealed.len));
         must_be_cut(&x[1], 0, true);
         MUST(noise_stream_read(&x[1].r, out, told.len, &told) == NOISE_OK);
@@ -58,7 +53,7 @@ static void check_frames(uint64_t interval) {
 static void check_pieces(void) {
     static const size_t lens[] = {1, 30, 7};
     stream x[2], old;
-    noise_transport t[2];
+    transport t[2];
     noise_stream_told told;
     size_t size = 0, have = 0, parts = 0;
     open_pair("IK", 2, x, t);
@@ -114,7 +109,7 @@ static void must_not_end(noise_stream_sender *s, size_t room, uint32_t code) {
 
 static void check_writing(void) {
     stream x[2];
-    noise_transport t[2];
+    transport t[2];
     noise_stream_told told;
     open_pair("NN", 0, x, t);
     for (size_t room = 0; room < 28; room++) must_not_write(&x[0].s, 10, room, NOISE_ROOM);
@@ -135,7 +130,7 @@ static void check_writing(void) {
 static void check_refused(void) {
     static const size_t lens[] = {0, 5, 15, 16, 40};
     stream x[2], old;
-    noise_transport t[2];
+    transport t[2];
     noise_stream_told told;
     open_pair("NN", 0, x, t);
     MUST(noise_stream_write(&x[0].s, payload, 9, out, sizeof out, &told) == NOISE_OK);
@@ -165,7 +160,7 @@ static void check_refused(void) {
 // Structs of another kind, of zeros, with another mark, or with a state that no stream has.
 static void check_structs(void) {
     stream x[2];
-    noise_transport t[2];
+    transport t[2];
     noise_stream_told told;
     noise_told of_transport;
     open_pair("XX", 0, x, t);
@@ -184,14 +179,11 @@ static void check_structs(void) {
     // A stream's half begins with a half of its own kind, and is no half of messages, nor the other way round.
     memcpy(&sender, &x[0].r, sizeof sender);
     must_not_write(&sender, 5, sizeof out, NOISE_STRUCT);
-    MUST(noise_sender_seal((noise_sender *)&x[0].s, payload, 5, out, sizeof out, &of_transport) == NOISE_STRUCT);
-    MUST(noise_receiver_open((noise_receiver *)&x[0].r, buffer, 20, &of_transport) == NOISE_STRUCT);
-    noise_sender half;
-    noise_receiver other_half;
-    MUST(noise_transport_split(&t[0], &half, &other_half) == NOISE_OK);
+    MUST(noise_seal((noise_sender *)&x[0].s, payload, 5, out, sizeof out, &of_transport) == NOISE_STRUCT);
+    MUST(noise_open((noise_receiver *)&x[0].r, buffer, 20, &of_transport) == NOISE_STRUCT);
     sender = zero_sender, receiver = zero_receiver;
-    memcpy(&sender, &half, sizeof half);
-    memcpy(&receiver, &other_half, sizeof other_half);
+    memcpy(&sender, &t[0].s, sizeof t[0].s);
+    memcpy(&receiver, &t[0].r, sizeof t[0].r);
     must_not_write(&sender, 5, sizeof out, NOISE_STRUCT);
     MUST(noise_stream_read(&receiver, buffer, 20, &told) == NOISE_STRUCT);
 }
@@ -304,7 +296,7 @@ static bool shake(session *s, unsigned role) {
     uint8_t message[LONG];
     MUST(noise_stage(&m->x.h, &stage) == NOISE_OK);
     if (stage.passed == stage.messages) {
-        MUST(noise_finish_stream(&m->x.h, 2, &m->open.s, &m->open.r) == NOISE_OK);
+        MUST(finish_stream(&m->x.h, 2, &m->open) == NOISE_OK);
         m->is_open = true;
         return true;
     }

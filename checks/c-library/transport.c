@@ -3,55 +3,56 @@
 
 static uint8_t message[NOISE_MAX_MESSAGE + 1], before[NOISE_MAX_MESSAGE + 1], payload[NOISE_MAX_MESSAGE + 1];
 
-static void open_pair(const plan *p, uint64_t interval, noise_transport t[2]) {
+static void open_pair(const plan *p, uint64_t interval, transport t[2]) {
     end ends[2] = {begin(p, 0), begin(p, 1)};
     pass_all(p, ends);
     for (unsigned role = 0; role < 2; role++) {
         noise_handshake old = ends[role].h;
-        MUST(noise_finish(&ends[role].h, interval, &t[role]) == NOISE_OK);
+        MUST(finish(&ends[role].h, interval, &t[role]) == NOISE_OK);
         MUST(!memcmp(&old, &ends[role].h, sizeof old));
     }
 }
 
-static void must_be_at(const noise_transport *t, uint64_t send, uint64_t receive) {
+static void must_be_at(const transport *t, uint64_t send, uint64_t receive) {
     uint64_t sends, receives;
-    MUST(noise_transport_nonces(t, &sends, &receives) == NOISE_OK && sends == send && receives == receive);
+    MUST(noise_sender_nonce(&t->s, &sends) == NOISE_OK && noise_receiver_nonce(&t->r, &receives) == NOISE_OK);
+    MUST(sends == send && receives == receive);
 }
 
-static size_t seal(noise_transport *t, size_t len, unsigned number) {
+static size_t seal(transport *t, size_t len, unsigned number) {
     noise_told told;
     fill(payload, len, number);
-    MUST(noise_transport_seal(t, payload, len, message, sizeof message, &told) == NOISE_OK && told.len == len + 16);
+    MUST(noise_seal(&t->s, payload, len, message, sizeof message, &told) == NOISE_OK && told.len == len + 16);
     return told.len;
 }
 
-static void open_next(noise_transport *t, size_t message_len, unsigned number) {
+static void open_next(transport *t, size_t message_len, unsigned number) {
     noise_told told;
     fill(payload, message_len - 16, number);
-    MUST(noise_transport_open(t, message, message_len, &told) == NOISE_OK && told.len == message_len - 16);
+    MUST(noise_open(&t->r, message, message_len, &told) == NOISE_OK && told.len == message_len - 16);
     MUST(!memcmp(message + told.from, payload, told.len));
 }
 
-static void must_not_open(noise_transport *t, size_t len, uint32_t code) {
+static void must_not_open(transport *t, size_t len, uint32_t code) {
     noise_told told;
-    noise_transport old = *t;
+    transport old = *t;
     memcpy(before, message, len);
-    MUST(noise_transport_open(t, message, len, &told) == code);
+    MUST(noise_open(&t->r, message, len, &told) == code);
     MUST(!memcmp(&old, t, sizeof old) && !memcmp(before, message, len));
 }
 
-static void must_not_seal(noise_transport *t, size_t len, size_t room, uint32_t code) {
+static void must_not_seal(transport *t, size_t len, size_t room, uint32_t code) {
     noise_told told;
-    noise_transport old = *t;
+    transport old = *t;
     memset(message, 0x33, sizeof message);
     memset(before, 0x33, sizeof before);
-    MUST(noise_transport_seal(t, payload, len, message, room, &told) == code);
+    MUST(noise_seal(&t->s, payload, len, message, room, &told) == code);
     MUST(!memcmp(&old, t, sizeof old) && !memcmp(before, message, sizeof before));
 }
 
 static void check_sizes(void) {
     plan p = plan_of("XX", -1);
-    noise_transport t[2];
+    transport t[2];
     noise_told told;
     open_pair(&p, 0, t);
     must_not_seal(&t[0], NOISE_MAX_MESSAGE - 15, sizeof message, NOISE_TOO_LONG);
@@ -59,7 +60,7 @@ static void check_sizes(void) {
     for (size_t room = 0; room < 26; room++) must_not_seal(&t[0], 10, room, NOISE_ROOM);
     must_be_at(&t[0], 0, 0);
     memset(message, 0x33, sizeof message);
-    MUST(noise_transport_seal(&t[0], payload, 10, message, 26, &told) == NOISE_OK && told.len == 26 && message[26] == 0x33);
+    MUST(noise_seal(&t[0].s, payload, 10, message, 26, &told) == NOISE_OK && told.len == 26 && message[26] == 0x33);
     must_be_at(&t[0], 1, 0);
     for (size_t len = 0; len < 26; len++) must_not_open(&t[1], len, len < 16 ? NOISE_SHORT : NOISE_TAG);
     must_not_open(&t[1], 27, NOISE_TAG);
@@ -72,7 +73,7 @@ static void check_sizes(void) {
     }
     must_not_open(&t[0], 26, NOISE_TAG);                 // one's own
     must_be_at(&t[1], 0, 0);
-    MUST(noise_transport_open(&t[1], message, 26, &told) == NOISE_OK && told.len == 10 && !memcmp(message + told.from, payload, 10));
+    MUST(noise_open(&t[1].r, message, 26, &told) == NOISE_OK && told.len == 10 && !memcmp(message + told.from, payload, 10));
     must_be_at(&t[1], 0, 1);
     open_next(&t[1], seal(&t[0], NOISE_MAX_MESSAGE - 16, 4), 4);
     open_next(&t[0], seal(&t[1], 0, 5), 5);
@@ -82,7 +83,7 @@ static void check_sizes(void) {
 // A message that is lost: all later ones are refused, until it comes.
 static void check_lost(void) {
     plan p = plan_of("NN", -1);
-    noise_transport t[2];
+    transport t[2];
     open_pair(&p, 0, t);
     uint8_t first[40];
     seal(&t[1], 24, 1);
@@ -101,7 +102,7 @@ static void check_intervals(void) {
     plan p = plan_of("IK", 2);
     static const uint64_t intervals[] = {1, 2, 3, 7, UINT64_MAX};
     for (unsigned i = 0; i < 5; i++) {
-        noise_transport t[2], never[2];
+        transport t[2], never[2];
         open_pair(&p, intervals[i], t);
         open_pair(&p, 0, never);
         for (unsigned n = 0; n < 12; n++) {
@@ -126,7 +127,7 @@ static void check_intervals(void) {
 static void check_one_way(void) {
     for (unsigned i = 0; i < 3; i++) {
         plan p = plan_of(patterns[i], 1);
-        noise_transport t[2];
+        transport t[2];
         open_pair(&p, 2, t);
         must_not_seal(&t[1], 5, sizeof message, NOISE_ONE_WAY);
         for (unsigned n = 0; n < 5; n++) open_next(&t[1], seal(&t[0], n, n), n);
@@ -150,18 +151,18 @@ static size_t counter(const uint8_t *earlier, const uint8_t *later, size_t size)
 // At the nonce 2^64 - 1 nothing is sealed and nothing is opened. A kept nonce is set to it here, which no program does.
 static void check_exhausted(void) {
     plan p = plan_of("NN", -1);
-    noise_transport t[2], old[2];
+    transport t[2], old[2];
     open_pair(&p, 0, t);
     memcpy(old, t, sizeof old);
     open_next(&t[1], seal(&t[0], 9, 1), 1);
-    size_t sending = counter(old[0].kept, t[0].kept, sizeof t[0]), receiving = counter(old[1].kept, t[1].kept, sizeof t[1]);
-    memset(t[0].kept + sending, 0xff, 8);
-    memset(t[1].kept + receiving, 0xff, 8);
+    size_t sending = counter(old[0].s.kept, t[0].s.kept, sizeof t[0].s), receiving = counter(old[1].r.kept, t[1].r.kept, sizeof t[1].r);
+    memset(t[0].s.kept + sending, 0xff, 8);
+    memset(t[1].r.kept + receiving, 0xff, 8);
     must_be_at(&t[0], UINT64_MAX, 0);
     must_be_at(&t[1], 0, UINT64_MAX);
     must_not_seal(&t[0], 9, sizeof message, NOISE_EXHAUSTED);
     must_not_open(&t[1], 30, NOISE_EXHAUSTED);
-    t[0].kept[sending] = t[1].kept[receiving] = 0xfe;    // the last message there is
+    t[0].s.kept[sending] = t[1].r.kept[receiving] = 0xfe;    // the last message there is
     open_next(&t[1], seal(&t[0], 9, 1), 1);
     must_not_seal(&t[0], 9, sizeof message, NOISE_EXHAUSTED);
     must_not_open(&t[1], 30, NOISE_EXHAUSTED);

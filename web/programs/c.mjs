@@ -78,8 +78,8 @@ function start({ has, knows, knowsEphemeral, psks }) {
 
 function main({ psks, isDatagrams, interval, window }) {
   const [finish, option, seal, open] = isDatagrams
-    ? ['noise_finish_datagrams', window, 'noise_datagrams_seal', 'noise_datagrams_open']
-    : ['noise_finish', interval, 'noise_transport_seal', 'noise_transport_open'];
+    ? ['noise_finish_datagrams', window, 'noise_datagram_seal', 'noise_datagram_open']
+    : ['noise_finish', interval, 'noise_seal', 'noise_open'];
   return lines(
     'int main(void) {',
     '    static party client, server;',
@@ -95,12 +95,12 @@ function main({ psks, isDatagrams, interval, window }) {
     '        step(to, 0, message, step(from, 1, message, 0));    // a network comes between the two calls',
     '    }',
     '    // Compare the other party\'s static key, by noise_remote_static, with the one that you expect.',
-    `    must(${finish}(&client.handshake, ${option}, &client.open) == NOISE_OK, "the client isn't done");`,
-    `    must(${finish}(&server.handshake, ${option}, &server.open) == NOISE_OK, "the server isn't done");`,
+    `    must(${finish}(&client.handshake, ${option}, &client.sender, &client.receiver) == NOISE_OK, "the client isn't done");`,
+    `    must(${finish}(&server.handshake, ${option}, &server.sender, &server.receiver) == NOISE_OK, "the server isn't done");`,
     '    noise_wipe(&client.handshake, sizeof client.handshake);',
     '    noise_wipe(&server.handshake, sizeof server.handshake);',
-    `    must(${seal}(&client.open, (const uint8_t *)"hello", 5, message, sizeof message, &told) == NOISE_OK, "not sealed");`,
-    `    must(${open}(&server.open, message, told.len, &told) == NOISE_OK, "not opened");`,
+    `    must(${seal}(&client.sender, (const uint8_t *)"hello", 5, message, sizeof message, &told) == NOISE_OK, "not sealed");`,
+    `    must(${open}(&server.receiver, message, told.len, &told) == NOISE_OK, "not opened");`,
     '    printf("the server reads: %.*s\\n", (int)told.len, (const char *)message + told.from);',
     '    noise_wipe(&client, sizeof client);',
     '    noise_wipe(&server, sizeof server);',
@@ -129,7 +129,8 @@ export function c(facts) {
     'typedef struct {',
     '    key_pair e, s;',
     '    noise_handshake handshake;',
-    `    ${isDatagrams ? 'noise_datagrams' : 'noise_transport'} open;`,
+    `    ${isDatagrams ? 'noise_datagram_sender' : 'noise_sender'} sender;`,
+    `    ${isDatagrams ? 'noise_datagram_receiver' : 'noise_receiver'} receiver;`,
     '} party;', '',
     start(facts), STEP, main(facts).trimEnd(),
   );

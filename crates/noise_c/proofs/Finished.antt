@@ -6,7 +6,7 @@ use Rattle.noise_handshake.specs.Held.{Held}
 use Rattle.noise_keys.specs.Table.{Table}
 use Rattle.noise_c.specs.declared.kept.NoiseHandshake.{NoiseHandshake}
 use Rattle.noise_c.specs.Kept.{held_in}
-use Rattle.noise_c.specs.KeptTransport.{finish_code}
+use Rattle.noise_c.specs.Finishing.{finish_code}
 
 pub finish-done : (h : Held Table) → h.ended ≡ false → h.passed ≡ length h.pattern.messages → finish_code h ≡ 0
 finish-done h e n = grind (arith, nat_tests)

@@ -1,15 +1,23 @@
 -- What the memory that C keeps of a half of datagrams stands for.
-use Rattle.std.specs.Prelude.{ℕ, ◌==◌, ◌+◌, nat_lt, not, ◌&&◌, Bool, Some, if◌then◌else◌}
+use Rattle.std.specs.Prelude.{ℕ, ◌==◌, ◌+◌, nat_lt, not, ◌||◌, ◌&&◌, Bool, Some, if◌then◌else◌}
+use Rattle.noise_events.specs.declared.window.Window.{Window}
+use Rattle.noise_events.specs.declared.window.Window.TheVariants.{W64, W256, W1024}
 use Rattle.noise_session.specs.Datagrams.{unsealed}
 use Rattle.noise_session.specs.DatagramHalves.{HeldDatagramSender, HeldDatagramReceiver}
 use Rattle.noise_session.specs.Windows.{is_ring}
 use Rattle.noise_c.specs.declared.kept_datagram_halves.NoiseDatagramSender.{NoiseDatagramSender}
 use Rattle.noise_c.specs.declared.kept_datagram_halves.NoiseDatagramReceiver.{NoiseDatagramReceiver}
 use Rattle.noise_c.specs.declared.marks.TheConstants.{DATAGRAM_SENDER, DATAGRAM_RECEIVER}
-use Rattle.noise_c.specs.KeptTransport.{is_party, party_in}
-use Rattle.noise_c.specs.KeptDatagrams.{is_window, window_in}
+use Rattle.noise_c.specs.Parties.{is_party, party_in}
 use Rattle.noise_c.specs.TransportCodes.{sealing_code}
 use Rattle.noise_c.specs.declared.codes.TheConstants.{ROOM, STRUCT}
+
+-- the number of nonces of a window
+abbrev pub is_window : ℕ → Bool
+is_window width = (width == 64) || (width == 256) || (width == 1024)
+
+abbrev pub window_in : ℕ → Window
+window_in width = if width == 64 then W64 else if width == 256 then W256 else W1024
 
 -- A call has left this as a half that seals: its mark is that of one of this layout, and it is of one of the two parties.
 abbrev pub is_datagram_sender : NoiseDatagramSender → Bool

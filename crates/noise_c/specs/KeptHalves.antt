@@ -3,7 +3,7 @@ use Rattle.std.specs.Prelude.{ℕ, ◌==◌, ◌+◌, nat_lt, not, ◌&&◌, Boo
 use Rattle.noise_session.specs.Halves.{HeldHalf, sender_fault, receiver_fault}
 use Rattle.noise_c.specs.declared.kept_halves.NoiseHalf.{NoiseHalf}
 use Rattle.noise_c.specs.declared.marks.TheConstants.{SENDER, RECEIVER}
-use Rattle.noise_c.specs.KeptTransport.{is_party, party_in}
+use Rattle.noise_c.specs.Parties.{is_party, party_in}
 use Rattle.noise_c.specs.TransportCodes.{sealing_code, open_code}
 use Rattle.noise_c.specs.declared.codes.TheConstants.{ROOM, STRUCT}
 

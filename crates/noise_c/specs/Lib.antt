@@ -3,8 +3,8 @@ pub mod Checked
 pub mod Codes
 pub mod Kept
 pub mod TransportCodes
-pub mod KeptTransport
-pub mod KeptDatagrams
+pub mod Parties
+pub mod Finishing
 pub mod KeptHalves
 pub mod KeptDatagramHalves
 pub mod KeptCipher

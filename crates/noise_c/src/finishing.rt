@@ -6,7 +6,7 @@ ghost use Rattle.noise_names.specs.Plan.{Plan};
 ghost use Rattle.noise_handshake.specs.View.{View};
 ghost use Rattle.noise_handshake.specs.Opening.{Opens};
 ghost use Rattle.noise_c.specs.Kept.{held_in, IsUsable, KeepsView};
-ghost use Rattle.noise_c.specs.KeptTransport.{finish_code};
+ghost use Rattle.noise_c.specs.Finishing.{finish_code};
 ghost use Rattle.noise_c.specs.declared.codes.TheConstants.{ENDED, OK, STRUCT};
 ghost use Rattle.noise_c.specs.declared.transport_codes.TheConstants.{NOT_DONE};
 

@@ -3,11 +3,13 @@
 
 ghost use Rattle.std.specs.Prelude.{◌≡◌, IfSome, is_some, true};
 ghost use Rattle.noise_c.specs.KeptDatagramHalves.{is_datagram_sender, datagram_sender_kept_in, is_datagram_receiver, datagram_receiver_kept_in};
+ghost use Rattle.noise_c.specs.KeptDatagramHalves.{is_window, window_in};
 
-use crate::kept_datagrams::{width_of, window_named};
-use crate::kept_transport::{party_of, role_named};
 use crate::marks::{DATAGRAM_RECEIVER, DATAGRAM_SENDER};
-use noise_session::{DatagramReceiver, DatagramReceiverParts, DatagramSender, DatagramSenderParts};
+use crate::parties::{party_of, role_named};
+use noise_session::{
+    DatagramReceiver, DatagramReceiverParts, DatagramSender, DatagramSenderParts, Window,
+};
 
 /// The sending half of datagrams of one party: of the initiator where `party` is 1, of the responder where it is 2. At any other
 /// numbers or mark there is none. `include/noise.h` declares the same as aligned bytes.
@@ -33,6 +35,30 @@ pub struct NoiseDatagramReceiver {
     pub key: [u8; 32],
     pub greatest: u64,
     pub words: [u64; 17],
+}
+
+// The window of so many nonces.
+pub(crate) fn window_named(width: u32) -> Option<Window>
+    ensures known { is_some result ≡ is_window width }
+    ensures same { IfSome result (λ window. window ≡ window_in width) }
+{
+    match width {
+        64 => Some(Window::W64),
+        256 => Some(Window::W256),
+        1024 => Some(Window::W1024),
+        _ => None,
+    }
+}
+
+fn width_of(window: Window) -> u32
+    ensures known { is_window result ≡ true }
+    ensures same { window_in result ≡ window }
+{
+    match window {
+        Window::W64 => 64,
+        Window::W256 => 256,
+        Window::W1024 => 1024,
+    }
 }
 
 // The sending half of what C keeps, if a call has left it.

@@ -6,8 +6,8 @@ ghost use Rattle.noise_session.specs.Parts.{half_in};
 ghost use Rattle.noise_c.specs.KeptHalves.{is_half, half_kept_in};
 ghost use Rattle.noise_c.specs.declared.marks.TheConstants.{SENDER, RECEIVER};
 
-use crate::kept_transport::{party_of, role_named};
 use crate::marks::{RECEIVER, SENDER};
+use crate::parties::{party_of, role_named};
 use noise_session::{HalfParts, Receiver, Sender};
 
 /// A half of a transport of one party, the sending or the receiving one by its mark: of the initiator where `party` is 1, of the

@@ -6,7 +6,7 @@ ghost use Rattle.noise_c.specs.declared.codes.TheConstants.{AGREEMENT, ARROW, DO
 ghost use Rattle.noise_c.specs.declared.codes.TheConstants.{NAME, NAME_TAKEN, NOT_DUE, NOT_YOUR_TURN, OK, PATTERN, PRE_MESSAGE, PSK_COUNT};
 ghost use Rattle.noise_c.specs.declared.codes.TheConstants.{PSK_PLACE, REMOTE_MISSING, REMOTE_UNEXPECTED, ROOM, RULE, SHORT, STATIC_MISSING, STRUCT, TAG, TOKEN, TOO_LONG, TURN, WANTED, WANTED_PSK};
 ghost use Rattle.noise_c.specs.declared.transport_codes.TheConstants.{EXHAUSTED, NOT_DONE, OLD, ONE_WAY, REPEATED, RESERVED, WINDOW};
-ghost use Rattle.noise_c.specs.declared.marks.TheConstants.{HANDSHAKE, TRANSPORT, SENDER, RECEIVER, DATAGRAMS, DATAGRAM_SENDER, DATAGRAM_RECEIVER};
+ghost use Rattle.noise_c.specs.declared.marks.TheConstants.{HANDSHAKE, SENDER, RECEIVER, DATAGRAM_SENDER, DATAGRAM_RECEIVER};
 ghost use Rattle.noise_c.specs.declared.marks.TheConstants.{SENDING_CIPHER, RECEIVING_CIPHER, STREAM_SENDER, STREAM_RECEIVER};
 ghost use Rattle.noise_c.specs.declared.stream_codes.TheConstants.{CLOSED, CUT, END, MORE};
 
@@ -60,16 +60,14 @@ pub fn answers_are_numbered()
 /// The mark of each kind of kept struct, and that no two kinds have the same.
 pub fn marks_differ()
     ensures handshake { HANDSHAKE ≡ 0x4e6f_0101 }
-    ensures transport { TRANSPORT ≡ 0x4e6f_0201 }
     ensures sender { SENDER ≡ 0x4e6f_0301 }
     ensures receiver { RECEIVER ≡ 0x4e6f_0401 }
-    ensures datagrams { DATAGRAMS ≡ 0x4e6f_0501 }
     ensures datagram_sender { DATAGRAM_SENDER ≡ 0x4e6f_0601 }
     ensures datagram_receiver { DATAGRAM_RECEIVER ≡ 0x4e6f_0701 }
     ensures sending_cipher { SENDING_CIPHER ≡ 0x4e6f_0801 }
     ensures receiving_cipher { RECEIVING_CIPHER ≡ 0x4e6f_0901 }
     ensures stream_sender { STREAM_SENDER ≡ 0x4e6f_0a01 }
     ensures stream_receiver { STREAM_RECEIVER ≡ 0x4e6f_0b01 }
-    ensures differ { IsDistinct nat_eq (HANDSHAKE ∷ TRANSPORT ∷ SENDER ∷ RECEIVER ∷ DATAGRAMS ∷ DATAGRAM_SENDER ∷ DATAGRAM_RECEIVER
+    ensures differ { IsDistinct nat_eq (HANDSHAKE ∷ SENDER ∷ RECEIVER ∷ DATAGRAM_SENDER ∷ DATAGRAM_RECEIVER
         ∷ SENDING_CIPHER ∷ RECEIVING_CIPHER ∷ STREAM_SENDER ∷ STREAM_RECEIVER ∷ []) }
 {}

@@ -1,5 +1,5 @@
-//! Noise for C, Go and Rust: handshakes, transports and datagrams whose memory the caller keeps. No call takes memory, and no key
-//! pair is used: the caller is shown which DH answer is wanted, and hands it in.
+//! Noise for C, Go and Rust: handshakes, and the halves and cipher states that they leave, whose memory the caller keeps. No call takes memory,
+//! and no key pair is used: the caller is shown which DH answer is wanted, and hands it in.
 #![tactic(auto)]
 
 pub mod answered;
@@ -9,8 +9,6 @@ mod cipher_finishing;
 mod ciphers;
 mod codes;
 mod datagram_halves;
-mod datagram_splitting;
-mod datagrams;
 mod finishing;
 mod frames;
 mod halves;
@@ -19,18 +17,16 @@ mod held;
 mod kept;
 mod kept_cipher;
 mod kept_datagram_halves;
-mod kept_datagrams;
 mod kept_halves;
 mod kept_keys;
 mod kept_streams;
-mod kept_transport;
 pub mod laws;
 mod marks;
+mod parties;
 mod secrets;
-mod splitting;
 mod starting;
 mod stream_codes;
 mod streams;
 mod transport_codes;
-mod transports;
+mod version;
 mod writing;

@@ -6,13 +6,9 @@
 
 pub(crate) const HANDSHAKE: u32 = 0x4e6f_0101;
 
-pub(crate) const TRANSPORT: u32 = 0x4e6f_0201;
-
 pub(crate) const SENDER: u32 = 0x4e6f_0301;
 
 pub(crate) const RECEIVER: u32 = 0x4e6f_0401;
-
-pub(crate) const DATAGRAMS: u32 = 0x4e6f_0501;
 
 pub(crate) const DATAGRAM_SENDER: u32 = 0x4e6f_0601;
 

@@ -16,7 +16,7 @@ ghost use Rattle.noise_channel.specs.Writing.Put.{Wrote};
 ghost use Rattle.noise_channel.specs.Reading.{ReaderState, Reads, Given};
 ghost use Rattle.noise_channel.specs.Reading.ReaderState.{Listens};
 ghost use Rattle.noise_c.specs.Kept.{held_in, IsUsable, KeepsView};
-ghost use Rattle.noise_c.specs.KeptTransport.{finish_code};
+ghost use Rattle.noise_c.specs.Finishing.{finish_code};
 ghost use Rattle.noise_c.specs.KeptStreams.{is_stream_sender, writer_kept_in, is_stream_receiver, reader_kept_in, part_of, frame_of};
 ghost use Rattle.noise_c.specs.KeptHalves.{half_kept_in};
 ghost use Rattle.noise_c.specs.KeptStreams.{stream_write_code, stream_end_code, TellsGiven, TellsPlace, LeavesReader, IsRefusal};

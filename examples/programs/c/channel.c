@@ -1,126 +1,136 @@
-// A secure channel over a stream, on the library, with X25519 and random bytes by OpenSSL.
+// A secure channel over a TCP connection, on the library.
 #include "channel.h"
-#include <stdio.h>
-#include <stdlib.h>
+#include <errno.h>
+#include <poll.h>
 #include <string.h>
+#include <sys/socket.h>
 #include <unistd.h>
 
-void die(const char *why) {
-    fprintf(stderr, "channel: %s\n", why);
-    exit(1);
-}
+enum { PART = 16384 };                                   // a frame has at most so many bytes of ours
+static const double HANDSHAKE_SECONDS = 10, NO_DEADLINE = -1;
 
-static void public_of(key_pair *pair) {
-    size_t len = 32;
-    if (!pair->secret || EVP_PKEY_get_raw_public_key(pair->secret, pair->public, &len) != 1) die("no key pair");
-}
-
-key_pair draw_pair(void) {
-    key_pair pair = {.secret = EVP_PKEY_Q_keygen(NULL, NULL, "X25519")};
-    public_of(&pair);
-    return pair;
-}
-
-key_pair pair_in(const char *file) {
-    uint8_t bytes[32];
-    size_t len = 32;
-    FILE *it = fopen(file, "rb");
-    if (!it) {
-        key_pair pair = draw_pair();
-        it = fopen(file, "wb");                          // a program for more than a trial keeps others from reading this file
-        if (!it || EVP_PKEY_get_raw_private_key(pair.secret, bytes, &len) != 1 || fwrite(bytes, 1, 32, it) != 32 || fclose(it)) die(file);
-        return pair;
+// Waits until the socket can be read or written.
+static void wait_for(int socket, short event, double deadline) {
+    struct pollfd it = {.fd = socket, .events = event};
+    for (;;) {
+        double seconds = deadline - now();
+        if (deadline != NO_DEADLINE && seconds <= 0) die("the handshake took too long");
+        int ready = poll(&it, 1, deadline == NO_DEADLINE ? -1 : (int)(seconds * 1000) + 1);
+        if (ready > 0) return;
+        if (ready < 0 && errno != EINTR) die("poll fails");
     }
-    if (fread(bytes, 1, 32, it) != 32 || fclose(it)) die(file);
-    key_pair pair = {.secret = EVP_PKEY_new_raw_private_key(EVP_PKEY_X25519, NULL, bytes, 32)};
-    public_of(&pair);
-    return pair;
 }
 
-// The result that the handshake asks for. OpenSSL refuses zeros.
-static void x25519(const key_pair *own, const uint8_t remote[32], uint8_t answer[32]) {
-    size_t len = 32;
-    EVP_PKEY *other = EVP_PKEY_new_raw_public_key(EVP_PKEY_X25519, NULL, remote, 32);
-    EVP_PKEY_CTX *context = EVP_PKEY_CTX_new(own->secret, NULL);
-    if (!other || !context || EVP_PKEY_derive_init(context) != 1 || EVP_PKEY_derive_set_peer(context, other) != 1) die("no X25519");
-    if (EVP_PKEY_derive(context, answer, &len) != 1) die("X25519 of the other party's public key fails");
-    EVP_PKEY_CTX_free(context);
-    EVP_PKEY_free(other);
+static void send_all(int socket, const uint8_t *at, size_t len, double deadline) {
+    while (len) {
+        wait_for(socket, POLLOUT, deadline);
+        ssize_t some = send(socket, at, len, MSG_NOSIGNAL | MSG_DONTWAIT);
+        if (some < 0 && errno != EAGAIN && errno != EINTR) die("the connection broke off");
+        if (some > 0) at += some, len -= (size_t)some;
+    }
 }
 
-static void write_all(int socket, const uint8_t *at, size_t len) {
-    for (ssize_t some; len; at += some, len -= (size_t)some)
-        if ((some = write(socket, at, len)) <= 0) die("the connection broke off");
+// Receives some bytes after those that are held. False at the end of the connection.
+static bool receive_some(channel *c, double deadline) {
+    for (;;) {
+        wait_for(c->socket, POLLIN, deadline);
+        ssize_t some = recv(c->socket, c->buffer + c->held, sizeof c->buffer - c->held, MSG_DONTWAIT);
+        if (some < 0 && errno != EAGAIN && errno != EINTR) die("the connection broke off");
+        if (some < 0) continue;
+        c->held += (size_t)some;
+        return some > 0;
+    }
 }
 
-static void read_all(int socket, uint8_t *at, size_t len) {
-    for (ssize_t some; len; at += some, len -= (size_t)some)
-        if ((some = read(socket, at, len)) <= 0) die("the connection broke off");
+// Drops the first bytes of what is held.
+static void drop(channel *c, size_t count) {
+    c->held -= count;
+    memmove(c->buffer, c->buffer + count, c->held);
 }
 
-void send_frame(int socket, const uint8_t *message, size_t len) {
-    uint8_t head[2] = {(uint8_t)(len >> 8), (uint8_t)len};
-    write_all(socket, head, 2);
-    write_all(socket, message, len);
-}
-
-size_t take_frame(int socket, uint8_t message[NOISE_MAX_MESSAGE]) {
-    uint8_t head[2];
-    read_all(socket, head, 2);
-    size_t len = (size_t)head[0] << 8 | head[1];
-    read_all(socket, message, len);
-    return len;
-}
-
-// Passes the next message, with no payload. A call that needs a result of X25519 says which one; then the same call is repeated.
-static void pass_next(noise_handshake *h, int socket, bool is_ours, const key_pair *ephemeral, const key_pair *own) {
-    static uint8_t message[NOISE_MAX_MESSAGE];
+static void pass_message(channel *c, noise_handshake *h, bool writes, const key_pair *ephemeral, const key_pair *own, double deadline) {
     noise_told told;
-    uint8_t answer[32];
-    size_t len = is_ours ? 0 : take_frame(socket, message);
+    noise_stream_told frame;
     uint32_t code;
-    while ((code = is_ours ? noise_write(h, answer, 0, message, sizeof message, &told) : noise_read(h, message, len, &told)) == NOISE_WANTED) {
-        x25519(told.of_static ? own : ephemeral, told.remote, answer);
-        if (noise_answer(h, told.of_static, told.remote, answer) != NOISE_OK) die("too many answers");
+    if (writes) {
+        static uint8_t out[NOISE_MAX_FRAME];
+        code = write_message(h, ephemeral, own, out + 2, sizeof out - 2, &told);
+        if (code == NOISE_OK) code = noise_frame_message(out, sizeof out, told.len, &frame);
+        if (code == NOISE_OK) send_all(c->socket, out, frame.len, deadline);
+    } else {
+        while (noise_frame_find(c->buffer, c->held, &frame) == NOISE_MORE)
+            if (!receive_some(c, deadline)) die("the connection ended in the handshake");
+        code = read_message(h, ephemeral, own, c->buffer + frame.from, frame.len, &told);
+        drop(c, frame.used);
     }
-    if (code != NOISE_OK) die("the handshake was refused");
-    if (is_ours) send_frame(socket, message, told.len);
+    if (code != NOISE_OK) die("the handshake was refused");  // tell nobody else why
 }
 
-void shake_hands(int socket, const char *pattern, bool is_responder, const key_pair *own, const uint8_t *remote, noise_transport *t) {
-    key_pair ephemeral = draw_pair();                    // a new one for each handshake
-    noise_setup setup = {.responder = is_responder, .e.present = 1, .s.present = 1, .remote_s.present = remote != NULL};
-    memcpy(setup.e.bytes, ephemeral.public, 32);
-    memcpy(setup.s.bytes, own->public, 32);
-    if (remote) memcpy(setup.remote_s.bytes, remote, 32);
-    char name[80];
-    snprintf(name, sizeof name, "Noise_%s_25519_ChaChaPoly_SHA256", pattern);
-    static const char prologue[] = "example channel 1";  // what both ends have to have the same
+void open_channel(channel *c, int socket, const char *pattern, uint8_t responder, const key_pair *own, const uint8_t *remote, noise_key *remote_key) {
     noise_handshake h;
     noise_stage_told stage;
-    if (noise_start(&h, (const uint8_t *)name, strlen(name), (const uint8_t *)prologue, strlen(prologue), &setup) != NOISE_OK)
-        die("no such handshake");
-    uint32_t code;
-    while ((code = noise_finish(&h, 1000, t)) == NOISE_NOT_DONE) {  // keys are renewed after each 1000 messages
-        noise_stage(&h, &stage);
-        pass_next(&h, socket, stage.writes_next, &ephemeral, own);
+    double deadline = now() + HANDSHAKE_SECONDS;
+    key_pair ephemeral = draw_pair();                    // a new one for each handshake
+    *c = (channel){.socket = socket};
+    start(&h, pattern, responder, &ephemeral, own, remote);
+    while (noise_stage(&h, &stage) == NOISE_OK && stage.passed < stage.messages)
+        pass_message(c, &h, stage.writes_next, &ephemeral, own, deadline);
+    if (noise_remote_static(&h, remote_key) != NOISE_OK) die("no key");
+    if (noise_finish_stream(&h, 1000, &c->sender, &c->receiver) != NOISE_OK) die("the handshake isn't done");  // new keys after each 1000 frames
+    forget_pair(&ephemeral);
+    noise_wipe(&h, sizeof h);                            // it has the results of X25519
+    noise_wipe_stack();
+}
+
+void send_bytes(channel *c, const void *bytes, size_t len) {
+    uint8_t out[PART + NOISE_STREAM_OVERHEAD];
+    const uint8_t *at = bytes;
+    noise_stream_told told;
+    while (len) {
+        uint32_t code = noise_stream_write(&c->sender, at, len < PART ? len : PART, out, sizeof out, &told);
+        if (code != NOISE_OK) die(noise_text(code));
+        send_all(c->socket, out, told.len, NO_DEADLINE);
+        at += told.used, len -= told.used;
     }
-    if (code != NOISE_OK) die("the handshake has ended");
-    EVP_PKEY_free(ephemeral.secret);
-    noise_wipe(&h, sizeof h);                            // it contains the results of X25519
 }
 
-void send_text(int socket, noise_transport *t, const char *text) {
-    static uint8_t message[NOISE_MAX_MESSAGE];
-    noise_told told;
-    if (noise_transport_seal(t, (const uint8_t *)text, strlen(text), message, sizeof message, &told) != NOISE_OK) die("the text isn't sealed");
-    send_frame(socket, message, told.len);
+void end_bytes(channel *c) {
+    uint8_t out[NOISE_STREAM_OVERHEAD];
+    noise_stream_told told;
+    uint32_t code = noise_stream_end(&c->sender, out, sizeof out, &told);
+    if (code != NOISE_OK) die(noise_text(code));
+    send_all(c->socket, out, told.len, NO_DEADLINE);
 }
 
-void take_text(int socket, noise_transport *t, char text[NOISE_MAX_MESSAGE]) {
-    static uint8_t message[NOISE_MAX_MESSAGE];
-    noise_told told;
-    if (noise_transport_open(t, message, take_frame(socket, message), &told) != NOISE_OK) die("a message was refused");
-    memcpy(text, message + told.from, told.len);         // it is at least 16 bytes shorter than the message
-    text[told.len] = 0;
+// Opens the next payload. False at the end of the other party's bytes.
+static bool open_next(channel *c) {
+    noise_stream_told told;
+    for (;;) {
+        uint32_t code = noise_stream_read(&c->receiver, c->buffer, c->held, &told);
+        if (code == NOISE_OK) {
+            c->from = told.from, c->left = told.len, c->used = told.used;
+            return true;
+        }
+        if (code == NOISE_CLOSED) return false;          // the end came at an earlier call
+        if (code == NOISE_END) {
+            drop(c, told.used);
+            return false;
+        }
+        if (code != NOISE_MORE) die("a message was changed, or came twice");  // and nothing more is read or sent: no end either
+        if (!receive_some(c, NO_DEADLINE)) die("the connection was cut: more was to come");
+    }
+}
+
+size_t receive_bytes(channel *c, void *bytes, size_t len) {
+    if (!c->left && !open_next(c)) return 0;
+    size_t some = len < c->left ? len : c->left;
+    memcpy(bytes, c->buffer + c->from, some);
+    c->from += some, c->left -= some;
+    if (!c->left) drop(c, c->used);
+    return some;
+}
+
+void close_channel(channel *c) {
+    close(c->socket);
+    noise_wipe(c, sizeof *c);
 }

@@ -1,33 +1,33 @@
-// A secure channel over a stream, on the library: what client.c and server.c have in common.
+// A secure channel over a TCP connection, on the library: what client.c and server.c have in common.
 #ifndef CHANNEL_H
 #define CHANNEL_H
 
-#include "noise.h"
-#include <openssl/evp.h>
+#include "keys.h"
 #include <stdbool.h>
 
-// A key pair of X25519.
 typedef struct {
-    EVP_PKEY *secret;
-    uint8_t public[32];
-} key_pair;
+    int socket;
+    noise_stream_sender sender;
+    noise_stream_receiver receiver;
+    uint8_t buffer[NOISE_MAX_FRAME];                     // what came and isn't used yet: `held` bytes
+    size_t held;
+    size_t from, left;                                   // of the payload at hand: where its next byte is, and how many are left
+    size_t used;                                         // the buffer's first bytes, which that payload's frame takes
+} channel;
 
-_Noreturn void die(const char *why);
+// Runs the handshake of a pattern, all of it within 10 seconds, and leaves the channel in *c and the other party's static key in *remote_key. The program
+// ends if it fails. `remote` is as for start.
+void open_channel(channel *c, int socket, const char *pattern, uint8_t responder, const key_pair *own, const uint8_t *remote, noise_key *remote_key);
 
-// A new key pair; and the one whose secret key a file has, which is made if it isn't there.
-key_pair draw_pair(void);
-key_pair pair_in(const char *file);
+// Sends bytes; and ends them: the other party knows then that it has all. Nothing can be sent after that.
+void send_bytes(channel *c, const void *bytes, size_t len);
+void end_bytes(channel *c);
 
-// Frames: a message after its length in two bytes. take_frame returns the length.
-void send_frame(int socket, const uint8_t *message, size_t len);
-size_t take_frame(int socket, uint8_t message[NOISE_MAX_MESSAGE]);
+// Receives up to `len` bytes, at least one; 0 where the other party has ended its bytes, and all of them came. A connection that ends before that, and a
+// message that was changed on the way, end the program.
+size_t receive_bytes(channel *c, void *bytes, size_t len);
 
-// Runs the handshake of a pattern ("XX" or "IK"), and leaves the transport in *t. `remote` is the other's static public key if it has to
-// be known beforehand, else NULL.
-void shake_hands(int socket, const char *pattern, bool is_responder, const key_pair *own, const uint8_t *remote, noise_transport *t);
-
-// Sends a text, and takes one of at most 65519 bytes; a zero byte follows it.
-void send_text(int socket, noise_transport *t, const char *text);
-void take_text(int socket, noise_transport *t, char text[NOISE_MAX_MESSAGE]);
+// Closes the connection, and overwrites the keys.
+void close_channel(channel *c);
 
 #endif

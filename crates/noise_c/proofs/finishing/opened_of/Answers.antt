@@ -2,7 +2,7 @@ use Rattle.std.proofs.Common.{◌≡◌, false, refl, ap, ◌∙◌, arith}
 use Rattle.std.proofs.lemmas.Bool.Decides.{nat_tests}
 use Rattle.noise_handshake.specs.Held.{Held}
 use Rattle.noise_keys.specs.Table.{Table}
-use Rattle.noise_c.specs.KeptTransport.{finish_code}
+use Rattle.noise_c.specs.Finishing.{finish_code}
 use Rattle.noise_c.proofs.Keeps.{stands-for}
 use Rattle.noise_c.proofs.Finished.{finish-done, finish-early, kept-by, contrary}
 use Rattle.noise_c.proofs.finishing.opened_of.Goals as goal

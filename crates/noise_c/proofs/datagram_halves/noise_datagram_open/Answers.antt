@@ -6,7 +6,7 @@ use Rattle.noise_session.specs.DatagramHalves.{HeldDatagramReceiver, DatagramRec
 use Rattle.noise_c.specs.KeptDatagramHalves.{datagram_receiver_kept_in}
 use Rattle.noise_c.proofs.Numbers.{other, above, not-before}
 use Rattle.noise_c.proofs.Opening.{declined-from, declined-not-struct, declined-among, from-ninth}
-use Rattle.noise_c.proofs.datagram_halves.noise_datagram_receiver_open.Goals as goal
+use Rattle.noise_c.proofs.datagram_halves.noise_datagram_open.Goals as goal
 
 pub returns-in_default : goal.returns-in_default
 returns-in_default c = record {

@@ -1,0 +1,89 @@
+#!/usr/bin/env python3
+"""The server and the client of examples/programs/c through a relay that damages what the server sends: cut.py SERVER CLIENT.
+
+Cut after some bytes, or with one of them flipped, doubled or left out, the client has to end with a status other than 0; with nothing done to it, with
+0. So a client never takes a part of the answer for the whole.
+"""
+import socket
+import subprocess
+import sys
+import threading
+
+TEXT = "an answer that has to come whole"
+STEP = 9
+SERVER_PORT, CLIENT_PORT = 4051, 4052
+
+
+def damaged(data, start, kind, at):
+    """What the relay makes of bytes that begin at the place `start`, and whether it closes then."""
+    here = at - start
+    if kind == "nothing" or not 0 <= here < len(data):
+        return data, False
+    if kind == "cut":
+        return data[:here], True
+    byte = {"flip": bytes([data[here] ^ 4]), "double": data[here:here + 1] * 2, "drop": b""}[kind]
+    return data[:here] + byte + data[here + 1:], False
+
+
+def pump(source, target, kind="nothing", at=0):
+    count = 0
+    try:
+        while data := source.recv(65536):
+            out, closes = damaged(data, count, kind, at)
+            count += len(data)
+            target.sendall(out)
+            if closes:
+                break
+    except OSError:
+        pass
+    for it in (source, target):
+        try:
+            it.shutdown(socket.SHUT_RDWR)
+        except OSError:
+            pass
+    return count
+
+
+def run(server, client, kind, at):
+    """The status of the client, and how many bytes the server has sent."""
+    with socket.create_server(("127.0.0.1", CLIENT_PORT), reuse_port=False) as relay, \
+            subprocess.Popen([server, "XX", str(SERVER_PORT)], stdout=subprocess.DEVNULL, stderr=subprocess.DEVNULL) as serving, \
+            subprocess.Popen([client, "XX", TEXT, str(CLIENT_PORT)], stdout=subprocess.DEVNULL, stderr=subprocess.DEVNULL) as asking:
+        near, _ = relay.accept()
+        for _ in range(100):
+            try:
+                far = socket.create_connection(("127.0.0.1", SERVER_PORT))
+                break
+            except ConnectionRefusedError:
+                if serving.poll() is not None:
+                    sys.exit("cut.py: the server has ended")
+                threading.Event().wait(0.02)
+        else:
+            sys.exit("cut.py: no server")
+        with near, far:
+            up = threading.Thread(target=pump, args=(near, far))
+            up.start()
+            sent = pump(far, near, kind, at)
+            up.join()
+            status = asking.wait(20)
+            serving.wait(20)
+    return status, sent
+
+
+def main():
+    server, client = sys.argv[1:]
+    status, sent = run(server, client, "nothing", 0)
+    if status != 0 or sent < 100:
+        sys.exit(f"cut.py: with nothing done the client ends with {status} after {sent} bytes")
+    places = sorted({*range(0, sent, STEP), *range(sent - 20, sent)})
+    runs = 0
+    for kind in ("cut", "flip", "double", "drop"):
+        for at in places if kind in ("cut", "flip") else places[::3]:
+            status, _ = run(server, client, kind, at)
+            if status == 0 and not (kind == "double" and at == sent - 1):   # a byte after the end takes nothing from the answer
+                sys.exit(f"cut.py: {kind} at byte {at} of {sent}, and the client ends with 0")
+            runs += 1
+    print(f"install: the example's client knew of {runs} damaged connections out of {runs}")
+
+
+main()
