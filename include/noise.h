@@ -22,8 +22,7 @@
 
    A call returns a code for each wrong value. No length and no content of a kept struct makes a call stop the process
    or access memory that it wasn't given. A kept struct begins with a mark of its type and of its layout's version: one
-   of zeros, of another type, or of a build with another layout gives NOISE_STRUCT (not of noise_answer, which is
-   blind).
+   of zeros, of another type, or of a build with another layout gives NOISE_STRUCT, but of noise_answer.
 
    WHAT THE CALLER MUST ENSURE, since no call can check it
    - A pointer that has a count may be NULL if the count is 0: see the end of this header. No other pointer may be NULL.
@@ -205,7 +204,7 @@ uint32_t noise_frame_message(uint8_t *buffer, size_t buffer_len, size_t message_
 uint32_t noise_frame_find(const uint8_t *buffer, size_t buffer_len, noise_stream_told *told);
 
 /* STREAMS: bytes in order, with an end, in frames. A stream that ends is whole: what a reader has got before END is
-   what the other party has written before noise_stream_end, whatever the network did.
+   what the other party has written before noise_stream_end, whatever the network did, unless a message was forged.
 
    Makes the two structs of a handshake whose messages have all passed. Each direction renews its key after `interval`
    of its frames (Noise, 11.3), the same number at both parties; 0 means never. OK · STRUCT · NOT_DONE · ENDED. */
@@ -296,7 +295,7 @@ static inline void noise_wipe(void *at, size_t len) {
 }
 
 #ifdef __GNUC__
-/* Overwrites 16 KB of stack below the caller's frame: call it where the last call was made that had a secret. */
+/* Overwrites 16 KB of stack below the caller's frame: call it from the function that last called with a secret. */
 __attribute__((noinline, unused)) static void noise_wipe_stack(void) {
     unsigned char stack[16384];
     noise_wipe(stack, sizeof stack);

@@ -290,7 +290,9 @@ static void ask_handshake(const noise_handshake *h) {
     ASK(h, noise_handshake, 2 * sizeof(noise_cipher), ends_codes, noise_finish_ciphers(k, o, (noise_cipher *)o + 1));
 }
 
-static void ask_halves(const transport *t, const datagrams *d, const noise_cipher *c) {
+static void ask_halves(const transport *t, const datagrams *d, const stream *x, const noise_cipher *c) {
+    const noise_stream_receiver *r = put(&kept_place, &x->r, sizeof x->r, true);
+    counted(noise_stream_is_cut(r, below(3)), begun | CODE(NOISE_CUT));
     ASK(&t->s, noise_sender, 8, begun, noise_sender_nonce(k, o));
     ASK(&t->r, noise_receiver, 8, begun, noise_receiver_nonce(k, o));
     ASK(&d->s, noise_datagram_sender, 8, begun, noise_datagram_sender_nonce(k, o));
@@ -366,7 +368,7 @@ static void disturb_party(const party *of) {
     party copy = *of;
     noise_told told;
     if (!one_in(3)) change_bytes((uint8_t *)&copy, sizeof copy);
-    ask_halves(&copy.t, &copy.d, one_in(2) ? &copy.send : &copy.receive);
+    ask_halves(&copy.t, &copy.d, &copy.x, one_in(2) ? &copy.send : &copy.receive);
     call_writing(one_in(2) ? seal_next : seal_in_place, &copy.t.s, sizeof copy.t.s, seal_codes, random_len(), random_len(), &told);
     call_opening(open_next, &copy.t.r, sizeof copy.t.r, open_codes, payload, random_len(), &told);
     call_writing(one_in(2) ? seal_datagram : seal_datagram_in_place, &copy.d.s, sizeof copy.d.s, seal_codes, random_len(), random_len(), &told);

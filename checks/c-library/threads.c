@@ -1,7 +1,11 @@
 // Two ends of one handshake, each with a thread for its sending half and one for its receiving half, with no lock round a call: those of messages in
-// order, and then those of datagrams. The messages pass through two queues, which have locks. And calls that take a struct as const, from two threads.
+// order, and then those of datagrams. The messages pass through two queues, which have locks. And calls that take
+// a struct as const, from two threads at once: it is on pages that can't be written.
+#define _GNU_SOURCE
 #include "ends.h"
 #include <pthread.h>
+#include <sys/mman.h>
+#include <unistd.h>
 
 enum { MESSAGES = 2000, LONG = 200, SLOTS = 16, QUESTIONS = 300 };
 
@@ -114,13 +118,16 @@ static void *ask_all(void *of) {
 }
 
 static void ask_at_once(const end *x) {
-    static asked a;
+    size_t page = (size_t)sysconf(_SC_PAGESIZE), room = (sizeof(asked) + page - 1) / page * page;
     noise_cipher receive;
     pthread_t threads[2];
-    a.h = x->h;
-    MUST(finish(&x->h, 7, &a.t) == NOISE_OK && finish_datagrams(&x->h, 64, &a.d) == NOISE_OK);
-    MUST(noise_finish_ciphers(&x->h, &a.c, &receive) == NOISE_OK && finish_stream(&x->h, 7, &a.x) == NOISE_OK);
-    for (unsigned i = 0; i < 2; i++) MUST(pthread_create(&threads[i], NULL, ask_all, &a) == 0);
+    asked *a = mmap(0, room, PROT_READ | PROT_WRITE, MAP_PRIVATE | MAP_ANONYMOUS, -1, 0);
+    MUST(a != MAP_FAILED);
+    a->h = x->h;
+    MUST(finish(&x->h, 7, &a->t) == NOISE_OK && finish_datagrams(&x->h, 64, &a->d) == NOISE_OK);
+    MUST(noise_finish_ciphers(&x->h, &a->c, &receive) == NOISE_OK && finish_stream(&x->h, 7, &a->x) == NOISE_OK);
+    MUST(mprotect(a, room, PROT_READ) == 0);
+    for (unsigned i = 0; i < 2; i++) MUST(pthread_create(&threads[i], NULL, ask_all, a) == 0);
     for (unsigned i = 0; i < 2; i++) MUST(pthread_join(threads[i], NULL) == 0);
     printf("c-library: two threads asked one struct of each type %d times\n", QUESTIONS);
 }
