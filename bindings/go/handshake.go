@@ -421,11 +421,9 @@ func (h *HandshakeState) Split() (*Sender, *Receiver, error) {
 	if h.ended != nil {
 		return nil, nil, h.ended
 	}
-	both, s, r := new(transportMemory), new(Sender), new(Receiver)
-	if code := C.noise_finish(&h.memory.kept, C.uint64_t(h.config.Interval), &both.kept); code != C.NOISE_OK {
-		return nil, nil, Code(code)
-	}
-	if code := C.noise_transport_split(&both.kept, &s.memory.kept, &r.memory.kept); code != C.NOISE_OK {
+	s, r := new(Sender), new(Receiver)
+	code := C.noise_finish(&h.memory.kept, C.uint64_t(h.config.Interval), &s.memory.kept, &r.memory.kept)
+	if code != C.NOISE_OK {
 		return nil, nil, Code(code)
 	}
 	h.Close()
@@ -442,11 +440,10 @@ func (h *HandshakeState) Datagrams(window int) (*Datagrams, error) {
 		return nil, ErrWindow
 	}
 	d := new(Datagrams)
-	if code := C.noise_finish_datagrams(&h.memory.kept, C.uint32_t(window), &d.sending.kept); code != C.NOISE_OK {
+	code := C.noise_finish_datagrams(&h.memory.kept, C.uint32_t(window), &d.sending.kept, &d.receiving.kept)
+	if code != C.NOISE_OK {
 		return nil, Code(code)
 	}
-	// Each call uses and changes only the state of its own direction: so one copy that only seals and one that only opens need no common lock.
-	d.receiving.kept = d.sending.kept
 	h.Close()
 	return d, nil
 }

@@ -13,10 +13,6 @@ type (
 		kept C.noise_handshake
 		told C.noise_told
 	}
-	transportMemory struct {
-		_    [0]uint64
-		kept C.noise_transport
-	}
 	senderMemory struct {
 		_    [0]uint64
 		kept C.noise_sender
@@ -27,25 +23,34 @@ type (
 		kept C.noise_receiver
 		told C.noise_told
 	}
-	datagramMemory struct {
+	datagramSenderMemory struct {
 		_    [0]uint64
-		kept C.noise_datagrams
+		kept C.noise_datagram_sender
+		told C.noise_told
+	}
+	datagramReceiverMemory struct {
+		_    [0]uint64
+		kept C.noise_datagram_receiver
 		told C.noise_told
 	}
 )
 
 func init() {
 	// If the library is linked when the program starts, it may be another build than the header's.
-	if C.noise_handshake_size() != sizeOfHandshake || C.noise_transport_size() != sizeOfTransport || C.noise_datagrams_size() != sizeOfDatagrams ||
-		C.noise_sender_size() != sizeOfSender || C.noise_receiver_size() != sizeOfReceiver {
+	if C.noise_handshake_size() != sizeOfHandshake ||
+		C.noise_sender_size() != sizeOfSender || C.noise_receiver_size() != sizeOfReceiver ||
+		C.noise_datagram_sender_size() != sizeOfDatagramSender || C.noise_datagram_receiver_size() != sizeOfDatagramReceiver {
 		panic("noise: the library noise_c isn't the one that this package was made for")
 	}
 }
 
-func (m *handshakeMemory) wipe() { wipe(unsafe.Slice((*byte)(unsafe.Pointer(m)), unsafe.Sizeof(*m))) }
-func (m *senderMemory) wipe()    { wipe(unsafe.Slice((*byte)(unsafe.Pointer(m)), unsafe.Sizeof(*m))) }
-func (m *receiverMemory) wipe()  { wipe(unsafe.Slice((*byte)(unsafe.Pointer(m)), unsafe.Sizeof(*m))) }
-func (m *datagramMemory) wipe()  { wipe(unsafe.Slice((*byte)(unsafe.Pointer(m)), unsafe.Sizeof(*m))) }
+func (m *handshakeMemory) wipe()        { wipeAt(unsafe.Pointer(m), unsafe.Sizeof(*m)) }
+func (m *senderMemory) wipe()           { wipeAt(unsafe.Pointer(m), unsafe.Sizeof(*m)) }
+func (m *receiverMemory) wipe()         { wipeAt(unsafe.Pointer(m), unsafe.Sizeof(*m)) }
+func (m *datagramSenderMemory) wipe()   { wipeAt(unsafe.Pointer(m), unsafe.Sizeof(*m)) }
+func (m *datagramReceiverMemory) wipe() { wipeAt(unsafe.Pointer(m), unsafe.Sizeof(*m)) }
+
+func wipeAt(at unsafe.Pointer, size uintptr) { wipe(unsafe.Slice((*byte)(at), size)) }
 
 var nothing [1]byte
 

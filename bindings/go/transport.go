@@ -38,7 +38,7 @@ func (s *Sender) Seal(dst, payload []byte) ([]byte, error) {
 		s.spare = append(s.spare[:0], payload...)
 		payload = s.spare
 	}
-	code := C.noise_sender_seal(&s.memory.kept, place(payload), C.size_t(len(payload)), place(room), C.size_t(len(room)), &s.memory.told)
+	code := C.noise_seal(&s.memory.kept, place(payload), C.size_t(len(payload)), place(room), C.size_t(len(room)), &s.memory.told)
 	if code != C.NOISE_OK {
 		return dst, Code(code)
 	}
@@ -76,7 +76,7 @@ func (r *Receiver) Open(dst, message []byte) ([]byte, error) {
 	}
 	whole, room := grown(dst, len(message))
 	copy(room, message)
-	code := C.noise_receiver_open(&r.memory.kept, place(room), C.size_t(len(room)), &r.memory.told)
+	code := C.noise_open(&r.memory.kept, place(room), C.size_t(len(room)), &r.memory.told)
 	if code != C.NOISE_OK {
 		return dst, Code(code)
 	}
@@ -102,10 +102,11 @@ func (r *Receiver) Close() error {
 
 // Datagrams seals and opens datagrams, which may be lost, repeated and reordered. One goroutine may seal while another opens.
 type Datagrams struct {
-	sealing, opening   sync.Mutex
-	sending, receiving datagramMemory
-	closed             bool
-	spare              []byte
+	sealing, opening sync.Mutex
+	sending          datagramSenderMemory
+	receiving        datagramReceiverMemory
+	closed           bool
+	spare            []byte
 }
 
 // Seal appends a datagram to dst: 24 bytes longer than the payload, which has at most 65519. The errors are those of Sender.Seal.
@@ -123,7 +124,7 @@ func (d *Datagrams) Seal(dst, payload []byte) ([]byte, error) {
 		d.spare = append(d.spare[:0], payload...)
 		payload = d.spare
 	}
-	code := C.noise_datagrams_seal(&d.sending.kept, place(payload), C.size_t(len(payload)), place(room), C.size_t(len(room)), &d.sending.told)
+	code := C.noise_datagram_seal(&d.sending.kept, place(payload), C.size_t(len(payload)), place(room), C.size_t(len(room)), &d.sending.told)
 	if code != C.NOISE_OK {
 		return dst, Code(code)
 	}
@@ -143,7 +144,7 @@ func (d *Datagrams) Open(dst, datagram []byte) ([]byte, error) {
 	}
 	whole, room := grown(dst, len(datagram))
 	copy(room, datagram)
-	code := C.noise_datagrams_open(&d.receiving.kept, place(room), C.size_t(len(room)), &d.receiving.told)
+	code := C.noise_datagram_open(&d.receiving.kept, place(room), C.size_t(len(room)), &d.receiving.told)
 	if code != C.NOISE_OK {
 		return dst, Code(code)
 	}

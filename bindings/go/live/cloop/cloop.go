@@ -3,7 +3,8 @@ package cloop
 
 // #include "noise.h"
 //
-// static noise_transport sending, receiving;
+// static noise_sender sending, not_sending;
+// static noise_receiver receiving, not_receiving;
 // static unsigned char payload[NOISE_MAX_MESSAGE], message[NOISE_MAX_MESSAGE];
 //
 // // The answer of X25519 is a constant: what a message costs doesn't depend on it.
@@ -31,14 +32,15 @@ package cloop
 //     }
 //     for (int i = 0; i < 2; i++)
 //         if (passed(&h[i], 1, &len) != NOISE_OK || passed(&h[!i], 0, &len) != NOISE_OK) return 0;
-//     return noise_finish(&h[0], 0, &sending) == NOISE_OK && noise_finish(&h[1], 0, &receiving) == NOISE_OK;
+//     return noise_finish(&h[0], 0, &sending, &not_receiving) == NOISE_OK &&
+//         noise_finish(&h[1], 0, &not_sending, &receiving) == NOISE_OK;
 // }
 //
 // static int run(size_t count, size_t size) {
 //     noise_told told;
 //     for (size_t i = 0; i < count; i++)
-//         if (noise_transport_seal(&sending, payload, size, message, size + NOISE_TAG_LEN, &told) != NOISE_OK ||
-//             noise_transport_open(&receiving, message, size + NOISE_TAG_LEN, &told) != NOISE_OK) return 0;
+//         if (noise_seal(&sending, payload, size, message, size + NOISE_TAG_LEN, &told) != NOISE_OK ||
+//             noise_open(&receiving, message, size + NOISE_TAG_LEN, &told) != NOISE_OK) return 0;
 //     return 1;
 // }
 import "C"
