@@ -142,21 +142,13 @@ impl<S: Dh, E: Ephemeral> Handshake<S, E> {
 
     /// Makes the transport, after all messages have passed.
     pub fn finish(self) -> Result<Transport, Error> {
-        let mut memory = raw::Transport::new();
-        match self.memory.finish(self.interval, &mut memory) {
-            OK => Transport::of(memory),
-            code => Err(Error::of(code, None)),
-        }
+        Transport::of(&self.memory, self.interval)
     }
 
     /// Makes the state for datagrams, after all messages have passed. A datagram may arrive after others whose numbers are less than `window`
     /// greater: 64, 256 or 1024.
     pub fn finish_datagrams(self, window: u32) -> Result<Datagrams, Error> {
-        let mut memory = raw::Datagrams::new();
-        match self.memory.finish_datagrams(window, &mut memory) {
-            OK => Ok(Datagrams::of(memory)),
-            code => Err(Error::of(code, None)),
-        }
+        Datagrams::of(&self.memory, window)
     }
 }
 

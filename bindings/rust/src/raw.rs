@@ -3,19 +3,20 @@
 // Each call is sound since the types ensure what the header asks of a caller. Pointers come from references and slices: none is NULL, each leads to as
 // many bytes as its count says, and one that isn't const comes from `&mut`, so no other pointer leads there. The kept structs are aligned to 8
 // by their declaration. A kept struct that a call may change comes from `&mut`: no other thread has it. The call checks its content.
-use crate::header::{KEY_LEN, MAX_PSKS, OK, SIZE_OF_DATAGRAMS, SIZE_OF_HANDSHAKE, SIZE_OF_RECEIVER, SIZE_OF_SENDER, SIZE_OF_TRANSPORT};
+use crate::header::{KEY_LEN, MAX_PSKS, OK, SIZE_OF_HANDSHAKE, SIZE_OF_RECEIVER, SIZE_OF_SENDER};
+use crate::header::{SIZE_OF_DATAGRAM_RECEIVER, SIZE_OF_DATAGRAM_SENDER};
 use core::sync::atomic::{compiler_fence, Ordering};
 
 #[repr(C, align(8))]
 pub(crate) struct Handshake([u8; SIZE_OF_HANDSHAKE]);
 #[repr(C, align(8))]
-pub(crate) struct Transport([u8; SIZE_OF_TRANSPORT]);
-#[repr(C, align(8))]
 pub(crate) struct Sender([u8; SIZE_OF_SENDER]);
 #[repr(C, align(8))]
 pub(crate) struct Receiver([u8; SIZE_OF_RECEIVER]);
 #[repr(C, align(8))]
-pub(crate) struct Datagrams([u8; SIZE_OF_DATAGRAMS]);
+pub(crate) struct DatagramSender([u8; SIZE_OF_DATAGRAM_SENDER]);
+#[repr(C, align(8))]
+pub(crate) struct DatagramReceiver([u8; SIZE_OF_DATAGRAM_RECEIVER]);
 
 #[repr(C)]
 #[derive(Clone, Copy, Default)]
@@ -65,13 +66,12 @@ extern "C" {
     fn noise_hash(h: *const Handshake, hash: *mut u8) -> u32;
     fn noise_remote_static(h: *const Handshake, key: *mut Key) -> u32;
     fn noise_stage(h: *const Handshake, told: *mut Stage) -> u32;
-    fn noise_finish(h: *const Handshake, interval: u64, t: *mut Transport) -> u32;
-    fn noise_finish_datagrams(h: *const Handshake, window: u32, d: *mut Datagrams) -> u32;
-    fn noise_transport_split(t: *mut Transport, sender: *mut Sender, receiver: *mut Receiver) -> u32;
-    fn noise_sender_seal(s: *mut Sender, payload: *const u8, payload_len: usize, out: *mut u8, out_len: usize, told: *mut Told) -> u32;
-    fn noise_receiver_open(r: *mut Receiver, message: *mut u8, message_len: usize, told: *mut Told) -> u32;
-    fn noise_datagrams_seal(d: *mut Datagrams, payload: *const u8, payload_len: usize, out: *mut u8, out_len: usize, told: *mut Told) -> u32;
-    fn noise_datagrams_open(d: *mut Datagrams, datagram: *mut u8, datagram_len: usize, told: *mut Told) -> u32;
+    fn noise_finish(h: *const Handshake, interval: u64, sender: *mut Sender, receiver: *mut Receiver) -> u32;
+    fn noise_seal(s: *mut Sender, payload: *const u8, payload_len: usize, out: *mut u8, out_len: usize, told: *mut Told) -> u32;
+    fn noise_open(r: *mut Receiver, message: *mut u8, message_len: usize, told: *mut Told) -> u32;
+    fn noise_finish_datagrams(h: *const Handshake, window: u32, sender: *mut DatagramSender, receiver: *mut DatagramReceiver) -> u32;
+    fn noise_datagram_seal(s: *mut DatagramSender, payload: *const u8, payload_len: usize, out: *mut u8, out_len: usize, told: *mut Told) -> u32;
+    fn noise_datagram_open(r: *mut DatagramReceiver, datagram: *mut u8, datagram_len: usize, told: *mut Told) -> u32;
 }
 
 impl Key {
@@ -156,25 +156,14 @@ impl Handshake {
         stage
     }
 
-    pub(crate) fn finish(&self, interval: u64, transport: &mut Transport) -> u32 {
+    pub(crate) fn finish(&self, interval: u64, sender: &mut Sender, receiver: &mut Receiver) -> u32 {
         // SAFETY: see above.
-        unsafe { noise_finish(self, interval, transport) }
+        unsafe { noise_finish(self, interval, sender, receiver) }
     }
 
-    pub(crate) fn finish_datagrams(&self, window: u32, datagrams: &mut Datagrams) -> u32 {
+    pub(crate) fn finish_datagrams(&self, window: u32, sender: &mut DatagramSender, receiver: &mut DatagramReceiver) -> u32 {
         // SAFETY: see above.
-        unsafe { noise_finish_datagrams(self, window, datagrams) }
-    }
-}
-
-impl Transport {
-    pub(crate) const fn new() -> Transport {
-        Transport([0; SIZE_OF_TRANSPORT])
-    }
-
-    pub(crate) fn split(mut self, sender: &mut Sender, receiver: &mut Receiver) -> u32 {
-        // SAFETY: see above.
-        unsafe { noise_transport_split(&mut self, sender, receiver) }
+        unsafe { noise_finish_datagrams(self, window, sender, receiver) }
     }
 }
 
@@ -185,7 +174,7 @@ impl Sender {
 
     pub(crate) fn seal(&mut self, payload: &[u8], out: &mut [u8], told: &mut Told) -> u32 {
         // SAFETY: see above.
-        unsafe { noise_sender_seal(self, payload.as_ptr(), payload.len(), out.as_mut_ptr(), out.len(), told) }
+        unsafe { noise_seal(self, payload.as_ptr(), payload.len(), out.as_mut_ptr(), out.len(), told) }
     }
 }
 
@@ -196,38 +185,33 @@ impl Receiver {
 
     pub(crate) fn open(&mut self, message: &mut [u8], told: &mut Told) -> u32 {
         // SAFETY: see above.
-        unsafe { noise_receiver_open(self, message.as_mut_ptr(), message.len(), told) }
+        unsafe { noise_open(self, message.as_mut_ptr(), message.len(), told) }
     }
 }
 
-impl Datagrams {
-    pub(crate) const fn new() -> Datagrams {
-        Datagrams([0; SIZE_OF_DATAGRAMS])
-    }
-
-    // Of the two one only seals, and the other only opens: each call uses and changes only the state of its own direction, so no nonce seals twice.
-    pub(crate) fn for_other_direction(&self) -> Datagrams {
-        Datagrams(self.0)
+impl DatagramSender {
+    pub(crate) const fn new() -> DatagramSender {
+        DatagramSender([0; SIZE_OF_DATAGRAM_SENDER])
     }
 
     pub(crate) fn seal(&mut self, payload: &[u8], out: &mut [u8], told: &mut Told) -> u32 {
         // SAFETY: see above.
-        unsafe { noise_datagrams_seal(self, payload.as_ptr(), payload.len(), out.as_mut_ptr(), out.len(), told) }
+        unsafe { noise_datagram_seal(self, payload.as_ptr(), payload.len(), out.as_mut_ptr(), out.len(), told) }
+    }
+}
+
+impl DatagramReceiver {
+    pub(crate) const fn new() -> DatagramReceiver {
+        DatagramReceiver([0; SIZE_OF_DATAGRAM_RECEIVER])
     }
 
     pub(crate) fn open(&mut self, datagram: &mut [u8], told: &mut Told) -> u32 {
         // SAFETY: see above.
-        unsafe { noise_datagrams_open(self, datagram.as_mut_ptr(), datagram.len(), told) }
+        unsafe { noise_datagram_open(self, datagram.as_mut_ptr(), datagram.len(), told) }
     }
 }
 
 impl Drop for Handshake {
-    fn drop(&mut self) {
-        wipe(&mut self.0);
-    }
-}
-
-impl Drop for Transport {
     fn drop(&mut self) {
         wipe(&mut self.0);
     }
@@ -245,7 +229,13 @@ impl Drop for Receiver {
     }
 }
 
-impl Drop for Datagrams {
+impl Drop for DatagramSender {
+    fn drop(&mut self) {
+        wipe(&mut self.0);
+    }
+}
+
+impl Drop for DatagramReceiver {
     fn drop(&mut self) {
         wipe(&mut self.0);
     }

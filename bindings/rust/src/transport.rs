@@ -42,10 +42,10 @@ pub struct Transport {
 }
 
 /// Seals datagrams.
-pub struct DatagramSender(raw::Datagrams);
+pub struct DatagramSender(raw::DatagramSender);
 
 /// Opens datagrams, in any order, each once.
-pub struct DatagramReceiver(raw::Datagrams);
+pub struct DatagramReceiver(raw::DatagramReceiver);
 
 /// Both directions of a channel over a network that loses, repeats and reorders datagrams.
 ///
@@ -117,10 +117,10 @@ impl Receiver {
 }
 
 impl Transport {
-    pub(crate) fn of(memory: raw::Transport) -> Result<Transport, Error> {
+    pub(crate) fn of(handshake: &raw::Handshake, interval: u64) -> Result<Transport, Error> {
         let mut sender = Sender { memory: raw::Sender::new(), nonce: 0 };
         let mut receiver = Receiver { memory: raw::Receiver::new(), nonce: 0 };
-        match memory.split(&mut sender.memory, &mut receiver.memory) {
+        match handshake.finish(interval, &mut sender.memory, &mut receiver.memory) {
             OK => Ok(Transport { sender, receiver }),
             code => Err(Error::of(code, None)),
         }
@@ -160,8 +160,13 @@ impl DatagramReceiver {
 }
 
 impl Datagrams {
-    pub(crate) fn of(memory: raw::Datagrams) -> Datagrams {
-        Datagrams { receiver: DatagramReceiver(memory.for_other_direction()), sender: DatagramSender(memory) }
+    pub(crate) fn of(handshake: &raw::Handshake, window: u32) -> Result<Datagrams, Error> {
+        let mut sender = DatagramSender(raw::DatagramSender::new());
+        let mut receiver = DatagramReceiver(raw::DatagramReceiver::new());
+        match handshake.finish_datagrams(window, &mut sender.0, &mut receiver.0) {
+            OK => Ok(Datagrams { sender, receiver }),
+            code => Err(Error::of(code, None)),
+        }
     }
 
     /// Seals a payload as [`DatagramSender::seal`] does.
