@@ -216,13 +216,13 @@ export class Handshake {
   #finished(Kind, call, option) {
     const place = this.#here();
     if (this.#busy) throw new NoiseError(code.BUSY);
-    const kept = library().take(Kind.kind);
-    const number = call(place, option, kept);
+    const halves = Kind.kinds.map((kind) => library().take(kind));
+    const number = call(place, option, ...halves);
     if (number !== code.OK) {
-      library().free(Kind.kind, kept);
+      Kind.kinds.forEach((kind, n) => library().free(kind, halves[n]));
       throw new NoiseError(number);
     }
-    const end = new Kind(kept, { hash: this.hash, remoteStatic: this.remoteStatic });
+    const end = new Kind(halves, { hash: this.hash, remoteStatic: this.remoteStatic });
     this.dispose();
     return end;
   }

@@ -1,6 +1,6 @@
 // The WebAssembly module: how it is loaded, where its structs are, and how a code becomes an error.
 
-/** The numbers of include/noise.h, then those of this module, which are negative. */
+/** The numbers of include/noise.h that the calls made here return, then those of this module, which are negative. */
 const NAMES = {
   1: ['NAME', 'no protocol name of a fundamental pattern with 25519, ChaChaPoly and SHA256, or a psk place beyond its messages'],
   2: ['PATTERN', 'a pattern text that spells no valid pattern: checkPattern says where'],
@@ -86,10 +86,12 @@ class Library {
     this.memory = this.x.memory;
     this.sizes = {
       handshake: Number(this.x.noise_handshake_size()),
-      transport: Number(this.x.noise_transport_size()),
-      datagrams: Number(this.x.noise_datagrams_size()),
+      sender: Number(this.x.noise_sender_size()),
+      receiver: Number(this.x.noise_receiver_size()),
+      datagramSender: Number(this.x.noise_datagram_sender_size()),
+      datagramReceiver: Number(this.x.noise_datagram_receiver_size()),
     };
-    this.kept = { handshake: [], transport: [], datagrams: [] };
+    this.kept = { handshake: [], sender: [], receiver: [], datagramSender: [], datagramReceiver: [] };
     this.next = this.memory.buffer.byteLength;
     this.end = this.next;
     this.#see();
@@ -170,6 +172,12 @@ class Library {
   hash(call, place) {
     must(call(place, this.at.answer));
     return this.view(this.at.answer, 32).slice();
+  }
+
+  /** The number of 8 bytes that a call writes to its last pointer. */
+  nonce(call, place) {
+    must(call(place, this.at.number));
+    return this.number(this.at.number);
   }
 
   /** The public key that a call writes to its last pointer, or undefined where it isn't known. */

@@ -2,35 +2,35 @@
 import { NoiseError, code, library, must } from './module.mjs';
 import { bytesOf } from './bytes.mjs';
 
-/** What both have: a kept struct, and calls that seal and open. */
+/** What both have: two kept structs, the half that seals and the half that opens. */
 class Sealed {
-  #place;
+  #halves;
 
-  constructor(place, { hash, remoteStatic }) {
-    this.#place = place;
+  constructor(halves, { hash, remoteStatic }) {
+    this.#halves = halves;
     this.hash = hash;
     this.remoteStatic = remoteStatic;
   }
 
-  /** @protected */
-  get place() {
-    if (this.#place === undefined) throw new NoiseError(code.DISPOSED);
-    return this.#place;
+  /** The places of the half that seals and of the half that opens. @protected */
+  get halves() {
+    if (this.#halves === undefined) throw new NoiseError(code.DISPOSED);
+    return this.#halves;
   }
 
-  /** Hands the struct over to another object: this one is used up. @protected */
+  /** Hands the halves over to another object: this one is used up. @protected */
   handOver() {
-    const place = this.place;
-    this.#place = undefined;
-    return place;
+    const { halves } = this;
+    this.#halves = undefined;
+    return halves;
   }
 
   /** @protected */
   sealBy(call, payload, overhead) {
     const lib = library();
-    const place = this.place;
+    const [sender] = this.halves;
     if (bytesOf(payload, 'payload').length > 65519) throw new NoiseError(code.TOO_LONG);
-    const number = call(place, ...lib.put('payload', payload), lib.at.message, BigInt(payload.length + overhead), lib.at.told);
+    const number = call(sender, ...lib.put('payload', payload), lib.at.message, BigInt(payload.length + overhead), lib.at.told);
     lib.wipe('payload', payload.length);
     must(number);
     return lib.view(lib.at.message, lib.told().len).slice();
@@ -39,40 +39,41 @@ class Sealed {
   /** @protected */
   openBy(call, message) {
     const lib = library();
-    must(call(this.place, ...lib.put('message', bytesOf(message, 'message')), lib.at.told));
+    const [, receiver] = this.halves;
+    must(call(receiver, ...lib.put('message', bytesOf(message, 'message')), lib.at.told));
     const told = lib.told();
     const payload = lib.view(lib.at.message + BigInt(told.from), told.len).slice();
     lib.wipe('message', message.length);
     return payload;
   }
 
-  /** Overwrites the struct, and gives its place back. */
+  /** Overwrites the structs, and gives their places back. */
   dispose() {
-    if (this.#place === undefined) return;
-    library().free(this.constructor.kind, this.#place);
-    this.#place = undefined;
+    if (this.#halves === undefined) return;
+    this.constructor.kinds.forEach((kind, n) => library().free(kind, this.#halves[n]));
+    this.#halves = undefined;
   }
 }
 
 /** Messages in order, over a stream: each has 16 bytes more than its payload. */
 export class Transport extends Sealed {
-  static kind = 'transport';
+  static kinds = ['sender', 'receiver'];
 
   /** Seals a payload of at most 65519 bytes as the next message. */
   seal(payload) {
-    return this.sealBy(library().x.noise_transport_seal, payload, 16);
+    return this.sealBy(library().x.noise_seal, payload, 16);
   }
 
   /** Opens the next message. A refused one changes nothing; over a stream close at the first. */
   open(message) {
-    return this.openBy(library().x.noise_transport_open, message);
+    return this.openBy(library().x.noise_open, message);
   }
 
   /** The nonces of the next message that is sealed and of the next that is opened, as `send` and `receive`. */
   get nonces() {
     const lib = library();
-    must(lib.x.noise_transport_nonces(this.place, lib.at.number, lib.at.number + 8n));
-    return { send: lib.number(lib.at.number), receive: lib.number(lib.at.number + 8n) };
+    const [sender, receiver] = this.halves;
+    return { send: lib.nonce(lib.x.noise_sender_nonce, sender), receive: lib.nonce(lib.x.noise_receiver_nonce, receiver) };
   }
 
   /** Two halves in the place of this object, which is used up: one seals, the other opens. `dispose` of either overwrites both. */
@@ -89,23 +90,22 @@ export class Transport extends Sealed {
 
 /** Datagrams, each with its nonce in front: 24 bytes more than the payload. */
 export class Datagrams extends Sealed {
-  static kind = 'datagrams';
+  static kinds = ['datagramSender', 'datagramReceiver'];
 
   /** Seals a payload of at most 65519 bytes as a datagram. */
   seal(payload) {
-    return this.sealBy(library().x.noise_datagrams_seal, payload, 24);
+    return this.sealBy(library().x.noise_datagram_seal, payload, 24);
   }
 
   /** Opens a datagram. A refused one changes nothing: drop it, and wait for the next. */
   open(datagram) {
-    return this.openBy(library().x.noise_datagrams_open, datagram);
+    return this.openBy(library().x.noise_datagram_open, datagram);
   }
 
   /** The nonce of the next datagram that is sealed. */
   get nonce() {
-    const lib = library();
-    must(lib.x.noise_datagrams_nonce(this.place, lib.at.number));
-    return lib.number(lib.at.number);
+    const [sender] = this.halves;
+    return library().nonce(library().x.noise_datagram_sender_nonce, sender);
   }
 }
 for (const Kind of [Transport, Datagrams]) if (Symbol.dispose) Kind.prototype[Symbol.dispose] = Kind.prototype.dispose;
