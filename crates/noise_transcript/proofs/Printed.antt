@@ -1,6 +1,7 @@
 -- What is printed of the run of a file whose lines fit, and with which status it ends.
-use Rattle.std.proofs.Common.{◌≡◌, ◌∙◌, refl, ap, sym, subst, ◌⊎◌, inl, inr, ◌<◌, ◌≤◌, ℕ, zero, suc, List, [], length, Option, Some, arith}
+use Rattle.std.proofs.Common.{◌≡◌, ◌∙◌, refl, ap, sym, subst, ◌⊎◌, inl, inr, ◌<◌, ◌≤◌, ℕ, zero, suc, List, [], length, Option, Some, String, arith}
 use Rattle.std.specs.Prelude.{◌↔◌, IfSome, slice_get}
+use Rattle.std.specs.Global.{Global}
 use Rattle.std.specs.Io.KnownBytes.{Appends}
 use Rattle.noise_names.specs.declared.token.Role.{Role}
 use Rattle.noise_names.specs.Plan.{Plan}
@@ -12,11 +13,15 @@ use Rattle.noise_vectors.specs.declared.vector.AllowedEvents.TheVariants.{SayOnl
 use Rattle.noise_vectors.specs.declared.vector.VectorFile.{VectorFile}
 use Rattle.noise_lines.specs.Faults.{status_of}
 use Rattle.noise_lines.specs.Lines.{lines_text}
+use Rattle.noise_lines.specs.Prefixes.{AppendsPrefix}
 use Rattle.noise_lines.specs.declared.faults.Fault.{Fault}
+use Rattle.noise_lines.specs.declared.faults.Fault.TheVariants as fault
 use Rattle.noise_lines.specs.Verdicts.{IsMet}
 use Rattle.noise_tool.specs.OneRun.{OneRun}
 use Rattle.noise_tool.specs.Performing.{HasRun, HasUnmet, IsRunFault, IsUnmet}
+use Rattle.noise_tool.specs.Prefixes.{PrintsFault, PrintsPrefix, PrintsWhole}
 use Rattle.noise_tool.specs.Running.{IsRunOf, expected_in}
+use Rattle.noise_words.specs.declared.orders.Chosen.TheVariants.{Talk}
 use Rattle.noise_transcript.specs.Fitting.{HasFittingLines}
 use Rattle.noise_transcript.specs.Talked.{FittingLinesRun, talked_lines}
 use Rattle.noise_transcript.proofs.Refusals.{IsLeft, left-over}
@@ -117,3 +122,27 @@ module _ (laws : Once) (f : VectorFile) (p : Plan) (lines : List (Role × List �
   long-at before after status (inr (inl h)) two = absurd (omega (arith, h.0, two))
   long-at before after status (inr (inr (inl h))) two = h.1
   long-at before after status (inr (inr (inr e))) two = absurd (omega (arith, e, two))
+
+  -- ---- a prefix of the lines, whatever the status
+
+  whole-fault : (name : String Global) (text : List ℕ) (why : Fault) → PrintsFault (Talk name) (Some (text_of f)) (Some []) (Some text) why
+      → IsLeft f (Some []) (Some text) why → text ≡ lines_text (talked_lines f p lines)
+  whole-fault name text why h (inl e) = absurd (subst (λ (w : Fault). PrintsFault (Talk name) (Some (text_of f)) (Some []) (Some text) w) e h)
+  whole-fault name text why h (inr (inl (e, long))) =
+      absurd (subst (λ (w : Fault). PrintsFault (Talk name) (Some (text_of f)) (Some []) (Some text) w) e h)
+  whole-fault name text why h (inr (inr (n, e, unmet))) = (unmet-printed (Some []) (Some text) n unmet).0
+
+  is-fault : (name : String Global) (text : List ℕ) (why : Fault) → PrintsFault (Talk name) (Some (text_of f)) (Some []) (Some text) why
+      → IsRunFault SayOnly (text_of f) why ⊎ IsUnmet (text_of f) (Some []) (Some text) why
+  is-fault name text (fault.Rule r) h = h.0
+  is-fault name text (fault.Unmet n) h = h
+  is-fault name text _ h = absurd h
+
+  whole : (name : String Global) (text : List ℕ) → PrintsWhole (Talk name) (Some (text_of f)) text → text ≡ lines_text (talked_lines f p lines)
+  whole name text (inl done) = (run-printed (Some []) (Some text) done).0
+  whole name text (inr (why, h)) = whole-fault name text why h (left-over laws.unique f p lines (Some []) (Some text) why fits (is-fault name text why h))
+
+  pub prefix-at : (name : String Global) (known before after : Option (List ℕ)) → known ≡ Some (text_of f) → PrintsPrefix (Talk name) known before after
+      → AppendsPrefix before after (lines_text (talked_lines f p lines))
+  prefix-at name known before after is (text, h, grew) =
+      subst (λ (t : List ℕ). AppendsPrefix before after t) (whole name text (subst (λ (o : Option (List ℕ)). PrintsWhole (Talk name) o text) is h)) grew

@@ -1,13 +1,14 @@
 //! The command `talk` on a file whose lines fit.
 #![tactic(auto)]
 
-ghost use Rattle.std.specs.Prelude.{◌≡◌, ◌↔◌, ◌<◌, ◌≤◌, ℕ, List, Some, length};
+ghost use Rattle.std.specs.Prelude.{◌≡◌, ◌⊎◌, ◌↔◌, ◌<◌, ◌≤◌, ℕ, List, Some, length};
 ghost use Rattle.std.specs.Io.KnownBytes.{Appends};
 ghost use Rattle.noise_names.specs.declared.token.Role.{Role};
 ghost use Rattle.noise_names.specs.Plan.{Plan};
 ghost use Rattle.noise_vectors.specs.VectorText.{text_of};
 ghost use Rattle.noise_vectors.specs.declared.vector.VectorFile.{VectorFile};
 ghost use Rattle.noise_lines.specs.Lines.{lines_text};
+ghost use Rattle.noise_lines.specs.Prefixes.{AppendsPrefix};
 ghost use Rattle.noise_lines.specs.Verdicts.{IsMet};
 ghost use Rattle.noise_tool.specs.Running.{expected_in};
 ghost use Rattle.noise_transcript.specs.Fitting.{HasFittingLines};
@@ -24,7 +25,7 @@ use std::io::{Read, Write};
 /// Of a vector file whose lines fit, at status 0 or 1 the output grew by exactly this: for each line the frame
 /// of its message in the transcript, and its payload as the other end accepted it; and then a line for each end. The status is 0 where these are the lines
 /// that the file expects, or it expects none, and else 1. It is 2 only for a text of more than 4194304 bytes, and 3 where the file can't be read, the
-/// output can't be written, or memory runs out.
+/// output can't be written, or memory runs out. At each status the output is as it was, or grew by a prefix of these lines.
 ///
 /// Such a file has `xor` keys, a valid pattern, setups without a fault, and the event `say` alone.
 pub fn talk<R: Read, O: Write, E: Write>(
@@ -41,6 +42,8 @@ pub fn talk<R: Read, O: Write, E: Write>(
         → result ≤ 1 → (result ≡ 0 ↔ IsMet (expected_in f.version) (talked_lines f p lines)) }
     ensures taken { (f : VectorFile) (p : Plan) (lines : List (Role × List ℕ)) → HasFittingLines f p lines → R.remaining file.old ≡ Some (text_of f)
         → result ≡ 2 → 4194304 < length (text_of f) }
+    ensures prefix { (f : VectorFile) (p : Plan) (lines : List (Role × List ℕ)) → HasFittingLines f p lines → R.remaining file.old ≡ Some (text_of f)
+        → (out.new ≡ out.old) ⊎ AppendsPrefix (O.contents out.old) (O.contents out.new) (lines_text (talked_lines f p lines)) }
 {
     fitting_lines_run();
     file_run_once();
