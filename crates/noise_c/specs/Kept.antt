@@ -40,10 +40,11 @@ use Rattle.noise_c.specs.declared.codes.TheConstants.{EPHEMERAL_MISSING, LENGTH,
 abbrev pub key_in : NoiseKey → Option (List ℕ)
 key_in k = if k.present == 0 then None else Some k.bytes
 
--- how it is kept and told: of no key, zeros
+-- no key: zeros
 abbrev pub no_key : NoiseKey
 no_key = record { present = 0; bytes = replicate 32 0 }
 
+-- how a key is kept and told
 abbrev pub kept_key : Option (List ℕ) → NoiseKey
 kept_key None = no_key
 kept_key (Some bytes) = record { present = 1; bytes = bytes }
