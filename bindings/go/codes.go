@@ -58,10 +58,11 @@ const (
 // What the library keeps in the caller's memory, in bytes.
 const (
 	sizeOfHandshake        = 1472
-	sizeOfTransport        = 160
-	sizeOfDatagrams        = 296
+	sizeOfStreamSender     = 64
+	sizeOfStreamReceiver   = 64
 	sizeOfSender           = 56
 	sizeOfReceiver         = 56
 	sizeOfDatagramSender   = 48
 	sizeOfDatagramReceiver = 192
+	sizeOfCipher           = 48
 )
