@@ -1,5 +1,6 @@
 //! What no contract says: worked frames and packets, what readers and writers that fail come to, and that each call can succeed.
 
+mod channel;
 mod conversations;
 mod datagram_conversations;
 mod datagram_duels;

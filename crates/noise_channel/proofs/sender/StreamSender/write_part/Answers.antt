@@ -1,4 +1,4 @@
-use Rattle.std.proofs.Common.{◌≡◌, ◌+◌, ◌<◌, take, false, refl, sym, ◌∙◌, ap, subst, arith}
+use Rattle.std.proofs.Common.{◌≡◌, ◌+◌, ◌<◌, take, refl, sym, ◌∙◌, ap, subst}
 use Rattle.noise_session.specs.Transport.{last_nonce}
 use Rattle.noise_channel.specs.Writing.Asked.{ToWrite}
 use Rattle.noise_channel.specs.Halves.{HeldWriter, WriterStands, writes_nothing}
