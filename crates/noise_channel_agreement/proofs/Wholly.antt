@@ -1,5 +1,6 @@
 -- What a reader has given out, once it has met the end and nothing is left.
-use Rattle.std.proofs.Common.{◌≡◌, ◌⊎◌, inl, inr, ℕ, ◌+◌, ◌-◌, List, [], ◌++◌, length, take, drop, Bool, true, false, not, refl, sym, ◌∙◌, ap, subst, append-nil}
+use Rattle.std.proofs.Common.{◌≡◌, ◌⊎◌, inl, inr, ℕ, ◌+◌, ◌-◌, List, [], ◌++◌, length, take, drop, Bool, true, false, not, refl, sym, ◌∙◌, ap, subst}
+use Rattle.std.proofs.Common.{append-nil}
 use Rattle.std.proofs.lemmas.List.{drop-drop, nil_from_length, take_rest}
 use Rattle.noise_session.specs.HeldTransport.{TransportView}
 use Rattle.noise_channel.specs.declared.next.StreamState.TheVariants as reading

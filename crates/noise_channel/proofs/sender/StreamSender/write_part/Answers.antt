@@ -7,7 +7,8 @@ use Rattle.noise_channel.proofs.sender.StreamSender.write_part.Goals as goal
 
 pub returns-then-is_empty-clause-writes : goal.returns-then-is_empty-clause-writes
 returns-then-is_empty-clause-writes c v s stands =
-    skips-as c.args.self.now v c.requires.open s c.args.payload.now (none-there c.args.payload.now c.is_empty.result c.is_empty.ensures c.if-is_empty.true) stands
+    skips-as c.args.self.now v c.requires.open s c.args.payload.now
+    (none-there c.args.payload.now c.is_empty.result c.is_empty.ensures c.if-is_empty.true) stands
 
 pub returns-then-writes_nothing-clause-writes : goal.returns-then-writes_nothing-clause-writes
 returns-then-writes_nothing-clause-writes c v s stands =
