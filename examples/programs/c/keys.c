@@ -1,6 +1,7 @@
 // X25519 and random bytes by OpenSSL, and files with keys.
 #include "keys.h"
 #include <fcntl.h>
+#include <stdbool.h>
 #include <stdio.h>
 #include <stdlib.h>
 #include <string.h>
@@ -60,8 +61,10 @@ key_pair pair_in(const char *file) {
 }
 
 void save_public(const char *file, const uint8_t key[32]) {
-    FILE *it = fopen(file, "wb");
-    if (!it || fwrite(key, 1, 32, it) != 32 || fclose(it)) die(file);
+    char other[200];
+    snprintf(other, sizeof other, "%s.new", file);
+    FILE *it = fopen(other, "wb");
+    if (!it || fwrite(key, 1, 32, it) != 32 || fclose(it) || rename(other, file)) die(file);  // so that nobody reads half of it
 }
 
 void load_public(const char *file, uint8_t key[32]) {
@@ -81,28 +84,31 @@ void start(noise_handshake *h, const char *pattern, uint8_t responder, const key
     if (code != NOISE_OK) die(noise_text(code));
 }
 
-// Hands in the result that a call has asked for. OpenSSL refuses zeros, which come of a public key that no honest party has.
-static void answer(noise_handshake *h, const key_pair *ephemeral, const key_pair *own, const noise_told *told) {
+// Hands in the result that a call has asked for. False where there is none: OpenSSL refuses zeros, which come of a public key that no honest party has.
+static bool answer(noise_handshake *h, const key_pair *ephemeral, const key_pair *own, const noise_told *told) {
     uint8_t result[32];
     size_t len = 32;
     EVP_PKEY *other = EVP_PKEY_new_raw_public_key(EVP_PKEY_X25519, NULL, told->remote, 32);
     EVP_PKEY_CTX *context = EVP_PKEY_CTX_new(told->of_static ? own->secret : ephemeral->secret, NULL);
     if (!other || !context || EVP_PKEY_derive_init(context) != 1 || EVP_PKEY_derive_set_peer(context, other) != 1) die("no X25519");
-    if (EVP_PKEY_derive(context, result, &len) != 1) die("X25519 of the other party's public key fails");
-    if (noise_answer(h, told->of_static, told->remote, result) != NOISE_OK) die("too many results");
+    bool is_one = EVP_PKEY_derive(context, result, &len) == 1;
+    if (is_one && noise_answer(h, told->of_static, told->remote, result) != NOISE_OK) die("too many results");
     noise_wipe(result, sizeof result);
     EVP_PKEY_CTX_free(context);
     EVP_PKEY_free(other);
+    return is_one;
 }
 
 uint32_t write_message(noise_handshake *h, const key_pair *ephemeral, const key_pair *own, uint8_t *out, size_t out_len, noise_told *told) {
     uint32_t code;
-    while ((code = noise_write(h, NULL, 0, out, out_len, told)) == NOISE_WANTED) answer(h, ephemeral, own, told);
+    while ((code = noise_write(h, NULL, 0, out, out_len, told)) == NOISE_WANTED)
+        if (!answer(h, ephemeral, own, told)) break;
     return code;
 }
 
 uint32_t read_message(noise_handshake *h, const key_pair *ephemeral, const key_pair *own, uint8_t *message, size_t len, noise_told *told) {
     uint32_t code;
-    while ((code = noise_read(h, message, len, told)) == NOISE_WANTED) answer(h, ephemeral, own, told);
+    while ((code = noise_read(h, message, len, told)) == NOISE_WANTED)
+        if (!answer(h, ephemeral, own, told)) break;
     return code;
 }

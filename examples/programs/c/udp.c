@@ -1,4 +1,5 @@
-// A channel of datagrams over UDP on 127.0.0.1, port 4042: udp server; or udp client TEXT, which sends the text, and the server sends it back.
+// A channel of datagrams over UDP on 127.0.0.1, port 4042 if no other is given: udp server [PORT]; or udp client TEXT [PORT], which sends the text, and the
+// server sends it back.
 //
 // The network may lose a message, and anybody may send one. So each party sends again what isn't answered, and tries a message on a copy of its
 // handshake, which it drops if the message is refused.
@@ -7,6 +8,7 @@
 #include <poll.h>
 #include <stdbool.h>
 #include <stdio.h>
+#include <stdlib.h>
 #include <string.h>
 #include <sys/socket.h>
 #include <unistd.h>
@@ -141,13 +143,15 @@ static void run_server(int socket) {
 }
 
 int main(int count, char **words) {
-    bool is_server = count == 2 && !strcmp(words[1], "server"), is_client = count == 3 && !strcmp(words[1], "client");
-    if (!is_server && !is_client) die("usage: udp server, or udp client TEXT");
+    bool is_server = count >= 2 && count <= 3 && !strcmp(words[1], "server"), is_client = count >= 3 && count <= 4 && !strcmp(words[1], "client");
+    if (!is_server && !is_client) die("usage: udp server [PORT], or udp client TEXT [PORT]");
+    int places = is_server ? 2 : 3;                      // of the words in front of the port
     if (is_client && strlen(words[2]) > LONGEST - NOISE_DATAGRAM_OVERHEAD) die("the text is too long");
-    struct sockaddr_in at = {.sin_family = AF_INET, .sin_port = htons(4042), .sin_addr.s_addr = htonl(INADDR_LOOPBACK)};
+    struct sockaddr_in at = {.sin_family = AF_INET, .sin_addr.s_addr = htonl(INADDR_LOOPBACK)};
+    at.sin_port = htons(count > places ? (uint16_t)atoi(words[places]) : 4042);
     int it = socket(AF_INET, SOCK_DGRAM, 0);
     if (it < 0) die("no socket");
-    if (is_server ? bind(it, (struct sockaddr *)&at, sizeof at) : connect(it, (struct sockaddr *)&at, sizeof at)) die("port 4042");
+    if (is_server ? bind(it, (struct sockaddr *)&at, sizeof at) : connect(it, (struct sockaddr *)&at, sizeof at)) die("the port isn't free");
     if (is_server)
         run_server(it);
     else
