@@ -39,4 +39,4 @@ returns-clause-prefix g c f p lines fits is =
       once = c.file_run_once.ensures;
       unique = c.vector_texts_are_unique.ensures;
     } in
-    elim c.perform_command.ensures.prefix [ inl e ↦ inl e | inr h ↦ inr (prefix-at laws f p lines fits _ _ _ _ is h) ]
+    elim c.perform_command.ensures.prefix [ inl e ↦ inl e | inr h ↦ inr (prefix-at laws f p lines fits c.args.name _ _ _ is h) ]
