@@ -2,16 +2,18 @@
 """The server and the client of examples/programs/c through a relay that damages what the server sends: cut.py SERVER CLIENT.
 
 Cut after some bytes, or with one of them flipped, doubled or left out, the client has to end with a status other than 0; with nothing done to it, with
-0. So a client never takes a part of the answer for the whole.
+0. So a client never takes a part of the answer for the whole. Meanwhile another server has a client that sends a byte of a handshake each second: the
+server has to end with status 1 after some 10 seconds, all of the handshake's time.
 """
 import socket
 import subprocess
 import sys
 import threading
+import time
 
 TEXT = "an answer that has to come whole"
-STEP = 9
-SERVER_PORT, CLIENT_PORT = 4051, 4052
+STEP = 17
+SERVER_PORT, CLIENT_PORT, SLOW_PORT = 4051, 4052, 4055
 
 
 def damaged(data, start, kind, at):
@@ -50,17 +52,7 @@ def run(server, client, kind, at):
             subprocess.Popen([server, "XX", str(SERVER_PORT)], stdout=subprocess.DEVNULL, stderr=subprocess.DEVNULL) as serving, \
             subprocess.Popen([client, "XX", TEXT, str(CLIENT_PORT)], stdout=subprocess.DEVNULL, stderr=subprocess.DEVNULL) as asking:
         near, _ = relay.accept()
-        for _ in range(100):
-            try:
-                far = socket.create_connection(("127.0.0.1", SERVER_PORT))
-                break
-            except ConnectionRefusedError:
-                if serving.poll() is not None:
-                    sys.exit("cut.py: the server has ended")
-                threading.Event().wait(0.02)
-        else:
-            sys.exit("cut.py: no server")
-        with near, far:
+        with near, connect(SERVER_PORT, serving) as far:
             up = threading.Thread(target=pump, args=(near, far))
             up.start()
             sent = pump(far, near, kind, at)
@@ -70,8 +62,37 @@ def run(server, client, kind, at):
     return status, sent
 
 
+def connect(port, serving):
+    for _ in range(100):
+        try:
+            return socket.create_connection(("127.0.0.1", port))
+        except ConnectionRefusedError:
+            if serving.poll() is not None:
+                sys.exit("cut.py: the server has ended")
+            time.sleep(0.02)
+    sys.exit("cut.py: no server")
+
+
+def be_slow(server, said):
+    """Sends a frame's bytes one a second, and tells when the server has had enough."""
+    with subprocess.Popen([server, "XX", str(SLOW_PORT)], stdout=subprocess.DEVNULL, stderr=subprocess.DEVNULL) as serving, \
+            connect(SLOW_PORT, serving) as slow:
+        begun = time.monotonic()
+        while serving.poll() is None and time.monotonic() - begun < 30:
+            try:
+                slow.sendall(b"\1")
+            except OSError:
+                pass
+            time.sleep(1)
+        said.append((time.monotonic() - begun, serving.poll()))
+        serving.kill()
+
+
 def main():
     server, client = sys.argv[1:]
+    slow = []
+    slowness = threading.Thread(target=be_slow, args=(server, slow))
+    slowness.start()
     status, sent = run(server, client, "nothing", 0)
     if status != 0 or sent < 100:
         sys.exit(f"cut.py: with nothing done the client ends with {status} after {sent} bytes")
@@ -83,6 +104,10 @@ def main():
             if status == 0 and not (kind == "double" and at == sent - 1):   # a byte after the end takes nothing from the answer
                 sys.exit(f"cut.py: {kind} at byte {at} of {sent}, and the client ends with 0")
             runs += 1
+    slowness.join()
+    seconds, status = slow[0]
+    if status != 1 or not 8 < seconds < 20:
+        sys.exit(f"cut.py: with a slow client the server ends with {status} after {seconds:.0f} seconds")
     print(f"install: the example's client knew of {runs} damaged connections out of {runs}")
 
 

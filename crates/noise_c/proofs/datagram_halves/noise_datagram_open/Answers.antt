@@ -50,22 +50,32 @@ returns-in-Ok c =
       codes = inl refl;
     }
 
-pub returns-in-Err : goal.returns-in-Err
-returns-in-Err c =
-    let code : ℕ = c.datagram_code.result in
-    let from = declined-from c.in-Err.fault code c.datagram_code.ensures in
-    record {
-      unusable = (declined-not-struct c.in-Err.fault code c.datagram_code.ensures, λ none. absurd (false≢true (sym none ∙ sym c.in-Some.ensures.known)));
-      place = not-before code 11 0 from refl;
-      opens = not-before code 11 0 from refl;
-      declined = λ _ _. (
-        c.in-Err.fault,
-        c.datagram_code.ensures,
-        λ v s. c.in-Err.ensures.opens v (subst (λ (z : HeldDatagramReceiver). DatagramReceiverStands z v) (sym c.in-Some.ensures.same) s),
-      );
-      beyond = not-before code 11 0 from refl;
-      same = not-before code 11 0 from refl;
-      known = not-before code 11 0 from refl;
-      unchanged = λ _. (refl, c.in-Err.ensures.unchanged.1, refl);
-      codes = declined-among c.in-Err.fault code c.datagram_code.ensures;
-    }
+-- Each clause by itself, but for those that need no answer.
+pub returns-in-Err-clause-unusable : goal.returns-in-Err-clause-unusable
+returns-in-Err-clause-unusable c =
+    (declined-not-struct c.in-Err.fault c.datagram_code.result c.datagram_code.ensures, λ none. absurd (false≢true (sym none ∙ sym c.in-Some.ensures.known)))
+
+pub returns-in-Err-clause-place : goal.returns-in-Err-clause-place
+returns-in-Err-clause-place c = not-before c.datagram_code.result 11 0 (declined-from c.in-Err.fault c.datagram_code.result c.datagram_code.ensures) refl
+
+pub returns-in-Err-clause-opens : goal.returns-in-Err-clause-opens
+returns-in-Err-clause-opens c = not-before c.datagram_code.result 11 0 (declined-from c.in-Err.fault c.datagram_code.result c.datagram_code.ensures) refl
+
+pub returns-in-Err-clause-declined : goal.returns-in-Err-clause-declined
+returns-in-Err-clause-declined c = λ _ _. (
+  c.in-Err.fault,
+  c.datagram_code.ensures,
+  λ v s. c.in-Err.ensures.opens v (subst (λ (z : HeldDatagramReceiver). DatagramReceiverStands z v) (sym c.in-Some.ensures.same) s),
+)
+
+pub returns-in-Err-clause-beyond : goal.returns-in-Err-clause-beyond
+returns-in-Err-clause-beyond c = not-before c.datagram_code.result 11 0 (declined-from c.in-Err.fault c.datagram_code.result c.datagram_code.ensures) refl
+
+pub returns-in-Err-clause-same : goal.returns-in-Err-clause-same
+returns-in-Err-clause-same c = not-before c.datagram_code.result 11 0 (declined-from c.in-Err.fault c.datagram_code.result c.datagram_code.ensures) refl
+
+pub returns-in-Err-clause-known : goal.returns-in-Err-clause-known
+returns-in-Err-clause-known c = not-before c.datagram_code.result 11 0 (declined-from c.in-Err.fault c.datagram_code.result c.datagram_code.ensures) refl
+
+pub returns-in-Err-clause-codes : goal.returns-in-Err-clause-codes
+returns-in-Err-clause-codes c = declined-among c.in-Err.fault c.datagram_code.result c.datagram_code.ensures
