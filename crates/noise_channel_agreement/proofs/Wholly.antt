@@ -1,5 +1,5 @@
 -- What a reader has given out, once it has met the end and nothing is left.
-use Rattle.std.proofs.Common.{◌≡◌, ◌⊎◌, inl, inr, ℕ, ◌+◌, ◌-◌, List, [], ◌++◌, length, take, drop, Bool, true, false, not, refl, sym, ◌∙◌, ap, subst}
+use Rattle.std.proofs.Common.{◌≡◌, ◌⊎◌, ◌↔◌, inl, inr, ℕ, ◌+◌, ◌-◌, List, [], ◌++◌, length, take, drop, Bool, true, false, not, refl, sym, ◌∙◌, ap, subst}
 use Rattle.std.proofs.Common.{append-nil}
 use Rattle.std.proofs.lemmas.List.{drop-drop, nil_from_length, take_rest}
 use Rattle.noise_session.specs.HeldTransport.{TransportView}
@@ -10,10 +10,11 @@ use Rattle.noise_channel.specs.Writing.WriterState.{Speaks}
 use Rattle.noise_channel.specs.declared.next.Next.{Next}
 use Rattle.noise_channel.specs.declared.next.Next.TheVariants as next
 use Rattle.noise_channel.specs.Reading.{ReaderState, Given, Reads, Leaves, given}
-use Rattle.noise_channel.specs.Reading.Given.{Wants, Refused, Closed}
+use Rattle.noise_channel.specs.Reading.Given.{Wants, Payload, End, Refused, Closed}
+use Rattle.noise_channel.specs.Reading.Reads.{wants, gives, ends, refuses, closed_at_end, closed_broken}
 use Rattle.noise_channel.specs.Reading.ReaderState.{Listens, AtEnd, Broken}
 use Rattle.noise_channel.specs.Halves.{HeldReader, ReaderStands}
-use Rattle.noise_channel.specs.Runs.{Run, ForgedAt, uses, payloads, sealed_on}
+use Rattle.noise_channel.specs.Runs.{Run, Rests, ForgedAt, uses, payloads, sealed_on}
 use Rattle.noise_channel.specs.Runs.Run.{arrives, calls, stops}
 use Rattle.noise_channel_agreement.specs.Agreement.{IsWholeOrForged}
 
@@ -29,7 +30,8 @@ rest-of used old new same = take_rest new used ∙ same
 -- what reading on comes to, from one call to the next
 abbrev pub ReadsOn : TransportView → ReaderState → List ℕ → ℕ → HeldReader → Type 0
 ReadsOn v s came count after =
-    (out : List (List ℕ)) × (left : List ℕ) × (t : ReaderState) × Run (incoming v) s came [] out t left × (length left ≡ count) × ReaderStands after v t
+    (out : List (List ℕ)) × (left : List ℕ) × (t : ReaderState) × Run (incoming v) s came [] out t left × Rests (incoming v) t left
+    × (length left ≡ count) × ReaderStands after v t
 
 -- a call that used a frame
 pub goes-further : (v : TransportView) (s : ReaderState) (came rest : List ℕ) (g : Given) (count : ℕ) (mid after : HeldReader)
@@ -43,25 +45,49 @@ goes-further v s came rest g count mid after call same later =
       calls (incoming v) s call.0 o.2 came [] o.1 g o.0 call.1 (subst (λ (bytes : List ℕ). Run (incoming v) call.0 bytes [] o.0 o.2 o.1) same o.3),
       o.4,
       o.5,
+      o.6,
     )
+
+-- after a call that used nothing the next one uses nothing too
+abbrev IsStill : Given → Type 0
+IsStill (Wants count) = Unit {0}
+IsStill (Payload payload used) = ⊥
+IsStill (End used) = ⊥
+IsStill (Refused cause) = Unit {0}
+IsStill Closed = Unit {0}
+
+still-after : (d : Direction) (s t : ReaderState) (came : List ℕ) (g : Given) → Reads d s came g t → IsStill g → Rests d t came
+still-after d s t came g (wants _ n _ partial) still = (_, _, wants d n came partial, tt)
+still-after d s t came g (gives _ _ _ p listens f some) still = absurd still
+still-after d s t came g (ends _ _ _ listens f) still = absurd still
+still-after d s t came g (refuses _ _ _ m cause f unopened) still = (_, _, closed_broken d came, tt)
+still-after d s t came g (closed_at_end _ _) still = (_, _, closed_at_end d came, tt)
+still-after d s t came g (closed_broken _ _) still = (_, _, closed_broken d came, tt)
 
 -- a call that used nothing
 module _ (v : TransportView) (s : ReaderState) (came new : List ℕ) (after : HeldReader) where
-  stays : (g : Given) → uses g ≡ 0 → payloads g ≡ [] → new ≡ came → (t : ReaderState) × Reads (incoming v) s came g t × ReaderStands after v t
+  stays : (g : Given) → uses g ≡ 0 → payloads g ≡ [] → IsStill g → new ≡ came → (t : ReaderState) × Reads (incoming v) s came g t × ReaderStands after v t
       → ReadsOn v s came (length new) after
-  stays g none nothing same call =
+  stays g none nothing still same call =
       let run : Run (incoming v) s came [] (payloads g ++ []) call.0 came =
       calls (incoming v) s call.0 call.0 came [] came g [] call.1
-      (subst (λ (k : ℕ). Run (incoming v) call.0 (drop k came) [] [] call.0 came) (sym none) (stops (incoming v) call.0 came)) in
-      ([], came, call.0, subst (λ (ps : List (List ℕ)). Run (incoming v) s came [] (ps ++ []) call.0 came) nothing run, ap length (sym same), call.2)
+      (subst (λ (k : ℕ). Run (incoming v) call.0 (drop k came) [] [] call.0 came) (sym none) (stops (incoming v) call.0 came)) in (
+        [],
+        came,
+        call.0,
+        subst (λ (ps : List (List ℕ)). Run (incoming v) s came [] (ps ++ []) call.0 came) nothing run,
+        still-after (incoming v) s call.0 came g call.1 still,
+        ap length (sym same),
+        call.2,
+      )
 
   pub stops-there : (r : Next) → ((from to used : ℕ) → r ≡ next.Payload from to used → ⊥) → ((used : ℕ) → r ≡ next.End used → ⊥)
       → Leaves came new r → (t : ReaderState) × Reads (incoming v) s came (given new r) t × ReaderStands after v t → ReadsOn v s came (length new) after
-  stops-there (next.Wants count) some none left call = stays (Wants count) refl refl left.0 call
+  stops-there (next.Wants count) some none left call = stays (Wants count) refl refl tt left.0 call
   stops-there (next.Payload from to used) some none left call = absurd (some from to used refl)
   stops-there (next.End used) some none left call = absurd (none used refl)
-  stops-there (next.Refused cause) some none left call = stays (Refused cause) refl refl left call
-  stops-there next.Closed some none left call = stays Closed refl refl left call
+  stops-there (next.Refused cause) some none left call = stays (Refused cause) refl refl tt left call
+  stops-there next.Closed some none left call = stays Closed refl refl tt left call
 
 ended-as : (r : HeldReader) (w : TransportView) (t : ReaderState) → r.state ≡ reading.Ended → ReaderStands r w t → t ≡ AtEnd
 ended-as r w (Listens n) is stands = absurd (let e : reading.Ended ≡ reading.Open = sym is ∙ stands.0 in cc)
@@ -76,6 +102,29 @@ came-at-once d s t came left out run =
 pub was-off : (b : Bool) → not b ≡ true → b ≡ false
 was-off true e = let f : false ≡ true = e in cc
 was-off false e = refl
+
+-- it is told whole just where the end has come and nothing is left
+abbrev pub Told : TransportView → ReaderState → List ℕ → Bool → Type 0
+Told v s came told =
+    (out : List (List ℕ)) × (left : List ℕ) × (t : ReaderState) × Run (incoming v) s came [] out t left × Rests (incoming v) t left
+    × ((told ≡ true) ↔ ((t ≡ AtEnd) × (left ≡ [])))
+
+at-end-as : (r : HeldReader) (v : TransportView) (t : ReaderState) → t ≡ AtEnd → ReaderStands r v t → r.state ≡ reading.Ended
+at-end-as r v t is stands = subst (λ (u : ReaderState). ReaderStands r v u) is stands
+
+pub told-exactly : (v : TransportView) (s : ReaderState) (came : List ℕ) (count : ℕ) (after : HeldReader) (cut : Bool) → ReadsOn v s came count after
+    → (cut ≡ false ↔ (after.state ≡ reading.Ended) × (count ≡ 0)) → Told v s came (not cut)
+told-exactly v s came count after cut o told = (
+  o.0,
+  o.1,
+  o.2,
+  o.3,
+  o.4,
+  (
+    λ e. let h = told.0 (was-off cut e) in (ended-as after v o.2 h.0 o.6, nil_from_length o.1 (o.5 ∙ h.1)),
+    λ h. ap not (told.1 (at-end-as after v o.2 h.0 o.6, sym o.5 ∙ ap length h.1)),
+  ),
+)
 
 abbrev pub Whole : TransportView → TransportView → List Call → WriterState → List ℕ → Type 0
 Whole v w made u came =
