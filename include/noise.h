@@ -130,7 +130,7 @@ typedef struct {
     uint8_t messages;              /* how many messages the pattern has, 1 to 8 */
     uint8_t passed;                /* how many of them have been written or read */
     uint8_t ended;                 /* 1 if a refused message has ended the handshake, else 0 */
-    uint8_t writes_next;           /* 1 if this party writes the next message, if there is one; else 0 */
+    uint8_t writes_next;           /* 1 if this party writes the next message, else 0; after the last it says nothing */
 } noise_stage_told;
 
 typedef struct {

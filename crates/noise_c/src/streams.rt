@@ -180,7 +180,7 @@ pub extern "C" fn noise_stream_end(
 ///
 /// OK tells where the payload stands, and how many first bytes of the buffer are used; MORE how many bytes more the frame wants; END that the other
 /// party has ended the stream, and how many first bytes are used. SHORT, TAG, ONE_WAY and EXHAUSTED break the stream for good. After END and these each
-/// call answers CLOSED. But at OK the bytes are unchanged. STRUCT at a half of another kind too.
+/// call answers CLOSED. At any answer but OK the bytes are unchanged. STRUCT at a half of another kind too.
 #[unsafe(no_mangle)]
 pub extern "C" fn noise_stream_read(
     kept: &mut NoiseStreamReceiver,
