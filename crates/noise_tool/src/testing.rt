@@ -56,12 +56,15 @@ pub fn test<F: FilesByName, O: Write, E: Write>(
     out: &mut O,
     err: &mut E,
 ) -> u8
-    ensures tested { (result ≡ 3) ⊎ IsTested traces (F.bytes_at files.now) (F.unreadable files.now) (map string_bytes names.now) (O.contents out.old) (O.contents out.new) result }
+    ensures tested { (result ≡ 3) ⊎ IsTested traces (F.bytes_at files.now) (F.unreadable files.now)
+        (map string_bytes names.now) (O.contents out.old) (O.contents out.new) result }
     ensures quiet { (result ≡ 3) ⊎ (err.new ≡ err.old) }
-    ensures outside { result ≡ 3 → (fault : Fault) × EndsTest fault × AppendsPrefix (E.contents err.old) (E.contents err.new) (error_text fault) }
+    ensures outside { result ≡ 3 → (fault : Fault) × EndsTest fault
+        × AppendsPrefix (E.contents err.old) (E.contents err.new) (error_text fault) }
 
     // However it ends, what comes to the output is a prefix of what it prints of these files.
-    ensures prefix { TestsPrefix traces (F.bytes_at files.now) (F.unreadable files.now) (map string_bytes names.now) (O.contents out.old) (O.contents out.new) }
+    ensures prefix { TestsPrefix traces (F.bytes_at files.now) (F.unreadable files.now)
+        (map string_bytes names.now) (O.contents out.old) (O.contents out.new) }
 {
     match test_all(alloc, names, traces, files, out) {
         Ok(status) => status,
@@ -76,9 +79,10 @@ fn test_all<F: FilesByName, O: Write>(
     files: &F,
     out: &mut O,
 ) -> Result<u8, Fault>
-    ensures tested { IfOk result (λ status. IsTested traces (F.bytes_at files.now) (F.unreadable files.now) (map string_bytes names.now) (O.contents out.old) (O.contents out.new)
-        status) }
-    ensures prefix { IfErr result (λ fault. TestsPrefix traces (F.bytes_at files.now) (F.unreadable files.now) (map string_bytes names.now) (O.contents out.old) (O.contents out.new)) }
+    ensures tested { IfOk result (λ status. IsTested traces (F.bytes_at files.now) (F.unreadable files.now)
+        (map string_bytes names.now) (O.contents out.old) (O.contents out.new) status) }
+    ensures prefix { IfErr result (λ fault. TestsPrefix traces (F.bytes_at files.now) (F.unreadable files.now)
+        (map string_bytes names.now) (O.contents out.old) (O.contents out.new)) }
     ensures fault { IfErr result EndsTest }
 {
     let (passed, failed) = test_each(alloc, names, traces, files, out)?;
@@ -96,9 +100,10 @@ fn test_each<F: FilesByName, O: Write>(
     files: &F,
     out: &mut O,
 ) -> Result<(usize, usize), Fault>
-    ensures tested { IfOk result (λ counts. HaveTested traces (F.bytes_at files.now) (F.unreadable files.now) (map string_bytes names.now) (O.contents out.old) (O.contents out.new)
-        counts.0 counts.1) }
-    ensures prefix { IfErr result (λ fault. TestsPrefix traces (F.bytes_at files.now) (F.unreadable files.now) (map string_bytes names.now) (O.contents out.old) (O.contents out.new)) }
+    ensures tested { IfOk result (λ counts. HaveTested traces (F.bytes_at files.now) (F.unreadable files.now)
+        (map string_bytes names.now) (O.contents out.old) (O.contents out.new) counts.0 counts.1) }
+    ensures prefix { IfErr result (λ fault. TestsPrefix traces (F.bytes_at files.now) (F.unreadable files.now)
+        (map string_bytes names.now) (O.contents out.old) (O.contents out.new)) }
     ensures fault { IfErr result EndsTest }
 {
     let mut passed: usize = 0;
