@@ -1,8 +1,11 @@
 package noise
 
 import (
+	"context"
 	"errors"
+	"log"
 	"strings"
+	"time"
 )
 
 // Config is what a party starts from. It may serve for many connections at once, and isn't changed.
@@ -17,9 +20,10 @@ type Config struct {
 	// PeerStatic is the other party's static key, 32 bytes; nil if it isn't known. If the pattern needs the key beforehand, the handshake starts
 	// with it. If a message of the handshake has the key, the two are compared, and ErrPeerKey ends the handshake.
 	PeerStatic []byte
-	// VerifyPeer is called with the other party's static key as soon as that is known, before anything else is read or written. An error ends the
-	// handshake. It isn't called in a handshake without such a key.
-	VerifyPeer func(key [KeyLen]byte) error
+	// VerifyPeer is called with the other party's static key as soon as that is known, before anything else is read or written; a key that is known from
+	// the start, before the first message is written, or once it has come. An error ends the handshake. It isn't called in a handshake without such a
+	// key. The context ends with that of HandshakeContext, at the time limit, and when the connection is closed.
+	VerifyPeer func(ctx context.Context, key [KeyLen]byte) error
 	// InsecureAcceptAnyKey lets a party talk to anybody, if neither VerifyPeer nor PeerStatic nor PSKs nor PSKFor say who may be the other party.
 	InsecureAcceptAnyKey bool
 	// PSKs has one secret of 32 bytes for each psk token of the pattern, in their order.
@@ -27,12 +31,20 @@ type Config struct {
 	// PSKFor, in place of PSKs, returns the secrets that this party shares with the owner of a static key. It is called at the first psk token, before
 	// which that key has to be known. The other party hasn't shown yet that it has the key's secret key: so choose the secrets, and do nothing else. At
 	// XXpsk3, where the token is in the message that has the key, VerifyPeer is called after PSKFor, once that message is accepted. An error ends the
-	// handshake, and nothing more is sent; 32 random bytes for a key that you don't know, in place of an error, don't tell which keys you know.
-	PSKFor func(key [KeyLen]byte) ([][]byte, error)
+	// handshake, and nothing more is sent; 32 random bytes for a key that you don't know, in place of an error, don't tell which keys you know. The
+	// context is that of VerifyPeer.
+	PSKFor func(ctx context.Context, key [KeyLen]byte) ([][]byte, error)
 	// Interval is the number of messages after which each direction renews its key; 0 is never. The same at both parties.
 	Interval uint64
 	// Payloads are those of the handshake: Payloads[i] goes with message i of the pattern, from 0 on, if this party writes that message.
 	Payloads [][]byte
+	// MaxHandshakeMessage is how many bytes a message of the handshake may have that a Conn reads; 0 is 4096 more than it has without a payload.
+	MaxHandshakeMessage int
+	// HandshakeTimeout is how long the handshake of a Conn may take, from the first call that runs it; 0 is 10 seconds at what a listener of this
+	// package has accepted, and no limit at what Client and Server return. Less than 0 is no limit.
+	HandshakeTimeout time.Duration
+	// ErrorLog gets a line for each handshake of a Conn that has failed, with the other party's address; nil: no lines.
+	ErrorLog *log.Logger
 }
 
 const suite = "_25519_ChaChaPoly_SHA256"
@@ -63,6 +75,7 @@ var (
 	errTwo        = errors.New("set either PSKs or PSKFor")
 	errNoKey      = errors.New("the other party has no static key in this pattern")
 	errPSKTooLate = errors.New("the other party's static key isn't known before the first psk token")
+	errTooSmall   = errors.New("less than a message of the pattern has")
 	errEarly      = errors.New("the pattern has an ephemeral key before \"...\", which this package doesn't support")
 )
 
@@ -89,6 +102,8 @@ func (c *Config) check(p *pattern, initiator, isLate bool) error {
 		return &ConfigError{"PSKFor", ErrPskCount}
 	case c.PSKFor != nil && !known && !p.learnsBeforePSK(initiator):
 		return &ConfigError{"PSKFor", errPSKTooLate}
+	case c.MaxHandshakeMessage < 0 || c.MaxHandshakeMessage > 0 && c.MaxHandshakeMessage < p.longest():
+		return &ConfigError{"MaxHandshakeMessage", errTooSmall}
 	case c.PSKFor == nil && len(c.PSKs) != p.psks && (c.PSKs != nil || !isLate):
 		return &ConfigError{"PSKs", ErrPskCount}
 	}

@@ -1,41 +1,59 @@
 package noise
 
+// #include "noise.h"
+import "C"
+
 import (
 	"context"
-	"encoding/binary"
 	"errors"
 	"io"
 	"net"
+	"os"
 	"sync"
 	"sync/atomic"
+	"syscall"
 	"time"
 )
 
 // Conn is a secure channel over another connection. One goroutine may read while another writes. The first Read or Write runs the handshake, or
 // Handshake does.
+//
+// After a refused message, or once the connection below was lost, nothing more is written, and the end of this party's stream isn't sent.
 type Conn struct {
-	conn    net.Conn
-	config  Config
-	oneWay  bool
-	isFirst bool // the initiator
+	conn        net.Conn
+	config      *Config
+	isFirst     bool          // the initiator
+	isMute      bool          // the other party can't write: the initiator of a one-way pattern
+	limit       time.Duration // for the handshake; 0 is none
+	closed      atomic.Bool
+	closing     chan struct{} // closed by Close
+	closedBelow sync.Once
+	closeErr    error
+	broken      atomic.Pointer[error] // why nothing more may be written: a refused message, or a lost connection
 
-	handshakeMutex sync.Mutex
-	handshakeDone  atomic.Bool
-	handshakeErr   error
-	handshake      *HandshakeState
-	state          ConnectionState
+	handshaking   chan struct{} // holds an element while a goroutine runs the handshake, or wipes
+	handshakeDone atomic.Bool
+	handshakeErr  error
+	handshake     *HandshakeState // nil until it is needed, and after its end
+	mustEnd       time.Time       // when the handshake has to be done; zero: not begun, or no limit
 
-	in     sync.Mutex
-	frames frameReader
-	opener *Receiver
-	rest   []byte // opened, and not read yet
-	inErr  error
+	stateMutex sync.Mutex
+	state      ConnectionState
+	cancel     context.CancelFunc // of the handshake that runs
 
-	out    sync.Mutex
-	sealer *Sender
-	frame  []byte
-	outErr error
-	closed atomic.Bool
+	in       sync.Mutex
+	receiver streamReceiverMemory
+	came     received
+	rest     []byte // opened, and not read yet
+	inErr    error
+
+	out           sync.Mutex
+	sender        streamSenderMemory
+	pending       []byte // sealed, and not sent yet
+	pendingRoom   *room
+	outErr        error
+	isUnfinished  bool         // the last Write has failed, or is running
+	writeDeadline atomic.Int64 // in nanoseconds of Unix; 0 is none
 }
 
 // ConnectionState is what a handshake has agreed on.
@@ -49,222 +67,214 @@ type ConnectionState struct {
 }
 
 // Client returns the initiator's end of a channel over conn, and writes nothing yet. A *ConfigError says what is wrong with the Config.
-func Client(conn net.Conn, config *Config) (*Conn, error) { return newConn(conn, config, true) }
-
-// Server returns the responder's end of a channel over conn, and writes nothing yet. A *ConfigError says what is wrong with the Config.
-func Server(conn net.Conn, config *Config) (*Conn, error) { return newConn(conn, config, false) }
-
-func newConn(conn net.Conn, config *Config, initiator bool) (*Conn, error) {
-	h, err := newHandshakeState(config, initiator, false)
-	if err != nil {
+func Client(conn net.Conn, config *Config) (*Conn, error) {
+	if err := config.Check(true); err != nil {
 		return nil, err
 	}
-	c := &Conn{conn: conn, config: *config, oneWay: h.pattern.oneWay(), isFirst: initiator, handshake: h}
-	c.frames.from = conn
-	c.state = ConnectionState{ProtocolName: config.protocolName(), Initiator: initiator}
-	return c, nil
+	return newConn(conn, config, true, 0), nil
 }
 
-// Handshake runs the handshake, if that wasn't done. Each later call returns its error.
-func (c *Conn) Handshake() error { return c.HandshakeContext(context.Background()) }
-
-// HandshakeContext runs the handshake; if the context ends first, it closes the connection.
-func (c *Conn) HandshakeContext(ctx context.Context) error {
-	if c.handshakeDone.Load() {
-		return nil
+// Server returns the responder's end of a channel over conn, and writes nothing yet. A *ConfigError says what is wrong with the Config.
+func Server(conn net.Conn, config *Config) (*Conn, error) {
+	if err := config.Check(false); err != nil {
+		return nil, err
 	}
-	c.handshakeMutex.Lock()
-	defer c.handshakeMutex.Unlock()
-	if c.handshakeDone.Load() || c.handshakeErr != nil {
-		return c.handshakeErr
-	}
-	stop := c.closeAtEndOf(ctx)
-	err := c.runHandshake()
-	if cause := stop(); cause != nil && err != nil {
-		err = cause
-	}
-	if err != nil {
-		c.handshake.Close()
-		c.handshakeErr = err
-		return err
-	}
-	c.handshakeDone.Store(true)
-	return nil
+	return newConn(conn, config, false, 0), nil
 }
 
-// closeAtEndOf closes the connection when the context ends, until its result is called. That returns the context's error if the context ended.
-func (c *Conn) closeAtEndOf(ctx context.Context) func() error {
-	if ctx.Done() == nil {
-		return func() error { return nil }
+// newConn returns an end with a Config that was checked; limit is for a handshake if the Config has none.
+func newConn(conn net.Conn, config *Config, initiator bool, limit time.Duration) *Conn {
+	if config.HandshakeTimeout != 0 {
+		limit = config.HandshakeTimeout
 	}
-	stop, stopped := make(chan struct{}), make(chan error, 1)
-	go func() {
-		select {
-		case <-ctx.Done():
-			c.conn.Close()
-			stopped <- ctx.Err()
-		case <-stop:
-			stopped <- nil
-		}
-	}()
-	return func() error { close(stop); return <-stopped }
+	return &Conn{
+		conn: conn, config: config, isFirst: initiator, limit: limit,
+		isMute:  initiator && patternOf(config.pattern()).oneWay(),
+		closing: make(chan struct{}), handshaking: make(chan struct{}, 1),
+		state: ConnectionState{ProtocolName: config.protocolName(), Initiator: initiator},
+	}
 }
 
-func (c *Conn) runHandshake() error {
-	h := c.handshake
-	for index := 0; !h.Done(); index++ {
-		if h.ended != nil {
-			return h.ended
-		}
-		pass := c.readHandshake
-		if h.WritesNext() {
-			pass = c.writeHandshake
-		}
-		if err := pass(index); err != nil {
-			return err
-		}
-	}
-	c.state.HandshakeHash = h.HandshakeHash()
-	if key, known := h.PeerStatic(); known {
-		c.state.PeerStatic = key[:]
-	}
-	sealer, opener, err := h.Split()
-	if err != nil {
-		return err
-	}
-	c.sealer, c.opener, c.state.HandshakeComplete = sealer, opener, true
-	return nil
-}
-
-func (c *Conn) writeHandshake(index int) error {
-	var payload []byte
-	if index < len(c.config.Payloads) {
-		payload = c.config.Payloads[index]
-	}
-	frame, err := c.handshake.WriteMessage(make([]byte, 2, 256), payload)
-	if err != nil {
-		return err
-	}
-	binary.BigEndian.PutUint16(frame, uint16(len(frame)-2))
-	c.state.Payloads = append(c.state.Payloads, nil)
-	_, err = c.conn.Write(frame)
-	return err
-}
-
-func (c *Conn) readHandshake(index int) error {
-	message, err := c.frames.next()
-	if err == io.EOF {
-		err = ErrCut
-	}
-	if err != nil {
-		return err
-	}
-	payload, err := c.handshake.ReadMessage([]byte{}, message)
-	c.state.Payloads = append(c.state.Payloads, payload)
-	return err
-}
-
-// ConnectionState returns what the handshake has agreed on so far.
+// ConnectionState returns what the handshake has agreed on so far. It doesn't wait for a handshake that is running.
 func (c *Conn) ConnectionState() ConnectionState {
-	c.handshakeMutex.Lock()
-	defer c.handshakeMutex.Unlock()
+	c.stateMutex.Lock()
+	defer c.stateMutex.Unlock()
 	return c.state
 }
 
 // Read reads what the other party has written. It returns io.EOF once that party has sent the end of its stream.
 //
-// A refused message ends the reading with ErrTag or ErrShort. A deadline that passes doesn't: a later Read goes on with what has arrived.
+// A refused message (ErrTag, ErrShort) and a lost connection (ErrCut) end the channel: the connection below is closed, and nothing more can be read or
+// written. A deadline that passes doesn't: a later Read continues with what has arrived.
 func (c *Conn) Read(b []byte) (int, error) {
 	if err := c.Handshake(); err != nil {
 		return 0, err
 	}
 	c.in.Lock()
 	defer c.in.Unlock()
-	if len(b) == 0 {
-		return 0, nil
-	}
-	for len(c.rest) == 0 {
+	for !c.closed.Load() && len(c.rest) == 0 {
 		if c.inErr != nil {
 			return 0, c.inErr
 		}
+		if len(b) == 0 {
+			return 0, nil
+		}
 		if err := c.open(); err != nil {
-			if !isTimeout(err) {
-				c.inErr = err
-			}
 			return 0, err
 		}
 	}
+	if c.closed.Load() {
+		return 0, net.ErrClosed
+	}
 	n := copy(b, c.rest)
-	c.rest = c.rest[n:]
+	if c.rest = c.rest[n:]; len(c.rest) == 0 {
+		c.rest = nil
+		c.came.settle()
+	}
 	return n, nil
 }
 
-// open opens the next message.
+// open takes the next payload or the end from what has come, or receives more. It returns only what a later Read may not meet again: a deadline.
 func (c *Conn) open() error {
-	if c.oneWay && c.isFirst {
-		return ErrOneWay
+	if c.isMute {
+		c.inErr = ErrOneWay
+		return nil
 	}
-	message, err := c.frames.next()
-	switch {
-	case c.closed.Load():
-		return net.ErrClosed
-	case err == io.EOF:
-		return ErrCut
-	case err != nil:
-		return err
-	}
-	if c.rest, err = c.opener.Open(message[:0], message); err != nil {
-		c.rest = nil
-		return err
-	}
-	if len(c.rest) == 0 {
-		return io.EOF
+	told, left := &c.receiver.told, c.came.left()
+	switch code := C.noise_stream_read(&c.receiver.kept, place(left), C.size_t(len(left)), told); code {
+	case C.NOISE_MORE:
+		return c.receive(int(told.wanted))
+	case C.NOISE_OK:
+		c.rest = left[told.from : told.from+told.len]
+		c.came.start += int(told.used)
+	case C.NOISE_END:
+		c.came.start += int(told.used)
+		c.came.settle()
+		c.inErr = io.EOF
+	default:
+		c.inErr = c.breakOff(Code(code))
 	}
 	return nil
 }
 
-// Write seals b, in messages of at most 65519 bytes. After an error nothing more can be written: a part may have been sent.
+// receive receives more bytes of the stream.
+func (c *Conn) receive(wanted int) error {
+	err := c.came.from(c.conn, wanted)
+	switch {
+	case err == nil:
+	case c.closed.Load():
+		c.inErr = net.ErrClosed
+	case isDeadline(err):
+		return err
+	case err != io.EOF:
+		c.inErr = c.breakOff(&lostError{err})
+	case C.noise_stream_is_cut(&c.receiver.kept, C.size_t(len(c.came.left()))) == C.NOISE_OK:
+		c.inErr = io.EOF
+	default:
+		c.inErr = c.breakOff(ErrCut)
+	}
+	return nil
+}
+
+// breakOff closes the connection below, so that nothing more is written, and returns why.
+func (c *Conn) breakOff(err error) error {
+	c.broken.Store(&err)
+	c.came.drop()
+	c.closeBelow()
+	return err
+}
+
+func (c *Conn) closeBelow() error {
+	c.closedBelow.Do(func() { c.closeErr = c.conn.Close() })
+	return c.closeErr
+}
+
+// Write writes b, in messages of at most 65519 bytes, and returns how many of its bytes it has sealed.
+//
+// After a deadline that has passed, a later Write, or CloseWrite, first sends what was sealed and isn't sent yet, and then continues. After another
+// error nothing more can be written.
 func (c *Conn) Write(b []byte) (int, error) {
 	if err := c.Handshake(); err != nil {
 		return 0, err
 	}
 	c.out.Lock()
 	defer c.out.Unlock()
-	written := 0
-	for len(b) > 0 {
-		part := b
-		if len(part) > MaxMessage-TagLen {
-			part = part[:MaxMessage-TagLen]
-		}
-		if err := c.send(part); err != nil {
+	c.isUnfinished = true
+	for written := 0; ; {
+		if err := c.mayWrite(); err != nil {
 			return written, err
 		}
-		written += len(part)
-		b = b[len(part):]
+		n, err := c.seal(b[written:])
+		written += n
+		if err != nil {
+			return written, err
+		}
+		if written == len(b) {
+			c.isUnfinished = false
+			return written, nil
+		}
 	}
-	return written, nil
+}
+
+// mayWrite sends what is sealed and not sent yet, and says whether more may be sealed.
+func (c *Conn) mayWrite() error {
+	broken, deadline := c.broken.Load(), c.writeDeadline.Load()
+	switch {
+	case c.closed.Load():
+		return net.ErrClosed
+	case broken != nil:
+		return *broken
+	case c.outErr != nil:
+		return c.outErr
+	case deadline != 0 && time.Now().UnixNano() >= deadline:
+		return os.ErrDeadlineExceeded
+	}
+	return c.flush()
 }
 
 var errEnded = errors.New("noise: a Write after CloseWrite")
 
-func (c *Conn) send(payload []byte) error {
-	if c.outErr != nil {
-		return c.outErr
+// seal seals the first bytes of a payload, sends them, and returns how many it has sealed.
+func (c *Conn) seal(payload []byte) (int, error) {
+	room, told := roomFor(len(payload)+C.NOISE_STREAM_OVERHEAD), &c.sender.told
+	code := C.noise_stream_write(&c.sender.kept, place(payload), C.size_t(len(payload)), place(room.bytes), C.size_t(len(room.bytes)), told)
+	if code != C.NOISE_OK {
+		room.free(0)
+		if code == C.NOISE_CLOSED {
+			return 0, errEnded
+		}
+		return 0, Code(code)
 	}
-	if cap(c.frame) < 2 {
-		c.frame = make([]byte, 2, 2+TagLen+len(payload))
+	return int(told.used), c.send(room, int(told.len))
+}
+
+// send sends the first bytes of a room.
+func (c *Conn) send(room *room, count int) error {
+	c.pending, c.pendingRoom = room.bytes[:count], room
+	return c.flush()
+}
+
+// flush sends what is sealed and not sent yet.
+func (c *Conn) flush() error {
+	for len(c.pending) > 0 {
+		n, err := c.conn.Write(c.pending)
+		c.pending = c.pending[n:]
+		if err != nil {
+			if broken := c.broken.Load(); broken != nil {
+				err = *broken
+			} else if c.closed.Load() {
+				err = net.ErrClosed
+			}
+			if !isDeadline(err) {
+				c.outErr = err
+			}
+			return err
+		}
 	}
-	frame, err := c.sealer.Seal(c.frame[:2], payload)
-	if err != nil {
-		c.outErr = err
-		return err
+	if c.pendingRoom != nil {
+		c.pendingRoom.free(0)
 	}
-	c.frame = frame
-	binary.BigEndian.PutUint16(frame, uint16(len(frame)-2))
-	if _, err := c.conn.Write(frame); err != nil {
-		c.outErr = err
-		return err
-	}
+	c.pending, c.pendingRoom = nil, nil
 	return nil
 }
 
@@ -275,49 +285,90 @@ func (c *Conn) CloseWrite() error {
 	}
 	c.out.Lock()
 	defer c.out.Unlock()
+	if err := c.mayWrite(); err != nil {
+		return err
+	}
 	return c.sendEnd()
 }
 
+// sendEnd sends the end, unless that was done.
 func (c *Conn) sendEnd() error {
-	if c.outErr == errEnded {
-		return nil
+	room, told := newRoom(0), &c.sender.told
+	code := C.noise_stream_end(&c.sender.kept, place(room.bytes), C.size_t(len(room.bytes)), told)
+	if code != C.NOISE_OK {
+		room.free(0)
+		if code == C.NOISE_CLOSED {
+			return nil
+		}
+		return Code(code)
 	}
-	if err := c.send(nil); err != nil {
-		return err
-	}
-	c.outErr = errEnded
-	return nil
+	c.isUnfinished = false
+	return c.send(room, int(told.len))
 }
 
-// Close sends the end of the stream, unless it was sent or a Write is running; closes the connection; and overwrites the keys.
+// Close sends the end of the stream, closes the connection below, and overwrites the keys. It sends no end if the last Write has failed or is running,
+// or after what Conn says. If the stream isn't whole for another reason, call Abort.
 func (c *Conn) Close() error {
 	if c.closed.Swap(true) {
 		return net.ErrClosed
 	}
-	if c.handshakeDone.Load() && !(c.oneWay && !c.isFirst) && c.out.TryLock() {
-		c.conn.SetWriteDeadline(time.Now().Add(5 * time.Second))
-		c.sendEnd()
+	if c.handshakeDone.Load() && c.out.TryLock() {
+		if c.broken.Load() == nil && c.outErr == nil && !c.isUnfinished {
+			c.conn.SetWriteDeadline(time.Now().Add(5 * time.Second))
+			if c.flush() == nil {
+				c.sendEnd()
+			}
+		}
 		c.out.Unlock()
 	}
-	err := c.conn.Close() // ends each Read and Write that is running
-	c.handshakeMutex.Lock()
-	defer c.handshakeMutex.Unlock()
-	c.handshake.Close()
-	if !c.handshakeDone.Load() {
-		if c.handshakeErr == nil {
-			c.handshakeErr = net.ErrClosed
-		}
-		return err
+	return c.shut()
+}
+
+// Abort closes the connection below, and overwrites the keys. It sends no end, so the other party's Read returns ErrCut.
+func (c *Conn) Abort() error {
+	if c.closed.Swap(true) {
+		return net.ErrClosed
+	}
+	return c.shut()
+}
+
+// shut is what Close and Abort have in common. It doesn't wait for a handshake that is running.
+func (c *Conn) shut() error {
+	close(c.closing)
+	c.stateMutex.Lock()
+	if c.cancel != nil {
+		c.cancel()
+	}
+	c.stateMutex.Unlock()
+	err := c.closeBelow() // ends each Read and Write that is running
+	c.wipe()
+	return err
+}
+
+// wipe overwrites the keys, unless a goroutine runs the handshake: at its end that goroutine does it.
+func (c *Conn) wipe() {
+	select {
+	case c.handshaking <- struct{}{}:
+		defer func() { <-c.handshaking }()
+	default:
+		return
+	}
+	if c.handshake != nil {
+		c.handshake.Close()
+		c.handshake = nil
+	}
+	if !c.handshakeDone.Load() && c.handshakeErr == nil {
+		c.handshakeErr = net.ErrClosed
 	}
 	c.out.Lock()
 	defer c.out.Unlock()
 	c.in.Lock()
 	defer c.in.Unlock()
-	c.sealer.Close()
-	c.opener.Close()
-	wipe(c.frames.buffer)
-	c.rest, c.inErr, c.outErr = nil, net.ErrClosed, net.ErrClosed
-	return err
+	c.sender.wipe()
+	c.receiver.wipe()
+	c.came.drop()
+	c.rest, c.inErr = nil, net.ErrClosed
+	c.pending, c.pendingRoom, c.outErr = nil, nil, net.ErrClosed
 }
 
 // LocalAddr returns that of the connection below.
@@ -326,63 +377,36 @@ func (c *Conn) LocalAddr() net.Addr { return c.conn.LocalAddr() }
 // RemoteAddr returns that of the connection below.
 func (c *Conn) RemoteAddr() net.Addr { return c.conn.RemoteAddr() }
 
-// SetDeadline sets both deadlines of the connection below.
-func (c *Conn) SetDeadline(t time.Time) error { return c.conn.SetDeadline(t) }
+// SetDeadline sets both deadlines.
+func (c *Conn) SetDeadline(t time.Time) error {
+	err := c.conn.SetDeadline(t)
+	c.keepWriteDeadline(t)
+	return err
+}
 
-// SetReadDeadline sets the deadline of Read. After a deadline that has passed the channel is still usable.
+// SetReadDeadline sets the deadline of Read. After one that has passed the channel is still usable, also if it has passed in the handshake.
 func (c *Conn) SetReadDeadline(t time.Time) error { return c.conn.SetReadDeadline(t) }
 
-// SetWriteDeadline sets the deadline of Write. After one that has passed in a Write nothing more can be written.
-func (c *Conn) SetWriteDeadline(t time.Time) error { return c.conn.SetWriteDeadline(t) }
+// SetWriteDeadline sets the deadline of Write. After one that has passed the channel is still usable.
+func (c *Conn) SetWriteDeadline(t time.Time) error {
+	err := c.conn.SetWriteDeadline(t)
+	c.keepWriteDeadline(t)
+	return err
+}
+
+func (c *Conn) keepWriteDeadline(t time.Time) {
+	if t.IsZero() {
+		c.writeDeadline.Store(0)
+		return
+	}
+	c.writeDeadline.Store(t.UnixNano())
+}
 
 // NetConn returns the connection below. To read from it or write to it breaks the channel.
 func (c *Conn) NetConn() net.Conn { return c.conn }
 
-func isTimeout(err error) bool {
+// isDeadline reports whether an error of the connection below says that a deadline has passed, after which the connection is still usable.
+func isDeadline(err error) bool {
 	var t net.Error
-	return errors.As(err, &t) && t.Timeout()
-}
-
-// frameReader reads frames, as many at once as have come, and continues within one after a deadline has passed.
-type frameReader struct {
-	from        io.Reader
-	buffer      []byte
-	start, have int // buffer[start:have] has come, and isn't returned yet
-}
-
-// next returns the next message, which is valid until the next call. io.EOF: the connection ended before it; io.ErrUnexpectedEOF: within it.
-func (f *frameReader) next() ([]byte, error) {
-	if err := f.fill(2); err != nil {
-		return nil, err
-	}
-	whole := 2 + int(binary.BigEndian.Uint16(f.buffer[f.start:]))
-	if err := f.fill(whole); err != nil {
-		return nil, err
-	}
-	message := f.buffer[f.start+2 : f.start+whole]
-	f.start += whole
-	return message, nil
-}
-
-// fill reads until so many bytes have come.
-func (f *frameReader) fill(wanted int) error {
-	if f.start+wanted > len(f.buffer) {
-		f.have = copy(f.buffer, f.buffer[f.start:f.have])
-		f.start = 0
-	}
-	if len(f.buffer) < wanted {
-		f.buffer = append(f.buffer, make([]byte, wanted+4096-len(f.buffer))...)
-	}
-	for f.have-f.start < wanted {
-		n, err := f.from.Read(f.buffer[f.have:])
-		f.have += n
-		come := f.have - f.start
-		if err == io.EOF && come > 0 && come < wanted {
-			return io.ErrUnexpectedEOF
-		}
-		if err != nil && come < wanted {
-			return err
-		}
-	}
-	return nil
+	return errors.As(err, &t) && t.Timeout() && !errors.Is(err, syscall.ETIMEDOUT)
 }

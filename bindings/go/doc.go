@@ -11,7 +11,8 @@
 //
 // A [Conn] sends each message after its length in two bytes, the higher first (the framework's 13). A Write of more than 65519 bytes becomes several
 // messages. An empty payload is the end of the stream: [Conn.CloseWrite] and [Conn.Close] send one, and Read at the other party then returns [io.EOF].
-// If the connection ends without it, Read returns [ErrCut] between two messages, and [io.ErrUnexpectedEOF] within one.
+// If the connection ends without it, Read returns [ErrCut]. After a refused message, or once the connection was lost, nothing more is written, and no end
+// is sent. The library makes and reads the frames, and decides what is an end.
 //
 // # The library
 //

@@ -3,6 +3,7 @@ package noise
 import (
 	"errors"
 	"fmt"
+	"os"
 )
 
 // Code is the number that a call of the library returns for a fault. The constants are errors: compare with errors.Is(err, noise.ErrTag).
@@ -68,7 +69,8 @@ func asError(code uint32) error {
 var (
 	// ErrClosed is returned by what was closed.
 	ErrClosed = errors.New("noise: closed")
-	// ErrCut is returned if the connection ended between two messages, before the end of the other party's stream.
+	// ErrCut is returned if the connection was lost before the end of the other party's stream, or in the handshake. If the connection below had an
+	// error, as ECONNRESET, errors.Is finds that too.
 	ErrCut = errors.New("noise: the connection was cut before the end of the stream")
 	// ErrUnauthenticated is returned if nothing says who may be the other party.
 	ErrUnauthenticated = errors.New("noise: nothing says who may be the other party: set VerifyPeer, PeerStatic, PSKs or PSKFor, or InsecureAcceptAnyKey")
@@ -76,7 +78,23 @@ var (
 	ErrPeerKey = errors.New("noise: the other party has another static key than the one expected")
 	// ErrLowOrder is returned if X25519 of the other party's public key is zeros (the framework's 12.1).
 	ErrLowOrder = errors.New("noise: X25519 of the other party's public key is zeros")
+	// ErrHandshakeTimeout is returned if a handshake took longer than Config.HandshakeTimeout. It is an os.ErrDeadlineExceeded, and a net.Error.
+	ErrHandshakeTimeout error = tooSlow{}
 )
+
+type tooSlow struct{}
+
+func (tooSlow) Error() string        { return "noise: the handshake took too long" }
+func (tooSlow) Timeout() bool        { return true }
+func (tooSlow) Temporary() bool      { return false }
+func (tooSlow) Is(target error) bool { return target == os.ErrDeadlineExceeded }
+
+// lostError is ErrCut with the error of the connection below.
+type lostError struct{ cause error }
+
+func (e *lostError) Error() string        { return ErrCut.Error() + ": " + e.cause.Error() }
+func (e *lostError) Is(target error) bool { return target == ErrCut }
+func (e *lostError) Unwrap() error        { return e.cause }
 
 // HandshakeError says what is wrong with a message of a handshake. Unwrap returns the cause, as ErrTag or the error of VerifyPeer.
 type HandshakeError struct {

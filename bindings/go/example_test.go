@@ -30,7 +30,7 @@ func Example() {
 
 	listener, err := noise.Listen("tcp", "127.0.0.1:0", &noise.Config{
 		Pattern: "IK", Prologue: []byte("chat 1"), Static: serverKey,
-		VerifyPeer: func(key [noise.KeyLen]byte) error {
+		VerifyPeer: func(_ context.Context, key [noise.KeyLen]byte) error {
 			if !bytes.Equal(key[:], clientPublic[:]) {
 				return errors.New("not on the list")
 			}
@@ -114,7 +114,7 @@ func ExampleConfig_pSKFor() {
 	go func() {
 		conn, err := noise.Server(there, &noise.Config{
 			Pattern: "XXpsk3", Static: serverKey,
-			PSKFor: func(peer [noise.KeyLen]byte) ([][]byte, error) {
+			PSKFor: func(_ context.Context, peer [noise.KeyLen]byte) ([][]byte, error) {
 				secret, ok := secrets[string(peer[:])]
 				if !ok {
 					return nil, errors.New("not on the list")
@@ -259,9 +259,9 @@ func ExampleDH() {
 	var key noise.DH = device{inDevice}
 	other, err := noise.GenerateKeyPair()
 	must(err)
-	one, err := key.Agree(other.Public())
+	one, err := key.Agree(context.Background(), other.Public())
 	must(err)
-	two, err := other.Agree(key.Public())
+	two, err := other.Agree(context.Background(), key.Public())
 	fmt.Println(one == two, err)
 	// Output: true <nil>
 }

@@ -3,7 +3,10 @@ package noise
 // #include "noise.h"
 import "C"
 
-import "crypto/subtle"
+import (
+	"context"
+	"crypto/subtle"
+)
 
 // HandshakeState runs a handshake message by message. One goroutine at a time may use it.
 //
@@ -16,6 +19,7 @@ type HandshakeState struct {
 	initiator bool
 	ephemeral *KeyPair
 	ended     error
+	isJudged  bool       // whether the other party's static key was, if it is known from the start
 	next      int        // the message that is due, from 0 on
 	prepared  bool       // whether the library has the X25519 results of that message already
 	remote    remoteKeys // those that are known
@@ -51,14 +55,7 @@ func newHandshakeState(config *Config, initiator, isLate bool) (*HandshakeState,
 	if err != nil {
 		return nil, err
 	}
-	h, err := started(config, initiator, isLate, ephemeral)
-	if err == nil && h.remote.hasS {
-		err = h.judge(-1)
-	}
-	if err != nil {
-		return nil, err
-	}
-	return h, nil
+	return started(config, initiator, isLate, ephemeral)
 }
 
 // started returns a handshake in which neither VerifyPeer nor PSKFor has been called.
@@ -178,14 +175,26 @@ func (h *HandshakeState) Close() error {
 	return nil
 }
 
+// judgeFirst decides whether a static key of the other party that is known from the start is accepted.
+func (h *HandshakeState) judgeFirst(ctx context.Context) error {
+	if h.isJudged || !h.pattern.knows(h.initiator) {
+		return nil
+	}
+	h.isJudged = true
+	return h.judge(ctx, -1)
+}
+
 // supply passes the X25519 result for one of this party's key pairs and a public key of the other party to the library.
-func (h *HandshakeState) supply(ofStatic bool, remote [KeyLen]byte) error {
+func (h *HandshakeState) supply(ctx context.Context, ofStatic bool, remote [KeyLen]byte) error {
 	var own DH = h.ephemeral
 	of := C.uint8_t(0)
 	if ofStatic {
 		own, of = h.config.Static, 1
 	}
-	result, err := own.Agree(remote)
+	if err := ctx.Err(); err != nil {
+		return err
+	}
+	result, err := own.Agree(ctx, remote)
 	if err != nil {
 		return err
 	}
@@ -199,7 +208,7 @@ func (h *HandshakeState) supply(ofStatic bool, remote [KeyLen]byte) error {
 
 // prepare passes those results of X25519 that message m needs and whose keys are known, so that the library doesn't ask for them one by one. Of a
 // message that is read, it leaves out what comes after an encrypted static key: the library checks the tag of that key first.
-func (h *HandshakeState) prepare(keys *remoteKeys, tokens []string) error {
+func (h *HandshakeState) prepare(ctx context.Context, keys *remoteKeys, tokens []string) error {
 	if h.prepared {
 		return nil
 	}
@@ -212,9 +221,9 @@ func (h *HandshakeState) prepare(keys *remoteKeys, tokens []string) error {
 		var err error
 		switch {
 		case other == 'e' && keys.hasE:
-			err = h.supply(own == 's', keys.e)
+			err = h.supply(ctx, own == 's', keys.e)
 		case other == 's' && keys.hasS:
-			err = h.supply(own == 's', keys.s)
+			err = h.supply(ctx, own == 's', keys.s)
 		}
 		if err != nil {
 			return err
@@ -225,18 +234,18 @@ func (h *HandshakeState) prepare(keys *remoteKeys, tokens []string) error {
 
 // called makes a call of the library, and supplies the results of X25519 and the secrets that it asks for. A *WantedPSKError leaves the handshake as it was;
 // after another error it has ended.
-func (h *HandshakeState) called(call func() C.uint32_t) (Code, error) {
+func (h *HandshakeState) called(ctx context.Context, call func() C.uint32_t) (Code, error) {
 	told := &h.memory.told
 	for {
 		var err error
 		switch code := call(); code {
 		case C.NOISE_WANTED:
-			err = h.supply(told.of_static != 0, keyIn(&told.remote[0]))
+			err = h.supply(ctx, told.of_static != 0, keyIn(&told.remote[0]))
 		case C.NOISE_WANTED_PSK:
 			if h.config.PSKFor == nil {
 				return 0, h.wantedPSK()
 			}
-			err = h.choose()
+			err = h.choose(ctx)
 		default:
 			return Code(code), nil
 		}
@@ -257,11 +266,11 @@ func (h *HandshakeState) wantedPSK() error {
 }
 
 // choose passes the secrets that this party shares with the owner of the static key that the library has told.
-func (h *HandshakeState) choose() error {
+func (h *HandshakeState) choose(ctx context.Context) error {
 	if h.memory.told.remote_known == 0 {
 		return errPSKTooLate
 	}
-	psks, err := h.config.PSKFor(keyIn(&h.memory.told.remote[0]))
+	psks, err := h.config.PSKFor(ctx, keyIn(&h.memory.told.remote[0]))
 	if err != nil {
 		return err
 	}
@@ -292,6 +301,11 @@ func (h *HandshakeState) SetPSK(psk []byte) error {
 // WriteMessage appends the next message, with this payload, to dst. ErrNotYourTurn, ErrDone, ErrTooLong and a *WantedPSKError leave the handshake as it
 // was.
 func (h *HandshakeState) WriteMessage(dst, payload []byte) ([]byte, error) {
+	return h.WriteMessageContext(context.Background(), dst, payload)
+}
+
+// WriteMessageContext is WriteMessage with the context that VerifyPeer, PSKFor and Agree get.
+func (h *HandshakeState) WriteMessageContext(ctx context.Context, dst, payload []byte) ([]byte, error) {
 	if h.ended != nil {
 		return dst, h.ended
 	}
@@ -300,7 +314,10 @@ func (h *HandshakeState) WriteMessage(dst, payload []byte) ([]byte, error) {
 	case code == C.NOISE_STRUCT:
 		return dst, h.end(-1, ErrStruct)
 	case code == C.NOISE_OK:
-		if err := h.prepare(&h.remote, h.pattern.messages[h.next].tokens); err != nil {
+		if err := h.judgeFirst(ctx); err != nil {
+			return dst, err
+		}
+		if err := h.prepare(ctx, &h.remote, h.pattern.messages[h.next].tokens); err != nil {
 			return dst, h.end(-1, err)
 		}
 	}
@@ -308,7 +325,7 @@ func (h *HandshakeState) WriteMessage(dst, payload []byte) ([]byte, error) {
 	if overlap(room, payload) {
 		payload = append([]byte(nil), payload...)
 	}
-	code, err := h.called(func() C.uint32_t {
+	code, err := h.called(ctx, func() C.uint32_t {
 		return C.noise_write(&m.kept, place(payload), C.size_t(len(payload)), place(room), C.size_t(len(room)), &m.told)
 	})
 	switch {
@@ -332,6 +349,11 @@ func (h *HandshakeState) passed() {
 // ReadMessage reads the message that is due, and appends its payload to dst. A *HandshakeError says what is wrong with the message, and the handshake has
 // ended; ErrNotYourTurn, ErrDone and a *WantedPSKError leave it as it was.
 func (h *HandshakeState) ReadMessage(dst, message []byte) ([]byte, error) {
+	return h.ReadMessageContext(context.Background(), dst, message)
+}
+
+// ReadMessageContext is ReadMessage with the context that VerifyPeer, PSKFor and Agree get.
+func (h *HandshakeState) ReadMessageContext(ctx context.Context, dst, message []byte) ([]byte, error) {
 	if h.ended != nil {
 		return dst, h.ended
 	}
@@ -344,7 +366,10 @@ func (h *HandshakeState) ReadMessage(dst, message []byte) ([]byte, error) {
 	case len(message) > MaxMessage:
 		return dst, h.end(-1, ErrLength)
 	}
-	payload, err := h.read(message)
+	if err := h.judgeFirst(ctx); err != nil {
+		return dst, err
+	}
+	payload, err := h.read(ctx, message)
 	if err != nil {
 		return dst, err
 	}
@@ -352,21 +377,21 @@ func (h *HandshakeState) ReadMessage(dst, message []byte) ([]byte, error) {
 		if h.remote.s, h.remote.hasS = h.PeerStatic(); !h.remote.hasS {
 			return dst, h.endAt(passed, -1, ErrStruct)
 		}
-		if err := h.judge(passed); err != nil {
+		if err := h.judge(ctx, passed); err != nil {
 			return dst, err
 		}
 	}
 	return append(dst, payload...), nil
 }
 
-func (h *HandshakeState) read(received []byte) ([]byte, error) {
+func (h *HandshakeState) read(ctx context.Context, received []byte) ([]byte, error) {
 	m, work := h.memory, append([]byte(nil), received...)
 	message := &h.pattern.messages[h.next]
 	keys := h.remote.with(message, received)
-	if err := h.prepare(&keys, message.tokens[:message.sealed]); err != nil {
+	if err := h.prepare(ctx, &keys, message.tokens[:message.sealed]); err != nil {
 		return nil, h.end(-1, err)
 	}
-	code, err := h.called(func() C.uint32_t {
+	code, err := h.called(ctx, func() C.uint32_t {
 		return C.noise_read(&m.kept, place(work), C.size_t(len(work)), &m.told)
 	})
 	switch {
@@ -383,13 +408,13 @@ func (h *HandshakeState) read(received []byte) ([]byte, error) {
 }
 
 // judge decides whether the other party's static key is accepted, which is known from a message, or from the start (-1).
-func (h *HandshakeState) judge(message int) error {
+func (h *HandshakeState) judge(ctx context.Context, message int) error {
 	key := h.remote.s
 	if want := h.config.PeerStatic; want != nil && subtle.ConstantTimeCompare(want, key[:]) != 1 {
 		return h.endAt(message, -1, ErrPeerKey)
 	}
 	if h.config.VerifyPeer != nil {
-		if err := h.config.VerifyPeer(key); err != nil {
+		if err := h.config.VerifyPeer(ctx, key); err != nil {
 			return h.endAt(message, -1, err)
 		}
 	}
@@ -428,6 +453,17 @@ func (h *HandshakeState) Split() (*Sender, *Receiver, error) {
 	}
 	h.Close()
 	return s, r, nil
+}
+
+// splitStream makes the two directions of a stream, after all messages have passed. The handshake is used up.
+func (h *HandshakeState) splitStream(s *streamSenderMemory, r *streamReceiverMemory) error {
+	if h.ended != nil {
+		return h.ended
+	}
+	if code := C.noise_finish_stream(&h.memory.kept, C.uint64_t(h.config.Interval), &s.kept, &r.kept); code != C.NOISE_OK {
+		return Code(code)
+	}
+	return h.Close()
 }
 
 // Datagrams returns the state for datagrams, after all messages have passed. A datagram may arrive after others whose numbers are less than window

@@ -1,6 +1,7 @@
 package noise
 
 import (
+	"context"
 	"crypto/rand"
 	"errors"
 )
@@ -9,8 +10,9 @@ import (
 type DH interface {
 	// Public returns the public key.
 	Public() [KeyLen]byte
-	// Agree returns X25519 of the secret key and this public key of the other party. An error ends the handshake, and so do zeros.
-	Agree(remote [KeyLen]byte) ([KeyLen]byte, error)
+	// Agree returns X25519 of the secret key and this public key of the other party. An error ends the handshake, and so do zeros. The context is that of
+	// the handshake: it ends with that of HandshakeContext, at the time limit, and when the connection is closed.
+	Agree(ctx context.Context, remote [KeyLen]byte) ([KeyLen]byte, error)
 }
 
 // KeyPair is a key pair of X25519 in memory. It is a DH.
@@ -51,8 +53,8 @@ func (k *KeyPair) Public() [KeyLen]byte { return k.public }
 // Secret returns the secret key: keep it from others.
 func (k *KeyPair) Secret() [KeyLen]byte { return k.secret }
 
-// Agree returns X25519 of this secret key and a public one; ErrLowOrder if that is zeros.
-func (k *KeyPair) Agree(remote [KeyLen]byte) (result [KeyLen]byte, err error) {
+// Agree returns X25519 of this secret key and a public one; ErrLowOrder if that is zeros. It ignores the context.
+func (k *KeyPair) Agree(_ context.Context, remote [KeyLen]byte) (result [KeyLen]byte, err error) {
 	made, err := agree(k.secret[:], remote[:])
 	if err != nil {
 		return result, ErrLowOrder

@@ -23,6 +23,16 @@ type (
 		kept C.noise_receiver
 		told C.noise_told
 	}
+	streamSenderMemory struct {
+		_    [0]uint64
+		kept C.noise_stream_sender
+		told C.noise_stream_told
+	}
+	streamReceiverMemory struct {
+		_    [0]uint64
+		kept C.noise_stream_receiver
+		told C.noise_stream_told
+	}
 	datagramSenderMemory struct {
 		_    [0]uint64
 		kept C.noise_datagram_sender
@@ -38,6 +48,7 @@ type (
 func init() {
 	// If the library is linked when the program starts, it may be another build than the header's.
 	if C.noise_handshake_size() != sizeOfHandshake ||
+		C.noise_stream_sender_size() != sizeOfStreamSender || C.noise_stream_receiver_size() != sizeOfStreamReceiver ||
 		C.noise_sender_size() != sizeOfSender || C.noise_receiver_size() != sizeOfReceiver ||
 		C.noise_datagram_sender_size() != sizeOfDatagramSender || C.noise_datagram_receiver_size() != sizeOfDatagramReceiver {
 		panic("noise: the library noise_c isn't the one that this package was made for")
@@ -47,6 +58,8 @@ func init() {
 func (m *handshakeMemory) wipe()        { wipeAt(unsafe.Pointer(m), unsafe.Sizeof(*m)) }
 func (m *senderMemory) wipe()           { wipeAt(unsafe.Pointer(m), unsafe.Sizeof(*m)) }
 func (m *receiverMemory) wipe()         { wipeAt(unsafe.Pointer(m), unsafe.Sizeof(*m)) }
+func (m *streamSenderMemory) wipe()     { wipeAt(unsafe.Pointer(m), unsafe.Sizeof(*m)) }
+func (m *streamReceiverMemory) wipe()   { wipeAt(unsafe.Pointer(m), unsafe.Sizeof(*m)) }
 func (m *datagramSenderMemory) wipe()   { wipeAt(unsafe.Pointer(m), unsafe.Sizeof(*m)) }
 func (m *datagramReceiverMemory) wipe() { wipeAt(unsafe.Pointer(m), unsafe.Sizeof(*m)) }
 

@@ -208,9 +208,9 @@ func TestFullDuplexWithRenewedKeys(t *testing.T) {
 }
 
 func TestConfigFaults(t *testing.T) {
-	k, ok := pair(t), func([KeyLen]byte) error { return nil }
+	k, ok := pair(t), func(context.Context, [KeyLen]byte) error { return nil }
 	psk := make([]byte, KeyLen)
-	psksFor := func([KeyLen]byte) ([][]byte, error) { return [][]byte{psk}, nil }
+	psksFor := func(context.Context, [KeyLen]byte) ([][]byte, error) { return [][]byte{psk}, nil }
 	for _, it := range []struct {
 		name   string
 		config *Config
@@ -250,14 +250,16 @@ func TestPeerIsJudged(t *testing.T) {
 	refused := errors.New("not on the list")
 	for pattern, message := range map[string]int{"XX": 2, "IX": 0, "IK": 0, "KK": 0} {
 		client, server := configs(t, pattern)
-		server.VerifyPeer = func(got [KeyLen]byte) error {
+		server.VerifyPeer = func(_ context.Context, got [KeyLen]byte) error {
 			if !bytes.Equal(got[:], key(client.Static)) {
 				t.Error("VerifyPeer gets another key")
 			}
 			return refused
 		}
 		if pattern == "KK" {
-			_, err := NewHandshakeState(server, false)
+			h, err := NewHandshakeState(server, false)
+			must(t, err)
+			_, err = h.ReadMessage(nil, make([]byte, 48))
 			wants(t, err, refused)
 			var fault *HandshakeError
 			if !errors.As(err, &fault) || fault.Message != -1 || fault.Token != -1 {
@@ -335,7 +337,7 @@ func TestEnds(t *testing.T) {
 	c.conn.Write([]byte{0, 20, 1})
 	c.conn.Close()
 	_, err = s.Read(one)
-	wants(t, err, io.ErrUnexpectedEOF)
+	wants(t, err, ErrCut)
 	c, s = fresh()
 	c.conn.Write([]byte{0, 3, 1, 2, 3})
 	_, err = s.Read(one)
@@ -361,8 +363,8 @@ func TestCutInAHandshake(t *testing.T) {
 	for _, it := range []struct {
 		sent []byte
 		want error
-	}{{nil, ErrCut}, {[]byte{0}, io.ErrUnexpectedEOF}, {[]byte{0, 32}, io.ErrUnexpectedEOF}, {make([]byte, 33)[:33:33], ErrShort},
-		{append([]byte{0, 32}, make([]byte, 31)...), io.ErrUnexpectedEOF}} {
+	}{{nil, ErrCut}, {[]byte{0}, ErrCut}, {[]byte{0, 32}, ErrCut}, {make([]byte, 33)[:33:33], ErrShort},
+		{append([]byte{0, 32}, make([]byte, 31)...), ErrCut}} {
 		client, server := configs(t, "XX")
 		c, s := connected(t, client, server)
 		c.conn.Write(it.sent)
@@ -377,32 +379,40 @@ func TestCutInAHandshake(t *testing.T) {
 	}
 }
 
-// TestCutAtEachByte ends the connection after each byte of a frame: before its first one it is ErrCut, after its last one too, and
-// io.ErrUnexpectedEOF between; only an end that was said is io.EOF.
+// tape is a connection that keeps what is written.
+type tape struct {
+	net.Conn
+	bytes.Buffer
+}
+
+func (t *tape) Write(b []byte) (int, error)      { return t.Buffer.Write(b) }
+func (t *tape) Read(b []byte) (int, error)       { return t.Conn.Read(b) }
+func (t *tape) SetWriteDeadline(time.Time) error { return nil }
+
+// taped returns what a call writes to the connection below, which doesn't get it.
+func taped(t *testing.T, c *Conn, call func() error) []byte {
+	t.Helper()
+	below, kept := c.conn, new(tape)
+	c.conn = kept
+	must(t, call())
+	c.conn = below
+	return kept.Bytes()
+}
+
+// TestCutAtEachByte ends the connection after each byte of a frame: that is ErrCut, and what came whole was read.
 func TestCutAtEachByte(t *testing.T) {
 	for cut := 0; cut <= 23; cut++ {
 		client, server := configs(t, "NN")
 		c, s := connected(t, client, server)
 		errC, errS := both(c, s)
 		must(t, errC, errS)
-		frame, err := c.sealer.Seal([]byte{0, 21}, []byte("hello"))
-		must(t, err)
+		frame := taped(t, c, func() error { _, err := c.Write([]byte("hello")); return err })
 		c.conn.Write(frame[:cut])
 		c.conn.Close()
 		got, err := io.ReadAll(s)
-		switch {
-		case cut == 0:
-			wants(t, err, ErrCut)
-		case cut < len(frame):
-			wants(t, err, io.ErrUnexpectedEOF)
-		default:
-			wants(t, err, ErrCut)
-			if string(got) != "hello" {
-				t.Errorf("%q", got)
-			}
-		}
-		if cut < len(frame) && len(got) != 0 {
-			t.Errorf("%q of a message that has not come", got)
+		wants(t, err, ErrCut)
+		if want := map[bool]string{true: "hello"}[cut == len(frame)]; string(got) != want {
+			t.Errorf("%q, want %q", got, want)
 		}
 	}
 }
@@ -424,12 +434,11 @@ func TestDeadlineInAFrame(t *testing.T) {
 	c, s := connected(t, client, server)
 	errC, errS := both(c, s)
 	must(t, errC, errS)
-	sealed, err := c.sealer.Seal([]byte{0, 21}, []byte("hello"))
-	must(t, err)
+	sealed := taped(t, c, func() error { _, err := c.Write([]byte("hello")); return err })
 	for _, part := range [][]byte{sealed[:1], sealed[1:9]} {
 		c.conn.Write(part)
 		s.SetReadDeadline(time.Now().Add(20 * time.Millisecond))
-		_, err = s.Read(make([]byte, 9))
+		_, err := s.Read(make([]byte, 9))
 		wants(t, err, os.ErrDeadlineExceeded)
 	}
 	c.conn.Write(sealed[9:])
@@ -600,7 +609,9 @@ func TestDatagrams(t *testing.T) {
 
 type zeros struct{ *KeyPair }
 
-func (zeros) Agree([KeyLen]byte) (answer [KeyLen]byte, err error) { return answer, nil }
+func (zeros) Agree(context.Context, [KeyLen]byte) (answer [KeyLen]byte, err error) {
+	return answer, nil
+}
 
 func TestZerosAreRefused(t *testing.T) {
 	client, server := configs(t, "XX")

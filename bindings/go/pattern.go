@@ -37,6 +37,7 @@ type message struct {
 	byInitiator bool
 	tokens      []string
 	at          map[string]int // the offset of "e", and of "s" if that is sent in clear
+	least       int            // its length without a payload
 	sealed      int            // the index of the token of an encrypted static key; the number of tokens if there is none
 }
 
@@ -129,7 +130,21 @@ func (m *message) measure(keyed, hasPSK bool) bool {
 			keyed = true
 		}
 	}
+	if m.least = offset; keyed {
+		m.least += TagLen
+	}
 	return keyed
+}
+
+// longest returns the length of the longest message without a payload.
+func (p *pattern) longest() int {
+	most := 0
+	for _, m := range p.messages {
+		if m.least > most {
+			most = m.least
+		}
+	}
+	return most
 }
 
 // knows reports whether a party needs the other's static key beforehand.

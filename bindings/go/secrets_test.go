@@ -2,6 +2,7 @@ package noise
 
 import (
 	"bytes"
+	"context"
 	"errors"
 	"testing"
 )
@@ -18,7 +19,7 @@ func TestSecretsOfAKey(t *testing.T) {
 			asked, other = server, client.Static
 		}
 		secrets := asked.PSKs
-		asked.PSKs, asked.PSKFor = nil, func(got [KeyLen]byte) ([][]byte, error) {
+		asked.PSKs, asked.PSKFor = nil, func(_ context.Context, got [KeyLen]byte) ([][]byte, error) {
 			if !bytes.Equal(got[:], key(other)) {
 				t.Error("asked for another's secrets")
 			}
@@ -47,7 +48,7 @@ func TestKeyBeforeSecret(t *testing.T) {
 			if i == 0 {
 				config = server
 			}
-			config.PSKs, config.PSKFor = nil, func([KeyLen]byte) ([][]byte, error) { return nil, nil }
+			config.PSKs, config.PSKFor = nil, func(context.Context, [KeyLen]byte) ([][]byte, error) { return nil, nil }
 			err := config.Check(i == 1)
 			if may {
 				must(t, err)
@@ -61,9 +62,9 @@ func TestKeyBeforeSecret(t *testing.T) {
 var errUnknown = errors.New("no secret for this key")
 
 // secretsOf returns the secrets of two known parties, by their keys.
-func secretsOf(one, two DH) (map[[KeyLen]byte][]byte, func([KeyLen]byte) ([][]byte, error)) {
+func secretsOf(one, two DH) (map[[KeyLen]byte][]byte, func(context.Context, [KeyLen]byte) ([][]byte, error)) {
 	secrets := map[[KeyLen]byte][]byte{one.Public(): bytes.Repeat([]byte{1}, KeyLen), two.Public(): bytes.Repeat([]byte{2}, KeyLen)}
-	return secrets, func(key [KeyLen]byte) ([][]byte, error) {
+	return secrets, func(_ context.Context, key [KeyLen]byte) ([][]byte, error) {
 		if secret, ok := secrets[key]; ok {
 			return [][]byte{secret}, nil
 		}
@@ -117,8 +118,8 @@ func TestFaultsOfPSKFor(t *testing.T) {
 	}{{nil, ErrPskCount}, {make([][]byte, 2), ErrPskCount}, {make([][]byte, 1), errKeyLen}, {[][]byte{bytes.Repeat([]byte{1}, KeyLen)}, errUnknown}} {
 		client, server := configs(t, "XXpsk3")
 		isAsked := false
-		server.PSKs, server.PSKFor = nil, func([KeyLen]byte) ([][]byte, error) { isAsked = true; return it.secrets, nil }
-		server.VerifyPeer = func([KeyLen]byte) error {
+		server.PSKs, server.PSKFor = nil, func(context.Context, [KeyLen]byte) ([][]byte, error) { isAsked = true; return it.secrets, nil }
+		server.VerifyPeer = func(context.Context, [KeyLen]byte) error {
 			if !isAsked {
 				t.Error("VerifyPeer is called before message 3 is accepted")
 			}

@@ -38,11 +38,11 @@ const (
 var wanted = [faults][]error{
 	noFault:     {io.EOF},
 	flipped:     {ErrTag},
-	stretched:   {ErrTag, ErrShort, io.ErrUnexpectedEOF},
+	stretched:   {ErrTag, ErrShort, ErrCut},
 	lost:        {ErrTag},
 	repeated:    {ErrTag},
 	exchanged:   {ErrTag},
-	cutWithin:   {io.ErrUnexpectedEOF},
+	cutWithin:   {ErrCut},
 	cutBetween:  {ErrCut},
 	unsaid:      {ErrCut},
 	inHandshake: {ErrTag, ErrLowOrder, ErrCut},
@@ -59,7 +59,8 @@ type soaked struct {
 }
 
 // TestSoak runs many channels at once over TCP, with 100 messages each way, through a relay that changes, loses, repeats and exchanges frames, and
-// cuts connections. What is handed out is what was sent, up to the fault; the error is of the fault's kind; and nothing is left.
+// cuts connections. What is handed out is what was sent, up to the fault; the error is of the fault's kind; in the other direction the first of what was
+// sent comes, and an end only after all of it; and nothing is left.
 // NOISE_SOAK is the count of channels, NOISE_SEED where the dice begin.
 func TestSoak(t *testing.T) {
 	count, seed := atMost(t, number(t, "NOISE_SOAK", 1000)), int64(number(t, "NOISE_SEED", int(time.Now().UnixNano()&0xffffffff)))
@@ -194,12 +195,8 @@ func (it *soaked) end(begin func(net.Conn, *Config) (*Conn, error), config *Conf
 		return judged(err, it.fault)
 	}
 	defer c.Close()
-	fault := noFault
-	if it.toServer == (side == 1) || it.fault == inHandshake {
-		fault = it.fault
-	}
 	var sent chan error
-	if fault == inHandshake {
+	if it.fault == inHandshake {
 		sent = goes(func() error { return nil })
 	} else {
 		ready.Wait() // until all channels are there at once
@@ -207,13 +204,22 @@ func (it *soaked) end(begin func(net.Conn, *Config) (*Conn, error), config *Conf
 	}
 	got, err := readAll(c)
 	io.Copy(io.Discard, below) // what is unread when a connection is closed takes away what the other direction has on its way
-	if err := <-sent; err != nil {
+	if err := <-sent; err != nil && it.fault == noFault {
 		return fmt.Errorf("writing: %w", err)
 	}
-	if err := judged(err, fault); err != nil {
-		return err
+	written := it.payloads(1 - side)
+	if it.fault == noFault || it.toServer == (side == 1) || it.fault == inHandshake {
+		written = written[:it.whole(it.fault)]
+		if err := judged(err, it.fault); err != nil {
+			return err
+		}
+	} else if err != io.EOF { // the other party has closed the connection at the fault
+		if !errors.Is(err, ErrCut) || !bytes.HasPrefix(bytes.Join(written, nil), got) {
+			return fmt.Errorf("in the other direction: %d bytes, %w", len(got), err)
+		}
+		return nil
 	}
-	if want := bytes.Join(it.payloads(1 - side)[:it.whole(fault)], nil); !bytes.Equal(got, want) {
+	if want := bytes.Join(written, nil); !bytes.Equal(got, want) {
 		return fmt.Errorf("%d bytes were handed out in the place of %d, or others", len(got), len(want))
 	}
 	return nil

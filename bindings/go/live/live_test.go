@@ -3,6 +3,7 @@ package live
 
 import (
 	"bytes"
+	"context"
 	"crypto/rand"
 	"encoding/binary"
 	"errors"
@@ -153,7 +154,7 @@ func secretOf(i int) []byte { return bytes.Repeat([]byte{byte(i + 1)}, 32) }
 
 // chooser returns the Config of a server that has a secret with each of these clients.
 func chooser(own noise.DH, name string, clients []*noise.KeyPair) *noise.Config {
-	return &noise.Config{Pattern: name, Prologue: []byte("live"), Static: own, PSKFor: func(key [noise.KeyLen]byte) ([][]byte, error) {
+	return &noise.Config{Pattern: name, Prologue: []byte("live"), Static: own, PSKFor: func(_ context.Context, key [noise.KeyLen]byte) ([][]byte, error) {
 		for i, client := range clients {
 			if client.Public() == key {
 				return [][]byte{secretOf(i)}, nil

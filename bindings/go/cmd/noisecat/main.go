@@ -9,6 +9,7 @@
 package main
 
 import (
+	"context"
 	"encoding/hex"
 	"errors"
 	"flag"
@@ -49,8 +50,6 @@ func sentence(err error) string {
 		return err.Error() + " (the other end has another key, secret, pattern or prologue, or the message was changed)"
 	case errors.Is(err, noise.ErrTag) || errors.Is(err, noise.ErrShort):
 		return "a message was changed on the way: " + err.Error()
-	case errors.Is(err, io.ErrUnexpectedEOF):
-		return "the connection was cut within a message"
 	case errors.Is(err, noise.ErrCut):
 		return "the connection was cut before the other end had sent all"
 	case errors.Is(err, syscall.ECONNRESET) || errors.Is(err, syscall.EPIPE):
@@ -163,7 +162,7 @@ func (o *options) setPeer(c *noise.Config) (err error) {
 		}
 		allowed[string(key)] = true
 	}
-	c.VerifyPeer = func(key [noise.KeyLen]byte) error {
+	c.VerifyPeer = func(_ context.Context, key [noise.KeyLen]byte) error {
 		if !allowed[string(key[:])] {
 			return fmt.Errorf("%w: %x", errNotAllowed, key)
 		}

@@ -233,7 +233,7 @@ func TestFaults(t *testing.T) {
 	for _, it := range []struct {
 		words  string
 		change func(io.Writer, io.Reader)
-	}{{"was changed", flip}, {"cut within a message", cutWithin}, {"cut before the other end had sent all", cutBetween}} {
+	}{{"was changed", flip}, {"cut before the other end had sent all", cutWithin}, {"cut before the other end had sent all", cutBetween}} {
 		middle, err := net.Listen("tcp", "127.0.0.1:0")
 		if err != nil {
 			t.Fatal(err)

@@ -2,6 +2,7 @@
 package main
 
 import (
+	"context"
 	"fmt"
 	"io"
 	"log"
@@ -22,7 +23,7 @@ func main() {
 	}
 	listener, err := noise.Listen("tcp", "127.0.0.1:4042", &noise.Config{
 		Pattern: "XX", Prologue: []byte("example channel 1"), Static: key, Interval: 1000,
-		VerifyPeer: func(peer [noise.KeyLen]byte) error {
+		VerifyPeer: func(_ context.Context, peer [noise.KeyLen]byte) error {
 			fmt.Printf("server: a client with the key %x\n", peer)
 			return nil // a server that lets in only some looks the key up here
 		},

@@ -1,0 +1,276 @@
+package noise
+
+// #include "noise.h"
+import "C"
+
+import (
+	"context"
+	"io"
+	"net"
+	"time"
+)
+
+// Handshake runs the handshake, if that wasn't done.
+func (c *Conn) Handshake() error { return c.HandshakeContext(context.Background()) }
+
+// HandshakeContext runs the handshake, if that wasn't done, or waits for another goroutine that runs it. If the context ends first, it closes the
+// connection, and returns the context's error.
+//
+// A deadline of the connection that passes ends this call alone: a later one continues. After any other error the connection below is closed, and each
+// later call returns that error.
+func (c *Conn) HandshakeContext(ctx context.Context) error {
+	if c.handshakeDone.Load() {
+		return nil
+	}
+	if err := c.takeTurn(ctx); err != nil {
+		return err
+	}
+	defer c.endTurn()
+	if c.handshakeDone.Load() || c.handshakeErr != nil {
+		return c.handshakeErr
+	}
+	err, isFinal := c.runUnder(ctx)
+	switch {
+	case err == nil:
+		c.handshake = nil
+		c.handshakeDone.Store(true)
+		c.stateMutex.Lock()
+		c.state.HandshakeComplete = true
+		c.stateMutex.Unlock()
+	case isFinal:
+		c.fail(err)
+	}
+	return err
+}
+
+// takeTurn waits until no other goroutine runs the handshake.
+func (c *Conn) takeTurn(ctx context.Context) error {
+	if c.closed.Load() {
+		return net.ErrClosed
+	}
+	err := ctx.Err()
+	if err == nil {
+		select {
+		case c.handshaking <- struct{}{}:
+			return nil
+		case <-c.closing:
+			return net.ErrClosed
+		case <-ctx.Done():
+			err = ctx.Err()
+		}
+	}
+	c.closeBelow()
+	return err
+}
+
+func (c *Conn) endTurn() {
+	<-c.handshaking
+	if c.closed.Load() {
+		c.wipe()
+	}
+}
+
+// fail ends the handshake, and tells ErrorLog.
+func (c *Conn) fail(err error) {
+	c.handshakeErr = err
+	if c.handshake != nil {
+		c.handshake.Close()
+		c.handshake = nil
+	}
+	c.came.drop()
+	c.closeBelow()
+	if c.config.ErrorLog != nil && err != net.ErrClosed {
+		c.config.ErrorLog.Printf("noise: handshake with %v: %v", c.conn.RemoteAddr(), err)
+	}
+}
+
+// runUnder runs the handshake under a context that ends with ctx, at the time limit, and at Close. It also says whether an error is final.
+func (c *Conn) runUnder(ctx context.Context) (err error, isFinal bool) {
+	inner, cancel := context.WithCancel(ctx)
+	stopTimer := func() bool { return true }
+	if c.limit > 0 {
+		if c.mustEnd.IsZero() {
+			c.mustEnd = time.Now().Add(c.limit)
+		}
+		inner, cancel = context.WithDeadline(ctx, c.mustEnd)
+		stopTimer = time.AfterFunc(time.Until(c.mustEnd), func() { c.closeBelow() }).Stop
+	}
+	defer cancel()
+	c.cancelAtClose(cancel)
+	stop := c.closeAtEndOf(ctx)
+	if !c.closed.Load() {
+		err = c.run(inner)
+	}
+	hasEnded, isSlow := stop(), !stopTimer()
+	c.cancelAtClose(nil)
+	switch {
+	case c.closed.Load():
+		return net.ErrClosed, true
+	case hasEnded:
+		return ctx.Err(), true
+	case isSlow:
+		return ErrHandshakeTimeout, true
+	}
+	mayContinue := isDeadline(err) && (c.handshake == nil || c.handshake.ended == nil)
+	return err, !mayContinue
+}
+
+func (c *Conn) cancelAtClose(cancel context.CancelFunc) {
+	c.stateMutex.Lock()
+	defer c.stateMutex.Unlock()
+	c.cancel = cancel
+}
+
+// closeAtEndOf closes the connection below when the context ends, until its result is called. That reports whether it has closed it.
+func (c *Conn) closeAtEndOf(ctx context.Context) func() bool {
+	if ctx.Done() == nil {
+		return func() bool { return false }
+	}
+	stop, stopped := make(chan struct{}), make(chan bool, 1)
+	go func() {
+		select {
+		case <-ctx.Done():
+			c.closeBelow()
+			stopped <- true
+		case <-stop:
+			stopped <- false
+		}
+	}()
+	return func() bool { close(stop); return <-stopped }
+}
+
+// run passes the messages that are due.
+func (c *Conn) run(ctx context.Context) error {
+	for {
+		if err := c.flush(); err != nil {
+			return err
+		}
+		h := c.handshake
+		switch {
+		case h != nil && h.ended != nil:
+			return h.ended
+		case h != nil && h.Done():
+			return c.finish()
+		}
+		pass := c.readMessage
+		if h == nil && c.isFirst || h != nil && h.WritesNext() {
+			pass = c.writeMessage
+		}
+		if err := pass(ctx); err != nil {
+			return err
+		}
+	}
+}
+
+// begin draws the ephemeral key, if that wasn't done.
+func (c *Conn) begin() (*HandshakeState, error) {
+	if c.handshake == nil {
+		h, err := newHandshakeState(c.config, c.isFirst, false)
+		if err != nil {
+			return nil, err
+		}
+		c.handshake = h
+	}
+	return c.handshake, nil
+}
+
+func (c *Conn) writeMessage(ctx context.Context) error {
+	h, err := c.begin()
+	if err != nil {
+		return err
+	}
+	var payload []byte
+	if index := h.MessageIndex(); index < len(c.config.Payloads) {
+		payload = c.config.Payloads[index]
+	}
+	frame, err := h.WriteMessageContext(ctx, make([]byte, 2, 256), payload)
+	if err != nil {
+		return err
+	}
+	var told C.noise_stream_told
+	if code := C.noise_frame_message(place(frame), C.size_t(len(frame)), C.size_t(len(frame)-2), &told); code != C.NOISE_OK {
+		return h.end(-1, Code(code))
+	}
+	c.pending = frame[:told.len]
+	c.keepPayload(nil)
+	return nil
+}
+
+func (c *Conn) readMessage(ctx context.Context) error {
+	message, used, err := c.receiveMessage()
+	if err != nil {
+		return err
+	}
+	h, err := c.begin()
+	if err != nil {
+		return err
+	}
+	payload, err := h.ReadMessageContext(ctx, []byte{}, message)
+	if err != nil {
+		return err
+	}
+	c.came.start += used
+	c.came.settle()
+	c.keepPayload(payload)
+	return nil
+}
+
+// receiveMessage returns the next message of the handshake, and how many bytes its frame has.
+func (c *Conn) receiveMessage() (message []byte, used int, err error) {
+	var told C.noise_stream_told
+	index, most := c.mostOfMessage()
+	for {
+		left := c.came.left()
+		code := C.noise_frame_find(place(left), C.size_t(len(left)), &told)
+		if code == C.NOISE_OK && int(told.len) <= most {
+			return left[told.from : told.from+told.len], int(told.used), nil
+		}
+		if code == C.NOISE_OK || len(left) >= 2 && len(left)+int(told.wanted)-2 > most {
+			return nil, 0, &HandshakeError{index, -1, ErrTooLong}
+		}
+		err := c.came.from(c.conn, int(told.wanted))
+		switch {
+		case err == io.EOF:
+			return nil, 0, ErrCut
+		case err != nil && !isDeadline(err):
+			return nil, 0, &lostError{err}
+		case err != nil:
+			return nil, 0, err
+		}
+	}
+}
+
+// mostOfMessage returns the index of the message that is due, and how long it may be.
+func (c *Conn) mostOfMessage() (index, most int) {
+	if c.handshake != nil {
+		index = c.handshake.MessageIndex()
+	}
+	if c.config.MaxHandshakeMessage > 0 {
+		return index, c.config.MaxHandshakeMessage
+	}
+	return index, patternOf(c.config.pattern()).messages[index].least + 4096
+}
+
+// keepPayload notes a message in the state.
+func (c *Conn) keepPayload(payload []byte) {
+	c.stateMutex.Lock()
+	defer c.stateMutex.Unlock()
+	c.state.Payloads = append(c.state.Payloads, payload)
+}
+
+// finish makes the two directions of the stream.
+func (c *Conn) finish() error {
+	h := c.handshake
+	hash := h.HandshakeHash()
+	key, isKnown := h.PeerStatic()
+	if err := h.splitStream(&c.sender, &c.receiver); err != nil {
+		return err
+	}
+	c.came.first = 1
+	c.stateMutex.Lock()
+	defer c.stateMutex.Unlock()
+	if c.state.HandshakeHash = hash; isKnown {
+		c.state.PeerStatic = key[:]
+	}
+	return nil
+}
