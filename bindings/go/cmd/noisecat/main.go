@@ -5,7 +5,8 @@
 //	noisecat -connect host:9000 -key client.key -peer KEY
 //
 // With port 0 it listens at a free port, and prints the address on standard error.
-// The status is 0 if both parties have ended their streams, 1 after a fault, with a sentence on standard error, and 2 after wrong options.
+// The status is 0 if both parties have ended their streams, 1 after a fault, with a sentence on standard error, and 2 after wrong options. After a fault of
+// one party, as a full disk at its output, the connection is reset, and the other party's status is 1 too.
 package main
 
 import (
@@ -115,7 +116,7 @@ func fileOf32(name string) ([]byte, error) {
 }
 
 func (o *options) config() (*noise.Config, error) {
-	c := &noise.Config{Pattern: o.pattern, Prologue: []byte(o.prologue), Interval: o.interval, InsecureAcceptAnyKey: o.any}
+	c := &noise.Config{Pattern: o.pattern, Prologue: []byte(o.prologue), Interval: o.interval, InsecureAcceptAnyKey: o.any, HandshakeTimeout: 30 * time.Second}
 	if strings.HasPrefix(o.pattern, "@") {
 		text, err := os.ReadFile(o.pattern[1:])
 		if err != nil {
@@ -195,12 +196,13 @@ func join(o *options) error {
 	if err := config.Check(o.connect != ""); err != nil {
 		return err
 	}
-	conn, err := o.meet()
+	below, err := o.meet()
 	if err != nil {
 		return err
 	}
+	conn := below
 	if o.verbose {
-		conn = &shown{Conn: conn}
+		conn = &shown{Conn: below}
 	}
 	make := noise.Server
 	if o.connect != "" {
@@ -208,40 +210,74 @@ func join(o *options) error {
 	}
 	c, err := make(conn, config)
 	if err != nil {
-		conn.Close()
+		below.Close()
 		return err
 	}
-	defer c.Close()
-	conn.SetDeadline(time.Now().Add(30 * time.Second))
+	if err := o.carry(c, below.(*net.TCPConn)); err != nil {
+		below.(*net.TCPConn).SetLinger(0) // so that the other end gets an error, also if it has ended its stream and read all
+		c.Abort()
+		return err
+	}
+	return c.Close()
+}
+
+// carry moves standard input and output, until both ends have sent all, and say so.
+func (o *options) carry(c *noise.Conn, below *net.TCPConn) error {
 	if err := c.Handshake(); err != nil {
 		return err
 	}
-	conn.SetDeadline(time.Time{})
 	if o.verbose {
 		s := c.ConnectionState()
 		fmt.Fprintf(os.Stderr, "%s\nhandshake hash: %x\npeer's key: %x\n", s.ProtocolName, s.HandshakeHash, s.PeerStatic)
 	}
-	return carry(c)
+	done := make(chan error, 2)
+	go func() { done <- send(c) }()
+	go func() { done <- receive(c) }()
+	for i := 0; i < 2; i++ {
+		if err := <-done; err != nil {
+			return err
+		}
+	}
+	return part(below)
 }
 
-// carry moves standard input and output, until both ends have sent all.
-func carry(c *noise.Conn) error {
-	sent := make(chan error, 1)
-	go func() {
-		_, err := io.CopyBuffer(struct{ io.Writer }{c}, struct{ io.Reader }{os.Stdin}, make([]byte, noise.MaxMessage-noise.TagLen))
-		if err == nil {
-			err = c.CloseWrite()
-		}
-		if errors.Is(err, noise.ErrOneWay) {
-			err = nil
-		}
-		sent <- err
-	}()
+// send sends standard input, and ends the stream.
+func send(c *noise.Conn) error {
+	_, err := io.CopyBuffer(struct{ io.Writer }{c}, struct{ io.Reader }{os.Stdin}, make([]byte, noise.MaxMessage-noise.TagLen))
+	if err == nil {
+		err = c.CloseWrite()
+	}
+	if errors.Is(err, noise.ErrOneWay) {
+		return nil
+	}
+	return err
+}
+
+// receive writes what comes to standard output, and closes it at the end.
+func receive(c *noise.Conn) error {
 	_, err := io.CopyBuffer(struct{ io.Writer }{os.Stdout}, struct{ io.Reader }{c}, make([]byte, noise.MaxMessage))
-	if err != nil && !errors.Is(err, noise.ErrOneWay) {
+	if errors.Is(err, noise.ErrOneWay) {
+		return nil
+	}
+	if err != nil {
 		return err
 	}
-	return <-sent
+	return os.Stdout.Close()
+}
+
+var errNotParted = errors.New("the other end may not have got all")
+
+// part ends the connection, and waits until the other end does: after a fault that end resets it.
+func part(below *net.TCPConn) error {
+	err := below.CloseWrite()
+	if err == nil {
+		below.SetReadDeadline(time.Now().Add(30 * time.Second))
+		_, err = io.Copy(io.Discard, below)
+	}
+	if err != nil {
+		return fmt.Errorf("%w: %v", errNotParted, err)
+	}
+	return nil
 }
 
 // shown shows what goes over a connection.

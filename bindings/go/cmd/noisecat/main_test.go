@@ -18,18 +18,32 @@ import (
 	"time"
 )
 
-// built is the command, built once.
+var program string // the command, built once
+
+func TestMain(m *testing.M) {
+	os.Exit(func() int {
+		room, err := os.MkdirTemp("", "noisecat")
+		if err != nil {
+			panic(err)
+		}
+		defer os.RemoveAll(room)
+		program = filepath.Join(room, "noisecat")
+		args := []string{"build", "-o", program}
+		if tags := os.Getenv("NOISE_TAGS"); tags != "" {
+			args = append(args, "-tags", tags)
+		}
+		if out, err := exec.Command("go", append(args, ".")...).CombinedOutput(); err != nil {
+			os.Stderr.Write(out)
+			return 1
+		}
+		return m.Run()
+	}())
+}
+
+// built returns a folder, and what makes a call of the command there.
 func built(t *testing.T) (string, func(...string) *exec.Cmd) {
 	t.Helper()
 	room := t.TempDir()
-	program := filepath.Join(room, "noisecat")
-	args := []string{"build", "-o", program}
-	if tags := os.Getenv("NOISE_TAGS"); tags != "" {
-		args = append(args, "-tags", tags)
-	}
-	if out, err := exec.Command("go", append(args, ".")...).CombinedOutput(); err != nil {
-		t.Fatalf("%s", out)
-	}
 	return room, func(words ...string) *exec.Cmd {
 		cmd := exec.Command(program, words...)
 		cmd.Dir = room
@@ -172,6 +186,7 @@ func TestOtherKeys(t *testing.T) {
 			return cmd
 		}, &ends)
 		refused(t, &ends[it.end], it.words)
+		refused(t, &ends[1-it.end], "")
 	}
 }
 
@@ -227,33 +242,78 @@ func TestOptions(t *testing.T) {
 	}
 }
 
-// TestFaults changes and cuts what a client sends to a server.
+// TestFaults changes and cuts what a client sends to a server, which has sent the end of its own stream or not, and looks at both statuses.
 func TestFaults(t *testing.T) {
 	cat, server, client, to := pair(t)
 	for _, it := range []struct {
 		words  string
 		change func(io.Writer, io.Reader)
-	}{{"was changed", flip}, {"cut before the other end had sent all", cutWithin}, {"cut before the other end had sent all", cutBetween}} {
-		middle, err := net.Listen("tcp", "127.0.0.1:0")
-		if err != nil {
-			t.Fatal(err)
-		}
-		defer middle.Close()
-		var ends [2]side
-		ends[1].in, _ = hashed(1, 1<<20)
-		came := new(bytes.Buffer)
-		ends[0].out = came
-		run2(t, cat("-key", "s", "-allow", client), func(address string) *exec.Cmd {
-			go pass(middle, address, it.change)
-			return to(server)(middle.Addr().String())
-		}, &ends)
-		refused(t, &ends[0], it.words)
-		sent, _ := hashed(1, int64(came.Len()))
-		if want, _ := io.ReadAll(sent); came.Len() == 0 || !bytes.Equal(came.Bytes(), want) {
-			t.Error("other bytes came than were sent")
+	}{{"was changed", flip}, {"cut before the other end had sent all", cutWithin}, {"cut before the other end had sent all", cutBetween},
+		{"cut before the other end had sent all", cutAtEnd}} {
+		for _, isOpen := range []bool{false, true} {
+			middle, err := net.Listen("tcp", "127.0.0.1:0")
+			if err != nil {
+				t.Fatal(err)
+			}
+			defer middle.Close()
+			var ends [2]side
+			ends[1].in, _ = hashed(1, length)
+			came := new(bytes.Buffer)
+			ends[0].out = came
+			if isOpen {
+				in, more, err := os.Pipe()
+				if err != nil {
+					t.Fatal(err)
+				}
+				defer in.Close()
+				defer more.Close()
+				ends[0].in = in
+			}
+			run2(t, cat("-key", "s", "-allow", client), func(address string) *exec.Cmd {
+				go pass(middle, address, it.change)
+				return to(server)(middle.Addr().String())
+			}, &ends)
+			refused(t, &ends[0], it.words)
+			refused(t, &ends[1], "")
+			sent, _ := hashed(1, int64(came.Len()))
+			if want, _ := io.ReadAll(sent); came.Len() == 0 || !bytes.Equal(came.Bytes(), want) {
+				t.Error("other bytes came than were sent")
+			}
 		}
 	}
 }
+
+// TestOwnFaults has one end whose disk is full, and one whose input can't be read.
+func TestOwnFaults(t *testing.T) {
+	cat, server, client, to := pair(t)
+	full, err := os.OpenFile("/dev/full", os.O_WRONLY, 0)
+	if err != nil {
+		t.Skip(err)
+	}
+	defer full.Close()
+	folder, err := os.Open(".")
+	if err != nil {
+		t.Fatal(err)
+	}
+	defer folder.Close()
+	for _, it := range []struct {
+		side  side
+		words string
+	}{{side{out: full}, "no space left on device"}, {side{in: folder}, "is a directory"}} {
+		for end := 0; end < 2; end++ {
+			var ends [2]side
+			ends[end].in, ends[end].out = it.side.in, it.side.out
+			if it.side.out != nil {
+				ends[1-end].in = strings.NewReader("hello")
+			}
+			run2(t, cat("-key", "s", "-allow", client), to(server), &ends)
+			refused(t, &ends[end], it.words)
+			refused(t, &ends[1-end], "")
+		}
+	}
+}
+
+const length = 1 << 20
 
 func flip(to io.Writer, from io.Reader) {
 	io.CopyN(to, from, 100000)
@@ -265,16 +325,21 @@ func flip(to io.Writer, from io.Reader) {
 
 func cutWithin(to io.Writer, from io.Reader) { io.CopyN(to, from, 100000) }
 
-func cutBetween(to io.Writer, from io.Reader) {
+func cutBetween(to io.Writer, from io.Reader) { passFrames(to, from, 5) }
+
+// cutAtEnd leaves out the end alone: messages 1 and 3 of XX and 17 frames are before it.
+func cutAtEnd(to io.Writer, from io.Reader) { passFrames(to, from, 2+(length+65518)/65519) }
+
+func passFrames(to io.Writer, from io.Reader, count int) {
 	var length [2]byte
-	for i := 0; i < 5; i++ {
+	for i := 0; i < count; i++ {
 		io.ReadFull(from, length[:])
 		to.Write(length[:])
 		io.CopyN(to, from, int64(binary.BigEndian.Uint16(length[:])))
 	}
 }
 
-// pass accepts one connection, and carries what it reads to the server, changed, and back what the server writes.
+// pass accepts one connection, and carries what it reads to the server, changed, and back what the server writes. A reset goes through.
 func pass(middle net.Listener, at string, change func(io.Writer, io.Reader)) {
 	from, err := middle.Accept()
 	if err != nil {
@@ -284,11 +349,13 @@ func pass(middle net.Listener, at string, change func(io.Writer, io.Reader)) {
 	if err != nil {
 		return
 	}
-	back := make(chan bool)
-	go func() { io.Copy(from, to); close(back) }()
-	change(to, from)
-	to.(*net.TCPConn).CloseWrite() // closed with something unread it would be reset
-	<-back
+	go func() {
+		change(to, from)
+		to.(*net.TCPConn).CloseWrite() // closed with something unread it would be reset
+	}()
+	if _, err := io.Copy(from, to); err != nil {
+		from.(*net.TCPConn).SetLinger(0)
+	}
 	to.Close()
 	from.Close()
 }
