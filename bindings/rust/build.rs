@@ -6,9 +6,12 @@ use std::process::Command;
 fn main() {
     println!("cargo:rerun-if-env-changed=NOISE_C_DIR");
     println!("cargo:rerun-if-env-changed=PKG_CONFIG_PATH");
-    let in_place = PathBuf::from(env::var_os("CARGO_MANIFEST_DIR").expect("cargo sets it")).join("../../crates/noise_c/out");
+    let in_place =
+        PathBuf::from(env::var_os("CARGO_MANIFEST_DIR").expect("cargo sets it")).join("../../crates/noise_c/out");
     let named = env::var_os("NOISE_C_DIR").map(PathBuf::from);
-    let folder = named.or_else(|| Some(in_place).filter(|folder| folder.join("libnoise_c.a").exists())).unwrap_or_else(installed);
+    let folder = named
+        .or_else(|| Some(in_place).filter(|folder| folder.join("libnoise_c.a").exists()))
+        .unwrap_or_else(installed);
     println!("cargo:rerun-if-changed={}", folder.join("libnoise_c.a").display());
     println!("cargo:rustc-link-search=native={}", folder.display());
     println!("cargo:rustc-link-lib=static=noise_c");

@@ -26,14 +26,17 @@ fn main() -> io::Result<()> {
     let psk = if psk == "-" || !secrets.is_empty() { None } else { Some(bytes32(psk)) };
     let mut builder = Builder::new(pattern).prologue(b"live").static_key(own);
     let letters = pattern.split("psk").next().unwrap_or_default().as_bytes();
-    if letters[if listens.is_some() { 0 } else { letters.len() - 1 }] == b'K' || letters.len() == 1 && listens.is_none() {
+    if letters[if listens.is_some() { 0 } else { letters.len() - 1 }] == b'K' || letters.len() == 1 && listens.is_none()
+    {
         builder = builder.remote_static(&peer);
     }
     if let Some(psk) = &psk {
         builder = builder.psk(psk);
     }
     match listens {
-        None => send(Stream::anonymous(TcpStream::connect(address)?, builder.initiator::<KeyPair>()?)?, letters.len() == 1),
+        None => {
+            send(Stream::anonymous(TcpStream::connect(address)?, builder.initiator::<KeyPair>()?)?, letters.len() == 1)
+        }
         Some(address) => {
             let listener = TcpListener::bind(address)?;
             println!("{}", listener.local_addr()?);
@@ -41,7 +44,8 @@ fn main() -> io::Result<()> {
             let stream = if secrets.is_empty() {
                 Stream::anonymous(below, builder.responder::<KeyPair>()?)?
             } else {
-                let secret_of = |key: &[u8; 32]| secrets.iter().find(|(known, _)| known == key).map(|(_, secret)| *secret);
+                let secret_of =
+                    |key: &[u8; 32]| secrets.iter().find(|(known, _)| known == key).map(|(_, secret)| *secret);
                 Stream::with_psk_for(below, builder.late_psks().responder::<KeyPair>()?, secret_of)?
             };
             echo(stream, letters.len() == 1)

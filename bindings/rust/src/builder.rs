@@ -1,3 +1,4 @@
+use crate::handshake::Options;
 use crate::header::{MAX_PSKS, OK};
 use crate::raw::{self, Key, Setup};
 use crate::{Dh, Ephemeral, Error, Handshake, NoKey};
@@ -27,14 +28,23 @@ pub struct Builder<'a, S: Dh = NoKey> {
     psks: [Option<&'a [u8; 32]>; MAX_PSKS],
     psk_count: usize,
     late_psks: bool,
-    interval: u64,
+    options: Options,
 }
 
 impl<'a> Builder<'a, NoKey> {
     /// A handshake of this pattern: a protocol name, as `Noise_XX_25519_ChaChaPoly_SHA256`; the name of a pattern alone, as `XXpsk3`; or the
     /// text of your own pattern, whose last byte is a line feed.
     pub fn new(pattern: &'a str) -> Self {
-        Builder { pattern, prologue: &[], static_key: None, remote_static: None, psks: [None; MAX_PSKS], psk_count: 0, late_psks: false, interval: 0 }
+        Builder {
+            pattern,
+            prologue: &[],
+            static_key: None,
+            remote_static: None,
+            psks: [None; MAX_PSKS],
+            psk_count: 0,
+            late_psks: false,
+            options: Options { interval: 0, max_message: 8192 },
+        }
     }
 }
 
@@ -47,8 +57,8 @@ impl<'a, S: Dh> Builder<'a, S> {
 
     /// This party's static key pair.
     pub fn static_key<T: Dh>(self, key: T) -> Builder<'a, T> {
-        let Builder { pattern, prologue, static_key: _, remote_static, psks, psk_count, late_psks, interval } = self;
-        Builder { pattern, prologue, static_key: Some(key), remote_static, psks, psk_count, late_psks, interval }
+        let Builder { pattern, prologue, static_key: _, remote_static, psks, psk_count, late_psks, options } = self;
+        Builder { pattern, prologue, static_key: Some(key), remote_static, psks, psk_count, late_psks, options }
     }
 
     /// The other party's static key, if the pattern needs it beforehand, as the responder's in IK.
@@ -75,7 +85,14 @@ impl<'a, S: Dh> Builder<'a, S> {
 
     /// The number of messages after which each direction renews its key; 0, the default, is never. The same at both parties.
     pub fn interval(mut self, messages: u64) -> Self {
-        self.interval = messages;
+        self.options.interval = messages;
+        self
+    }
+
+    /// The most bytes of a handshake message that `Stream` takes; 8192 at first. A longer one is refused with `TooLong`
+    /// as soon as its length has come.
+    pub fn max_handshake_message(mut self, len: usize) -> Self {
+        self.options.max_message = len;
         self
     }
 
@@ -110,7 +127,7 @@ impl<'a, S: Dh> Builder<'a, S> {
         let mut memory = raw::Handshake::new();
         match start(&mut memory, self.pattern, self.prologue, &setup) {
             OK if memory.lacks_psk() != self.late_psks => Err(Error::PskCount),
-            OK => Ok(Handshake::begun(memory, self.static_key, ephemeral, self.interval)),
+            OK => Ok(Handshake::begun(memory, self.static_key, ephemeral, self.options)),
             code => Err(Error::of(code, None)),
         }
     }

@@ -70,6 +70,10 @@ pub enum Error {
     KeyPair,
     /// The program refused the other party's static key, or the handshake has none.
     Refused,
+    /// The connection ended before the stream did: what was read isn't all that the other party has written.
+    Cut,
+    /// This party has ended its stream, or the channel is over: a message was refused, or the connection was lost.
+    Closed,
     /// A code that the library doesn't return to this crate.
     Library(u32),
 }
@@ -97,6 +101,8 @@ impl Error {
             header::RESERVED => Error::Reserved,
             header::OLD => Error::Old,
             header::REPEATED => Error::Repeated,
+            header::CUT => Error::Cut,
+            header::CLOSED => Error::Closed,
             _ => Error::Library(code),
         }
     }
@@ -109,7 +115,9 @@ impl fmt::Display for Error {
             Error::Pattern => "the pattern text has a fault, or the pattern isn't valid",
             Error::StaticMissing => "the pattern needs a static key of this party: Builder::static_key",
             Error::RemoteMissing => "the pattern needs the other party's static key beforehand: Builder::remote_static",
-            Error::RemoteUnexpected => "the other party's static key isn't in a pre-message of the pattern: Builder::remote_static",
+            Error::RemoteUnexpected => {
+                "the other party's static key isn't in a pre-message of the pattern: Builder::remote_static"
+            }
             Error::PskCount => "the number of secrets isn't the number of psk tokens: Builder::psk, Builder::late_psks",
             Error::WantedPsk { .. } => "the message needs the secret of a psk token: Handshake::set_psk",
             Error::NotYourTurn => "it is the other party's turn",
@@ -128,11 +136,28 @@ impl fmt::Display for Error {
             Error::Repeated => "a datagram with this nonce was opened before",
             Error::KeyPair => "a key pair couldn't be drawn or read, or X25519 of the other party's public key fails",
             Error::Refused => "the other party's static key isn't accepted",
+            Error::Cut => "the connection ended before the stream did",
+            Error::Closed => "the stream was ended before, or the channel is over",
             Error::Library(code) => return write!(f, "code {code} of the library"),
         };
         match self {
-            Error::Short { token: Some(token) } | Error::Tag { token: Some(token) } => write!(f, "{text} (token {})", u32::from(*token) + 1),
+            Error::Short { token: Some(token) } | Error::Tag { token: Some(token) } => {
+                write!(f, "{text} (token {})", u32::from(*token) + 1)
+            }
             _ => f.write_str(text),
+        }
+    }
+}
+
+#[cfg(feature = "std")]
+impl Error {
+    // What it is as an `io::Error`.
+    fn kind(&self) -> std::io::ErrorKind {
+        use std::io::ErrorKind;
+        match self {
+            Error::Cut => ErrorKind::UnexpectedEof,
+            Error::Closed => ErrorKind::BrokenPipe,
+            _ => ErrorKind::InvalidData,
         }
     }
 }
@@ -143,6 +168,6 @@ impl std::error::Error for Error {}
 #[cfg(feature = "std")]
 impl From<Error> for std::io::Error {
     fn from(error: Error) -> std::io::Error {
-        std::io::Error::new(std::io::ErrorKind::InvalidData, error)
+        std::io::Error::new(error.kind(), error)
     }
 }

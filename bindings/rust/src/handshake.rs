@@ -27,12 +27,20 @@ pub struct Handshake<S: Dh, E: Ephemeral> {
     memory: raw::Handshake,
     static_key: Option<S>,
     ephemeral: E,
-    interval: u64,
+    options: Options,
+}
+
+// What a builder says of the time after the start.
+#[derive(Clone, Copy, Debug)]
+pub(crate) struct Options {
+    pub(crate) interval: u64,
+    #[cfg_attr(not(feature = "std"), allow(dead_code))]
+    pub(crate) max_message: usize,
 }
 
 impl<S: Dh, E: Ephemeral> Handshake<S, E> {
-    pub(crate) fn begun(memory: raw::Handshake, static_key: Option<S>, ephemeral: E, interval: u64) -> Self {
-        Handshake { memory, static_key, ephemeral, interval }
+    pub(crate) fn begun(memory: raw::Handshake, static_key: Option<S>, ephemeral: E, options: Options) -> Self {
+        Handshake { memory, static_key, ephemeral, options }
     }
 
     /// Writes the next message, with this payload, to the start of `out`, and returns its length. At an error, as `WantedPsk`, nothing is changed.
@@ -142,7 +150,22 @@ impl<S: Dh, E: Ephemeral> Handshake<S, E> {
 
     /// Makes the transport, after all messages have passed.
     pub fn finish(self) -> Result<Transport, Error> {
-        Transport::of(&self.memory, self.interval)
+        Transport::of(&self.memory, self.options.interval)
+    }
+
+    // The most bytes that a `Stream` takes as a message of the handshake.
+    #[cfg(feature = "std")]
+    pub(crate) fn max_message(&self) -> usize {
+        self.options.max_message
+    }
+
+    #[cfg(feature = "std")]
+    pub(crate) fn finish_stream(self) -> Result<(raw::StreamSender, raw::StreamReceiver), Error> {
+        let (mut sender, mut receiver) = (raw::StreamSender::new(), raw::StreamReceiver::new());
+        match self.memory.finish_stream(self.options.interval, &mut sender, &mut receiver) {
+            OK => Ok((sender, receiver)),
+            code => Err(Error::of(code, None)),
+        }
     }
 
     /// Makes the state for datagrams, after all messages have passed. A datagram may arrive after others whose numbers are less than `window`

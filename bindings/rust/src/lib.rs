@@ -47,6 +47,7 @@ mod handshake;
 mod header;
 #[cfg(feature = "openssl")]
 mod key_pair;
+#[cfg_attr(not(feature = "std"), allow(dead_code))] // streams
 mod raw;
 #[cfg(feature = "std")]
 mod stream;
@@ -59,7 +60,7 @@ pub use handshake::Handshake;
 #[cfg(feature = "openssl")]
 pub use key_pair::KeyPair;
 #[cfg(feature = "std")]
-pub use stream::{ReadHalf, Stream, WriteHalf};
+pub use stream::{HandshakeError, MidHandshake, ReadHalf, Stream, WriteHalf};
 pub use transport::{DatagramReceiver, DatagramSender, Datagrams, Receiver, Sender, Transport};
 
 /// The bytes of a key, a secret, a result of X25519, and a handshake hash.

@@ -4,11 +4,17 @@
 // many bytes as its count says, and one that isn't const comes from `&mut`, so no other pointer leads there. The kept structs are aligned to 8
 // by their declaration. A kept struct that a call may change comes from `&mut`: no other thread has it. The call checks its content.
 use crate::header::{KEY_LEN, MAX_PSKS, OK, SIZE_OF_HANDSHAKE, SIZE_OF_RECEIVER, SIZE_OF_SENDER};
-use crate::header::{SIZE_OF_DATAGRAM_RECEIVER, SIZE_OF_DATAGRAM_SENDER};
+use crate::header::{
+    SIZE_OF_DATAGRAM_RECEIVER, SIZE_OF_DATAGRAM_SENDER, SIZE_OF_STREAM_RECEIVER, SIZE_OF_STREAM_SENDER,
+};
 use core::sync::atomic::{compiler_fence, Ordering};
 
 #[repr(C, align(8))]
 pub(crate) struct Handshake([u8; SIZE_OF_HANDSHAKE]);
+#[repr(C, align(8))]
+pub(crate) struct StreamSender([u8; SIZE_OF_STREAM_SENDER]);
+#[repr(C, align(8))]
+pub(crate) struct StreamReceiver([u8; SIZE_OF_STREAM_RECEIVER]);
 #[repr(C, align(8))]
 pub(crate) struct Sender([u8; SIZE_OF_SENDER]);
 #[repr(C, align(8))]
@@ -49,6 +55,15 @@ pub(crate) struct Told {
 
 #[repr(C)]
 #[derive(Default)]
+pub(crate) struct StreamTold {
+    pub(crate) from: usize,
+    pub(crate) len: usize,
+    pub(crate) used: usize,
+    pub(crate) wanted: usize,
+}
+
+#[repr(C)]
+#[derive(Default)]
 pub(crate) struct Stage {
     pub(crate) messages: u8,
     pub(crate) passed: u8,
@@ -57,20 +72,67 @@ pub(crate) struct Stage {
 }
 
 extern "C" {
-    fn noise_start(h: *mut Handshake, pattern: *const u8, pattern_len: usize, prologue: *const u8, prologue_len: usize, setup: *const Setup) -> u32;
+    fn noise_start(
+        h: *mut Handshake,
+        pattern: *const u8,
+        pattern_len: usize,
+        prologue: *const u8,
+        prologue_len: usize,
+        setup: *const Setup,
+    ) -> u32;
     fn noise_answer(h: *mut Handshake, of_static: u8, remote: *const u8, answer: *const u8) -> u32;
     fn noise_set_psk(h: *mut Handshake, psk: *const u8) -> u32;
-    fn noise_write(h: *mut Handshake, payload: *const u8, payload_len: usize, out: *mut u8, out_len: usize, told: *mut Told) -> u32;
+    fn noise_write(
+        h: *mut Handshake,
+        payload: *const u8,
+        payload_len: usize,
+        out: *mut u8,
+        out_len: usize,
+        told: *mut Told,
+    ) -> u32;
     fn noise_read(h: *mut Handshake, message: *mut u8, message_len: usize, told: *mut Told) -> u32;
     fn noise_message_len(h: *const Handshake, payload_len: usize, len: *mut usize) -> u32;
     fn noise_hash(h: *const Handshake, hash: *mut u8) -> u32;
     fn noise_remote_static(h: *const Handshake, key: *mut Key) -> u32;
     fn noise_stage(h: *const Handshake, told: *mut Stage) -> u32;
+    fn noise_frame_message(buffer: *mut u8, buffer_len: usize, message_len: usize, told: *mut StreamTold) -> u32;
+    fn noise_frame_find(buffer: *const u8, buffer_len: usize, told: *mut StreamTold) -> u32;
+    fn noise_finish_stream(h: *const Handshake, interval: u64, s: *mut StreamSender, r: *mut StreamReceiver) -> u32;
+    fn noise_stream_write(
+        s: *mut StreamSender,
+        payload: *const u8,
+        payload_len: usize,
+        out: *mut u8,
+        out_len: usize,
+        told: *mut StreamTold,
+    ) -> u32;
+    fn noise_stream_end(s: *mut StreamSender, out: *mut u8, out_len: usize, told: *mut StreamTold) -> u32;
+    fn noise_stream_read(r: *mut StreamReceiver, buffer: *mut u8, buffer_len: usize, told: *mut StreamTold) -> u32;
+    fn noise_stream_is_cut(r: *const StreamReceiver, left: usize) -> u32;
     fn noise_finish(h: *const Handshake, interval: u64, sender: *mut Sender, receiver: *mut Receiver) -> u32;
-    fn noise_seal(s: *mut Sender, payload: *const u8, payload_len: usize, out: *mut u8, out_len: usize, told: *mut Told) -> u32;
+    fn noise_seal(
+        s: *mut Sender,
+        payload: *const u8,
+        payload_len: usize,
+        out: *mut u8,
+        out_len: usize,
+        told: *mut Told,
+    ) -> u32;
     fn noise_open(r: *mut Receiver, message: *mut u8, message_len: usize, told: *mut Told) -> u32;
-    fn noise_finish_datagrams(h: *const Handshake, window: u32, sender: *mut DatagramSender, receiver: *mut DatagramReceiver) -> u32;
-    fn noise_datagram_seal(s: *mut DatagramSender, payload: *const u8, payload_len: usize, out: *mut u8, out_len: usize, told: *mut Told) -> u32;
+    fn noise_finish_datagrams(
+        h: *const Handshake,
+        window: u32,
+        sender: *mut DatagramSender,
+        receiver: *mut DatagramReceiver,
+    ) -> u32;
+    fn noise_datagram_seal(
+        s: *mut DatagramSender,
+        payload: *const u8,
+        payload_len: usize,
+        out: *mut u8,
+        out_len: usize,
+        told: *mut Told,
+    ) -> u32;
     fn noise_datagram_open(r: *mut DatagramReceiver, datagram: *mut u8, datagram_len: usize, told: *mut Told) -> u32;
 }
 
@@ -91,6 +153,18 @@ pub(crate) fn wipe(bytes: &mut [u8]) {
         unsafe { core::ptr::write_volatile(byte, 0) };
     }
     compiler_fence(Ordering::SeqCst);
+}
+
+// Puts the length in front of a message that was written to buffer[2..].
+pub(crate) fn frame_message(buffer: &mut [u8], message_len: usize, told: &mut StreamTold) -> u32 {
+    // SAFETY: see above.
+    unsafe { noise_frame_message(buffer.as_mut_ptr(), buffer.len(), message_len, told) }
+}
+
+// Looks for the message at the start of a buffer.
+pub(crate) fn frame_find(buffer: &[u8], told: &mut StreamTold) -> u32 {
+    // SAFETY: see above.
+    unsafe { noise_frame_find(buffer.as_ptr(), buffer.len(), told) }
 }
 
 impl Handshake {
@@ -156,14 +230,56 @@ impl Handshake {
         stage
     }
 
+    pub(crate) fn finish_stream(&self, interval: u64, s: &mut StreamSender, r: &mut StreamReceiver) -> u32 {
+        // SAFETY: see above.
+        unsafe { noise_finish_stream(self, interval, s, r) }
+    }
+
     pub(crate) fn finish(&self, interval: u64, sender: &mut Sender, receiver: &mut Receiver) -> u32 {
         // SAFETY: see above.
         unsafe { noise_finish(self, interval, sender, receiver) }
     }
 
-    pub(crate) fn finish_datagrams(&self, window: u32, sender: &mut DatagramSender, receiver: &mut DatagramReceiver) -> u32 {
+    pub(crate) fn finish_datagrams(
+        &self,
+        window: u32,
+        sender: &mut DatagramSender,
+        receiver: &mut DatagramReceiver,
+    ) -> u32 {
         // SAFETY: see above.
         unsafe { noise_finish_datagrams(self, window, sender, receiver) }
+    }
+}
+
+impl StreamSender {
+    pub(crate) const fn new() -> StreamSender {
+        StreamSender([0; SIZE_OF_STREAM_SENDER])
+    }
+
+    pub(crate) fn write(&mut self, payload: &[u8], out: &mut [u8], told: &mut StreamTold) -> u32 {
+        // SAFETY: see above.
+        unsafe { noise_stream_write(self, payload.as_ptr(), payload.len(), out.as_mut_ptr(), out.len(), told) }
+    }
+
+    pub(crate) fn end(&mut self, out: &mut [u8], told: &mut StreamTold) -> u32 {
+        // SAFETY: see above.
+        unsafe { noise_stream_end(self, out.as_mut_ptr(), out.len(), told) }
+    }
+}
+
+impl StreamReceiver {
+    pub(crate) const fn new() -> StreamReceiver {
+        StreamReceiver([0; SIZE_OF_STREAM_RECEIVER])
+    }
+
+    pub(crate) fn read(&mut self, buffer: &mut [u8], told: &mut StreamTold) -> u32 {
+        // SAFETY: see above.
+        unsafe { noise_stream_read(self, buffer.as_mut_ptr(), buffer.len(), told) }
+    }
+
+    pub(crate) fn is_cut(&self, left: usize) -> u32 {
+        // SAFETY: see above.
+        unsafe { noise_stream_is_cut(self, left) }
     }
 }
 
@@ -212,6 +328,18 @@ impl DatagramReceiver {
 }
 
 impl Drop for Handshake {
+    fn drop(&mut self) {
+        wipe(&mut self.0);
+    }
+}
+
+impl Drop for StreamSender {
+    fn drop(&mut self) {
+        wipe(&mut self.0);
+    }
+}
+
+impl Drop for StreamReceiver {
     fn drop(&mut self) {
         wipe(&mut self.0);
     }

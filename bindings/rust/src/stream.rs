@@ -1,13 +1,29 @@
-use crate::header::{MAX_MESSAGE, TAG_LEN};
-use crate::raw::wipe;
-use crate::{Dh, Ephemeral, Error, Handshake, Receiver, Sender};
-use std::io::{self, ErrorKind, Read, Write};
+mod handshake;
+mod reading;
+mod writing;
 
-/// A secure channel over anything that reads and writes. Each message comes after its length in two bytes, the higher first (Noise, 13). The crate's
-/// first page has an example.
+pub use handshake::{HandshakeError, MidHandshake};
+
+use crate::{Dh, Ephemeral, Error, Handshake};
+use handshake::Peer;
+use reading::Reading;
+use std::io::{self, ErrorKind, Read, Write};
+use std::sync::atomic::{AtomicBool, Ordering};
+use std::sync::Arc;
+use writing::Writing;
+
+/// A secure channel over anything that reads and writes. Each message comes after its length in two bytes, the higher
+/// first (Noise, 13). The crate's first page has an example.
 ///
-/// An empty payload is the end of a party's stream: `close_write` sends it, and `read` at the other party then returns 0. If the connection ends
-/// without it, `read` returns `ConnectionAborted` between two messages, and `UnexpectedEof` within one.
+/// `close_write` sends the end of this party's stream. `read` returns `Ok(0)` where the other party has sent its end, and
+/// then all that it has written before was read; a connection that ends without it is `UnexpectedEof`. A refused message
+/// and a lost connection end the channel: each later `read` returns the same error, and nothing more is sent, also not
+/// the end of this party's stream. Drop the channel then; what is dropped without `close_write` is cut.
+///
+/// A stream below that doesn't block, or that has timeouts, may return `WouldBlock` or `TimedOut`. `read`, `flush` and
+/// `close_write` return the same then, and a later call continues. A `write` that takes bytes seals them, and what of
+/// their frame the stream below doesn't take is kept: the next `write`, `flush` or `close_write` sends it first, and a
+/// `write` that can't do so takes nothing. So `flush` after the last `write`.
 pub struct Stream<T> {
     below: T,
     reading: Reading,
@@ -28,168 +44,53 @@ pub struct WriteHalf<T> {
     writing: Writing,
 }
 
-struct Reading {
-    receiver: Receiver,
-    frames: Frames,
-    rest: (usize, usize), // of the frame: what is opened, and not read yet
-    ended: Option<Ended>,
-}
+// Whether a message was refused or the connection was lost, for both directions.
+#[derive(Clone, Default)]
+struct Over(Arc<AtomicBool>);
 
-#[derive(Clone, Copy)]
-enum Ended {
-    Said,
-    Cut,
-    Within,
-    Refused(Error),
-}
-
-struct Writing {
-    sender: Sender,
-    frame: Vec<u8>,
-    ended: bool,
-    broken: bool,
-}
-
-// Reads frames, and continues within one after the stream had nothing more for a time.
-#[derive(Default)]
-struct Frames {
-    buffer: Vec<u8>,
-    have: usize,
-}
-
-impl Frames {
-    // Reads the next message into buffer[2..], and returns its end.
-    fn next(&mut self, from: &mut impl Read) -> io::Result<usize> {
-        self.fill(from, 2)?;
-        let end = 2 + usize::from(u16::from_be_bytes([self.buffer[0], self.buffer[1]]));
-        self.fill(from, end)?;
-        self.have = 0;
-        Ok(end)
+impl Over {
+    fn set(&self) {
+        self.0.store(true, Ordering::Release);
     }
 
-    fn fill(&mut self, from: &mut impl Read, wanted: usize) -> io::Result<()> {
-        if self.buffer.len() < wanted {
-            self.buffer.resize(wanted, 0);
-        }
-        while self.have < wanted {
-            match from.read(&mut self.buffer[self.have..wanted]) {
-                Ok(0) if self.have == 0 => return Err(Ended::Cut.into()),
-                Ok(0) => return Err(Ended::Within.into()),
-                Ok(count) => self.have += count,
-                Err(error) if error.kind() == ErrorKind::Interrupted => {}
-                Err(error) => return Err(error),
-            }
-        }
-        Ok(())
+    fn is_set(&self) -> bool {
+        self.0.load(Ordering::Acquire)
     }
 }
 
-impl From<Ended> for io::Error {
-    fn from(ended: Ended) -> io::Error {
-        match ended {
-            Ended::Said | Ended::Cut => io::Error::new(ErrorKind::ConnectionAborted, "the connection was cut before the end of the stream"),
-            Ended::Within => io::Error::new(ErrorKind::UnexpectedEof, "the connection was cut within a message"),
-            Ended::Refused(error) => error.into(),
-        }
-    }
+// Whether the stream below has to be waited for.
+fn is_wait(error: &io::Error) -> bool {
+    matches!(error.kind(), ErrorKind::WouldBlock | ErrorKind::TimedOut)
 }
 
-impl Reading {
-    fn read(&mut self, below: &mut impl Read, into: &mut [u8]) -> io::Result<usize> {
-        if into.is_empty() {
-            return Ok(0);
-        }
-        if self.rest.0 == self.rest.1 && !self.open(below)? {
-            return Ok(0);
-        }
-        let count = into.len().min(self.rest.1 - self.rest.0);
-        into[..count].copy_from_slice(&self.frames.buffer[self.rest.0..self.rest.0 + count]);
-        self.rest.0 += count;
-        Ok(count)
-    }
-
-    // Opens the next message: whether there is one.
-    fn open(&mut self, below: &mut impl Read) -> io::Result<bool> {
-        match self.ended {
-            None => {}
-            Some(Ended::Said) => return Ok(false),
-            Some(ended) => return Err(ended.into()),
-        }
-        let end = self.frames.next(below).map_err(|error| {
-            match error.kind() {
-                ErrorKind::ConnectionAborted => self.ended = Some(Ended::Cut),
-                ErrorKind::UnexpectedEof => self.ended = Some(Ended::Within),
-                _ => {}
-            }
-            error
-        })?;
-        match self.receiver.open(&mut self.frames.buffer[2..end]) {
-            Ok(payload) => self.rest = (2, 2 + payload.len()),
-            Err(error) => {
-                self.ended = Some(Ended::Refused(error));
-                return Err(error.into());
-            }
-        }
-        if self.rest.0 == self.rest.1 {
-            self.ended = Some(Ended::Said);
-        }
-        Ok(self.ended.is_none())
-    }
-}
-
-impl Drop for Reading {
-    fn drop(&mut self) {
-        wipe(&mut self.frames.buffer);
-    }
-}
-
-impl Writing {
-    fn write(&mut self, below: &mut impl Write, bytes: &[u8]) -> io::Result<usize> {
-        let count = bytes.len().min(MAX_MESSAGE - TAG_LEN);
-        if count > 0 {
-            self.send(below, &bytes[..count])?;
-        }
-        Ok(count)
-    }
-
-    fn send(&mut self, below: &mut impl Write, payload: &[u8]) -> io::Result<()> {
-        if self.ended || self.broken {
-            return Err(ErrorKind::BrokenPipe.into());
-        }
-        let len = payload.len() + TAG_LEN;
-        self.frame.resize(2 + len, 0);
-        self.frame[..2].copy_from_slice(&(len as u16).to_be_bytes());
-        self.sender.seal(payload, &mut self.frame[2..])?;
-        self.broken = true; // until all of it is written
-        below.write_all(&self.frame)?;
-        self.broken = false;
-        Ok(())
-    }
-
-    fn close(&mut self, below: &mut impl Write) -> io::Result<()> {
-        if !self.ended {
-            self.send(below, &[])?;
-            self.ended = true;
-        }
-        below.flush()
+// The same error once more.
+fn again(error: &io::Error) -> io::Error {
+    match (error.raw_os_error(), error.get_ref().and_then(|inner| inner.downcast_ref::<Error>())) {
+        (Some(code), _) => io::Error::from_raw_os_error(code),
+        (None, Some(own)) => io::Error::new(error.kind(), *own),
+        (None, None) => io::Error::new(error.kind(), error.to_string()),
     }
 }
 
 impl<T: Read + Write> Stream<T> {
-    /// Runs the handshake over `below`, with empty payloads. `accept` is called with the other party's static key as soon as that is known, before
-    /// anything else is read or written. A handshake without such a key, as by the pattern NN, is refused: see `anonymous`.
-    pub fn new<S: Dh, E: Ephemeral>(below: T, handshake: Handshake<S, E>, accept: impl FnOnce(&[u8; 32]) -> bool) -> io::Result<Stream<T>> {
-        let (stream, asked) = Stream::pass(below, handshake, accept)?;
-        if asked {
-            Ok(stream)
-        } else {
-            Err(Error::Refused.into())
-        }
+    /// Runs the handshake over `below`, with empty payloads. `accept` is called with the other party's static key as
+    /// soon as that is known, before anything else is read or written. A handshake without such a key, as by the
+    /// pattern NN, is refused: see `anonymous`.
+    pub fn new<S: Dh, E: Ephemeral>(
+        below: T,
+        handshake: Handshake<S, E>,
+        accept: impl FnOnce(&[u8; 32]) -> bool,
+    ) -> Result<Stream<T>, HandshakeError<T, S, E>> {
+        MidHandshake::new(below, handshake, Peer::Judged)?.resume(accept)
     }
 
-    /// Runs a handshake in which the other party has no static key, or one that you don't compare: with a secret that both have (psk), or with anybody.
-    pub fn anonymous<S: Dh, E: Ephemeral>(below: T, handshake: Handshake<S, E>) -> io::Result<Stream<T>> {
-        Ok(Stream::pass(below, handshake, |_| true)?.0)
+    /// Runs a handshake in which the other party has no static key, or one that you don't compare: with a secret that
+    /// both have (psk), or with anybody.
+    pub fn anonymous<S: Dh, E: Ephemeral>(
+        below: T,
+        handshake: Handshake<S, E>,
+    ) -> Result<Stream<T>, HandshakeError<T, S, E>> {
+        MidHandshake::new(below, handshake, Peer::Anybody)?.resume_anonymous()
     }
 
     /// Runs a handshake of [`Builder::late_psks`](crate::Builder::late_psks). At a psk token that lacks its secret `psk_for` is called with the other
@@ -225,72 +126,8 @@ impl<T: Read + Write> Stream<T> {
         below: T,
         handshake: Handshake<S, E>,
         psk_for: impl FnMut(&[u8; 32]) -> Option<[u8; 32]>,
-    ) -> io::Result<Stream<T>> {
-        if !handshake.lacks_psk() {
-            return Err(Error::PskCount.into());
-        }
-        Ok(Stream::run(below, handshake, |_| true, psk_for)?.0)
-    }
-
-    fn pass<S: Dh, E: Ephemeral>(below: T, handshake: Handshake<S, E>, accept: impl FnOnce(&[u8; 32]) -> bool) -> io::Result<(Stream<T>, bool)> {
-        if handshake.lacks_psk() {
-            return Err(Error::PskCount.into());
-        }
-        Stream::run(below, handshake, accept, |_| None)
-    }
-
-    fn run<S: Dh, E: Ephemeral>(
-        mut below: T,
-        mut handshake: Handshake<S, E>,
-        accept: impl FnOnce(&[u8; 32]) -> bool,
-        mut psk_for: impl FnMut(&[u8; 32]) -> Option<[u8; 32]>,
-    ) -> io::Result<(Stream<T>, bool)> {
-        let mut accept = Some(accept);
-        let (mut frames, mut out) = (Frames::default(), vec![0; 2]);
-        loop {
-            if let Some(key) = handshake.remote_static() {
-                if !accept.take().map_or(true, |accept| accept(&key)) {
-                    return Err(Error::Refused.into());
-                }
-            }
-            if handshake.is_done() {
-                break;
-            }
-            if handshake.writes_next() {
-                out.resize(2 + handshake.message_len(0).ok_or(Error::TooLong)?, 0);
-                let len = choosing(&mut handshake, &mut psk_for, |handshake| handshake.write(&[], &mut out[2..]))?;
-                out[..2].copy_from_slice(&(len as u16).to_be_bytes());
-                below.write_all(&out)?;
-                below.flush()?;
-            } else {
-                let end = frames.next(&mut below)?;
-                choosing(&mut handshake, &mut psk_for, |handshake| handshake.read(&mut frames.buffer[2..end]).map(drop))?;
-            }
-        }
-        let (hash, remote_static) = (handshake.hash(), handshake.remote_static());
-        let (sender, receiver) = handshake.finish()?.split();
-        let reading = Reading { receiver, frames, rest: (0, 0), ended: None };
-        let writing = Writing { sender, frame: Vec::new(), ended: false, broken: false };
-        Ok((Stream { below, reading, writing, hash, remote_static }, accept.is_none()))
-    }
-}
-
-// Makes a call of a handshake, and passes the secrets that it asks for.
-fn choosing<S: Dh, E: Ephemeral, R>(
-    handshake: &mut Handshake<S, E>,
-    psk_for: &mut impl FnMut(&[u8; 32]) -> Option<[u8; 32]>,
-    mut call: impl FnMut(&mut Handshake<S, E>) -> Result<R, Error>,
-) -> Result<R, Error> {
-    loop {
-        match call(handshake) {
-            Err(Error::WantedPsk { remote_static: Some(key) }) => {
-                let mut secret = psk_for(&key).ok_or(Error::Refused)?;
-                let passed = handshake.set_psk(&secret);
-                wipe(&mut secret);
-                passed?;
-            }
-            answer => return answer,
-        }
+    ) -> Result<Stream<T>, HandshakeError<T, S, E>> {
+        MidHandshake::new(below, handshake, Peer::Chosen)?.resume_with_psk_for(psk_for)
     }
 }
 
@@ -339,16 +176,17 @@ impl<T> Stream<T> {
 }
 
 impl<T: Write> Stream<T> {
-    /// Sends the end of this party's stream: `read` at the other party returns 0. What that party writes can still be read.
+    /// Sends the end of this party's stream: `read` at the other party returns 0. What that party writes can still be
+    /// read. After `WouldBlock` or `TimedOut` a later call continues.
     pub fn close_write(&mut self) -> io::Result<()> {
-        self.writing.close(&mut self.below)
+        self.writing.end(&mut self.below)
     }
 }
 
 impl<T: Write> WriteHalf<T> {
     /// Sends the end of this party's stream, as [`Stream::close_write`] does.
     pub fn close_write(&mut self) -> io::Result<()> {
-        self.writing.close(&mut self.below)
+        self.writing.end(&mut self.below)
     }
 }
 
@@ -370,7 +208,7 @@ impl<T: Write> Write for Stream<T> {
     }
 
     fn flush(&mut self) -> io::Result<()> {
-        self.below.flush()
+        self.writing.flush(&mut self.below)
     }
 }
 
@@ -380,6 +218,6 @@ impl<T: Write> Write for WriteHalf<T> {
     }
 
     fn flush(&mut self) -> io::Result<()> {
-        self.below.flush()
+        self.writing.flush(&mut self.below)
     }
 }

@@ -1,56 +1,17 @@
 // Handshakes, transports, datagrams and streams, with a key agreement that is none: what these tests look at doesn't depend on it.
 use std::io::{self, ErrorKind, Read, Write};
-use std::net::{Shutdown, TcpListener, TcpStream};
-use std::sync::atomic::{AtomicU8, Ordering};
-use yulimosar::{Builder, Dh, Ephemeral, Error, Handshake, NoKey, Stream};
+use std::net::{Shutdown, TcpStream};
+use toy::{begun, streams, tcp, Party, Toy, PSK};
+use yulimosar::{Builder, Dh, Error, HandshakeError, NoKey, Stream};
 
-#[derive(Clone, Copy)]
-struct Toy(u8);
-
-static DRAWN: AtomicU8 = AtomicU8::new(100);
-
-impl Dh for Toy {
-    fn public(&self) -> [u8; 32] {
-        [self.0; 32]
-    }
-
-    fn agree(&self, remote: &[u8; 32]) -> Option<[u8; 32]> {
-        Some([self.0.wrapping_mul(remote[0]) | 1; 32]).filter(|_| remote != &[0; 32])
-    }
-}
-
-impl Ephemeral for Toy {
-    fn draw() -> Option<Toy> {
-        Some(Toy(DRAWN.fetch_add(2, Ordering::Relaxed) | 1))
-    }
-}
-
-const PSK: [u8; 32] = [7; 32];
-
-fn builder(pattern: &str, own: Toy, other: Toy, initiator: bool) -> Builder<'_, Toy> {
-    let mut builder = Builder::new(pattern).prologue(b"test").static_key(own);
-    let letters = pattern.split("psk").next().unwrap().as_bytes();
-    if letters[if initiator { letters.len() - 1 } else { 0 }] == b'K' || letters.len() == 1 && initiator {
-        builder = builder.remote_static(&other.public());
-    }
-    if pattern.contains("psk") {
-        builder = builder.psk(&PSK);
-    }
-    builder
-}
-
-type Party = Handshake<Toy, Toy>;
-
-fn begun(pattern: &str) -> (Party, Party) {
-    let (client, server) = (Toy(3), Toy(5));
-    (builder(pattern, client, server, true).initiator().unwrap(), builder(pattern, server, client, false).responder().unwrap())
-}
+mod toy;
 
 fn done(pattern: &str) -> (Party, Party) {
     let (mut client, mut server) = begun(pattern);
     let mut message = [0; 1000];
     while !client.is_done() || !server.is_done() {
-        let (writer, reader) = if client.writes_next() { (&mut client, &mut server) } else { (&mut server, &mut client) };
+        let (writer, reader) =
+            if client.writes_next() { (&mut client, &mut server) } else { (&mut server, &mut client) };
         assert_eq!(reader.write(b"", &mut [0; 100]), Err(Error::NotYourTurn));
         let len = writer.write(b"payload", &mut message).unwrap();
         assert_eq!(reader.read(&mut message[..len]).unwrap(), b"payload");
@@ -154,16 +115,14 @@ fn datagrams_come_in_any_order_and_once() {
     assert_eq!(done("IK").0.finish_datagrams(65).err(), Some(Error::Window));
 }
 
-fn tcp() -> (TcpStream, TcpStream) {
-    let listener = TcpListener::bind("127.0.0.1:0").unwrap();
-    let client = TcpStream::connect(listener.local_addr().unwrap()).unwrap();
-    (client, listener.accept().unwrap().0)
+type Passed<T, S> = Result<Stream<T>, HandshakeError<T, S, Toy>>;
+
+fn failure<T, S: Dh>(passed: Passed<T, S>) -> io::Error {
+    passed.err().unwrap().into()
 }
 
-fn streams() -> (Stream<TcpStream>, Stream<TcpStream>) {
-    let ((a, b), (client, server)) = (tcp(), begun("XX"));
-    let server = std::thread::spawn(move || Stream::new(b, server, |key| key == &[3; 32]).unwrap());
-    (Stream::new(a, client, |key| key == &[5; 32]).unwrap(), server.join().unwrap())
+fn inner<T, S: Dh>(passed: Passed<T, S>) -> Error {
+    *failure(passed).get_ref().unwrap().downcast_ref::<Error>().unwrap()
 }
 
 #[test]
@@ -198,7 +157,7 @@ fn ends_of_a_stream() {
         assert_eq!(server.read(&mut [0; 9]).unwrap_err().kind(), first);
         first
     };
-    assert_eq!(kind(&[]), ErrorKind::ConnectionAborted);
+    assert_eq!(kind(&[]), ErrorKind::UnexpectedEof);
     assert_eq!(kind(&[0]), ErrorKind::UnexpectedEof);
     assert_eq!(kind(&[0, 9, 1]), ErrorKind::UnexpectedEof);
     assert_eq!(kind(&[0, 2, 1, 1]), ErrorKind::InvalidData);
@@ -209,13 +168,36 @@ fn ends_of_a_stream() {
     assert_eq!(client.write(b"x").unwrap_err().kind(), ErrorKind::BrokenPipe);
 }
 
+// After a refused message and after a cut, whichever half it is that reads, nothing more is sent.
+#[test]
+fn nothing_is_sent_after_a_refusal_or_a_cut() {
+    for bytes in [&[0, 2, 1, 1][..], &[0], &[]] {
+        for is_split in [false, true] {
+            let (client, mut server) = streams();
+            client.get_ref().write_all(bytes).unwrap();
+            client.get_ref().shutdown(Shutdown::Write).unwrap();
+            let closed = |result: io::Result<()>| assert_eq!(result.unwrap_err().kind(), ErrorKind::BrokenPipe);
+            if is_split {
+                let (mut reads, mut writes) = server.split(TcpStream::try_clone).unwrap();
+                assert!(reads.read(&mut [0]).is_err());
+                [writes.write(b"x").map(drop), writes.flush(), writes.close_write()].map(closed);
+            } else {
+                assert!(server.read(&mut [0]).is_err());
+                [server.write(b"x").map(drop), server.flush(), server.close_write()].map(closed);
+                drop(server);
+            }
+            assert_eq!(client.get_ref().read(&mut [0]).unwrap(), 0);
+        }
+    }
+}
+
 #[test]
 fn the_other_key_is_judged() {
     let ((a, b), (client, server)) = (tcp(), begun("XX"));
-    let server = std::thread::spawn(move || Stream::new(b, server, |_| true).err().map(|error| error.kind()));
-    let refused = Stream::new(a, client, |_| false).err().unwrap();
+    let server = std::thread::spawn(move || failure(Stream::new(b, server, |_| true)).kind());
+    let refused = failure(Stream::new(a, client, |_| false));
     assert_eq!(refused.get_ref().unwrap().to_string(), Error::Refused.to_string());
-    assert_eq!(server.join().unwrap(), Some(ErrorKind::ConnectionAborted));
+    assert_eq!(server.join().unwrap(), ErrorKind::UnexpectedEof);
 }
 
 // A server that has the secrets [1; 32] and [2; 32] with the clients Toy(11) and Toy(13).
@@ -249,13 +231,12 @@ fn each_peer_has_its_secret() {
             server.read_exact(&mut said).unwrap();
             assert_eq!(&said, b"hello");
         }
-        let inner = |error: Option<io::Error>| *error.unwrap().get_ref().unwrap().downcast_ref::<Error>().unwrap();
         let (client, server) = run(Toy(15), [1; 32]);
-        assert_eq!(inner(server.err()), Error::Refused);
+        assert_eq!(inner(server), Error::Refused);
         // No message 2 came.
-        assert!(reads || client.err().unwrap().kind() == ErrorKind::ConnectionAborted);
+        assert!(reads || inner(client) == Error::Cut);
         let (client, server) = run(Toy(11), [2; 32]);
-        assert_eq!(inner(if reads { server.err() } else { client.err() }), Error::Tag { token: Some(token) });
+        assert_eq!(inner(if reads { server } else { client }), Error::Tag { token: Some(token) });
     }
 }
 
@@ -282,7 +263,6 @@ fn a_wanted_secret_changes_nothing() {
 #[test]
 fn a_stream_has_all_secrets_or_asks_for_them() {
     let begun = || client_and_late_server("XXpsk3", Toy(11), &[1; 32]);
-    let inner = |stream: io::Result<Stream<Script>>| *stream.err().unwrap().get_ref().unwrap().downcast_ref::<Error>().unwrap();
     assert_eq!(inner(Stream::new(Script(&[]), begun().1, |_| true)), Error::PskCount);
     assert_eq!(inner(Stream::anonymous(Script(&[]), begun().1)), Error::PskCount);
     assert_eq!(inner(Stream::with_psk_for(Script(&[]), begun().0, choose)), Error::PskCount);
@@ -324,7 +304,8 @@ fn no_bytes_of_the_wire_make_a_stream() {
             wire[0] = 0;
         }
         let party = if next() % 2 == 0 { client } else { server };
-        let byte = Stream::anonymous(Script(&wire), party).and_then(|mut stream| stream.read(&mut [0]));
+        let byte =
+            Stream::anonymous(Script(&wire), party).map_err(io::Error::from).and_then(|mut it| it.read(&mut [0]));
         assert!(byte.is_err());
     }
 }
@@ -377,7 +358,7 @@ fn no_fault_of_the_wire_makes_a_wrong_byte() {
         (3, Some(ErrorKind::InvalidData)),
         (4, Some(ErrorKind::InvalidData)),
         (5, Some(ErrorKind::UnexpectedEof)),
-        (6, Some(ErrorKind::ConnectionAborted)),
+        (6, Some(ErrorKind::UnexpectedEof)),
         (7, Some(ErrorKind::UnexpectedEof)),
     ] {
         for at in 0..10 {

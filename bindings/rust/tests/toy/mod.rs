@@ -1,0 +1,62 @@
+// Parties whose key agreement is none: what the tests look at doesn't depend on it.
+#![allow(dead_code)] // each test uses some
+use std::net::{TcpListener, TcpStream};
+use std::sync::atomic::{AtomicU8, Ordering};
+use yulimosar::{Builder, Dh, Ephemeral, Handshake, Stream};
+
+#[derive(Clone, Copy)]
+pub struct Toy(pub u8);
+
+static DRAWN: AtomicU8 = AtomicU8::new(100);
+
+impl Dh for Toy {
+    fn public(&self) -> [u8; 32] {
+        [self.0; 32]
+    }
+
+    fn agree(&self, remote: &[u8; 32]) -> Option<[u8; 32]> {
+        Some([self.0.wrapping_mul(remote[0]) | 1; 32]).filter(|_| remote != &[0; 32])
+    }
+}
+
+impl Ephemeral for Toy {
+    fn draw() -> Option<Toy> {
+        Some(Toy(DRAWN.fetch_add(2, Ordering::Relaxed) | 1))
+    }
+}
+
+pub const PSK: [u8; 32] = [7; 32];
+
+pub fn builder(pattern: &str, own: Toy, other: Toy, initiator: bool) -> Builder<'_, Toy> {
+    let mut builder = Builder::new(pattern).prologue(b"test").static_key(own);
+    let letters = pattern.split("psk").next().unwrap().as_bytes();
+    if letters[if initiator { letters.len() - 1 } else { 0 }] == b'K' || letters.len() == 1 && initiator {
+        builder = builder.remote_static(&other.public());
+    }
+    if pattern.contains("psk") {
+        builder = builder.psk(&PSK);
+    }
+    builder
+}
+
+pub type Party = Handshake<Toy, Toy>;
+
+pub fn begun(pattern: &str) -> (Party, Party) {
+    let (client, server) = (Toy(3), Toy(5));
+    (
+        builder(pattern, client, server, true).initiator().unwrap(),
+        builder(pattern, server, client, false).responder().unwrap(),
+    )
+}
+
+pub fn tcp() -> (TcpStream, TcpStream) {
+    let listener = TcpListener::bind("127.0.0.1:0").unwrap();
+    let client = TcpStream::connect(listener.local_addr().unwrap()).unwrap();
+    (client, listener.accept().unwrap().0)
+}
+
+pub fn streams() -> (Stream<TcpStream>, Stream<TcpStream>) {
+    let ((a, b), (client, server)) = (tcp(), begun("XX"));
+    let server = std::thread::spawn(move || Stream::new(b, server, |key| key == &[3; 32]).unwrap());
+    (Stream::new(a, client, |key| key == &[5; 32]).unwrap(), server.join().unwrap())
+}

@@ -1,0 +1,192 @@
+// Streams below that don't block, or that have timeouts; and parties that send little, or nothing.
+use std::io::{self, ErrorKind, Read, Write};
+use std::net::TcpStream;
+use std::time::Duration;
+use toy::{begun, streams, Toy};
+use yulimosar::{HandshakeError, Stream};
+
+mod toy;
+
+fn part(number: usize) -> Vec<u8> {
+    (0..60_000).map(|i| (i * 7 + number) as u8).collect()
+}
+
+// Writes until the other party, which doesn't read, makes it wait; then the other party reads, and all of it comes.
+fn write_much(mut client: Stream<TcpStream>, mut server: Stream<TcpStream>) {
+    let (mut sent, mut waits) = (Vec::new(), 0);
+    while waits < 5 {
+        match client.write(&part(waits)) {
+            Ok(count) => sent.extend(&part(waits)[..count]),
+            Err(error) => {
+                assert_eq!(error.kind(), ErrorKind::WouldBlock);
+                assert_eq!(client.flush().unwrap_err().kind(), ErrorKind::WouldBlock);
+                waits += 1;
+            }
+        }
+    }
+    let reader = std::thread::spawn(move || {
+        let mut all = Vec::new();
+        server.read_to_end(&mut all).map(|_| all)
+    });
+    let again = |mut call: Box<dyn FnMut() -> io::Result<()> + '_>| loop {
+        match call() {
+            Err(error) if error.kind() == ErrorKind::WouldBlock => std::thread::sleep(Duration::from_millis(1)),
+            done => break done.unwrap(),
+        }
+    };
+    again(Box::new(|| client.flush()));
+    again(Box::new(|| client.write(b"and more").map(|count| assert_eq!(count, 8))));
+    again(Box::new(|| client.close_write()));
+    client.close_write().unwrap();
+    sent.extend(b"and more");
+    assert!(reader.join().unwrap().unwrap() == sent);
+}
+
+#[test]
+fn a_frame_is_kept_where_a_write_would_block() {
+    let (client, server) = streams();
+    client.get_ref().set_nonblocking(true).unwrap();
+    write_much(client, server);
+}
+
+#[test]
+fn a_frame_is_kept_past_a_write_timeout() {
+    let (client, server) = streams();
+    client.get_ref().set_write_timeout(Some(Duration::from_millis(20))).unwrap();
+    write_much(client, server);
+}
+
+// Has these bytes to read, one at a time, and between them and then for ever it would block. It notes the most bytes
+// that it was asked for.
+struct Slow {
+    bytes: Vec<u8>,
+    at: usize,
+    calls: usize,
+    most: usize,
+    written: Vec<u8>,
+}
+
+impl Slow {
+    fn new(bytes: &[u8]) -> Slow {
+        Slow { bytes: bytes.to_vec(), at: 0, calls: 0, most: 0, written: Vec::new() }
+    }
+}
+
+impl Read for Slow {
+    fn read(&mut self, into: &mut [u8]) -> io::Result<usize> {
+        self.calls += 1;
+        self.most = self.most.max(into.len());
+        if self.at == self.bytes.len() || self.calls % 2 == 0 {
+            return Err([ErrorKind::WouldBlock, ErrorKind::TimedOut][self.calls % 2].into());
+        }
+        into[0] = self.bytes[self.at];
+        self.at += 1;
+        Ok(1)
+    }
+}
+
+impl Write for Slow {
+    fn write(&mut self, bytes: &[u8]) -> io::Result<usize> {
+        self.written.extend(bytes);
+        Ok(bytes.len())
+    }
+
+    fn flush(&mut self) -> io::Result<()> {
+        Ok(())
+    }
+}
+
+// Continues a handshake so many times, as long as it is interrupted.
+fn resume(below: Slow, times: usize) -> Result<Stream<Slow>, HandshakeError<Slow, Toy, Toy>> {
+    let mut passed = Stream::new(below, begun("XX").1, |_| true);
+    for _ in 0..times {
+        passed = match passed {
+            Err(HandshakeError::Interrupted(it)) => it.resume(|_| true),
+            other => return other,
+        };
+    }
+    passed
+}
+
+#[test]
+fn a_handshake_continues_where_it_was_interrupted() {
+    let mut message = vec![0; 34];
+    begun("XX").0.write(b"", &mut message[2..]).unwrap();
+    message[1] = 32;
+    match resume(Slow::new(&message), 200) {
+        Err(HandshakeError::Interrupted(it)) => assert_eq!(it.get_ref().written.len(), 2 + 96),
+        other => panic!("{:?}", other.err()),
+    }
+    // Another call than the one by which it began doesn't continue it.
+    match resume(Slow::new(&[]), 0) {
+        Err(HandshakeError::Interrupted(it)) => {
+            assert_eq!(it.error().kind(), ErrorKind::TimedOut);
+            assert!(matches!(it.resume_anonymous(), Err(HandshakeError::Failed(_))));
+        }
+        other => panic!("{:?}", other.err()),
+    }
+}
+
+#[test]
+fn two_bytes_take_no_memory() {
+    let error = resume(Slow::new(&[0xff, 0xff]), 200).err().map(io::Error::from).unwrap();
+    assert_eq!(error.to_string(), yulimosar::Error::TooLong.to_string());
+    // Of a message that isn't too long, and of a frame after the handshake, the buffer has little more than what came.
+    match resume(Slow::new(&[0x20, 0x00]), 200) {
+        Err(HandshakeError::Interrupted(it)) => assert!(it.get_ref().most <= 1024),
+        other => panic!("{:?}", other.err()),
+    }
+    let (mut client, server) = open();
+    server.get_ref().0.borrow_mut().extend([0xff, 0xff]);
+    assert_eq!(client.read(&mut [0]).unwrap_err().kind(), ErrorKind::WouldBlock);
+    assert!(client.get_ref().2 <= 1024);
+    server.get_ref().0.borrow_mut().extend([1; 5000]);
+    assert_eq!(client.read(&mut [0]).unwrap_err().kind(), ErrorKind::WouldBlock);
+    assert!(client.get_ref().2 <= 5000);
+}
+
+type Queue = std::rc::Rc<std::cell::RefCell<std::collections::VecDeque<u8>>>;
+
+// What is written, what is read, and the most bytes that a read has asked for.
+struct Memory(Queue, Queue, usize);
+
+impl Read for Memory {
+    fn read(&mut self, into: &mut [u8]) -> io::Result<usize> {
+        self.2 = self.2.max(into.len());
+        match self.1.borrow_mut().read(into)? {
+            0 => Err(ErrorKind::WouldBlock.into()),
+            count => Ok(count),
+        }
+    }
+}
+
+impl Write for Memory {
+    fn write(&mut self, bytes: &[u8]) -> io::Result<usize> {
+        self.0.borrow_mut().write(bytes)
+    }
+
+    fn flush(&mut self) -> io::Result<()> {
+        Ok(())
+    }
+}
+
+fn open() -> (Stream<Memory>, Stream<Memory>) {
+    let ((there, back), (client, server)) = ((Queue::default(), Queue::default()), begun("XX"));
+    let mut client = Stream::new(Memory(there.clone(), back.clone(), 0), client, |_| true);
+    let mut server = Stream::new(Memory(back, there, 0), server, |_| true);
+    loop {
+        (client, server) = match (client, server) {
+            (Ok(client), Ok(server)) => return (client, server),
+            (client, server) => (next(client), next(server)),
+        };
+    }
+}
+
+type Passed = Result<Stream<Memory>, HandshakeError<Memory, Toy, Toy>>;
+
+fn next(passed: Passed) -> Passed {
+    match passed {
+        Err(HandshakeError::Interrupted(it)) => it.resume(|_| true),
+        other => other,
+    }
+}
