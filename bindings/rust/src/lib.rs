@@ -40,6 +40,8 @@
 #![deny(unsafe_op_in_unsafe_fn, missing_docs)]
 
 mod builder;
+#[cfg(feature = "std")]
+mod deadline;
 mod dh;
 mod error;
 mod handshake;
@@ -54,6 +56,8 @@ mod stream;
 mod transport;
 
 pub use builder::Builder;
+#[cfg(feature = "std")]
+pub use deadline::{Deadline, Timeouts};
 pub use dh::{Dh, Ephemeral, NoKey};
 pub use error::Error;
 pub use handshake::Handshake;

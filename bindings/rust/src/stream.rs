@@ -59,7 +59,7 @@ impl Over {
 }
 
 // Whether the stream below has to be waited for.
-fn is_wait(error: &io::Error) -> bool {
+pub(crate) fn is_wait(error: &io::Error) -> bool {
     matches!(error.kind(), ErrorKind::WouldBlock | ErrorKind::TimedOut)
 }
 
@@ -145,6 +145,12 @@ impl<T> Stream<T> {
     /// The stream below. To read from it or write to it breaks the channel.
     pub fn get_ref(&self) -> &T {
         &self.below
+    }
+
+    // The same channel over what `map` makes of the stream below.
+    pub(crate) fn try_map<U>(self, map: impl FnOnce(T) -> io::Result<U>) -> io::Result<Stream<U>> {
+        let Stream { below, reading, writing, hash, remote_static } = self;
+        Ok(Stream { below: map(below)?, reading, writing, hash, remote_static })
     }
 
     /// Two halves, for two threads. `clone` makes the second handle of the stream below: `stream.split(TcpStream::try_clone)`.

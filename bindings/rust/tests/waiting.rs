@@ -1,9 +1,9 @@
 // Streams below that don't block, or that have timeouts; and parties that send little, or nothing.
 use std::io::{self, ErrorKind, Read, Write};
 use std::net::TcpStream;
-use std::time::Duration;
-use toy::{begun, streams, Toy};
-use yulimosar::{HandshakeError, Stream};
+use std::time::{Duration, Instant};
+use toy::{begun, streams, tcp, Toy};
+use yulimosar::{Deadline, HandshakeError, Stream};
 
 mod toy;
 
@@ -189,4 +189,49 @@ fn next(passed: Passed) -> Passed {
         Err(HandshakeError::Interrupted(it)) => it.resume(|_| true),
         other => other,
     }
+}
+
+// A party that is silent, that sends a byte at times, or that doesn't read, is waited for until the deadline.
+#[test]
+fn a_handshake_has_a_deadline() {
+    let mut message = vec![0; 34];
+    begun("XX").0.write(b"", &mut message[2..]).unwrap();
+    message[1] = 32;
+    for sent in [&[][..], &message[..33], &message] {
+        let (mut client, server) = tcp();
+        let sent = sent.to_vec();
+        let trickle = std::thread::spawn(move || {
+            for byte in sent.chunks(1) {
+                let _ = client.write_all(byte);
+                std::thread::sleep(Duration::from_millis(5));
+            }
+            let _ = client.read_to_end(&mut Vec::new());
+        });
+        let (begin, time) = (Instant::now(), Duration::from_millis(100));
+        let below = Deadline::after(server, time).unwrap();
+        let error = Stream::new(below, begun("XX").1, |_| true).err().map(io::Error::from).unwrap();
+        assert_eq!(error.kind(), ErrorKind::TimedOut);
+        assert!(begin.elapsed() >= time && begin.elapsed() < 50 * time);
+        trickle.join().unwrap();
+    }
+}
+
+#[test]
+fn after_the_handshake_there_is_no_deadline() {
+    let ((a, b), (client, server)) = (tcp(), begun("XX"));
+    let own = Some(Duration::from_secs(77));
+    b.set_read_timeout(own).unwrap();
+    let time = Duration::from_secs(60);
+    let server = std::thread::spawn(move || Stream::new(Deadline::after(b, time).unwrap(), server, |_| true).unwrap());
+    let client = Stream::new(Deadline::after(a, time).unwrap(), client, |_| true).unwrap();
+    let limit = client.get_ref().get_ref().read_timeout().unwrap().unwrap();
+    assert!(limit <= time);
+    let (mut client, mut server) = (client.lift_deadline().unwrap(), server.join().unwrap().lift_deadline().unwrap());
+    let timeouts = |stream: &Stream<TcpStream>| (stream.get_ref().read_timeout(), stream.get_ref().write_timeout());
+    assert!(matches!(timeouts(&client), (Ok(None), Ok(None))));
+    assert!(matches!(timeouts(&server), (Ok(read), Ok(None)) if read == own));
+    client.write_all(b"hello").unwrap();
+    let mut said = [0; 5];
+    server.read_exact(&mut said).unwrap();
+    assert_eq!(&said, b"hello");
 }

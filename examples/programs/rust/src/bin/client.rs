@@ -6,7 +6,11 @@ use yulimosar::{Builder, KeyPair, Stream};
 fn main() -> io::Result<()> {
     let text = std::env::args().nth(1).expect("usage: client TEXT");
     let expected = std::fs::read("server.public")?;
-    let handshake = Builder::new("XX").prologue(b"example channel 1").static_key(KeyPair::generate()?).interval(1000).initiator::<KeyPair>()?;
+    let handshake = Builder::new("XX")
+        .prologue(b"example channel 1")
+        .static_key(KeyPair::generate()?)
+        .interval(1000)
+        .initiator::<KeyPair>()?;
     let mut stream = Stream::new(TcpStream::connect("127.0.0.1:4043")?, handshake, |peer| peer[..] == expected[..])?;
     stream.write_all(text.as_bytes())?;
     stream.close_write()?;

@@ -1,29 +1,50 @@
 // The responder: it takes connections on 127.0.0.1, port 4043, says which client it is, and sends its text back.
 use std::io::{self, Read, Write};
 use std::net::{TcpListener, TcpStream};
-use yulimosar::{Builder, KeyPair, Stream};
+use std::sync::Arc;
+use std::thread;
+use std::time::Duration;
+use yulimosar::{Builder, Deadline, KeyPair, Stream};
 
 fn main() -> io::Result<()> {
     let secret = KeyPair::generate()?.secret_key()?; // a server that lives longer keeps it in a file
     let listener = TcpListener::bind("127.0.0.1:4043")?;
     // The client gets this file by a way that nobody else can write to.
     std::fs::write("server.public", KeyPair::from_secret(&secret)?.public_key())?;
-    for below in listener.incoming() {
-        if let Err(error) = serve(below?, KeyPair::from_secret(&secret)?) {
-            eprintln!("server: {error}");
+    let clients = Arc::new(());
+    for below in listener.incoming().flatten() {
+        let client = clients.clone();
+        if Arc::strong_count(&clients) > 100 {
+            continue; // too many at once
         }
+        thread::spawn(move || {
+            if let Err(error) = serve(below, &secret) {
+                eprintln!("server: {error}");
+            }
+            drop(client);
+        });
     }
     Ok(())
 }
 
-fn serve(below: TcpStream, key: KeyPair) -> io::Result<()> {
-    let handshake = Builder::new("XX").prologue(b"example channel 1").static_key(key).interval(1000).responder::<KeyPair>()?;
-    let mut stream = Stream::new(below, handshake, |peer| {
+fn serve(below: TcpStream, secret: &[u8; 32]) -> io::Result<()> {
+    let key = KeyPair::from_secret(secret)?;
+    let handshake =
+        Builder::new("XX").prologue(b"example channel 1").static_key(key).interval(1000).responder::<KeyPair>()?;
+    // Each read and write takes at most a minute, and the whole handshake ten seconds.
+    below.set_read_timeout(Some(Duration::from_secs(60)))?;
+    below.set_write_timeout(Some(Duration::from_secs(60)))?;
+    let below = Deadline::after(below, Duration::from_secs(10))?;
+    let stream = Stream::new(below, handshake, |peer| {
         println!("server: a client with the key {peer:02x?}");
         true // a server that lets in only some looks the key up here
     })?;
-    let mut text = Vec::new();
-    stream.read_to_end(&mut text)?;
-    stream.write_all(&text)?;
-    stream.close_write()
+    let mut stream = stream.lift_deadline()?;
+    let mut bytes = [0; 4096];
+    loop {
+        match stream.read(&mut bytes)? {
+            0 => return stream.close_write(),
+            count => stream.write_all(&bytes[..count])?,
+        }
+    }
 }

@@ -1,0 +1,138 @@
+use crate::stream::is_wait;
+use crate::Stream;
+use std::io::{self, ErrorKind, Read, Write};
+use std::net::TcpStream;
+use std::time::{Duration, Instant};
+
+/// A stream that can have a time limit for each `read` and each `write`, as `TcpStream` does.
+pub trait Timeouts {
+    /// The time after which a `read` returns `WouldBlock` or `TimedOut`; `None` is never.
+    fn read_timeout(&self) -> io::Result<Option<Duration>>;
+    /// The time after which a `write` returns `WouldBlock` or `TimedOut`; `None` is never.
+    fn write_timeout(&self) -> io::Result<Option<Duration>>;
+    /// Sets the time of a `read`.
+    fn set_read_timeout(&self, time: Option<Duration>) -> io::Result<()>;
+    /// Sets the time of a `write`.
+    fn set_write_timeout(&self, time: Option<Duration>) -> io::Result<()>;
+}
+
+macro_rules! timeouts {
+    ($stream:ty) => {
+        impl Timeouts for $stream {
+            fn read_timeout(&self) -> io::Result<Option<Duration>> {
+                <$stream>::read_timeout(self)
+            }
+
+            fn write_timeout(&self) -> io::Result<Option<Duration>> {
+                <$stream>::write_timeout(self)
+            }
+
+            fn set_read_timeout(&self, time: Option<Duration>) -> io::Result<()> {
+                <$stream>::set_read_timeout(self, time)
+            }
+
+            fn set_write_timeout(&self, time: Option<Duration>) -> io::Result<()> {
+                <$stream>::set_write_timeout(self, time)
+            }
+        }
+    };
+}
+
+timeouts!(TcpStream);
+#[cfg(unix)]
+timeouts!(std::os::unix::net::UnixStream);
+
+/// A stream with a deadline for all that is read and written: for a whole handshake, whatever the other party sends and
+/// however slowly. Then `read` and `write` return `TimedOut`. Timeouts that the stream below has hold as well.
+///
+#[cfg_attr(feature = "openssl", doc = "```")]
+#[cfg_attr(not(feature = "openssl"), doc = "```ignore")]
+/// # fn main() -> std::io::Result<()> {
+/// use std::io::ErrorKind;
+/// use std::net::{TcpListener, TcpStream};
+/// use std::time::Duration;
+/// use yulimosar::{Builder, Deadline, KeyPair, Stream};
+///
+/// let listener = TcpListener::bind("127.0.0.1:0")?;
+/// let _silent = TcpStream::connect(listener.local_addr()?)?;
+/// let serve = |below: TcpStream| -> std::io::Result<Stream<TcpStream>> {
+///     let handshake = Builder::new("NN").responder::<KeyPair>()?;
+///     let below = Deadline::after(below, Duration::from_millis(50))?;
+///     Stream::anonymous(below, handshake)?.lift_deadline()
+/// };
+/// assert_eq!(serve(listener.accept()?.0).err().unwrap().kind(), ErrorKind::TimedOut);
+/// # Ok(()) }
+/// ```
+#[derive(Debug)]
+pub struct Deadline<T: Timeouts> {
+    below: T,
+    until: Instant,
+    reads: Option<Duration>,
+    writes: Option<Duration>,
+}
+
+impl<T: Timeouts> Deadline<T> {
+    /// A deadline so much time from now.
+    pub fn after(below: T, time: Duration) -> io::Result<Deadline<T>> {
+        let until = Instant::now().checked_add(time).ok_or(ErrorKind::InvalidInput)?;
+        let (reads, writes) = (below.read_timeout()?, below.write_timeout()?);
+        Ok(Deadline { below, until, reads, writes })
+    }
+
+    /// The stream below.
+    pub fn get_ref(&self) -> &T {
+        &self.below
+    }
+
+    /// The stream below without the deadline, with the timeouts that it had before.
+    pub fn lift(self) -> io::Result<T> {
+        self.below.set_read_timeout(self.reads)?;
+        self.below.set_write_timeout(self.writes)?;
+        Ok(self.below)
+    }
+
+    // How long a call may take whose own limit is this one.
+    fn time(&self, own: Option<Duration>) -> io::Result<Option<Duration>> {
+        match self.until.saturating_duration_since(Instant::now()) {
+            Duration::ZERO => Err(self.error()),
+            left => Ok(Some(own.map_or(left, |own| own.min(left)))),
+        }
+    }
+
+    fn error(&self) -> io::Error {
+        io::Error::new(ErrorKind::TimedOut, "the deadline has passed")
+    }
+
+    fn judge<R>(&self, answer: io::Result<R>) -> io::Result<R> {
+        answer.map_err(|error| if is_wait(&error) && Instant::now() >= self.until { self.error() } else { error })
+    }
+}
+
+impl<T: Read + Timeouts> Read for Deadline<T> {
+    fn read(&mut self, into: &mut [u8]) -> io::Result<usize> {
+        self.below.set_read_timeout(self.time(self.reads)?)?;
+        let answer = self.below.read(into);
+        self.judge(answer)
+    }
+}
+
+impl<T: Write + Timeouts> Write for Deadline<T> {
+    fn write(&mut self, bytes: &[u8]) -> io::Result<usize> {
+        self.below.set_write_timeout(self.time(self.writes)?)?;
+        let answer = self.below.write(bytes);
+        self.judge(answer)
+    }
+
+    fn flush(&mut self) -> io::Result<()> {
+        self.below.set_write_timeout(self.time(self.writes)?)?;
+        let answer = self.below.flush();
+        self.judge(answer)
+    }
+}
+
+impl<T: Timeouts> Stream<Deadline<T>> {
+    /// The channel without the deadline, after the handshake. The timeouts are those that the stream below had before.
+    pub fn lift_deadline(self) -> io::Result<Stream<T>> {
+        self.try_map(Deadline::lift)
+    }
+}
