@@ -3,6 +3,7 @@ import { NoiseError, code, library, must } from './module.mjs';
 import { bytesOf, copyOf } from './bytes.mjs';
 import { KeyPair } from './keys.mjs';
 import { protocolName } from './patterns.mjs';
+import { Stream } from './stream.mjs';
 import { Datagrams, Transport } from './transport.mjs';
 
 const encoder = new TextEncoder();
@@ -21,6 +22,13 @@ function keyPairOf(pair, what) {
   if (typeof pair?.agree !== 'function') throw new TypeError(`${what} has to be a key pair, with publicKey and agree: a KeyPair, for example`);
   bytesOf(pair.publicKey, `publicKey of ${what}`, 32);
   return pair;
+}
+
+/** So many messages, as the library takes them. */
+function intervalOf(interval) {
+  const messages = BigInt(interval);
+  if (messages < 0n || messages >= 1n << 64n) throw new RangeError('interval has to be from 0 to 2^64 - 1');
+  return messages;
 }
 
 /** One party of a handshake, from its first message to its last. */
@@ -229,9 +237,12 @@ export class Handshake {
 
   /** Makes the transport, and uses this handshake up. Each direction renews its key after each `interval` of its messages; 0 is never. */
   finish({ interval = 0n } = {}) {
-    const messages = BigInt(interval);
-    if (messages < 0n || messages >= 1n << 64n) throw new RangeError('interval has to be from 0 to 2^64 - 1');
-    return this.#finished(Transport, library().x.noise_finish, messages);
+    return this.#finished(Transport, library().x.noise_finish, intervalOf(interval));
+  }
+
+  /** Makes the two halves of a stream with an end, in the same way. @internal */
+  finishStream({ interval = 0n } = {}) {
+    return this.#finished(Stream, library().x.noise_finish_stream, intervalOf(interval));
   }
 
   /** Makes the state of datagrams, with a window of 64, 256 or 1024 nonces, and uses this handshake up. */

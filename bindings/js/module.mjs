@@ -40,15 +40,20 @@ const NAMES = {
   38: ['ENDING', 'the line has no line feed, or there is no message'],
   39: ['RULE', 'the pattern breaks a rule'],
   40: ['WANTED_PSK', "a psk token comes before the other party's static key, by which pskFor would choose: pass psks"],
+  41: ['END', 'the other party has ended its stream, and all of it came'],
+  42: ['MORE', "the frame isn't complete"],
+  43: ['STREAM_CLOSED', 'the stream was ended before'],
+  44: ['CUT', 'the connection ended before the stream did'],
   '-1': ['BUSY', 'another call on this handshake is under way: await it first'],
   '-2': ['DISPOSED', 'this object is used up'],
   '-3': ['NO_MEMORY64', 'this engine runs no WebAssembly with 64-bit memory: take a browser of 2025 or later with memory64, '
     + 'node --experimental-wasm-memory64 where Node lacks it, or the native library (docs/C.md)'],
   '-4': ['NOT_LOADED', 'await load() first'],
   '-5': ['KEY', "X25519 fails for the other party's public key, or gives all zeros: close"],
-  '-6': ['CLOSED', 'the connection ended in the middle of a frame or of the handshake, or was never made: cause is its error, if it had one'],
+  '-6': ['CLOSED', 'the connection ended before the other party has ended its stream, or in the handshake, or was never made: cause is its error, if it had one'],
   '-7': ['REFUSED', "judge didn't return true for the other party's static key, and the connection was closed"],
   '-8': ['UNAUTHENTICATED', 'nothing says who may be the other party: pass judge, remoteStatic, psks or pskFor, or acceptAnyKey: true'],
+  '-9': ['BACKLOG', 'more came over the WebSocket than may wait until it is received, and the connection was closed'],
 };
 
 /** The codes by name, as `code.TAG`. */
@@ -88,10 +93,12 @@ class Library {
       handshake: Number(this.x.noise_handshake_size()),
       sender: Number(this.x.noise_sender_size()),
       receiver: Number(this.x.noise_receiver_size()),
+      streamSender: Number(this.x.noise_stream_sender_size()),
+      streamReceiver: Number(this.x.noise_stream_receiver_size()),
       datagramSender: Number(this.x.noise_datagram_sender_size()),
       datagramReceiver: Number(this.x.noise_datagram_receiver_size()),
     };
-    this.kept = { handshake: [], sender: [], receiver: [], datagramSender: [], datagramReceiver: [] };
+    this.kept = Object.fromEntries(Object.keys(this.sizes).map((kind) => [kind, []]));
     this.next = this.memory.buffer.byteLength;
     this.end = this.next;
     this.#see();
@@ -161,6 +168,13 @@ class Library {
       ofStatic: this.#bytes[start + 17],
       remoteKnown: this.#bytes[start + 50] !== 0,
     };
+  }
+
+  /** The same of a call on a stream or on a frame. */
+  streamTold() {
+    const start = Number(this.at.told);
+    const [from, len, used, wanted] = [0, 8, 16, 24].map((at) => this.#data.getUint32(start + at, true));
+    return { from, len, used, wanted };
   }
 
   /** The other party's public key for which the last call needs a result of X25519, or a secret. */

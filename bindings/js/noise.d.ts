@@ -1,6 +1,6 @@
 /** What a refused call throws. */
 export class NoiseError extends Error {
-  /** The number of include/noise.h; negative for those of this module. */
+  /** One of `code`. */
   code: number;
   /** `NOISE_TAG` and so on. */
   name: string;
@@ -9,7 +9,61 @@ export class NoiseError extends Error {
   /** At NOISE_CLOSED: the error of the connection below, as ECONNREFUSED, where there was one. At NOISE_KEY: what `agree` threw. */
   cause?: unknown;
 }
-export const code: Readonly<Record<string, number>>;
+/** The codes by name: those of include/noise.h, where STREAM_CLOSED is NOISE_CLOSED, and below 0 those of this module. */
+export const code: {
+  readonly OK: 0;
+  readonly NAME: 1;
+  readonly PATTERN: 2;
+  readonly EPHEMERAL_MISSING: 4;
+  readonly STATIC_MISSING: 5;
+  readonly REMOTE_MISSING: 6;
+  readonly REMOTE_UNEXPECTED: 7;
+  readonly PSK_COUNT: 8;
+  readonly NOT_YOUR_TURN: 10;
+  readonly TOO_LONG: 11;
+  readonly DONE: 12;
+  readonly ENDED: 13;
+  readonly AGREEMENT: 14;
+  readonly SHORT: 15;
+  readonly TAG: 16;
+  readonly EXHAUSTED: 17;
+  readonly ROOM: 18;
+  readonly NOT_DONE: 19;
+  readonly WANTED: 20;
+  readonly FULL: 21;
+  readonly ONE_WAY: 22;
+  readonly STRUCT: 23;
+  readonly LENGTH: 24;
+  readonly WINDOW: 25;
+  readonly RESERVED: 26;
+  readonly OLD: 27;
+  readonly REPEATED: 28;
+  readonly NOT_DUE: 29;
+  readonly HEADING: 30;
+  readonly ARROW: 31;
+  readonly TOKEN: 32;
+  readonly PRE_MESSAGE: 33;
+  readonly TURN: 34;
+  readonly PSK_PLACE: 35;
+  readonly NAME_TAKEN: 36;
+  readonly LIMIT: 37;
+  readonly ENDING: 38;
+  readonly RULE: 39;
+  readonly WANTED_PSK: 40;
+  readonly END: 41;
+  readonly MORE: 42;
+  readonly STREAM_CLOSED: 43;
+  readonly CUT: 44;
+  readonly BUSY: -1;
+  readonly DISPOSED: -2;
+  readonly NO_MEMORY64: -3;
+  readonly NOT_LOADED: -4;
+  readonly KEY: -5;
+  readonly CLOSED: -6;
+  readonly REFUSED: -7;
+  readonly UNAUTHENTICATED: -8;
+  readonly BACKLOG: -9;
+};
 
 /** Loads the module, once. Without an argument it is noise_c.wasm beside noise.mjs. */
 export function load(source?: string | URL | ArrayBuffer | Uint8Array): Promise<void>;
@@ -115,10 +169,20 @@ export interface NoiseSocketOptions extends HandshakeOptions {
   judge?(remoteStatic: Uint8Array): boolean | Promise<boolean>;
   /** Talks to anybody, where none of `judge`, `remoteStatic`, `psks` and `pskFor` says who it may be. Without it `open` throws NOISE_UNAUTHENTICATED. */
   acceptAnyKey?: boolean;
+  /** Ends the call of `open`, whatever it waits for: it destroys the connection, and throws the signal's reason. */
+  signal?: AbortSignal;
+  /** How many bytes a handshake message may have: 4096, if nothing is said. At more `open` throws NOISE_TOO_LONG. */
+  handshakeLimit?: number;
+  /**
+   * How many bytes of an open WebSocket may wait until they are received: 64 MiB, if nothing is said, each message with 256 more. At more the
+   * connection is closed, and `receive` throws NOISE_BACKLOG. Until it is open that is 1 MiB.
+   */
+  backlog?: number;
 }
 /** What is used of a stream of Node, as a socket of TCP. */
 export interface NodeStream extends AsyncIterable<Uint8Array> {
   pipe: unknown;
+  iterator?(options: { destroyOnReturn: boolean }): AsyncIterator<Uint8Array>;
   readonly connecting?: boolean;
   readonly destroyed?: boolean;
   readonly errored?: Error | null;
@@ -129,13 +193,20 @@ export interface NodeStream extends AsyncIterable<Uint8Array> {
 }
 export class NoiseSocket implements AsyncIterable<Uint8Array> {
   private constructor();
-  /** Passes a handshake. Where it throws, the connection is closed. */
+  /** Passes a handshake. Where it throws, the connection is destroyed. */
   static open(carrier: WebSocket | NodeStream | { readable: ReadableStream<Uint8Array>; writable: WritableStream<Uint8Array> }, options: NoiseSocketOptions): Promise<NoiseSocket>;
   readonly hash: Uint8Array;
   readonly remoteStatic: Uint8Array | undefined;
+  /** Sends 1 to 65519 bytes, and waits until the connection has taken them. Of an empty payload nothing is sent. */
   send(payload: Uint8Array): Promise<void>;
+  /** Ends what this party sends, and waits until the connection has taken the end. This party goes on to receive. */
+  end(): Promise<void>;
+  /** The next payload; undefined once the other party has ended its stream, and all of it came. Throws NOISE_CLOSED where the connection ended before. */
   receive(): Promise<Uint8Array | undefined>;
-  close(): Promise<void>;
+  /** Ends what this party sends, and closes the connection once all is sent, or after `timeout` milliseconds (5000). It never rejects. */
+  close(options?: { timeout?: number }): Promise<void>;
+  /** Closes the connection at once, without an end: the other party sees a cut. After `close` it does nothing. */
+  destroy(): void;
   [Symbol.asyncIterator](): AsyncIterator<Uint8Array>;
 }
 

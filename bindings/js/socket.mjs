@@ -1,125 +1,13 @@
 // A channel over what moves bytes: a WebSocket, one message a frame, or a pair of WHATWG streams or a stream of Node, each message after its length.
 import { NoiseError, code } from './module.mjs';
-import { bytesOf } from './bytes.mjs';
+import { carrierOf } from './carriers.mjs';
 import { Handshake } from './handshake.mjs';
+import { Incoming } from './incoming.mjs';
 import { layout } from './layout.mjs';
-
-/** What comes, in order: those who wait are served as it comes. At the end there is undefined, or what was thrown at it. */
-class Queue {
-  #items = [];
-  #waiting = [];
-  #end;
-
-  push(item) {
-    const next = this.#waiting.shift();
-    if (next) next(item);
-    else this.#items.push(item);
-  }
-
-  end(thrown) {
-    this.#end ??= thrown ? () => Promise.reject(thrown) : () => Promise.resolve(undefined);
-    for (const next of this.#waiting.splice(0)) next(this.#end());
-  }
-
-  take() {
-    if (this.#items.length > 0) return Promise.resolve(this.#items.shift());
-    return this.#end?.() ?? new Promise((resolve) => { this.#waiting.push(resolve); });
-  }
-}
+import { findMessage, frameOf } from './stream.mjs';
+import { Turns, Waiting, within } from './waiting.mjs';
 
 const closed = (cause) => new NoiseError(code.CLOSED, { cause });
-
-/** Messages over a WebSocket. */
-function overWebSocket(socket) {
-  socket.binaryType = 'arraybuffer';
-  const queue = new Queue();
-  let cause;    // Node tells it, and a browser doesn't
-  socket.addEventListener('error', ({ error }) => { cause ??= error; });
-  socket.addEventListener('message', ({ data }) => {
-    // A text frame is no message of Noise: an empty one takes its place, and is refused.
-    queue.push(typeof data === 'string' ? new Uint8Array(0) : new Uint8Array(data));
-  });
-  socket.addEventListener('close', ({ wasClean }) => queue.end(wasClean === false ? closed(cause) : undefined));
-  return {
-    ready: async () => {
-      if (socket.readyState === 0) await new Promise((resolve) => { for (const event of ['open', 'close', 'error']) socket.addEventListener(event, resolve, { once: true }); });
-      if (socket.readyState !== 1) throw closed(cause);
-    },
-    send: async (message) => socket.send(message),
-    take: () => queue.take(),
-    close: async () => socket.close(),
-  };
-}
-
-/** A pair of WHATWG streams, by what is read next, a way to write, and one to close. */
-function ofStreams({ readable, writable }) {
-  const reader = readable.getReader();
-  const writer = writable.getWriter();
-  return { read: () => reader.read(), write: (bytes) => writer.write(bytes), close: () => Promise.allSettled([writer.close(), reader.cancel()]) };
-}
-
-/** The same of a stream of Node, as a socket of TCP. By Duplex.toWeb of Node 20 an error after the close would end the program. */
-function ofNode(stream) {
-  const chunks = stream[Symbol.asyncIterator]();
-  let first = stream.errored ?? undefined;    // later ones only say that the stream was destroyed
-  stream.on('error', (error) => { first ??= error; });
-  return {
-    read: () => chunks.next().catch((error) => { throw first ?? error; }),
-    write: (bytes) => new Promise((resolve, reject) => { stream.write(bytes, (error) => { if (error) reject(first ?? error); else resolve(); }); }),
-    close: async () => {
-      // The end of one that was destroyed never calls back.
-      if (!stream.connecting && !stream.destroyed) await new Promise((resolve) => { stream.end(resolve); });
-      stream.destroy();
-    },
-  };
-}
-
-const broken = (cause) => { throw closed(cause); };
-
-/** Messages over a stream of bytes, each after its length in two bytes, the higher first (Noise, 13). */
-function overStream({ read, write, close }) {
-  let rest = new Uint8Array(0);
-
-  /** So many bytes, or undefined if the stream ends before the first. */
-  async function bytes(count, isFirst) {
-    const parts = [rest];
-    let held = rest.length;
-    while (held < count) {
-      const { value, done } = await read().catch(broken);
-      if (done && held === 0 && isFirst) return undefined;
-      if (done) throw closed();
-      parts.push(bytesOf(value, 'what comes from the stream'));
-      held += value.length;
-    }
-    const all = new Uint8Array(held);
-    let at = 0;
-    for (const part of parts) { all.set(part, at); at += part.length; }
-    rest = all.subarray(count);
-    return all.slice(0, count);
-  }
-
-  async function take() {
-    const head = await bytes(2, true);
-    return head && bytes(head[0] * 256 + head[1], false);
-  }
-
-  async function send(message) {
-    const frame = new Uint8Array(2 + message.length);
-    frame.set([message.length >> 8, message.length & 255]);
-    frame.set(message, 2);
-    await write(frame).catch(broken);
-  }
-
-  return { send, take, close };
-}
-
-/** What moves the messages of a WebSocket, a pair of WHATWG streams or a stream of Node. */
-function over(carrier) {
-  if (typeof carrier?.readable?.getReader === 'function') return overStream(ofStreams(carrier));
-  if (typeof carrier?.pipe === 'function') return overStream(ofNode(carrier));
-  if (typeof carrier?.addEventListener === 'function') return overWebSocket(carrier);
-  throw new TypeError('a channel goes over a WebSocket, { readable, writable } or a stream of Node');
-}
 
 /**
  * Refuses options that don't say who may be the other party, and a `judge` that would never be called; tells whether it is to be called. The package
@@ -135,79 +23,148 @@ function hasToJudge({ pattern, responder, remoteStatic, psks = [], pskFor }, jud
   return judge !== undefined && isKeyed;
 }
 
-/** Passes the messages of a handshake. */
-async function pass(channel, handshake, judge) {
+/** Passes the messages of a handshake, each of at most `limit` bytes, as long as `waiting` isn't over. */
+async function pass({ carrier, incoming, handshake, judge, limit, waiting }) {
   let isDue = judge !== undefined;
   for (;;) {
     const { done, writesNext } = handshake.stage;
     const { remoteStatic } = handshake;
     if (isDue && (done || remoteStatic)) {
       isDue = false;
-      if ((await judge(remoteStatic)) !== true) throw new NoiseError(code.REFUSED);
+      if ((await waiting.for(judge(remoteStatic))) !== true) throw new NoiseError(code.REFUSED);
     }
     if (done) return;
     if (writesNext) {
-      await channel.send(await handshake.write());
+      const message = await waiting.for(handshake.write());
+      await waiting.for(carrier.write(frameOf(message)));
       continue;
     }
-    const message = await channel.take();
-    if (!message) throw closed();
-    await handshake.read(message);
+    const found = await waiting.for(incoming.next(findMessage, limit + 2, new NoiseError(code.TOO_LONG)));    // 2 bytes of its length
+    if (!found) throw closed();
+    await waiting.for(handshake.read(found.value));
   }
+}
+
+/** Ends waiting once a signal aborts, and gives a function that lets go of the signal. */
+function endBy(signal, waiting) {
+  if (signal === undefined) return () => {};
+  const abort = () => waiting.end(signal.reason);
+  signal.addEventListener('abort', abort);
+  if (signal.aborted) abort();
+  return () => signal.removeEventListener('abort', abort);
 }
 
 /** An open channel: `send` and `receive` move payloads. It closes at the first message that is refused. */
 export class NoiseSocket {
-  #channel;
-  #transport;
+  #carrier;
+  #incoming;
+  #stream;
+  #receiving = new Waiting();
+  #sending = new Waiting();
+  #receives = new Turns();
+  #sends = new Turns();
+  #closing;
+  #isDestroyed = false;
 
-  constructor(channel, transport) {
-    this.#channel = channel;
-    this.#transport = transport;
-    this.hash = transport.hash;
-    this.remoteStatic = transport.remoteStatic;
+  constructor(carrier, incoming, stream) {
+    this.#carrier = carrier;
+    this.#incoming = incoming;
+    this.#stream = stream;
+    this.hash = stream.hash;
+    this.remoteStatic = stream.remoteStatic;
   }
 
   /**
    * Passes a handshake, without payloads, over a WebSocket, over `{readable, writable}`, or over a stream of Node. The options are those of
-   * Handshake, and `interval`, `judge` and `acceptAnyKey`. What a WebSocket got before this call isn't seen. Where it throws, the connection is closed.
+   * Handshake, and `interval`, `judge`, `acceptAnyKey`, `signal`, `handshakeLimit` and `backlog`. What a WebSocket got before this call isn't seen.
+   * Where it throws, the connection is destroyed.
    * `judge(remoteStatic)` is called once, as soon as the other party's static key is known, before anything else is sent or read. It has to return
    * true: otherwise `open` throws NOISE_REFUSED. Without `judge`, `remoteStatic` and secrets it throws NOISE_UNAUTHENTICATED, before anything is
-   * sent, unless `acceptAnyKey` is true.
+   * sent, unless `acceptAnyKey` is true. When `signal` aborts, it throws the signal's reason.
    */
-  static async open(carrier, options) {
-    const channel = over(carrier);
+  static async open(connection, options) {
+    const carrier = carrierOf(connection);
+    const waiting = new Waiting();
     let handshake;
+    let letGo;
     try {
-      const { interval = 0n, judge, acceptAnyKey, ...setup } = options;
+      const { interval = 0n, judge, acceptAnyKey, signal, handshakeLimit = 4096, backlog = 1 << 26, ...setup } = options;
       handshake = new Handshake(setup);
       const isJudged = hasToJudge(setup, judge, acceptAnyKey);
-      await channel.ready?.();
-      await pass(channel, handshake, isJudged ? judge : undefined);
-      return new NoiseSocket(channel, handshake.finish({ interval }));
+      letGo = endBy(signal, waiting);
+      await waiting.for(carrier.ready());
+      const incoming = new Incoming(() => carrier.pull());
+      await pass({ carrier, incoming, handshake, judge: isJudged ? judge : undefined, limit: handshakeLimit, waiting });
+      carrier.limit = backlog;
+      return new NoiseSocket(carrier, incoming, handshake.finishStream({ interval }));
     } catch (error) {
-      await channel.close();
+      waiting.end(error);
+      carrier.destroy(error);
       throw error;
     } finally {
+      letGo?.();
       handshake?.dispose();
     }
   }
 
-  /** Sends a payload of at most 65519 bytes. */
+  /** Throws NOISE_DISPOSED once the channel was closed, or refused something. */
+  #mustBeOpen() {
+    if (this.#receiving.isOver) throw new NoiseError(code.DISPOSED, { cause: this.#receiving.reason });
+  }
+
+  /** Ends all at once: whatever waits rejects, and the connection is destroyed. */
+  #fail(error) {
+    if (this.#isDestroyed) return;
+    this.#isDestroyed = true;
+    this.#receiving.end(error);
+    this.#sending.end(error);
+    this.#stream.dispose();
+    this.#carrier.destroy(error);
+  }
+
+  /** Sends a frame in its turn. After one that couldn't be sent, or a refusal, no other is. */
+  async #put(frame) {
+    const { reason, isOver } = this.#sending;
+    if (isOver) throw reason;
+    try {
+      await this.#sending.for(this.#carrier.write(frame));
+    } catch (error) {
+      this.#sending.end(error);
+      throw error;
+    }
+  }
+
+  /** Sends a payload of at most 65519 bytes, and waits until the connection has taken it. Of an empty one nothing is sent. */
   async send(payload) {
-    await this.#channel.send(this.#transport.seal(payload));
+    this.#mustBeOpen();
+    const frame = this.#stream.write(payload);
+    if (frame.length > 0) await this.#sends.take(() => this.#put(frame));
+  }
+
+  /** Ends what this party sends: the other party's `receive` gives undefined then. This party goes on to receive. */
+  async end() {
+    this.#mustBeOpen();
+    const frame = this.#stream.end();
+    await this.#sends.take(() => this.#put(frame));
   }
 
   /**
-   * The next payload, or undefined where the connection was closed between messages. A close isn't authenticated. Where it was cut inside a
-   * message, or a WebSocket without its closing frames, it throws NOISE_CLOSED.
+   * The next payload, or undefined once the other party has ended its stream, and all of it came. Where the connection has ended before that, it
+   * throws NOISE_CLOSED. Calls at once are served in order.
    */
   async receive() {
+    this.#mustBeOpen();
+    return this.#receives.take(() => this.#next());
+  }
+
+  async #next() {
+    if (this.#receiving.isOver) throw this.#receiving.reason;
     try {
-      const message = await this.#channel.take();
-      return message && this.#transport.open(message);
+      const found = await this.#receiving.for(this.#incoming.next((held, count) => this.#stream.read(held, count)));
+      if (!found && this.#stream.isCut(this.#incoming.left)) throw closed();
+      return found?.value;
     } catch (error) {
-      await this.close();
+      if (!this.#receiving.isOver) this.#fail(error);    // it isn't where this party closes
       throw error;
     }
   }
@@ -216,8 +173,36 @@ export class NoiseSocket {
     for (let payload; (payload = await this.receive()) !== undefined;) yield payload;
   }
 
-  async close() {
-    this.#transport.dispose();
-    await this.#channel.close();
+  /**
+   * Ends what this party sends, unless it is ended, and closes the connection once all is sent, or after `timeout` milliseconds. It never rejects:
+   * `end` does where the end can't be sent. What still comes is dropped, and calls that wait for a payload throw NOISE_DISPOSED.
+   */
+  close({ timeout = 5000 } = {}) {
+    this.#closing ??= this.#close(timeout);
+    return this.#closing;
+  }
+
+  async #close(timeout) {
+    if (this.#receiving.isOver) return;
+    let frame;
+    try {
+      frame = this.#stream.end();
+    } catch {
+      // It was ended before, or is of the party that sends nothing in a one-way pattern.
+    }
+    this.#receiving.end(new NoiseError(code.DISPOSED));
+    this.#stream.dispose();
+    this.#carrier.discard();
+    await within(timeout, this.#sends.take(async () => {
+      if (frame) await this.#put(frame);
+      await this.#carrier.close();
+    }));
+    this.#fail(closed());
+  }
+
+  /** Ends all at once, without an end of what this party sends: the other party sees a cut. After `close` it does nothing. */
+  destroy() {
+    this.#fail(new NoiseError(code.DISPOSED));
   }
 }
+if (Symbol.dispose) NoiseSocket.prototype[Symbol.dispose] = NoiseSocket.prototype.destroy;

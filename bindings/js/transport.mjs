@@ -1,9 +1,9 @@
-// What follows a handshake: a transport, for a stream, or datagrams, for a network that loses, repeats and reorders.
+// What follows a handshake: a transport, for messages in order, or datagrams, for a network that loses, repeats and reorders.
 import { NoiseError, code, library, must } from './module.mjs';
 import { bytesOf } from './bytes.mjs';
 
 /** What both have: two kept structs, the half that seals and the half that opens. */
-class Sealed {
+export class Sealed {
   #halves;
 
   constructor(halves, { hash, remoteStatic }) {

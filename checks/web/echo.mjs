@@ -37,19 +37,16 @@ async function connection() {
   return socket;
 }
 
-/** What comes until the other end says by an empty message that it is done. */
+/** What comes until the other end has ended its stream. */
 async function readAll(channel) {
   const parts = [];
-  for await (const payload of channel) {
-    if (payload.length === 0) return Buffer.concat(parts);
-    parts.push(payload);
-  }
-  throw new Error('the connection ended before the other end was done');
+  for await (const payload of channel) parts.push(payload);
+  return Buffer.concat(parts);
 }
 
 async function sendAll(channel, all) {
   for (let at = 0, size = 1; at < all.length; at += size, size = Math.min(size * 3, 65519)) await channel.send(all.subarray(at, at + size));
-  await channel.send(new Uint8Array(0));
+  await channel.end();
 }
 
 function secrets() {

@@ -32,6 +32,5 @@ const channel = await NoiseSocket.open(socket, {
 });
 await channel.send(bytes('hello from JavaScript'));
 assert.equal(new TextDecoder().decode(await channel.receive()).replace(/\0$/, ''), 'hello from JavaScript');
-await channel.send(new Uint8Array(0));  // the end of a stream, which the server waits for
-await channel.close();
+await channel.close();  // the server waits for the end
 console.log(`web: a channel by ${pattern} between JavaScript and the server of examples/programs/c`);

@@ -3,9 +3,9 @@ import { KeyPair, NoiseSocket, load, protocolName } from '../../bindings/js/nois
 
 export const OPTIONS = { pattern: protocolName('XXpsk3'), prologue: new TextEncoder().encode('sockets'), psks: [new Uint8Array(32).fill(7)], interval: 3 };
 
-/** What comes back of messages of several lengths. */
+/** What comes back of messages of several lengths, and after the end of them. */
 async function echo(channel) {
-  for (const length of [0, 1, 1000, 65519]) {
+  for (const length of [1, 1000, 65519]) {
     const sent = Uint8Array.from({ length }, (_, n) => n % 251);
     await channel.send(sent);
     const got = await channel.receive();
@@ -13,7 +13,9 @@ async function echo(channel) {
   }
   const refused = await channel.send(new Uint8Array(65520)).catch((error) => error.name);
   await channel.send(Uint8Array.of(1));
-  return `${refused}, and then ${await channel.receive()}`;
+  const back = await channel.receive();
+  await channel.end();
+  return `${refused}, ${back}, and then ${await channel.receive()}`;
 }
 
 /** What comes of a received message, and of a message that is sent afterwards. */

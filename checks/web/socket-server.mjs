@@ -13,18 +13,18 @@ const FAULTS = {
 
 /** What each path has to come to at the client. */
 export const EXPECTED = {
-  echo: 'NOISE_TOO_LONG, and then 1',
-  'echo-responder': 'NOISE_TOO_LONG, and then 1',
+  echo: 'NOISE_TOO_LONG, 1, and then undefined',
+  'echo-responder': 'NOISE_TOO_LONG, 1, and then undefined',
   'handshake-close': 'NOISE_CLOSED',
   'handshake-cut': 'NOISE_CLOSED',
   'handshake-text': 'NOISE_SHORT',
   'handshake-long': 'NOISE_LENGTH',
-  'handshake-longer': 'NOISE_TOO_LONG',
-  close: 'undefined',
+  'handshake-longer': 'NOISE_LENGTH',
+  close: 'NOISE_CLOSED, and then NOISE_DISPOSED',
   cut: 'NOISE_CLOSED, and then NOISE_DISPOSED',
   text: 'NOISE_SHORT, and then NOISE_DISPOSED',
   long: 'NOISE_LENGTH, and then NOISE_DISPOSED',
-  longer: 'NOISE_TOO_LONG, and then NOISE_DISPOSED',
+  longer: 'NOISE_LENGTH, and then NOISE_DISPOSED',
 };
 
 /** Takes the WebSockets of an HTTP server. `closed` counts those whose client has closed them. */
@@ -42,7 +42,10 @@ export async function takeChannels(server) {
     try {
       const channel = await NoiseSocket.open(socket, { ...OPTIONS, responder: path !== 'echo-responder', staticKey });
       if (FAULTS[path]) FAULTS[path](socket);
-      else for await (const payload of channel) await channel.send(payload);
+      else {
+        for await (const payload of channel) await channel.send(payload);
+        await channel.close();
+      }
     } catch (error) {
       told.failed.push(`${path}: ${error.stack}`);
     }

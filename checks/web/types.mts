@@ -29,4 +29,10 @@ console.log(layout('XX').messages[0].pieces[0].kind);
 const { readable, writable } = new TransformStream<Uint8Array, Uint8Array>();
 const channel = await NoiseSocket.open({ readable, writable }, { pattern: 'XX', judge: (key) => key.length === 32 });
 for await (const payload of channel) await channel.send(payload);
-await NoiseSocket.open(new WebSocket('wss://example.org/'), { pattern: 'NN', acceptAnyKey: true });
+await channel.end();
+await channel.close({ timeout: 100 });
+await NoiseSocket.open(new WebSocket('wss://example.org/'), {
+  pattern: 'NN', acceptAnyKey: true, signal: new AbortController().signal, handshakeLimit: 100, backlog: 1 << 20,
+});
+// @ts-expect-error: no such code
+console.log(code.CUTT);

@@ -1,51 +1,14 @@
 import test from 'node:test';
 import assert from 'node:assert/strict';
 import { once } from 'node:events';
-import { connect, createServer } from 'node:net';
-import { KeyPair, NoiseError, NoiseSocket, code, load, protocolName } from '../noise.mjs';
-
-const text = (s) => new TextEncoder().encode(s);
-const refused = (number) => (error) => error instanceof NoiseError && error.code === number;
-
-/** Both ends of a connection over TCP. */
-async function overTcp() {
-  const server = createServer().listen(0, '127.0.0.1');
-  await once(server, 'listening');
-  const here = connect(server.address().port, '127.0.0.1');
-  const [[there]] = await Promise.all([once(server, 'connection'), once(here, 'connect')]);
-  server.close();
-  return [here, there];
-}
-
-/** An address where nobody listens. */
-async function nobody() {
-  const server = createServer().listen(0, '127.0.0.1');
-  await once(server, 'listening');
-  const address = server.address();
-  server.close();
-  await once(server, 'close');
-  return address;
-}
-
-/** Both ends of a pair of WHATWG streams. */
-function pair() {
-  const [up, down] = [new TransformStream(), new TransformStream()];
-  return [{ readable: down.readable, writable: up.writable }, { readable: up.readable, writable: down.writable }];
-}
+import { connect } from 'node:net';
+import { KeyPair, NoiseSocket, code, load, protocolName } from '../noise.mjs';
+import { nobody, overTcp, pair, refused, sockets, text } from './connections.mjs';
 
 test('channels', async (t) => {
   await load();
   await t.test('a channel over a pair of sockets, one message a frame, and a text frame is refused', async () => {
-    /** What NoiseSocket uses of a WebSocket. */
-    class Socket extends EventTarget {
-      readyState = 0;
-      open() { this.readyState = 1; this.dispatchEvent(new Event('open')); }
-      send(data) { queueMicrotask(() => this.other.dispatchEvent(Object.assign(new Event('message'), { data: typeof data === 'string' ? data : data.slice().buffer }))); }
-      close() { for (const it of [this, this.other]) { it.readyState = 3; it.dispatchEvent(new Event('close')); } }
-    }
-    const [one, two] = [new Socket(), new Socket()];
-    Object.assign(one, { other: two });
-    Object.assign(two, { other: one });
+    const [one, two] = sockets();
     setTimeout(() => { one.open(); two.open(); }, 5);
     const pattern = protocolName('NN');
     const [a, b] = await Promise.all([NoiseSocket.open(one, { pattern, acceptAnyKey: true }), NoiseSocket.open(two, { pattern, responder: true, acceptAnyKey: true })]);
@@ -54,7 +17,7 @@ test('channels', async (t) => {
     assert.deepEqual(await b.receive(), text('hello'));
     two.send('a text');
     await assert.rejects(a.receive(), refused(code.SHORT));
-    assert.equal(await b.receive(), undefined);
+    await assert.rejects(b.receive(), refused(code.CLOSED));
     await assert.rejects(a.send(text('x')), refused(code.DISPOSED));
   });
 

@@ -15,18 +15,15 @@ const channel = await NoiseSocket.open(connect(4043, '127.0.0.1'), {
   prologue: new TextEncoder().encode('echo 1'),    // the same at both parties
   staticKey,
   judge: (remoteStatic) => server.equals(remoteStatic),
+  signal: AbortSignal.timeout(30000),
 });
 try {
   await channel.send(new TextEncoder().encode(text));    // at most 65519 bytes at once
-  await channel.send(new Uint8Array(0));    // the end of what the client sends
+  await channel.end();    // the client sends no more
   const parts = [];
-  for (;;) {
-    const payload = await channel.receive();
-    if (payload === undefined) throw new Error('the connection was cut, or the server refused this client');
-    if (payload.length === 0) break;    // the end of what the server sends
-    parts.push(payload);
-  }
+  for await (const payload of channel) parts.push(payload);    // until the server has ended its stream; a cut throws
   console.log(`client: the server says: ${Buffer.concat(parts)}`);
-} finally {
   await channel.close();
+} finally {
+  channel.destroy();
 }

@@ -15,15 +15,13 @@ async function serve(socket) {
     prologue: new TextEncoder().encode('echo 1'),
     staticKey,
     judge: (remoteStatic) => client.equals(remoteStatic),    // with many clients, whether their list has this key
+    signal: AbortSignal.timeout(30000),    // the handshake takes 30 seconds at most
   });
   try {
-    for await (const payload of channel) {
-      await channel.send(payload);
-      if (payload.length === 0) return;    // the client has ended its stream, and this ends the server's
-    }
-    throw new Error('the connection was cut');
+    for await (const payload of channel) await channel.send(payload);    // until the client has ended its stream
+    await channel.close();    // ends the server's
   } finally {
-    await channel.close();
+    channel.destroy();    // after an error: without the end, which would say that all was sent
   }
 }
 
