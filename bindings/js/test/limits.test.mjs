@@ -1,0 +1,178 @@
+// What a connection may take: time until it is open, and memory.
+import test from 'node:test';
+import assert from 'node:assert/strict';
+import { once } from 'node:events';
+import { KeyPair, NoiseSocket, code, load } from '../noise.mjs';
+import { NN, channels, openSockets, outcome, overTcp, pair, refused, sockets, text } from './connections.mjs';
+
+const EVENTS = ['message', 'close', 'open'];
+
+/** The first of two open sockets, whose other end counts what it is sent, and whose `bufferedAmount` only this test changes. */
+function slowSocket() {
+  const [near, far] = openSockets();
+  near.send = (data) => {
+    near.bufferedAmount += data.length;
+    queueMicrotask(() => far.take(data));
+  };
+  return [near, far];
+}
+
+test('limits', async (t) => {
+  await load();
+  await t.test('send on a WebSocket that isn’t open rejects', async () => {
+    for (const state of [0, 2, 3]) {
+      const [near, far] = openSockets();
+      const [a] = await channels([near, far]);
+      near.readyState = state;
+      await assert.rejects(a.send(text('x')), refused(code.CLOSED));
+      near.readyState = 1;
+      await assert.rejects(a.send(text('x')), refused(code.CLOSED));    // one is missing
+    }
+  });
+
+  await t.test('send waits where a WebSocket has more than 1 MiB unsent', async () => {
+    const [near, far] = slowSocket();
+    const [a, b] = await channels([near, far]);
+    near.bufferedAmount = 0;
+    const sends = Array.from({ length: 60 }, () => a.send(new Uint8Array(65519)));
+    let got = 0;
+    const reading = (async () => { for await (const { length } of b) got += length; })();
+    for (let round = 0; round < 6; round += 1) {
+      await new Promise((resolve) => { setTimeout(resolve, 30); });
+      assert.ok(near.bufferedAmount <= (1 << 20) + 65535, `${near.bufferedAmount} bytes`);
+      near.bufferedAmount = 0;
+    }
+    await Promise.all(sends);
+    assert.equal(await outcome(a.send(text('x'))), undefined);
+    near.bufferedAmount = 1 << 21;
+    const late = outcome(a.send(text('y')));
+    await new Promise((resolve) => { setTimeout(resolve, 30); });
+    near.readyState = 3;
+    assert.equal(await late, 'NOISE_CLOSED');    // it closed while send was waiting
+    const closed = near.close();
+    await assert.rejects(reading, refused(code.CLOSED));
+    await closed;
+    assert.equal(got, 60 * 65519 + 2);
+  });
+
+  await t.test('what a stranger sends until judge has answered is bounded, and the connection is closed', async () => {
+    const [near, far] = openSockets();
+    const staticKey = await KeyPair.generate();
+    let judged;
+    const isJudged = new Promise((resolve) => { judged = resolve; });
+    const judge = () => { judged(); return new Promise(() => {}); };
+    const opened = outcome(NoiseSocket.open(near, { pattern: 'XX', staticKey, responder: true, judge }), 5000);
+    const peer = NoiseSocket.open(far, { pattern: 'XX', staticKey, acceptAnyKey: true });
+    await Promise.all([isJudged, peer]);
+    const message = new Uint8Array(65519);
+    let count = 0;
+    while (near.listeners('message') > 0 && count < 1000) {
+      near.take(message);
+      count += 1;
+    }
+    assert.ok(count <= 17, `${count} messages`);
+    assert.deepEqual(EVENTS.map((it) => near.listeners(it)), [0, 0, 0]);
+    await once(near, 'close');
+    assert.equal(await Promise.race([opened, Promise.resolve('pending')]), 'pending');    // judge hasn't answered
+    const [here, there] = openSockets();
+    const refusal = outcome(NoiseSocket.open(here, { ...NN, responder: true }), 5000);
+    for (let n = 0; n < 1000; n += 1) here.take(message);
+    assert.match(await refusal, /^NOISE_(BACKLOG|TOO_LONG)$/u);
+    assert.deepEqual(EVENTS.map((it) => here.listeners(it)), [0, 0, 0]);
+    there.close();
+  });
+
+  await t.test('an open channel keeps what waits, up to its backlog', async () => {
+    const [near, far] = openSockets();
+    const [a, b] = await channels([near, far], NN, { ...NN, backlog: 100000 });
+    for (let n = 0; n < 60; n += 1) await a.send(new Uint8Array(1000).fill(n));
+    assert.deepEqual(await b.receive(), new Uint8Array(1000));
+    for (let n = 0; n < 60; n += 1) await a.send(new Uint8Array(1000)).catch(() => {});
+    await assert.rejects(b.receive(), refused(code.BACKLOG));
+    assert.deepEqual(EVENTS.map((it) => far.listeners(it)), [0, 0, 0]);
+  });
+
+  await t.test('after a refusal and after close no listener is left', async () => {
+    const [near, far] = openSockets();
+    const [a, b] = await channels([near, far]);
+    far.take(new Uint8Array(40));
+    await assert.rejects(b.receive(), refused(code.TAG));
+    assert.deepEqual(EVENTS.map((it) => far.listeners(it)), [0, 0, 0]);
+    await a.close();
+    assert.deepEqual(EVENTS.map((it) => near.listeners(it)), [0, 0, 0]);
+    const [here, there] = sockets();
+    const opened = NoiseSocket.open(here, { pattern: 'NN' });
+    await assert.rejects(opened, refused(code.UNAUTHENTICATED));
+    assert.deepEqual(EVENTS.map((it) => here.listeners(it)), [0, 0, 0]);
+    there.close();
+  });
+
+  for (const [kind, connect] of Object.entries({ TCP: overTcp, streams: pair, WebSocket: openSockets, 'a WebSocket that connects': sockets })) {
+    await t.test(`${kind}: a signal ends open, whatever it waits for`, async () => {
+      const [near, far] = await connect();
+      const reason = new Error('enough');
+      const controller = new AbortController();
+      const opening = NoiseSocket.open(near, { ...NN, responder: true, signal: controller.signal });
+      setTimeout(() => controller.abort(reason), 20);
+      await assert.rejects(opening, (error) => error === reason);
+      if (kind === 'TCP') {
+        assert.equal(near.destroyed, true);
+        far.destroy();
+      }
+      if (kind.includes('WebSocket')) assert.equal(near.listeners('message'), 0);
+      const [here] = await connect();
+      await assert.rejects(NoiseSocket.open(here, { ...NN, signal: AbortSignal.abort(reason) }), (error) => error === reason);
+      if (kind === 'TCP') assert.equal(here.destroyed, true);
+    });
+  }
+
+  await t.test('a signal ends a judge, a secret and a key that never answer, and one byte each 10 ms', async () => {
+    const [one, two] = [await KeyPair.generate(), await KeyPair.generate()];
+    const never = () => new Promise(() => {});
+    const hangs = [
+      { pattern: 'XX', staticKey: one, judge: never },
+      { pattern: 'XXpsk3', staticKey: one, pskFor: never },
+      { pattern: 'XX', staticKey: { publicKey: one.publicKey, agree: never }, acceptAnyKey: true },
+    ];
+    for (const options of hangs) {
+      const [near, far] = await overTcp();
+      const psks = options.pskFor ? [new Uint8Array(32)] : [];
+      const peer = outcome(NoiseSocket.open(far, { pattern: options.pattern, staticKey: two, psks, acceptAnyKey: true }).then((it) => it.receive()));
+      const opened = NoiseSocket.open(near, { ...options, responder: true, signal: AbortSignal.timeout(200) });
+      await assert.rejects(opened, { name: 'TimeoutError' });
+      assert.equal(near.destroyed, true);
+      assert.equal(await peer, 'NOISE_CLOSED');
+    }
+    const [near, far] = await overTcp();
+    far.on('error', () => {});
+    const timer = setInterval(() => far.write(Uint8Array.of(1)), 10);
+    await assert.rejects(NoiseSocket.open(near, { ...NN, responder: true, signal: AbortSignal.timeout(200) }), { name: 'TimeoutError' });
+    clearInterval(timer);
+    assert.equal(near.destroyed, true);
+    far.destroy();
+  });
+
+  await t.test('a signal that aborts later changes nothing', async () => {
+    const controller = new AbortController();
+    const [a, b] = await channels(await overTcp(), { ...NN, signal: controller.signal });
+    controller.abort();
+    await a.send(text('one'));
+    assert.deepEqual(await b.receive(), text('one'));
+    await Promise.all([a.close(), b.close()]);
+  });
+
+  await t.test('a handshake message has a limit, which is checked before it has come', async () => {
+    for (const [handshakeLimit, length, name] of [[undefined, 4097, 'NOISE_TOO_LONG'], [100, 101, 'NOISE_TOO_LONG'], [100, 100, 'pending'], [65535, 65535, 'pending']]) {
+      const [near, far] = await overTcp();
+      const opened = outcome(NoiseSocket.open(near, { ...NN, responder: true, handshakeLimit }), 200);
+      far.write(Uint8Array.of(length >> 8, length & 255));
+      assert.equal(await opened, name, `${handshakeLimit}, ${length}`);
+      assert.equal(near.destroyed, name !== 'pending');
+      near.destroy();
+      far.destroy();
+    }
+    const [near, far] = openSockets();
+    far.send(new Uint8Array(4097));
+    await assert.rejects(NoiseSocket.open(near, { ...NN, responder: true }), refused(code.TOO_LONG));
+  });
+});
