@@ -245,6 +245,41 @@ func TestCloseWhileACallRuns(t *testing.T) {
 	}
 }
 
+// TestTimeoutOfACall has such a function fail with a timeout of its own, which ends the handshake as any other error does.
+func TestTimeoutOfACall(t *testing.T) {
+	for name, both := range asking(t, func(context.Context) error { return os.ErrDeadlineExceeded }) {
+		c, s := connected(t, both[0], both[1])
+		go c.Handshake()
+		for i := 0; i < 2; i++ {
+			err := soon(t, name, s.Handshake)
+			var fault *HandshakeError
+			if !errors.As(err, &fault) || !errors.Is(err, os.ErrDeadlineExceeded) {
+				t.Errorf("%s: %v", name, err)
+			}
+		}
+		if _, err := s.conn.Write([]byte{0}); !errors.Is(err, net.ErrClosed) {
+			t.Errorf("%s: the connection below is open: %v", name, err)
+		}
+	}
+}
+
+// TestContextOfAMessage ends the context of a message.
+func TestContextOfAMessage(t *testing.T) {
+	client, server := configs(t, "IK")
+	a, err := NewHandshakeState(client, true)
+	must(t, err)
+	b, err := NewHandshakeState(server, false)
+	must(t, err)
+	ctx, cancel := context.WithCancel(context.Background())
+	message, err := a.WriteMessageContext(ctx, nil, nil)
+	must(t, err)
+	cancel()
+	_, err = b.ReadMessageContext(ctx, nil, message)
+	wants(t, err, context.Canceled)
+	_, err = b.ReadMessage(nil, message)
+	wants(t, err, ErrEnded)
+}
+
 // TestListenerGoesOn serves HTTP while VerifyPeer fails for one client, another is silent, and a third sends what is no handshake.
 func TestListenerGoesOn(t *testing.T) {
 	for _, pattern := range []string{"KK", "IK"} {

@@ -8,7 +8,7 @@ import (
 	"time"
 )
 
-// Config is what a party starts from. It may serve for many connections at once, and isn't changed.
+// Config is what a party starts from. It may serve for many connections at once; while one uses it, it must not be changed. The package doesn't change it.
 type Config struct {
 	// Pattern is a protocol name, as Noise_XX_25519_ChaChaPoly_SHA256; the name of a pattern alone, as XXpsk3; or the text of your own pattern,
 	// whose last byte is a line feed. "" is XX.

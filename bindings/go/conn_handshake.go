@@ -87,15 +87,8 @@ func (c *Conn) fail(err error) {
 // runUnder runs the handshake under a context that ends with ctx, at the time limit, and at Close. It also says whether an error is final.
 func (c *Conn) runUnder(ctx context.Context) (err error, isFinal bool) {
 	inner, cancel := context.WithCancel(ctx)
-	stopTimer := func() bool { return true }
-	if c.limit > 0 {
-		if c.mustEnd.IsZero() {
-			c.mustEnd = time.Now().Add(c.limit)
-		}
-		inner, cancel = context.WithDeadline(ctx, c.mustEnd)
-		stopTimer = time.AfterFunc(time.Until(c.mustEnd), func() { c.closeBelow() }).Stop
-	}
 	defer cancel()
+	inner, stopTimer := c.limited(inner)
 	c.cancelAtClose(cancel)
 	stop := c.closeAtEndOf(ctx)
 	if !c.closed.Load() {
@@ -113,6 +106,19 @@ func (c *Conn) runUnder(ctx context.Context) (err error, isFinal bool) {
 	}
 	mayContinue := isDeadline(err) && (c.handshake == nil || c.handshake.ended == nil)
 	return err, !mayContinue
+}
+
+// limited ends a context at the time limit, and closes the connection below then, until its second result is called. That reports whether it was in time.
+func (c *Conn) limited(ctx context.Context) (context.Context, func() bool) {
+	if c.limit <= 0 {
+		return ctx, func() bool { return true }
+	}
+	if c.mustEnd.IsZero() {
+		c.mustEnd = time.Now().Add(c.limit)
+	}
+	ctx, cancel := context.WithDeadline(ctx, c.mustEnd)
+	timer := time.AfterFunc(time.Until(c.mustEnd), func() { c.closeBelow() })
+	return ctx, func() bool { cancel(); return timer.Stop() }
 }
 
 func (c *Conn) cancelAtClose(cancel context.CancelFunc) {

@@ -8,6 +8,8 @@ import (
 	"io"
 	"log"
 	"net"
+	"strings"
+	"testing/iotest"
 	"time"
 
 	"example.org/noise"
@@ -74,6 +76,26 @@ func ExampleClient() {
 	state := conn.ConnectionState()
 	fmt.Println(string(text), err, state.HandshakeComplete, state.ProtocolName)
 	// Output: hello <nil> true Noise_NNpsk0_25519_ChaChaPoly_SHA256
+}
+
+// A stream whose source fails isn't whole, and the other party gets to know it.
+func ExampleConn_Abort() {
+	here, there := net.Pipe()
+	config := &noise.Config{Pattern: "NN", InsecureAcceptAnyKey: true}
+	go func() {
+		conn, err := noise.Server(there, config)
+		must(err)
+		defer conn.Close()                                                                        // after Abort it does nothing
+		source := io.MultiReader(strings.NewReader("a part"), iotest.ErrReader(io.ErrNoProgress)) // as a disk that fails
+		if _, err := io.Copy(conn, source); err != nil {
+			conn.Abort()
+		}
+	}()
+	conn, err := noise.Client(here, config)
+	must(err)
+	text, err := io.ReadAll(conn)
+	fmt.Println(string(text), errors.Is(err, noise.ErrCut))
+	// Output: a part true
 }
 
 // A dialer with a deadline for the connection and the handshake together.
