@@ -124,6 +124,43 @@ func TestDeadlineInTheHandshake(t *testing.T) {
 	}
 }
 
+// dripping writes byte by byte.
+type dripping struct{ net.Conn }
+
+func (d *dripping) Write(b []byte) (int, error) {
+	for i := range b {
+		time.Sleep(200 * time.Microsecond)
+		if n, err := d.Conn.Write(b[i : i+1]); err != nil {
+			return i + n, err
+		}
+	}
+	return len(b), nil
+}
+
+// TestDeadlinesInEachMessage lets deadlines of Read pass within the messages of a handshake, and of a stream.
+func TestDeadlinesInEachMessage(t *testing.T) {
+	client, server := configs(t, "XX")
+	a, b := tcp(t)
+	c, err := Client(&dripping{a}, client)
+	must(t, err)
+	s, err := Server(&dripping{b}, server)
+	must(t, err)
+	came := goes(func() error { _, err := c.Write([]byte("hello")); return err })
+	passed, room := 0, make([]byte, 5)
+	for n := 0; n < len(room); {
+		s.SetReadDeadline(time.Now().Add(time.Millisecond))
+		m, err := s.Read(room[n:])
+		if n += m; err != nil {
+			wants(t, err, os.ErrDeadlineExceeded)
+			passed++
+		}
+	}
+	must(t, <-came)
+	if string(room) != "hello" || passed < 10 {
+		t.Errorf("%q after %d deadlines", room, passed)
+	}
+}
+
 // TestWriteDeadline fills a connection until a deadline passes, in the handshake and after it: what Write says it has taken comes, once, and Close sends
 // no end unless a later Write has gone well.
 func TestWriteDeadline(t *testing.T) {
@@ -260,6 +297,26 @@ func TestTimeoutOfACall(t *testing.T) {
 		if _, err := s.conn.Write([]byte{0}); !errors.Is(err, net.ErrClosed) {
 			t.Errorf("%s: the connection below is open: %v", name, err)
 		}
+	}
+}
+
+// TestPanicOfVerifyPeer recovers, and goes on: the other party isn't accepted.
+func TestPanicOfVerifyPeer(t *testing.T) {
+	for _, pattern := range []string{"XX", "KK"} {
+		client, server := configs(t, pattern)
+		server.VerifyPeer = func(context.Context, [KeyLen]byte) error { panic("no database") }
+		c, s := connected(t, client, server)
+		go c.Handshake()
+		func() {
+			defer func() {
+				if recover() == nil {
+					t.Error("no panic")
+				}
+			}()
+			s.Handshake()
+		}()
+		_, err := s.Read(make([]byte, 1))
+		wants(t, err, ErrEnded)
 	}
 }
 

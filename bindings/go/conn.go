@@ -306,8 +306,8 @@ func (c *Conn) sendEnd() error {
 	return c.send(room, int(told.len))
 }
 
-// Close sends the end of the stream, closes the connection below, and overwrites the keys. It sends no end if the last Write has failed or is running,
-// or after what Conn says. If the stream isn't whole for another reason, call Abort.
+// Close sends the end of the stream, for which it waits at most 5 seconds, closes the connection below, and overwrites the keys. It sends no end if the
+// last Write has failed or is running, or after what Conn says. If the stream isn't whole for another reason, call Abort.
 func (c *Conn) Close() error {
 	if c.closed.Swap(true) {
 		return net.ErrClosed

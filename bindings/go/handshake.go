@@ -409,6 +409,12 @@ func (h *HandshakeState) read(ctx context.Context, received []byte) ([]byte, err
 
 // judge decides whether the other party's static key is accepted, which is known from a message, or from the start (-1).
 func (h *HandshakeState) judge(ctx context.Context, message int) error {
+	isAccepted := false
+	defer func() {
+		if !isAccepted { // also if VerifyPeer panics, and its caller goes on
+			h.Close()
+		}
+	}()
 	key := h.remote.s
 	if want := h.config.PeerStatic; want != nil && subtle.ConstantTimeCompare(want, key[:]) != 1 {
 		return h.endAt(message, -1, ErrPeerKey)
@@ -418,6 +424,7 @@ func (h *HandshakeState) judge(ctx context.Context, message int) error {
 			return h.endAt(message, -1, err)
 		}
 	}
+	isAccepted = true
 	return nil
 }
 
