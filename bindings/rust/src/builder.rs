@@ -1,7 +1,8 @@
 use crate::handshake::Options;
-use crate::header::{MAX_PSKS, OK};
+use crate::header::{MAX_PSKS, OK, STATIC_MISSING};
 use crate::raw::{self, Key, Setup};
 use crate::{Dh, Ephemeral, Error, Handshake, NoKey};
+use core::fmt;
 
 /// What a handshake starts from.
 ///
@@ -43,7 +44,7 @@ impl<'a> Builder<'a, NoKey> {
             psks: [None; MAX_PSKS],
             psk_count: 0,
             late_psks: false,
-            options: Options { interval: 0, max_message: 8192 },
+            options: Options { interval: 0, max_message: 8192, other_has_static: false },
         }
     }
 }
@@ -110,6 +111,9 @@ impl<'a, S: Dh> Builder<'a, S> {
         if self.psk_count > MAX_PSKS {
             return Err(Error::PskCount);
         }
+        if !raw::is_library() {
+            return Err(Error::Version);
+        }
         let ephemeral = E::draw().ok_or(Error::KeyPair)?;
         let mut psks = [[0; 32]; MAX_PSKS];
         for (place, psk) in psks.iter_mut().zip(self.psks.iter().flatten()) {
@@ -127,10 +131,36 @@ impl<'a, S: Dh> Builder<'a, S> {
         let mut memory = raw::Handshake::new();
         match start(&mut memory, self.pattern, self.prologue, &setup) {
             OK if memory.lacks_psk() != self.late_psks => Err(Error::PskCount),
-            OK => Ok(Handshake::begun(memory, self.static_key, ephemeral, self.options)),
+            OK => {
+                let options = Options { other_has_static: has_static(self.pattern, 1 - responder), ..self.options };
+                Ok(Handshake::begun(memory, self.static_key, ephemeral, options))
+            }
             code => Err(Error::of(code, None)),
         }
     }
+}
+
+impl<S: Dh> fmt::Debug for Builder<'_, S> {
+    fn fmt(&self, f: &mut fmt::Formatter<'_>) -> fmt::Result {
+        f.debug_struct("Builder")
+            .field("pattern", &self.pattern)
+            .field("remote_static", &self.remote_static)
+            .finish_non_exhaustive()
+    }
+}
+
+// Whether a party has a static key in the pattern: without one its setup lacks one.
+fn has_static(pattern: &str, responder: u8) -> bool {
+    let setup = Setup {
+        responder,
+        e: Key::of(Some([9; 32])),
+        s: Key::default(),
+        remote_e: Key::default(),
+        remote_s: Key::default(),
+        psk_count: 0,
+        psks: [[0; 32]; MAX_PSKS],
+    };
+    start(&mut raw::Handshake::new(), pattern, &[], &setup) == STATIC_MISSING
 }
 
 const SUITE: &[u8] = b"_25519_ChaChaPoly_SHA256";

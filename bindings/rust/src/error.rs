@@ -74,6 +74,8 @@ pub enum Error {
     Cut,
     /// This party has ended its stream, or the channel is over: a message was refused, or the connection was lost.
     Closed,
+    /// The linked library has another version or other sizes than this crate.
+    Version,
     /// A code that the library doesn't return to this crate.
     Library(u32),
 }
@@ -138,6 +140,7 @@ impl fmt::Display for Error {
             Error::Refused => "the other party's static key isn't accepted",
             Error::Cut => "the connection ended before the stream did",
             Error::Closed => "the stream was ended before, or the channel is over",
+            Error::Version => "the linked library has another version or other sizes than this crate",
             Error::Library(code) => return write!(f, "code {code} of the library"),
         };
         match self {
@@ -155,9 +158,17 @@ impl Error {
     fn kind(&self) -> std::io::ErrorKind {
         use std::io::ErrorKind;
         match self {
+            Error::Short { .. } | Error::Tag { .. } | Error::TooLong => ErrorKind::InvalidData,
+            Error::Reserved | Error::Old | Error::Repeated => ErrorKind::InvalidData,
+            Error::Name | Error::Pattern | Error::Window | Error::Room => ErrorKind::InvalidInput,
+            Error::StaticMissing | Error::RemoteMissing | Error::RemoteUnexpected => ErrorKind::InvalidInput,
+            Error::PskCount | Error::WantedPsk { .. } => ErrorKind::InvalidInput,
+            Error::NotYourTurn | Error::Done | Error::Ended | Error::NotDone => ErrorKind::InvalidInput,
+            Error::Refused => ErrorKind::PermissionDenied,
+            Error::OneWay | Error::Version => ErrorKind::Unsupported,
             Error::Cut => ErrorKind::UnexpectedEof,
             Error::Closed => ErrorKind::BrokenPipe,
-            _ => ErrorKind::InvalidData,
+            Error::Exhausted | Error::KeyPair | Error::Library(_) => ErrorKind::Other,
         }
     }
 }

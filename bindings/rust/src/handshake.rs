@@ -1,6 +1,7 @@
 use crate::header::{OK, WANTED, WANTED_PSK};
 use crate::raw::{self, Told};
 use crate::{Datagrams, Dh, Ephemeral, Error, Transport};
+use core::fmt;
 
 /// A handshake, message by message. The parties write in turn, the initiator first; `finish` or `finish_datagrams` uses it up.
 ///
@@ -36,6 +37,8 @@ pub(crate) struct Options {
     pub(crate) interval: u64,
     #[cfg_attr(not(feature = "std"), allow(dead_code))]
     pub(crate) max_message: usize,
+    #[cfg_attr(not(feature = "std"), allow(dead_code))]
+    pub(crate) other_has_static: bool,
 }
 
 impl<S: Dh, E: Ephemeral> Handshake<S, E> {
@@ -153,6 +156,12 @@ impl<S: Dh, E: Ephemeral> Handshake<S, E> {
         Transport::of(&self.memory, self.options.interval)
     }
 
+    // Whether the pattern has a static key of the other party.
+    #[cfg(feature = "std")]
+    pub(crate) fn other_has_static(&self) -> bool {
+        self.options.other_has_static
+    }
+
     // The most bytes that a `Stream` takes as a message of the handshake.
     #[cfg(feature = "std")]
     pub(crate) fn max_message(&self) -> usize {
@@ -172,6 +181,16 @@ impl<S: Dh, E: Ephemeral> Handshake<S, E> {
     /// greater: 64, 256 or 1024.
     pub fn finish_datagrams(self, window: u32) -> Result<Datagrams, Error> {
         Datagrams::of(&self.memory, window)
+    }
+}
+
+impl<S: Dh, E: Ephemeral> fmt::Debug for Handshake<S, E> {
+    fn fmt(&self, f: &mut fmt::Formatter<'_>) -> fmt::Result {
+        f.debug_struct("Handshake")
+            .field("is_done", &self.is_done())
+            .field("writes_next", &self.writes_next())
+            .field("remote_static", &self.remote_static())
+            .finish_non_exhaustive()
     }
 }
 

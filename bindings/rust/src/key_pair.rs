@@ -2,6 +2,7 @@
 use crate::{Dh, Ephemeral, Error};
 use openssl::derive::Deriver;
 use openssl::pkey::{Id, PKey, Private};
+use std::fmt;
 
 /// A key pair of X25519, by OpenSSL.
 ///
@@ -63,5 +64,11 @@ impl Dh for KeyPair {
 impl Ephemeral for KeyPair {
     fn draw() -> Option<KeyPair> {
         KeyPair::generate().ok()
+    }
+}
+
+impl fmt::Debug for KeyPair {
+    fn fmt(&self, f: &mut fmt::Formatter<'_>) -> fmt::Result {
+        f.debug_struct("KeyPair").field("public_key", &self.public).finish_non_exhaustive()
     }
 }

@@ -37,7 +37,7 @@
 //! # #[cfg(not(feature = "openssl"))] fn main() {}
 //! ```
 #![cfg_attr(not(feature = "std"), no_std)]
-#![deny(unsafe_op_in_unsafe_fn, missing_docs)]
+#![deny(unsafe_op_in_unsafe_fn, missing_docs, missing_debug_implementations)]
 
 mod builder;
 #[cfg(feature = "std")]

@@ -2,12 +2,14 @@
 //
 // Each call is sound since the types ensure what the header asks of a caller. Pointers come from references and slices: none is NULL, each leads to as
 // many bytes as its count says, and one that isn't const comes from `&mut`, so no other pointer leads there. The kept structs are aligned to 8
-// by their declaration. A kept struct that a call may change comes from `&mut`: no other thread has it. The call checks its content.
-use crate::header::{KEY_LEN, MAX_PSKS, OK, SIZE_OF_HANDSHAKE, SIZE_OF_RECEIVER, SIZE_OF_SENDER};
+// by their declaration, and their sizes are compared with the library's before the first is written (`is_library`). A kept struct that a call may
+// change comes from `&mut`: no other thread has it. Calls that take one as const may run at once, so `&` may be shared. The call checks its content.
+use crate::header::{KEY_LEN, MAX_PSKS, OK, ONE_WAY, SIZE_OF_HANDSHAKE, SIZE_OF_RECEIVER, SIZE_OF_SENDER, VERSION};
 use crate::header::{
     SIZE_OF_DATAGRAM_RECEIVER, SIZE_OF_DATAGRAM_SENDER, SIZE_OF_STREAM_RECEIVER, SIZE_OF_STREAM_SENDER,
 };
-use core::sync::atomic::{compiler_fence, Ordering};
+use core::mem::size_of;
+use core::sync::atomic::{compiler_fence, AtomicBool, Ordering};
 
 #[repr(C, align(8))]
 pub(crate) struct Handshake([u8; SIZE_OF_HANDSHAKE]);
@@ -72,6 +74,14 @@ pub(crate) struct Stage {
 }
 
 extern "C" {
+    fn noise_version() -> u32;
+    fn noise_handshake_size() -> usize;
+    fn noise_stream_sender_size() -> usize;
+    fn noise_stream_receiver_size() -> usize;
+    fn noise_sender_size() -> usize;
+    fn noise_receiver_size() -> usize;
+    fn noise_datagram_sender_size() -> usize;
+    fn noise_datagram_receiver_size() -> usize;
     fn noise_start(
         h: *mut Handshake,
         pattern: *const u8,
@@ -153,6 +163,34 @@ pub(crate) fn wipe(bytes: &mut [u8]) {
         unsafe { core::ptr::write_volatile(byte, 0) };
     }
     compiler_fence(Ordering::SeqCst);
+}
+
+static IS_LIBRARY: AtomicBool = AtomicBool::new(false);
+
+// Whether the linked library is one that this crate's constants are of: the same major version and no lower number, and
+// the same sizes. It is asked until it is so.
+pub(crate) fn is_library() -> bool {
+    if IS_LIBRARY.load(Ordering::Relaxed) {
+        return true;
+    }
+    // SAFETY: these take nothing.
+    let (version, sizes) = unsafe {
+        let handshake = noise_handshake_size();
+        let streams = [noise_stream_sender_size(), noise_stream_receiver_size()];
+        let messages = [noise_sender_size(), noise_receiver_size()];
+        let datagrams = [noise_datagram_sender_size(), noise_datagram_receiver_size()];
+        (noise_version(), (handshake, streams, messages, datagrams))
+    };
+    let expected = (
+        size_of::<Handshake>(),
+        [size_of::<StreamSender>(), size_of::<StreamReceiver>()],
+        [size_of::<Sender>(), size_of::<Receiver>()],
+        [size_of::<DatagramSender>(), size_of::<DatagramReceiver>()],
+    );
+    let own = VERSION[0] << 16 | VERSION[1] << 8 | VERSION[2];
+    let is = version >> 16 == VERSION[0] && version >= own && sizes == expected;
+    IS_LIBRARY.store(is, Ordering::Relaxed);
+    is
 }
 
 // Puts the length in front of a message that was written to buffer[2..].
@@ -275,6 +313,12 @@ impl StreamReceiver {
     pub(crate) fn read(&mut self, buffer: &mut [u8], told: &mut StreamTold) -> u32 {
         // SAFETY: see above.
         unsafe { noise_stream_read(self, buffer.as_mut_ptr(), buffer.len(), told) }
+    }
+
+    // Whether this is the direction of a one-way pattern in which nothing comes: a copy, which is dropped, says so of a
+    // frame.
+    pub(crate) fn is_silent(&self) -> bool {
+        StreamReceiver(self.0).read(&mut [0; 2], &mut StreamTold::default()) == ONE_WAY
     }
 
     pub(crate) fn is_cut(&self, left: usize) -> u32 {

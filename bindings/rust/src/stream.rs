@@ -7,6 +7,7 @@ pub use handshake::{HandshakeError, MidHandshake};
 use crate::{Dh, Ephemeral, Error, Handshake};
 use handshake::Peer;
 use reading::Reading;
+use std::fmt;
 use std::io::{self, ErrorKind, Read, Write};
 use std::sync::atomic::{AtomicBool, Ordering};
 use std::sync::Arc;
@@ -74,8 +75,8 @@ fn again(error: &io::Error) -> io::Error {
 
 impl<T: Read + Write> Stream<T> {
     /// Runs the handshake over `below`, with empty payloads. `accept` is called with the other party's static key as
-    /// soon as that is known, before anything else is read or written. A handshake without such a key, as by the
-    /// pattern NN, is refused: see `anonymous`.
+    /// soon as that is known, before anything else is read or written. A pattern without such a key, as NN, is refused
+    /// before anything is sent: see `anonymous`.
     pub fn new<S: Dh, E: Ephemeral>(
         below: T,
         handshake: Handshake<S, E>,
@@ -140,11 +141,6 @@ impl<T> Stream<T> {
     /// The other party's static key; `None` if the handshake has none.
     pub fn remote_static(&self) -> Option<&[u8; 32]> {
         self.remote_static.as_ref()
-    }
-
-    /// The stream below. To read from it or write to it breaks the channel.
-    pub fn get_ref(&self) -> &T {
-        &self.below
     }
 
     // The same channel over what `map` makes of the stream below.
@@ -227,3 +223,35 @@ impl<T: Write> Write for WriteHalf<T> {
         self.writing.flush(&mut self.below)
     }
 }
+
+macro_rules! over {
+    ($stream:ident) => {
+        impl<T> $stream<T> {
+            /// The stream below. To read from it or write to it breaks the channel.
+            pub fn get_ref(&self) -> &T {
+                &self.below
+            }
+
+            /// The stream below, as to change its settings. To read from it or write to it breaks the channel.
+            pub fn get_mut(&mut self) -> &mut T {
+                &mut self.below
+            }
+
+            /// The stream below, without the channel: of what comes over it nothing is taken but the frames that were
+            /// read. A part of a frame that has come, or that is kept to be sent, is lost.
+            pub fn into_inner(self) -> T {
+                self.below
+            }
+        }
+
+        impl<T: fmt::Debug> fmt::Debug for $stream<T> {
+            fn fmt(&self, f: &mut fmt::Formatter<'_>) -> fmt::Result {
+                f.debug_struct(stringify!($stream)).field("below", &self.below).finish_non_exhaustive()
+            }
+        }
+    };
+}
+
+over!(Stream);
+over!(ReadHalf);
+over!(WriteHalf);

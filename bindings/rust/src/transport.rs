@@ -1,6 +1,7 @@
 use crate::header::OK;
 use crate::raw::{self, Told};
 use crate::Error;
+use core::fmt;
 
 /// Seals transport messages. They have to arrive in the order in which they were sealed.
 pub struct Sender {
@@ -36,6 +37,7 @@ pub struct Receiver {
 /// assert_eq!(server.open(&mut message[..len])?, b"hello");
 /// # Ok(()) }
 /// ```
+#[derive(Debug)]
 pub struct Transport {
     sender: Sender,
     receiver: Receiver,
@@ -69,6 +71,7 @@ pub struct DatagramReceiver(raw::DatagramReceiver);
 /// assert_eq!(server.open(&mut datagram), Err(Error::Repeated));
 /// # Ok(()) }
 /// ```
+#[derive(Debug)]
 pub struct Datagrams {
     sender: DatagramSender,
     receiver: DatagramReceiver,
@@ -182,5 +185,29 @@ impl Datagrams {
     /// The two directions, for two threads.
     pub fn split(self) -> (DatagramSender, DatagramReceiver) {
         (self.sender, self.receiver)
+    }
+}
+
+impl fmt::Debug for Sender {
+    fn fmt(&self, f: &mut fmt::Formatter<'_>) -> fmt::Result {
+        f.debug_struct("Sender").field("nonce", &self.nonce).finish_non_exhaustive()
+    }
+}
+
+impl fmt::Debug for Receiver {
+    fn fmt(&self, f: &mut fmt::Formatter<'_>) -> fmt::Result {
+        f.debug_struct("Receiver").field("nonce", &self.nonce).finish_non_exhaustive()
+    }
+}
+
+impl fmt::Debug for DatagramSender {
+    fn fmt(&self, f: &mut fmt::Formatter<'_>) -> fmt::Result {
+        f.debug_struct("DatagramSender").finish_non_exhaustive()
+    }
+}
+
+impl fmt::Debug for DatagramReceiver {
+    fn fmt(&self, f: &mut fmt::Formatter<'_>) -> fmt::Result {
+        f.debug_struct("DatagramReceiver").finish_non_exhaustive()
     }
 }

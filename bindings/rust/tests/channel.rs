@@ -168,6 +168,92 @@ fn ends_of_a_stream() {
     assert_eq!(client.write(b"x").unwrap_err().kind(), ErrorKind::BrokenPipe);
 }
 
+// `Stream::new` refuses a pattern by which the other party has no static key, before it reads or sends a byte.
+#[test]
+fn a_pattern_without_a_key_to_judge_is_refused_at_once() {
+    for pattern in patterns() {
+        let ((client, server), finished) = (begun(&pattern), done(&pattern));
+        for (party, finished) in [(client, finished.0), (server, finished.1)] {
+            let error = Stream::new(Script(&[]), party, |_| true).err().map(io::Error::from); // none where it only writes
+            let refused = error.map_or(false, |error| error.kind() == ErrorKind::PermissionDenied);
+            assert_eq!(refused, finished.remote_static().is_none(), "{pattern}");
+        }
+    }
+    let own = "XX1:\n  -> e\n  <- e, ee, s, es\n  -> s, se\n";
+    let party = Builder::new(own).static_key(Toy(3)).initiator::<Toy>().unwrap();
+    assert_eq!(inner(Stream::new(Script(&[]), party, |_| true)), Error::Cut);
+    let own = "NX1:\n  -> e\n  <- e, ee, s, es\n";
+    let party = Builder::new(own).static_key(Toy(3)).responder::<Toy>().unwrap();
+    assert_eq!(inner(Stream::new(Closed, party, |_| true)), Error::Refused);
+}
+
+// A stream that nobody may read or write.
+struct Closed;
+
+impl Read for Closed {
+    fn read(&mut self, _: &mut [u8]) -> io::Result<usize> {
+        panic!("a read")
+    }
+}
+
+impl Write for Closed {
+    fn write(&mut self, _: &[u8]) -> io::Result<usize> {
+        panic!("a write")
+    }
+
+    fn flush(&mut self) -> io::Result<()> {
+        panic!("a flush")
+    }
+}
+
+#[test]
+fn the_silent_direction_of_a_one_way_pattern() {
+    let ((a, b), (client, server)) = (tcp(), begun("X"));
+    let (mut client, mut server) = (Stream::anonymous(a, client).unwrap(), Stream::anonymous(b, server).unwrap());
+    let one_way = |result: io::Result<usize>| assert_eq!(result.unwrap_err().kind(), ErrorKind::Unsupported);
+    one_way(client.read(&mut [0]));
+    one_way(server.write(b"x"));
+    client.write_all(b"hello").and_then(|_| client.close_write()).unwrap();
+    let mut text = String::new();
+    server.read_to_string(&mut text).unwrap();
+    assert_eq!(text, "hello");
+    one_way(client.read(&mut [0]));
+}
+
+#[test]
+fn kinds_of_errors() {
+    let kind = |error: Error| io::Error::from(error).kind();
+    assert_eq!(kind(Error::Refused), ErrorKind::PermissionDenied);
+    assert_eq!(kind(Error::StaticMissing), ErrorKind::InvalidInput);
+    assert_eq!(kind(Error::Tag { token: Some(1) }), ErrorKind::InvalidData);
+    assert_eq!(kind(Error::Cut), ErrorKind::UnexpectedEof);
+    assert_eq!(kind(Error::KeyPair), ErrorKind::Other);
+    // The error of the library is the cause, also of an error that is returned again.
+    let (client, mut server) = streams();
+    drop(client.into_inner());
+    for _ in 0..2 {
+        let error = server.read(&mut [0]).unwrap_err();
+        assert_eq!(error.get_ref().unwrap().downcast_ref::<Error>(), Some(&Error::Cut));
+    }
+}
+
+#[test]
+fn debug_text_has_no_secret() {
+    fn must_be_shared<T: Send + Sync>(_: &T) {}
+    let builder = Builder::new("XXpsk3").static_key(Toy(3)).psk(&PSK);
+    let text = format!("{builder:?}");
+    must_be_shared(&builder);
+    let ((client, _), (finished, datagrams), (stream, _)) = (begun("XXpsk3"), done("XXpsk3"), streams());
+    let (transport, datagrams) = (finished.finish().unwrap(), datagrams.finish_datagrams(64).unwrap());
+    must_be_shared(&client);
+    must_be_shared(&stream);
+    let text = format!("{text} {client:?} {transport:?} {datagrams:?} {stream:?}");
+    let (reads, writes) = stream.split(TcpStream::try_clone).unwrap();
+    let text = format!("{text} {reads:?} {writes:?}");
+    assert!(text.contains("XXpsk3") && text.contains("WriteHalf { below: TcpStream") && !text.contains("7, 7, 7"));
+    assert!(text.len() < 2000, "{text}");
+}
+
 // After a refused message and after a cut, whichever half it is that reads, nothing more is sent.
 #[test]
 fn nothing_is_sent_after_a_refusal_or_a_cut() {

@@ -74,6 +74,9 @@ impl<T: Read + Write, S: Dh, E: Ephemeral> MidHandshake<T, S, E> {
         if handshake.lacks_psk() != (peer == Peer::Chosen) {
             return Err(Error::PskCount.into());
         }
+        if peer == Peer::Judged && !handshake.other_has_static() {
+            return Err(Error::Refused.into());
+        }
         Ok(MidHandshake(Box::new(Passing {
             below,
             handshake,

@@ -68,12 +68,14 @@ pub(super) struct Reading {
     opened: Range<usize>, // what of the first frame is opened, and not read yet
     used: usize,          // how many bytes that frame has
     failure: Option<io::Error>,
+    is_silent: bool,
     over: Over,
 }
 
 impl Reading {
     pub(super) fn new(receiver: StreamReceiver, incoming: Incoming, over: Over) -> Reading {
-        Reading { receiver, incoming, opened: 0..0, used: 0, failure: None, over }
+        let is_silent = receiver.is_silent();
+        Reading { receiver, incoming, opened: 0..0, used: 0, failure: None, is_silent, over }
     }
 
     pub(super) fn read(&mut self, below: &mut impl Read, into: &mut [u8]) -> io::Result<usize> {
@@ -91,6 +93,9 @@ impl Reading {
     fn open(&mut self, below: &mut impl Read) -> io::Result<bool> {
         if let Some(failure) = &self.failure {
             return Err(again(failure));
+        }
+        if self.is_silent {
+            return Err(Error::OneWay.into());
         }
         self.incoming.remove(take(&mut self.used));
         let mut told = StreamTold::default();
