@@ -11,6 +11,7 @@ import (
 	"net/http"
 	"os"
 	"strings"
+	"syscall"
 	"testing"
 	"time"
 )
@@ -451,6 +452,23 @@ func TestNothingAfterClose(t *testing.T) {
 		_, err = c.Write(nil)
 		wants(t, err, net.ErrClosed)
 	}
+}
+
+// TestReset loses the connection with an error of the system.
+func TestReset(t *testing.T) {
+	client, server := configs(t, "XX")
+	c, s := connected(t, client, server)
+	errC, errS := both(c, s)
+	must(t, errC, errS)
+	must(t, c.conn.(*net.TCPConn).SetLinger(0), c.conn.Close())
+	for i := 0; i < 2; i++ {
+		_, err := s.Read(make([]byte, 1))
+		wants(t, err, ErrCut)
+		wants(t, err, syscall.ECONNRESET)
+	}
+	_, err := s.Write([]byte("x"))
+	wants(t, err, ErrCut)
+	must(t, s.Close())
 }
 
 func TestAbort(t *testing.T) {

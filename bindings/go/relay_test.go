@@ -29,6 +29,7 @@ type relayed struct {
 // report is what one end has read and written.
 type report struct {
 	got                     []byte
+	isShaken                bool  // its handshake was done
 	err                     error // of Read: io.EOF at an end
 	ended                   bool  // it has written all of its texts, and calls CloseWrite or Close with nothing wrong
 	afterRead, afterClosing error // of Write after Read has failed
@@ -114,6 +115,8 @@ func (it *relayed) judge(i int, own, other *report, sent [2]int) string {
 		return "an end of what was damaged"
 	case own.err != io.EOF && it.direction < 0:
 		return "an error without a fault"
+	case own.err != io.EOF && own.isShaken && it.direction == i && !errors.Is(own.err, ErrCut):
+		return "another error than ErrCut, and what it reads isn't damaged"
 	case own.err != io.EOF && own.afterRead == nil:
 		return "a Write after a refused message"
 	case !errors.Is(own.afterClosing, net.ErrClosed):
@@ -156,6 +159,7 @@ func end(it *relayed, c *Conn, i int) (r report) {
 	if it.waits == i {
 		r.ended = <-wrote && r.err == io.EOF // by defer
 	}
+	r.isShaken = c.ConnectionState().HandshakeComplete
 	if r.err != io.EOF {
 		_, r.afterRead = c.Write([]byte("more"))
 	}
