@@ -1,5 +1,5 @@
 use crate::stream::is_wait;
-use crate::Stream;
+use crate::{Error, Stream};
 use std::io::{self, ErrorKind, Read, Write};
 use std::net::TcpStream;
 use std::time::{Duration, Instant};
@@ -43,7 +43,8 @@ timeouts!(TcpStream);
 timeouts!(std::os::unix::net::UnixStream);
 
 /// A stream with a deadline for all that is read and written: for a whole handshake, whatever the other party sends and
-/// however slowly. Then `read` and `write` return `TimedOut`. Timeouts that the stream below has hold as well.
+/// however slowly. Past it `read` and `write` return `TimedOut`, with [`Error::Deadline`], and the handshake has failed.
+/// Timeouts that the stream below has hold as well.
 ///
 #[cfg_attr(feature = "openssl", doc = "```")]
 #[cfg_attr(not(feature = "openssl"), doc = "```ignore")]
@@ -94,17 +95,17 @@ impl<T: Timeouts> Deadline<T> {
     // How long a call may take whose own limit is this one.
     fn time(&self, own: Option<Duration>) -> io::Result<Option<Duration>> {
         match self.until.saturating_duration_since(Instant::now()) {
-            Duration::ZERO => Err(self.error()),
+            Duration::ZERO => Err(Error::Deadline.into()),
             left => Ok(Some(own.map_or(left, |own| own.min(left)))),
         }
     }
 
-    fn error(&self) -> io::Error {
-        io::Error::new(ErrorKind::TimedOut, "the deadline has passed")
-    }
-
+    // After the deadline a wait of the stream below is final.
     fn judge<R>(&self, answer: io::Result<R>) -> io::Result<R> {
-        answer.map_err(|error| if is_wait(&error) && Instant::now() >= self.until { self.error() } else { error })
+        match answer {
+            Err(error) if is_wait(&error) && Instant::now() >= self.until => Err(Error::Deadline.into()),
+            answer => answer,
+        }
     }
 }
 

@@ -74,6 +74,8 @@ pub enum Error {
     Cut,
     /// This party has ended its stream, or the channel is over: a message was refused, or the connection was lost.
     Closed,
+    /// The time of a `Deadline` has passed: the handshake has failed.
+    Deadline,
     /// The linked library has another version or other sizes than this crate.
     Version,
     /// A code that the library doesn't return to this crate.
@@ -140,6 +142,7 @@ impl fmt::Display for Error {
             Error::Refused => "the other party's static key isn't accepted",
             Error::Cut => "the connection ended before the stream did",
             Error::Closed => "the stream was ended before, or the channel is over",
+            Error::Deadline => "the deadline has passed",
             Error::Version => "the linked library has another version or other sizes than this crate",
             Error::Library(code) => return write!(f, "code {code} of the library"),
         };
@@ -167,6 +170,7 @@ impl Error {
             Error::Refused => ErrorKind::PermissionDenied,
             Error::OneWay | Error::Version => ErrorKind::Unsupported,
             Error::Cut => ErrorKind::UnexpectedEof,
+            Error::Deadline => ErrorKind::TimedOut,
             Error::Closed => ErrorKind::BrokenPipe,
             Error::Exhausted | Error::KeyPair | Error::Library(_) => ErrorKind::Other,
         }

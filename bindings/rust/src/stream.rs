@@ -19,7 +19,8 @@ use writing::Writing;
 /// `close_write` sends the end of this party's stream. `read` returns `Ok(0)` where the other party has sent its end, and
 /// then all that it has written before was read; a connection that ends without it is `UnexpectedEof`. A refused message
 /// and a lost connection end the channel: each later `read` returns the same error, and nothing more is sent, also not
-/// the end of this party's stream. Drop the channel then; what is dropped without `close_write` is cut.
+/// the end of this party's stream; a `write` of the other half that runs at that time may still send its frame. Drop the
+/// channel then; what is dropped without `close_write` is cut.
 ///
 /// A stream below that doesn't block, or that has timeouts, may return `WouldBlock` or `TimedOut`. `read`, `flush` and
 /// `close_write` return the same then, and a later call continues. A `write` that takes bytes seals them, and what of
@@ -59,14 +60,19 @@ impl Over {
     }
 }
 
-// Whether the stream below has to be waited for.
+// The error of this crate in an `io::Error`.
+fn own(error: &io::Error) -> Option<&Error> {
+    error.get_ref().and_then(|inner| inner.downcast_ref())
+}
+
+// Whether the stream below has to be waited for. A deadline that has passed is final.
 pub(crate) fn is_wait(error: &io::Error) -> bool {
-    matches!(error.kind(), ErrorKind::WouldBlock | ErrorKind::TimedOut)
+    matches!(error.kind(), ErrorKind::WouldBlock | ErrorKind::TimedOut) && own(error).is_none()
 }
 
 // The same error once more.
 fn again(error: &io::Error) -> io::Error {
-    match (error.raw_os_error(), error.get_ref().and_then(|inner| inner.downcast_ref::<Error>())) {
+    match (error.raw_os_error(), own(error)) {
         (Some(code), _) => io::Error::from_raw_os_error(code),
         (None, Some(own)) => io::Error::new(error.kind(), *own),
         (None, None) => io::Error::new(error.kind(), error.to_string()),

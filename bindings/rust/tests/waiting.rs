@@ -3,7 +3,7 @@ use std::io::{self, ErrorKind, Read, Write};
 use std::net::TcpStream;
 use std::time::{Duration, Instant};
 use toy::{begun, streams, tcp, Toy};
-use yulimosar::{Deadline, HandshakeError, Stream};
+use yulimosar::{Deadline, Error, HandshakeError, Stream};
 
 mod toy;
 
@@ -130,7 +130,7 @@ fn a_handshake_continues_where_it_was_interrupted() {
 #[test]
 fn two_bytes_take_no_memory() {
     let error = resume(Slow::new(&[0xff, 0xff]), 200).err().map(io::Error::from).unwrap();
-    assert_eq!(error.to_string(), yulimosar::Error::TooLong.to_string());
+    assert_eq!(error.to_string(), Error::TooLong.to_string());
     // Of a message that isn't too long, and of a frame after the handshake, the buffer has little more than what came.
     match resume(Slow::new(&[0x20, 0x00]), 200) {
         Err(HandshakeError::Interrupted(it)) => assert!(it.get_ref().most <= 1024),
@@ -209,11 +209,30 @@ fn a_handshake_has_a_deadline() {
         });
         let (begin, time) = (Instant::now(), Duration::from_millis(100));
         let below = Deadline::after(server, time).unwrap();
-        let error = Stream::new(below, begun("XX").1, |_| true).err().map(io::Error::from).unwrap();
-        assert_eq!(error.kind(), ErrorKind::TimedOut);
+        match Stream::new(below, begun("XX").1, |_| true) {
+            Err(HandshakeError::Failed(error)) => assert_eq!(error.kind(), ErrorKind::TimedOut),
+            other => panic!("{:?}", other.err()),
+        }
         assert!(begin.elapsed() >= time && begin.elapsed() < 50 * time);
         trickle.join().unwrap();
     }
+}
+
+// A nonblocking handshake that is resumed for ever ends at the deadline.
+#[test]
+fn a_nonblocking_handshake_has_a_deadline() {
+    let (_client, server) = tcp();
+    server.set_nonblocking(true).unwrap();
+    let below = Deadline::after(server, Duration::from_millis(50)).unwrap();
+    let mut passed = Stream::new(below, begun("XX").1, |_| true);
+    let error = loop {
+        passed = match passed {
+            Err(HandshakeError::Interrupted(it)) => it.resume(|_| true),
+            Err(HandshakeError::Failed(error)) => break error,
+            other => panic!("{:?}", other.err()),
+        };
+    };
+    assert_eq!(*error.get_ref().unwrap().downcast_ref::<Error>().unwrap(), Error::Deadline);
 }
 
 #[test]
