@@ -1,5 +1,5 @@
 // A handshake of one party.
-import { NoiseError, code, library, must } from './module.mjs';
+import { NoiseError, code, freeLater, letGo, library, must } from './module.mjs';
 import { bytesOf, copyOf } from './bytes.mjs';
 import { KeyPair } from './keys.mjs';
 import { protocolName } from './patterns.mjs';
@@ -62,6 +62,7 @@ export class Handshake {
       remoteStatic: key(remoteStatic, 'remoteStatic'), remoteEphemeral: key(remoteEphemeral, 'remoteEphemeral'),
     };
     this.#place = library().take('handshake');
+    freeLater(this, [['handshake', this.#place]]);
     try {
       this.#start(PLACEHOLDER);
       if (this.#lacksPsk() !== (pskFor !== undefined)) throw new NoiseError(code.PSK_COUNT);
@@ -254,6 +255,7 @@ export class Handshake {
   /** Overwrites the struct and the secrets, and gives its place back. A used-up handshake throws NOISE_DISPOSED. */
   dispose() {
     if (this.#place === undefined) return;
+    letGo(this);
     library().free('handshake', this.#place);
     this.#place = undefined;
     for (const psk of this.#options.psks) psk.fill(0);

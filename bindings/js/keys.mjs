@@ -18,7 +18,9 @@ async function agreed(secret, remote) {
 export class KeyPair {
   #secret;
 
+  /** @private */
   constructor(secret, publicKey) {
+    if (secret?.type !== 'private') throw new TypeError('a key pair is made by generate, from or fromSecret');
     this.#secret = secret;
     this.publicKey = publicKey;
     Object.freeze(this);

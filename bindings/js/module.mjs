@@ -211,6 +211,17 @@ export function library() {
   return loaded;
 }
 
+const forgotten = new FinalizationRegistry((kept) => { for (const [kind, place] of kept) loaded.free(kind, place); });
+
+/** Frees places, each with its kind, once nobody has an object any more, unless it lets go of them before. */
+export function freeLater(object, kept) {
+  forgotten.register(object, kept, object);
+}
+
+export function letGo(object) {
+  forgotten.unregister(object);
+}
+
 async function instanceOf(source) {
   if (source instanceof ArrayBuffer || ArrayBuffer.isView(source)) return WebAssembly.instantiate(source, {});
   const url = new URL(source, import.meta.url);

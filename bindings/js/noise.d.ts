@@ -79,6 +79,7 @@ export interface DH {
 }
 /** A key pair of WebCrypto, whose private key isn't extractable. */
 export class KeyPair implements DH {
+  private constructor();
   static generate(): Promise<KeyPair>;
   static from(pair: CryptoKeyPair): Promise<KeyPair>;
   /** The pair of a secret key of 32 bytes, from a file for example. The bytes stay the caller's to overwrite. */

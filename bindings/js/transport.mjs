@@ -1,5 +1,5 @@
 // What follows a handshake: a transport, for messages in order, or datagrams, for a network that loses, repeats and reorders.
-import { NoiseError, code, library, must } from './module.mjs';
+import { NoiseError, code, freeLater, letGo, library, must } from './module.mjs';
 import { bytesOf } from './bytes.mjs';
 
 /** What both have: two kept structs, the half that seals and the half that opens. */
@@ -10,6 +10,7 @@ export class Sealed {
     this.#halves = halves;
     this.hash = hash;
     this.remoteStatic = remoteStatic;
+    freeLater(this, this.constructor.kinds.map((kind, n) => [kind, halves[n]]));
   }
 
   /** The places of the half that seals and of the half that opens. @protected */
@@ -21,6 +22,7 @@ export class Sealed {
   /** Hands the halves over to another object: this one is used up. @protected */
   handOver() {
     const { halves } = this;
+    letGo(this);
     this.#halves = undefined;
     return halves;
   }
@@ -50,6 +52,7 @@ export class Sealed {
   /** Overwrites the structs, and gives their places back. */
   dispose() {
     if (this.#halves === undefined) return;
+    letGo(this);
     this.constructor.kinds.forEach((kind, n) => library().free(kind, this.#halves[n]));
     this.#halves = undefined;
   }
