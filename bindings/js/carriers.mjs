@@ -4,7 +4,8 @@
 //   pull()           the next bytes that came, or undefined where the connection has ended;
 //   discard()        drops what comes from now on, so that the other party isn't kept from reading;
 //   close()          closes it, once all is sent that was written;
-//   destroy(reason)  ends it at once: what isn't sent yet is dropped, and no listener stays.
+//   destroy(reason)  ends it at once: what isn't sent yet is dropped, and no listener stays;
+// and a WebSocket calls `overflowed`, where one was set, with the error by which it has destroyed itself.
 import { NoiseError, code } from './module.mjs';
 import { frameOf, messageOf } from './stream.mjs';
 import { pause } from './waiting.mjs';
@@ -21,6 +22,7 @@ const EARLY = 1 << 20;
 /** The messages of a WebSocket that weren't pulled yet, at most `limit` bytes: at more it is over, by NOISE_BACKLOG. */
 class Backlog {
   #messages = [];
+  #first = 0;    // of those that weren't pulled
   #size = 0;
   #waiting = [];
   #end;
@@ -41,17 +43,26 @@ class Backlog {
 
   /** What came before is still pulled, unless it is dropped. */
   end(error, isDropped) {
-    if (isDropped) this.#messages = [];
+    if (isDropped) [this.#messages, this.#first] = [[], 0];
     this.#end ??= { error };
     for (const { resolve, reject } of this.#waiting.splice(0)) if (error) reject(error); else resolve(undefined);
   }
 
-  async pull() {
-    if (this.#messages.length > 0) {
-      const message = this.#messages.shift();
-      this.#size -= message.length + EACH;
-      return message;
+  /** The first message. Those that were pulled are dropped many at a time: to move the others for each would take time by its square. */
+  #next() {
+    const message = this.#messages[this.#first];
+    this.#messages[this.#first] = undefined;
+    this.#first += 1;
+    if (this.#first * 2 >= this.#messages.length) {
+      this.#messages.splice(0, this.#first);
+      this.#first = 0;
     }
+    this.#size -= message.length + EACH;
+    return message;
+  }
+
+  async pull() {
+    if (this.#first < this.#messages.length) return this.#next();
     if (this.#end?.error) throw this.#end.error;
     return this.#end ? undefined : new Promise((resolve, reject) => { this.#waiting.push({ resolve, reject }); });
   }
@@ -77,7 +88,7 @@ function ofWebSocket(socket) {
     error: ({ error }) => { cause ??= error; },
     message: ({ data }) => {
       // A text frame is no message of Noise: an empty one takes its place, and is refused.
-      if (!backlog.push(typeof data === 'string' ? new Uint8Array(0) : new Uint8Array(data))) destroy(new NoiseError(code.BACKLOG));
+      if (!backlog.push(typeof data === 'string' ? new Uint8Array(0) : new Uint8Array(data))) overflow();
     },
     close: ({ wasClean }) => { backlog.end(wasClean === false ? closed(cause) : undefined, false); },
   };
@@ -95,8 +106,14 @@ function ofWebSocket(socket) {
     else socket.close();
   }
 
+  function overflow() {
+    const error = new NoiseError(code.BACKLOG);
+    destroy(error);
+    carrier.overflowed?.(error);
+  }
+
   const mustBeOpen = () => { if (socket.readyState !== 1) throw closed(cause); };
-  return {
+  const carrier = {
     ready: async () => {
       if (socket.readyState === 0) await firstOf(socket, ['open', 'close', 'error']);
       mustBeOpen();
@@ -124,6 +141,7 @@ function ofWebSocket(socket) {
     /** How many bytes may wait once the handshake is over. */
     set limit(bytes) { backlog.limit = bytes; },
   };
+  return carrier;
 }
 
 /** Drops what is read until the end. */

@@ -23,6 +23,12 @@ function hasToJudge({ pattern, responder, remoteStatic, psks = [], pskFor }, jud
   return judge !== undefined && isKeyed;
 }
 
+/** A number of bytes, from 0 on. */
+function sizeOf(value, what) {
+  if (!Number.isSafeInteger(value) || value < 0) throw new RangeError(`${what} has to be a number of bytes`);
+  return value;
+}
+
 /** Passes the messages of a handshake, each of at most `limit` bytes, as long as `waiting` isn't over. */
 async function pass({ carrier, incoming, handshake, judge, limit, waiting }) {
   let isDue = judge !== undefined;
@@ -89,13 +95,16 @@ export class NoiseSocket {
     let letGo;
     try {
       const { interval = 0n, judge, acceptAnyKey, signal, handshakeLimit = 4096, backlog = 1 << 26, ...setup } = options;
+      const limits = [sizeOf(handshakeLimit, 'handshakeLimit'), sizeOf(backlog, 'backlog')];
       handshake = new Handshake(setup);
       const isJudged = hasToJudge(setup, judge, acceptAnyKey);
       letGo = endBy(signal, waiting);
+      carrier.overflowed = (error) => waiting.end(error);
       await waiting.for(carrier.ready());
       const incoming = new Incoming(() => carrier.pull());
-      await pass({ carrier, incoming, handshake, judge: isJudged ? judge : undefined, limit: handshakeLimit, waiting });
-      carrier.limit = backlog;
+      await pass({ carrier, incoming, handshake, judge: isJudged ? judge : undefined, limit: limits[0], waiting });
+      carrier.overflowed = undefined;    // the next call of receive throws it
+      [, carrier.limit] = limits;
       return new NoiseSocket(carrier, incoming, handshake.finishStream({ interval }));
     } catch (error) {
       waiting.end(error);

@@ -73,7 +73,7 @@ test('limits', async (t) => {
     assert.ok(count <= 17, `${count} messages`);
     assert.deepEqual(EVENTS.map((it) => near.listeners(it)), [0, 0, 0]);
     await once(near, 'close');
-    assert.equal(await Promise.race([opened, Promise.resolve('pending')]), 'pending');    // judge hasn't answered
+    assert.equal(await opened, 'NOISE_BACKLOG');    // though judge hasn't answered
     const [here, there] = openSockets();
     const refusal = outcome(NoiseSocket.open(here, { ...NN, responder: true }), 5000);
     for (let n = 0; n < 1000; n += 1) here.take(message);
@@ -90,6 +90,37 @@ test('limits', async (t) => {
     for (let n = 0; n < 60; n += 1) await a.send(new Uint8Array(1000)).catch(() => {});
     await assert.rejects(b.receive(), refused(code.BACKLOG));
     assert.deepEqual(EVENTS.map((it) => far.listeners(it)), [0, 0, 0]);
+  });
+
+  await t.test('8,000 messages that wait are all received', async () => {
+    const [a, b] = await channels(openSockets());
+    const count = 8000;
+    for (let n = 0; n < count; n += 1) await a.send(Uint8Array.of(n & 255));
+    const closed = a.close();
+    let n = 0;
+    for await (const [byte] of b) {
+      if (byte !== (n & 255)) break;
+      n += 1;
+    }
+    assert.equal(n, count);
+    await Promise.all([closed, b.close()]);
+  });
+
+  await t.test('200 channels at once', async () => {
+    await Promise.all(Array.from({ length: 200 }, async (_, n) => {
+      const [a, b] = await channels(pair({ highWaterMark: 1e6 }, { highWaterMark: 1e6 }));
+      for (let k = 0; k < 10; k += 1) {
+        await a.send(new Uint8Array(1000 + n).fill(k));
+        assert.deepEqual(await b.receive(), new Uint8Array(1000 + n).fill(k));
+      }
+      await Promise.all([a.close(), b.close()]);
+    }));
+  });
+
+  await t.test('what is no number of bytes is no limit', async () => {
+    for (const limit of [-1, NaN, 1.5, '100', null, Infinity]) {
+      for (const name of ['handshakeLimit', 'backlog']) await assert.rejects(NoiseSocket.open(pair()[0], { ...NN, [name]: limit }), RangeError);
+    }
   });
 
   await t.test('after a refusal and after close no listener is left', async () => {
