@@ -100,12 +100,13 @@ impl<T: Read + Write> Stream<T> {
         MidHandshake::new(below, handshake, Peer::Anybody)?.resume_anonymous()
     }
 
-    /// Runs a handshake of [`Builder::late_psks`](crate::Builder::late_psks). At a psk token that lacks its secret `psk_for` is called with the other
-    /// party's static key, and returns the secret that this party shares with its owner, or `None` to refuse that party: nothing more is sent then. A
-    /// pattern that doesn't give that key before the token is refused with `WantedPsk`.
+    /// Runs a handshake of [`Builder::late_psks`](crate::Builder::late_psks). At a psk token that lacks its secret
+    /// `psk_for` is called with the other party's static key, and returns the secret that this party shares with its
+    /// owner, or `None` to refuse that party: nothing more is sent then. A pattern that doesn't give that key before the
+    /// token is refused with `WantedPsk`; one that never gives it, before anything is sent.
     ///
-    /// The other party hasn't shown yet that it has the secret key: so choose the secret, and do nothing else. 32 random bytes for a key that you don't
-    /// know, in place of `None`, don't tell which keys you know.
+    /// The other party hasn't shown yet that it has the secret key: so choose the secret, and do nothing else. 32 random
+    /// bytes for a key that you don't know, in place of `None`, don't tell which keys you know.
     ///
     #[cfg_attr(feature = "openssl", doc = "```")]
     #[cfg_attr(not(feature = "openssl"), doc = "```ignore")]

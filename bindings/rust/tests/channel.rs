@@ -354,6 +354,8 @@ fn a_stream_has_all_secrets_or_asks_for_them() {
     assert_eq!(inner(Stream::with_psk_for(Script(&[]), begun().0, choose)), Error::PskCount);
     let early = Builder::new("NNpsk0").late_psks().initiator::<Toy>().unwrap();
     assert_eq!(inner(Stream::with_psk_for(Script(&[]), early, choose)), Error::WantedPsk { remote_static: None });
+    let nobody = Builder::new("NNpsk2").late_psks().initiator::<Toy>().unwrap();
+    assert_eq!(inner(Stream::with_psk_for(Closed, nobody, choose)), Error::WantedPsk { remote_static: None });
 }
 
 // A stream that has these bytes to read.

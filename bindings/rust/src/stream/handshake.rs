@@ -74,8 +74,12 @@ impl<T: Read + Write, S: Dh, E: Ephemeral> MidHandshake<T, S, E> {
         if handshake.lacks_psk() != (peer == Peer::Chosen) {
             return Err(Error::PskCount.into());
         }
-        if peer == Peer::Judged && !handshake.other_has_static() {
-            return Err(Error::Refused.into());
+        match peer {
+            Peer::Judged if !handshake.other_has_static() => return Err(Error::Refused.into()),
+            Peer::Chosen if !handshake.other_has_static() => {
+                return Err(Error::WantedPsk { remote_static: None }.into());
+            }
+            _ => {}
         }
         Ok(MidHandshake(Box::new(Passing {
             below,
