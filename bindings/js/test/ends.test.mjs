@@ -30,7 +30,7 @@ function frameBy(transport, payload) {
   return Uint8Array.of(message.length >> 8, message.length & 255, ...message);
 }
 
-test('ends', async (t) => {
+test('ends', { timeout: 300000 }, async (t) => {
   await load();
   for (const [kind, connect] of Object.entries(KINDS)) {
     await t.test(`${kind}: close sends the end, and each later call of receive gives undefined`, async () => {

@@ -17,16 +17,20 @@ function slowSocket() {
   return [near, far];
 }
 
-test('limits', async (t) => {
+test('limits', { timeout: 300000 }, async (t) => {
   await load();
   await t.test('send on a WebSocket that isn’t open rejects', async () => {
     for (const state of [0, 2, 3]) {
       const [near, far] = openSockets();
       const [a] = await channels([near, far]);
+      let sent = 0;
+      near.send = () => { sent += 1; };
       near.readyState = state;
       await assert.rejects(a.send(text('x')), refused(code.CLOSED));
       near.readyState = 1;
       await assert.rejects(a.send(text('x')), refused(code.CLOSED));    // one is missing
+      await a.close();
+      assert.equal(sent, 0);
     }
   });
 

@@ -183,7 +183,7 @@ async function all(connect, kinds, places) {
   return count;
 }
 
-test('relays', async (t) => {
+test('relays', { timeout: 600000 }, async (t) => {
   await load();
   await t.test('over streams, at each byte', async () => {
     const count = await all(overStreams, ['flip', 'cut', 'repeat', 'drop'], (link, role) => link.sent(role));
