@@ -14,6 +14,7 @@ import time
 TEXT = "an answer that has to come whole"
 STEP = 17
 SERVER_PORT, CLIENT_PORT, SLOW_PORT = 4051, 4052, 4055
+PATIENCE = 60   # seconds for a program to start or to end on a machine that has other work
 
 
 def damaged(data, start, kind, at):
@@ -51,25 +52,33 @@ def run(server, client, kind, at):
     with socket.create_server(("127.0.0.1", CLIENT_PORT), reuse_port=False) as relay, \
             subprocess.Popen([server, "XX", str(SERVER_PORT)], stdout=subprocess.DEVNULL, stderr=subprocess.DEVNULL) as serving, \
             subprocess.Popen([client, "XX", TEXT, str(CLIENT_PORT)], stdout=subprocess.DEVNULL, stderr=subprocess.DEVNULL) as asking:
-        near, _ = relay.accept()
-        with near, connect(SERVER_PORT, serving) as far:
-            up = threading.Thread(target=pump, args=(near, far))
-            up.start()
-            sent = pump(far, near, kind, at)
-            up.join()
-            status = asking.wait(20)
-            serving.wait(20)
+        try:
+            relay.settimeout(PATIENCE)
+            near, _ = relay.accept()
+            near.settimeout(None)
+            with near, connect(SERVER_PORT, serving) as far:
+                up = threading.Thread(target=pump, args=(near, far))
+                up.start()
+                sent = pump(far, near, kind, at)
+                up.join()
+                status = asking.wait(PATIENCE)
+                serving.wait(PATIENCE)
+        finally:
+            asking.kill()
+            serving.kill()
     return status, sent
 
 
 def connect(port, serving):
-    for _ in range(100):
+    begun = time.monotonic()
+    while time.monotonic() - begun < PATIENCE:
         try:
             return socket.create_connection(("127.0.0.1", port))
         except ConnectionRefusedError:
             if serving.poll() is not None:
                 sys.exit("cut.py: the server has ended")
             time.sleep(0.02)
+    serving.kill()
     sys.exit("cut.py: no server")
 
 
