@@ -1,9 +1,9 @@
-//! The listings of `docs/USING.md` and of the README, each called once. `checks/listings` compares the marked parts with those pages.
+//! The listings of `docs/RATTLE.md` and of the README, each called once. `checks/listings` compares the marked parts with those pages.
 
 use super::support::opened;
 use std::test::Fail;
 
-// The listings of `docs/USING.md` begin.
+// The listings of `docs/RATTLE.md` begin.
 use noise_handshake::{Handshake, Keys, Remote, SetupFault, XorKeys};
 use noise_names::{
     Pattern, PlaceFault, PskPlaces, Role, RuleFault, TextFault, ValidPattern, fundamental,
@@ -33,26 +33,6 @@ impl From<AllocError> for Failure {
     }
 }
 
-/// The pattern IK with a pre-shared secret at the end of its second message.
-pub fn ikpsk2() -> Result<ValidPattern, Failure> {
-    let Some(plain) = fundamental(b"IK") else {
-        return Err(Failure::NoPattern);
-    };
-    let Some(places) = PskPlaces::new(&[2]) else {
-        return Err(Failure::NoPattern);
-    };
-    match Pattern::with_psks(&plain, &places) {
-        Ok(pattern) => pattern.check().map_err(Failure::Rule),
-        Err(fault) => Err(Failure::Place(fault)),
-    }
-}
-
-/// The pattern that a text spells.
-pub fn own_pattern(text: &[u8]) -> Result<ValidPattern, Failure> {
-    let pattern = Pattern::parse_text(text).map_err(Failure::Text)?;
-    pattern.check().map_err(Failure::Rule)
-}
-
 /// One end of a session by the pattern XX. Its transport keys are never renewed.
 pub fn new_end<K: Keys>(alloc: Global, role: Role, keys: K) -> Result<End<K>, Failure> {
     let Some(plain) = fundamental(b"XX") else {
@@ -78,27 +58,6 @@ pub fn take_frame<K: Keys, R: Read>(
         Ok(None) => Err(Failure::Closed),
         Err(fault) => Err(Failure::Receive(fault)),
     }
-}
-
-/// Passes the handshake's messages, without payloads, until the session is open. A pattern has at most 8 messages.
-pub fn open_session<K: Keys, R: Read, W: Write>(
-    alloc: Global,
-    end: &mut End<K>,
-    from: &mut Counted<R>,
-    out: &mut Counted<W>,
-) -> Result<(), Failure> {
-    let mut payloads = Vec::new(alloc);
-    for _ in 0..9 {
-        match end.stage() {
-            Stage::Handshake { ours: true, .. } => {
-                end.write_to(b"", out).map_err(Failure::Send)?;
-            }
-            Stage::Handshake { ours: false, .. } => take_frame(end, from, &mut payloads)?,
-            Stage::Transport { .. } => return Ok(()),
-            Stage::Ended => return Err(Failure::Refused),
-        }
-    }
-    Err(Failure::Refused)
 }
 
 /// Passes one frame from one end to the other, through memory, and appends its payload.
@@ -134,6 +93,47 @@ pub fn say_hello(alloc: Global) -> Result<Vec<u8>, Failure> {
     pass(alloc, &mut initiator, &mut responder, b"", &mut told)?;
     pass(alloc, &mut initiator, &mut responder, b"hello", &mut told)?;
     Ok(told)
+}
+
+/// The pattern IK with a pre-shared secret at the end of its second message.
+pub fn ikpsk2() -> Result<ValidPattern, Failure> {
+    let Some(plain) = fundamental(b"IK") else {
+        return Err(Failure::NoPattern);
+    };
+    let Some(places) = PskPlaces::new(&[2]) else {
+        return Err(Failure::NoPattern);
+    };
+    match Pattern::with_psks(&plain, &places) {
+        Ok(pattern) => pattern.check().map_err(Failure::Rule),
+        Err(fault) => Err(Failure::Place(fault)),
+    }
+}
+
+/// The pattern that a text spells.
+pub fn own_pattern(text: &[u8]) -> Result<ValidPattern, Failure> {
+    let pattern = Pattern::parse_text(text).map_err(Failure::Text)?;
+    pattern.check().map_err(Failure::Rule)
+}
+
+/// Passes the handshake's messages, without payloads, until the session is open. A pattern has at most 8 messages.
+pub fn open_session<K: Keys, R: Read, W: Write>(
+    alloc: Global,
+    end: &mut End<K>,
+    from: &mut Counted<R>,
+    out: &mut Counted<W>,
+) -> Result<(), Failure> {
+    let mut payloads = Vec::new(alloc);
+    for _ in 0..9 {
+        match end.stage() {
+            Stage::Handshake { ours: true, .. } => {
+                end.write_to(b"", out).map_err(Failure::Send)?;
+            }
+            Stage::Handshake { ours: false, .. } => take_frame(end, from, &mut payloads)?,
+            Stage::Transport { .. } => return Ok(()),
+            Stage::Ended => return Err(Failure::Refused),
+        }
+    }
+    Err(Failure::Refused)
 }
 
 /// Takes bytes as they come, and appends the payloads of the frames that are whole with them. It gives the bytes that weren't taken.
