@@ -3,6 +3,7 @@ pub mod Cuts
 pub mod Expectations
 pub mod FileKeys
 pub mod HexWord
+pub mod LineNumbers
 pub mod OwnPattern
 pub mod ReaderFaults
 pub mod SameFile

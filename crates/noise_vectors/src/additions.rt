@@ -3,8 +3,8 @@
 ghost use Rattle.std.specs.Prelude.{◌≡◌, ◌+◌, ◌<◌, ◌^◌, ℕ, List, Option, Some, None, Bool, false, IfErr, IfOk, IfSome, MatchOption, MatchResult};
 ghost use Rattle.std.specs.List.{All};
 ghost use Rattle.noise_events.specs.declared.window.Window.{Window};
+ghost use Rattle.noise_vectors.specs.LineNumbers.{last_number};
 ghost use Rattle.noise_vectors.specs.VectorFile.{IsAllowedVersion, IsDatagramEvent, IsVersion};
-ghost use Rattle.noise_vectors.specs.WrongLine.{line_feeds};
 ghost use Rattle.noise_vectors.specs.ReaderFaults.{TellsDatagrams, TellsVersion};
 ghost use Rattle.noise_vectors.specs.VectorText.{AfterDatagrams, AfterEvents, datagrams_text, is_second, version_text, window_words};
 ghost use Rattle.noise_vectors.specs.declared.faults.VectorFault.TheVariants.{Memory};
@@ -33,9 +33,10 @@ pub(crate) fn read_version(
     ensures which { IfOk result (λ version. is_second version ≡ second) }
     ensures right { IfOk result IsVersion }
     ensures allowed { IfOk result (IsAllowedVersion allowed) }
-    ensures told { lines.old.number + line_feeds lines.old.rest.now < 2 ^ 63 → AfterEvents lines.old.rest.now
-        → IfErr result (TellsVersion allowed second lines.old.rest.now (lines.old.number + line_feeds lines.old.rest.now)) }
-    ensures every { (version : Version) → IsVersion version → IsAllowedVersion allowed version → is_second version ≡ second
+    ensures told { last_number lines.old < 2 ^ 63 → AfterEvents lines.old.rest.now
+        → IfErr result (TellsVersion allowed second lines.old.rest.now (last_number lines.old)) }
+    ensures every { (version : Version) → IsVersion version → IsAllowedVersion allowed version
+        → is_second version ≡ second
         → lines.old.rest.now ≡ version_text version
         → IfErr result (λ fault. fault ≡ Memory) }
 {
@@ -64,11 +65,12 @@ fn read_datagrams(
     ensures right { IfOk result (λ found. IfSome found (λ over. All IsDatagramEvent over.events.items)) }
     ensures allowed { IfOk result (λ found. allowed ≡ SayOnly → found ≡ None) }
     ensures over { AfterEvents lines.old.rest.now → IfOk result (λ found. AfterDatagrams lines.new.rest.now) }
-    ensures counted { lines.old.number + line_feeds lines.old.rest.now < 2 ^ 63
-        → IfOk result (λ found. lines.new.number + line_feeds lines.new.rest.now ≡ lines.old.number + line_feeds lines.old.rest.now) }
-    ensures told { lines.old.number + line_feeds lines.old.rest.now < 2 ^ 63
-        → IfErr result (TellsDatagrams allowed lines.old.rest.now (lines.old.number + line_feeds lines.old.rest.now)) }
-    ensures every { (over : Option FileDatagrams) (rest : List ℕ) → IfSome over (λ over. All IsDatagramEvent over.events.items)
+    ensures counted { last_number lines.old < 2 ^ 63
+        → IfOk result (λ found. last_number lines.new ≡ last_number lines.old) }
+    ensures told { last_number lines.old < 2 ^ 63
+        → IfErr result (TellsDatagrams allowed lines.old.rest.now (last_number lines.old)) }
+    ensures every { (over : Option FileDatagrams) (rest : List ℕ) → IfSome over
+        (λ over. All IsDatagramEvent over.events.items)
         → (allowed ≡ SayOnly → over ≡ None) → AfterDatagrams rest → lines.old.rest.now ≡ datagrams_text over rest
         → MatchResult result (λ found. lines.new.rest.now ≡ rest) (λ fault. fault ≡ Memory) }
 {

@@ -4,8 +4,8 @@ ghost use Rattle.std.specs.Prelude.{◌≡◌, ◌+◌, ◌<◌, ◌^◌, ◌∷
 ghost use Rattle.std.specs.List.{All};
 ghost use Rattle.noise_names.specs.declared.token.Role.{Role};
 ghost use Rattle.noise_events.specs.declared.datagram_event.DatagramEvent.{DatagramEvent};
+ghost use Rattle.noise_vectors.specs.LineNumbers.{last_number};
 ghost use Rattle.noise_vectors.specs.VectorFile.{IsDatagramEvent};
-ghost use Rattle.noise_vectors.specs.WrongLine.{line_feeds};
 ghost use Rattle.noise_vectors.specs.ReaderFaults.{TellsAfter, datagram_lines};
 ghost use Rattle.noise_vectors.specs.VectorText.{AfterDatagrams, datagram_event_words, datagram_kind_word, lines_of, role_word};
 ghost use Rattle.noise_vectors.specs.declared.faults.VectorFault.TheVariants.{Memory};
@@ -25,13 +25,14 @@ pub(crate) fn read_datagram_events(
     alloc: Global,
     lines: &mut Lines<'_>,
 ) -> Result<Vec<DatagramEvent>, VectorFault>
-    ensures text { IfOk result (λ events. lines.old.rest.now ≡ lines_of datagram_event_words events.items lines.new.rest.now) }
+    ensures text { IfOk result
+        (λ events. lines.old.rest.now ≡ lines_of datagram_event_words events.items lines.new.rest.now) }
     ensures right { IfOk result (λ events. All IsDatagramEvent events.items) }
     ensures over { IfOk result (λ events. AfterDatagrams lines.new.rest.now) }
-    ensures counted { lines.old.number + line_feeds lines.old.rest.now < 2 ^ 63
-        → IfOk result (λ events. lines.new.number + line_feeds lines.new.rest.now ≡ lines.old.number + line_feeds lines.old.rest.now) }
-    ensures told { lines.old.number + line_feeds lines.old.rest.now < 2 ^ 63
-        → IfErr result (TellsAfter datagram_lines lines.old.rest.now (lines.old.number + line_feeds lines.old.rest.now)) }
+    ensures counted { last_number lines.old < 2 ^ 63
+        → IfOk result (λ events. last_number lines.new ≡ last_number lines.old) }
+    ensures told { last_number lines.old < 2 ^ 63
+        → IfErr result (TellsAfter datagram_lines lines.old.rest.now (last_number lines.old)) }
     ensures every { (events : List DatagramEvent) (rest : List ℕ) → All IsDatagramEvent events → AfterDatagrams rest
         → lines.old.rest.now ≡ lines_of datagram_event_words events rest
         → MatchResult result (λ read. lines.new.rest.now ≡ rest) (λ fault. fault ≡ Memory) }
@@ -85,7 +86,8 @@ fn read_datagram_event(alloc: Global, text: &[u8]) -> Result<Option<DatagramEven
 
 // The kind of event, its role, and what follows them.
 fn split_datagram_event(text: &[u8]) -> Option<(DatagramKind, Role, &[u8])>
-    ensures text { IfSome result (λ parts. text.now ≡ datagram_kind_word parts.0 ++ 32 ∷ (role_word parts.1 ++ 32 ∷ parts.2.now)) }
+    ensures text { IfSome result
+        (λ parts. text.now ≡ datagram_kind_word parts.0 ++ 32 ∷ (role_word parts.1 ++ 32 ∷ parts.2.now)) }
     ensures every { (kind : DatagramKind) (role : Role) (operand : List ℕ)
         → text.now ≡ datagram_kind_word kind ++ 32 ∷ (role_word role ++ 32 ∷ operand)
         → MatchOption result (Unit {0} → ⊥) (λ parts. (parts.0 ≡ kind) × (parts.1 ≡ role) × (parts.2.now ≡ operand)) }

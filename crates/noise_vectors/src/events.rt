@@ -4,10 +4,10 @@ ghost use Rattle.std.specs.Prelude.{◌≡◌, ◌+◌, ◌<◌, ◌^◌, ◌∷
 ghost use Rattle.std.specs.List.{All};
 ghost use Rattle.noise_names.specs.declared.token.Role.{Role};
 ghost use Rattle.noise_events.specs.declared.event.Event.{Event};
+ghost use Rattle.noise_vectors.specs.LineNumbers.{last_number};
 ghost use Rattle.noise_vectors.specs.Cuts.{AreCuts};
 ghost use Rattle.noise_vectors.specs.HexWord.{hex_of};
 ghost use Rattle.noise_vectors.specs.VectorFile.{IsAllowed, IsEvent, IsShort};
-ghost use Rattle.noise_vectors.specs.WrongLine.{line_feeds};
 ghost use Rattle.noise_vectors.specs.ReaderFaults.{TellsAfter, event_lines};
 ghost use Rattle.noise_vectors.specs.VectorText.{AfterEvents, event_words, kind_word, lengths_word, lines_of, role_word};
 ghost use Rattle.noise_vectors.specs.declared.words.EventKind.{EventKind};
@@ -22,8 +22,8 @@ use noise_events::{Cuts, Event};
 use noise_names::Role;
 use std::alloc::{AllocError, Global};
 
-/// The events that the lines are, as far as those of the datagrams, those of what is expected, or the text's end. One that isn't allowed is a
-/// fault.
+/// The events that the lines are, as far as those of the datagrams, those of what is expected, or the text's end. One
+/// that isn't allowed is a fault.
 pub(crate) fn read_events(
     alloc: Global,
     lines: &mut Lines<'_>,
@@ -33,11 +33,12 @@ pub(crate) fn read_events(
     ensures right { IfOk result (λ events. All IsEvent events.items) }
     ensures allowed { IfOk result (λ events. All (IsAllowed allowed) events.items) }
     ensures over { IfOk result (λ events. AfterEvents lines.new.rest.now) }
-    ensures counted { lines.old.number + line_feeds lines.old.rest.now < 2 ^ 63
-        → IfOk result (λ events. lines.new.number + line_feeds lines.new.rest.now ≡ lines.old.number + line_feeds lines.old.rest.now) }
-    ensures told { lines.old.number + line_feeds lines.old.rest.now < 2 ^ 63
-        → IfErr result (TellsAfter (event_lines allowed) lines.old.rest.now (lines.old.number + line_feeds lines.old.rest.now)) }
-    ensures every { (events : List Event) (rest : List ℕ) → All IsEvent events → All (IsAllowed allowed) events → AfterEvents rest
+    ensures counted { last_number lines.old < 2 ^ 63
+        → IfOk result (λ events. last_number lines.new ≡ last_number lines.old) }
+    ensures told { last_number lines.old < 2 ^ 63
+        → IfErr result (TellsAfter (event_lines allowed) lines.old.rest.now (last_number lines.old)) }
+    ensures every { (events : List Event) (rest : List ℕ) → All IsEvent events → All (IsAllowed allowed) events
+        → AfterEvents rest
         → lines.old.rest.now ≡ lines_of event_words events rest
         → MatchResult result (λ read. lines.new.rest.now ≡ rest) (λ fault. fault ≡ Memory) }
 {
@@ -102,8 +103,10 @@ fn read_event(
 
 // The kind of event, its role, and what follows them.
 fn split_event(text: &[u8]) -> Option<(EventKind, Role, &[u8])>
-    ensures text { IfSome result (λ parts. text.now ≡ kind_word parts.0 ++ 32 ∷ (role_word parts.1 ++ 32 ∷ parts.2.now)) }
-    ensures every { (kind : EventKind) (role : Role) (operands : List ℕ) → text.now ≡ kind_word kind ++ 32 ∷ (role_word role ++ 32 ∷ operands)
+    ensures text { IfSome result
+        (λ parts. text.now ≡ kind_word parts.0 ++ 32 ∷ (role_word parts.1 ++ 32 ∷ parts.2.now)) }
+    ensures every { (kind : EventKind) (role : Role) (operands : List ℕ)
+        → text.now ≡ kind_word kind ++ 32 ∷ (role_word role ++ 32 ∷ operands)
         → MatchOption result (Unit {0} → ⊥) (λ parts. (parts.0 ≡ kind) × (parts.1 ≡ role) × (parts.2.now ≡ operands)) }
 {
     let (kind, rest) = split_once(text, b' ')?;
@@ -113,9 +116,11 @@ fn split_event(text: &[u8]) -> Option<(EventKind, Role, &[u8])>
 
 // A payload and the cuts of its frame.
 fn read_say(alloc: Global, words: &[u8]) -> Result<Option<(Vec<u8>, Cuts)>, AllocError>
-    ensures text { IfOk result (λ found. IfSome found (λ say. words.now ≡ hex_of say.0.items ++ 32 ∷ lengths_word say.1)) }
+    ensures text { IfOk result
+        (λ found. IfSome found (λ say. words.now ≡ hex_of say.0.items ++ 32 ∷ lengths_word say.1)) }
     ensures right { IfOk result (λ found. IfSome found (λ say. IsShort say.0.items × AreCuts say.1)) }
-    ensures every { (payload cuts : List ℕ) → IsShort payload → AreCuts cuts → words.now ≡ hex_of payload ++ 32 ∷ lengths_word cuts
+    ensures every { (payload cuts : List ℕ) → IsShort payload → AreCuts cuts
+        → words.now ≡ hex_of payload ++ 32 ∷ lengths_word cuts
         → IfOk result (λ found. IsSome found) }
 {
     let Some((payload, cuts)) = split_once(words, b' ') else {
@@ -134,7 +139,8 @@ fn read_say(alloc: Global, words: &[u8]) -> Result<Option<(Vec<u8>, Cuts)>, Allo
 fn read_delivery(words: &[u8]) -> Option<(usize, Cuts)>
     ensures text { IfSome result (λ delivery. words.now ≡ decimal delivery.0 ++ 32 ∷ lengths_word delivery.1) }
     ensures right { IfSome result (λ delivery. (delivery.0 < 2 ^ 32) × AreCuts delivery.1) }
-    ensures every { (number : ℕ) (cuts : List ℕ) → number < 2 ^ 32 → AreCuts cuts → words.now ≡ decimal number ++ 32 ∷ lengths_word cuts
+    ensures every { (number : ℕ) (cuts : List ℕ) → number < 2 ^ 32 → AreCuts cuts
+        → words.now ≡ decimal number ++ 32 ∷ lengths_word cuts
         → IsSome result }
 {
     let (number, cuts) = split_once(words, b' ')?;

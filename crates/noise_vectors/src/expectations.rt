@@ -3,9 +3,11 @@
 ghost use Rattle.std.specs.Prelude.{◌≡◌, ◌≢◌, ◌<◌, ◌≤◌, ℕ, MatchOption, length, slice_get};
 ghost use Rattle.noise_vectors.specs.Expectations.{IsFirstUnmet, bytes_of};
 
-/// The number of the first line, from 1 on, at which the two lists differ or one has ended, or None where they are equal.
+/// The number of the first line, from 1 on, at which the two lists differ or one has ended, or None where they are
+/// equal.
 pub fn first_unmet(lines: &[Vec<u8>], expected: &[Vec<u8>]) -> Option<usize>
-    ensures { MatchOption result (bytes_of lines.now ≡ bytes_of expected.now) (λ n. IsFirstUnmet (bytes_of lines.now) (bytes_of expected.now) n) }
+    ensures { MatchOption result (bytes_of lines.now ≡ bytes_of expected.now)
+        (λ n. IsFirstUnmet (bytes_of lines.now) (bytes_of expected.now) n) }
 {
     let same = same_lines(lines, expected);
     if same == lines.len() && same == expected.len() {

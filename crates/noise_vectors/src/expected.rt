@@ -3,8 +3,8 @@
 ghost use Rattle.std.specs.Prelude.{◌≡◌, ◌+◌, ◌<◌, ◌^◌, ◌++◌, ◌↔◌, ◌≤◌, [], ℕ, List, Vec, IfErr, IfOk, IfSome, IsTrue, MatchOption, codes};
 ghost use Rattle.std.specs.Global.{Global};
 ghost use Rattle.std.specs.List.{All};
+ghost use Rattle.noise_vectors.specs.LineNumbers.{last_number};
 ghost use Rattle.noise_vectors.specs.VectorFile.{IsExpected};
-ghost use Rattle.noise_vectors.specs.WrongLine.{line_feeds};
 ghost use Rattle.noise_vectors.specs.ReaderFaults.{TellsAfter, expect_lines};
 ghost use Rattle.noise_vectors.specs.VectorText.{expect_words, lines_of};
 ghost use Rattle.noise_vectors.specs.declared.faults.VectorFault.TheVariants.{Memory};
@@ -13,15 +13,16 @@ use crate::faults::{LineKind, VectorFault};
 use crate::lines::Lines;
 use std::alloc::Global;
 
-/// The lines of output that are expected, as far as the text's end. A line that is no such one is a fault of the events where it is the first.
+/// The lines of output that are expected, as far as the text's end. A line that is no such one is a fault of the events
+/// where it is the first.
 pub(crate) fn read_expected(
     alloc: Global,
     lines: &mut Lines<'_>,
 ) -> Result<Vec<Vec<u8>>, VectorFault>
     ensures text { IfOk result (λ expected. lines.old.rest.now ≡ lines_of expect_words expected.items []) }
     ensures right { IfOk result (λ expected. All (λ words. IsExpected words.items) expected.items) }
-    ensures told { lines.old.number + line_feeds lines.old.rest.now < 2 ^ 63
-        → IfErr result (TellsAfter expect_lines lines.old.rest.now (lines.old.number + line_feeds lines.old.rest.now)) }
+    ensures told { last_number lines.old < 2 ^ 63
+        → IfErr result (TellsAfter expect_lines lines.old.rest.now (last_number lines.old)) }
     ensures every { (expected : List (Vec ℕ Global)) → All (λ words. IsExpected words.items) expected
         → lines.old.rest.now ≡ lines_of expect_words expected []
         → IfErr result (λ fault. fault ≡ Memory) }

@@ -32,14 +32,18 @@ impl<'a> Lines<'a> {
 
     /// The next line without its LF, or the fault that there is none.
     pub fn next(&mut self) -> Result<&'a [u8], VectorFault>
-        ensures ended { IfOk result (λ text. IsTrue self.new.is_ended → self.old.rest.now ≡ line text.now self.new.rest.now) }
-        ensures last { IfOk result (λ text. IsFalse self.new.is_ended → (self.old.rest.now ≡ text.now) × ¬ (text.now ≡ [])) }
+        ensures ended { IfOk result
+            (λ text. IsTrue self.new.is_ended → self.old.rest.now ≡ line text.now self.new.rest.now) }
+        ensures last { IfOk result
+            (λ text. IsFalse self.new.is_ended → (self.old.rest.now ≡ text.now) × ¬ (text.now ≡ [])) }
         ensures plain { IfOk result (λ text. IsTrue (lacks 10 text.now)) }
         ensures number { self.old.number + 1 < 2 ^ 64 → self.new.number ≡ self.old.number + 1 }
         ensures every { (words after : List ℕ) → IsTrue (lacks 10 words) → self.old.rest.now ≡ line words after
-            → MatchResult result (λ text. (text.now ≡ words) × (self.new.rest.now ≡ after) × IsTrue self.new.is_ended) (λ fault. ⊥) }
+            → MatchResult result (λ text. (text.now ≡ words) × (self.new.rest.now ≡ after) × IsTrue self.new.is_ended)
+            (λ fault. ⊥) }
         ensures shorter { IfOk result (λ text. length self.new.rest.now < length self.old.rest.now) }
-        ensures missing { IfErr result (λ fault. (self.old.rest.now ≡ []) × (fault ≡ VectorFault.Line self.new.number LineKind.Ending)) }
+        ensures missing { IfErr result
+            (λ fault. (self.old.rest.now ≡ []) × (fault ≡ VectorFault.Line self.new.number LineKind.Ending)) }
     {
         self.number = self.number.saturating_add(1);
         if self.rest.is_empty() {

@@ -4,8 +4,9 @@ ghost use Rattle.std.specs.Prelude.{◌≡◌, ◌+◌, ◌<◌, ◌≤◌, ◌^
 ghost use Rattle.std.specs.Bool.{nat_eq};
 ghost use Rattle.std.specs.List.{All, starts_with};
 ghost use Rattle.noise_keys.specs.Table.{TableEntry};
+ghost use Rattle.noise_vectors.specs.LineNumbers.{last_number};
 ghost use Rattle.noise_vectors.specs.VectorFile.{AreKeys, IsEntry};
-ghost use Rattle.noise_vectors.specs.WrongLine.{is_answer_line, line_feeds};
+ghost use Rattle.noise_vectors.specs.WrongLine.{is_answer_line};
 ghost use Rattle.noise_vectors.specs.ReaderFaults.{TellsAfter, TellsParty, answer_lines};
 ghost use Rattle.noise_vectors.specs.Words.{IsKey};
 ghost use Rattle.noise_vectors.specs.VectorText.{answer_words, key_words, lines_of, party_text, role_word};
@@ -22,11 +23,12 @@ pub(crate) fn read_party(lines: &mut Lines<'_>, role: Role) -> Result<FileKeys, 
     ensures text { IfOk result (λ keys. lines.old.rest.now ≡ party_text role keys lines.new.rest.now) }
     ensures right { IfOk result AreKeys }
     ensures over { IfOk result (λ keys. IsFalse (is_answer_line keys lines.new.rest.now)) }
-    ensures counted { lines.old.number + line_feeds lines.old.rest.now < 2 ^ 63
-        → IfOk result (λ keys. lines.new.number + line_feeds lines.new.rest.now ≡ lines.old.number + line_feeds lines.old.rest.now) }
-    ensures told { lines.old.number + line_feeds lines.old.rest.now < 2 ^ 63
-        → IfErr result (TellsParty role lines.old.rest.now (lines.old.number + line_feeds lines.old.rest.now)) }
-    ensures every { (keys : FileKeys) (rest : List ℕ) → AreKeys keys → IsFalse (starts_with nat_eq rest (codes "answer "))
+    ensures counted { last_number lines.old < 2 ^ 63
+        → IfOk result (λ keys. last_number lines.new ≡ last_number lines.old) }
+    ensures told { last_number lines.old < 2 ^ 63
+        → IfErr result (TellsParty role lines.old.rest.now (last_number lines.old)) }
+    ensures every { (keys : FileKeys) (rest : List ℕ) → AreKeys keys
+        → IsFalse (starts_with nat_eq rest (codes "answer "))
         → lines.old.rest.now ≡ party_text role keys rest
         → IsOk result × (lines.new.rest.now ≡ rest) }
 {
@@ -79,10 +81,10 @@ fn read_table(
     ensures text { IfOk result (λ table. lines.old.rest.now ≡ lines_of answer_words table.entries lines.new.rest.now) }
     ensures right { IfOk result (λ table. (length table.entries ≤ 8) × All IsEntry table.entries) }
     ensures over { IfOk result (λ table. IsFalse (starts_with nat_eq lines.new.rest.now (codes "answer "))) }
-    ensures counted { lines.old.number + line_feeds lines.old.rest.now < 2 ^ 63
-        → IfOk result (λ table. lines.new.number + line_feeds lines.new.rest.now ≡ lines.old.number + line_feeds lines.old.rest.now) }
-    ensures told { lines.old.number + line_feeds lines.old.rest.now < 2 ^ 63
-        → IfErr result (TellsAfter answer_lines lines.old.rest.now (lines.old.number + line_feeds lines.old.rest.now)) }
+    ensures counted { last_number lines.old < 2 ^ 63
+        → IfOk result (λ table. last_number lines.new ≡ last_number lines.old) }
+    ensures told { last_number lines.old < 2 ^ 63
+        → IfErr result (TellsAfter answer_lines lines.old.rest.now (last_number lines.old)) }
     ensures every { (entries : List TableEntry) (rest : List ℕ) → length entries ≤ 8 → All IsEntry entries
         → IsFalse (starts_with nat_eq rest (codes "answer "))
         → lines.old.rest.now ≡ lines_of answer_words entries rest
@@ -106,7 +108,8 @@ fn read_table(
 
 // The key pair, the remote public key and the answer.
 fn read_answer(line: &[u8]) -> Option<(Own, [u8; 32], [u8; 32])>
-    ensures text { IfSome result (λ answer. line.now ≡ answer_words (record { own = answer.0; remote = answer.1; answer = answer.2 })) }
+    ensures text { IfSome result
+        (λ answer. line.now ≡ answer_words (record { own = answer.0; remote = answer.1; answer = answer.2 })) }
     ensures right { IfSome result (λ answer. IsKey answer.1 × IsKey answer.2) }
     ensures every { (entry : TableEntry) → IsEntry entry → line.now ≡ answer_words entry → IsSome result }
 {

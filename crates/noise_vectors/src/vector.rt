@@ -11,7 +11,8 @@ use noise_names::{Pattern, ProtocolName};
 #[derive(Drop)]
 pub struct VectorFile {
     pub protocol: ProtocolName,
-    /// The pattern that the file spells itself: there exactly where the protocol's base isn't that of a fundamental pattern.
+    /// The pattern that the file spells itself: there exactly where the protocol's base isn't that of a fundamental
+    /// pattern.
     pub block: Option<Pattern>,
     pub prologue: Vec<u8>,
     /// After how many transport messages a key is renewed, 0 for never.

@@ -70,7 +70,8 @@ pub(crate) fn read_number(word: &[u8]) -> Option<u64>
 
 // Whether it begins as a number does: with a digit that is no leading zero.
 fn is_led(word: &[u8]) -> bool
-    ensures { IsTrue result ↔ (48 ≤ slice_index word.now 0) × (slice_index word.now 0 ≤ 57) × (slice_index word.now 0 ≡ 48 → length word.now ≡ 1) }
+    ensures { IsTrue result ↔ (48 ≤ slice_index word.now 0) × (slice_index word.now 0 ≤ 57)
+        × (slice_index word.now 0 ≡ 48 → length word.now ≡ 1) }
 {
     match word {
         [b'0'] => true,
@@ -194,7 +195,8 @@ pub(crate) fn read_bytes(
     ensures text { IfOk result (λ found. IfSome found (λ bytes. word.now ≡ hex_of bytes.items)) }
     ensures bound { IfOk result (λ found. IfSome found (λ bytes. vec_len bytes ≤ most)) }
     ensures right { IfOk result (λ found. IfSome found (λ bytes. AreBytes most bytes.items)) }
-    ensures every { (bytes : List ℕ) → AreBytes most bytes → word.now ≡ hex_of bytes → IfOk result (λ found. IsSome found) }
+    ensures every { (bytes : List ℕ) → AreBytes most bytes → word.now ≡ hex_of bytes → IfOk result
+        (λ found. IsSome found) }
 {
     if word.len() / 2 > most {
         return Ok(None);

@@ -1,9 +1,9 @@
 use Rattle.std.proofs.Common.{◌≡◌, ◌+◌, ◌<◌, ◌^◌, ℕ, Vec, List, [], length, vec_len}
 use Rattle.std.specs.Global.{Global}
 use Rattle.std.specs.List.{All}
+use Rattle.noise_vectors.specs.LineNumbers.{last_number}
 use Rattle.noise_vectors.specs.Expectations.{bytes_of}
 use Rattle.noise_vectors.specs.ReaderFaults.{expect_kind}
-use Rattle.noise_vectors.specs.WrongLine.{line_feeds}
 use Rattle.noise_vectors.specs.VectorFile.{IsExpected}
 use Rattle.noise_vectors.specs.VectorText.{expect_words, lines_of}
 use Rattle.noise_vectors.proofs.LineLemmas.{LinesLeft}
@@ -17,8 +17,8 @@ invariant-loop-alloc l =
     → l.fn.lines.rest.now ≡ lines_of expect_words expected []
     → LinesLeft expect_words (λ (words : Vec ℕ Global). IsExpected words.items) (length expected) (vec_len l.expected) l.lines.rest.now [])
     × (l.kind ≡ expect_kind (bytes_of l.expected.items))
-    × (l.fn.lines.number + line_feeds l.fn.lines.rest.now < 2 ^ 63
-    → l.lines.number + line_feeds l.lines.rest.now ≡ l.fn.lines.number + line_feeds l.fn.lines.rest.now)
+    × (last_number l.fn.lines < 2 ^ 63
+    → last_number l.lines ≡ last_number l.fn.lines)
 
 abbrev pub decreases-loop-alloc : goal.decreases-loop-alloc
 decreases-loop-alloc l = length l.lines.rest.now

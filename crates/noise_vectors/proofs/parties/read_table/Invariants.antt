@@ -1,9 +1,9 @@
 use Rattle.std.proofs.Common.{◌≡◌, ◌+◌, ◌<◌, ◌≤◌, ◌^◌, ℕ, List, false, length}
 use Rattle.std.specs.List.{All}
 use Rattle.noise_keys.specs.Table.{TableEntry}
+use Rattle.noise_vectors.specs.LineNumbers.{last_number}
 use Rattle.noise_vectors.specs.VectorFile.{IsEntry}
 use Rattle.noise_vectors.specs.VectorText.{answer_words, lines_of}
-use Rattle.noise_vectors.specs.WrongLine.{line_feeds}
 use Rattle.noise_vectors.proofs.LineLemmas.{LinesLeft}
 use Rattle.noise_vectors.proofs.PartyLemmas.{begins}
 use Rattle.noise_vectors.proofs.parties.read_table.Given as goal
@@ -17,8 +17,8 @@ invariant-loop-lines l = record {
   right : All IsEntry l.table.entries;
   every : (entries : List TableEntry) (rest : List ℕ) → length entries ≤ 8 → All IsEntry entries → begins rest ≡ false
       → l.fn.lines.rest.now ≡ lines_of answer_words entries rest → LinesLeft answer_words IsEntry 8 (length l.table.entries) l.lines.rest.now rest;
-  counted : l.fn.lines.number + line_feeds l.fn.lines.rest.now < 2 ^ 63
-      → l.lines.number + line_feeds l.lines.rest.now ≡ l.fn.lines.number + line_feeds l.fn.lines.rest.now;
+  counted : last_number l.fn.lines < 2 ^ 63
+      → last_number l.lines ≡ last_number l.fn.lines;
 }
 
 abbrev pub decreases-loop-lines : goal.decreases-loop-lines
