@@ -5,6 +5,7 @@ pub mod Named
 pub mod Moved
 pub mod Starts
 pub mod Wants
+pub mod Wanting
 pub mod Numbers
 pub mod Opening
 pub mod Ciphering

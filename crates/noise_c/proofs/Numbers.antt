@@ -35,6 +35,10 @@ not-after code last wanted to high e = absurd (omega (arith, to, ltb-true last w
 pub beyond : {A : Type 0} (code first last : ℕ) → first ≤ code → ltb last first ≡ true → code ≤ last → A
 beyond code first last from low within = absurd (omega (arith, from, ltb-true last first low, within))
 
+-- it is below a number that it isn't above and that it isn't
+pub under : (code last : ℕ) → code ≤ last → (code ≡ last → ⊥) → code < last
+under code last to differs = omega (arith, to, differs)
+
 -- a length isn't both above a limit and within it
 pub too-long : {A : Type 0} (n limit : ℕ) → limit < n → n ≤ limit → A
 too-long n limit more less = absurd (omega (arith, more, less))

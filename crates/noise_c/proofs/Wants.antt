@@ -1,32 +1,18 @@
 -- What is told where an answer or a secret is wanted.
 use Rattle.std.proofs.Common.{◌≡◌, ℕ, List, sym, subst, ◌∙◌, arith}
 use Rattle.std.specs.Prelude.{Option}
-use Rattle.noise_keys.specs.declared.keys.Own.{Own}
 use Rattle.noise_handshake.specs.declared.late_faults.Want.{Want}
 use Rattle.noise_handshake.specs.declared.late_faults.Want.TheVariants.{Answer, Secret}
 use Rattle.noise_handshake.specs.declared.late_faults.LateUnread.TheVariants as unread
 use Rattle.noise_handshake.specs.View.{View}
-use Rattle.noise_handshake.specs.Wanting.{WantsToRead, WantsToWrite}
 use Rattle.noise_handshake.specs.Late.{LeavesLateUnread, WantsLate, WantsSecretToRead, WantsSecretToWrite}
 use Rattle.noise_c.specs.declared.kept.NoiseTold.{NoiseTold}
-use Rattle.noise_c.specs.Kept.{own_in, remote_told, TellsWant}
-
-pub reads-answer : (v : View) (n : ℕ) (m : List ℕ) (want : Want) (told : NoiseTold) (code : ℕ) → TellsWant want told code → code ≡ 20
-    → LeavesLateUnread v n m (unread.Wants want) → WantsToRead v m (own_in told.of_static) told.remote
-reads-answer v n m (Answer own key) told code t e r =
-    subst (λ (z : List ℕ). WantsToRead v m (own_in told.of_static) z) (sym t.2) (subst (λ (o : Own). WantsToRead v m o key) (sym t.1) r)
-reads-answer v n m (Secret remote) told code t e r = absurd (omega (arith, t.0, e))
+use Rattle.noise_c.specs.Kept.{remote_told, TellsWant}
 
 pub reads-secret : (v : View) (n : ℕ) (m : List ℕ) (want : Want) (told : NoiseTold) (code : ℕ) → TellsWant want told code → code ≡ 40
     → LeavesLateUnread v n m (unread.Wants want) → WantsSecretToRead v n m (remote_told told)
 reads-secret v n m (Answer own key) told code t e r = absurd (omega (arith, t.0, e))
 reads-secret v n m (Secret remote) told code t e r = subst (λ (o : Option (List ℕ)). WantsSecretToRead v n m o) (sym t.1) r
-
-pub writes-answer : (v : View) (n : ℕ) (want : Want) (told : NoiseTold) (code : ℕ) → TellsWant want told code → code ≡ 20
-    → WantsLate v n want → WantsToWrite v (own_in told.of_static) told.remote
-writes-answer v n (Answer own key) told code t e r =
-    subst (λ (z : List ℕ). WantsToWrite v (own_in told.of_static) z) (sym t.2) (subst (λ (o : Own). WantsToWrite v o key) (sym t.1) r)
-writes-answer v n (Secret remote) told code t e r = absurd (omega (arith, t.0, e))
 
 pub writes-secret : (v : View) (n : ℕ) (want : Want) (told : NoiseTold) (code : ℕ) → TellsWant want told code → code ≡ 40
     → WantsLate v n want → WantsSecretToWrite v n × (remote_told told ≡ v.remote.s)

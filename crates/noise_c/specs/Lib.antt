@@ -9,3 +9,4 @@ pub mod KeptHalves
 pub mod KeptDatagramHalves
 pub mod KeptCipher
 pub mod KeptStreams
+pub mod Outcomes

@@ -18,12 +18,13 @@ const TAG_LEN: usize = 16;
 // The most associated data in bytes.
 const MAX_LEN: usize = 65535;
 
-/// Encrypts the text in the first `text_len` bytes of `buffer` in place, with associated data (EncryptWithAd), and returns how many bytes the
-/// message has: the first of `buffer`, 16 more than the text. The nonce isn't in the message.
+/// Encrypts the text in the first `text_len` bytes of `buffer` in place, with associated data (EncryptWithAd), and
+/// returns how many bytes the message has: the first of `buffer`, 16 more than the text. The nonce isn't in the
+/// message.
 ///
-/// STRUCT at the cipher state of the other direction too; ONE_WAY where it was discarded; LENGTH where the associated data has more than 65535
-/// bytes; ROOM where `buffer` has fewer than 16 bytes more than the text; EXHAUSTED; TOO_LONG where the text has more than 65519. They are looked
-/// for in this order, and change nothing.
+/// STRUCT at the cipher state of the other direction too; ONE_WAY where it was discarded; LENGTH where the associated
+/// data has more than 65535 bytes; ROOM where `buffer` has fewer than 16 bytes more than the text; EXHAUSTED; TOO_LONG
+/// where the text has more than 65519. They are looked for in this order, and change nothing.
 #[unsafe(no_mangle)]
 pub extern "C" fn noise_cipher_encrypt(
     kept: &mut NoiseCipher,
@@ -34,11 +35,13 @@ pub extern "C" fn noise_cipher_encrypt(
 ) -> u32
     ensures code { result ≡ encrypt_code kept.old (length ad.now) text_len (length buffer.old) }
     ensures place { result ≡ OK → told.new ≡ record told.old { from = 0; len = text_len + 16 } }
-    ensures encrypts { result ≡ OK → take (text_len + 16) buffer.new ≡ encrypted kept.old ad.now (take text_len buffer.old) }
+    ensures encrypts { result ≡ OK
+        → take (text_len + 16) buffer.new ≡ encrypted kept.old ad.now (take text_len buffer.old) }
     ensures rest { drop (text_len + 16) buffer.new ≡ drop (text_len + 16) buffer.old }
     ensures counted { result ≡ OK → kept.new ≡ record kept.old { nonce = kept.old.nonce + 1 } }
     ensures unchanged { OK < result → (kept.new ≡ kept.old) × (buffer.new ≡ buffer.old) × (told.new ≡ told.old) }
-    ensures codes { (result ≡ OK) ⊎ (result ≡ TOO_LONG) ⊎ (result ≡ EXHAUSTED) ⊎ (result ≡ ROOM) ⊎ (result ≡ ONE_WAY) ⊎ (result ≡ STRUCT) ⊎ (result ≡ LENGTH) }
+    ensures codes { (result ≡ OK) ⊎ (result ≡ TOO_LONG) ⊎ (result ≡ EXHAUSTED) ⊎ (result ≡ ROOM) ⊎ (result ≡ ONE_WAY)
+        ⊎ (result ≡ STRUCT) ⊎ (result ≡ LENGTH) }
 {
     let mut cipher = match cipher_of(kept, kept.mark == SENDING_CIPHER) {
         Ok(cipher) => cipher,
@@ -61,12 +64,13 @@ pub extern "C" fn noise_cipher_encrypt(
     }
 }
 
-/// Decrypts a message in place, with associated data (DecryptWithAd), and returns how many first bytes of it are then the text. The 16 of the
-/// tag after them stay as they are. At any answer but OK its bytes and the cipher state are unchanged, so that the next message is decrypted at
-/// the same nonce.
+/// Decrypts a message in place, with associated data (DecryptWithAd), and returns how many first bytes of it are then
+/// the text. The 16 of the tag after them stay as they are. At any answer but OK its bytes and the cipher state are
+/// unchanged, so that the next message is decrypted at the same nonce.
 ///
-/// STRUCT at the cipher state of the other direction too; ONE_WAY where it was discarded; LENGTH where the associated data has more than 65535
-/// bytes; EXHAUSTED; TOO_LONG where the message has more; SHORT where it has fewer than the 16 of a tag; TAG. They are looked for in this order.
+/// STRUCT at the cipher state of the other direction too; ONE_WAY where it was discarded; LENGTH where the associated
+/// data has more than 65535 bytes; EXHAUSTED; TOO_LONG where the message has more; SHORT where it has fewer than the 16
+/// of a tag; TAG. They are looked for in this order.
 #[unsafe(no_mangle)]
 pub extern "C" fn noise_cipher_decrypt(
     kept: &mut NoiseCipher,
@@ -74,14 +78,17 @@ pub extern "C" fn noise_cipher_decrypt(
     message: &mut [u8],
     told: &mut NoiseTold,
 ) -> u32
-    ensures code { MatchOption (decrypt_refusal kept.old (length ad.now) (length message.old)) ((result ≡ OK) ⊎ (result ≡ TAG)) (λ code. result ≡ code) }
-    ensures place { result ≡ OK → (told.new ≡ record told.old { from = 0; len = told.new.len }) × (told.new.len + 16 ≡ length message.new) }
+    ensures code { MatchOption (decrypt_refusal kept.old (length ad.now) (length message.old)) ((result ≡ OK)
+        ⊎ (result ≡ TAG)) (λ code. result ≡ code) }
+    ensures place { result ≡ OK → (told.new ≡ record told.old { from = 0; len = told.new.len })
+        × (told.new.len + 16 ≡ length message.new) }
     ensures decrypts { result ≡ OK → message.old ≡ encrypted kept.old ad.now (take told.new.len message.new) }
     ensures forged { result ≡ TAG → (text : List ℕ) → message.old ≢ encrypted kept.old ad.now text }
     ensures beyond { result ≡ OK → drop told.new.len message.new ≡ drop told.new.len message.old }
     ensures counted { result ≡ OK → kept.new ≡ record kept.old { nonce = kept.old.nonce + 1 } }
     ensures unchanged { OK < result → (kept.new ≡ kept.old) × (message.new ≡ message.old) × (told.new ≡ told.old) }
-    ensures codes { (result ≡ OK) ⊎ (result ≡ TOO_LONG) ⊎ (result ≡ SHORT) ⊎ (result ≡ TAG) ⊎ (result ≡ EXHAUSTED) ⊎ (result ≡ ONE_WAY) ⊎ (result ≡ STRUCT) ⊎ (result ≡ LENGTH) }
+    ensures codes { (result ≡ OK) ⊎ (result ≡ TOO_LONG) ⊎ (result ≡ SHORT) ⊎ (result ≡ TAG) ⊎ (result ≡ EXHAUSTED)
+        ⊎ (result ≡ ONE_WAY) ⊎ (result ≡ STRUCT) ⊎ (result ≡ LENGTH) }
 {
     let mut cipher = match cipher_of(kept, kept.mark == RECEIVING_CIPHER) {
         Ok(cipher) => cipher,
@@ -101,8 +108,8 @@ pub extern "C" fn noise_cipher_decrypt(
     }
 }
 
-/// Changes the key to the one that follows from it (Rekey: Noise, 11.3). The nonce goes on. The other party does the same between the same two
-/// messages. At STRUCT and ONE_WAY all is unchanged.
+/// Changes the key to the one that follows from it (Rekey: Noise, 11.3). The nonce goes on. The other party does the
+/// same between the same two messages. At STRUCT and ONE_WAY all is unchanged.
 #[unsafe(no_mangle)]
 pub extern "C" fn noise_cipher_rekey(kept: &mut NoiseCipher) -> u32
     ensures code { result ≡ held_code (is_cipher kept.old) kept.old }
@@ -136,10 +143,11 @@ pub extern "C" fn noise_cipher_nonce(kept: &NoiseCipher, nonce: &mut u64) -> u32
     }
 }
 
-/// Sets the nonce of the next message (SetNonce: Noise, 11.4), for a transport whose messages name theirs. At STRUCT and ONE_WAY all is unchanged.
+/// Sets the nonce of the next message (SetNonce: Noise, 11.4), for a transport whose messages name theirs. At STRUCT
+/// and ONE_WAY all is unchanged.
 ///
-/// A nonce at which a text was encrypted must not be set again for encryption: whoever has both messages learns how their texts differ, and can
-/// forge others.
+/// A nonce at which a text was encrypted must not be set again for encryption: whoever has both messages learns how
+/// their texts differ, and can forge others.
 #[unsafe(no_mangle)]
 pub extern "C" fn noise_cipher_set_nonce(kept: &mut NoiseCipher, nonce: u64) -> u32
     ensures code { result ≡ held_code (is_cipher kept.old) kept.old }

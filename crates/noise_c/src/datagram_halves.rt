@@ -43,14 +43,15 @@ pub extern "C" fn noise_datagram_receiver_size() -> usize {
     std::mem::size_of::<NoiseDatagramReceiver>()
 }
 
-/// Makes the two halves for datagrams of a handshake whose messages have all passed (Noise, 11.4): none is sealed or opened yet. The handshake
-/// is only read: of one handshake make one pair of halves, of whatever kind, since a second one would seal at the nonces of the first.
+/// Makes the two halves for datagrams of a handshake whose messages have all passed (Noise, 11.4): none is sealed or
+/// opened yet. The handshake is only read: of one handshake make one pair of halves, of whatever kind, since a second
+/// one would seal at the nonces of the first.
 ///
-/// The window has 64, 256 or 1024 nonces: a datagram is opened once whose nonce is less than so many below the greatest one that was
-/// opened. The keys are never renewed.
+/// The window has 64, 256 or 1024 nonces: a datagram is opened once whose nonce is less than so many below the greatest
+/// one that was opened. The keys are never renewed.
 ///
-/// WINDOW at another number, looked for first; ENDED where the handshake has ended, NOT_DONE where messages are still to come: the memory
-/// of the halves is unchanged then.
+/// WINDOW at another number, looked for first; ENDED where the handshake has ended, NOT_DONE where messages are still
+/// to come: the memory of the halves is unchanged then.
 #[unsafe(no_mangle)]
 pub extern "C" fn noise_finish_datagrams(
     kept: &NoiseHandshake,
@@ -60,7 +61,8 @@ pub extern "C" fn noise_finish_datagrams(
 ) -> u32
     ensures window { result ≡ WINDOW ↔ is_window window ≡ false }
     ensures unusable { result ≡ STRUCT ↔ (is_window window ≡ true) × (IsUsable kept.now → ⊥) }
-    ensures code { is_window window ≡ true → (u : IsUsable kept.now) → result ≡ finish_code (held_in u.pattern kept.now) }
+    ensures code { is_window window ≡ true → (u : IsUsable kept.now)
+        → result ≡ finish_code (held_in u.pattern kept.now) }
     ensures stands { result ≡ OK → (p : Plan) (v : View) → KeepsView kept.now p v
         → DatagramSenderStands (datagram_sender_kept_in sender.new) (datagrams_of v (window_in window))
         × DatagramReceiverStands (datagram_receiver_kept_in receiver.new) (datagrams_of v (window_in window)) }
@@ -82,12 +84,14 @@ pub extern "C" fn noise_finish_datagrams(
     }
 }
 
-/// Seals a payload of at most 65519 bytes into the first bytes of `out`, 24 more than it has, and returns how many: the nonce in 8 bytes,
-/// the highest first, and the transport message of that nonce (Noise, 11.4). `out` must not overlap the payload.
+/// Seals a payload of at most 65519 bytes into the first bytes of `out`, 24 more than it has, and returns how many: the
+/// nonce in 8 bytes, the highest first, and the transport message of that nonce (Noise, 11.4). `out` must not overlap
+/// the payload.
 ///
-/// STRUCT at a half of another kind too; ROOM where `out` has fewer than 24 bytes more than the payload; then ONE_WAY, TOO_LONG and EXHAUSTED.
-/// They are looked for in this order, and change nothing. A copy of the half that is used beside the original seals twice at one nonce: whoever
-/// has both learns how their payloads differ, and can forge others.
+/// STRUCT at a half of another kind too; ROOM where `out` has fewer than 24 bytes more than the payload; then ONE_WAY,
+/// TOO_LONG and EXHAUSTED. They are looked for in this order, and change nothing. A copy of the half that is used
+/// beside the original seals twice at one nonce: whoever has both learns how their payloads differ, and can forge
+/// others.
 #[unsafe(no_mangle)]
 pub extern "C" fn noise_datagram_seal(
     kept: &mut NoiseDatagramSender,
@@ -101,10 +105,12 @@ pub extern "C" fn noise_datagram_seal(
         → (take (length payload.now + 24) out.new ≡ datagram v.history v.role v.sent payload.now)
         × DatagramSenderStands (datagram_sender_kept_in kept.new) (record v { sent = v.sent + 1 }) }
     ensures rest { drop (length payload.now + 24) out.new ≡ drop (length payload.now + 24) out.old }
-    ensures counted { result ≡ OK → datagram_sender_kept_in kept.new ≡ record (datagram_sender_kept_in kept.old) { nonce = kept.old.nonce + 1 } }
+    ensures counted { result ≡ OK
+        → datagram_sender_kept_in kept.new ≡ record (datagram_sender_kept_in kept.old) { nonce = kept.old.nonce + 1 } }
     ensures known { result ≡ OK → is_datagram_sender kept.new ≡ true }
     ensures unchanged { OK < result → (kept.new ≡ kept.old) × (out.new ≡ out.old) × (told.new ≡ told.old) }
-    ensures codes { (result ≡ OK) ⊎ (result ≡ TOO_LONG) ⊎ (result ≡ EXHAUSTED) ⊎ (result ≡ ROOM) ⊎ (result ≡ ONE_WAY) ⊎ (result ≡ STRUCT) }
+    ensures codes { (result ≡ OK) ⊎ (result ≡ TOO_LONG) ⊎ (result ≡ EXHAUSTED) ⊎ (result ≡ ROOM) ⊎ (result ≡ ONE_WAY)
+        ⊎ (result ≡ STRUCT) }
 {
     let Some(mut sender) = datagram_sender_of(kept) else {
         return STRUCT;
@@ -123,8 +129,8 @@ pub extern "C" fn noise_datagram_seal(
     }
 }
 
-/// Seals the payload that is in `payload_len` bytes of `buffer`, from the ninth byte on, in place, and returns how many bytes the datagram
-/// has: the first of `buffer`, 24 more than the payload (Noise, 11.4).
+/// Seals the payload that is in `payload_len` bytes of `buffer`, from the ninth byte on, in place, and returns how many
+/// bytes the datagram has: the first of `buffer`, 24 more than the payload (Noise, 11.4).
 ///
 /// The codes are those of `noise_datagram_seal`: ROOM where `buffer` has fewer than 24 bytes more than the payload.
 #[unsafe(no_mangle)]
@@ -140,10 +146,12 @@ pub extern "C" fn noise_datagram_seal_in_place(
         → (take (payload_len + 24) buffer.new ≡ datagram v.history v.role v.sent (take payload_len (drop 8 buffer.old)))
         × DatagramSenderStands (datagram_sender_kept_in kept.new) (record v { sent = v.sent + 1 }) }
     ensures rest { drop (payload_len + 24) buffer.new ≡ drop (payload_len + 24) buffer.old }
-    ensures counted { result ≡ OK → datagram_sender_kept_in kept.new ≡ record (datagram_sender_kept_in kept.old) { nonce = kept.old.nonce + 1 } }
+    ensures counted { result ≡ OK
+        → datagram_sender_kept_in kept.new ≡ record (datagram_sender_kept_in kept.old) { nonce = kept.old.nonce + 1 } }
     ensures known { result ≡ OK → is_datagram_sender kept.new ≡ true }
     ensures unchanged { OK < result → (kept.new ≡ kept.old) × (buffer.new ≡ buffer.old) × (told.new ≡ told.old) }
-    ensures codes { (result ≡ OK) ⊎ (result ≡ TOO_LONG) ⊎ (result ≡ EXHAUSTED) ⊎ (result ≡ ROOM) ⊎ (result ≡ ONE_WAY) ⊎ (result ≡ STRUCT) }
+    ensures codes { (result ≡ OK) ⊎ (result ≡ TOO_LONG) ⊎ (result ≡ EXHAUSTED) ⊎ (result ≡ ROOM) ⊎ (result ≡ ONE_WAY)
+        ⊎ (result ≡ STRUCT) }
 {
     let Some(mut sender) = datagram_sender_of(kept) else {
         return STRUCT;
@@ -162,11 +170,11 @@ pub extern "C" fn noise_datagram_seal_in_place(
     }
 }
 
-/// Opens a datagram in place, and returns where its payload is: from the ninth byte on. The 8 of the nonce in front of it and the 16 of
-/// the tag after it stay as they are. At any answer but OK its bytes and what is kept are unchanged.
+/// Opens a datagram in place, and returns where its payload is: from the ninth byte on. The 8 of the nonce in front of
+/// it and the 16 of the tag after it stay as they are. At any answer but OK its bytes and what is kept are unchanged.
 ///
-/// STRUCT at a half of another kind too; ONE_WAY, SHORT (fewer than 24 bytes), TOO_LONG (more than 65543), RESERVED (the nonce that no message
-/// has: Noise, 5.1), OLD, REPEATED and TAG are looked for in this order.
+/// STRUCT at a half of another kind too; ONE_WAY, SHORT (fewer than 24 bytes), TOO_LONG (more than 65543), RESERVED
+/// (the nonce that no message has: Noise, 5.1), OLD, REPEATED and TAG are looked for in this order.
 #[unsafe(no_mangle)]
 pub extern "C" fn noise_datagram_open(
     kept: &mut NoiseDatagramReceiver,
@@ -174,19 +182,22 @@ pub extern "C" fn noise_datagram_open(
     told: &mut NoiseTold,
 ) -> u32
     ensures unusable { result ≡ STRUCT ↔ is_datagram_receiver kept.old ≡ false }
-    ensures place { result ≡ OK → (told.new ≡ record told.old { from = 8; len = told.new.len }) × (told.new.len + 24 ≡ length datagram.new) }
+    ensures place { result ≡ OK → (told.new ≡ record told.old { from = 8; len = told.new.len })
+        × (told.new.len + 24 ≡ length datagram.new) }
     ensures opens { result ≡ OK → (v : DatagramView) → DatagramReceiverStands (datagram_receiver_kept_in kept.old) v
         → Opens v datagram.old (Ok (slice_range datagram.new told.new.from (told.new.from + told.new.len))) (accepting v (nonce_named datagram.old))
         × DatagramReceiverStands (datagram_receiver_kept_in kept.new) (accepting v (nonce_named datagram.old)) }
     ensures declined { OK < result → result ≢ STRUCT → (fault : DatagramFault) × (result ≡ datagram_code fault)
-        × ((v : DatagramView) → DatagramReceiverStands (datagram_receiver_kept_in kept.old) v → Opens v datagram.old (Err fault) v) }
+        × ((v : DatagramView) → DatagramReceiverStands (datagram_receiver_kept_in kept.old) v
+        → Opens v datagram.old (Err fault) v) }
     ensures beyond { result ≡ OK → (take 8 datagram.new ≡ take 8 datagram.old)
         × (drop (8 + told.new.len) datagram.new ≡ drop (8 + told.new.len) datagram.old) }
     ensures same { result ≡ OK → datagram_receiver_kept_in kept.new
         ≡ record (datagram_receiver_kept_in kept.old) { recent = (datagram_receiver_kept_in kept.new).recent } }
     ensures known { result ≡ OK → is_datagram_receiver kept.new ≡ true }
     ensures unchanged { OK < result → (kept.new ≡ kept.old) × (datagram.new ≡ datagram.old) × (told.new ≡ told.old) }
-    ensures codes { (result ≡ OK) ⊎ (result ≡ TOO_LONG) ⊎ (result ≡ SHORT) ⊎ (result ≡ TAG) ⊎ (result ≡ ONE_WAY) ⊎ (result ≡ STRUCT) ⊎ (result ≡ RESERVED)
+    ensures codes { (result ≡ OK) ⊎ (result ≡ TOO_LONG) ⊎ (result ≡ SHORT) ⊎ (result ≡ TAG) ⊎ (result ≡ ONE_WAY)
+        ⊎ (result ≡ STRUCT) ⊎ (result ≡ RESERVED)
         ⊎ (result ≡ OLD) ⊎ (result ≡ REPEATED) }
 {
     let Some(mut receiver) = datagram_receiver_of(kept) else {

@@ -20,10 +20,11 @@ const HEAD_LEN: usize = 2;
 // The longest message in bytes (Noise, 3).
 const MAX_LEN: usize = 65535;
 
-/// Makes a frame of the message that stands in the `message_len` bytes of `buffer` from the third on: puts its length in front, in two bytes,
-/// the higher first (Noise, 13), and returns how many bytes the frame has.
+/// Makes a frame of the message that stands in the `message_len` bytes of `buffer` from the third on: puts its length
+/// in front, in two bytes, the higher first (Noise, 13), and returns how many bytes the frame has.
 ///
-/// LENGTH where the message has more than 65535 bytes, looked for first; ROOM where `buffer` has fewer than two more. These change nothing.
+/// LENGTH where the message has more than 65535 bytes, looked for first; ROOM where `buffer` has fewer than two more.
+/// These change nothing.
 #[unsafe(no_mangle)]
 pub extern "C" fn noise_frame_message(
     buffer: &mut [u8],
@@ -46,14 +47,18 @@ pub extern "C" fn noise_frame_message(
     OK
 }
 
-/// Looks at the frame that a buffer begins with. OK tells where its message lies, and how many first bytes of the buffer are used then; MORE
-/// how many bytes more the frame wants: first the rest of its length, then that of the message.
+/// Looks at the frame that a buffer begins with. OK tells where its message lies, and how many first bytes of the
+/// buffer are used then; MORE how many bytes more the frame wants: first the rest of its length, then that of the
+/// message.
 #[unsafe(no_mangle)]
 pub extern "C" fn noise_frame_find(buffer: &[u8], told: &mut NoiseStreamTold) -> u32
     ensures more { result ≡ MORE → IsPartial buffer.now }
-    ensures wanted { result ≡ MORE → told.new ≡ record told.old { wanted = frame_length buffer.now - length buffer.now } }
-    ensures found { result ≡ OK → Begins buffer.now (slice_range buffer.now told.new.from (told.new.from + told.new.len)) }
-    ensures place { result ≡ OK → (told.new ≡ record told.old { from = 2; len = told.new.len; used = told.new.len + 2 }) × (told.new.len + 2 ≤ length buffer.now) }
+    ensures wanted { result ≡ MORE
+        → told.new ≡ record told.old { wanted = frame_length buffer.now - length buffer.now } }
+    ensures found { result ≡ OK
+        → Begins buffer.now (slice_range buffer.now told.new.from (told.new.from + told.new.len)) }
+    ensures place { result ≡ OK → (told.new ≡ record told.old { from = 2; len = told.new.len; used = told.new.len + 2 })
+        × (told.new.len + 2 ≤ length buffer.now) }
     ensures codes { (result ≡ OK) ⊎ (result ≡ MORE) }
 {
     match next_frame(buffer) {

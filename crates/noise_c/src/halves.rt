@@ -37,11 +37,12 @@ pub extern "C" fn noise_receiver_size() -> usize {
     std::mem::size_of::<NoiseHalf>()
 }
 
-/// Makes the two halves of a handshake whose messages have all passed, at nonces 0 (Noise, 5.2). The handshake is only read: of one handshake
-/// make one pair of halves, of whatever kind, since a second one would seal at the nonces of the first.
+/// Makes the two halves of a handshake whose messages have all passed, at nonces 0 (Noise, 5.2). The handshake is only
+/// read: of one handshake make one pair of halves, of whatever kind, since a second one would seal at the nonces of the
+/// first.
 ///
-/// The key of a direction is renewed after each `interval` messages (Noise, 11.3); 0 means never. ENDED where the handshake has ended,
-/// NOT_DONE where messages are still to come: the memory of the halves is unchanged then.
+/// The key of a direction is renewed after each `interval` messages (Noise, 11.3); 0 means never. ENDED where the
+/// handshake has ended, NOT_DONE where messages are still to come: the memory of the halves is unchanged then.
 #[unsafe(no_mangle)]
 pub extern "C" fn noise_finish(
     kept: &NoiseHandshake,
@@ -52,7 +53,8 @@ pub extern "C" fn noise_finish(
     ensures unusable { result ≡ STRUCT ↔ (IsUsable kept.now → ⊥) }
     ensures code { (u : IsUsable kept.now) → result ≡ finish_code (held_in u.pattern kept.now) }
     ensures stands { result ≡ OK → (p : Plan) (v : View) → KeepsView kept.now p v
-        → SenderStands (half_kept_in sender.new) (transport_of v interval) × ReceiverStands (half_kept_in receiver.new) (transport_of v interval) }
+        → SenderStands (half_kept_in sender.new) (transport_of v interval)
+        × ReceiverStands (half_kept_in receiver.new) (transport_of v interval) }
     ensures known { result ≡ OK → (is_half SENDER sender.new ≡ true) × (is_half RECEIVER receiver.new ≡ true) }
     ensures unchanged { OK < result → (sender.new ≡ sender.old) × (receiver.new ≡ receiver.old) }
     ensures codes { (result ≡ OK) ⊎ (result ≡ ENDED) ⊎ (result ≡ NOT_DONE) ⊎ (result ≡ STRUCT) }
@@ -68,12 +70,13 @@ pub extern "C" fn noise_finish(
     }
 }
 
-/// Seals a payload of at most 65519 bytes into the first bytes of `out`, 16 more than it has, and returns how many (Noise, 5.2). `out` must
-/// not overlap the payload.
+/// Seals a payload of at most 65519 bytes into the first bytes of `out`, 16 more than it has, and returns how many
+/// (Noise, 5.2). `out` must not overlap the payload.
 ///
-/// STRUCT at a receiving half too; ROOM where `out` has fewer than 16 bytes more than the payload; then ONE_WAY, TOO_LONG and EXHAUSTED. They
-/// are looked for in this order, and change nothing. A copy of the half that is used beside the original seals twice at one nonce: whoever has
-/// both messages learns how their payloads differ, and can forge others.
+/// STRUCT at a receiving half too; ROOM where `out` has fewer than 16 bytes more than the payload; then ONE_WAY,
+/// TOO_LONG and EXHAUSTED. They are looked for in this order, and change nothing. A copy of the half that is used
+/// beside the original seals twice at one nonce: whoever has both messages learns how their payloads differ, and can
+/// forge others.
 #[unsafe(no_mangle)]
 pub extern "C" fn noise_seal(
     kept: &mut NoiseHalf,
@@ -84,7 +87,8 @@ pub extern "C" fn noise_seal(
     ensures code { result ≡ sender_seal_code kept.old (length payload.now) (length out.old) }
     ensures place { result ≡ OK → told.new ≡ record told.old { from = 0; len = length payload.now + 16 } }
     ensures seals { result ≡ OK → (v : TransportView) → SenderStands (half_kept_in kept.old) v
-        → (take (length payload.now + 16) out.new ≡ next_packet v payload.now) × SenderStands (half_kept_in kept.new) (record v { sent = v.sent + 1 }) }
+        → (take (length payload.now + 16) out.new ≡ next_packet v payload.now)
+        × SenderStands (half_kept_in kept.new) (record v { sent = v.sent + 1 }) }
     ensures rest { drop (length payload.now + 16) out.new ≡ drop (length payload.now + 16) out.old }
     ensures counted { result ≡ OK → half_kept_in kept.new ≡ record (half_kept_in kept.old) {
       key = (half_kept_in kept.new).key;
@@ -92,7 +96,8 @@ pub extern "C" fn noise_seal(
     } }
     ensures known { result ≡ OK → is_half SENDER kept.new ≡ true }
     ensures unchanged { OK < result → (kept.new ≡ kept.old) × (out.new ≡ out.old) × (told.new ≡ told.old) }
-    ensures codes { (result ≡ OK) ⊎ (result ≡ TOO_LONG) ⊎ (result ≡ EXHAUSTED) ⊎ (result ≡ ROOM) ⊎ (result ≡ ONE_WAY) ⊎ (result ≡ STRUCT) }
+    ensures codes { (result ≡ OK) ⊎ (result ≡ TOO_LONG) ⊎ (result ≡ EXHAUSTED) ⊎ (result ≡ ROOM) ⊎ (result ≡ ONE_WAY)
+        ⊎ (result ≡ STRUCT) }
 {
     let Some(mut sender) = sender_of(kept) else {
         return STRUCT;
@@ -111,8 +116,8 @@ pub extern "C" fn noise_seal(
     }
 }
 
-/// Seals the payload in the first `payload_len` bytes of `buffer` in place, and returns how many bytes the message has: the first of
-/// `buffer`, 16 more than the payload (Noise, 5.2).
+/// Seals the payload in the first `payload_len` bytes of `buffer` in place, and returns how many bytes the message has:
+/// the first of `buffer`, 16 more than the payload (Noise, 5.2).
 ///
 /// The codes are those of `noise_seal`: ROOM where `buffer` has fewer than 16 bytes more than the payload.
 #[unsafe(no_mangle)]
@@ -134,7 +139,8 @@ pub extern "C" fn noise_seal_in_place(
     } }
     ensures known { result ≡ OK → is_half SENDER kept.new ≡ true }
     ensures unchanged { OK < result → (kept.new ≡ kept.old) × (buffer.new ≡ buffer.old) × (told.new ≡ told.old) }
-    ensures codes { (result ≡ OK) ⊎ (result ≡ TOO_LONG) ⊎ (result ≡ EXHAUSTED) ⊎ (result ≡ ROOM) ⊎ (result ≡ ONE_WAY) ⊎ (result ≡ STRUCT) }
+    ensures codes { (result ≡ OK) ⊎ (result ≡ TOO_LONG) ⊎ (result ≡ EXHAUSTED) ⊎ (result ≡ ROOM) ⊎ (result ≡ ONE_WAY)
+        ⊎ (result ≡ STRUCT) }
 {
     let Some(mut sender) = sender_of(kept) else {
         return STRUCT;
@@ -153,16 +159,17 @@ pub extern "C" fn noise_seal_in_place(
     }
 }
 
-/// Opens a message in place, and returns how many first bytes of it are then the payload (Noise, 5.2). The 16 of the tag after them stay
-/// as they are. At any answer but OK its bytes and the half are unchanged.
+/// Opens a message in place, and returns how many first bytes of it are then the payload (Noise, 5.2). The 16 of the
+/// tag after them stay as they are. At any answer but OK its bytes and the half are unchanged.
 ///
-/// STRUCT at a sending half too; LENGTH where it has more than 65535 bytes; then ONE_WAY, EXHAUSTED, SHORT (fewer than the 16 of a tag) and TAG
-/// are looked for in this order. A message that isn't opened takes no nonce.
+/// STRUCT at a sending half too; LENGTH where it has more than 65535 bytes; then ONE_WAY, EXHAUSTED, SHORT (fewer than
+/// the 16 of a tag) and TAG are looked for in this order. A message that isn't opened takes no nonce.
 #[unsafe(no_mangle)]
 pub extern "C" fn noise_open(kept: &mut NoiseHalf, message: &mut [u8], told: &mut NoiseTold) -> u32
     ensures code { MatchOption (receiver_open_refusal kept.old (length message.old))
         ((result ≡ OK) ⊎ (result ≡ open_code (no_packet (length message.old)))) (λ code. result ≡ code) }
-    ensures place { result ≡ OK → (told.new ≡ record told.old { from = 0; len = told.new.len }) × (told.new.len + 16 ≡ length message.new) }
+    ensures place { result ≡ OK → (told.new ≡ record told.old { from = 0; len = told.new.len })
+        × (told.new.len + 16 ≡ length message.new) }
     ensures opens { result ≡ OK → (v : TransportView) → ReceiverStands (half_kept_in kept.old) v
         → (message.old ≡ due_packet v (slice_range message.new told.new.from (told.new.from + told.new.len)))
         × ReceiverStands (half_kept_in kept.new) (record v { received = v.received + 1 }) }
@@ -175,7 +182,8 @@ pub extern "C" fn noise_open(kept: &mut NoiseHalf, message: &mut [u8], told: &mu
     } }
     ensures known { result ≡ OK → is_half RECEIVER kept.new ≡ true }
     ensures unchanged { OK < result → (kept.new ≡ kept.old) × (message.new ≡ message.old) × (told.new ≡ told.old) }
-    ensures codes { (result ≡ OK) ⊎ (result ≡ SHORT) ⊎ (result ≡ TAG) ⊎ (result ≡ EXHAUSTED) ⊎ (result ≡ ONE_WAY) ⊎ (result ≡ STRUCT) ⊎ (result ≡ LENGTH) }
+    ensures codes { (result ≡ OK) ⊎ (result ≡ SHORT) ⊎ (result ≡ TAG) ⊎ (result ≡ EXHAUSTED) ⊎ (result ≡ ONE_WAY)
+        ⊎ (result ≡ STRUCT) ⊎ (result ≡ LENGTH) }
 {
     let Some(mut receiver) = receiver_of(kept) else {
         return STRUCT;

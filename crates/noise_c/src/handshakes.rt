@@ -1,13 +1,13 @@
 //! Exports: handshakes.
 #![tactic(auto)]
 
-ghost use Rattle.std.specs.Prelude.{◌≡◌, ◌≤◌, ◌<◌, ◌+◌, ◌-◌, ◌⊎◌, ◌↔◌, List, Option, ℕ, length, take, drop, slice_range};
+ghost use Rattle.std.specs.Prelude.{◌≡◌, ◌≤◌, ◌<◌, ◌+◌, ◌-◌, ◌⊎◌, ◌↔◌, List, Option, ℕ, length, take, drop};
 ghost use Rattle.noise_names.specs.Plan.{Plan};
 ghost use Rattle.noise_handshake.specs.View.{View};
-ghost use Rattle.noise_handshake.specs.Wanting.{WantsToRead};
 ghost use Rattle.noise_handshake.specs.Late.{WantsSecretToRead};
-ghost use Rattle.noise_c.specs.Kept.{own_in, remote_told, IsAdded, IsUsable, KeepsView, TellsAnswer, TellsRemote, TellsWant, WasRead, WasDeclined};
-ghost use Rattle.noise_c.specs.declared.codes.TheConstants.{AGREEMENT, DONE, ENDED, FULL, LENGTH, NOT_YOUR_TURN, OK, STRUCT, TAG, WANTED, WANTED_PSK};
+ghost use Rattle.noise_c.specs.Kept.{own_in, remote_told, IsAdded, IsUsable, KeepsView, TellsAnswer, TellsRemote, TellsWant};
+ghost use Rattle.noise_c.specs.Outcomes.{ReadOutcome};
+ghost use Rattle.noise_c.specs.declared.codes.TheConstants.{DONE, ENDED, FULL, LENGTH, NOT_YOUR_TURN, OK, STRUCT, TAG, WANTED, WANTED_PSK};
 
 use crate::codes::{FULL, LENGTH, OK, STRUCT, WANTED, WANTED_PSK, read_code};
 use crate::held::{handshake_of, keep, kept_key};
@@ -22,8 +22,8 @@ pub extern "C" fn noise_handshake_size() -> usize {
     std::mem::size_of::<NoiseHandshake>()
 }
 
-/// Hands in the answer of a key pair of this party to a public key of the other: the result of X25519, 32 bytes. There is room
-/// for 8 answers.
+/// Hands in the answer of a key pair of this party to a public key of the other: the result of X25519, 32 bytes. There
+/// is room for 8 answers.
 #[unsafe(no_mangle)]
 pub extern "C" fn noise_answer(
     kept: &mut NoiseHandshake,
@@ -32,7 +32,8 @@ pub extern "C" fn noise_answer(
     answer: &[u8; 32],
 ) -> u32
     ensures full { result ≡ FULL → (8 ≤ kept.old.answer_count) × (kept.new ≡ kept.old) }
-    ensures added { result ≡ OK → IsAdded kept.old kept.new (record { own = own_in of_static; remote = remote.now; answer = answer.now }) }
+    ensures added { result ≡ OK
+        → IsAdded kept.old kept.new (record { own = own_in of_static; remote = remote.now; answer = answer.now }) }
     ensures room { kept.old.answer_count < 8 → result ≡ OK }
     ensures stays { IsUsable kept.old → IsUsable kept.new }
     ensures codes { (result ≡ OK) ⊎ (result ≡ FULL) }
@@ -93,9 +94,9 @@ fn tell_payload(start: usize, end: usize, told: &mut NoiseTold)
 
 /// Reads a message in place, and returns where its payload is. At any answer but OK its bytes are unchanged.
 ///
-/// WANTED tells the DH answer that is lacking, and WANTED_PSK the other party's static key as it is known before the psk token whose
-/// secret is lacking, also from this message. Both change nothing: hand in what is wanted, and call again. AGREEMENT can only come of
-/// memory that no call has left.
+/// WANTED tells the DH answer that is lacking, and WANTED_PSK the other party's static key as it is known before the
+/// psk token whose secret is lacking, also from this message. Both change nothing: hand in what is wanted, and call
+/// again. AGREEMENT can only come of memory that no call has left.
 #[unsafe(no_mangle)]
 pub extern "C" fn noise_read(
     kept: &mut NoiseHandshake,
@@ -104,30 +105,26 @@ pub extern "C" fn noise_read(
 ) -> u32
     ensures unusable { result ≡ STRUCT ↔ (IsUsable kept.old → ⊥) }
     ensures length { result ≡ LENGTH ↔ ((65535 < length message.old) × IsUsable kept.old) }
-    ensures accepted { result ≡ OK → (p : Plan) (v : View) → KeepsView kept.old p v
-        → WasRead p v message.old (slice_range message.new told.new.from (told.new.from + told.new.len)) kept.new }
+    ensures outcome { (p : Plan) (v : View) → KeepsView kept.old p v
+        → ReadOutcome p v kept.old message.old kept.new message.new told.new result }
     ensures place { result ≡ OK → (told.new ≡ record told.old { from = told.new.from; len = told.new.len })
         × (told.new.from + told.new.len ≤ length message.new) }
     ensures beyond { result ≡ OK → (take told.new.from message.new ≡ take told.new.from message.old)
         × (drop (told.new.from + told.new.len) message.new ≡ drop (told.new.from + told.new.len) message.old) }
-    ensures wanted { result ≡ WANTED → (p : Plan) (v : View) → KeepsView kept.old p v
-        → WantsToRead v message.old (own_in told.new.of_static) told.new.remote }
     ensures told { result ≡ WANTED → TellsAnswer told.old told.new }
-    ensures wanted_psk { result ≡ WANTED_PSK → (p : Plan) (v : View) → KeepsView kept.old p v
-        → WantsSecretToRead v kept.old.secret_count message.old (remote_told told.new) }
     ensures told_psk { result ≡ WANTED_PSK → TellsRemote told.old told.new }
-    ensures asked { IsUsable kept.old → length message.old ≤ 65535 → (p : Plan) (v : View) → KeepsView kept.old p v → (remote : Option (List ℕ))
-        → WantsSecretToRead v kept.old.secret_count message.old remote → (result ≡ WANTED_PSK) × (remote_told told.new ≡ remote) }
-    ensures declined { NOT_YOUR_TURN ≤ result → result ≤ TAG → (p : Plan) (v : View) → KeepsView kept.old p v
-        → WasDeclined p v message.old result told.new.token kept.new }
+    ensures asked { IsUsable kept.old → length message.old ≤ 65535 → (p : Plan) (v : View) → KeepsView kept.old p v →
+        (remote : Option (List ℕ))
+        → WantsSecretToRead v kept.old.secret_count message.old remote → (result ≡ WANTED_PSK)
+        × (remote_told told.new ≡ remote) }
     ensures token { NOT_YOUR_TURN ≤ result → result ≤ TAG → told.new ≡ record told.old { token = told.new.token } }
     ensures quiet { (result ≡ STRUCT) ⊎ (result ≡ LENGTH) → told.new ≡ told.old }
-    ensures answered { result ≡ AGREEMENT → (p : Plan) (v : View) → KeepsView kept.old p v → ⊥ }
     ensures left { (result ≤ ENDED) ⊎ (WANTED ≤ result) → OK < result → kept.new ≡ kept.old }
     ensures unchanged { OK < result → message.new ≡ message.old }
     ensures usable { result ≡ OK → IsUsable kept.new }
     ensures stays { IsUsable kept.old → IsUsable kept.new }
-    ensures codes { (result ≡ OK) ⊎ (result ≡ NOT_YOUR_TURN) ⊎ ((DONE ≤ result) × (result ≤ TAG)) ⊎ (result ≡ WANTED) ⊎ (result ≡ STRUCT) ⊎ (result ≡ LENGTH)
+    ensures codes { (result ≡ OK) ⊎ (result ≡ NOT_YOUR_TURN) ⊎ ((DONE ≤ result) × (result ≤ TAG)) ⊎ (result ≡ WANTED)
+        ⊎ (result ≡ STRUCT) ⊎ (result ≡ LENGTH)
         ⊎ (result ≡ WANTED_PSK) }
 {
     let Some(mut handshake) = handshake_of(kept) else {

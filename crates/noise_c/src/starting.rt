@@ -85,7 +85,8 @@ fn start_with(
     requires short { length text.now ≤ 413 }
     requires named { IsPatternOf text.now pattern }
     ensures code { result ≡ start_code pattern prologue.now setup.now }
-    ensures begun { result ≡ OK → (later : List (List ℕ)) → KeepsView kept.new pattern (begun_in pattern prologue.now setup.now later) }
+    ensures begun { result ≡ OK → (later : List (List ℕ))
+        → KeepsView kept.new pattern (begun_in pattern prologue.now setup.now later) }
     ensures usable { result ≡ OK → IsUsable kept.new }
     ensures text { result ≡ OK → text_in kept.new ≡ text.now }
     ensures unchanged { OK < result → kept.new ≡ kept.old }
@@ -107,12 +108,12 @@ fn start_with(
     }
 }
 
-/// Starts the handshake of one party. The pattern is a protocol name, or a pattern text, whose last byte is a line feed. What
-/// the struct holds before may be anything; at any answer but OK it is left as it was.
+/// Starts the handshake of one party. The pattern is a protocol name, or a pattern text, whose last byte is a line
+/// feed. What the struct holds before may be anything; at any answer but OK it is left as it was.
 ///
-/// NAME is no protocol name of a pattern, PATTERN a text that spells none, or a pattern that isn't valid. LENGTH is a prologue
-/// of more than 65535 bytes. PSK_COUNT is more secrets than the pattern has psk tokens: where there are fewer, reading and writing
-/// ask for the others when their tokens come.
+/// NAME is no protocol name of a pattern, PATTERN a text that spells none, or a pattern that isn't valid. LENGTH is a
+/// prologue of more than 65535 bytes. PSK_COUNT is more secrets than the pattern has psk tokens: where there are fewer,
+/// reading and writing ask for the others when their tokens come.
 #[unsafe(no_mangle)]
 pub extern "C" fn noise_start(
     kept: &mut NoiseHandshake,

@@ -13,12 +13,14 @@ use Rattle.noise_handshake.specs.Held.{Held, ended_as}
 use Rattle.noise_handshake.specs.Late.{with_later, LeavesLateUnread, after_late_declined, WantsSecretToRead}
 use Rattle.noise_handshake.specs.Party.{Stands, DoesNotRead}
 use Rattle.noise_handshake.specs.View.{View, Refuses}
+use Rattle.noise_names.specs.Plan.{Plan}
 use Rattle.noise_c.specs.Codes.{read_code, token_in}
 use Rattle.noise_c.specs.declared.kept.NoiseTold.{NoiseTold}
-use Rattle.noise_c.specs.Kept.{public_in, agreement_in, held_in, IsUsable, TellsWant, WasRead}
+use Rattle.noise_c.specs.Outcomes.ReadOutcome.{accepted, declined, too_long, unusable}
+use Rattle.noise_c.specs.Kept.{public_in, agreement_in, held_in, IsUsable, KeepsView, TellsWant, WasRead}
 use Rattle.noise_c.proofs.Keeps.{secrets-left, ended-kept, plain-leaves, refused-leaves, usable-after, usable-ended, was-declined, opened, was-read, stands-for}
 use Rattle.noise_c.proofs.Numbers.{IsPlain, other, above, beyond, not-before, not-after, too-long, wants-either, wants-from, wants-other, plain-among, plain-within, plain-sort, refused-within, refused-between, refused-among}
-use Rattle.noise_c.proofs.Wants.{reads-answer, reads-secret}
+use Rattle.noise_c.proofs.Wanting.{reads-outcome}
 use Rattle.noise_c.proofs.handshakes.noise_read.Goals as goal
 
 pub returns-in_default : goal.returns-in_default
@@ -27,12 +29,8 @@ returns-in_default c =
     record {
       unusable = (λ _. none, λ _. refl);
       length = (other 23 24 refl, λ w. absurd (none w.1));
-      accepted = other 23 0 refl;
-      wanted = other 23 20 refl;
-      wanted_psk = other 23 40 refl;
+      outcome = λ p v k. unusable none;
       asked = λ u _ _ _ _ _ _. absurd (none u);
-      declined = λ _. above 23 16 refl;
-      answered = other 23 14 refl;
       left = λ _ _. refl;
       unchanged = λ _. refl;
       usable = other 23 0 refl;
@@ -53,12 +51,8 @@ returns-then-message-gt-MAX_LEN c =
     record {
       unusable = (other 24 23 refl, λ none. absurd (none usable));
       length = (λ _. (long, usable), λ _. refl);
-      accepted = other 24 0 refl;
-      wanted = other 24 20 refl;
-      wanted_psk = other 24 40 refl;
+      outcome = λ p v k. too_long long;
       asked = λ _ len _ _ _ _ _. too-long (length c.args.message.now) 65535 long len;
-      declined = λ _. above 24 16 refl;
-      answered = other 24 14 refl;
       left = λ _ _. refl;
       unchanged = λ _. refl;
       usable = other 24 0 refl;
@@ -109,20 +103,16 @@ returns-in-Ok c =
     record {
       unusable = (other 0 23 refl, λ none. absurd (none before));
       length = (other 0 24 refl, λ w. too-long (length c.args.message.now) 65535 w.0 c.if-message-gt-MAX_LEN.false);
-      accepted = λ _ p v k.
+      outcome = λ p v k.
           let s = opened old new h h2 p v c.in-Some.ensures.one c.in-Some.ensures.same stays c.keep.ensures.text same k in
           let r = c.in-Ok.ensures.reads v k.later s in
-          subst (λ (t : NoiseTold). WasRead p v c.args.message.now (slice_range m t.from (t.from + t.len)) new) is
+          accepted (subst (λ (t : NoiseTold). WasRead p v c.args.message.now (slice_range m t.from (t.from + t.len)) new) is
           (was-read old new h h2 p v c.in-Some.ensures.one c.in-Some.ensures.same stays c.keep.ensures.text same k
-          c.args.message.now m start end c.in-Ok.ensures.range.0 r.0 r.1 r.2);
-      wanted = other 0 20 refl;
-      wanted_psk = other 0 40 refl;
+          c.args.message.now m start end c.in-Ok.ensures.range.0 r.0 r.1 r.2));
       asked = λ _ _ p v k remote asks.
           let s = stands-for old h p v c.in-Some.ensures.one c.in-Some.ensures.same k in
           let w = subst (λ (i : ℕ). WantsSecretToRead v i c.args.message.now remote) (sym c.in-Some.ensures.count) asks in
           ok-err (c.in-Ok.start, c.in-Ok.end) _ (c.in-Ok.ensures.asked v k.later s remote w);
-      declined = above 10 0 refl;
-      answered = other 0 14 refl;
       left = λ _. above 1 0 refl;
       unchanged = above 1 0 refl;
       usable = λ _. usable;
@@ -162,17 +152,15 @@ returns-in-Refused c =
     let is : code ≡ read_code fault = c.read_code-code.ensures.code ∙ ap read_code c.in-Err-Declined.fault-is in
     let refused = sym c.in-Err-Declined.fault-is ∙ c.in-Refused.is in
     let within : (14 ≤ code) × (code ≤ 16) = refused-within fault code _ _ is refused in
+    let far : (p : Plan) (v : View) → KeepsView old p v → code ≡ 14 → ⊥ = λ p v k e.
+        let r = c.in-Err-Declined.ensures.reads v k.later (stands-for old h p v c.in-Some.ensures.one c.in-Some.ensures.same k) in
+        let d = subst (λ (u : LateUnread). LeavesLateUnread v (length h.secrets) c.args.message.now u) c.in-Err-Declined.field-0-is r.0 in
+        let why = agreement-of v c.args.message.now fault (sym is ∙ e) d.0 in
+        d.1 why.0 why.1 in
     record {
       unusable = (not-after code 16 23 within.1 refl, λ none. absurd (none (c.in-Some.ensures.usable.0 refl)));
       length = (not-after code 16 24 within.1 refl, λ w. too-long (length c.args.message.now) 65535 w.0 c.if-message-gt-MAX_LEN.false);
-      accepted = not-before code 14 0 within.0 refl;
-      wanted = not-after code 16 20 within.1 refl;
-      wanted_psk = not-after code 16 40 within.1 refl;
-      asked = λ _ _ p v k remote asks.
-          let s = stands-for old h p v c.in-Some.ensures.one c.in-Some.ensures.same k in
-          let w = subst (λ (i : ℕ). WantsSecretToRead v i c.args.message.now remote) (sym c.in-Some.ensures.count) asks in
-          declined-not c.in-Err-Declined.field-0 fault (Secret remote) (c.in-Err-Declined.ensures.asked v k.later s remote w) c.in-Err-Declined.field-0-is;
-      declined = λ _ _ p v k.
+      outcome = λ p v k.
           let over : h2 ≡ ended_as h = refused-leaves h h2 _ fault _ _ c.in-Err-Declined.ensures.state c.in-Err-Declined.field-0-is refused in
           let same : held_in h2.pattern new ≡ h2 = ended-kept old new h h2 refl c.in-Some.ensures.same over in
           let stays : h2.pattern ≡ h.pattern = ap (λ (z : Held Table). z.pattern) over in
@@ -180,14 +168,14 @@ returns-in-Refused c =
           let r = subst (λ (z : LateUnread). LeavesLateUnread v (length h.secrets) c.args.message.now z
           × Stands public_in agreement_in (with_later h2 k.later) (after_late_declined v z))
           c.in-Err-Declined.field-0-is (c.in-Err-Declined.ensures.reads v k.later s) in
-          was-declined old new h h2 p v c.in-Some.ensures.one c.in-Some.ensures.same stays refl same k
+          declined code (omega (arith, within)) within.1 (far p v k)
+          (was-declined old new h h2 p v c.in-Some.ensures.one c.in-Some.ensures.same stays refl same k
           c.args.message.now fault code c.read_code-code.result.1 is
-          (c.read_code-code.ensures.token ∙ ap token_in c.in-Err-Declined.fault-is) r.0.0 r.1;
-      answered = λ e p v k.
-          let r = c.in-Err-Declined.ensures.reads v k.later (stands-for old h p v c.in-Some.ensures.one c.in-Some.ensures.same k) in
-          let d = subst (λ (u : LateUnread). LeavesLateUnread v (length h.secrets) c.args.message.now u) c.in-Err-Declined.field-0-is r.0 in
-          let why = agreement-of v c.args.message.now fault (sym is ∙ e) d.0 in
-          d.1 why.0 why.1;
+          (c.read_code-code.ensures.token ∙ ap token_in c.in-Err-Declined.fault-is) r.0.0 r.1);
+      asked = λ _ _ p v k remote asks.
+          let s = stands-for old h p v c.in-Some.ensures.one c.in-Some.ensures.same k in
+          let w = subst (λ (i : ℕ). WantsSecretToRead v i c.args.message.now remote) (sym c.in-Some.ensures.count) asks in
+          declined-not c.in-Err-Declined.field-0 fault (Secret remote) (c.in-Err-Declined.ensures.asked v k.later s remote w) c.in-Err-Declined.field-0-is;
       left = λ outside _. refused-between code within outside;
       unchanged = λ _. c.in-Err-Declined.ensures.unchanged;
       usable = not-before code 14 0 within.0 refl;
@@ -215,14 +203,7 @@ returns-in_default-fault c =
     record {
       unusable = (not-after code 13 23 within.1 refl, λ none. absurd (none (c.in-Some.ensures.usable.0 refl)));
       length = (not-after code 13 24 within.1 refl, λ w. too-long (length c.args.message.now) 65535 w.0 c.if-message-gt-MAX_LEN.false);
-      accepted = not-before code 10 0 within.0 refl;
-      wanted = not-after code 13 20 within.1 refl;
-      wanted_psk = not-after code 13 40 within.1 refl;
-      asked = λ _ _ p v k remote asks.
-          let s = stands-for old h p v c.in-Some.ensures.one c.in-Some.ensures.same k in
-          let w = subst (λ (i : ℕ). WantsSecretToRead v i c.args.message.now remote) (sym c.in-Some.ensures.count) asks in
-          declined-not c.in-Err-Declined.field-0 fault (Secret remote) (c.in-Err-Declined.ensures.asked v k.later s remote w) c.in-Err-Declined.field-0-is;
-      declined = λ _ _ p v k.
+      outcome = λ p v k.
           let as_was : h2 ≡ h = plain-leaves h h2 _ fault plain c.in-Err-Declined.ensures.state c.in-Err-Declined.field-0-is in
           let same : held_in h2.pattern old ≡ h2 = subst (λ (z : Held Table). held_in z.pattern old ≡ z) (sym as_was) (sym c.in-Some.ensures.same) in
           let stays : h2.pattern ≡ h.pattern = ap (λ (z : Held Table). z.pattern) as_was in
@@ -230,10 +211,14 @@ returns-in_default-fault c =
           let r = subst (λ (z : LateUnread). LeavesLateUnread v (length h.secrets) c.args.message.now z
           × Stands public_in agreement_in (with_later h2 k.later) (after_late_declined v z))
           c.in-Err-Declined.field-0-is (c.in-Err-Declined.ensures.reads v k.later s) in
-          was-declined old old h h2 p v c.in-Some.ensures.one c.in-Some.ensures.same stays refl same k
+          declined code within.0 (omega (arith, within)) (not-after code 13 14 within.1 refl)
+          (was-declined old old h h2 p v c.in-Some.ensures.one c.in-Some.ensures.same stays refl same k
           c.args.message.now fault code c.read_code-code.result.1 is
-          (c.read_code-code.ensures.token ∙ ap token_in c.in-Err-Declined.fault-is) r.0.0 r.1;
-      answered = not-after code 13 14 within.1 refl;
+          (c.read_code-code.ensures.token ∙ ap token_in c.in-Err-Declined.fault-is) r.0.0 r.1);
+      asked = λ _ _ p v k remote asks.
+          let s = stands-for old h p v c.in-Some.ensures.one c.in-Some.ensures.same k in
+          let w = subst (λ (i : ℕ). WantsSecretToRead v i c.args.message.now remote) (sym c.in-Some.ensures.count) asks in
+          declined-not c.in-Err-Declined.field-0 fault (Secret remote) (c.in-Err-Declined.ensures.asked v k.later s remote w) c.in-Err-Declined.field-0-is;
       left = λ _ _. refl;
       unchanged = λ _. c.in-Err-Declined.ensures.unchanged;
       usable = not-before code 10 0 within.0 refl;
@@ -248,22 +233,14 @@ returns-in_default-fault c =
     }
 
 -- what the message wants is told
-pub returns-in-Err-Wants-clause-wanted : goal.returns-in-Err-Wants-clause-wanted
-returns-in-Err-Wants-clause-wanted c e p v k =
-    let s = stands-for c.args.kept.now c.in-Some.handshake p v c.in-Some.ensures.one c.in-Some.ensures.same k in
-    let n : ℕ = length c.in-Some.handshake.secrets in
-    let r = subst (λ (u : LateUnread). LeavesLateUnread v n c.args.message.now u) c.in-Err-Wants.field-0-is (c.in-Err-Wants.ensures.reads v k.later s).0 in
-    reads-answer v n c.args.message.now c.in-Err-Wants.want c.tell.new.told c.tell.result
-    (subst (λ (w : Want). TellsWant w c.tell.new.told c.tell.result) c.in-Err-Wants.want-is c.tell.ensures.want) e r
-
-pub returns-in-Err-Wants-clause-wanted_psk : goal.returns-in-Err-Wants-clause-wanted_psk
-returns-in-Err-Wants-clause-wanted_psk c e p v k =
-    let s = stands-for c.args.kept.now c.in-Some.handshake p v c.in-Some.ensures.one c.in-Some.ensures.same k in
-    let n : ℕ = c.args.kept.now.secret_count in
-    let r = subst (λ (u : LateUnread). LeavesLateUnread v n c.args.message.now u) c.in-Err-Wants.field-0-is
-    (subst (λ (i : ℕ). LeavesLateUnread v i c.args.message.now c.in-Err-Wants.field-0) c.in-Some.ensures.count (c.in-Err-Wants.ensures.reads v k.later s).0) in
-    reads-secret v n c.args.message.now c.in-Err-Wants.want c.tell.new.told c.tell.result
-    (subst (λ (w : Want). TellsWant w c.tell.new.told c.tell.result) c.in-Err-Wants.want-is c.tell.ensures.want) e r
+pub returns-in-Err-Wants-clause-outcome : goal.returns-in-Err-Wants-clause-outcome
+returns-in-Err-Wants-clause-outcome c p v k =
+    let h = c.in-Some.handshake in
+    let s = stands-for c.args.kept.now h p v c.in-Some.ensures.one c.in-Some.ensures.same k in
+    let leaves = subst (λ (u : LateUnread). LeavesLateUnread v (length h.secrets) c.args.message.now u) c.in-Err-Wants.field-0-is
+    (c.in-Err-Wants.ensures.reads v k.later s).0 in
+    reads-outcome p v c.args.kept.now c.args.message.now c.read_or_ask.new.message (length h.secrets) c.in-Err-Wants.want c.tell.new.told c.tell.result
+    (subst (λ (w : Want). TellsWant w c.tell.new.told c.tell.result) c.in-Err-Wants.want-is c.tell.ensures.want) c.in-Some.ensures.count leaves
 
 want-same : (u : LateUnread) (a b : Want) → ◌≡◌ {A = Result (ℕ × ℕ) LateUnread} (Err u) (Err (unread.Wants b)) → u ≡ unread.Wants a → a ≡ b
 want-same u a b e f = cc
@@ -290,22 +267,6 @@ returns-in-Err-Wants-clause-length c = (
       (subst (λ (w : Want). TellsWant w c.tell.new.told c.tell.result) c.in-Err-Wants.want-is c.tell.ensures.want) refl refl,
   λ w. too-long (length c.args.message.now) 65535 w.0 c.if-message-gt-MAX_LEN.false,
 )
-
-pub returns-in-Err-Wants-clause-accepted : goal.returns-in-Err-Wants-clause-accepted
-returns-in-Err-Wants-clause-accepted c =
-    wants-other c.in-Err-Wants.want c.tell.new.told c.tell.result 0
-    (subst (λ (w : Want). TellsWant w c.tell.new.told c.tell.result) c.in-Err-Wants.want-is c.tell.ensures.want) refl refl
-
-pub returns-in-Err-Wants-clause-declined : goal.returns-in-Err-Wants-clause-declined
-returns-in-Err-Wants-clause-declined c _ low =
-    let from : 20 ≤ c.tell.result = wants-from c.in-Err-Wants.want c.tell.new.told c.tell.result
-    (subst (λ (w : Want). TellsWant w c.tell.new.told c.tell.result) c.in-Err-Wants.want-is c.tell.ensures.want) in
-    beyond c.tell.result 20 16 from refl low
-
-pub returns-in-Err-Wants-clause-answered : goal.returns-in-Err-Wants-clause-answered
-returns-in-Err-Wants-clause-answered c =
-    wants-other c.in-Err-Wants.want c.tell.new.told c.tell.result 14
-    (subst (λ (w : Want). TellsWant w c.tell.new.told c.tell.result) c.in-Err-Wants.want-is c.tell.ensures.want) refl refl
 
 pub returns-in-Err-Wants-clause-unchanged : goal.returns-in-Err-Wants-clause-unchanged
 returns-in-Err-Wants-clause-unchanged c =

@@ -16,29 +16,27 @@ use Rattle.noise_handshake.specs.View.{View}
 use Rattle.noise_c.specs.Codes.{write_code}
 use Rattle.noise_c.specs.Kept.{held_in, text_in, IsPatternOf, KeepsView, TellsWant}
 use Rattle.noise_c.proofs.Keeps.{secrets-left, opened, usable-after, was-written, stands-for, length-for}
-use Rattle.noise_c.proofs.Numbers.{other, above, beyond, not-before, not-after, too-long, wants-either, wants-from, wants-other, withheld-within, withheld-agreement}
-use Rattle.noise_c.proofs.Wants.{writes-answer, writes-secret}
+use Rattle.noise_c.specs.Outcomes.WriteOutcome.{written, withheld, no_room, unusable}
+use Rattle.noise_c.proofs.Numbers.{other, above, beyond, not-before, not-after, too-long, under, wants-either, wants-from, wants-other}
+use Rattle.noise_c.proofs.Numbers.{withheld-within, withheld-agreement}
+use Rattle.noise_c.proofs.Wanting.{writes-outcome}
 use Rattle.noise_c.proofs.writing.noise_write.Goals as goal
 use goal.{in-Some-message_len+else-needed-out, in_default-message_len}
 
 pub returns-in_default : goal.returns-in_default
 returns-in_default c = record {
   unusable = (λ _ u. false≢true (c.in_default.ensures.usable.1 u), λ _. refl);
-  written = other 23 0 refl;
+  outcome = λ p v k. unusable (λ u. false≢true (c.in_default.ensures.usable.1 u));
   stays = other 23 0 refl;
   len = other 23 0 refl;
   place = other 23 0 refl;
   beyond = other 23 0 refl;
   room = other 23 18 refl;
   short = λ _ _ _ _ _. inr refl;
-  wanted = other 23 20 refl;
-  wanted_psk = other 23 40 refl;
   told = other 23 20 refl;
   told_psk = other 23 40 refl;
   quiet = λ _. refl;
   asked = λ u _ _ _ _ _ _ _. absurd (false≢true (c.in_default.ensures.usable.1 u));
-  withheld = λ _. above 23 14 refl;
-  answered = other 23 14 refl;
   unchanged = λ _. refl;
   out = λ _ _. refl;
   codes = inr (inr (inr (inr (inl refl))));
@@ -58,22 +56,18 @@ returns-then-needed-out c =
     λ p named. length-for old h p n c.in-Some.ensures.one c.in-Some.ensures.same named ∙ sym c.message_len.ensures ∙ c.in-Some-message_len.is in
     record {
       unusable = (other 18 23 refl, λ none. absurd (none (c.in-Some.ensures.usable.0 refl)));
-      written = other 18 0 refl;
+      outcome = λ p v k. no_room (len p k.pattern) c.if-needed-out.true;
       stays = other 18 0 refl;
       len = other 18 0 refl;
       place = other 18 0 refl;
       beyond = other 18 0 refl;
       room = λ _. (refl, c.if-needed-out.true, len);
       short = λ _ _ _ _ _. inl refl;
-      wanted = other 18 20 refl;
-      wanted_psk = other 18 40 refl;
       told = other 18 20 refl;
       told_psk = other 18 40 refl;
       quiet = ⊎_elim (λ w. above 18 14 refl w.1) (other 18 23 refl);
       asked = λ _ p v k _ m e fits. too-long needed _ c.if-needed-out.true
           (subst (λ (z : ℕ). z ≤ length c.args.out.now) (same-len _ m needed e (len p k.pattern)) fits);
-      withheld = λ _. above 18 14 refl;
-      answered = other 18 14 refl;
       unchanged = λ _. refl;
       out = λ _ _. refl;
       codes = inr (inr (inl refl));
@@ -118,11 +112,11 @@ returns-in-Ok c =
     c.in-Some.ensures.count c.in-Some.ensures.same c.in-Ok.ensures.state.secrets c.secrets.ensures.same) in
     record {
       unusable = (other 0 23 refl, λ none. absurd (none usable));
-      written = λ _ p v k.
+      outcome = λ p v k.
           let s = opened old new h h2 p v c.in-Some.ensures.one c.in-Some.ensures.same stays c.keep.ensures.text same k in
           let r = c.in-Ok.ensures.writes v k.later s in
-          was-written old new h h2 p v c.in-Some.ensures.one c.in-Some.ensures.same stays c.keep.ensures.text same k
-          c.args.payload.now (take c.in-Ok.len c.write_or_ask.new.out) r.0 r.1 r.2;
+          written (was-written old new h h2 p v c.in-Some.ensures.one c.in-Some.ensures.same stays c.keep.ensures.text same k
+          c.args.payload.now (take c.in-Ok.len c.write_or_ask.new.out) r.0 r.1 r.2);
       stays = λ _. usable-after old new h h2 usable c.keep.ensures.mark c.keep.ensures.text_len c.keep.ensures.answers
           (omega (arith, c.keep.ensures.secrets, c.secrets.ensures.few)) c.keep.ensures.text c.in-Some.ensures.named stays
           c.progress.ensures.valid same c.progress.ensures.whole;
@@ -136,8 +130,6 @@ returns-in-Ok c =
             | in-Some-message_len+else-needed-out w ↦ some-fits _ _ _ w.in-Some-message_len.is w.if-needed-out.false m (c.message_len.ensures ∙ f)
             | in_default-message_len w ↦ none-fits _ _ w.in_default-message_len.is m (c.message_len.ensures ∙ f)
           ]);
-      wanted = other 0 20 refl;
-      wanted_psk = other 0 40 refl;
       told = other 0 20 refl;
       told_psk = other 0 40 refl;
       quiet = ⊎_elim (λ w. above 10 0 refl w.0) (other 0 23 refl);
@@ -146,8 +138,6 @@ returns-in-Ok c =
           let s = stands-for old h p v c.in-Some.ensures.one c.in-Some.ensures.same k in
           let x = subst (λ (i : ℕ). WantsSecretToWrite v i) (sym c.in-Some.ensures.count) w in
           ok-err c.in-Ok.len _ (c.in-Ok.ensures.asked (due _ _ m f) v k.later s x);
-      withheld = above 10 0 refl;
-      answered = other 0 14 refl;
       unchanged = above 1 0 refl;
       out = above 1 0 refl;
       codes = inl refl;
@@ -167,7 +157,8 @@ returns-in-Err-Wants c =
     (c.in-Err-Wants.ensures.writes v k.later (stands-for old h p v c.in-Some.ensures.one c.in-Some.ensures.same k)).0 in
     record {
       unusable = (wants-other want told code 23 t refl refl, λ none. absurd (none (c.in-Some.ensures.usable.0 refl)));
-      written = wants-other want told code 0 t refl refl;
+      outcome = λ p v k. writes-outcome p v old c.args.payload.now (length c.args.out.now) c.write_or_ask.new.out (length h.secrets) want told code t
+          c.in-Some.ensures.count (leaves p v k);
       stays = wants-other want told code 0 t refl refl;
       len = wants-other want told code 0 t refl refl;
       place = wants-other want told code 0 t refl refl;
@@ -179,10 +170,6 @@ returns-in-Err-Wants c =
             | in-Some-message_len+else-needed-out w ↦ some-fits _ _ _ w.in-Some-message_len.is w.if-needed-out.false m (c.message_len.ensures ∙ f)
             | in_default-message_len w ↦ none-fits _ _ w.in_default-message_len.is m (c.message_len.ensures ∙ f)
           ]);
-      wanted = λ e p v k. writes-answer v (length h.secrets) want told code t e (leaves p v k);
-      wanted_psk = λ e p v k.
-          let r = writes-secret v (length h.secrets) want told code t e (leaves p v k) in
-          (subst (λ (i : ℕ). WantsSecretToWrite v i) c.in-Some.ensures.count r.0, r.1);
       told = c.tell.ensures.answer;
       told_psk = c.tell.ensures.remote;
       quiet = ⊎_elim (λ w. beyond code 20 14 (wants-from want told code t) refl w.1) (wants-other want told code 23 t refl refl);
@@ -193,8 +180,6 @@ returns-in-Err-Wants c =
           let same : want ≡ Secret h.remote.s = want-same c.in-Err-Wants.field-0 want _
           (c.in-Err-Wants.ensures.asked (due _ _ m f) v k.later s x) c.in-Err-Wants.field-0-is in
           (subst (λ (z : Want). TellsWant z told code) same t).0;
-      withheld = λ _. beyond code 20 14 (wants-from want told code t) refl;
-      answered = wants-other want told code 14 t refl refl;
       unchanged = λ _. refl;
       out = λ _ _. c.in-Err-Wants.ensures.asks (subst IsLateWant (sym c.in-Err-Wants.field-0-is) tt);
       codes = ⊎_elim (λ e. inr (inr (inr (inl e)))) (λ e. inr (inr (inr (inr (inr e))))) (wants-either want told code t);
@@ -224,7 +209,9 @@ returns-in-Err-Withheld c =
     (c.in-Err-Withheld.ensures.writes v k.later (stands-for old h p v c.in-Some.ensures.one c.in-Some.ensures.same k)).0 in
     record {
       unusable = (not-after code 14 23 within.1 refl, λ none. absurd (none (c.in-Some.ensures.usable.0 refl)));
-      written = not-before code 10 0 within.0 refl;
+      outcome = λ p v k.
+          let far : code ≡ 14 → ⊥ = λ e. (leaves p v k).1 (withheld-agreement fault (sym is ∙ e)) in
+          withheld code within.0 (under code 14 within.1 far) (record { fault = fault; code_is = is; withholds = (leaves p v k).0 });
       stays = not-before code 10 0 within.0 refl;
       len = not-before code 10 0 within.0 refl;
       place = not-before code 10 0 within.0 refl;
@@ -236,8 +223,6 @@ returns-in-Err-Withheld c =
             | in-Some-message_len+else-needed-out w ↦ some-fits _ _ _ w.in-Some-message_len.is w.if-needed-out.false m (c.message_len.ensures ∙ f)
             | in_default-message_len w ↦ none-fits _ _ w.in_default-message_len.is m (c.message_len.ensures ∙ f)
           ]);
-      wanted = not-after code 14 20 within.1 refl;
-      wanted_psk = not-after code 14 40 within.1 refl;
       told = not-after code 14 20 within.1 refl;
       told_psk = not-after code 14 40 within.1 refl;
       quiet = λ _. refl;
@@ -246,8 +231,6 @@ returns-in-Err-Withheld c =
           let s = stands-for old h p v c.in-Some.ensures.one c.in-Some.ensures.same k in
           let x = subst (λ (i : ℕ). WantsSecretToWrite v i) (sym c.in-Some.ensures.count) w in
           withheld-not c.in-Err-Withheld.field-0 fault _ (c.in-Err-Withheld.ensures.asked (due _ _ m f) v k.later s x) c.in-Err-Withheld.field-0-is;
-      withheld = λ _ _ p v k. record { fault = fault; code_is = is; withholds = (leaves p v k).0 };
-      answered = λ e p v k. (leaves p v k).1 (withheld-agreement fault (sym is ∙ e));
       unchanged = λ _. refl;
       out = λ _ others. kept-out (write_fault h n) c.in-Err-Withheld.field-0 fault (c.write_or_ask.new.out ≡ c.args.out.now)
           c.in-Err-Withheld.field-0-is c.in-Err-Withheld.ensures.fault (λ e. others (is ∙ e));
