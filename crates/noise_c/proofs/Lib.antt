@@ -1,3 +1,7 @@
+pub mod Among
+pub mod AskingToRead
+pub mod AskingToWrite
+pub mod Four
 pub mod Runs
 pub mod Finished
 pub mod Keeps

@@ -14,10 +14,10 @@ use Rattle.noise_handshake.specs.Held.{Held}
 use Rattle.noise_handshake.specs.Late.{with_later}
 use Rattle.noise_handshake.specs.Party.{Stands}
 use Rattle.noise_handshake.specs.View.{View}
-use Rattle.noise_answers.specs.Answers.{Answers, AnsweredIsWhole, AskedIsLacking, AskedToRead, AskedToWrite, FourSuffice, FourSufficeToWrite, HasKeys}
-use Rattle.noise_answers.specs.Answers.{IsHandedIn, with_answers}
-use Rattle.noise_answers.specs.Answers.AskedToRead.{ready as none_to_read, asked as one_to_read}
-use Rattle.noise_answers.specs.Answers.AskedToWrite.{ready as none_to_write, asked as one_to_write}
+use Rattle.noise_c.specs.Answers.{Answers, AnsweredIsWhole, AskedIsLacking, AskedToRead, AskedToWrite, FourSuffice, FourSufficeToWrite, HasKeys}
+use Rattle.noise_c.specs.Answers.{IsHandedIn, with_answers}
+use Rattle.noise_c.specs.Answers.AskedToRead.{ready as none_to_read, asked as one_to_read}
+use Rattle.noise_c.specs.Answers.AskedToWrite.{ready as none_to_write, asked as one_to_write}
 use Rattle.noise_c.specs.declared.kept.NoiseHandshake.{NoiseHandshake}
 use Rattle.noise_c.specs.Kept.{IsAdded, IsPatternOf, KeepsView, agreement_in, public_in, table_in}
 use Rattle.noise_c.specs.Answered.{ReadsByAnswers, WritesByAnswers, ReadsAsLibrary, WritesAsLibrary, answers_in}

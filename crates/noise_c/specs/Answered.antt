@@ -5,7 +5,7 @@ use Rattle.noise_names.specs.Validity.{IsValid}
 use Rattle.noise_keys.specs.declared.keys.Own.{Own}
 use Rattle.noise_handshake.specs.View.{View}
 use Rattle.noise_handshake.specs.Wanting.{WantsToRead, WantsToWrite}
-use Rattle.noise_answers.specs.Answers.{Answers, AreAmong, AnswersAsAll, HasKeys, with_answers}
+use Rattle.noise_c.specs.Answers.{Answers, AreAmong, AnswersAsAll, HasKeys, with_answers}
 use Rattle.noise_c.specs.declared.kept.NoiseHandshake.{NoiseHandshake}
 use Rattle.noise_c.specs.Kept.{IsAdded, KeepsView, agreement_in, table_in}
 

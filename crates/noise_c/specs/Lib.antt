@@ -1,4 +1,5 @@
 pub mod Answered
+pub mod Answers
 pub mod Checked
 pub mod Codes
 pub mod Kept

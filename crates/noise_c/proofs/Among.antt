@@ -16,7 +16,7 @@ use Rattle.noise_handshake.specs.View.{Reader, Fits, Fit, known_after, secrets_a
 use Rattle.noise_handshake.specs.View.{View, tokens_now}
 use Rattle.noise_handshake.specs.Writing.{Writer, Gives, Given, Writes}
 use Rattle.noise_names.specs.Plan.{has_psk}
-use Rattle.noise_answers.specs.Answers.{Answers, AreAmong, AnswersAsAll, with_answers}
+use Rattle.noise_c.specs.Answers.{Answers, AreAmong, AnswersAsAll, with_answers}
 use Rattle.noise_names.specs.Lists.{split-apart, cons-same}
 
 -- ---- lists

@@ -15,9 +15,9 @@ use Rattle.noise_handshake.specs.Message.{token_bytes, after_token, before_paylo
 use Rattle.noise_handshake.specs.View.{View, Reader, reader, Fits, known_after, secrets_after, BeginsAs, CanBegin, Stops, answered, cause_of, cause_at, learned}
 use Rattle.noise_handshake.specs.View.{own_at, remote_at, first_secret, tokens_now}
 use Rattle.noise_handshake.specs.Wanting.{StopsFor, WantsToRead}
-use Rattle.noise_answers.proofs.Among.{fit-all}
-use Rattle.noise_answers.specs.Answers.{Answers, AreAmong, AskedToRead, IsHandedIn, with_answers}
-use Rattle.noise_answers.specs.Answers.AskedToRead.{ready, asked}
+use Rattle.noise_c.proofs.Among.{fit-all}
+use Rattle.noise_c.specs.Answers.{Answers, AreAmong, AskedToRead, IsHandedIn, with_answers}
+use Rattle.noise_c.specs.Answers.AskedToRead.{ready, asked}
 
 -- ---- the tokens
 

@@ -1,9 +1,9 @@
 use Rattle.std.proofs.Common.{arith}
-use Rattle.noise_answers.proofs.Among.{answers-as-all}
-use Rattle.noise_answers.proofs.Asking.{asked-to-read, read-lacks}
-use Rattle.noise_answers.proofs.AskingToWrite.{asked-to-write, write-lacks}
-use Rattle.noise_answers.proofs.Four.{at-most-four}
-use Rattle.noise_answers.proofs.answered_is_whole.Goals as goal
+use Rattle.noise_c.proofs.Among.{answers-as-all}
+use Rattle.noise_c.proofs.AskingToRead.{asked-to-read, read-lacks}
+use Rattle.noise_c.proofs.AskingToWrite.{asked-to-write, write-lacks}
+use Rattle.noise_c.proofs.Four.{at-most-four}
+use Rattle.noise_c.proofs.answered.answered_is_whole.Goals as goal
 
 pub returns-clause-whole : goal.returns-clause-whole
 returns-clause-whole c = answers-as-all

@@ -11,10 +11,10 @@ use Rattle.noise_handshake.specs.Counterparts.{is_dh}
 use Rattle.noise_handshake.specs.View.{View, answered, own_at, remote_at, first_secret, secrets_after, tokens_now}
 use Rattle.noise_handshake.specs.Wanting.{LacksAnswerFor, WantsToWrite}
 use Rattle.noise_handshake.specs.Writing.{Writer, writer, Gives, Given, LacksAnswerAt}
-use Rattle.noise_answers.specs.Answers.{Answers, AreAmong, AskedToWrite, HasKeys, IsHandedIn, Shows, with_answers}
-use Rattle.noise_answers.specs.Answers.AskedToWrite.{ready, asked}
-use Rattle.noise_answers.proofs.Among.{given-all}
-use Rattle.noise_answers.proofs.Asking.{among-next, at-most, counts, drop-through, secrets_left, take-through}
+use Rattle.noise_c.specs.Answers.{Answers, AreAmong, AskedToWrite, HasKeys, IsHandedIn, Shows, with_answers}
+use Rattle.noise_c.specs.Answers.AskedToWrite.{ready, asked}
+use Rattle.noise_c.proofs.Among.{given-all}
+use Rattle.noise_c.proofs.AskingToRead.{among-next, at-most, counts, drop-through, secrets_left, take-through}
 
 -- a text is given for each of these tokens
 abbrev IsGiven : Writer → Remote → List (List ℕ) → List Token → Type 0

@@ -1,4 +1,0 @@
-pub mod Among
-pub mod Asking
-pub mod AskingToWrite
-pub mod Four
