@@ -9,3 +9,4 @@ pub mod Payloads
 pub mod Places
 pub mod Told
 pub mod Xor
+pub mod Mixed

@@ -5,6 +5,7 @@ pub mod Datagrams
 pub mod Entries
 pub mod Exactly
 pub mod Lines
+pub mod Mixed
 pub mod Payloads
 pub mod Setup
 pub mod Taking

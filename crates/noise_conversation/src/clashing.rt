@@ -1,11 +1,28 @@
 //! Where the texts that two parties hashed clash.
 #![tactic(auto)]
 
-ghost use Rattle.std.specs.Prelude.{◌≡◌};
-ghost use Rattle.noise_duel.specs.Clash.{clash, first_clash};
+ghost use Rattle.std.specs.Prelude.{◌≡◌, ◌≢◌, ◌<◌, length, IfOk, IsSome, MatchOption, None};
+ghost use Rattle.noise_state.specs.History.{History, hash};
+ghost use Rattle.noise_duel.specs.Clash.{clash, clash_position, first_clash};
+ghost use Rattle.noise_duel.specs.Collision.{hash_texts};
 ghost use Rattle.noise_duel.specs.Entries.{bytes_of};
+ghost use Rattle.noise_conversation.specs.Mixed.{HasMixed, IsHashClash};
 
+use noise_duel::clash_told;
+use noise_state::SymmetricState;
 use sha2::{Digest, Sha256};
+use std::alloc::{AllocError, Global};
+
+/// Two different texts with one SHA-256 digest, which two parties hashed at the same position.
+#[derive(Debug, Drop, PartialEq, Eq)]
+pub struct HashClash {
+    /// The position among the texts that each party hashed, counted from 0.
+    pub position: usize,
+    /// The text of the first party: its hash before that position, and what it mixed there.
+    pub left: Vec<u8>,
+    /// The text of the second party.
+    pub right: Vec<u8>,
+}
 
 // Whether two texts are different ones with one digest.
 fn is_clash(left: &[u8], right: &[u8]) -> bool
@@ -28,4 +45,49 @@ pub fn find_clash(left: &[Vec<u8>], right: &[Vec<u8>]) -> Option<usize>
         }
     }
     None
+}
+
+/// Two parties of one protocol name mixed these texts into their hashes, each the first one first: the first two of the texts that they hashed so which
+/// differ with one SHA-256 digest. None where there are none.
+///
+/// Where both mixed as many texts, and not the same, and have one handshake hash, there are such two. What a party mixes is what MixHash, EncryptAndHash and
+/// DecryptAndHash add to `h`: the prologue, public keys and payloads as they travel; and of each psk the second output of HKDF, a secret (Noise, 5.2).
+pub fn find_mix_hash_clash(
+    alloc: Global,
+    name: &[u8],
+    left: &[Vec<u8>],
+    right: &[Vec<u8>],
+) -> Result<Option<HashClash>, AllocError>
+    ensures found { (r s : History) → HasMixed r name.now (bytes_of left.now) → HasMixed s name.now (bytes_of right.now)
+        → IfOk result (λ found. MatchOption found (clash_position r s ≡ None) (λ told. IsHashClash r s told)) }
+    ensures there { (r s : History) → HasMixed r name.now (bytes_of left.now) → HasMixed s name.now (bytes_of right.now)
+        → length left.now ≡ length right.now → bytes_of left.now ≢ bytes_of right.now → hash r ≡ hash s
+        → IfOk result (λ found. IsSome found) }
+{
+    clash_told();
+    let mut first = texts_hashed(alloc, name, left)?;
+    let mut second = texts_hashed(alloc, name, right)?;
+    match find_clash(&first, &second) {
+        Some(position) => Ok(Some(HashClash {
+            position,
+            left: first.swap_remove(position),
+            right: second.swap_remove(position),
+        })),
+        None => Ok(None),
+    }
+}
+
+// The texts that a party of this protocol name hashes as it mixes these, the first one first: each is the hash before it and what is mixed.
+fn texts_hashed(alloc: Global, name: &[u8], mixed: &[Vec<u8>]) -> Result<Vec<Vec<u8>>, AllocError>
+    ensures { (r : History) → HasMixed r name.now (bytes_of mixed.now) → IfOk result (λ texts. bytes_of texts.items ≡ hash_texts r) }
+{
+    let mut state = SymmetricState::new(name);
+    let mut texts = Vec::new(alloc);
+    for piece in mixed {
+        let mut text = Vec::from_slice(alloc, &state.hash())?;
+        text.extend_from_slice(piece)?;
+        texts.push(text)?;
+        state.mix_hash(piece);
+    }
+    Ok(texts)
 }

@@ -17,7 +17,7 @@ mod taking;
 
 pub use answers::xor_keys_answer;
 pub use clash::run_apart;
-pub use clashing::find_clash;
+pub use clashing::{HashClash, find_clash, find_mix_hash_clash};
 pub use conversation::converse;
 pub use datagrams::{datagram_entries_agree, run_datagrams};
 pub use entries::{entries_agree, keys_meet, payloads_told};

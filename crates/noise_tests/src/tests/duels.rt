@@ -1,7 +1,7 @@
 //! A run of two ends of unequal prologues, which no vector file describes.
 
 use super::support::end;
-use noise_conversation::{find_clash, run_apart};
+use noise_conversation::{find_clash, find_mix_hash_clash, run_apart};
 use noise_duel::{Cuts, Duel, Event};
 use noise_handshake::XorKeys;
 use noise_names::Role;
@@ -44,9 +44,11 @@ fn refuses_another_prologue(rt: HostRuntime) {
     assert!(rt; text.as_str() == TOLD);
 }
 
+const NAME: [u8; 32] = *b"Noise_NN_25519_ChaChaPoly_SHA256";
+
 // The texts that a party of NN hashes as it mixes these pieces, the first one first (MixHash; Noise, 5.2).
 fn hashed(rt: &impl Abort, alloc: Global, pieces: &[&[u8]]) -> Vec<Vec<u8>> {
-    let mut hash = *b"Noise_NN_25519_ChaChaPoly_SHA256";
+    let mut hash = NAME;
     let mut texts = Vec::new(alloc);
     for piece in pieces {
         let mut text = Vec::from_slice(alloc, &hash).expect(rt, "memory");
@@ -65,4 +67,26 @@ fn no_clash_is_known(rt: HostRuntime) {
     let second = hashed(&rt, alloc, &[b"other", &[0x11; 32], b"\x07"]);
     assert!(rt; find_clash(&first, &second).is_none());
     assert!(rt; find_clash(&first, &first).is_none());
+}
+
+// These pieces, each on its own.
+fn mixed(rt: &impl Abort, alloc: Global, pieces: &[&[u8]]) -> Vec<Vec<u8>> {
+    let mut texts = Vec::new(alloc);
+    for piece in pieces {
+        let text = Vec::from_slice(alloc, piece).expect(rt, "memory");
+        texts.push(text).expect(rt, "memory");
+    }
+    texts
+}
+
+// The same of what is mixed: no two different texts with one SHA-256 digest are known.
+#[test]
+fn what_is_mixed_does_not_clash(rt: HostRuntime) {
+    let alloc = rt.alloc();
+    let first = mixed(&rt, alloc, &[b"", &[0x11; 32], b"\x07"]);
+    let second = mixed(&rt, alloc, &[b"other", &[0x11; 32], b"\x07"]);
+    let found = find_mix_hash_clash(alloc, &NAME, &first, &second).expect(&rt, "memory");
+    assert!(rt; found.is_none());
+    let found = find_mix_hash_clash(alloc, &NAME, &first, &first).expect(&rt, "memory");
+    assert!(rt; found.is_none());
 }
