@@ -10,13 +10,9 @@ ghost use Rattle.noise_c.specs.declared.transport_codes.TheConstants.{EXHAUSTED,
 use crate::codes::{LENGTH, OK, ROOM};
 use crate::kept::NoiseTold;
 use crate::kept_cipher::{NoiseCipher, cipher_of, either_of};
+use crate::limits::{MESSAGE_MAX, TAG_LEN};
 use crate::marks::{RECEIVING_CIPHER, SENDING_CIPHER};
 use crate::transport_codes::cipher_code;
-
-const TAG_LEN: usize = 16;
-
-// The most associated data in bytes.
-const MAX_LEN: usize = 65535;
 
 /// Encrypts the text in the first `text_len` bytes of `buffer` in place, with associated data (EncryptWithAd), and
 /// returns how many bytes the message has: the first of `buffer`, 16 more than the text. The nonce isn't in the
@@ -47,7 +43,7 @@ pub extern "C" fn noise_cipher_encrypt(
         Ok(cipher) => cipher,
         Err(code) => return code,
     };
-    if ad.len() > MAX_LEN {
+    if ad.len() > MESSAGE_MAX {
         return LENGTH;
     }
     if buffer.len() < TAG_LEN || buffer.len() - TAG_LEN < text_len {
@@ -94,7 +90,7 @@ pub extern "C" fn noise_cipher_decrypt(
         Ok(cipher) => cipher,
         Err(code) => return code,
     };
-    if ad.len() > MAX_LEN {
+    if ad.len() > MESSAGE_MAX {
         return LENGTH;
     }
     match cipher.decrypt(ad, message) {

@@ -10,15 +10,13 @@ ghost use Rattle.noise_c.specs.declared.stream_codes.TheConstants.{MORE};
 
 use crate::codes::{LENGTH, OK, ROOM};
 use crate::kept_streams::NoiseStreamTold;
+use crate::limits::MESSAGE_MAX;
 use crate::stream_codes::MORE;
 use noise_channel::{Framed, next_frame};
 use noise_session::frame_message;
 
 // The bytes of a frame's length, which come first.
 const HEAD_LEN: usize = 2;
-
-// The longest message in bytes (Noise, 3).
-const MAX_LEN: usize = 65535;
 
 /// Makes a frame of the message that stands in the `message_len` bytes of `buffer` from the third on: puts its length
 /// in front, in two bytes, the higher first (Noise, 13), and returns how many bytes the frame has.
@@ -37,7 +35,7 @@ pub extern "C" fn noise_frame_message(
     ensures rest { drop 2 buffer.new ≡ drop 2 buffer.old }
     ensures unchanged { OK < result → (buffer.new ≡ buffer.old) × (told.new ≡ told.old) }
 {
-    if message_len > MAX_LEN {
+    if message_len > MESSAGE_MAX {
         return LENGTH;
     }
     if buffer.len() < HEAD_LEN || buffer.len() - HEAD_LEN < message_len {

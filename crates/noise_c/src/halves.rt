@@ -17,13 +17,9 @@ use crate::codes::{LENGTH, OK, ROOM, STRUCT};
 use crate::finishing::opened_of;
 use crate::kept::{NoiseHandshake, NoiseTold};
 use crate::kept_halves::{NoiseHalf, kept_receiver, kept_sender, receiver_of, sender_of};
+use crate::limits::{MESSAGE_MAX, TAG_LEN};
 use crate::transport_codes::{open_code, seal_code};
 use noise_session::Transport;
-
-const TAG_LEN: usize = 16;
-
-// The longest message in bytes (Noise, 3).
-const MAX_LEN: usize = 65535;
 
 /// How many bytes the sending half takes in the caller's memory.
 #[unsafe(no_mangle)]
@@ -188,7 +184,7 @@ pub extern "C" fn noise_open(kept: &mut NoiseHalf, message: &mut [u8], told: &mu
     let Some(mut receiver) = receiver_of(kept) else {
         return STRUCT;
     };
-    if message.len() > MAX_LEN {
+    if message.len() > MESSAGE_MAX {
         return LENGTH;
     }
     match receiver.open_within(message) {

@@ -12,9 +12,8 @@ ghost use Rattle.noise_c.specs.declared.codes.TheConstants.{DONE, ENDED, FULL, L
 use crate::codes::{FULL, LENGTH, OK, STRUCT, WANTED, WANTED_PSK, read_code};
 use crate::held::{handshake_of, keep, kept_key};
 use crate::kept::{NoiseAnswer, NoiseHandshake, NoiseTold};
+use crate::limits::MESSAGE_MAX;
 use noise_handshake::{LateUnread, Own, ReadFault, Want};
-
-const MAX_LEN: usize = 65535;
 
 /// How many bytes a handshake takes in the caller's memory.
 #[unsafe(no_mangle)]
@@ -130,7 +129,7 @@ pub extern "C" fn noise_read(
     let Some(mut handshake) = handshake_of(kept) else {
         return STRUCT;
     };
-    if message.len() > MAX_LEN {
+    if message.len() > MESSAGE_MAX {
         return LENGTH;
     }
     match handshake.read_or_ask(message) {

@@ -1,5 +1,6 @@
-//! Noise for C, Go and Rust: handshakes, and the halves and cipher states that they leave, whose memory the caller keeps. No call takes memory,
-//! and no key pair is used: the caller is shown which DH answer is wanted, and hands it in.
+//! Noise for C, Go and Rust: handshakes, and the halves and cipher states that they leave, whose memory the caller
+//! keeps. No call takes memory, and no key pair is used: the caller is shown which DH answer is wanted, and hands it
+//! in.
 #![tactic(auto)]
 
 pub mod answered;
@@ -21,6 +22,7 @@ mod kept_halves;
 mod kept_keys;
 mod kept_streams;
 pub mod laws;
+mod limits;
 mod marks;
 mod parties;
 mod secrets;

@@ -19,7 +19,8 @@ use crate::marks::HANDSHAKE;
 use noise_handshake::{LateHandshake, Remote, SetupFault};
 use noise_names::ValidPattern;
 
-const MAX_LEN: usize = 65535;
+// The longest prologue in bytes.
+const PROLOGUE_MAX: usize = 65535;
 
 // The handshake that starts from this.
 fn begin<'a>(
@@ -92,7 +93,7 @@ fn start_with(
     ensures unchanged { OK < result → kept.new ≡ kept.old }
     ensures codes { (result ≡ OK) ⊎ ((EPHEMERAL_MISSING ≤ result) × (result ≤ PSK_COUNT)) ⊎ (result ≡ LENGTH) }
 {
-    if prologue.len() > MAX_LEN {
+    if prologue.len() > PROLOGUE_MAX {
         return LENGTH;
     }
     if setup.psk_count > 9 {

@@ -44,10 +44,10 @@ returns-in_default c =
       codes = inr (inr (inr (inr (inl refl))));
     }
 
-pub returns-then-message-gt-MAX_LEN : goal.returns-then-message-gt-MAX_LEN
-returns-then-message-gt-MAX_LEN c =
+pub returns-then-message-gt-MESSAGE_MAX : goal.returns-then-message-gt-MESSAGE_MAX
+returns-then-message-gt-MESSAGE_MAX c =
     let usable = c.in-Some.ensures.usable.0 refl in
-    let long = c.if-message-gt-MAX_LEN.true in
+    let long = c.if-message-gt-MESSAGE_MAX.true in
     record {
       unusable = (other 24 23 refl, λ none. absurd (none usable));
       length = (λ _. (long, usable), λ _. refl);
@@ -102,7 +102,7 @@ returns-in-Ok c =
     c.progress.ensures.valid same c.progress.ensures.whole in
     record {
       unusable = (other 0 23 refl, λ none. absurd (none before));
-      length = (other 0 24 refl, λ w. too-long (length c.args.message.now) 65535 w.0 c.if-message-gt-MAX_LEN.false);
+      length = (other 0 24 refl, λ w. too-long (length c.args.message.now) 65535 w.0 c.if-message-gt-MESSAGE_MAX.false);
       outcome = λ p v k.
           let s = opened old new h h2 p v c.in-Some.ensures.one c.in-Some.ensures.same stays c.keep.ensures.text same k in
           let r = c.in-Ok.ensures.reads v k.later s in
@@ -159,7 +159,7 @@ returns-in-Refused c =
         d.1 why.0 why.1 in
     record {
       unusable = (not-after code 16 23 within.1 refl, λ none. absurd (none (c.in-Some.ensures.usable.0 refl)));
-      length = (not-after code 16 24 within.1 refl, λ w. too-long (length c.args.message.now) 65535 w.0 c.if-message-gt-MAX_LEN.false);
+      length = (not-after code 16 24 within.1 refl, λ w. too-long (length c.args.message.now) 65535 w.0 c.if-message-gt-MESSAGE_MAX.false);
       outcome = λ p v k.
           let over : h2 ≡ ended_as h = refused-leaves h h2 _ fault _ _ c.in-Err-Declined.ensures.state c.in-Err-Declined.field-0-is refused in
           let same : held_in h2.pattern new ≡ h2 = ended-kept old new h h2 refl c.in-Some.ensures.same over in
@@ -202,7 +202,7 @@ returns-in_default-fault c =
     let within : (10 ≤ code) × (code ≤ 13) = plain-within code among in
     record {
       unusable = (not-after code 13 23 within.1 refl, λ none. absurd (none (c.in-Some.ensures.usable.0 refl)));
-      length = (not-after code 13 24 within.1 refl, λ w. too-long (length c.args.message.now) 65535 w.0 c.if-message-gt-MAX_LEN.false);
+      length = (not-after code 13 24 within.1 refl, λ w. too-long (length c.args.message.now) 65535 w.0 c.if-message-gt-MESSAGE_MAX.false);
       outcome = λ p v k.
           let as_was : h2 ≡ h = plain-leaves h h2 _ fault plain c.in-Err-Declined.ensures.state c.in-Err-Declined.field-0-is in
           let same : held_in h2.pattern old ≡ h2 = subst (λ (z : Held Table). held_in z.pattern old ≡ z) (sym as_was) (sym c.in-Some.ensures.same) in
@@ -265,7 +265,7 @@ pub returns-in-Err-Wants-clause-length : goal.returns-in-Err-Wants-clause-length
 returns-in-Err-Wants-clause-length c = (
   wants-other c.in-Err-Wants.want c.tell.new.told c.tell.result 24
       (subst (λ (w : Want). TellsWant w c.tell.new.told c.tell.result) c.in-Err-Wants.want-is c.tell.ensures.want) refl refl,
-  λ w. too-long (length c.args.message.now) 65535 w.0 c.if-message-gt-MAX_LEN.false,
+  λ w. too-long (length c.args.message.now) 65535 w.0 c.if-message-gt-MESSAGE_MAX.false,
 )
 
 pub returns-in-Err-Wants-clause-unchanged : goal.returns-in-Err-Wants-clause-unchanged
