@@ -1,4 +1,5 @@
--- A handshake whose DH answers are handed in when they are asked for, beside one whose keys have them all (the table of Noise 5.3).
+-- A handshake whose DH answers are handed in when they are asked for, beside one whose keys have them all (the table of
+-- Noise 5.3).
 use Rattle.std.specs.Prelude.{◌≡◌, ◌⊎◌, ◌≤◌, ℕ, suc, List, ◌∷◌, ◌++◌, Option, Some, None, count_by, length}
 use Rattle.noise_names.specs.Validity.{IsValid}
 use Rattle.noise_names.specs.declared.token.Token.{Token}
@@ -30,11 +31,12 @@ pub record IsHandedIn (before after : Answers) (own : Own) (key x : List ℕ) : 
   pub kept : AreAmong before after
   pub only : (o : Own) (k y : List ℕ) → after o k ≡ Some y → (before o k ≡ Some y) ⊎ ((o ≡ own) × (k ≡ key) × (y ≡ x))
 
--- So many answers are handed in, each when a message that comes lacks it, and each as the keys have it: with the first answers to begin with, and with the
--- last ones at the end.
+-- So many answers are handed in, each when a message that comes lacks it, and each as the keys have it: with the first
+-- answers to begin with, and with the last ones at the end.
 pub data AskedToRead (v : View) (all : Answers) (message : List ℕ) : Answers → ℕ → Answers → Type 0 where
   ready : (first : Answers) → AskedToRead v all message first 0 first
-  asked : (first next last : Answers) (own : Own) (key x : List ℕ) (n : ℕ) → WantsToRead (with_answers v first) message own key
+  asked : (first next last : Answers) (own : Own) (key x : List ℕ) (n : ℕ)
+      → WantsToRead (with_answers v first) message own key
       → all own key ≡ Some x → IsHandedIn first next own key x → AskedToRead v all message next n last
       → AskedToRead v all message first (suc n) last
 
@@ -42,18 +44,22 @@ pub data AskedToRead (v : View) (all : Answers) (message : List ℕ) : Answers �
 pub data AskedToWrite (v : View) (all : Answers) : Answers → ℕ → Answers → Type 0 where
   ready : (first : Answers) → AskedToWrite v all first 0 first
   asked : (first next last : Answers) (own : Own) (key x : List ℕ) (n : ℕ) → WantsToWrite (with_answers v first) own key
-      → all own key ≡ Some x → IsHandedIn first next own key x → AskedToWrite v all next n last → AskedToWrite v all first (suc n) last
+      → all own key ≡ Some x → IsHandedIn first next own key x → AskedToWrite v all next n last
+      → AskedToWrite v all first (suc n) last
 
--- With the first answers a message is accepted, refused or written only as with all of them; `Agreement` is the one refusal that further answers can mend.
+-- With the first answers a message is accepted, refused or written only as with all of them; `Agreement` is the one
+-- refusal that further answers can mend.
 pub record AnswersAsAll (v : View) (first all : Answers) : Type 0 where
   pub accepts : (message payload : List ℕ) (xs : List (List ℕ)) → Accepts (with_answers v first) message xs payload
       → Accepts (with_answers v all) message xs payload
-  pub refuses : (message : List ℕ) (token : ℕ) (cause : Cause) → (cause ≡ Agreement → ⊥) → Refuses (with_answers v first) message token cause
+  pub refuses : (message : List ℕ) (token : ℕ) (cause : Cause) → (cause ≡ Agreement → ⊥)
+      → Refuses (with_answers v first) message token cause
       → Refuses (with_answers v all) message token cause
   pub writes : (payload message : List ℕ) (xs : List (List ℕ)) → Writes (with_answers v first) payload xs message
       → Writes (with_answers v all) payload xs message
 
--- At a message of a valid pattern at most four answers are asked for, one for each DH token, and with those it is accepted, refused or written as with all.
+-- At a message of a valid pattern at most four answers are asked for, one for each DH token, and with those it is
+-- accepted, refused or written as with all.
 abbrev pub FourSuffice : Type 0
 FourSuffice = (v : View) (first last all : Answers) (message : List ℕ) (n : ℕ) → IsValid v.pattern → AreAmong first all
     → AskedToRead v all message first n last → (n ≤ count_by is_dh (tokens_now v)) × (n ≤ 4) × AreAmong last all
@@ -75,7 +81,8 @@ FourSufficeToWrite = (v : View) (first last all : Answers) (n : ℕ) → IsValid
 -- what is asked for isn't there
 abbrev pub AskedIsLacking : Type 0
 AskedIsLacking = (v : View) (own : Own) (key : List ℕ)
-    → ((message : List ℕ) → WantsToRead v message own key → v.agree own key ≡ None) × (HasKeys v → WantsToWrite v own key → v.agree own key ≡ None)
+    → ((message : List ℕ) → WantsToRead v message own key → v.agree own key ≡ None)
+    × (HasKeys v → WantsToWrite v own key → v.agree own key ≡ None)
 
 abbrev pub AnsweredIsWhole : Type 0
 AnsweredIsWhole = (v : View) (first all : Answers) → AreAmong first all → AnswersAsAll v first all

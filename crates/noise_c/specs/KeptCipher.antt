@@ -35,7 +35,8 @@ begun_cipher mark discarded key =
     if discarded then record { mark = mark; one_way = 1; key = replicate 32 0; nonce = 0 }
     else record { mark = mark; one_way = 0; key = key; nonce = 0 }
 
--- those of Split (5.2) for the messages that a party writes and for those that it reads; a one-way pattern discards the responder's (7.4)
+-- those of Split (5.2) for the messages that a party writes and for those that it reads; a one-way pattern discards the
+-- responder's (7.4)
 abbrev pub sending_cipher : View → NoiseCipher
 sending_cipher v = begun_cipher SENDING_CIPHER (is_one_way v.pattern && same_role v.role Responder) (split_key v.history v.role)
 

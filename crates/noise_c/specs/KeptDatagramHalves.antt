@@ -19,7 +19,8 @@ is_window width = (width == 64) || (width == 256) || (width == 1024)
 abbrev pub window_in : ℕ → Window
 window_in width = if width == 64 then W64 else if width == 256 then W256 else W1024
 
--- A call has left this as a half that seals: its mark is that of one of this layout, and it is of one of the two parties.
+-- A call has left this as a half that seals: its mark is that of one of this layout, and it is of one of the two
+-- parties.
 abbrev pub is_datagram_sender : NoiseDatagramSender → Bool
 is_datagram_sender k = (k.mark == DATAGRAM_SENDER) && is_party k.party
 
@@ -39,7 +40,8 @@ datagram_receiver_kept_in k = record {
 -- A call has left this as a half that opens: the same, and some opened nonces have its window and words.
 abbrev pub is_datagram_receiver : NoiseDatagramReceiver → Bool
 is_datagram_receiver k =
-    (k.mark == DATAGRAM_RECEIVER) && is_party k.party && is_window k.window && is_ring (datagram_receiver_kept_in k).recent
+    (k.mark == DATAGRAM_RECEIVER) && is_party k.party && is_window k.window
+    && is_ring (datagram_receiver_kept_in k).recent
 
 -- the number that sealing tells, by the lengths of the payload and of what there is room for
 abbrev pub datagram_sender_seal_code : NoiseDatagramSender → ℕ → ℕ → ℕ

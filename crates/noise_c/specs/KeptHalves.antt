@@ -7,7 +7,8 @@ use Rattle.noise_c.specs.Parties.{is_party, party_in}
 use Rattle.noise_c.specs.TransportCodes.{sealing_code, open_code}
 use Rattle.noise_c.specs.declared.codes.TheConstants.{ROOM, STRUCT}
 
--- A call has left this as a half of this kind: its mark is that of the kind in this layout, and it is of one of the two parties.
+-- A call has left this as a half of this kind: its mark is that of the kind in this layout, and it is of one of the two
+-- parties.
 abbrev pub is_half : ℕ → NoiseHalf → Bool
 is_half mark k = (k.mark == mark) && is_party k.party
 

@@ -30,13 +30,14 @@ state_in state = if state == 0 then Open else if state == 1 then Ended else Brok
 abbrev pub reader_kept_in : NoiseStreamReceiver → HeldReader
 reader_kept_in k = record { half = half_kept_in k.half; state = state_in k.state }
 
--- A call has left this as a half of a stream: its mark is that of the kind in this layout, it is of one of the two parties, and some writer, or
--- reader, holds what it has.
+-- A call has left this as a half of a stream: its mark is that of the kind in this layout, it is of one of the two
+-- parties, and some writer, or reader, holds what it has.
 abbrev pub is_stream_sender : NoiseStreamSender → Bool
 is_stream_sender k = is_half STREAM_SENDER k.half && is_writer (half_kept_in k.half) (not (k.ended == 0))
 
 abbrev pub is_stream_receiver : NoiseStreamReceiver → Bool
-is_stream_receiver k = is_half STREAM_RECEIVER k.half && is_state k.state && is_reader (half_kept_in k.half) (state_in k.state)
+is_stream_receiver k = is_half STREAM_RECEIVER k.half && is_state k.state
+    && is_reader (half_kept_in k.half) (state_in k.state)
 
 abbrev pub stream_code : StreamFault → ℕ
 stream_code unwritten.OneWay = 22
@@ -84,14 +85,17 @@ frame_code message buffer = if nat_lt 65535 message then LENGTH else if nat_lt b
 abbrev pub IsRefusal : ℕ → Type 0
 IsRefusal code = (code ≡ SHORT) ⊎ (code ≡ TAG) ⊎ (code ≡ EXHAUSTED) ⊎ (code ≡ ONE_WAY)
 
--- What reading tells by its number: where the payload stands in a buffer of this length; how much is used, or wanted; else nothing.
+-- What reading tells by its number: where the payload stands in a buffer of this length; how much is used, or wanted;
+-- else nothing.
 pub record TellsPlace (code : ℕ) (old new : NoiseStreamTold) (buffer : ℕ) : Type 0 where
-  pub payload : code ≡ OK → (new ≡ record old { from = 2; len = new.len; used = new.len + 18 }) × (1 ≤ new.len) × (new.len + 18 ≤ buffer)
+  pub payload : code ≡ OK → (new ≡ record old { from = 2; len = new.len; used = new.len + 18 }) × (1 ≤ new.len)
+      × (new.len + 18 ≤ buffer)
   pub end : code ≡ END → (new ≡ record old { used = 18 }) × (18 ≤ buffer)
   pub more : code ≡ MORE → (new ≡ record old { wanted = new.wanted }) × (1 ≤ new.wanted) × (new.wanted ≤ 65535)
   pub nothing : (IsRefusal code ⊎ (code ≡ CLOSED) ⊎ (code ≡ STRUCT)) → new ≡ old
 
--- What reading leaves of the half by its number: what is opened counts, what is refused breaks the stream, and nothing else changes it.
+-- What reading leaves of the half by its number: what is opened counts, what is refused breaks the stream, and nothing
+-- else changes it.
 pub record LeavesReader (code : ℕ) (old new : NoiseStreamReceiver) : Type 0 where
   pub payload : code ≡ OK → Counted (half_kept_in old.half) (half_kept_in new.half) × (state_in new.state ≡ Open)
   pub end : code ≡ END → Counted (half_kept_in old.half) (half_kept_in new.half) × (state_in new.state ≡ Ended)

@@ -13,10 +13,11 @@ use crate::codes::{NOT_DUE, OK, STRUCT};
 use crate::held::{handshake_of, kept_key};
 use crate::kept::{NoiseHandshake, NoiseKey, NoiseStageTold};
 
-/// Tells how long the next message is with a payload of this length, both in bytes. At any answer but OK `len` is unchanged.
+/// Tells how long the next message is with a payload of this length, both in bytes. At any answer but OK `len` is
+/// unchanged.
 ///
-/// NOT_DUE where none would be written: it isn't this party's turn, the handshake is done or has ended, or the message would
-/// have more than 65535 bytes.
+/// NOT_DUE where none would be written: it isn't this party's turn, the handshake is done or has ended, or the message
+/// would have more than 65535 bytes.
 #[unsafe(no_mangle)]
 pub extern "C" fn noise_message_len(
     kept: &NoiseHandshake,
@@ -24,8 +25,10 @@ pub extern "C" fn noise_message_len(
     len: &mut usize,
 ) -> u32
     ensures unusable { result ≡ STRUCT ↔ (IsUsable kept.now → ⊥) }
-    ensures len { result ≡ OK → (p : Plan) → IsPatternOf (text_in kept.now) p → message_len_of (held_in p kept.now) payload_len ≡ Some len.new }
-    ensures not_due { result ≡ NOT_DUE → (p : Plan) → IsPatternOf (text_in kept.now) p → message_len_of (held_in p kept.now) payload_len ≡ None }
+    ensures len { result ≡ OK → (p : Plan) → IsPatternOf (text_in kept.now) p
+        → message_len_of (held_in p kept.now) payload_len ≡ Some len.new }
+    ensures not_due { result ≡ NOT_DUE → (p : Plan) → IsPatternOf (text_in kept.now) p
+        → message_len_of (held_in p kept.now) payload_len ≡ None }
     ensures unchanged { OK < result → len.new ≡ len.old }
     ensures codes { (result ≡ OK) ⊎ (result ≡ STRUCT) ⊎ (result ≡ NOT_DUE) }
 {
@@ -41,8 +44,8 @@ pub extern "C" fn noise_message_len(
     }
 }
 
-/// Gives the handshake hash (Noise, 11.2), 32 bytes, of the start and the messages that passed, also after the handshake has
-/// ended. At STRUCT `out` is unchanged.
+/// Gives the handshake hash (Noise, 11.2), 32 bytes, of the start and the messages that passed, also after the
+/// handshake has ended. At STRUCT `out` is unchanged.
 #[unsafe(no_mangle)]
 pub extern "C" fn noise_hash(kept: &NoiseHandshake, out: &mut [u8; 32]) -> u32
     ensures unusable { result ≡ STRUCT ↔ (IsUsable kept.now → ⊥) }
@@ -57,8 +60,8 @@ pub extern "C" fn noise_hash(kept: &NoiseHandshake, out: &mut [u8; 32]) -> u32
     OK
 }
 
-/// Gives the other party's static public key, 32 bytes, as far as its pre-message and the messages that passed tell it, also
-/// after the handshake has ended; else none. At STRUCT `key` is unchanged.
+/// Gives the other party's static public key, 32 bytes, as far as its pre-message and the messages that passed tell it,
+/// also after the handshake has ended; else none. At STRUCT `key` is unchanged.
 #[unsafe(no_mangle)]
 pub extern "C" fn noise_remote_static(kept: &NoiseHandshake, key: &mut NoiseKey) -> u32
     ensures unusable { result ≡ STRUCT ↔ (IsUsable kept.now → ⊥) }
@@ -74,12 +77,13 @@ pub extern "C" fn noise_remote_static(kept: &NoiseHandshake, key: &mut NoiseKey)
     OK
 }
 
-/// Tells how many messages the pattern has, how many have passed, of both parties together, whether the handshake has ended, and
-/// whether this party writes the next message, if there is one. At STRUCT `told` is unchanged.
+/// Tells how many messages the pattern has, how many have passed, of both parties together, whether the handshake has
+/// ended, and whether this party writes the next message, if there is one. At STRUCT `told` is unchanged.
 #[unsafe(no_mangle)]
 pub extern "C" fn noise_stage(kept: &NoiseHandshake, told: &mut NoiseStageTold) -> u32
     ensures unusable { result ≡ STRUCT ↔ (IsUsable kept.now → ⊥) }
-    ensures told { result ≡ OK → (p : Plan) → IsPatternOf (text_in kept.now) p → TellsStage (held_in p kept.now) told.new }
+    ensures told { result ≡ OK → (p : Plan) → IsPatternOf (text_in kept.now) p
+        → TellsStage (held_in p kept.now) told.new }
     ensures unchanged { OK < result → told.new ≡ told.old }
     ensures codes { (result ≡ OK) ⊎ (result ≡ STRUCT) }
 {

@@ -33,15 +33,17 @@ fn check(pattern: Pattern, told: &mut NoisePatternTold) -> u32
     }
 }
 
-/// Whether these bytes are the text of a valid pattern. OK tells how many messages it has, RULE the first place that breaks a
-/// rule of validity: the lowest rule that it breaks, 1 to 5, the message, counted from 1, and the token, counted from 0.
+/// Whether these bytes are the text of a valid pattern. OK tells how many messages it has, RULE the first place that
+/// breaks a rule of validity: the lowest rule that it breaks, 1 to 5, the message, counted from 1, and the token,
+/// counted from 0.
 ///
-/// HEADING, ARROW, TOKEN, PRE_MESSAGE, TURN, PSK_PLACE, NAME_TAKEN, LIMIT and ENDING are of a text that spells no pattern, and
-/// tell the first line with a fault, counted from 1. What an answer doesn't tell is left as it was.
+/// HEADING, ARROW, TOKEN, PRE_MESSAGE, TURN, PSK_PLACE, NAME_TAKEN, LIMIT and ENDING are of a text that spells no
+/// pattern, and tell the first line with a fault, counted from 1. What an answer doesn't tell is left as it was.
 #[unsafe(no_mangle)]
 pub extern "C" fn noise_check_pattern(text: &[u8], told: &mut NoisePatternTold) -> u32
     ensures valid { result ≡ OK ↔ IsValidText text.now }
-    ensures messages { result ≡ OK → (p : Plan) → Spells text.now p → told.new ≡ record told.old { messages = length p.messages } }
+    ensures messages { result ≡ OK → (p : Plan) → Spells text.now p
+        → told.new ≡ record told.old { messages = length p.messages } }
     ensures broken { result ≡ RULE ↔ IsBrokenText text.now }
     ensures rule { result ≡ RULE → (p : Plan) → Spells text.now p → TellsRule p told.old told.new }
     ensures none { HEADING ≤ result → result ≤ ENDING → (p : Plan) → Spells text.now p → ⊥ }

@@ -26,11 +26,13 @@ pub extern "C" fn noise_cipher_size() -> usize {
     std::mem::size_of::<NoiseCipher>()
 }
 
-/// Makes the two cipher states of a handshake whose messages have all passed (Split: Noise, 5.2), for a transport of the caller's own: one for
-/// the messages that this party writes, and one for those that it reads, at nonces 0. The handshake is only read: of one handshake make one
-/// pair, or halves, since a second one would encrypt at the nonces of the first.
+/// Makes the two cipher states of a handshake whose messages have all passed (Split: Noise, 5.2), for a transport of
+/// the caller's own: one for the messages that this party writes, and one for those that it reads, at nonces 0. The
+/// handshake is only read: of one handshake make one pair, or halves, since a second one would encrypt at the nonces of
+/// the first.
 ///
-/// Of a one-way pattern the cipher state of the responder's messages is discarded (Noise, 7.4): its calls answer ONE_WAY.
+/// Of a one-way pattern the cipher state of the responder's messages is discarded (Noise, 7.4): its calls answer
+/// ONE_WAY.
 ///
 /// ENDED where the handshake has ended, NOT_DONE where messages are still to come: all is unchanged then.
 #[unsafe(no_mangle)]

@@ -169,7 +169,8 @@ fn parts_of<'a>(kept: &'a NoiseHandshake, pattern: ValidPattern) -> Parts<KeptKe
     }
 }
 
-// The handshake of this pattern, if its parts are those of one. It needs most of the stack, so `pattern_of` isn't called beneath it.
+// The handshake of this pattern, if its parts are those of one. It needs most of the stack, so `pattern_of` isn't
+// called beneath it.
 #[inline(never)]
 fn restored<'a>(
     kept: &'a NoiseHandshake,
@@ -214,7 +215,8 @@ pub(crate) fn handshake_of<'a>(kept: &'a NoiseHandshake) -> Option<LateHandshake
 pub(crate) fn keep(progress: &Progress, left: u8, kept: &mut NoiseHandshake)
     ensures mark { kept.new.mark ≡ kept.old.mark }
     ensures text { text_in kept.new ≡ text_in kept.old }
-    ensures same { (h : Held Table) → HasProgress h progress.now → h.keys ≡ table_in kept.old → h.role ≡ role_in kept.old.responder
+    ensures same { (h : Held Table) → HasProgress h progress.now → h.keys ≡ table_in kept.old
+        → h.role ≡ role_in kept.old.responder
         → h.secrets ≡ drop (9 - left) kept.old.secrets → held_in h.pattern kept.new ≡ h }
     ensures text_len { kept.new.text_len ≡ kept.old.text_len }
     ensures answers { kept.new.answer_count ≡ kept.old.answer_count }

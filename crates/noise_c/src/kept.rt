@@ -18,8 +18,8 @@ pub struct NoiseAnswer {
     pub answer: [u8; 32],
 }
 
-/// A handshake of one party: the initiator where `responder` is 0. The text is that of its pattern, or its protocol name. The
-/// secrets that were handed in and are left are the last `secret_count` of `secrets`.
+/// A handshake of one party: the initiator where `responder` is 0. The text is that of its pattern, or its protocol
+/// name. The secrets that were handed in and are left are the last `secret_count` of `secrets`.
 #[repr(C)]
 #[derive(Clone, Copy)]
 pub struct NoiseHandshake {
@@ -43,9 +43,9 @@ pub struct NoiseHandshake {
     pub nonce: u64,
 }
 
-/// What a handshake of one party starts from, beside its pattern and its prologue: the role, the initiator's where `responder`
-/// is 0; the public keys of its own, and those of the other party's pre-message; and the secrets of the first psk tokens, in their
-/// order.
+/// What a handshake of one party starts from, beside its pattern and its prologue: the role, the initiator's where
+/// `responder` is 0; the public keys of its own, and those of the other party's pre-message; and the secrets of the
+/// first psk tokens, in their order.
 #[repr(C)]
 #[derive(Clone, Copy)]
 pub struct NoiseSetup {
@@ -58,9 +58,9 @@ pub struct NoiseSetup {
     pub psks: [[u8; 32]; 9],
 }
 
-/// What a call tells beside its number: where a payload stands in a message that was read, or how long a message is that was
-/// written; the token of a refusal; the answer that is wanted, or the other party's static key where a secret is, which is known
-/// unless `remote_known` is 0.
+/// What a call tells beside its number: where a payload stands in a message that was read, or how long a message is
+/// that was written; the token of a refusal; the answer that is wanted, or the other party's static key where a secret
+/// is, which is known unless `remote_known` is 0.
 #[repr(C)]
 #[derive(Clone, Copy)]
 pub struct NoiseTold {
@@ -82,8 +82,8 @@ pub struct NoiseStageTold {
     pub writes_next: u8,
 }
 
-/// What a check of a pattern text tells beside its number: the line of a fault, counted from 1; the rule of validity that is
-/// broken, and where; how many messages the pattern has.
+/// What a check of a pattern text tells beside its number: the line of a fault, counted from 1; the rule of validity
+/// that is broken, and where; how many messages the pattern has.
 #[repr(C)]
 #[derive(Clone, Copy)]
 pub struct NoisePatternTold {

@@ -12,8 +12,9 @@ use crate::marks::{RECEIVING_CIPHER, SENDING_CIPHER};
 use crate::transport_codes::ONE_WAY;
 use noise_state::CipherState;
 
-/// A cipher state of one party, for the messages that it writes or for those that it reads, by its mark; none at any other mark. One that a
-/// one-way pattern discards has a flag and no key. `include/noise.h` declares the same as aligned bytes.
+/// A cipher state of one party, for the messages that it writes or for those that it reads, by its mark; none at any
+/// other mark. One that a one-way pattern discards has a flag and no key. `include/noise.h` declares the same as
+/// aligned bytes.
 #[repr(C)]
 #[derive(Clone, Copy)]
 pub struct NoiseCipher {
@@ -41,7 +42,8 @@ pub(crate) fn cipher_of(kept: &NoiseCipher, known: bool) -> Result<CipherState, 
 
 // The cipher state of either direction.
 pub(crate) fn either_of(kept: &NoiseCipher) -> Result<CipherState, u32>
-    ensures code { MatchResult result (λ _. held_code (is_cipher kept.now) kept.now ≡ OK) (λ code. held_code (is_cipher kept.now) kept.now ≡ code) }
+    ensures code { MatchResult result (λ _. held_code (is_cipher kept.now) kept.now ≡ OK)
+        (λ code. held_code (is_cipher kept.now) kept.now ≡ code) }
     ensures same { IfOk result (λ cipher. cipher ≡ cipher_kept_in kept.now) }
     ensures codes { IfErr result (λ code. (code ≡ STRUCT) ⊎ (code ≡ ONE_WAY)) }
 {
@@ -54,7 +56,8 @@ pub(crate) fn either_of(kept: &NoiseCipher) -> Result<CipherState, u32>
 // How C keeps a cipher state that Split has made, or none of it where it is discarded.
 pub(crate) fn kept_cipher(cipher: CipherState, mark: u32, discarded: bool) -> NoiseCipher
     ensures mark { result.mark ≡ mark }
-    ensures same { (key : List ℕ) → key_in cipher ≡ Some key → nonce_in cipher ≡ 0 → result ≡ begun_cipher mark discarded key }
+    ensures same { (key : List ℕ) → key_in cipher ≡ Some key → nonce_in cipher ≡ 0
+        → result ≡ begun_cipher mark discarded key }
 {
     match cipher.into_parts() {
         (Some(key), nonce) if !discarded => NoiseCipher {

@@ -11,8 +11,8 @@ use noise_session::{
     DatagramReceiver, DatagramReceiverParts, DatagramSender, DatagramSenderParts, Window,
 };
 
-/// The sending half of datagrams of one party: of the initiator where `party` is 1, of the responder where it is 2. At any other
-/// numbers or mark there is none. `include/noise.h` declares the same as aligned bytes.
+/// The sending half of datagrams of one party: of the initiator where `party` is 1, of the responder where it is 2. At
+/// any other numbers or mark there is none. `include/noise.h` declares the same as aligned bytes.
 #[repr(C)]
 #[derive(Clone, Copy)]
 pub struct NoiseDatagramSender {
@@ -23,8 +23,8 @@ pub struct NoiseDatagramSender {
     pub nonce: u64,
 }
 
-/// The receiving half of datagrams of one party, as above. The window has 64, 256 or 1024 nonces, and its words are those that some
-/// opened nonces leave. At any others there is none.
+/// The receiving half of datagrams of one party, as above. The window has 64, 256 or 1024 nonces, and its words are
+/// those that some opened nonces leave. At any others there is none.
 #[repr(C)]
 #[derive(Clone, Copy)]
 pub struct NoiseDatagramReceiver {

@@ -10,8 +10,9 @@ use crate::marks::{RECEIVER, SENDER};
 use crate::parties::{party_of, role_named};
 use noise_session::{HalfParts, Receiver, Sender};
 
-/// A half of a transport of one party, the sending or the receiving one by its mark: of the initiator where `party` is 1, of the
-/// responder where it is 2. At any other numbers there is none. `include/noise.h` declares the same as aligned bytes.
+/// A half of a transport of one party, the sending or the receiving one by its mark: of the initiator where `party` is
+/// 1, of the responder where it is 2. At any other numbers there is none. `include/noise.h` declares the same as
+/// aligned bytes.
 #[repr(C)]
 #[derive(Clone, Copy)]
 pub struct NoiseHalf {

@@ -9,8 +9,8 @@ use crate::marks::{STREAM_RECEIVER, STREAM_SENDER};
 use noise_channel::{StreamReceiver, StreamSender, StreamState};
 use noise_session::{Receiver, Sender};
 
-/// The half that writes a stream: a sending half with a mark of its own, and whether the stream was ended. `include/noise.h` declares the
-/// same as aligned bytes.
+/// The half that writes a stream: a sending half with a mark of its own, and whether the stream was ended.
+/// `include/noise.h` declares the same as aligned bytes.
 #[repr(C)]
 #[derive(Clone, Copy)]
 pub struct NoiseStreamSender {
@@ -18,7 +18,8 @@ pub struct NoiseStreamSender {
     pub ended: u8,
 }
 
-/// The half that reads a stream: a receiving half with a mark of its own, and how far the stream has come: 0 open, 1 ended, 2 broken.
+/// The half that reads a stream: a receiving half with a mark of its own, and how far the stream has come: 0 open, 1
+/// ended, 2 broken.
 #[repr(C)]
 #[derive(Clone, Copy)]
 pub struct NoiseStreamReceiver {
@@ -26,8 +27,8 @@ pub struct NoiseStreamReceiver {
     pub state: u8,
 }
 
-/// What a call of a stream tells beside its number: where a payload, or a message, stands in the buffer, or how many bytes were written; how
-/// many first bytes are used; how many more are wanted.
+/// What a call of a stream tells beside its number: where a payload, or a message, stands in the buffer, or how many
+/// bytes were written; how many first bytes are used; how many more are wanted.
 #[repr(C)]
 #[derive(Clone, Copy)]
 pub struct NoiseStreamTold {

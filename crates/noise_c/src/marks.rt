@@ -1,7 +1,8 @@
-//! The marks of the kept structs: which kind of struct it is, in the second byte, and which version of its layout, in the first.
+//! The marks of the kept structs: which kind of struct it is, in the second byte, and which version of its layout, in
+//! the first.
 //!
-//! Each kept struct begins with its mark. At another one, that of zeros or that of another build with another layout too, a call
-//! answers STRUCT. A change of a layout gives its mark another version.
+//! Each kept struct begins with its mark. At another one, that of zeros or that of another build with another layout
+//! too, a call answers STRUCT. A change of a layout gives its mark another version.
 #![tactic(auto)]
 
 pub(crate) const HANDSHAKE: u32 = 0x4e6f_0101;

@@ -34,14 +34,17 @@ fn keep_secret(kept: &mut NoiseHandshake, secret: &[u8; 32])
     kept.secret_count += 1;
 }
 
-/// Hands in the secret of the first psk token that lacks one, 32 bytes: from then on all is as if the handshake had been started
-/// with it too. PSK_COUNT where no psk token that is still to come lacks its secret. At any answer but OK nothing changes.
+/// Hands in the secret of the first psk token that lacks one, 32 bytes: from then on all is as if the handshake had
+/// been started with it too. PSK_COUNT where no psk token that is still to come lacks its secret. At any answer but OK
+/// nothing changes.
 #[unsafe(no_mangle)]
 pub extern "C" fn noise_set_psk(kept: &mut NoiseHandshake, secret: &[u8; 32]) -> u32
     ensures unusable { result ≡ STRUCT ↔ (IsUsable kept.old → ⊥) }
-    ensures lacks { (u : IsUsable kept.old) → result ≡ OK ↔ (kept.old.secret_count < secrets_of (drop kept.old.passed u.pattern.messages)) }
+    ensures lacks { (u : IsUsable kept.old) → result ≡ OK
+        ↔ (kept.old.secret_count < secrets_of (drop kept.old.passed u.pattern.messages)) }
     ensures given { result ≡ OK → IsGiven kept.old kept.new secret.now }
-    ensures stands { result ≡ OK → (p : Plan) (v : View) (later : List (List ℕ)) → v.secrets ≡ (held_in p kept.old).secrets ++ secret.now ∷ later
+    ensures stands { result ≡ OK → (p : Plan) (v : View) (later : List (List ℕ))
+        → v.secrets ≡ (held_in p kept.old).secrets ++ secret.now ∷ later
         → KeepsView kept.old p v → KeepsView kept.new p v }
     ensures stays { IsUsable kept.old → IsUsable kept.new }
     ensures unchanged { OK < result → kept.new ≡ kept.old }
