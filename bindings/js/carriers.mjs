@@ -6,9 +6,24 @@
 //   close()          closes it, once all is sent that was written;
 //   destroy(reason)  ends it at once: what isn't sent yet is dropped, and no listener stays;
 // and a WebSocket calls `overflowed`, where one was set, with the error by which it has destroyed itself.
-import { NoiseError, code } from './module.mjs';
+import { NoiseError, code } from './codes.mjs';
 import { frameOf, messageOf } from './stream.mjs';
 import { pause } from './waiting.mjs';
+
+/**
+ * What is used of a stream of Node, as a socket of TCP.
+ * @typedef {AsyncIterable<Uint8Array> & {
+ *   pipe: unknown,
+ *   iterator?: (options: { destroyOnReturn: boolean }) => AsyncIterator<Uint8Array>,
+ *   readonly connecting?: boolean,
+ *   readonly destroyed?: boolean,
+ *   readonly errored?: Error | null,
+ *   on: (event: 'error', listener: (error: Error) => void) => unknown,
+ *   write: (bytes: Uint8Array, done: (error?: Error | null) => void) => boolean,
+ *   end: (done: () => void) => unknown,
+ *   destroy: () => unknown,
+ * }} NodeStream
+ */
 
 const closed = (cause) => new NoiseError(code.CLOSED, { cause });
 

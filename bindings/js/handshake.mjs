@@ -1,7 +1,10 @@
 // A handshake of one party.
-import { NoiseError, code, freeLater, letGo, library, must } from './module.mjs';
+import { NoiseError, code, must } from './codes.mjs';
+import { freeLater, letGo, library } from './module.mjs';
 import { bytesOf, copyOf } from './bytes.mjs';
+import { Ciphers } from './ciphers.mjs';
 import { KeyPair } from './keys.mjs';
+import { OWN } from './own.mjs';
 import { protocolName } from './patterns.mjs';
 import { Stream } from './stream.mjs';
 import { Datagrams, Transport } from './transport.mjs';
@@ -31,6 +34,30 @@ function intervalOf(interval) {
   return messages;
 }
 
+/**
+ * @typedef {object} HandshakeOptions
+ * @property {string} pattern A protocol name, the name of a pattern alone, as XXpsk3, or a pattern text whose lines end with a line feed.
+ * @property {boolean} [responder]
+ * @property {Uint8Array} [prologue] At most 65535 bytes, the same at both parties.
+ * @property {import('./keys.mjs').DH} [staticKey]
+ * @property {import('./keys.mjs').DH} [ephemeralKey] Drawn at the first message, where it isn't passed. It must never have been used before.
+ * @property {Uint8Array} [remoteStatic] The other party's static key, where the pattern has it before the messages.
+ * @property {Uint8Array} [remoteEphemeral]
+ * @property {Uint8Array[]} [psks] 32 bytes for each psk token, in their order.
+ * @property {(remoteStatic: Uint8Array) => Uint8Array | Promise<Uint8Array>} [pskFor] In place of `psks`: called at each psk token with the other
+ * party's static key, it gives the secret of 32 bytes. The other party hasn't shown yet that it has the private key. What it throws rejects `write`
+ * or `read`, and nothing is sent.
+ */
+/**
+ * How far a handshake is.
+ * @typedef {object} Stage
+ * @property {number} messages How many messages the pattern has.
+ * @property {number} passed How many of them were written or read.
+ * @property {boolean} ended Whether a refused message has ended it.
+ * @property {boolean} writesNext Whether this party writes the next message.
+ * @property {boolean} done Whether all messages have passed.
+ */
+
 /** One party of a handshake, from its first message to its last. */
 export class Handshake {
   #place;
@@ -42,8 +69,8 @@ export class Handshake {
 
   /**
    * Checks the set-up at once, and throws what noise_start returns. The ephemeral key pair is drawn at the first message, unless one is passed:
-   * that must never have been used before. `pskFor(remoteStatic)`, in place of `psks`, chooses the secret of each psk token by the other party's
-   * static key.
+   * that must never have been used before.
+   * @param {HandshakeOptions} options
    */
   constructor({ pattern, responder = false, prologue = new Uint8Array(0), staticKey, ephemeralKey, remoteStatic, remoteEphemeral, psks = [], pskFor }) {
     if (typeof pattern !== 'string') throw new TypeError('pattern has to be a name or a pattern text');
@@ -165,7 +192,11 @@ export class Handshake {
     return answer;
   }
 
-  /** Writes the next message, with this payload. */
+  /**
+   * Writes the next message, with this payload.
+   * @param {Uint8Array} [payload]
+   * @returns {Promise<Uint8Array>}
+   */
   async write(payload = new Uint8Array(0)) {
     const own = copyOf(payload, 'payload');
     return this.#alone(async () => {
@@ -180,7 +211,11 @@ export class Handshake {
     });
   }
 
-  /** Reads the message that is due, and gives its payload. At NOISE_TAG and NOISE_SHORT the handshake has ended. */
+  /**
+   * Reads the message that is due, and gives its payload. At NOISE_TAG and NOISE_SHORT the handshake has ended.
+   * @param {Uint8Array} message
+   * @returns {Promise<Uint8Array>}
+   */
   async read(message) {
     const own = copyOf(message, 'message');
     return this.#alone(async () => {
@@ -192,7 +227,10 @@ export class Handshake {
     });
   }
 
-  /** How far it is: `messages`, `passed`, `ended`, `writesNext`. */
+  /**
+   * How far it is.
+   * @returns {Stage}
+   */
   get stage() {
     const lib = library();
     must(lib.x.noise_stage(this.#here(), lib.at.number));
@@ -200,7 +238,11 @@ export class Handshake {
     return { messages, passed, ended: ended !== 0, writesNext: next !== 0, done: ended === 0 && passed === messages };
   }
 
-  /** How many bytes the next message has with a payload of this length. */
+  /**
+   * How many bytes the next message has with a payload of this length.
+   * @param {number} payloadLength
+   * @returns {number}
+   */
   messageLength(payloadLength) {
     if (!Number.isSafeInteger(payloadLength) || payloadLength < 0) throw new RangeError('payloadLength has to be a number of bytes');
     const lib = library();
@@ -208,51 +250,83 @@ export class Handshake {
     return Number(lib.number(lib.at.number));
   }
 
-  /** The handshake hash so far. Before the first call of `write` or `read` an ephemeral key of a pre-message isn't drawn yet. */
+  /**
+   * The handshake hash so far. Before the first call of `write` or `read` an ephemeral key of a pre-message isn't drawn yet.
+   * @returns {Uint8Array}
+   */
   get hash() {
     return library().hash(library().x.noise_hash, this.#here());
   }
 
+  /**
+   * The other party's static key, once it is known.
+   * @returns {Uint8Array | undefined}
+   */
   get remoteStatic() {
     return library().key(library().x.noise_remote_static, this.#here());
   }
 
-  /** The public key of the ephemeral pair, once it was drawn. */
+  /**
+   * The public key of the ephemeral pair, once it was drawn.
+   * @returns {Uint8Array | undefined}
+   */
   get ephemeralPublicKey() {
     return this.#ephemeral?.publicKey;
   }
 
-  #finished(Kind, call, option) {
+  #finished(Kind, call, ...options) {
     const place = this.#here();
     if (this.#busy) throw new NoiseError(code.BUSY);
     const halves = Kind.kinds.map((kind) => library().take(kind));
-    const number = call(place, option, ...halves);
+    const number = call(place, ...options, ...halves);
     if (number !== code.OK) {
       Kind.kinds.forEach((kind, n) => library().free(kind, halves[n]));
       throw new NoiseError(number);
     }
-    const end = new Kind(halves, { hash: this.hash, remoteStatic: this.remoteStatic });
+    const end = new Kind(OWN, halves, { hash: this.hash, remoteStatic: this.remoteStatic });
     this.dispose();
     return end;
   }
 
-  /** Makes the transport, and uses this handshake up. Each direction renews its key after each `interval` of its messages; 0 is never. */
+  /**
+   * Makes the transport, and uses this handshake up. Each direction renews its key after each `interval` of its messages; 0 is never.
+   * @param {{ interval?: bigint | number }} [options]
+   * @returns {Transport}
+   */
   finish({ interval = 0n } = {}) {
     return this.#finished(Transport, library().x.noise_finish, intervalOf(interval));
   }
 
-  /** Makes the two halves of a stream with an end, in the same way. @internal */
+  /**
+   * Makes the two halves of a stream with an end, in the same way.
+   * @private
+   */
   finishStream({ interval = 0n } = {}) {
     return this.#finished(Stream, library().x.noise_finish_stream, intervalOf(interval));
   }
 
-  /** Makes the state of datagrams, with a window of 64, 256 or 1024 nonces, and uses this handshake up. */
+  /**
+   * Makes the two cipher states (Split: Noise, 5.2), both at nonce 0, and uses this handshake up.
+   * @returns {Ciphers}
+   */
+  finishCiphers() {
+    return this.#finished(Ciphers, library().x.noise_finish_ciphers);
+  }
+
+  /**
+   * Makes the state of datagrams, with a window of 64, 256 or 1024 nonces, and uses this handshake up.
+   * @param {{ window?: 64 | 256 | 1024 }} [options]
+   * @returns {Datagrams}
+   */
   finishDatagrams({ window = 64 } = {}) {
     if (![64, 256, 1024].includes(window)) throw new NoiseError(code.WINDOW);
     return this.#finished(Datagrams, library().x.noise_finish_datagrams, window);
   }
 
-  /** Overwrites the struct and the secrets, and gives its place back. A used-up handshake throws NOISE_DISPOSED. */
+  /**
+   * Overwrites the struct and the secrets, and frees their memory. Later calls throw NOISE_DISPOSED.
+   * @returns {void}
+   */
   dispose() {
     if (this.#place === undefined) return;
     letGo(this);

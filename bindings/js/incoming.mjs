@@ -1,37 +1,42 @@
 // The bytes that came over a connection and aren't used yet, and what they begin with.
 import { bytesOf } from './bytes.mjs';
 
-/** Bytes in the chunks in which they came. */
+/** Bytes that came, in one piece: a chunk of its own would cost many times a byte. */
 class Held {
-  #chunks = [];
-  length = 0;
+  #bytes = new Uint8Array(0);
+  #from = 0;
+  #to = 0;
+  #isOwn = true;    // and not a chunk, which others may have, too
+
+  get length() {
+    return this.#to - this.#from;
+  }
 
   add(chunk) {
-    if (chunk.length === 0) return;
-    this.#chunks.push(chunk);
-    this.length += chunk.length;
+    if (this.length === 0) {
+      [this.#bytes, this.#from, this.#to, this.#isOwn] = [chunk, 0, chunk.length, false];
+      return;
+    }
+    if (!this.#isOwn || this.#to + chunk.length > this.#bytes.length) this.#move(2 * (this.length + chunk.length));
+    this.#bytes.set(chunk, this.#to);
+    this.#to += chunk.length;
+  }
+
+  /** Moves what is held to the start of so many bytes. */
+  #move(size) {
+    const bytes = new Uint8Array(size);
+    bytes.set(this.#bytes.subarray(this.#from, this.#to));
+    [this.#bytes, this.#from, this.#to, this.#isOwn] = [bytes, 0, this.length, true];
   }
 
   /** Copies the first bytes to a place, as many as it has. */
   copyTo(place) {
-    let at = 0;
-    for (let n = 0; at < place.length; n += 1) {
-      const part = this.#chunks[n].subarray(0, place.length - at);
-      place.set(part, at);
-      at += part.length;
-    }
+    place.set(this.#bytes.subarray(this.#from, this.#from + place.length));
   }
 
   /** Drops the first bytes. */
   drop(count) {
-    this.length -= count;
-    let [n, left] = [0, count];
-    while (left > 0 && left >= this.#chunks[n].length) {
-      left -= this.#chunks[n].length;
-      n += 1;
-    }
-    this.#chunks.splice(0, n);
-    if (left > 0) this.#chunks[0] = this.#chunks[0].subarray(left);
+    this.#from += count;
   }
 }
 

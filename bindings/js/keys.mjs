@@ -2,6 +2,7 @@
 // Those that are made here are WebCrypto's: the private key stays inside the browser.
 
 import { bytesOf } from './bytes.mjs';
+import { OWN, mustBeOwn } from './own.mjs';
 
 const NAME = 'X25519';
 /** What is before a secret key in PKCS #8 (RFC 8410, 7). */
@@ -14,30 +15,54 @@ async function agreed(secret, remote) {
   return new Uint8Array(await crypto.subtle.deriveBits({ name: NAME, public: key }, secret, 256));
 }
 
-/** A key pair of WebCrypto's X25519. */
+/**
+ * Whatever answers for a key pair of X25519.
+ * @typedef {object} DH
+ * @property {Uint8Array} publicKey 32 bytes.
+ * @property {(remote: Uint8Array) => Uint8Array | Promise<Uint8Array>} agree Gives the result of X25519 for this pair and a public key. One of all
+ * zeros is refused.
+ */
+
+/** A key pair of WebCrypto's X25519, whose private key isn't extractable from it. */
 export class KeyPair {
   #secret;
 
   /** @private */
-  constructor(secret, publicKey) {
-    if (secret?.type !== 'private') throw new TypeError('a key pair is made by generate, from or fromSecret');
+  constructor(mark, secret, publicKey) {
+    mustBeOwn(mark);
     this.#secret = secret;
+    /**
+     * 32 bytes.
+     * @readonly
+     * @type {Uint8Array}
+     */
     this.publicKey = publicKey;
     Object.freeze(this);
   }
 
-  /** Draws a key pair, whose private key isn't extractable. */
+  /**
+   * Draws a key pair.
+   * @returns {Promise<KeyPair>}
+   */
   static async generate() {
     const pair = await crypto.subtle.generateKey({ name: NAME }, false, ['deriveBits']);
-    return new KeyPair(pair.privateKey, new Uint8Array(await crypto.subtle.exportKey('raw', pair.publicKey)));
+    return new KeyPair(OWN, pair.privateKey, new Uint8Array(await crypto.subtle.exportKey('raw', pair.publicKey)));
   }
 
-  /** The answer of X25519 for this private key and a public key of 32 bytes. It rejects where the answer would be all zeros. */
+  /**
+   * The result of X25519 for this private key and a public key of 32 bytes. It rejects where the result would be all zeros.
+   * @param {Uint8Array} remote
+   * @returns {Promise<Uint8Array>}
+   */
   async agree(remote) {
     return agreed(this.#secret, bytesOf(remote, 'a public key', 32));
   }
 
-  /** The pair of a secret key of 32 bytes, from a file for example. It isn't extractable from the pair; the bytes stay the caller's to overwrite. */
+  /**
+   * The pair of a secret key of 32 bytes, from a file for example. The bytes stay the caller's to overwrite.
+   * @param {Uint8Array} bytes
+   * @returns {Promise<KeyPair>}
+   */
   static async fromSecret(bytes) {
     bytesOf(bytes, 'a secret key', 32);
     const encoded = new Uint8Array(48);
@@ -45,14 +70,19 @@ export class KeyPair {
     encoded.set(bytes, 16);
     try {
       const secret = await crypto.subtle.importKey('pkcs8', encoded, { name: NAME }, false, ['deriveBits']);
-      return new KeyPair(secret, await agreed(secret, BASE_POINT));
+      return new KeyPair(OWN, secret, await agreed(secret, BASE_POINT));
     } finally {
       encoded.fill(0);
     }
   }
 
-  /** The pair of a CryptoKeyPair that the program keeps, in IndexedDB for example. */
+  /**
+   * The pair of a CryptoKeyPair that the program keeps, in IndexedDB for example.
+   * @param {CryptoKeyPair} pair
+   * @returns {Promise<KeyPair>}
+   */
   static async from({ privateKey, publicKey }) {
-    return new KeyPair(privateKey, new Uint8Array(await crypto.subtle.exportKey('raw', publicKey)));
+    if (privateKey?.type !== 'private') throw new TypeError('privateKey has to be a private CryptoKey of X25519');
+    return new KeyPair(OWN, privateKey, new Uint8Array(await crypto.subtle.exportKey('raw', publicKey)));
   }
 }

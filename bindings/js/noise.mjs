@@ -1,10 +1,26 @@
 // The Noise Protocol Framework, revision 34, with 25519, ChaChaPoly and SHA256, on the proved library as WebAssembly. docs/JAVASCRIPT.md says how
 // it is used, and what of it is proved.
-export { NoiseError, code, hasMemory64, load } from './module.mjs';
+export { NoiseError, code } from './codes.mjs';
+export { hasMemory64, load } from './module.mjs';
 export { KeyPair } from './keys.mjs';
 export { checkPattern } from './check.mjs';
 export { Handshake } from './handshake.mjs';
 export { Datagrams, Transport } from './transport.mjs';
+export { CipherState, Ciphers } from './ciphers.mjs';
 export { NoiseSocket } from './socket.mjs';
 export { layout } from './layout.mjs';
 export { DEFERRED, FUNDAMENTAL, asText, protocolName, textOf } from './patterns.mjs';
+
+/** @typedef {import('./codes.mjs').Code} Code */
+/** @typedef {import('./keys.mjs').DH} DH */
+/** @typedef {import('./check.mjs').Verdict} Verdict */
+/** @typedef {import('./handshake.mjs').HandshakeOptions} HandshakeOptions */
+/** @typedef {import('./handshake.mjs').Stage} Stage */
+/** @typedef {import('./transport.mjs').Sealer} Sealer */
+/** @typedef {import('./transport.mjs').Opener} Opener */
+/** @typedef {import('./socket.mjs').NoiseSocketOptions} NoiseSocketOptions */
+/** @typedef {import('./carriers.mjs').NodeStream} NodeStream */
+/** @typedef {import('./layout.mjs').Layout} Layout */
+/** @typedef {import('./layout.mjs').Message} Message */
+/** @typedef {import('./layout.mjs').Piece} Piece */
+/** @typedef {import('./layout.mjs').Role} Role */

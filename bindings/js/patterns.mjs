@@ -19,11 +19,23 @@ const TABLE = {
   I1X: '|e, s|e, ee, s, es|se', IX1: '|e, s|e, ee, se, s|es', I1X1: '|e, s|e, ee, s|se, es',
 };
 
-/** The fifteen fundamental patterns (Noise, 7.4 and 7.5), and the 23 deferred ones (18.1). */
+/**
+ * The fifteen fundamental patterns (Noise, 7.4 and 7.5).
+ * @type {readonly string[]}
+ */
 export const FUNDAMENTAL = Object.freeze(Object.keys(TABLE).slice(0, 15));
+/**
+ * The 23 deferred ones (18.1).
+ * @type {readonly string[]}
+ */
 export const DEFERRED = Object.freeze(Object.keys(TABLE).slice(15));
 
-/** The text of a pattern of the standard, with psk tokens at these places: 0 is before the first message, N at the end of message N. */
+/**
+ * The text of a pattern of the standard, with psk tokens at these places: 0 is before the first message, N at the end of message N.
+ * @param {string} base
+ * @param {number[]} [places]
+ * @returns {string}
+ */
 export function textOf(base, places = []) {
   const [known, ...messages] = TABLE[base].split('|');
   for (const place of places) {
@@ -38,12 +50,20 @@ export function heading(base, places) {
   return `${base}${places.map((place) => `psk${place}`).join('+')}:`;
 }
 
-/** The protocol name of a heading without its colon. */
+/**
+ * The protocol name of a heading without its colon.
+ * @param {string} section
+ * @returns {string}
+ */
 export function protocolName(section) {
   return `Noise_${section}_25519_ChaChaPoly_SHA256`;
 }
 
-/** The text of a protocol name of a pattern of the standard, or the text itself. */
+/**
+ * The text of a protocol name of a pattern of the standard, or the text itself.
+ * @param {string} pattern
+ * @returns {string}
+ */
 export function asText(pattern) {
   if (pattern.includes('\n')) return pattern;
   const parts = /^(?:Noise_)?([A-Z][A-Z0-9]{0,7})((?:psk[0-8]\+?)*)(?:_25519_ChaChaPoly_SHA256)?$/.exec(pattern);

@@ -1,9 +1,10 @@
 // A channel over what moves bytes: a WebSocket, one message a frame, or a pair of WHATWG streams or a stream of Node, each message after its length.
-import { NoiseError, code } from './module.mjs';
+import { NoiseError, code } from './codes.mjs';
 import { carrierOf } from './carriers.mjs';
 import { Handshake } from './handshake.mjs';
 import { Incoming } from './incoming.mjs';
 import { layout } from './layout.mjs';
+import { OWN, mustBeOwn } from './own.mjs';
 import { findMessage, frameOf } from './stream.mjs';
 import { Turns, Waiting, within } from './waiting.mjs';
 
@@ -60,7 +61,25 @@ function endBy(signal, waiting) {
   return () => signal.removeEventListener('abort', abort);
 }
 
-/** An open channel: `send` and `receive` move payloads. It closes at the first message that is refused. */
+/**
+ * @typedef {object} SocketOptions
+ * @property {bigint | number} [interval] Each direction renews its key after so many of its messages, the same number at both parties; 0 is never.
+ * @property {(remoteStatic: Uint8Array) => boolean | Promise<boolean>} [judge] Called once, as soon as the other party's static key is known, before
+ * anything else is sent or read. Unless it returns true itself, the connection is closed, and `open` throws NOISE_REFUSED. In a pattern in which the
+ * other party has no static key it is a TypeError.
+ * @property {boolean} [acceptAnyKey] Talks to anybody, where none of `judge`, `remoteStatic`, `psks` and `pskFor` says who it may be. Without it
+ * `open` throws NOISE_UNAUTHENTICATED.
+ * @property {AbortSignal} [signal] Ends the call of `open`, whatever it waits for: it destroys the connection, and throws the signal's reason.
+ * @property {number} [handshakeLimit] How many bytes a handshake message may have: 4096, if nothing is said. At more `open` throws NOISE_TOO_LONG.
+ * @property {number} [backlog] How many bytes of an open WebSocket may wait until they are received: 64 MiB, if nothing is said, each message with 256
+ * more. At more the connection is closed, and `receive` throws NOISE_BACKLOG. Until it is open that is 1 MiB.
+ */
+/** @typedef {import('./handshake.mjs').HandshakeOptions & SocketOptions} NoiseSocketOptions The set-up of a handshake, and of a channel. */
+
+/**
+ * An open channel: `send` and `receive` move payloads. It closes at the first message that is refused.
+ * @implements {AsyncIterable<Uint8Array>}
+ */
 export class NoiseSocket {
   #carrier;
   #incoming;
@@ -72,21 +91,32 @@ export class NoiseSocket {
   #closing;
   #isDestroyed = false;
 
-  constructor(carrier, incoming, stream) {
+  /** @private */
+  constructor(mark, carrier, incoming, stream) {
+    mustBeOwn(mark);
     this.#carrier = carrier;
     this.#incoming = incoming;
     this.#stream = stream;
+    /**
+     * The handshake hash.
+     * @readonly
+     * @type {Uint8Array}
+     */
     this.hash = stream.hash;
+    /**
+     * The other party's static key, if it has one.
+     * @readonly
+     * @type {Uint8Array | undefined}
+     */
     this.remoteStatic = stream.remoteStatic;
   }
 
   /**
-   * Passes a handshake, without payloads, over a WebSocket, over `{readable, writable}`, or over a stream of Node. The options are those of
-   * Handshake, and `interval`, `judge`, `acceptAnyKey`, `signal`, `handshakeLimit` and `backlog`. What a WebSocket got before this call isn't seen.
-   * Where it throws, the connection is destroyed.
-   * `judge(remoteStatic)` is called once, as soon as the other party's static key is known, before anything else is sent or read. It has to return
-   * true: otherwise `open` throws NOISE_REFUSED. Without `judge`, `remoteStatic` and secrets it throws NOISE_UNAUTHENTICATED, before anything is
-   * sent, unless `acceptAnyKey` is true. When `signal` aborts, it throws the signal's reason.
+   * Passes a handshake, without payloads, over a WebSocket, over `{readable, writable}`, or over a stream of Node. What a WebSocket got before this
+   * call isn't seen. Where it throws, the connection is destroyed.
+   * @param {WebSocket | import('./carriers.mjs').NodeStream | { readable: ReadableStream<Uint8Array>, writable: WritableStream<Uint8Array> }} connection
+   * @param {NoiseSocketOptions} options
+   * @returns {Promise<NoiseSocket>}
    */
   static async open(connection, options) {
     const carrier = carrierOf(connection);
@@ -105,7 +135,7 @@ export class NoiseSocket {
       await pass({ carrier, incoming, handshake, judge: isJudged ? judge : undefined, limit: limits[0], waiting });
       carrier.overflowed = undefined;    // the next call of receive throws it
       [, carrier.limit] = limits;
-      return new NoiseSocket(carrier, incoming, handshake.finishStream({ interval }));
+      return new NoiseSocket(OWN, carrier, incoming, handshake.finishStream({ interval }));
     } catch (error) {
       waiting.end(error);
       carrier.destroy(error);
@@ -143,14 +173,22 @@ export class NoiseSocket {
     }
   }
 
-  /** Sends a payload of at most 65519 bytes, and waits until the connection has taken it. Of an empty one nothing is sent. */
+  /**
+   * Sends a payload of 1 to 65519 bytes, and waits until the connection has taken it. Of an empty one nothing is sent.
+   * @param {Uint8Array} payload
+   * @returns {Promise<void>}
+   */
   async send(payload) {
     this.#mustBeOpen();
     const frame = this.#stream.write(payload);
     if (frame.length > 0) await this.#sends.take(() => this.#put(frame));
   }
 
-  /** Ends what this party sends: the other party's `receive` gives undefined then. This party goes on to receive. */
+  /**
+   * Ends what this party sends, and waits until the connection has taken the end: the other party's `receive` gives undefined then. This party goes
+   * on to receive.
+   * @returns {Promise<void>}
+   */
   async end() {
     this.#mustBeOpen();
     const frame = this.#stream.end();
@@ -160,6 +198,7 @@ export class NoiseSocket {
   /**
    * The next payload, or undefined once the other party has ended its stream, and all of it came. Where the connection has ended before that, it
    * throws NOISE_CLOSED. Calls at once are served in order.
+   * @returns {Promise<Uint8Array | undefined>}
    */
   async receive() {
     this.#mustBeOpen();
@@ -178,6 +217,7 @@ export class NoiseSocket {
     }
   }
 
+  /** @returns {AsyncIterableIterator<Uint8Array>} */
   async* [Symbol.asyncIterator]() {
     for (let payload; (payload = await this.receive()) !== undefined;) yield payload;
   }
@@ -185,6 +225,8 @@ export class NoiseSocket {
   /**
    * Ends what this party sends, unless it is ended, and closes the connection once all is sent, or after `timeout` milliseconds. It never rejects:
    * `end` does where the end can't be sent. What still comes is dropped, and calls that wait for a payload throw NOISE_DISPOSED.
+   * @param {{ timeout?: number }} [options]
+   * @returns {Promise<void>}
    */
   close({ timeout = 5000 } = {}) {
     this.#closing ??= this.#close(timeout);
@@ -209,7 +251,10 @@ export class NoiseSocket {
     this.#fail(closed());
   }
 
-  /** Ends all at once, without an end of what this party sends: the other party sees a cut. After `close` it does nothing. */
+  /**
+   * Ends all at once, without an end of what this party sends: the other party sees a cut. After `close` it does nothing.
+   * @returns {void}
+   */
   destroy() {
     this.#fail(new NoiseError(code.DISPOSED));
   }

@@ -1,5 +1,6 @@
 // Streams with an end, by the proved channel of the library: it makes and finds frames, and says where a stream ends, and when it is broken.
-import { NoiseError, code, library, must } from './module.mjs';
+import { NoiseError, code, must } from './codes.mjs';
+import { library } from './module.mjs';
 import { bytesOf } from './bytes.mjs';
 import { Sealed } from './transport.mjs';
 
@@ -32,6 +33,7 @@ export function messageOf(frame) {
 
 /** Both directions of a stream. */
 export class Stream extends Sealed {
+  /** @private */
   static kinds = ['streamSender', 'streamReceiver'];
 
   /** The frame of a payload of at most 65519 bytes. Of no bytes there is none, and it is empty. */

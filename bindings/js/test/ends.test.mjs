@@ -196,7 +196,7 @@ test('ends', { timeout: 300000 }, async (t) => {
   // In a program of its own: the test runner follows each promise, and takes longer than the channel.
   await t.test('64,000 frames of 19 bytes in one chunk are read in a second of processor time', () => {
     const script = fileURLToPath(new URL('frames.mjs', import.meta.url));
-    const { stdout, stderr } = spawnSync(process.execPath, [...process.execArgv.filter((it) => it.startsWith('--exp')), script], { encoding: 'utf8' });
+    const { stdout, stderr } = spawnSync(process.execPath, [...process.execArgv.filter((it) => !it.startsWith('--test')), script], { encoding: 'utf8' });
     const milliseconds = Number(stdout);
     assert.ok(milliseconds > 0 && milliseconds < 1000, `${stdout}${stderr}`);
   });

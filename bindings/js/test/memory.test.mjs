@@ -5,7 +5,8 @@ import { readFile } from 'node:fs/promises';
 import { setFlagsFromString } from 'node:v8';
 import { runInNewContext } from 'node:vm';
 import { library } from '../module.mjs';
-import { Datagrams, Handshake, KeyPair, NoiseSocket, Transport, code, load } from '../noise.mjs';
+import { Incoming } from '../incoming.mjs';
+import { CipherState, Ciphers, Datagrams, Handshake, KeyPair, NoiseError, NoiseSocket, Transport, code, load } from '../noise.mjs';
 
 /** Both parties of NN, after its messages. */
 async function passed() {
@@ -51,21 +52,41 @@ test('memory', async (t) => {
     const [a, b] = [initiator.finish(), responder.finish()];
     for (const end of [a, b, a, initiator]) end.dispose();
     for (const kind of Object.keys(lib.kept)) assert.equal(new Set(lib.kept[kind]).size, lib.kept[kind].length, kind);
-    if (Symbol.dispose) for (const Kind of [Handshake, Transport, Datagrams, NoiseSocket]) assert.equal(typeof Kind.prototype[Symbol.dispose], 'function');
+    if (Symbol.dispose) for (const Kind of [Handshake, Transport, Datagrams, CipherState, NoiseSocket]) assert.equal(typeof Kind.prototype[Symbol.dispose], 'function');
   });
 
-  await t.test('the codes have their names in the types', async () => {
-    const types = await readFile(new URL('../noise.d.ts', import.meta.url), 'utf8');
-    const [, body] = /export const code: \{\n([^}]*)\n\};/u.exec(types);
-    assert.deepEqual(Object.fromEntries([...body.matchAll(/readonly (\w+): (-?\d+);/gu)].map(([, name, number]) => [name, Number(number)])), { ...code });
+  await t.test('the codes are those of include/noise.h', async () => {
     const header = await readFile(new URL('../../../include/noise.h', import.meta.url), 'utf8');
     const codes = /enum noise_code \{([^}]*)\}/u.exec(header)[1];
     const there = Object.fromEntries([...codes.matchAll(/NOISE_(\w+) = (\d+)/gu)].map(([, name, number]) => [name === 'CLOSED' ? 'STREAM_CLOSED' : name, Number(number)]));
-    for (const [name, number] of Object.entries(code)) if (number >= 0) assert.equal(there[name], number, name);
+    assert.deepEqual(Object.fromEntries(Object.entries(code).filter(([, number]) => number >= 0)), there);
+    for (const [name, number] of Object.entries(code)) if (number !== 0) assert.doesNotMatch(new NoiseError(number).message, /^code /u, name);
   });
 
-  await t.test('a key pair is made by its own calls alone', async () => {
+  await t.test('what other calls make has no constructor that makes anything', async () => {
     const { publicKey } = await KeyPair.generate();
-    for (const words of [[], [publicKey], [undefined, publicKey], [{}, publicKey]]) assert.throws(() => new KeyPair(...words), TypeError);
+    for (const Kind of [KeyPair, Transport, Datagrams, CipherState, Ciphers, NoiseSocket]) {
+      for (const words of [[], [publicKey], [undefined, publicKey], [{}, [0n, 64n], { hash: publicKey }], [{ type: 'private' }, publicKey]]) {
+        assert.throws(() => new Kind(...words), { name: 'TypeError', message: /Illegal constructor/u });
+      }
+    }
+    await assert.rejects(KeyPair.from({ privateKey: undefined, publicKey }), TypeError);
+  });
+
+  await t.test('a frame that comes in single bytes takes no more memory than its bytes', async () => {
+    setFlagsFromString('--expose-gc');
+    const gc = runInNewContext('gc');
+    const incoming = Array.from({ length: 20 }, () => new Incoming(async () => Uint8Array.of(7)));
+    gc();
+    const { heapUsed, arrayBuffers } = process.memoryUsage();
+    const ends = await Promise.all(incoming.map(async (it) => {
+      const look = (held, count) => (count < 60000 ? { wanted: 60000 - count } : { wanted: 0, used: 0, value: count });
+      return (await it.next(look)).value;
+    }));
+    gc();
+    const after = process.memoryUsage();
+    assert.ok(ends.every((count) => count >= 60000) && incoming.every(({ left }) => left >= 60000));
+    const each = (after.heapUsed + after.arrayBuffers - heapUsed - arrayBuffers) / 20;
+    assert.ok(each < 400000, `${each} bytes for 60000`);
   });
 });

@@ -6,8 +6,6 @@ const text = (s) => new TextEncoder().encode(s);
 const other = (role) => (role === 'initiator' ? 'responder' : 'initiator');
 const refused = (number, token) => (error) => error instanceof NoiseError && error.code === number && (token === undefined || error.token === token);
 
-test('before load each call is refused', () => assert.throws(() => checkPattern('NN:\n'), refused(code.NOT_LOADED)));
-
 /** Both parties of a pattern, with keys of WebCrypto. */
 async function parties(pattern, options = {}) {
   const plan = layout(pattern);
@@ -276,14 +274,4 @@ test('with the module loaded', async (t) => {
     assert.deepEqual(await Promise.all([alice.agree(bob.publicKey), bob.agree(alice.publicKey)]), [shared, shared]);
     await assert.rejects(KeyPair.fromSecret(new Uint8Array(31)), TypeError);
   });
-});
-
-test('load names what an engine without 64-bit memory lacks', async (t) => {
-  const { spawnSync } = await import('node:child_process');
-  const script = `const { load, hasMemory64 } = await import(${JSON.stringify(new URL('../noise.mjs', import.meta.url).href)});
-    if (hasMemory64()) console.log('has'); else await load().catch((error) => console.log(error.name));`;
-  const said = spawnSync(process.execPath, ['--input-type=module', '-e', script], { encoding: 'utf8', env: { ...process.env, NODE_OPTIONS: '' } }).stdout.trim();
-  if (said === 'has') return t.skip('this engine has it');
-  assert.equal(said, 'NOISE_NO_MEMORY64');
-  return undefined;
 });

@@ -1,0 +1,46 @@
+// How the module is loaded. The steps share what is loaded, so their order counts.
+import test from 'node:test';
+import assert from 'node:assert/strict';
+import { spawnSync } from 'node:child_process';
+import { readFile } from 'node:fs/promises';
+import { checkPattern, code, hasMemory64, load } from '../noise.mjs';
+import { refused } from './connections.mjs';
+
+const MEMORY64 = new URL('../../../dist/noise_c.wasm', import.meta.url);
+
+/** What a program of its own prints, without flags. */
+function printed(script) {
+  const noise = JSON.stringify(new URL('../noise.mjs', import.meta.url).href);
+  const { stdout, stderr } = spawnSync(process.execPath, ['--input-type=module', '-e', `const noise = await import(${noise}); ${script}`], { encoding: 'utf8' });
+  return stdout.trim() || stderr;
+}
+
+test('before load each call is refused', () => assert.throws(() => checkPattern('NN:\n'), refused(code.NOT_LOADED)));
+
+test('what is no module, or no file, is refused, and load can be tried again', async () => {
+  await assert.rejects(load(new Uint8Array(8)), WebAssembly.CompileError);
+  await assert.rejects(load(Uint8Array.of(0, 97, 115, 109, 1, 0, 0, 0)), /version 1/u);
+  await assert.rejects(load('nothing.wasm'), { code: 'ENOENT' });
+  await assert.rejects(load('http://127.0.0.1:1/noise_c.wasm'), TypeError);
+  assert.throws(() => checkPattern('NN:\n'), refused(code.NOT_LOADED));
+});
+
+test('Node loads the module without a flag, also by its address or its bytes', async () => {
+  const file = `new URL("noise_c.wasm", ${JSON.stringify(new URL('../', import.meta.url).href)})`;
+  for (const source of ['', '"noise_c.wasm"', file, `await (await import("node:fs/promises")).readFile(${file})`]) {
+    assert.equal(printed(`await noise.load(${source}); console.log(noise.checkPattern("NN:\\n  -> e\\n  <- e, ee\\n").messages)`), '2', source);
+  }
+});
+
+test('a module with 64-bit memory is loaded where the engine has that', () => {
+  const said = printed(`await noise.load(${JSON.stringify(MEMORY64.href)}).then(() => console.log("loaded"), ({ name }) => console.log(name));
+    console.log(noise.hasMemory64())`);
+  assert.match(said, /^(loaded\ntrue|CompileError\nfalse)$/u);
+});
+
+test('calls at once load one module', async () => {
+  await Promise.all([load(), load(), load(await readFile(new URL('../noise_c.wasm', import.meta.url)))]);
+  await load('nothing.wasm');    // it is loaded
+  assert.deepEqual(checkPattern('NN:\n  -> e\n  <- e, ee\n'), { valid: true, messages: 2 });
+  assert.equal(typeof hasMemory64(), 'boolean');
+});

@@ -1,0 +1,161 @@
+/**
+ * @typedef {object} HandshakeOptions
+ * @property {string} pattern A protocol name, the name of a pattern alone, as XXpsk3, or a pattern text whose lines end with a line feed.
+ * @property {boolean} [responder]
+ * @property {Uint8Array} [prologue] At most 65535 bytes, the same at both parties.
+ * @property {import('./keys.mjs').DH} [staticKey]
+ * @property {import('./keys.mjs').DH} [ephemeralKey] Drawn at the first message, where it isn't passed. It must never have been used before.
+ * @property {Uint8Array} [remoteStatic] The other party's static key, where the pattern has it before the messages.
+ * @property {Uint8Array} [remoteEphemeral]
+ * @property {Uint8Array[]} [psks] 32 bytes for each psk token, in their order.
+ * @property {(remoteStatic: Uint8Array) => Uint8Array | Promise<Uint8Array>} [pskFor] In place of `psks`: called at each psk token with the other
+ * party's static key, it gives the secret of 32 bytes. The other party hasn't shown yet that it has the private key. What it throws rejects `write`
+ * or `read`, and nothing is sent.
+ */
+/**
+ * How far a handshake is.
+ * @typedef {object} Stage
+ * @property {number} messages How many messages the pattern has.
+ * @property {number} passed How many of them were written or read.
+ * @property {boolean} ended Whether a refused message has ended it.
+ * @property {boolean} writesNext Whether this party writes the next message.
+ * @property {boolean} done Whether all messages have passed.
+ */
+/** One party of a handshake, from its first message to its last. */
+export class Handshake {
+    /**
+     * Checks the set-up at once, and throws what noise_start returns. The ephemeral key pair is drawn at the first message, unless one is passed:
+     * that must never have been used before.
+     * @param {HandshakeOptions} options
+     */
+    constructor({ pattern, responder, prologue, staticKey, ephemeralKey, remoteStatic, remoteEphemeral, psks, pskFor }: HandshakeOptions);
+    /**
+     * Writes the next message, with this payload.
+     * @param {Uint8Array} [payload]
+     * @returns {Promise<Uint8Array>}
+     */
+    write(payload?: Uint8Array | undefined): Promise<Uint8Array>;
+    /**
+     * Reads the message that is due, and gives its payload. At NOISE_TAG and NOISE_SHORT the handshake has ended.
+     * @param {Uint8Array} message
+     * @returns {Promise<Uint8Array>}
+     */
+    read(message: Uint8Array): Promise<Uint8Array>;
+    /**
+     * How far it is.
+     * @returns {Stage}
+     */
+    get stage(): Stage;
+    /**
+     * How many bytes the next message has with a payload of this length.
+     * @param {number} payloadLength
+     * @returns {number}
+     */
+    messageLength(payloadLength: number): number;
+    /**
+     * The handshake hash so far. Before the first call of `write` or `read` an ephemeral key of a pre-message isn't drawn yet.
+     * @returns {Uint8Array}
+     */
+    get hash(): Uint8Array;
+    /**
+     * The other party's static key, once it is known.
+     * @returns {Uint8Array | undefined}
+     */
+    get remoteStatic(): Uint8Array | undefined;
+    /**
+     * The public key of the ephemeral pair, once it was drawn.
+     * @returns {Uint8Array | undefined}
+     */
+    get ephemeralPublicKey(): Uint8Array | undefined;
+    /**
+     * Makes the transport, and uses this handshake up. Each direction renews its key after each `interval` of its messages; 0 is never.
+     * @param {{ interval?: bigint | number }} [options]
+     * @returns {Transport}
+     */
+    finish({ interval }?: {
+        interval?: number | bigint | undefined;
+    } | undefined): Transport;
+    /**
+     * Makes the two halves of a stream with an end, in the same way.
+     * @private
+     */
+    private finishStream;
+    /**
+     * Makes the two cipher states (Split: Noise, 5.2), both at nonce 0, and uses this handshake up.
+     * @returns {Ciphers}
+     */
+    finishCiphers(): Ciphers;
+    /**
+     * Makes the state of datagrams, with a window of 64, 256 or 1024 nonces, and uses this handshake up.
+     * @param {{ window?: 64 | 256 | 1024 }} [options]
+     * @returns {Datagrams}
+     */
+    finishDatagrams({ window }?: {
+        window?: 256 | 64 | 1024 | undefined;
+    } | undefined): Datagrams;
+    /**
+     * Overwrites the struct and the secrets, and frees their memory. Later calls throw NOISE_DISPOSED.
+     * @returns {void}
+     */
+    dispose(): void;
+    #private;
+}
+export type HandshakeOptions = {
+    /**
+     * A protocol name, the name of a pattern alone, as XXpsk3, or a pattern text whose lines end with a line feed.
+     */
+    pattern: string;
+    responder?: boolean | undefined;
+    /**
+     * At most 65535 bytes, the same at both parties.
+     */
+    prologue?: Uint8Array | undefined;
+    staticKey?: import("./keys.mjs").DH | undefined;
+    /**
+     * Drawn at the first message, where it isn't passed. It must never have been used before.
+     */
+    ephemeralKey?: import("./keys.mjs").DH | undefined;
+    /**
+     * The other party's static key, where the pattern has it before the messages.
+     */
+    remoteStatic?: Uint8Array | undefined;
+    remoteEphemeral?: Uint8Array | undefined;
+    /**
+     * 32 bytes for each psk token, in their order.
+     */
+    psks?: Uint8Array[] | undefined;
+    /**
+     * In place of `psks`: called at each psk token with the other
+     * party's static key, it gives the secret of 32 bytes. The other party hasn't shown yet that it has the private key. What it throws rejects `write`
+     * or `read`, and nothing is sent.
+     */
+    pskFor?: ((remoteStatic: Uint8Array) => Uint8Array | Promise<Uint8Array>) | undefined;
+};
+/**
+ * How far a handshake is.
+ */
+export type Stage = {
+    /**
+     * How many messages the pattern has.
+     */
+    messages: number;
+    /**
+     * How many of them were written or read.
+     */
+    passed: number;
+    /**
+     * Whether a refused message has ended it.
+     */
+    ended: boolean;
+    /**
+     * Whether this party writes the next message.
+     */
+    writesNext: boolean;
+    /**
+     * Whether all messages have passed.
+     */
+    done: boolean;
+};
+import { Transport } from "./transport.mjs";
+import { Ciphers } from "./ciphers.mjs";
+import { Datagrams } from "./transport.mjs";

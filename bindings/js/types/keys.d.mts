@@ -1,0 +1,56 @@
+/**
+ * Whatever answers for a key pair of X25519.
+ * @typedef {object} DH
+ * @property {Uint8Array} publicKey 32 bytes.
+ * @property {(remote: Uint8Array) => Uint8Array | Promise<Uint8Array>} agree Gives the result of X25519 for this pair and a public key. One of all
+ * zeros is refused.
+ */
+/** A key pair of WebCrypto's X25519, whose private key isn't extractable from it. */
+export class KeyPair {
+    /**
+     * Draws a key pair.
+     * @returns {Promise<KeyPair>}
+     */
+    static generate(): Promise<KeyPair>;
+    /**
+     * The pair of a secret key of 32 bytes, from a file for example. The bytes stay the caller's to overwrite.
+     * @param {Uint8Array} bytes
+     * @returns {Promise<KeyPair>}
+     */
+    static fromSecret(bytes: Uint8Array): Promise<KeyPair>;
+    /**
+     * The pair of a CryptoKeyPair that the program keeps, in IndexedDB for example.
+     * @param {CryptoKeyPair} pair
+     * @returns {Promise<KeyPair>}
+     */
+    static from({ privateKey, publicKey }: CryptoKeyPair): Promise<KeyPair>;
+    /** @private */
+    private constructor();
+    /**
+     * 32 bytes.
+     * @readonly
+     * @type {Uint8Array}
+     */
+    readonly publicKey: Uint8Array;
+    /**
+     * The result of X25519 for this private key and a public key of 32 bytes. It rejects where the result would be all zeros.
+     * @param {Uint8Array} remote
+     * @returns {Promise<Uint8Array>}
+     */
+    agree(remote: Uint8Array): Promise<Uint8Array>;
+    #private;
+}
+/**
+ * Whatever answers for a key pair of X25519.
+ */
+export type DH = {
+    /**
+     * 32 bytes.
+     */
+    publicKey: Uint8Array;
+    /**
+     * Gives the result of X25519 for this pair and a public key. One of all
+     * zeros is refused.
+     */
+    agree: (remote: Uint8Array) => Uint8Array | Promise<Uint8Array>;
+};
