@@ -31,8 +31,8 @@ const closed = (cause) => new NoiseError(code.CLOSED, { cause });
 const UNSENT = 1 << 20;
 /** What a message that waits costs beside its bytes. */
 const EACH = 256;
-/** What may wait until a handshake is over, in bytes. */
-const EARLY = 1 << 20;
+/** What may wait until the last message of a handshake has come, in bytes. */
+export const EARLY = 1 << 20;
 
 /** The messages of a WebSocket that weren't pulled yet, at most `limit` bytes: at more it is over, by NOISE_BACKLOG. */
 class Backlog {
@@ -42,6 +42,10 @@ class Backlog {
   #waiting = [];
   #end;
   limit = EARLY;
+
+  get size() {
+    return this.#size;
+  }
 
   /** Whether there was room. */
   push(message) {
@@ -153,7 +157,8 @@ function ofWebSocket(socket) {
       await ended;
     },
     destroy,
-    /** How many bytes may wait once the handshake is over. */
+    /** How many bytes wait to be pulled, and may wait. */
+    get held() { return backlog.size; },
     set limit(bytes) { backlog.limit = bytes; },
   };
   return carrier;

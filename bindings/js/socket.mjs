@@ -1,6 +1,6 @@
 // A channel over what moves bytes: a WebSocket, one message a frame, or a pair of WHATWG streams or a stream of Node, each message after its length.
 import { NoiseError, code } from './codes.mjs';
-import { carrierOf } from './carriers.mjs';
+import { EARLY, carrierOf } from './carriers.mjs';
 import { Handshake } from './handshake.mjs';
 import { Incoming } from './incoming.mjs';
 import { layout } from './layout.mjs';
@@ -30,11 +30,41 @@ function sizeOf(value, what) {
   return value;
 }
 
+/**
+ * How much may wait over a WebSocket: 1 MiB until the last message of the handshake has come, `backlog` then, and while the program is asked for its
+ * verdict or a secret 1 MiB more than what waits.
+ */
+class Bound {
+  #carrier;
+  #backlog;
+  #limit = EARLY;
+
+  constructor(carrier, backlog) {
+    this.#carrier = carrier;
+    this.#backlog = backlog;
+  }
+
+  hasLast() {
+    this.#limit = this.#backlog;
+    this.#carrier.limit = this.#limit;
+  }
+
+  /** A call that asks the program. */
+  asking(ask) {
+    return ask && (async (remoteStatic) => {
+      this.#carrier.limit = Math.min(this.#carrier.held + EARLY, this.#backlog);
+      const answer = await ask(remoteStatic);
+      this.#carrier.limit = this.#limit;
+      return answer;
+    });
+  }
+}
+
 /** Passes the messages of a handshake, each of at most `limit` bytes, as long as `waiting` isn't over. */
-async function pass({ carrier, incoming, handshake, judge, limit, waiting }) {
+async function pass({ carrier, incoming, handshake, judge, limit, waiting, bound }) {
   let isDue = judge !== undefined;
   for (;;) {
-    const { done, writesNext } = handshake.stage;
+    const { done, writesNext, messages, passed } = handshake.stage;
     const { remoteStatic } = handshake;
     if (isDue && (done || remoteStatic)) {
       isDue = false;
@@ -48,6 +78,7 @@ async function pass({ carrier, incoming, handshake, judge, limit, waiting }) {
     }
     const found = await waiting.for(incoming.next(findMessage, limit + 2, new NoiseError(code.TOO_LONG)));    // 2 bytes of its length
     if (!found) throw closed();
+    if (passed + 1 === messages) bound.hasLast();    // the other party may send payloads at once
     await waiting.for(handshake.read(found.value));
   }
 }
@@ -71,8 +102,9 @@ function endBy(signal, waiting) {
  * `open` throws NOISE_UNAUTHENTICATED.
  * @property {AbortSignal} [signal] Ends the call of `open`, whatever it waits for: it destroys the connection, and throws the signal's reason.
  * @property {number} [handshakeLimit] How many bytes a handshake message may have: 4096, if nothing is said. At more `open` throws NOISE_TOO_LONG.
- * @property {number} [backlog] How many bytes of an open WebSocket may wait until they are received: 64 MiB, if nothing is said, each message with 256
- * more. At more the connection is closed, and `receive` throws NOISE_BACKLOG. Until it is open that is 1 MiB.
+ * @property {number} [backlog] How many bytes of a WebSocket may wait until they are received: 64 MiB, if nothing is said, each message with 256 more.
+ * At more the connection is closed, and `receive` throws NOISE_BACKLOG. Until the last message of the handshake has come that is 1 MiB, and while
+ * `judge` or `pskFor` is asked 1 MiB more than what waits then.
  */
 /** @typedef {import('./handshake.mjs').HandshakeOptions & SocketOptions} NoiseSocketOptions The set-up of a handshake, and of a channel. */
 
@@ -125,16 +157,17 @@ export class NoiseSocket {
     let letGo;
     try {
       const { interval = 0n, judge, acceptAnyKey, signal, handshakeLimit = 4096, backlog = 1 << 26, ...setup } = options;
-      const limits = [sizeOf(handshakeLimit, 'handshakeLimit'), sizeOf(backlog, 'backlog')];
-      handshake = new Handshake(setup);
+      const limit = sizeOf(handshakeLimit, 'handshakeLimit');
+      const bound = new Bound(carrier, sizeOf(backlog, 'backlog'));
+      handshake = new Handshake(typeof setup.pskFor === 'function' ? { ...setup, pskFor: bound.asking(setup.pskFor) } : setup);
       const isJudged = hasToJudge(setup, judge, acceptAnyKey);
       letGo = endBy(signal, waiting);
       carrier.overflowed = (error) => waiting.end(error);
       await waiting.for(carrier.ready());
       const incoming = new Incoming(() => carrier.pull());
-      await pass({ carrier, incoming, handshake, judge: isJudged ? judge : undefined, limit: limits[0], waiting });
+      await pass({ carrier, incoming, handshake, judge: isJudged ? bound.asking(judge) : undefined, limit, waiting, bound });
       carrier.overflowed = undefined;    // the next call of receive throws it
-      [, carrier.limit] = limits;
+      bound.hasLast();
       return new NoiseSocket(OWN, carrier, incoming, handshake.finishStream({ interval }));
     } catch (error) {
       waiting.end(error);

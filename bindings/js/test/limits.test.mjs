@@ -86,6 +86,26 @@ test('limits', { timeout: 300000 }, async (t) => {
     there.close();
   });
 
+  await t.test('over a WebSocket 8 MiB that follow the last message of the handshake at once are received', async () => {
+    const [one, two] = [await KeyPair.generate(), await KeyPair.generate()];
+    const slow = { publicKey: two.publicKey, agree: async (remote) => { await new Promise((resolve) => { setTimeout(resolve, 30); }); return two.agree(remote); } };
+    const isOne = (key) => Buffer.compare(key, one.publicKey) === 0;
+    for (const server of [{ pattern: 'XX', judge: isOne }, { pattern: 'XXpsk3', pskFor: () => new Uint8Array(32) }]) {
+      const [near, far] = openSockets();
+      const opening = NoiseSocket.open(near, { ...server, staticKey: slow, responder: true });
+      const a = await NoiseSocket.open(far, { pattern: server.pattern, staticKey: one, psks: server.pskFor ? [new Uint8Array(32)] : [], acceptAnyKey: true });
+      const sends = Array.from({ length: 128 }, () => a.send(new Uint8Array(65519)));
+      const b = await opening;
+      let got = 0;
+      const reading = (async () => { for await (const { length } of b) got += length; })();
+      await Promise.all(sends);
+      await a.close();
+      await reading;
+      assert.equal(got, 128 * 65519);
+      await b.close();
+    }
+  });
+
   await t.test('an open channel keeps what waits, up to its backlog', async () => {
     const [near, far] = openSockets();
     const [a, b] = await channels([near, far], NN, { ...NN, backlog: 100000 });

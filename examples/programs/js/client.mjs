@@ -2,7 +2,7 @@
 // server sends back.
 import { readFile } from 'node:fs/promises';
 import { connect } from 'node:net';
-import { KeyPair, NoiseSocket, load } from 'noise-proved';
+import { KeyPair, NoiseSocket, load } from 'yulimosar';
 
 const [text] = process.argv.slice(2);
 if (text === undefined) throw new Error('usage: node client.mjs TEXT');

@@ -2,7 +2,7 @@
 // that the other party gets.
 import { randomBytes } from 'node:crypto';
 import { writeFile } from 'node:fs/promises';
-import { KeyPair } from 'noise-proved';
+import { KeyPair } from 'yulimosar';
 
 const [name] = process.argv.slice(2);
 if (!name) throw new Error('usage: node keygen.mjs NAME');

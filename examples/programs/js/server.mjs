@@ -2,12 +2,13 @@
 // and sends back what it reads.
 import { readFile } from 'node:fs/promises';
 import { createServer } from 'node:net';
-import { KeyPair, NoiseSocket, load } from 'noise-proved';
+import { KeyPair, NoiseSocket, load } from 'yulimosar';
 
 await load();
 const staticKey = await KeyPair.fromSecret(await readFile('server.key'));
 const client = await readFile('client.public');
 
+/** @param {import('node:net').Socket} socket */
 async function serve(socket) {
   const channel = await NoiseSocket.open(socket, {
     pattern: 'XX',

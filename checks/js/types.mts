@@ -1,0 +1,75 @@
+// The package as a program in TypeScript uses it. It is only checked, against the package's types, and never run.
+import {
+  CipherState, Code, DH, Datagrams, Handshake, HandshakeOptions, KeyPair, NoiseError, NoiseSocket, NoiseSocketOptions, Opener, Sealer, Transport,
+  checkPattern, code, hasMemory64, layout, load, protocolName,
+} from 'yulimosar';
+
+await load();
+await load(new URL('https://example.org/noise_c.wasm'));
+await load(new Uint8Array(8));
+const isWide: boolean = hasMemory64();
+console.log(isWide);
+const staticKey: KeyPair = await KeyPair.generate();
+const kept: KeyPair = await KeyPair.fromSecret(new Uint8Array(32).fill(7));
+console.log(kept.publicKey.length);
+const handshake = new Handshake({ pattern: protocolName('XX'), staticKey, psks: [new Uint8Array(32)] });
+const late = new Handshake({ pattern: 'XXpsk3', responder: true, staticKey, pskFor: async (remoteStatic) => remoteStatic.slice(0, 32) });
+late.dispose();
+const message: Uint8Array = await handshake.write(new Uint8Array(3));
+try {
+  await handshake.read(message);
+} catch (error) {
+  if (error instanceof NoiseError && error.code === code.TAG) console.log(error.token, error.cause);
+}
+const transport: Transport = handshake.finish({ interval: 3n });
+const [sender, receiver]: [Sealer, Opener] = transport.split();
+receiver.open(sender.seal(message));
+const datagrams: Datagrams = handshake.finishDatagrams({ window: 64 });
+console.log(datagrams.nonce + 1n);
+const [sealer] = datagrams.split();
+console.log(sealer.nonce + 1n, sealer.seal(message));
+const { send, receive, hash } = handshake.finishCiphers();
+const cipher: CipherState = receive;
+cipher.nonce = 5n;
+cipher.decryptWithAd(hash, send.encryptWithAd(hash, message));
+cipher.rekey();
+const key: DH = { publicKey: new Uint8Array(32), agree: (remote) => remote };
+const options: HandshakeOptions = { pattern: 'XX', staticKey: key };
+const more: NoiseSocketOptions = { ...options, acceptAnyKey: true };
+console.log(more.interval);
+const verdict = checkPattern('NN:\n  -> e\n');
+if (verdict.valid) console.log(verdict.messages);
+else if ('rule' in verdict) console.log(verdict.token);
+else console.log(verdict.line);
+console.log(layout('XX').messages[0].pieces[0].kind);
+const { readable, writable } = new TransformStream<Uint8Array, Uint8Array>();
+const channel = await NoiseSocket.open({ readable, writable }, { pattern: 'XX', judge: (key) => key.length === 32 });
+for await (const payload of channel) await channel.send(payload);
+await channel.end();
+await channel.close({ timeout: 100 });
+await NoiseSocket.open(new WebSocket('wss://example.org/'), {
+  pattern: 'NN', acceptAnyKey: true, signal: new AbortController().signal, handshakeLimit: 100, backlog: 1 << 20,
+});
+// @ts-expect-error: no such code
+console.log(code.CUTT);
+// @ts-expect-error: no such code
+console.log(new NoiseError(-100));
+const number: Code = code.CLOSED;
+console.log(number);
+declare const refused: NoiseError;
+// @ts-expect-error: no code is 99
+console.log(refused.code === 99);
+// @ts-expect-error: other calls make them
+console.log(new KeyPair());
+// @ts-expect-error: other calls make them
+console.log(new NoiseSocket());
+// @ts-expect-error: other calls make them
+console.log(new CipherState());
+// @ts-expect-error: a text isn't bytes
+await channel.send('text');
+// @ts-expect-error: no such option
+await NoiseSocket.open({ readable, writable }, { pattern: 'NN', acceptAnyKeys: true });
+// @ts-expect-error: no window of 65
+handshake.finishDatagrams({ window: 65 });
+// @ts-expect-error: the half that opens doesn't seal
+receiver.seal(message);
