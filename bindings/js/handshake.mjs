@@ -5,49 +5,12 @@ import { bytesOf, copyOf } from './bytes.mjs';
 import { Ciphers } from './ciphers.mjs';
 import { KeyPair } from './keys.mjs';
 import { OWN } from './own.mjs';
-import { protocolName } from './patterns.mjs';
+import { intervalOf, patternBytes, setupOf } from './setup.mjs';
 import { Stream } from './stream.mjs';
 import { Datagrams, Transport } from './transport.mjs';
 
-const encoder = new TextEncoder();
 const PLACEHOLDER = new Uint8Array(32);
-let lastPattern = { text: '', bytes: new Uint8Array(0) };
 
-/** The bytes of a pattern: most handshakes have that of the one before. */
-function patternBytes(text) {
-  if (text !== lastPattern.text) lastPattern = { text, bytes: encoder.encode(text) };
-  return lastPattern.bytes;
-}
-
-/** A key pair, or undefined where there is none. */
-function keyPairOf(pair, what) {
-  if (pair === undefined) return undefined;
-  if (typeof pair?.agree !== 'function') throw new TypeError(`${what} has to be a key pair, with publicKey and agree: a KeyPair, for example`);
-  bytesOf(pair.publicKey, `publicKey of ${what}`, 32);
-  return pair;
-}
-
-/** So many messages, as the library takes them. */
-function intervalOf(interval) {
-  const messages = BigInt(interval);
-  if (messages < 0n || messages >= 1n << 64n) throw new RangeError('interval has to be from 0 to 2^64 - 1');
-  return messages;
-}
-
-/**
- * @typedef {object} HandshakeOptions
- * @property {string} pattern A protocol name, the name of a pattern alone, as XXpsk3, or a pattern text whose lines end with a line feed.
- * @property {boolean} [responder]
- * @property {Uint8Array} [prologue] At most 65535 bytes, the same at both parties.
- * @property {import('./keys.mjs').DH} [staticKey]
- * @property {import('./keys.mjs').DH} [ephemeralKey] Drawn at the first message, where it isn't passed. It must never have been used before.
- * @property {Uint8Array} [remoteStatic] The other party's static key, where the pattern has it before the messages.
- * @property {Uint8Array} [remoteEphemeral]
- * @property {Uint8Array[]} [psks] 32 bytes for each psk token, in their order.
- * @property {(remoteStatic: Uint8Array) => Uint8Array | Promise<Uint8Array>} [pskFor] In place of `psks`: called at each psk token with the other
- * party's static key, it gives the secret of 32 bytes. The other party hasn't shown yet that it has the private key. What it throws rejects `write`
- * or `read`, and nothing is sent.
- */
 /**
  * How far a handshake is.
  * @typedef {object} Stage
@@ -70,29 +33,18 @@ export class Handshake {
   /**
    * Checks the set-up at once, and throws what noise_start returns. The ephemeral key pair is drawn at the first message, unless one is passed:
    * that must never have been used before.
-   * @param {HandshakeOptions} options
+   * @param {import('./setup.mjs').HandshakeOptions} options
    */
-  constructor({ pattern, responder = false, prologue = new Uint8Array(0), staticKey, ephemeralKey, remoteStatic, remoteEphemeral, psks = [], pskFor }) {
-    if (typeof pattern !== 'string') throw new TypeError('pattern has to be a name or a pattern text');
-    const name = pattern.includes('\n') || pattern.startsWith('Noise_') ? pattern : protocolName(pattern);
-    bytesOf(prologue, 'prologue');
-    if (prologue.length > 65535) throw new NoiseError(code.LENGTH);
-    if (pskFor !== undefined && typeof pskFor !== 'function') throw new TypeError('pskFor has to be a function');
-    if (!Array.isArray(psks)) throw new TypeError('psks has to be an array of Uint8Array');
-    if (pskFor && psks.length > 0) throw new TypeError('pass either psks or pskFor');
-    if (psks.length > 9) throw new NoiseError(code.PSK_COUNT);
-    const key = (bytes, what) => (bytes === undefined ? undefined : copyOf(bytes, what, 32));
-    this.#static = keyPairOf(staticKey, 'staticKey');
-    this.#ephemeral = keyPairOf(ephemeralKey, 'ephemeralKey');
-    this.#options = {
-      pattern: name, responder, prologue: copyOf(prologue, 'prologue'), psks: psks.map((psk) => copyOf(psk, 'a psk', 32)), pskFor,
-      remoteStatic: key(remoteStatic, 'remoteStatic'), remoteEphemeral: key(remoteEphemeral, 'remoteEphemeral'),
-    };
+  constructor(options) {
+    const { staticKey, ephemeralKey, ...rest } = setupOf(options);
+    this.#static = staticKey;
+    this.#ephemeral = ephemeralKey;
+    this.#options = rest;
     this.#place = library().take('handshake');
     freeLater(this, [['handshake', this.#place]]);
     try {
       this.#start(PLACEHOLDER);
-      if (this.#lacksPsk() !== (pskFor !== undefined)) throw new NoiseError(code.PSK_COUNT);
+      if (this.#lacksPsk() !== (rest.pskFor !== undefined)) throw new NoiseError(code.PSK_COUNT);
       if (ephemeralKey) this.#start(ephemeralKey.publicKey);
     } catch (error) {
       this.dispose();

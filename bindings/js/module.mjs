@@ -160,7 +160,7 @@ export function letGo(object) {
 }
 
 /** The bytes of a file: of Node, without an import that a bundler for browsers would follow. */
-const ofFile = (url) => process.getBuiltinModule('fs/promises').readFile(url);
+const ofFile = (url) => globalThis.process.getBuiltinModule('fs/promises').readFile(url);
 
 async function instanceOf(source) {
   if (source instanceof ArrayBuffer || ArrayBuffer.isView(source)) return WebAssembly.instantiate(source, {});

@@ -14,7 +14,7 @@ export { DEFERRED, FUNDAMENTAL, asText, protocolName, textOf } from './patterns.
 /** @typedef {import('./codes.mjs').Code} Code */
 /** @typedef {import('./keys.mjs').DH} DH */
 /** @typedef {import('./check.mjs').Verdict} Verdict */
-/** @typedef {import('./handshake.mjs').HandshakeOptions} HandshakeOptions */
+/** @typedef {import('./setup.mjs').HandshakeOptions} HandshakeOptions */
 /** @typedef {import('./handshake.mjs').Stage} Stage */
 /** @typedef {import('./transport.mjs').Sealer} Sealer */
 /** @typedef {import('./transport.mjs').Opener} Opener */

@@ -106,7 +106,7 @@ function endBy(signal, waiting) {
  * At more the connection is closed, and `receive` throws NOISE_BACKLOG. Until the last message of the handshake has come that is 1 MiB, and while
  * `judge` or `pskFor` is asked 1 MiB more than what waits then.
  */
-/** @typedef {import('./handshake.mjs').HandshakeOptions & SocketOptions} NoiseSocketOptions The set-up of a handshake, and of a channel. */
+/** @typedef {import('./setup.mjs').HandshakeOptions & SocketOptions} NoiseSocketOptions The set-up of a handshake, and of a channel. */
 
 /**
  * An open channel: `send` and `receive` move payloads. It closes at the first message that is refused.

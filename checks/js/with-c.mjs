@@ -33,4 +33,4 @@ const channel = await NoiseSocket.open(socket, {
 await channel.send(bytes('hello from JavaScript'));
 assert.equal(new TextDecoder().decode(await channel.receive()).replace(/\0$/, ''), 'hello from JavaScript');
 await channel.close();  // the server waits for the end
-console.log(`web: a channel by ${pattern} between JavaScript and the server of examples/programs/c`);
+console.log(`js: a channel by ${pattern} between JavaScript and the server of examples/programs/c`);

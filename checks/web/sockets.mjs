@@ -9,7 +9,7 @@ import { EXPECTED, takeChannels } from './socket-server.mjs';
 
 async function overWebSockets() {
   if (!globalThis.WebSocket) {
-    console.log('web: no channel over a WebSocket of Node is tried: this Node has none');
+    console.log('js: left out: no channel over a WebSocket of Node is tried: this Node has none');
     return;
   }
   const { server, url, close } = await serve('.');
@@ -20,7 +20,7 @@ async function overWebSockets() {
   for (let n = 0; n < 200 && told.closed < Object.keys(EXPECTED).length; n += 1) await new Promise((resolve) => { setTimeout(resolve, 10); });
   assert.deepEqual(told, { closed: Object.keys(EXPECTED).length, failed: [] });
   close();
-  console.log(`web: ${Object.keys(EXPECTED).length} channels over a WebSocket of Node: echoes, closed and cut connections, text frames, messages too long`);
+  console.log(`js: ${Object.keys(EXPECTED).length} channels over a WebSocket of Node: echoes, closed and cut connections, text frames, messages too long`);
 }
 
 /** A connection over TCP: the client's end, and a socket of the server's. */
@@ -78,4 +78,4 @@ await load();
 await overWebSockets();
 await overTcp();
 await otherStreams();
-console.log(`web: ${Object.keys(FAULTS).length + 3} channels over streams: echoes, connections that end inside a message, messages that nobody sealed`);
+console.log(`js: ${Object.keys(FAULTS).length + 3} channels over streams: echoes, connections that end inside a message, messages that nobody sealed`);

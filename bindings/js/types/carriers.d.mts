@@ -14,6 +14,8 @@ export function carrierOf(it: any): {
     close: () => Promise<void>;
     destroy: () => void;
 };
+/** What may wait until the last message of a handshake has come, in bytes. */
+export const EARLY: number;
 /**
  * What is used of a stream of Node, as a socket of TCP.
  */

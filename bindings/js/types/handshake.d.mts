@@ -1,18 +1,4 @@
 /**
- * @typedef {object} HandshakeOptions
- * @property {string} pattern A protocol name, the name of a pattern alone, as XXpsk3, or a pattern text whose lines end with a line feed.
- * @property {boolean} [responder]
- * @property {Uint8Array} [prologue] At most 65535 bytes, the same at both parties.
- * @property {import('./keys.mjs').DH} [staticKey]
- * @property {import('./keys.mjs').DH} [ephemeralKey] Drawn at the first message, where it isn't passed. It must never have been used before.
- * @property {Uint8Array} [remoteStatic] The other party's static key, where the pattern has it before the messages.
- * @property {Uint8Array} [remoteEphemeral]
- * @property {Uint8Array[]} [psks] 32 bytes for each psk token, in their order.
- * @property {(remoteStatic: Uint8Array) => Uint8Array | Promise<Uint8Array>} [pskFor] In place of `psks`: called at each psk token with the other
- * party's static key, it gives the secret of 32 bytes. The other party hasn't shown yet that it has the private key. What it throws rejects `write`
- * or `read`, and nothing is sent.
- */
-/**
  * How far a handshake is.
  * @typedef {object} Stage
  * @property {number} messages How many messages the pattern has.
@@ -26,9 +12,9 @@ export class Handshake {
     /**
      * Checks the set-up at once, and throws what noise_start returns. The ephemeral key pair is drawn at the first message, unless one is passed:
      * that must never have been used before.
-     * @param {HandshakeOptions} options
+     * @param {import('./setup.mjs').HandshakeOptions} options
      */
-    constructor({ pattern, responder, prologue, staticKey, ephemeralKey, remoteStatic, remoteEphemeral, psks, pskFor }: HandshakeOptions);
+    constructor(options: import('./setup.mjs').HandshakeOptions);
     /**
      * Writes the next message, with this payload.
      * @param {Uint8Array} [payload]
@@ -100,37 +86,6 @@ export class Handshake {
     dispose(): void;
     #private;
 }
-export type HandshakeOptions = {
-    /**
-     * A protocol name, the name of a pattern alone, as XXpsk3, or a pattern text whose lines end with a line feed.
-     */
-    pattern: string;
-    responder?: boolean | undefined;
-    /**
-     * At most 65535 bytes, the same at both parties.
-     */
-    prologue?: Uint8Array | undefined;
-    staticKey?: import("./keys.mjs").DH | undefined;
-    /**
-     * Drawn at the first message, where it isn't passed. It must never have been used before.
-     */
-    ephemeralKey?: import("./keys.mjs").DH | undefined;
-    /**
-     * The other party's static key, where the pattern has it before the messages.
-     */
-    remoteStatic?: Uint8Array | undefined;
-    remoteEphemeral?: Uint8Array | undefined;
-    /**
-     * 32 bytes for each psk token, in their order.
-     */
-    psks?: Uint8Array[] | undefined;
-    /**
-     * In place of `psks`: called at each psk token with the other
-     * party's static key, it gives the secret of 32 bytes. The other party hasn't shown yet that it has the private key. What it throws rejects `write`
-     * or `read`, and nothing is sent.
-     */
-    pskFor?: ((remoteStatic: Uint8Array) => Uint8Array | Promise<Uint8Array>) | undefined;
-};
 /**
  * How far a handshake is.
  */

@@ -6,7 +6,7 @@ export { layout } from "./layout.mjs";
 export type Code = import('./codes.mjs').Code;
 export type DH = import('./keys.mjs').DH;
 export type Verdict = import('./check.mjs').Verdict;
-export type HandshakeOptions = import('./handshake.mjs').HandshakeOptions;
+export type HandshakeOptions = import('./setup.mjs').HandshakeOptions;
 export type Stage = import('./handshake.mjs').Stage;
 export type Sealer = import('./transport.mjs').Sealer;
 export type Opener = import('./transport.mjs').Opener;

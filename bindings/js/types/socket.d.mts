@@ -8,10 +8,11 @@
  * `open` throws NOISE_UNAUTHENTICATED.
  * @property {AbortSignal} [signal] Ends the call of `open`, whatever it waits for: it destroys the connection, and throws the signal's reason.
  * @property {number} [handshakeLimit] How many bytes a handshake message may have: 4096, if nothing is said. At more `open` throws NOISE_TOO_LONG.
- * @property {number} [backlog] How many bytes of an open WebSocket may wait until they are received: 64 MiB, if nothing is said, each message with 256
- * more. At more the connection is closed, and `receive` throws NOISE_BACKLOG. Until it is open that is 1 MiB.
+ * @property {number} [backlog] How many bytes of a WebSocket may wait until they are received: 64 MiB, if nothing is said, each message with 256 more.
+ * At more the connection is closed, and `receive` throws NOISE_BACKLOG. Until the last message of the handshake has come that is 1 MiB, and while
+ * `judge` or `pskFor` is asked 1 MiB more than what waits then.
  */
-/** @typedef {import('./handshake.mjs').HandshakeOptions & SocketOptions} NoiseSocketOptions The set-up of a handshake, and of a channel. */
+/** @typedef {import('./setup.mjs').HandshakeOptions & SocketOptions} NoiseSocketOptions The set-up of a handshake, and of a channel. */
 /**
  * An open channel: `send` and `receive` move payloads. It closes at the first message that is refused.
  * @implements {AsyncIterable<Uint8Array>}
@@ -103,12 +104,13 @@ export type SocketOptions = {
      */
     handshakeLimit?: number | undefined;
     /**
-     * How many bytes of an open WebSocket may wait until they are received: 64 MiB, if nothing is said, each message with 256
-     * more. At more the connection is closed, and `receive` throws NOISE_BACKLOG. Until it is open that is 1 MiB.
+     * How many bytes of a WebSocket may wait until they are received: 64 MiB, if nothing is said, each message with 256 more.
+     * At more the connection is closed, and `receive` throws NOISE_BACKLOG. Until the last message of the handshake has come that is 1 MiB, and while
+     * `judge` or `pskFor` is asked 1 MiB more than what waits then.
      */
     backlog?: number | undefined;
 };
 /**
  * The set-up of a handshake, and of a channel.
  */
-export type NoiseSocketOptions = import('./handshake.mjs').HandshakeOptions & SocketOptions;
+export type NoiseSocketOptions = import('./setup.mjs').HandshakeOptions & SocketOptions;

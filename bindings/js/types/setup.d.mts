@@ -1,0 +1,57 @@
+/** The bytes of a pattern: most handshakes have that of the one before. */
+export function patternBytes(text: any): Uint8Array;
+/** So many messages, as the library takes them. */
+export function intervalOf(interval: any): bigint;
+/** Copies of the options, as far as they can be checked here: the library checks the rest. */
+export function setupOf({ pattern, responder, prologue, staticKey, ephemeralKey, remoteStatic, remoteEphemeral, psks, pskFor }: {
+    pattern: any;
+    responder?: boolean | undefined;
+    prologue?: Uint8Array | undefined;
+    staticKey: any;
+    ephemeralKey: any;
+    remoteStatic: any;
+    remoteEphemeral: any;
+    psks?: any[] | undefined;
+    pskFor: any;
+}): {
+    pattern: string;
+    responder: boolean;
+    prologue: Uint8Array;
+    pskFor: any;
+    staticKey: any;
+    ephemeralKey: any;
+    remoteStatic: Uint8Array | undefined;
+    remoteEphemeral: Uint8Array | undefined;
+    psks: Uint8Array[];
+};
+export type HandshakeOptions = {
+    /**
+     * A protocol name, the name of a pattern alone, as XXpsk3, or a pattern text whose lines end with a line feed.
+     */
+    pattern: string;
+    responder?: boolean | undefined;
+    /**
+     * At most 65535 bytes, the same at both parties.
+     */
+    prologue?: Uint8Array | undefined;
+    staticKey?: import("./keys.mjs").DH | undefined;
+    /**
+     * Drawn at the first message, where it isn't passed. It must never have been used before.
+     */
+    ephemeralKey?: import("./keys.mjs").DH | undefined;
+    /**
+     * The other party's static key, where the pattern has it before the messages.
+     */
+    remoteStatic?: Uint8Array | undefined;
+    remoteEphemeral?: Uint8Array | undefined;
+    /**
+     * 32 bytes for each psk token, in their order.
+     */
+    psks?: Uint8Array[] | undefined;
+    /**
+     * In place of `psks`: called at each psk token with the other
+     * party's static key, it gives the secret of 32 bytes. The other party hasn't shown yet that it has the private key. What it throws rejects `write`
+     * or `read`, and nothing is sent.
+     */
+    pskFor?: ((remoteStatic: Uint8Array) => Uint8Array | Promise<Uint8Array>) | undefined;
+};
