@@ -76,17 +76,17 @@ test('memory', async (t) => {
   await t.test('a frame that comes in single bytes takes no more memory than its bytes', async () => {
     setFlagsFromString('--expose-gc');
     const gc = runInNewContext('gc');
-    const incoming = Array.from({ length: 20 }, () => new Incoming(async () => Uint8Array.of(7)));
+    const incoming = Array.from({ length: 5 }, () => new Incoming(async () => Uint8Array.of(7)));
     gc();
     const { heapUsed, arrayBuffers } = process.memoryUsage();
     const ends = await Promise.all(incoming.map(async (it) => {
-      const look = (held, count) => (count < 60000 ? { wanted: 60000 - count } : { wanted: 0, used: 0, value: count });
+      const look = (held, count) => (count < 20000 ? { wanted: 20000 - count } : { wanted: 0, used: 0, value: count });
       return (await it.next(look)).value;
     }));
     gc();
     const after = process.memoryUsage();
-    assert.ok(ends.every((count) => count >= 60000) && incoming.every(({ left }) => left >= 60000));
-    const each = (after.heapUsed + after.arrayBuffers - heapUsed - arrayBuffers) / 20;
-    assert.ok(each < 400000, `${each} bytes for 60000`);
+    assert.ok(ends.every((count) => count >= 20000) && incoming.every(({ left }) => left >= 20000));
+    const each = (after.heapUsed + after.arrayBuffers - heapUsed - arrayBuffers) / 5;
+    assert.ok(each < 200000, `${each} bytes for 20000`);
   });
 });
