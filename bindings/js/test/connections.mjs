@@ -1,6 +1,8 @@
 // Connections between two ends in one program, and what tests say of them.
+import { spawnSync } from 'node:child_process';
 import { once } from 'node:events';
 import { connect, createServer } from 'node:net';
+import { fileURLToPath } from 'node:url';
 import { NoiseError, NoiseSocket } from '../noise.mjs';
 
 export const text = (s) => new TextEncoder().encode(s);
@@ -108,4 +110,10 @@ export async function outcome(promise, milliseconds = 2000) {
   } finally {
     clearTimeout(timer);
   }
+}
+
+/** Runs a script of this folder in a program of its own, with the module that this one has. */
+export function apart(script) {
+  const flags = process.execArgv.filter((it) => !it.startsWith('--test'));
+  return spawnSync(process.execPath, [...flags, fileURLToPath(new URL(script, import.meta.url))], { encoding: 'utf8' });
 }

@@ -1,11 +1,9 @@
 // How channels end, and that each call settles.
 import test from 'node:test';
 import assert from 'node:assert/strict';
-import { spawnSync } from 'node:child_process';
 import { once } from 'node:events';
-import { fileURLToPath } from 'node:url';
 import { Handshake, KeyPair, NoiseSocket, code, load } from '../noise.mjs';
-import { NN, channels, openSockets, outcome, overTcp, pair, refused, text } from './connections.mjs';
+import { NN, apart, channels, openSockets, outcome, overTcp, pair, refused, text } from './connections.mjs';
 
 const roomy = () => pair({ highWaterMark: 1e6 }, { highWaterMark: 1e6 });
 const KINDS = { TCP: overTcp, streams: roomy, WebSocket: openSockets };
@@ -195,8 +193,7 @@ test('ends', { timeout: 300000 }, async (t) => {
 
   // In a program of its own: the test runner follows each promise, and takes longer than the channel.
   await t.test('64,000 frames of 19 bytes in one chunk are read in a second of processor time', () => {
-    const script = fileURLToPath(new URL('frames.mjs', import.meta.url));
-    const { stdout, stderr } = spawnSync(process.execPath, [...process.execArgv.filter((it) => !it.startsWith('--test')), script], { encoding: 'utf8' });
+    const { stdout, stderr } = apart('frames.mjs');
     const milliseconds = Number(stdout);
     assert.ok(milliseconds > 0 && milliseconds < 1000, `${stdout}${stderr}`);
   });
