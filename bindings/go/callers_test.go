@@ -10,6 +10,7 @@ import (
 	"net"
 	"net/http"
 	"os"
+	"runtime"
 	"strings"
 	"syscall"
 	"testing"
@@ -215,11 +216,11 @@ func asking(t *testing.T, call func(ctx context.Context) error) map[string][2]*C
 		switch name {
 		case "PSKFor":
 			psks := server.PSKs
-			server.PSKs, server.PSKFor = nil, func(ctx context.Context, _ [KeyLen]byte) ([][]byte, error) { return psks, call(ctx) }
+			server.PSKs, server.PSKFor = nil, func(ctx context.Context, _ Key) ([]Key, error) { return psks, call(ctx) }
 		case "DH":
 			server.Static = &calling{server.Static, call}
 		default:
-			server.VerifyPeer = func(ctx context.Context, _ [KeyLen]byte) error { return call(ctx) }
+			server.VerifyPeer = func(ctx context.Context, _ Key) error { return call(ctx) }
 		}
 		all[name] = [2]*Config{client, server}
 	}
@@ -232,7 +233,7 @@ type calling struct {
 	call func(context.Context) error
 }
 
-func (c *calling) Agree(ctx context.Context, remote [KeyLen]byte) (answer [KeyLen]byte, err error) {
+func (c *calling) Agree(ctx context.Context, remote Key) (answer Key, err error) {
 	if err := c.call(ctx); err != nil {
 		return answer, err
 	}
@@ -305,7 +306,7 @@ func TestTimeoutOfACall(t *testing.T) {
 func TestPanicOfVerifyPeer(t *testing.T) {
 	for _, pattern := range []string{"XX", "KK"} {
 		client, server := configs(t, pattern)
-		server.VerifyPeer = func(context.Context, [KeyLen]byte) error { panic("no database") }
+		server.VerifyPeer = func(context.Context, Key) error { panic("no database") }
 		c, s := connected(t, client, server)
 		go c.Handshake()
 		func() {
@@ -346,7 +347,7 @@ func TestListenerGoesOn(t *testing.T) {
 		fails := true
 		server.ErrorLog = log.New(lines(said), "", 0)
 		server.HandshakeTimeout = time.Second
-		server.VerifyPeer = func(context.Context, [KeyLen]byte) error {
+		server.VerifyPeer = func(context.Context, Key) error {
 			if fails {
 				return away
 			}
@@ -360,7 +361,7 @@ func TestListenerGoesOn(t *testing.T) {
 		stranger, err := net.Dial("tcp", l.Addr().String())
 		must(t, err)
 		stranger.Write([]byte("GET / HTTP/1.0\r\n\r\n"))
-		expect(t, said, stranger, "handshake message 1: noise: the message would be too long, or is")
+		expect(t, said, stranger, "noise: message 1: the message would be too long, or is")
 		quiet, err := net.Dial("tcp", l.Addr().String())
 		must(t, err)
 		expect(t, said, quiet, ErrHandshakeTimeout.Error())
@@ -404,7 +405,7 @@ func expect(t *testing.T, said chan string, from net.Conn, why string) {
 
 func TestAcceptDrawsAndAsksNothing(t *testing.T) {
 	client, server := configs(t, "KK")
-	server.VerifyPeer = func(context.Context, [KeyLen]byte) error { t.Error("VerifyPeer was called"); return nil }
+	server.VerifyPeer = func(context.Context, Key) error { t.Error("VerifyPeer was called"); return nil }
 	l, err := Listen("tcp", "127.0.0.1:0", server)
 	must(t, err)
 	defer l.Close()
@@ -464,7 +465,9 @@ func TestReset(t *testing.T) {
 	for i := 0; i < 2; i++ {
 		_, err := s.Read(make([]byte, 1))
 		wants(t, err, ErrCut)
-		wants(t, err, syscall.ECONNRESET)
+		if runtime.GOOS != "windows" { // where it is WSAECONNRESET
+			wants(t, err, syscall.ECONNRESET)
+		}
 	}
 	_, err := s.Write([]byte("x"))
 	wants(t, err, ErrCut)

@@ -1,3 +1,5 @@
+//go:build cgo
+
 package noise
 
 import (
@@ -17,26 +19,25 @@ type Config struct {
 	Prologue []byte
 	// Static is this party's static key pair, if the pattern has one.
 	Static DH
-	// PeerStatic is the other party's static key, 32 bytes; nil if it isn't known. If the pattern needs the key beforehand, the handshake starts
-	// with it. If a message of the handshake has the key, the two are compared, and ErrPeerKey ends the handshake.
-	PeerStatic []byte
+	// PeerStatic is the other party's static key; nil if it isn't known. If the pattern needs the key beforehand, the handshake starts with it. If a
+	// message of the handshake has the key, the two are compared, and ErrPeerKey ends the handshake.
+	PeerStatic *Key
 	// VerifyPeer is called with the other party's static key as soon as that is known, before anything else is read or written; a key that is known from
 	// the start, before the first message is written, or once it has come. An error ends the handshake. It isn't called in a handshake without such a
 	// key. The context ends with that of HandshakeContext, at the time limit, and when the connection is closed.
-	VerifyPeer func(ctx context.Context, key [KeyLen]byte) error
+	VerifyPeer func(ctx context.Context, key Key) error
 	// InsecureAcceptAnyKey lets a party talk to anybody, if neither VerifyPeer nor PeerStatic nor PSKs nor PSKFor say who may be the other party.
 	InsecureAcceptAnyKey bool
-	// PSKs has one secret of 32 bytes for each psk token of the pattern, in their order.
-	PSKs [][]byte
-	// PSKFor, in place of PSKs, returns the secrets that this party shares with the owner of a static key. It is called at the first psk token, before
-	// which that key has to be known. The other party hasn't shown yet that it has the key's secret key: so choose the secrets, and do nothing else. At
-	// XXpsk3, where the token is in the message that has the key, VerifyPeer is called after PSKFor, once that message is accepted. An error ends the
+	// PSKs has one pre-shared key for each psk token of the pattern, in their order.
+	PSKs []Key
+	// PSKFor, in place of PSKs, returns those that this party shares with the owner of a static key. It is called at the first psk token, before which
+	// that key has to be known. The other party hasn't shown yet that it has the secret key: so choose the psks, and do nothing else. At XXpsk3, where the token is in the message that has the key, VerifyPeer is called after PSKFor, once that message is accepted. An error ends the
 	// handshake, and nothing more is sent; 32 random bytes for a key that you don't know, in place of an error, don't tell which keys you know. The
 	// context is that of VerifyPeer.
-	PSKFor func(ctx context.Context, key [KeyLen]byte) ([][]byte, error)
+	PSKFor func(ctx context.Context, key Key) ([]Key, error)
 	// Interval is the number of messages after which each direction renews its key; 0 is never. The same at both parties.
 	Interval uint64
-	// Payloads are those of the handshake: Payloads[i] goes with message i of the pattern, from 0 on, if this party writes that message.
+	// Payloads are those of the handshake: Payloads[0] goes with message 1 of the pattern, Payloads[1] with message 2, if this party writes that message.
 	Payloads [][]byte
 	// MaxHandshakeMessage is how many bytes a message of the handshake may have that a Conn reads; 0 is 4096 more than it has without a payload.
 	MaxHandshakeMessage int
@@ -79,38 +80,31 @@ var (
 	errEarly      = errors.New("the pattern has an ephemeral key before \"...\", which this package doesn't support")
 )
 
-// check compares a Config with its pattern, which the library accepts. isLate is whether secrets may still be handed in by SetPSK.
+// check compares a Config with its pattern, which the library accepts. isLate is whether SetPSK may still pass psks.
 func (c *Config) check(p *pattern, initiator, isLate bool) error {
 	known, learns := p.knows(initiator), p.learns(initiator)
 	hasKey := known || learns >= 0
 	switch {
 	case p.early:
 		return &ConfigError{"Pattern", errEarly}
-	case c.PeerStatic != nil && len(c.PeerStatic) != KeyLen:
-		return &ConfigError{"PeerStatic", errKeyLen}
 	case c.PeerStatic != nil && !hasKey:
 		return &ConfigError{"PeerStatic", ErrRemoteUnexpected}
 	case c.PeerStatic == nil && known:
 		return &ConfigError{"PeerStatic", ErrRemoteMissing}
 	case c.VerifyPeer != nil && !hasKey && !c.InsecureAcceptAnyKey:
 		return &ConfigError{"VerifyPeer", errNoKey}
-	case len(c.PSKs) > MaxPsks:
-		return &ConfigError{"PSKs", ErrPskCount}
+	case len(c.PSKs) > MaxPSKs:
+		return &ConfigError{"PSKs", ErrPSKCount}
 	case c.PSKFor != nil && c.PSKs != nil:
 		return &ConfigError{"PSKFor", errTwo}
 	case c.PSKFor != nil && p.psks == 0:
-		return &ConfigError{"PSKFor", ErrPskCount}
+		return &ConfigError{"PSKFor", ErrPSKCount}
 	case c.PSKFor != nil && !known && !p.learnsBeforePSK(initiator):
 		return &ConfigError{"PSKFor", errPSKTooLate}
 	case c.MaxHandshakeMessage < 0 || c.MaxHandshakeMessage > 0 && c.MaxHandshakeMessage < p.longest():
 		return &ConfigError{"MaxHandshakeMessage", errTooSmall}
 	case c.PSKFor == nil && len(c.PSKs) != p.psks && (c.PSKs != nil || !isLate):
-		return &ConfigError{"PSKs", ErrPskCount}
-	}
-	for _, psk := range c.PSKs {
-		if len(psk) != KeyLen {
-			return &ConfigError{"PSKs", errKeyLen}
-		}
+		return &ConfigError{"PSKs", ErrPSKCount}
 	}
 	if c.VerifyPeer == nil && c.PeerStatic == nil && p.psks == 0 && !c.InsecureAcceptAnyKey {
 		return &ConfigError{"VerifyPeer", ErrUnauthenticated}
@@ -134,7 +128,7 @@ func fieldOf(code Code) string {
 		return "Static"
 	case ErrRemoteMissing, ErrRemoteUnexpected:
 		return "PeerStatic"
-	case ErrPskCount:
+	case ErrPSKCount:
 		return "PSKs"
 	case ErrLength:
 		return "Prologue"

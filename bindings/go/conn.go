@@ -62,8 +62,8 @@ type ConnectionState struct {
 	ProtocolName      string       // for example Noise_XX_25519_ChaChaPoly_SHA256
 	Initiator         bool         // this party wrote the first message
 	HandshakeHash     [KeyLen]byte // the same at both parties: to bind other data to the channel (the framework's 11.2)
-	PeerStatic        []byte       // the other party's static key; nil if the handshake has none
-	Payloads          [][]byte     // those of the messages, from 0 on, that this party has read; nil at its own
+	PeerStatic        *Key         // the other party's static key; nil if the handshake has none
+	Payloads          [][]byte     // those of the messages that this party has read, Payloads[0] that of message 1; nil at its own
 }
 
 // Client returns the initiator's end of a channel over conn, and writes nothing yet. A *ConfigError says what is wrong with the Config.

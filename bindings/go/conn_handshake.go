@@ -195,7 +195,7 @@ func (c *Conn) writeMessage(ctx context.Context) error {
 	}
 	var told C.noise_stream_told
 	if code := C.noise_frame_message(place(frame), C.size_t(len(frame)), C.size_t(len(frame)-2), &told); code != C.NOISE_OK {
-		return h.end(-1, Code(code))
+		return h.end("", Code(code))
 	}
 	c.pending = frame[:told.len]
 	c.keepPayload(nil)
@@ -232,14 +232,14 @@ func (c *Conn) receiveMessage() (message []byte, used int, err error) {
 			return left[told.from : told.from+told.len], int(told.used), nil
 		}
 		if code == C.NOISE_OK || len(left) >= 2 && len(left)+int(told.wanted)-2 > most {
-			return nil, 0, &HandshakeError{index, -1, ErrTooLong}
+			return nil, 0, &HandshakeError{Message: index + 1, Err: ErrTooLong}
 		}
 		err := c.came.from(c.conn, int(told.wanted))
 		switch {
 		case err == io.EOF:
-			return nil, 0, ErrCut
+			return nil, 0, &HandshakeError{Message: index + 1, Err: ErrCut}
 		case err != nil && !isDeadline(err):
-			return nil, 0, &lostError{err}
+			return nil, 0, &HandshakeError{Message: index + 1, Err: &lostError{err}}
 		case err != nil:
 			return nil, 0, err
 		}
@@ -276,7 +276,7 @@ func (c *Conn) finish() error {
 	c.stateMutex.Lock()
 	defer c.stateMutex.Unlock()
 	if c.state.HandshakeHash = hash; isKnown {
-		c.state.PeerStatic = key[:]
+		c.state.PeerStatic = &key
 	}
 	return nil
 }

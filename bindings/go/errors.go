@@ -1,9 +1,12 @@
+//go:build cgo
+
 package noise
 
 import (
 	"errors"
 	"fmt"
 	"os"
+	"strings"
 )
 
 // Code is the number that a call of the library returns for a fault. The constants are errors: compare with errors.Is(err, noise.ErrTag).
@@ -16,8 +19,8 @@ var texts = map[Code]string{
 	ErrStaticMissing:    "the pattern needs a static key of this party",
 	ErrRemoteMissing:    "the pattern needs the other party's static key beforehand",
 	ErrRemoteUnexpected: "the other party has no such static key in this pattern",
-	ErrPskCount:         "the number of secrets isn't the number of psk tokens",
-	ErrWantedPsk:        "the message needs the secret of a psk token",
+	ErrPSKCount:         "the number of psks isn't the number of psk tokens",
+	ErrWantedPSK:        "the message needs a psk",
 	ErrNotYourTurn:      "it is the other party's turn",
 	ErrTooLong:          "the message would be too long, or is",
 	ErrDone:             "all messages of the handshake have passed",
@@ -43,7 +46,7 @@ var texts = map[Code]string{
 	ErrToken:            "a word of the pattern text isn't a token",
 	ErrPreMessage:       "a pre-message of the pattern text is wrong",
 	ErrTurn:             "a line of the pattern text is out of turn",
-	ErrPskPlace:         "a psk token isn't where the heading says",
+	ErrPSKPlace:         "a psk token isn't where the heading says",
 	ErrNameTaken:        "the name belongs to a fundamental pattern, and this is another pattern",
 	ErrLimit:            "the pattern has too many messages or tokens",
 	ErrEnding:           "the pattern text ends too early",
@@ -76,6 +79,8 @@ var (
 	ErrUnauthenticated = errors.New("noise: nothing says who may be the other party: set VerifyPeer, PeerStatic, PSKs or PSKFor, or InsecureAcceptAnyKey")
 	// ErrPeerKey is returned if the other party's static key isn't Config.PeerStatic.
 	ErrPeerKey = errors.New("noise: the other party has another static key than the one expected")
+	// ErrDirection is returned if a CipherState for receiving has to encrypt, or one for sending to decrypt.
+	ErrDirection = errors.New("noise: the CipherState is for the other direction")
 	// ErrLowOrder is returned if X25519 of the other party's public key is zeros (the framework's 12.1).
 	ErrLowOrder = errors.New("noise: X25519 of the other party's public key is zeros")
 	// ErrHandshakeTimeout is returned if a handshake took longer than Config.HandshakeTimeout. It is an os.ErrDeadlineExceeded, and a net.Error.
@@ -98,35 +103,42 @@ func (e *lostError) Unwrap() error        { return e.cause }
 
 // HandshakeError says what is wrong with a message of a handshake. Unwrap returns the cause, as ErrTag or the error of VerifyPeer.
 type HandshakeError struct {
-	Message int   // the message, from 0 on; that which has the key, if PeerStatic or VerifyPeer refused it, and -1 for a key known from the start
-	Token   int   // ErrShort, ErrTag: the token at which it was refused, from 0 on, the payload after the last; else -1
-	Err     error // the cause
+	Message int    // the message, from 1 on; 0 if PeerStatic or VerifyPeer refused a key that is known before the first
+	Token   string // where in the message, as "s", "es" or "payload"; "" if the fault isn't at one place
+	Err     error  // the cause
+	differ  string // ErrTag: in what the parties may differ
 }
 
-// Error returns the message, the token and the cause, in words.
+// Error returns the message, the token and the cause: noise: message 2, token s: a tag is wrong ..
 func (e *HandshakeError) Error() string {
-	if e.Message < 0 {
-		return fmt.Sprintf("before the handshake's first message: %v", e.Err)
+	place := fmt.Sprintf("message %d", e.Message)
+	switch {
+	case e.Message == 0:
+		place = "before message 1"
+	case e.Token == payloadToken:
+		place += ", payload"
+	case e.Token != "":
+		place += ", token " + e.Token
 	}
-	if e.Token < 0 {
-		return fmt.Sprintf("handshake message %d: %v", e.Message+1, e.Err)
+	if e.differ != "" && e.Err == ErrTag {
+		return "noise: " + place + ": a tag is wrong: the message was changed, or the parties differ in " + e.differ
 	}
-	return fmt.Sprintf("handshake message %d, token %d: %v", e.Message+1, e.Token+1, e.Err)
+	return "noise: " + place + ": " + strings.TrimPrefix(e.Err.Error(), "noise: ")
 }
 
 // Unwrap returns the cause.
 func (e *HandshakeError) Unwrap() error { return e.Err }
 
-// WantedPSKError says that the message that is due needs the secret of a psk token, which SetPSK passes. The handshake is as it was.
+// WantedPSKError says that the message that is due needs a psk, which SetPSK passes. The handshake is as it was.
 type WantedPSKError struct {
-	PeerStatic []byte // the other party's static key, of which it hasn't shown yet that it has the secret key; nil if it isn't known
+	PeerStatic *Key // the other party's static key, of which it hasn't shown yet that it has the secret key; nil if it isn't known
 }
 
 // Error returns what is needed.
-func (e *WantedPSKError) Error() string { return ErrWantedPsk.Error() }
+func (e *WantedPSKError) Error() string { return ErrWantedPSK.Error() }
 
-// Unwrap returns ErrWantedPsk.
-func (e *WantedPSKError) Unwrap() error { return ErrWantedPsk }
+// Unwrap returns ErrWantedPSK.
+func (e *WantedPSKError) Unwrap() error { return ErrWantedPSK }
 
 // ConfigError is a fault of a Config, found before a byte is sent.
 type ConfigError struct {
@@ -139,7 +151,7 @@ func (e *ConfigError) Error() string {
 	if e.Field == "" {
 		return "noise: Config: " + e.Err.Error()
 	}
-	return "noise: Config." + e.Field + ": " + e.Err.Error()
+	return "noise: Config." + e.Field + ": " + strings.TrimPrefix(e.Err.Error(), "noise: ")
 }
 
 // Unwrap returns what is wrong with the field.

@@ -1,8 +1,8 @@
 package noise_test
 
 import (
-	"bytes"
 	"context"
+	"encoding/binary"
 	"errors"
 	"fmt"
 	"io"
@@ -12,7 +12,7 @@ import (
 	"testing/iotest"
 	"time"
 
-	"example.org/noise"
+	"example.org/yulimosar/noise"
 )
 
 // must ends an example at an error.
@@ -32,8 +32,8 @@ func Example() {
 
 	listener, err := noise.Listen("tcp", "127.0.0.1:0", &noise.Config{
 		Pattern: "IK", Prologue: []byte("chat 1"), Static: serverKey,
-		VerifyPeer: func(_ context.Context, key [noise.KeyLen]byte) error {
-			if !bytes.Equal(key[:], clientPublic[:]) {
+		VerifyPeer: func(_ context.Context, key noise.Key) error {
+			if key != clientPublic {
 				return errors.New("not on the list")
 			}
 			return nil
@@ -49,7 +49,7 @@ func Example() {
 	}()
 
 	conn, err := noise.Dial("tcp", listener.Addr().String(), &noise.Config{
-		Pattern: "IK", Prologue: []byte("chat 1"), Static: clientKey, PeerStatic: serverPublic[:],
+		Pattern: "IK", Prologue: []byte("chat 1"), Static: clientKey, PeerStatic: &serverPublic,
 	})
 	must(err)
 	defer conn.Close()
@@ -60,10 +60,10 @@ func Example() {
 	// Output: hello <nil>
 }
 
-// Both ends over any net.Conn, here a pipe, with a secret that both parties have.
+// Both ends over any net.Conn, here a pipe, with a psk that both parties have.
 func ExampleClient() {
 	here, there := net.Pipe()
-	config := &noise.Config{Pattern: "NNpsk0", PSKs: [][]byte{bytes.Repeat([]byte{7}, noise.KeyLen)}}
+	config := &noise.Config{Pattern: "NNpsk0", PSKs: []noise.Key{{7, 7, 7}}}
 	go func() {
 		conn, err := noise.Server(there, config)
 		must(err)
@@ -120,51 +120,51 @@ func ExampleConfig_Check() {
 	var fault *noise.ConfigError
 	fmt.Println(errors.As(err, &fault), fault.Field, errors.Is(err, noise.ErrUnauthenticated))
 	// Output:
-	// noise: Config.PeerStatic: noise: the pattern needs the other party's static key beforehand
+	// noise: Config.PeerStatic: the pattern needs the other party's static key beforehand
 	// true VerifyPeer true
 }
 
-// Each client has a secret of its own: the server looks it up by the client's static key, which it learns from message 3.
+// Each client has a psk of its own: the server looks it up by the client's static key, which it learns from message 3.
 func ExampleConfig_pSKFor() {
 	serverKey, err := noise.GenerateKeyPair()
 	must(err)
 	clientKey, err := noise.GenerateKeyPair()
 	must(err)
 	clientPublic := clientKey.Public()
-	secrets := map[string][]byte{string(clientPublic[:]): bytes.Repeat([]byte{7}, noise.KeyLen)}
+	psks := map[noise.Key]noise.Key{clientPublic: {7, 7, 7}}
 	here, there := net.Pipe()
 	go func() {
 		conn, err := noise.Server(there, &noise.Config{
 			Pattern: "XXpsk3", Static: serverKey,
-			PSKFor: func(_ context.Context, peer [noise.KeyLen]byte) ([][]byte, error) {
-				secret, ok := secrets[string(peer[:])]
+			PSKFor: func(_ context.Context, peer noise.Key) ([]noise.Key, error) {
+				psk, ok := psks[peer]
 				if !ok {
 					return nil, errors.New("not on the list")
 				}
-				return [][]byte{secret}, nil // one for each psk token
+				return []noise.Key{psk}, nil // one for each psk token
 			},
 		})
 		must(err)
 		io.WriteString(conn, "hello")
 		conn.Close()
 	}()
-	conn, err := noise.Client(here, &noise.Config{Pattern: "XXpsk3", Static: clientKey, PSKs: [][]byte{secrets[string(clientPublic[:])]}})
+	conn, err := noise.Client(here, &noise.Config{Pattern: "XXpsk3", Static: clientKey, PSKs: []noise.Key{psks[clientPublic]}})
 	must(err)
 	text, err := io.ReadAll(conn)
 	fmt.Println(string(text), err)
 	// Output: hello <nil>
 }
 
-// The same message by message: the call that needs the secret says so, and is made again.
+// The same message by message: the call that needs the psk says so, and is made again.
 func ExampleHandshakeState_SetPSK() {
 	serverKey, err := noise.GenerateKeyPair()
 	must(err)
 	clientKey, err := noise.GenerateKeyPair()
 	must(err)
 	serverPublic, clientPublic := serverKey.Public(), clientKey.Public()
-	secrets := map[string][]byte{string(clientPublic[:]): bytes.Repeat([]byte{7}, noise.KeyLen)}
+	psks := map[noise.Key]noise.Key{clientPublic: {7, 7, 7}}
 	client, err := noise.NewHandshakeState(&noise.Config{
-		Pattern: "IKpsk1", Static: clientKey, PeerStatic: serverPublic[:], PSKs: [][]byte{secrets[string(clientPublic[:])]},
+		Pattern: "IKpsk1", Static: clientKey, PeerStatic: &serverPublic, PSKs: []noise.Key{psks[clientPublic]},
 	}, true)
 	must(err)
 	server, err := noise.NewHandshakeState(&noise.Config{Pattern: "IKpsk1", Static: serverKey}, false)
@@ -174,7 +174,7 @@ func ExampleHandshakeState_SetPSK() {
 	payload, err := server.ReadMessage(nil, message)
 	var wanted *noise.WantedPSKError
 	if errors.As(err, &wanted) {
-		must(server.SetPSK(secrets[string(wanted.PeerStatic)]))
+		must(server.SetPSK(psks[*wanted.PeerStatic]))
 		payload, err = server.ReadMessage(nil, message)
 	}
 	fmt.Println(string(payload), err)
@@ -186,7 +186,7 @@ func ExampleHandshakeState() {
 	key, err := noise.GenerateKeyPair()
 	must(err)
 	public := key.Public()
-	client, err := noise.NewHandshakeState(&noise.Config{Pattern: "NK", PeerStatic: public[:]}, true)
+	client, err := noise.NewHandshakeState(&noise.Config{Pattern: "NK", PeerStatic: &public}, true)
 	must(err)
 	server, err := noise.NewHandshakeState(&noise.Config{Pattern: "NK", Static: key, InsecureAcceptAnyKey: true}, false)
 	must(err)
@@ -225,15 +225,17 @@ func ExampleHandshakeError() {
 	_, err = server.ReadMessage(nil, make([]byte, 31))
 	var fault *noise.HandshakeError
 	fmt.Println(errors.As(err, &fault), fault.Message, fault.Token, errors.Is(err, noise.ErrShort))
+	fmt.Println(err)
 	_, err = server.ReadMessage(nil, make([]byte, 32))
 	fmt.Println(errors.Is(err, noise.ErrEnded))
 	// Output:
-	// true 0 0 true
+	// true 1 e true
+	// noise: message 1, token e: the message is too short
 	// true
 }
 
 // Datagrams over UDP. The messages of the handshake went another way.
-func ExampleDatagrams() {
+func ExampleHandshakeState_Datagrams() {
 	config := &noise.Config{Pattern: "NN", InsecureAcceptAnyKey: true}
 	a, err := noise.NewHandshakeState(config, true)
 	must(err)
@@ -247,9 +249,9 @@ func ExampleDatagrams() {
 	must(err)
 	_, err = a.ReadMessage(nil, second)
 	must(err)
-	sending, err := a.Datagrams(64)
+	sending, _, err := a.Datagrams(64)
 	must(err)
-	receiving, err := b.Datagrams(64)
+	_, receiving, err := b.Datagrams(64)
 	must(err)
 
 	server, err := net.ListenPacket("udp", "127.0.0.1:0")
@@ -274,6 +276,43 @@ func ExampleDatagrams() {
 	// true
 }
 
+// Packets of a protocol's own: the header is associated data, and its counter is the nonce. The receiver keeps a window of counters itself.
+func ExampleCipherState() {
+	config := &noise.Config{Pattern: "NN", InsecureAcceptAnyKey: true}
+	a, err := noise.NewHandshakeState(config, true)
+	must(err)
+	b, err := noise.NewHandshakeState(config, false)
+	must(err)
+	first, err := a.WriteMessage(nil, nil)
+	must(err)
+	_, err = b.ReadMessage(nil, first)
+	must(err)
+	second, err := b.WriteMessage(nil, nil)
+	must(err)
+	_, err = a.ReadMessage(nil, second)
+	must(err)
+	send, _, err := a.CipherStates()
+	must(err)
+	_, receive, err := b.CipherStates()
+	must(err)
+
+	must(send.SetNonce(7))
+	packet := binary.BigEndian.AppendUint64(nil, send.Nonce())
+	packet, err = send.Encrypt(packet, packet, []byte("a packet"))
+	must(err)
+
+	header, message := packet[:8], packet[8:]
+	must(receive.SetNonce(binary.BigEndian.Uint64(header)))
+	text, err := receive.Decrypt(nil, header, message)
+	fmt.Println(string(text), err)
+	must(receive.SetNonce(8))
+	_, err = receive.Decrypt(nil, header, message)
+	fmt.Println(errors.Is(err, noise.ErrTag))
+	// Output:
+	// a packet <nil>
+	// true
+}
+
 // A key in a device, which answers with results of X25519 alone.
 func ExampleDH() {
 	inDevice, err := noise.GenerateKeyPair()
@@ -294,8 +333,7 @@ type device struct{ *noise.KeyPair }
 func ExampleNewKeyPair() {
 	key, err := noise.GenerateKeyPair()
 	must(err)
-	secret := key.Secret()
-	again, err := noise.NewKeyPair(secret[:])
+	again, err := noise.NewKeyPair(key.Secret())
 	must(err)
 	fmt.Println(again.Public() == key.Public())
 	key.Wipe()

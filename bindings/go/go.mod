@@ -1,8 +1,6 @@
-module example.org/noise
+module example.org/yulimosar/noise
 
 go 1.19
 
+// For X25519 where Go is older than 1.20, which has crypto/ecdh.
 require golang.org/x/crypto v0.4.0
-
-// Debian's golang-golang-x-crypto-dev. It is only compiled where Go is older than 1.20, which has crypto/ecdh.
-replace golang.org/x/crypto => /usr/share/gocode/src/golang.org/x/crypto

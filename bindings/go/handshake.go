@@ -10,7 +10,7 @@ import (
 
 // HandshakeState runs a handshake message by message. One goroutine at a time may use it.
 //
-// The parties write in turn, the initiator first. After the last message, Split or Datagrams uses it up. A refused message, or another party that isn't
+// The parties write in turn, the initiator first. After the last message, Split, Datagrams or CipherStates uses it up. A refused message, or another party that isn't
 // accepted, ends it: each later call returns ErrEnded.
 type HandshakeState struct {
 	memory    *handshakeMemory
@@ -27,7 +27,7 @@ type HandshakeState struct {
 
 // remoteKeys are the public keys of the other party, as far as they are known.
 type remoteKeys struct {
-	e, s       [KeyLen]byte
+	e, s       Key
 	hasE, hasS bool
 }
 
@@ -45,7 +45,7 @@ func (k remoteKeys) with(m *message, received []byte) remoteKeys {
 }
 
 // NewHandshakeState starts a handshake with a new ephemeral key pair. A *ConfigError says what is wrong with the Config. If it has neither PSKs nor
-// PSKFor, SetPSK passes the secrets.
+// PSKFor, SetPSK passes the psks.
 func NewHandshakeState(config *Config, initiator bool) (*HandshakeState, error) {
 	return newHandshakeState(config, initiator, true)
 }
@@ -75,7 +75,7 @@ func started(config *Config, initiator, isLate bool, ephemeral *KeyPair) (*Hands
 	}
 	if h.pattern.knows(initiator) {
 		h.remote.hasS = true
-		copy(h.remote.s[:], config.PeerStatic)
+		h.remote.s = *config.PeerStatic
 	}
 	return h, nil
 }
@@ -91,9 +91,9 @@ func (h *HandshakeState) patternFault() Code {
 	return 0
 }
 
-func setKey(at *C.noise_key, key []byte) {
+func setKey(at *C.noise_key, key Key) {
 	at.present = 1
-	copy(bytesOf(&at.bytes[0], KeyLen), key)
+	copy(bytesOf(&at.bytes[0], KeyLen), key[:])
 }
 
 // start starts the handshake.
@@ -102,20 +102,18 @@ func (h *HandshakeState) start() Code {
 	if !h.initiator {
 		setup.responder = 1
 	}
-	ephemeral := h.ephemeral.Public()
-	setKey(&setup.e, ephemeral[:])
+	setKey(&setup.e, h.ephemeral.Public())
 	if h.config.Static != nil {
-		static := h.config.Static.Public()
-		setKey(&setup.s, static[:])
+		setKey(&setup.s, h.config.Static.Public())
 	}
 	if h.pattern.knows(h.initiator) {
-		setKey(&setup.remote_s, h.config.PeerStatic)
+		setKey(&setup.remote_s, *h.config.PeerStatic)
 	}
 	setup.psk_count = C.uint8_t(len(h.config.PSKs))
-	for i, psk := range h.config.PSKs {
-		secret := bytesOf(&setup.psks[i][0], KeyLen)
-		copy(secret, psk)
-		defer wipe(secret)
+	for i := range h.config.PSKs {
+		psk := bytesOf(&setup.psks[i][0], KeyLen)
+		copy(psk, h.config.PSKs[i][:])
+		defer wipe(psk)
 	}
 	pattern, prologue := []byte(h.config.pattern()), h.config.Prologue
 	return Code(C.noise_start(&h.memory.kept, place(pattern), C.size_t(len(pattern)), place(prologue), C.size_t(len(prologue)), setup))
@@ -151,15 +149,31 @@ func (h *HandshakeState) MessageIndex() int {
 	return passed
 }
 
-// end ends the handshake at the message that is due, and overwrites keys and X25519 results.
-func (h *HandshakeState) end(token int, cause error) error {
-	return h.endAt(h.MessageIndex(), token, cause)
+// end ends the handshake at a token of the message that is due, and overwrites keys and X25519 results. A tokenError says itself at which.
+func (h *HandshakeState) end(token string, cause error) error {
+	fault := &HandshakeError{Message: h.next + 1, Token: token, Err: cause}
+	if at, ok := cause.(*tokenError); ok {
+		fault.Token, fault.Err = at.token, at.error
+	}
+	h.Close()
+	return fault
 }
 
-// endAt ends the handshake at a message.
-func (h *HandshakeState) endAt(message, token int, cause error) error {
+// tokenError is a fault at a token.
+type tokenError struct {
+	error
+	token string
+}
+
+// refuse ends the handshake at the message that is due, which the library refuses at a token, counted from 0.
+func (h *HandshakeState) refuse(token int, code Code) error {
+	message := h.next
+	err := &HandshakeError{Message: message + 1, Token: h.pattern.tokenAt(message, token), Err: code}
+	if code == ErrTag {
+		err.differ = h.pattern.differences(message, token)
+	}
 	h.Close()
-	return &HandshakeError{message, token, cause}
+	return err
 }
 
 // Close overwrites what the handshake keeps. Later calls return ErrEnded.
@@ -181,32 +195,37 @@ func (h *HandshakeState) judgeFirst(ctx context.Context) error {
 		return nil
 	}
 	h.isJudged = true
-	return h.judge(ctx, -1)
+	return h.judge(ctx, 0, "")
 }
 
-// supply passes the X25519 result for one of this party's key pairs and a public key of the other party to the library.
-func (h *HandshakeState) supply(ctx context.Context, ofStatic bool, remote [KeyLen]byte) error {
+// supply passes the X25519 result for a DH token to the library: of one of this party's key pairs and a public key of the other party.
+func (h *HandshakeState) supply(ctx context.Context, token string, remote Key) error {
 	var own DH = h.ephemeral
 	of := C.uint8_t(0)
-	if ofStatic {
+	if token[index(!h.initiator)] == 's' {
 		own, of = h.config.Static, 1
 	}
-	if err := ctx.Err(); err != nil {
-		return err
-	}
-	result, err := own.Agree(ctx, remote)
+	result, err := agreed(ctx, own, remote)
 	if err != nil {
-		return err
-	}
-	if result == ([KeyLen]byte{}) {
-		return ErrLowOrder
+		return &tokenError{err, token}
 	}
 	code := C.noise_answer(&h.memory.kept, of, place(remote[:]), place(result[:]))
 	wipe(result[:])
 	return asError(uint32(code))
 }
 
-// prepare passes those results of X25519 that message m needs and whose keys are known, so that the library doesn't ask for them one by one. Of a
+// agreed is Agree, unless the context has ended; zeros are an error.
+func agreed(ctx context.Context, own DH, remote Key) (result Key, err error) {
+	if err := ctx.Err(); err != nil {
+		return result, err
+	}
+	if result, err = own.Agree(ctx, remote); err == nil && result == (Key{}) {
+		err = ErrLowOrder
+	}
+	return result, err
+}
+
+// prepare passes those results of X25519 that a message needs and whose keys are known, so that the library doesn't ask for them one by one. Of a
 // message that is read, it leaves out what comes after an encrypted static key: the library checks the tag of that key first.
 func (h *HandshakeState) prepare(ctx context.Context, keys *remoteKeys, tokens []string) error {
 	if h.prepared {
@@ -217,13 +236,13 @@ func (h *HandshakeState) prepare(ctx context.Context, keys *remoteKeys, tokens [
 		if len(token) != 2 {
 			continue
 		}
-		own, other := token[index(!h.initiator)], token[index(h.initiator)]
+		other := token[index(h.initiator)]
 		var err error
 		switch {
 		case other == 'e' && keys.hasE:
-			err = h.supply(ctx, own == 's', keys.e)
+			err = h.supply(ctx, token, keys.e)
 		case other == 's' && keys.hasS:
-			err = h.supply(ctx, own == 's', keys.s)
+			err = h.supply(ctx, token, keys.s)
 		}
 		if err != nil {
 			return err
@@ -232,15 +251,28 @@ func (h *HandshakeState) prepare(ctx context.Context, keys *remoteKeys, tokens [
 	return nil
 }
 
-// called makes a call of the library, and supplies the results of X25519 and the secrets that it asks for. A *WantedPSKError leaves the handshake as it was;
+// wanted returns the DH token whose result the library asks for.
+func (h *HandshakeState) wanted(keys *remoteKeys) string {
+	own, other := byte('e'), byte('s')
+	if h.memory.told.of_static != 0 {
+		own = 's'
+	}
+	if keys.hasE && keyIn(&h.memory.told.remote[0]) == keys.e {
+		other = 'e'
+	}
+	token := [2]byte{own, other}
+	return string([]byte{token[index(!h.initiator)], token[index(h.initiator)]})
+}
+
+// called makes a call of the library, and supplies the results of X25519 and the psks that it asks for. A *WantedPSKError leaves the handshake as it was;
 // after another error it has ended.
-func (h *HandshakeState) called(ctx context.Context, call func() C.uint32_t) (Code, error) {
+func (h *HandshakeState) called(ctx context.Context, keys *remoteKeys, call func() C.uint32_t) (Code, error) {
 	told := &h.memory.told
 	for {
 		var err error
 		switch code := call(); code {
 		case C.NOISE_WANTED:
-			err = h.supply(ctx, told.of_static != 0, keyIn(&told.remote[0]))
+			err = h.supply(ctx, h.wanted(keys), keyIn(&told.remote[0]))
 		case C.NOISE_WANTED_PSK:
 			if h.config.PSKFor == nil {
 				return 0, h.wantedPSK()
@@ -250,7 +282,7 @@ func (h *HandshakeState) called(ctx context.Context, call func() C.uint32_t) (Co
 			return Code(code), nil
 		}
 		if err != nil {
-			return 0, h.end(-1, err)
+			return 0, h.end("", err)
 		}
 	}
 }
@@ -262,40 +294,35 @@ func (h *HandshakeState) wantedPSK() error {
 		return &WantedPSKError{}
 	}
 	key := keyIn(&told.remote[0])
-	return &WantedPSKError{key[:]}
+	return &WantedPSKError{&key}
 }
 
-// choose passes the secrets that this party shares with the owner of the static key that the library has told.
+// choose passes the psks that this party shares with the owner of the static key that the library has told.
 func (h *HandshakeState) choose(ctx context.Context) error {
 	if h.memory.told.remote_known == 0 {
 		return errPSKTooLate
 	}
 	psks, err := h.config.PSKFor(ctx, keyIn(&h.memory.told.remote[0]))
+	if err == nil && len(psks) != h.pattern.psks {
+		err = ErrPSKCount
+	}
+	for i := 0; err == nil && i < len(psks); i++ {
+		err = h.SetPSK(psks[i])
+	}
 	if err != nil {
-		return err
-	}
-	if len(psks) != h.pattern.psks {
-		return ErrPskCount
-	}
-	for _, psk := range psks {
-		if err := h.SetPSK(psk); err != nil {
-			return err
-		}
+		return &tokenError{err, "psk"}
 	}
 	return nil
 }
 
-// SetPSK passes the secret, of 32 bytes, of the first psk token that has none: after a *WantedPSKError, or before. It is for a Config with neither PSKs
-// nor PSKFor. ErrPskCount: no token that is still to come lacks its secret. A secret that was passed can't be replaced: if it is wrong, ReadMessage
-// returns ErrTag.
-func (h *HandshakeState) SetPSK(psk []byte) error {
+// SetPSK passes the psk of the first psk token that has none: after a *WantedPSKError, or before. It is for a Config with neither PSKs nor PSKFor.
+// ErrPSKCount: no token that is still to come lacks its psk. A psk that was passed can't be replaced: if it is wrong, ReadMessage returns ErrTag.
+func (h *HandshakeState) SetPSK(psk Key) error {
 	if h.ended != nil {
 		return h.ended
 	}
-	if len(psk) != KeyLen {
-		return errKeyLen
-	}
-	return asError(uint32(C.noise_set_psk(&h.memory.kept, place(psk))))
+	defer wipe(psk[:])
+	return asError(uint32(C.noise_set_psk(&h.memory.kept, place(psk[:]))))
 }
 
 // WriteMessage appends the next message, with this payload, to dst. ErrNotYourTurn, ErrDone, ErrTooLong and a *WantedPSKError leave the handshake as it
@@ -312,27 +339,27 @@ func (h *HandshakeState) WriteMessageContext(ctx context.Context, dst, payload [
 	m, size := h.memory, C.size_t(0)
 	switch code := C.noise_message_len(&m.kept, C.size_t(len(payload)), &size); {
 	case code == C.NOISE_STRUCT:
-		return dst, h.end(-1, ErrStruct)
+		return dst, h.end("", ErrStruct)
 	case code == C.NOISE_OK:
 		if err := h.judgeFirst(ctx); err != nil {
 			return dst, err
 		}
 		if err := h.prepare(ctx, &h.remote, h.pattern.messages[h.next].tokens); err != nil {
-			return dst, h.end(-1, err)
+			return dst, h.end("", err)
 		}
 	}
 	whole, room := grown(dst, int(size))
 	if overlap(room, payload) {
 		payload = append([]byte(nil), payload...)
 	}
-	code, err := h.called(ctx, func() C.uint32_t {
+	code, err := h.called(ctx, &h.remote, func() C.uint32_t {
 		return C.noise_write(&m.kept, place(payload), C.size_t(len(payload)), place(room), C.size_t(len(room)), &m.told)
 	})
 	switch {
 	case err != nil:
 		return dst, err
 	case code == ErrStruct || code == ErrAgreement || code == ErrFull:
-		return dst, h.end(-1, code)
+		return dst, h.end("", code)
 	case code != 0:
 		return dst, code
 	}
@@ -364,7 +391,7 @@ func (h *HandshakeState) ReadMessageContext(ctx context.Context, dst, message []
 	case writes:
 		return dst, ErrNotYourTurn
 	case len(message) > MaxMessage:
-		return dst, h.end(-1, ErrLength)
+		return dst, h.end("", ErrLength)
 	}
 	if err := h.judgeFirst(ctx); err != nil {
 		return dst, err
@@ -375,9 +402,9 @@ func (h *HandshakeState) ReadMessageContext(ctx context.Context, dst, message []
 	}
 	if passed == h.pattern.learns(h.initiator) {
 		if h.remote.s, h.remote.hasS = h.PeerStatic(); !h.remote.hasS {
-			return dst, h.endAt(passed, -1, ErrStruct)
+			return dst, h.end("", ErrStruct)
 		}
-		if err := h.judge(ctx, passed); err != nil {
+		if err := h.judge(ctx, passed+1, "s"); err != nil {
 			return dst, err
 		}
 	}
@@ -389,26 +416,26 @@ func (h *HandshakeState) read(ctx context.Context, received []byte) ([]byte, err
 	message := &h.pattern.messages[h.next]
 	keys := h.remote.with(message, received)
 	if err := h.prepare(ctx, &keys, message.tokens[:message.sealed]); err != nil {
-		return nil, h.end(-1, err)
+		return nil, h.end("", err)
 	}
-	code, err := h.called(ctx, func() C.uint32_t {
+	code, err := h.called(ctx, &keys, func() C.uint32_t {
 		return C.noise_read(&m.kept, place(work), C.size_t(len(work)), &m.told)
 	})
 	switch {
 	case err != nil:
 		return nil, err
 	case code == ErrShort || code == ErrTag:
-		return nil, h.end(int(m.told.token), code)
+		return nil, h.refuse(int(m.told.token), code)
 	case code != 0:
-		return nil, h.end(-1, code)
+		return nil, h.end("", code)
 	}
 	h.remote = keys
 	h.passed()
 	return work[m.told.from : m.told.from+m.told.len], nil
 }
 
-// judge decides whether the other party's static key is accepted, which is known from a message, or from the start (-1).
-func (h *HandshakeState) judge(ctx context.Context, message int) error {
+// judge decides whether the other party's static key is accepted, which is known from a token of a message, or from the start (0).
+func (h *HandshakeState) judge(ctx context.Context, message int, token string) error {
 	isAccepted := false
 	defer func() {
 		if !isAccepted { // also if VerifyPeer panics, and its caller goes on
@@ -416,12 +443,12 @@ func (h *HandshakeState) judge(ctx context.Context, message int) error {
 		}
 	}()
 	key := h.remote.s
-	if want := h.config.PeerStatic; want != nil && subtle.ConstantTimeCompare(want, key[:]) != 1 {
-		return h.endAt(message, -1, ErrPeerKey)
+	if want := h.config.PeerStatic; want != nil && subtle.ConstantTimeCompare(want[:], key[:]) != 1 {
+		return &HandshakeError{Message: message, Token: token, Err: ErrPeerKey}
 	}
 	if h.config.VerifyPeer != nil {
 		if err := h.config.VerifyPeer(ctx, key); err != nil {
-			return h.endAt(message, -1, err)
+			return &HandshakeError{Message: message, Token: token, Err: err}
 		}
 	}
 	isAccepted = true
@@ -429,7 +456,7 @@ func (h *HandshakeState) judge(ctx context.Context, message int) error {
 }
 
 // PeerStatic returns the other party's static key, and whether it is known.
-func (h *HandshakeState) PeerStatic() (key [KeyLen]byte, known bool) {
+func (h *HandshakeState) PeerStatic() (key Key, known bool) {
 	if h.memory == nil {
 		return key, false
 	}
@@ -473,20 +500,34 @@ func (h *HandshakeState) splitStream(s *streamSenderMemory, r *streamReceiverMem
 	return h.Close()
 }
 
-// Datagrams returns the state for datagrams, after all messages have passed. A datagram may arrive after others whose numbers are less than window
-// greater; window is 64, 256 or 1024. The handshake is used up.
-func (h *HandshakeState) Datagrams(window int) (*Datagrams, error) {
+// Datagrams returns the two directions for datagrams, after all messages have passed. A datagram may arrive after others whose nonces are less than
+// window greater; window is 64, 256 or 1024. The handshake is used up.
+func (h *HandshakeState) Datagrams(window int) (*DatagramSender, *DatagramReceiver, error) {
 	if h.ended != nil {
-		return nil, h.ended
+		return nil, nil, h.ended
 	}
 	if window != 64 && window != 256 && window != 1024 {
-		return nil, ErrWindow
+		return nil, nil, ErrWindow
 	}
-	d := new(Datagrams)
-	code := C.noise_finish_datagrams(&h.memory.kept, C.uint32_t(window), &d.sending.kept, &d.receiving.kept)
+	s, r := new(DatagramSender), new(DatagramReceiver)
+	code := C.noise_finish_datagrams(&h.memory.kept, C.uint32_t(window), &s.memory.kept, &r.memory.kept)
 	if code != C.NOISE_OK {
-		return nil, Code(code)
+		return nil, nil, Code(code)
 	}
 	h.Close()
-	return d, nil
+	return s, r, nil
+}
+
+// CipherStates returns the standard's CipherStates (the framework's 5.2), after all messages have passed: for a protocol whose packets have associated
+// data, name their nonces or have a form of their own. The handshake is used up.
+func (h *HandshakeState) CipherStates() (send, receive *CipherState, err error) {
+	if h.ended != nil {
+		return nil, nil, h.ended
+	}
+	send, receive = new(CipherState), &CipherState{receives: true}
+	if code := C.noise_finish_ciphers(&h.memory.kept, &send.memory.kept, &receive.memory.kept); code != C.NOISE_OK {
+		return nil, nil, Code(code)
+	}
+	h.Close()
+	return send, receive, nil
 }

@@ -1,4 +1,4 @@
-//go:build !noise_inplace
+//go:build cgo && noise_installed
 
 package noise
 

@@ -14,14 +14,16 @@ type (
 		told C.noise_told
 	}
 	senderMemory struct {
-		_    [0]uint64
-		kept C.noise_sender
-		told C.noise_told
+		_     [0]uint64
+		kept  C.noise_sender
+		told  C.noise_told
+		nonce C.uint64_t
 	}
 	receiverMemory struct {
-		_    [0]uint64
-		kept C.noise_receiver
-		told C.noise_told
+		_     [0]uint64
+		kept  C.noise_receiver
+		told  C.noise_told
+		nonce C.uint64_t
 	}
 	streamSenderMemory struct {
 		_    [0]uint64
@@ -34,20 +36,28 @@ type (
 		told C.noise_stream_told
 	}
 	datagramSenderMemory struct {
-		_    [0]uint64
-		kept C.noise_datagram_sender
-		told C.noise_told
+		_     [0]uint64
+		kept  C.noise_datagram_sender
+		told  C.noise_told
+		nonce C.uint64_t
 	}
 	datagramReceiverMemory struct {
 		_    [0]uint64
 		kept C.noise_datagram_receiver
 		told C.noise_told
 	}
+	cipherMemory struct {
+		_     [0]uint64
+		kept  C.noise_cipher
+		told  C.noise_told
+		nonce C.uint64_t
+	}
 )
 
 func init() {
-	// If the library is linked when the program starts, it may be another build than the header's.
-	if C.noise_handshake_size() != sizeOfHandshake ||
+	// An installed library may be another build than the header's.
+	if C.noise_version()/65536 != C.NOISE_VERSION_MAJOR ||
+		C.noise_handshake_size() != sizeOfHandshake || C.noise_cipher_size() != sizeOfCipher ||
 		C.noise_stream_sender_size() != sizeOfStreamSender || C.noise_stream_receiver_size() != sizeOfStreamReceiver ||
 		C.noise_sender_size() != sizeOfSender || C.noise_receiver_size() != sizeOfReceiver ||
 		C.noise_datagram_sender_size() != sizeOfDatagramSender || C.noise_datagram_receiver_size() != sizeOfDatagramReceiver {
@@ -62,6 +72,7 @@ func (m *streamSenderMemory) wipe()     { wipeAt(unsafe.Pointer(m), unsafe.Sizeo
 func (m *streamReceiverMemory) wipe()   { wipeAt(unsafe.Pointer(m), unsafe.Sizeof(*m)) }
 func (m *datagramSenderMemory) wipe()   { wipeAt(unsafe.Pointer(m), unsafe.Sizeof(*m)) }
 func (m *datagramReceiverMemory) wipe() { wipeAt(unsafe.Pointer(m), unsafe.Sizeof(*m)) }
+func (m *cipherMemory) wipe()           { wipeAt(unsafe.Pointer(m), unsafe.Sizeof(*m)) }
 
 func wipeAt(at unsafe.Pointer, size uintptr) { wipe(unsafe.Slice((*byte)(at), size)) }
 
@@ -79,7 +90,7 @@ func bytesOf(at *C.uint8_t, count int) []byte {
 	return unsafe.Slice((*byte)(unsafe.Pointer(at)), count)
 }
 
-func keyIn(at *C.uint8_t) (key [KeyLen]byte) {
+func keyIn(at *C.uint8_t) (key Key) {
 	copy(key[:], bytesOf(at, KeyLen))
 	return key
 }
@@ -92,6 +103,15 @@ func grown(dst []byte, n int) (whole, room []byte) {
 		whole = append(dst, make([]byte, n)...)
 	}
 	return whole, whole[len(dst):]
+}
+
+// apart returns what was passed, or its copy in spare, if it overlaps a room that is to be written.
+func apart(room, passed []byte, spare *[]byte) []byte {
+	if !overlap(room, passed) {
+		return passed
+	}
+	*spare = append((*spare)[:0], passed...)
+	return *spare
 }
 
 // overlap reports whether two slices have a byte in common.

@@ -38,7 +38,15 @@ func pair(t testing.TB) *KeyPair {
 	return k
 }
 
-func key(k DH) []byte { p := k.Public(); return p[:] }
+func key(k DH) *Key { p := k.Public(); return &p }
+
+// pskOf returns 32 times the same byte.
+func pskOf(b byte) (psk Key) {
+	for i := range psk {
+		psk[i] = b
+	}
+	return psk
+}
 
 // configs returns those of both parties, which know each other's key if the pattern has it.
 func configs(t testing.TB, pattern string) (client, server *Config) {
@@ -53,8 +61,7 @@ func configs(t testing.TB, pattern string) (client, server *Config) {
 		server.PeerStatic = key(c)
 	}
 	for i := 0; i < p.psks; i++ {
-		psk := bytes.Repeat([]byte{byte(i + 1)}, KeyLen)
-		client.PSKs, server.PSKs = append(client.PSKs, psk), append(server.PSKs, psk)
+		client.PSKs, server.PSKs = append(client.PSKs, pskOf(byte(i+1))), append(server.PSKs, pskOf(byte(i+1)))
 	}
 	return client, server
 }
@@ -127,6 +134,24 @@ func wants(t testing.TB, err, want error) {
 	}
 }
 
+// goes runs a call in a goroutine, and returns where its error comes.
+func goes(call func() error) chan error {
+	told := make(chan error, 1)
+	go func() { told <- call() }()
+	return told
+}
+
+// readAll is io.ReadAll that returns io.EOF too.
+func readAll(c *Conn) (got []byte, err error) {
+	room := make([]byte, 150)
+	for {
+		n, err := c.Read(room)
+		if got = append(got, room[:n]...); err != nil {
+			return got, err
+		}
+	}
+}
+
 func TestPatterns(t *testing.T) {
 	for _, base := range fifteen {
 		for place := -1; place <= messages(base); place++ {
@@ -143,7 +168,7 @@ func TestPatterns(t *testing.T) {
 				if a.HandshakeHash != b.HandshakeHash || a.HandshakeHash == [KeyLen]byte{} || !a.HandshakeComplete {
 					t.Fatal("the hashes differ")
 				}
-				if client.PeerStatic != nil && !bytes.Equal(a.PeerStatic, key(server.Static)) || a.ProtocolName != "Noise_"+pattern+suite {
+				if client.PeerStatic != nil && *a.PeerStatic != server.Static.Public() || a.ProtocolName != "Noise_"+pattern+suite {
 					t.Fatal("the state is wrong")
 				}
 				exchange(t, c, s)
@@ -208,9 +233,9 @@ func TestFullDuplexWithRenewedKeys(t *testing.T) {
 }
 
 func TestConfigFaults(t *testing.T) {
-	k, ok := pair(t), func(context.Context, [KeyLen]byte) error { return nil }
-	psk := make([]byte, KeyLen)
-	psksFor := func(context.Context, [KeyLen]byte) ([][]byte, error) { return [][]byte{psk}, nil }
+	k, ok := pair(t), func(context.Context, Key) error { return nil }
+	psk := pskOf(1)
+	psksFor := func(context.Context, Key) ([]Key, error) { return []Key{psk}, nil }
 	for _, it := range []struct {
 		name   string
 		config *Config
@@ -223,17 +248,15 @@ func TestConfigFaults(t *testing.T) {
 		{"no static key", &Config{VerifyPeer: ok}, "Static", ErrStaticMissing},
 		{"no peer's key", &Config{Pattern: "NK", VerifyPeer: ok}, "PeerStatic", ErrRemoteMissing},
 		{"a peer's key too many", &Config{Pattern: "NN", PeerStatic: key(k)}, "PeerStatic", ErrRemoteUnexpected},
-		{"a short key", &Config{Pattern: "NK", PeerStatic: key(k)[:31]}, "PeerStatic", errKeyLen},
-		{"two secrets", &Config{Pattern: "NNpsk0", PSKs: [][]byte{psk, psk}}, "PSKs", ErrPskCount},
-		{"no secret", &Config{Pattern: "NNpsk0", InsecureAcceptAnyKey: true}, "PSKs", ErrPskCount},
-		{"ten secrets", &Config{Pattern: "NNpsk0", PSKs: make([][]byte, 10)}, "PSKs", ErrPskCount},
-		{"a short secret", &Config{Pattern: "NNpsk0", PSKs: [][]byte{psk[1:]}}, "PSKs", errKeyLen},
-		{"both kinds of secrets", &Config{Pattern: "NKpsk2", PeerStatic: key(k), PSKs: [][]byte{psk}, PSKFor: psksFor}, "PSKFor", errTwo},
-		{"a secret too late", &Config{Pattern: "XXpsk1", Static: k, VerifyPeer: ok, PSKFor: psksFor}, "PSKFor", errPSKTooLate},
+		{"two psks", &Config{Pattern: "NNpsk0", PSKs: []Key{psk, psk}}, "PSKs", ErrPSKCount},
+		{"no psk", &Config{Pattern: "NNpsk0", InsecureAcceptAnyKey: true}, "PSKs", ErrPSKCount},
+		{"ten psks", &Config{Pattern: "NNpsk0", PSKs: make([]Key, 10)}, "PSKs", ErrPSKCount},
+		{"PSKs and PSKFor", &Config{Pattern: "NKpsk2", PeerStatic: key(k), PSKs: []Key{psk}, PSKFor: psksFor}, "PSKFor", errTwo},
+		{"a psk too late", &Config{Pattern: "XXpsk1", Static: k, VerifyPeer: ok, PSKFor: psksFor}, "PSKFor", errPSKTooLate},
 		{"anybody", &Config{Static: k}, "VerifyPeer", ErrUnauthenticated},
 		{"anybody, without keys", &Config{Pattern: "NN"}, "VerifyPeer", ErrUnauthenticated},
 		{"a verifier that isn't asked", &Config{Pattern: "NN", VerifyPeer: ok}, "VerifyPeer", errNoKey},
-		{"a secret for a key in a pattern without secrets", &Config{Static: k, PSKFor: psksFor}, "PSKFor", ErrPskCount},
+		{"PSKFor in a pattern without psks", &Config{Static: k, PSKFor: psksFor}, "PSKFor", ErrPSKCount},
 		{"an ephemeral key beforehand", &Config{Pattern: "EARLY:\n  <- e\n  ...\n  -> e, ee\n", InsecureAcceptAnyKey: true}, "Pattern", errEarly},
 		{"a long prologue", &Config{Static: k, VerifyPeer: ok, Prologue: make([]byte, MaxPrologue+1)}, "Prologue", ErrLength},
 	} {
@@ -248,10 +271,10 @@ func TestConfigFaults(t *testing.T) {
 
 func TestPeerIsJudged(t *testing.T) {
 	refused := errors.New("not on the list")
-	for pattern, message := range map[string]int{"XX": 2, "IX": 0, "IK": 0, "KK": 0} {
+	for pattern, message := range map[string]int{"XX": 3, "IX": 1, "IK": 1, "KK": 0} {
 		client, server := configs(t, pattern)
-		server.VerifyPeer = func(_ context.Context, got [KeyLen]byte) error {
-			if !bytes.Equal(got[:], key(client.Static)) {
+		server.VerifyPeer = func(_ context.Context, got Key) error {
+			if got != client.Static.Public() {
 				t.Error("VerifyPeer gets another key")
 			}
 			return refused
@@ -262,7 +285,7 @@ func TestPeerIsJudged(t *testing.T) {
 			_, err = h.ReadMessage(nil, make([]byte, 48))
 			wants(t, err, refused)
 			var fault *HandshakeError
-			if !errors.As(err, &fault) || fault.Message != -1 || fault.Token != -1 {
+			if !errors.As(err, &fault) || fault.Message != 0 || fault.Token != "" {
 				t.Error(err)
 			}
 			continue
@@ -271,7 +294,7 @@ func TestPeerIsJudged(t *testing.T) {
 		_, err := both(c, s)
 		wants(t, err, refused)
 		var fault *HandshakeError
-		if !errors.As(err, &fault) || fault.Message != message || fault.Token != -1 {
+		if !errors.As(err, &fault) || fault.Message != message || fault.Token != "s" {
 			t.Error(err)
 		}
 		_, err = s.Read(make([]byte, 1))
@@ -283,7 +306,7 @@ func TestPeerIsJudged(t *testing.T) {
 	err, _ := both(c, s)
 	wants(t, err, ErrPeerKey)
 	var fault *HandshakeError
-	if !errors.As(err, &fault) || fault.Message != 1 {
+	if !errors.As(err, &fault) || fault.Message != 2 || fault.Token != "s" {
 		t.Error(err)
 	}
 }
@@ -525,7 +548,9 @@ func TestHandshakeIsUsedUp(t *testing.T) {
 	must(t, err)
 	_, _, err = a.Split()
 	wants(t, err, ErrEnded)
-	_, err = a.Datagrams(64)
+	_, _, err = a.Datagrams(64)
+	wants(t, err, ErrEnded)
+	_, _, err = a.CipherStates()
 	wants(t, err, ErrEnded)
 	must(t, s.Close(), r.Close())
 	_, err = s.Seal(nil, nil)
@@ -568,11 +593,11 @@ func TestSealAndOpenInPlace(t *testing.T) {
 
 func TestDatagrams(t *testing.T) {
 	a, b := opened(t, "IK")
-	_, err := a.Datagrams(65)
+	_, _, err := a.Datagrams(65)
 	wants(t, err, ErrWindow)
-	s, err := a.Datagrams(64)
+	s, back, err := a.Datagrams(64)
 	must(t, err)
-	r, err := b.Datagrams(64)
+	answers, r, err := b.Datagrams(64)
 	must(t, err)
 	var sealed [100][]byte
 	for i := range sealed {
@@ -595,23 +620,23 @@ func TestDatagrams(t *testing.T) {
 	sealed[36][9] ^= 1
 	_, err = r.Open(nil, sealed[36])
 	wants(t, err, ErrTag)
-	back, err := r.Seal(nil, []byte("back"))
+	answer, err := answers.Seal(nil, []byte("back"))
 	must(t, err)
-	got, err := s.Open(back[:0], back)
+	got, err := back.Open(answer[:0], answer)
 	must(t, err)
-	if string(got) != "back" {
+	if string(got) != "back" || s.Nonce() != 100 || answers.Nonce() != 1 {
 		t.Error(got)
 	}
-	must(t, s.Close())
+	must(t, s.Close(), back.Close())
 	_, err = s.Seal(nil, nil)
+	wants(t, err, ErrClosed)
+	_, err = back.Open(nil, nil)
 	wants(t, err, ErrClosed)
 }
 
 type zeros struct{ *KeyPair }
 
-func (zeros) Agree(context.Context, [KeyLen]byte) (answer [KeyLen]byte, err error) {
-	return answer, nil
-}
+func (zeros) Agree(context.Context, Key) (answer Key, err error) { return answer, nil }
 
 func TestZerosAreRefused(t *testing.T) {
 	client, server := configs(t, "XX")
@@ -637,9 +662,14 @@ func TestNoAllocation(t *testing.T) {
 	_, r, err := b.Split()
 	must(t, err)
 	a, b = opened(t, "XX")
-	x, err := a.Datagrams(64)
+	x, _, err := a.Datagrams(64)
 	must(t, err)
-	y, err := b.Datagrams(64)
+	_, y, err := b.Datagrams(64)
+	must(t, err)
+	a, b = opened(t, "XX")
+	e, _, err := a.CipherStates()
+	must(t, err)
+	_, f, err := b.CipherStates()
 	must(t, err)
 	client, server := configs(t, "XX")
 	c, d := connected(t, client, server)
@@ -658,6 +688,17 @@ func TestNoAllocation(t *testing.T) {
 			datagram, err := x.Seal(room, payload)
 			if err == nil {
 				_, err = y.Open(datagram[:0], datagram)
+			}
+			return err
+		},
+		"cipher states": func() error {
+			packet := append(room, payload[:16]...)
+			packet, err := e.Encrypt(packet, packet[:16], payload[:900])
+			if err == nil {
+				err = f.SetNonce(f.Nonce())
+			}
+			if err == nil {
+				_, err = f.Decrypt(packet[16:16], packet[:16], packet[16:])
 			}
 			return err
 		},

@@ -1,3 +1,5 @@
+//go:build cgo
+
 package noise
 
 import (
@@ -173,6 +175,39 @@ func (p *pattern) learnsBeforePSK(initiator bool) bool {
 		}
 	}
 	return false
+}
+
+// payloadToken stands for the payload where a token is named.
+const payloadToken = "payload"
+
+// tokenAt returns the name of a token of a message, both from 0 on; after the last comes the payload.
+func (p *pattern) tokenAt(message, token int) string {
+	if tokens := p.messages[message].tokens; token < len(tokens) {
+		return tokens[token]
+	}
+	return payloadToken
+}
+
+// differences returns in what two parties may differ if the tag is wrong at a token of a message, both from 0 on.
+func (p *pattern) differences(message, token int) string {
+	last := p.messages[message].tokens
+	if token < len(last) {
+		last = last[:token]
+	}
+	hasPSK := contains(last, "psk")
+	for _, m := range p.messages[:message] {
+		hasPSK = hasPSK || contains(m.tokens, "psk")
+	}
+	hasKey := p.known[0] || p.known[1]
+	switch {
+	case hasKey && hasPSK:
+		return "the pattern, the prologue, a psk or a static key known beforehand"
+	case hasKey:
+		return "the pattern, the prologue or a static key known beforehand"
+	case hasPSK:
+		return "the pattern, the prologue or a psk"
+	}
+	return "the pattern or the prologue"
 }
 
 func (p *pattern) oneWay() bool { return len(p.messages) == 1 }

@@ -1,7 +1,6 @@
 package noise
 
 import (
-	"bytes"
 	"context"
 	"errors"
 	"testing"
@@ -19,8 +18,8 @@ func TestSecretsOfAKey(t *testing.T) {
 			asked, other = server, client.Static
 		}
 		secrets := asked.PSKs
-		asked.PSKs, asked.PSKFor = nil, func(_ context.Context, got [KeyLen]byte) ([][]byte, error) {
-			if !bytes.Equal(got[:], key(other)) {
+		asked.PSKs, asked.PSKFor = nil, func(_ context.Context, got Key) ([]Key, error) {
+			if got != other.Public() {
 				t.Error("asked for another's secrets")
 			}
 			return secrets, nil
@@ -48,7 +47,7 @@ func TestKeyBeforeSecret(t *testing.T) {
 			if i == 0 {
 				config = server
 			}
-			config.PSKs, config.PSKFor = nil, func(context.Context, [KeyLen]byte) ([][]byte, error) { return nil, nil }
+			config.PSKs, config.PSKFor = nil, func(context.Context, Key) ([]Key, error) { return nil, nil }
 			err := config.Check(i == 1)
 			if may {
 				must(t, err)
@@ -62,11 +61,11 @@ func TestKeyBeforeSecret(t *testing.T) {
 var errUnknown = errors.New("no secret for this key")
 
 // secretsOf returns the secrets of two known parties, by their keys.
-func secretsOf(one, two DH) (map[[KeyLen]byte][]byte, func(context.Context, [KeyLen]byte) ([][]byte, error)) {
-	secrets := map[[KeyLen]byte][]byte{one.Public(): bytes.Repeat([]byte{1}, KeyLen), two.Public(): bytes.Repeat([]byte{2}, KeyLen)}
-	return secrets, func(_ context.Context, key [KeyLen]byte) ([][]byte, error) {
+func secretsOf(one, two DH) (map[Key]Key, func(context.Context, Key) ([]Key, error)) {
+	secrets := map[Key]Key{one.Public(): pskOf(1), two.Public(): pskOf(2)}
+	return secrets, func(_ context.Context, key Key) ([]Key, error) {
 		if secret, ok := secrets[key]; ok {
-			return [][]byte{secret}, nil
+			return []Key{secret}, nil
 		}
 		return nil, errUnknown
 	}
@@ -75,15 +74,15 @@ func secretsOf(one, two DH) (map[[KeyLen]byte][]byte, func(context.Context, [Key
 // TestSecretOfEachPeer runs a server that has a secret with each of two clients, with both; with a third; and with one that has another's secret.
 func TestSecretOfEachPeer(t *testing.T) {
 	for _, it := range []struct {
-		pattern        string
-		reader         int // which reads the message that has the secret: 0 the client, 1 the server
-		message, token int
-	}{{"XXpsk3", 1, 2, 3}, {"IKpsk2", 0, 1, 4}, {"IKpsk1", 1, 0, 5}} {
+		pattern string
+		reader  int // which reads the message that has the secret: 0 the client, 1 the server
+		message int
+	}{{"XXpsk3", 1, 3}, {"IKpsk2", 0, 2}, {"IKpsk1", 1, 1}} {
 		one, two, stranger := pair(t), pair(t), pair(t)
 		secrets, choose := secretsOf(one, two)
-		run := func(key DH, secret []byte) (errs [2]error) {
+		run := func(key DH, secret Key) (errs [2]error) {
 			client, server := configs(t, it.pattern)
-			client.Static, client.PSKs = key, [][]byte{secret}
+			client.Static, client.PSKs = key, []Key{secret}
 			server.PeerStatic, server.PSKs, server.PSKFor, server.InsecureAcceptAnyKey = nil, nil, choose, false
 			c, s := connected(t, client, server)
 			if errs[0], errs[1] = both(c, s); errs[0] == nil && errs[1] == nil {
@@ -96,7 +95,7 @@ func TestSecretOfEachPeer(t *testing.T) {
 			errs := run(key, secrets[key.Public()])
 			must(t, errs[0], errs[1])
 		}
-		errs := run(stranger, make([]byte, KeyLen))
+		errs := run(stranger, Key{})
 		wants(t, errs[1], errUnknown)
 		if it.pattern == "IKpsk2" {
 			wants(t, errs[0], ErrCut) // and no message 2
@@ -104,7 +103,7 @@ func TestSecretOfEachPeer(t *testing.T) {
 		errs = run(one, secrets[two.Public()])
 		wants(t, errs[it.reader], ErrTag)
 		var fault *HandshakeError
-		if !errors.As(errs[it.reader], &fault) || fault.Message != it.message || fault.Token != it.token {
+		if !errors.As(errs[it.reader], &fault) || fault.Message != it.message || fault.Token != "payload" {
 			t.Errorf("%s: %v", it.pattern, errs[it.reader])
 		}
 	}
@@ -113,13 +112,13 @@ func TestSecretOfEachPeer(t *testing.T) {
 // TestFaultsOfPSKFor ends handshakes by what PSKFor returns, and by VerifyPeer after it.
 func TestFaultsOfPSKFor(t *testing.T) {
 	for _, it := range []struct {
-		secrets [][]byte
+		secrets []Key
 		want    error
-	}{{nil, ErrPskCount}, {make([][]byte, 2), ErrPskCount}, {make([][]byte, 1), errKeyLen}, {[][]byte{bytes.Repeat([]byte{1}, KeyLen)}, errUnknown}} {
+	}{{nil, ErrPSKCount}, {make([]Key, 2), ErrPSKCount}, {make([]Key, 1), ErrTag}, {[]Key{pskOf(1)}, errUnknown}} {
 		client, server := configs(t, "XXpsk3")
 		isAsked := false
-		server.PSKs, server.PSKFor = nil, func(context.Context, [KeyLen]byte) ([][]byte, error) { isAsked = true; return it.secrets, nil }
-		server.VerifyPeer = func(context.Context, [KeyLen]byte) error {
+		server.PSKs, server.PSKFor = nil, func(context.Context, Key) ([]Key, error) { isAsked = true; return it.secrets, nil }
+		server.VerifyPeer = func(context.Context, Key) error {
 			if !isAsked {
 				t.Error("VerifyPeer is called before message 3 is accepted")
 			}
@@ -137,7 +136,7 @@ func TestSetPSK(t *testing.T) {
 	client, server := configs(t, "IKpsk1+psk2")
 	secrets := server.PSKs
 	server.PSKs = nil
-	wants(t, server.Check(false), ErrPskCount)
+	wants(t, server.Check(false), ErrPSKCount)
 	a, err := NewHandshakeState(client, true)
 	must(t, err)
 	b, err := NewHandshakeState(server, false)
@@ -147,21 +146,20 @@ func TestSetPSK(t *testing.T) {
 	var wanted *WantedPSKError
 	for i := 0; i < 20; i++ {
 		_, err = b.ReadMessage(nil, first)
-		wants(t, err, ErrWantedPsk)
-		if !errors.As(err, &wanted) || !bytes.Equal(wanted.PeerStatic, key(client.Static)) || b.MessageIndex() != 0 {
+		wants(t, err, ErrWantedPSK)
+		if !errors.As(err, &wanted) || *wanted.PeerStatic != client.Static.Public() || b.MessageIndex() != 0 {
 			t.Fatal(err)
 		}
 	}
-	wants(t, b.SetPSK(secrets[0][1:]), errKeyLen)
 	must(t, b.SetPSK(secrets[0]))
 	payload, err := b.ReadMessage(nil, first)
 	must(t, err)
 	for i := 0; i < 20; i++ {
 		_, err = b.WriteMessage(nil, payload)
-		wants(t, err, ErrWantedPsk)
+		wants(t, err, ErrWantedPSK)
 	}
 	must(t, b.SetPSK(secrets[1]))
-	wants(t, b.SetPSK(secrets[1]), ErrPskCount)
+	wants(t, b.SetPSK(secrets[1]), ErrPSKCount)
 	second, err := b.WriteMessage(nil, payload)
 	must(t, err)
 	payload, err = a.ReadMessage(nil, second)

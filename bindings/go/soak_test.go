@@ -165,12 +165,6 @@ func (it *soaked) run(client, server *Config, ready *sync.WaitGroup) (all []erro
 	return all
 }
 
-func goes(call func() error) chan error {
-	told := make(chan error, 1)
-	go func() { told <- call() }()
-	return told
-}
-
 // payloads are what one party of a channel sends.
 func (it *soaked) payloads(from int) [][]byte {
 	dice := rand.New(rand.NewSource(it.seed*2 + int64(from)))
@@ -235,17 +229,6 @@ func (it *soaked) send(c *Conn, side int) error {
 		return err
 	}
 	return c.conn.(*net.TCPConn).CloseWrite()
-}
-
-// readAll is io.ReadAll that returns io.EOF too.
-func readAll(c *Conn) (got []byte, err error) {
-	room := make([]byte, 150)
-	for {
-		n, err := c.Read(room)
-		if got = append(got, room[:n]...); err != nil {
-			return got, err
-		}
-	}
 }
 
 // whole is how many messages come before the fault.

@@ -9,7 +9,6 @@ import "sync"
 type Sender struct {
 	mutex  sync.Mutex
 	memory senderMemory
-	sealed uint64
 	closed bool
 	spare  []byte // a copy of a payload that is where its message goes
 }
@@ -18,7 +17,6 @@ type Sender struct {
 type Receiver struct {
 	mutex  sync.Mutex
 	memory receiverMemory
-	opened uint64
 	closed bool
 }
 
@@ -34,23 +32,22 @@ func (s *Sender) Seal(dst, payload []byte) ([]byte, error) {
 		return dst, ErrTooLong
 	}
 	whole, room := grown(dst, len(payload)+TagLen)
-	if overlap(room, payload) {
-		s.spare = append(s.spare[:0], payload...)
-		payload = s.spare
-	}
+	payload = apart(room, payload, &s.spare)
 	code := C.noise_seal(&s.memory.kept, place(payload), C.size_t(len(payload)), place(room), C.size_t(len(room)), &s.memory.told)
 	if code != C.NOISE_OK {
 		return dst, Code(code)
 	}
-	s.sealed++
 	return whole, nil
 }
 
-// Nonce returns the number of messages that were sealed.
+// Nonce returns the nonce of the next message: how many were sealed. After Close it is 0.
 func (s *Sender) Nonce() uint64 {
 	s.mutex.Lock()
 	defer s.mutex.Unlock()
-	return s.sealed
+	if s.closed || C.noise_sender_nonce(&s.memory.kept, &s.memory.nonce) != C.NOISE_OK {
+		return 0
+	}
+	return uint64(s.memory.nonce)
 }
 
 // Close overwrites the keys. Later calls return ErrClosed.
@@ -80,15 +77,17 @@ func (r *Receiver) Open(dst, message []byte) ([]byte, error) {
 	if code != C.NOISE_OK {
 		return dst, Code(code)
 	}
-	r.opened++
 	return whole[:len(dst)+int(r.memory.told.len)], nil
 }
 
-// Nonce returns the number of messages that were opened.
+// Nonce returns the nonce of the next message: how many were opened. After Close it is 0.
 func (r *Receiver) Nonce() uint64 {
 	r.mutex.Lock()
 	defer r.mutex.Unlock()
-	return r.opened
+	if r.closed || C.noise_receiver_nonce(&r.memory.kept, &r.memory.nonce) != C.NOISE_OK {
+		return 0
+	}
+	return uint64(r.memory.nonce)
 }
 
 // Close overwrites the keys. Later calls return ErrClosed.
@@ -97,71 +96,5 @@ func (r *Receiver) Close() error {
 	defer r.mutex.Unlock()
 	r.closed = true
 	r.memory.wipe()
-	return nil
-}
-
-// Datagrams seals and opens datagrams, which may be lost, repeated and reordered. One goroutine may seal while another opens.
-type Datagrams struct {
-	sealing, opening sync.Mutex
-	sending          datagramSenderMemory
-	receiving        datagramReceiverMemory
-	closed           bool
-	spare            []byte
-}
-
-// Seal appends a datagram to dst: 24 bytes longer than the payload, which has at most 65519. The errors are those of Sender.Seal.
-func (d *Datagrams) Seal(dst, payload []byte) ([]byte, error) {
-	d.sealing.Lock()
-	defer d.sealing.Unlock()
-	if d.closed {
-		return dst, ErrClosed
-	}
-	if len(payload) > MaxMessage-TagLen {
-		return dst, ErrTooLong
-	}
-	whole, room := grown(dst, len(payload)+DatagramOverhead)
-	if overlap(room, payload) {
-		d.spare = append(d.spare[:0], payload...)
-		payload = d.spare
-	}
-	code := C.noise_datagram_seal(&d.sending.kept, place(payload), C.size_t(len(payload)), place(room), C.size_t(len(room)), &d.sending.told)
-	if code != C.NOISE_OK {
-		return dst, Code(code)
-	}
-	return whole, nil
-}
-
-// Open opens a datagram, and appends its payload to dst; dst may be datagram[:0]. An error changes nothing: drop the datagram, and wait for the next.
-// ErrOld and ErrRepeated alone are no sign of an attack.
-func (d *Datagrams) Open(dst, datagram []byte) ([]byte, error) {
-	d.opening.Lock()
-	defer d.opening.Unlock()
-	if d.closed {
-		return dst, ErrClosed
-	}
-	if len(datagram) > MaxDatagram {
-		return dst, ErrTooLong
-	}
-	whole, room := grown(dst, len(datagram))
-	copy(room, datagram)
-	code := C.noise_datagram_open(&d.receiving.kept, place(room), C.size_t(len(room)), &d.receiving.told)
-	if code != C.NOISE_OK {
-		return dst, Code(code)
-	}
-	from, count := int(d.receiving.told.from), int(d.receiving.told.len)
-	copy(room, room[from:from+count])
-	return whole[:len(dst)+count], nil
-}
-
-// Close overwrites the keys. Later calls return ErrClosed.
-func (d *Datagrams) Close() error {
-	d.sealing.Lock()
-	defer d.sealing.Unlock()
-	d.opening.Lock()
-	defer d.opening.Unlock()
-	d.closed = true
-	d.sending.wipe()
-	d.receiving.wipe()
-	wipe(d.spare)
 	return nil
 }

@@ -1,14 +1,46 @@
-//go:build !go1.20
+//go:build cgo && !go1.20
 
 package noise
 
 import "golang.org/x/crypto/curve25519"
 
-func publicOf(secret []byte) ([]byte, error) {
-	return curve25519.X25519(secret, curve25519.Basepoint)
+// secretKey is a secret key of X25519.
+type secretKey struct {
+	key   Key
+	isSet bool
 }
 
+func (s *secretKey) set(secret *Key) error {
+	s.key, s.isSet = *secret, true
+	return nil
+}
+
+func (s *secretKey) public() (key Key, err error) {
+	made, err := curve25519.X25519(s.key[:], curve25519.Basepoint)
+	if err != nil {
+		return key, err
+	}
+	copy(key[:], made)
+	return key, nil
+}
+
+func (s *secretKey) bytes() Key { return s.key }
+
 // agree fails if the result is zeros.
-func agree(secret, remote []byte) ([]byte, error) {
-	return curve25519.X25519(secret, remote)
+func (s *secretKey) agree(remote *Key) (result Key, err error) {
+	if !s.isSet {
+		return result, ErrClosed
+	}
+	made, err := curve25519.X25519(s.key[:], remote[:])
+	if err != nil {
+		return result, ErrLowOrder
+	}
+	copy(result[:], made)
+	wipe(made)
+	return result, nil
+}
+
+func (s *secretKey) wipe() {
+	wipe(s.key[:])
+	s.isSet = false
 }

@@ -1,26 +1,45 @@
-//go:build go1.20
+//go:build cgo && go1.20
 
 package noise
 
 import "crypto/ecdh"
 
-func publicOf(secret []byte) ([]byte, error) {
-	own, err := ecdh.X25519().NewPrivateKey(secret)
-	if err != nil {
-		return nil, err
+// secretKey is a secret key of X25519.
+type secretKey struct{ key *ecdh.PrivateKey }
+
+func (s *secretKey) set(secret *Key) (err error) {
+	s.key, err = ecdh.X25519().NewPrivateKey(secret[:])
+	return err
+}
+
+func (s *secretKey) public() (key Key, err error) {
+	copy(key[:], s.key.PublicKey().Bytes())
+	return key, nil
+}
+
+func (s *secretKey) bytes() (key Key) {
+	if s.key != nil {
+		copy(key[:], s.key.Bytes())
 	}
-	return own.PublicKey().Bytes(), nil
+	return key
 }
 
 // agree fails if the result is zeros.
-func agree(secret, remote []byte) ([]byte, error) {
-	own, err := ecdh.X25519().NewPrivateKey(secret)
-	if err != nil {
-		return nil, err
+func (s *secretKey) agree(remote *Key) (result Key, err error) {
+	if s.key == nil {
+		return result, ErrClosed
 	}
-	other, err := ecdh.X25519().NewPublicKey(remote)
+	other, err := ecdh.X25519().NewPublicKey(remote[:])
 	if err != nil {
-		return nil, err
+		return result, err
 	}
-	return own.ECDH(other)
+	made, err := s.key.ECDH(other)
+	if err != nil {
+		return result, ErrLowOrder
+	}
+	copy(result[:], made)
+	wipe(made)
+	return result, nil
 }
+
+func (s *secretKey) wipe() { s.key = nil }

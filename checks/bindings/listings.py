@@ -16,7 +16,7 @@ import (
 	"io"
 	"os"
 
-	"example.org/noise"
+	"example.org/yulimosar/noise"
 )
 
 func main() {

@@ -5,8 +5,8 @@ import (
 	"fmt"
 	"testing"
 
-	"example.org/noise"
-	"example.org/noise/live/cloop"
+	"example.org/yulimosar/noise"
+	"example.org/yulimosar/noise/live/cloop"
 	flynn "github.com/flynn/noise"
 )
 

@@ -1,14 +1,13 @@
 package live
 
 import (
-	"bytes"
 	"fmt"
 	"os"
 	"os/exec"
 	"strings"
 	"testing"
 
-	"example.org/noise"
+	"example.org/yulimosar/noise"
 )
 
 // TestJavaScript runs the package against checks/web/echo.mjs, which has the JavaScript module. NOISE_JS_ECHO has the path of a program that runs it.
@@ -28,13 +27,13 @@ func TestJavaScript(t *testing.T) {
 	}
 }
 
-// TestJavaScriptSecretOfEachPeer is secretOfEachPeer with the same program.
-func TestJavaScriptSecretOfEachPeer(t *testing.T) {
+// TestJavaScriptPSKOfEachPeer is pskOfEachPeer with the same program.
+func TestJavaScriptPSKOfEachPeer(t *testing.T) {
 	program := os.Getenv("NOISE_JS_ECHO")
 	if program == "" {
 		t.Skip("NOISE_JS_ECHO isn't set")
 	}
-	secretOfEachPeer(t, program)
+	pskOfEachPeer(t, program)
 }
 
 func withJavaScript(t *testing.T, program, name string, initiator bool) {
@@ -46,17 +45,17 @@ func withJavaScript(t *testing.T, program, name string, initiator bool) {
 	known := map[bool]string{true: " X NKpsk2 IKpsk1 KKpsk0 ", false: " KKpsk0 "}[initiator]
 	if strings.Contains(known, " "+name+" ") || initiator && strings.Contains(name, "\n") {
 		key := other.Public()
-		config.PeerStatic = key[:]
+		config.PeerStatic = &key
 	}
 	heading, _, _ := strings.Cut(name, ":")
-	secrets := []string{}
+	psks := []string{}
 	for i := 0; i < strings.Count(heading, "psk"); i++ {
-		config.PSKs = append(config.PSKs, bytes.Repeat([]byte{byte(i + 7)}, 32))
-		secrets = append(secrets, strings.Repeat(fmt.Sprintf("%02x", i+7), 32))
+		config.PSKs = append(config.PSKs, pskOf(byte(i+7)))
+		psks = append(psks, strings.Repeat(fmt.Sprintf("%02x", i+7), 32))
 	}
 	words := []string{name, fmt.Sprintf("%x", other.Secret()), fmt.Sprintf("%x", own.Public()), "-"}
-	if len(secrets) > 0 {
-		words[3] = strings.Join(secrets, ",")
+	if len(psks) > 0 {
+		words[3] = strings.Join(psks, ",")
 	}
 	if initiator {
 		toRust(t, exec.Command(program, append(words, "@127.0.0.1:0")...), config, name == "X")

@@ -14,7 +14,7 @@ import (
 	"testing"
 	"time"
 
-	"example.org/noise"
+	"example.org/yulimosar/noise"
 	flynn "github.com/flynn/noise"
 )
 
@@ -115,19 +115,20 @@ func live(t *testing.T, pattern flynn.HandshakePattern, name string, place int, 
 	must(t, err)
 	other, err := suite.GenerateKeypair(rand.Reader)
 	must(t, err)
-	public := own.Public()
+	public, theirKey := own.Public(), noise.Key{}
+	copy(theirKey[:], other.Public)
 	config := &noise.Config{Pattern: name, Prologue: []byte("live"), Static: own, InsecureAcceptAnyKey: true}
 	them := flynn.Config{CipherSuite: suite, Pattern: pattern, Prologue: []byte("live"), Initiator: !initiator, StaticKeypair: other}
 	if place >= 0 {
 		them.PresharedKey, them.PresharedKeyPlacement = bytes.Repeat([]byte{7}, 32), place
-		config.PSKs = [][]byte{them.PresharedKey}
+		config.PSKs = []noise.Key{pskOf(7)}
 	}
 	before, after := pattern.InitiatorPreMessages, pattern.ResponderPreMessages
 	if initiator {
 		before, after = after, before
 	}
 	if len(before) > 0 {
-		config.PeerStatic = other.Public
+		config.PeerStatic = &theirKey
 	}
 	if len(after) > 0 {
 		them.PeerStatic = public[:]
@@ -136,7 +137,7 @@ func live(t *testing.T, pattern flynn.HandshakePattern, name string, place int, 
 	run(t, a, b, config, them, initiator, len(pattern.Messages))
 }
 
-// choosing are patterns in which a server may choose the secret by the client's key.
+// choosing are patterns in which a server may choose the psk by the client's key.
 var choosing = []string{"XXpsk3", "IKpsk2", "IKpsk1"}
 
 func newKeys(t *testing.T, count int) (keys []*noise.KeyPair) {
@@ -149,31 +150,39 @@ func newKeys(t *testing.T, count int) (keys []*noise.KeyPair) {
 	return keys
 }
 
-// secretOf returns the secret of client i.
-func secretOf(i int) []byte { return bytes.Repeat([]byte{byte(i + 1)}, 32) }
+// pskOf returns 32 times the same byte.
+func pskOf(b byte) (psk noise.Key) {
+	for i := range psk {
+		psk[i] = b
+	}
+	return psk
+}
 
-// chooser returns the Config of a server that has a secret with each of these clients.
+// pskOfClient returns the psk of client i.
+func pskOfClient(i int) noise.Key { return pskOf(byte(i + 1)) }
+
+// chooser returns the Config of a server that has a psk with each of these clients.
 func chooser(own noise.DH, name string, clients []*noise.KeyPair) *noise.Config {
-	return &noise.Config{Pattern: name, Prologue: []byte("live"), Static: own, PSKFor: func(_ context.Context, key [noise.KeyLen]byte) ([][]byte, error) {
+	return &noise.Config{Pattern: name, Prologue: []byte("live"), Static: own, PSKFor: func(_ context.Context, key noise.Key) ([]noise.Key, error) {
 		for i, client := range clients {
 			if client.Public() == key {
-				return [][]byte{secretOf(i)}, nil
+				return []noise.Key{pskOfClient(i)}, nil
 			}
 		}
-		return nil, errors.New("no secret for this key")
+		return nil, errors.New("no psk for this key")
 	}}
 }
 
-// TestFlynnSecretOfEachPeer runs two clients of flynn's, which have a secret each, with a server that chooses it.
-func TestFlynnSecretOfEachPeer(t *testing.T) {
+// TestFlynnPSKOfEachPeer runs two clients of flynn's, which have a psk each, with a server that chooses it.
+func TestFlynnPSKOfEachPeer(t *testing.T) {
 	for _, name := range choosing {
 		keys := newKeys(t, 3)
 		for i, client := range keys[:2] {
 			t.Run(fmt.Sprintf("%s/%d", name, i), func(t *testing.T) {
-				secret, public, server := client.Secret(), client.Public(), keys[2].Public()
+				secret, public, server, psk := client.Secret(), client.Public(), keys[2].Public(), pskOfClient(i)
 				base, place, _ := strings.Cut(name, "psk")
 				them := flynn.Config{CipherSuite: suite, Pattern: flynn.HandshakeXX, Prologue: []byte("live"), Initiator: true,
-					StaticKeypair: flynn.DHKey{Private: secret[:], Public: public[:]}, PresharedKey: secretOf(i), PresharedKeyPlacement: int(place[0] - '0')}
+					StaticKeypair: flynn.DHKey{Private: secret[:], Public: public[:]}, PresharedKey: psk[:], PresharedKeyPlacement: int(place[0] - '0')}
 				if base == "IK" {
 					them.Pattern, them.PeerStatic = flynn.HandshakeIK, server[:]
 				}

@@ -12,7 +12,7 @@ import (
 	"testing"
 	"time"
 
-	"example.org/noise"
+	"example.org/yulimosar/noise"
 )
 
 // TestRust runs the package against the example `echo` of the crate in bindings/rust, whose path NOISE_RUST_ECHO has.
@@ -45,14 +45,14 @@ func withRust(t *testing.T, program, name string, psk, initiator, oneWay bool) {
 	letters, _, _ := strings.Cut(name, "psk")
 	if at := strings.LastIndex(letters, "K"); initiator && (oneWay || at == len(letters)-1) || !initiator && letters[0] == 'K' {
 		key := other.Public()
-		config.PeerStatic = key[:]
+		config.PeerStatic = &key
 	}
-	secret := "-"
+	digits := "-"
 	if psk {
-		secret = strings.Repeat("07", 32)
-		config.PSKs = [][]byte{bytes.Repeat([]byte{7}, 32)}
+		digits = strings.Repeat("07", 32)
+		config.PSKs = []noise.Key{pskOf(7)}
 	}
-	words := []string{name, fmt.Sprintf("%x", other.Secret()), fmt.Sprintf("%x", own.Public()), secret}
+	words := []string{name, fmt.Sprintf("%x", other.Secret()), fmt.Sprintf("%x", own.Public()), digits}
 	if initiator {
 		toRust(t, exec.Command(program, append(words, "@127.0.0.1:0")...), config, oneWay)
 	} else {
@@ -60,30 +60,30 @@ func withRust(t *testing.T, program, name string, psk, initiator, oneWay bool) {
 	}
 }
 
-// TestRustSecretOfEachPeer is secretOfEachPeer with the same example.
-func TestRustSecretOfEachPeer(t *testing.T) {
+// TestRustPSKOfEachPeer is pskOfEachPeer with the same example.
+func TestRustPSKOfEachPeer(t *testing.T) {
 	program := os.Getenv("NOISE_RUST_ECHO")
 	if program == "" {
 		t.Skip("NOISE_RUST_ECHO isn't set")
 	}
-	secretOfEachPeer(t, program)
+	pskOfEachPeer(t, program)
 }
 
-// secretOfEachPeer passes the patterns in which a server may choose the secret by the client's key, with the server in either language, and two clients
-// that have a secret each.
-func secretOfEachPeer(t *testing.T, program string) {
+// pskOfEachPeer passes the patterns in which a server may choose the psk by the client's key, with the server in either language, and two clients
+// that have a psk each.
+func pskOfEachPeer(t *testing.T, program string) {
 	keys := newKeys(t, 3)
 	server, public := keys[2], keys[2].Public()
-	table := fmt.Sprintf("%x=%x,%x=%x", keys[0].Public(), secretOf(0), keys[1].Public(), secretOf(1))
+	table := fmt.Sprintf("%x=%x,%x=%x", keys[0].Public(), pskOfClient(0), keys[1].Public(), pskOfClient(1))
 	for _, name := range choosing {
 		for i, client := range keys[:2] {
-			config := &noise.Config{Pattern: name, Prologue: []byte("live"), Static: client, PSKs: [][]byte{secretOf(i)}}
+			config := &noise.Config{Pattern: name, Prologue: []byte("live"), Static: client, PSKs: []noise.Key{pskOfClient(i)}}
 			if strings.HasPrefix(name, "IK") {
-				config.PeerStatic = public[:]
+				config.PeerStatic = &public
 			}
 			words := []string{name, fmt.Sprintf("%x", server.Secret()), fmt.Sprintf("%x", client.Public()), table, "@127.0.0.1:0"}
 			t.Run(fmt.Sprintf("%s/%d/true", name, i), func(t *testing.T) { toRust(t, exec.Command(program, words...), config, false) })
-			words = []string{name, fmt.Sprintf("%x", client.Secret()), fmt.Sprintf("%x", public), fmt.Sprintf("%x", secretOf(i))}
+			words = []string{name, fmt.Sprintf("%x", client.Secret()), fmt.Sprintf("%x", public), fmt.Sprintf("%x", pskOfClient(i))}
 			t.Run(fmt.Sprintf("%s/%d/false", name, i), func(t *testing.T) { fromRust(t, program, words, chooser(server, name, keys[:2]), false) })
 		}
 	}

@@ -1,16 +1,16 @@
-module example.org/noise/nettest
+module example.org/yulimosar/noise/nettest
 
 go 1.19
 
 require (
-	example.org/noise v0.0.0
+	example.org/yulimosar/noise v1.0.0
 	golang.org/x/net v0.7.0
 )
 
 require golang.org/x/crypto v0.4.0 // indirect
 
 replace (
-	example.org/noise => ../
+	example.org/yulimosar/noise => ../
 	golang.org/x/crypto => /usr/share/gocode/src/golang.org/x/crypto
 	golang.org/x/net => /usr/share/gocode/src/golang.org/x/net
 )

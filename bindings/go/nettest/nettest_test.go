@@ -5,7 +5,7 @@ import (
 	"net"
 	"testing"
 
-	"example.org/noise"
+	"example.org/yulimosar/noise"
 	"golang.org/x/net/nettest"
 )
 

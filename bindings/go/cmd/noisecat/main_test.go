@@ -28,11 +28,7 @@ func TestMain(m *testing.M) {
 		}
 		defer os.RemoveAll(room)
 		program = filepath.Join(room, "noisecat")
-		args := []string{"build", "-o", program}
-		if tags := os.Getenv("NOISE_TAGS"); tags != "" {
-			args = append(args, "-tags", tags)
-		}
-		if out, err := exec.Command("go", append(args, ".")...).CombinedOutput(); err != nil {
+		if out, err := exec.Command("go", "build", "-o", program, ".").CombinedOutput(); err != nil {
 			os.Stderr.Write(out)
 			return 1
 		}
@@ -51,18 +47,14 @@ func built(t *testing.T) (string, func(...string) *exec.Cmd) {
 	}
 }
 
-// keyFile makes a key, and returns its public half.
-func keyFile(t *testing.T, name string, cmd *exec.Cmd) string {
+// keyFile makes a key, and returns its public key.
+func keyFile(t *testing.T, name string, cat func(...string) *exec.Cmd) string {
 	t.Helper()
-	var secret, public bytes.Buffer
-	cmd.Stdout, cmd.Stderr = &secret, &public
-	if err := cmd.Run(); err != nil {
+	public, err := cat("keygen", "-o", name).Output()
+	if err != nil {
 		t.Fatal(err)
 	}
-	if err := os.WriteFile(name, secret.Bytes(), 0o600); err != nil {
-		t.Fatal(err)
-	}
-	return strings.TrimSpace(strings.TrimPrefix(public.String(), "public key: "))
+	return strings.TrimSpace(string(public))
 }
 
 // side is one process: its standard input, where its output goes, what it has written to standard error, and its status.
@@ -73,11 +65,20 @@ type side struct {
 	status int
 }
 
-// run2 runs a server at a free port, and then a client for that address.
-func run2(t *testing.T, server *exec.Cmd, client func(address string) *exec.Cmd, ends *[2]side) {
+// listener is a running server at a free port.
+type listener struct {
+	cmd     *exec.Cmd
+	address string
+	end     *side
+	lines   chan string   // what it says on standard error
+	gone    chan struct{} // closed once standard error is
+}
+
+// listen starts a server, and waits for its address.
+func listen(t *testing.T, server *exec.Cmd, end *side) *listener {
 	t.Helper()
 	server.Args = append(server.Args, "-listen", "127.0.0.1:0")
-	server.Stdin, server.Stdout = ends[0].in, ends[0].out
+	server.Stdin, server.Stdout = end.in, end.out
 	said, err := server.StderrPipe()
 	if err != nil {
 		t.Fatal(err)
@@ -85,24 +86,66 @@ func run2(t *testing.T, server *exec.Cmd, client func(address string) *exec.Cmd,
 	if err := server.Start(); err != nil {
 		t.Fatal(err)
 	}
+	t.Cleanup(func() { server.Process.Kill() })
 	lines := bufio.NewReader(said)
 	line, _ := lines.ReadString('\n')
-	address := strings.TrimSpace(strings.TrimPrefix(line, "listening on "))
-	read := make(chan struct{})
-	go func() { io.Copy(&ends[0].said, lines); close(read) }()
-	cmd := client(address)
-	cmd.Stdin, cmd.Stdout, cmd.Stderr = ends[1].in, ends[1].out, &ends[1].said
+	l := &listener{server, strings.TrimSpace(strings.TrimPrefix(line, "listening on ")), end, make(chan string, 1000), make(chan struct{})}
+	go func() {
+		defer close(l.gone)
+		for {
+			line, err := lines.ReadString('\n')
+			if end.said.WriteString(line); err != nil {
+				return
+			}
+			l.lines <- line
+		}
+	}()
+	return l
+}
+
+// wait waits for the end of the server.
+func (l *listener) wait() {
+	<-l.gone
+	l.cmd.Wait()
+	l.end.status = l.cmd.ProcessState.ExitCode()
+}
+
+// says waits for a line with these words.
+func (l *listener) says(t *testing.T, words string) {
+	t.Helper()
+	for {
+		select {
+		case line := <-l.lines:
+			if strings.Contains(line, words) {
+				return
+			}
+			t.Errorf("the listener says %q, not %q", line, words)
+		case <-time.After(30 * time.Second):
+			t.Fatalf("the listener doesn't say %q", words)
+		}
+	}
+}
+
+// client runs a client.
+func client(cmd *exec.Cmd, end *side) {
+	cmd.Stdin, cmd.Stdout, cmd.Stderr = end.in, end.out, &end.said
 	cmd.Run()
-	<-read
-	server.Wait()
-	ends[0].status, ends[1].status = server.ProcessState.ExitCode(), cmd.ProcessState.ExitCode()
+	end.status = cmd.ProcessState.ExitCode()
+}
+
+// run2 runs a server at a free port, and then a client for that address.
+func run2(t *testing.T, server *exec.Cmd, connect func(address string) *exec.Cmd, ends *[2]side) {
+	t.Helper()
+	l := listen(t, server, &ends[0])
+	client(connect(l.address), &ends[1])
+	l.wait()
 }
 
 // pair returns the command, the public keys of the files s and c in its folder, and a client that expects this key of the server.
 func pair(t *testing.T) (cat func(...string) *exec.Cmd, server, client string, to func(peer string) func(string) *exec.Cmd) {
 	t.Helper()
-	room, cat := built(t)
-	server, client = keyFile(t, room+"/s", cat("keygen")), keyFile(t, room+"/c", cat("keygen"))
+	_, cat = built(t)
+	server, client = keyFile(t, "s", cat), keyFile(t, "c", cat)
 	to = func(peer string) func(string) *exec.Cmd {
 		return func(address string) *exec.Cmd { return cat("-connect", address, "-key", "c", "-peer", peer) }
 	}
@@ -147,15 +190,6 @@ func TestFile(t *testing.T) {
 	t.Logf("%d MB each way at once in %.1f s: %.0f MB/s", count>>20, took.Seconds(), float64(2*count>>20)/took.Seconds())
 }
 
-func TestVerbose(t *testing.T) {
-	cat, server, client, to := pair(t)
-	var ends [2]side
-	run2(t, cat("-key", "s", "-allow", client, "-v"), to(server), &ends)
-	if said := ends[0].said.String(); !strings.Contains(said, "handshake hash: ") || !strings.Contains(said, "peer's key: "+client) {
-		t.Error("-v doesn't show the hash and the key")
-	}
-}
-
 // refused looks for status 1, and a sentence with these words.
 func refused(t *testing.T, end *side, words string) {
 	t.Helper()
@@ -165,80 +199,298 @@ func refused(t *testing.T, end *side, words string) {
 	}
 }
 
-func TestOtherKeys(t *testing.T) {
+func TestVerbose(t *testing.T) {
 	cat, server, client, to := pair(t)
-	for _, it := range []struct {
-		allow, peer, more string
-		end               int
-		words             string
-	}{
-		{server, server, "", 0, "isn't allowed: " + client},
-		{client, client, "", 1, "another static key"},
-		{client, server, "-prologue=other", 1, "another key, secret, pattern or prologue"},
-		{client, server, "-pattern=IK", 1, "another key, secret, pattern or prologue"},
-	} {
-		var ends [2]side
-		run2(t, cat("-key", "s", "-allow", it.allow), func(address string) *exec.Cmd {
-			cmd := to(it.peer)(address)
-			if it.more != "" {
-				cmd.Args = append(cmd.Args, it.more)
-			}
-			return cmd
-		}, &ends)
-		refused(t, &ends[it.end], it.words)
-		refused(t, &ends[1-it.end], "")
+	var ends [2]side
+	run2(t, cat("-key", "s", "-allow", client, "-v"), to(server), &ends)
+	if said := ends[0].said.String(); !strings.Contains(said, "handshake hash: ") || !strings.Contains(said, "peer's key: "+client) {
+		t.Error("-v doesn't show the hash and the key")
 	}
 }
 
-// TestSecrets gives the two ends one file with a secret, and then two files with different ones.
-func TestSecrets(t *testing.T) {
-	room, cat := built(t)
-	secret := func(name string) { keyFile(t, filepath.Join(room, name), cat("keygen")) }
-	secret("one")
-	secret("other")
-	run := func(psk string) (ends [2]side) {
-		ends[1].in = strings.NewReader("hello")
-		came := new(strings.Builder)
-		ends[0].out = came
-		run2(t, cat("-pattern", "NNpsk2", "-psk", "one"), func(address string) *exec.Cmd {
-			return cat("-connect", address, "-pattern", "NNpsk2", "-psk", psk)
-		}, &ends)
-		if got := came.String(); ends[0].status == 0 && got != "hello" || ends[0].status != 0 && got != "" {
-			t.Errorf("the server prints %q", got)
-		}
-		return ends
+// TestListenerGoesOn has clients that are refused, refuse, differ, are silent and send what is no handshake, and then one that is accepted.
+func TestListenerGoesOn(t *testing.T) {
+	cat, server, own, to := pair(t)
+	other := keyFile(t, "other", cat)
+	var ends [2]side
+	ends[1].in = strings.NewReader("hello")
+	came := new(strings.Builder)
+	ends[0].out = came
+	l := listen(t, cat("-key", "s", "-allow", own, "-timeout", "2s"), &ends[0])
+	quiet, err := net.Dial("tcp", l.address)
+	if err != nil {
+		t.Fatal(err)
 	}
-	if ends := run("one"); ends[0].status != 0 || ends[1].status != 0 {
+	defer quiet.Close()
+	l.says(t, quiet.LocalAddr().String()+": the handshake took too long")
+	noisy, err := net.Dial("tcp", l.address)
+	if err != nil {
+		t.Fatal(err)
+	}
+	defer noisy.Close()
+	io.WriteString(noisy, "GET / HTTP/1.0\r\n\r\n")
+	l.says(t, noisy.LocalAddr().String()+": message 1: the message would be too long")
+	for _, it := range []struct{ key, peer, more, client, server string }{
+		{"other", server, "", "", "message 3, token s: the other end's key isn't allowed: " + other},
+		{"c", own, "", "message 2, token s: the other party has another static key", "message 3: the connection was cut"},
+		{"c", server, "-prologue=other", "message 2, token s: a tag is wrong: the message was changed, or the parties differ in the pattern or the prologue", "message 3: "},
+		{"c", server, "-pattern=IK", "message 2, payload: a tag is wrong: the message was changed, or the parties differ in the pattern", "message 3: "},
+	} {
+		var refusing side
+		words := []string{"-connect", l.address, "-key", it.key, "-peer", it.peer}
+		if it.more != "" {
+			words = append(words, it.more)
+		}
+		client(cat(words...), &refusing)
+		refused(t, &refusing, it.client)
+		l.says(t, ": "+it.server)
+	}
+	client(to(server)(l.address), &ends[1])
+	l.wait()
+	if ends[0].status != 0 || ends[1].status != 0 || came.String() != "hello" {
+		t.Errorf("status %d and %d, %q: %s", ends[0].status, ends[1].status, came, ends[1].said.String())
+	}
+}
+
+// TestSilentStrangers lets more of them connect than there are handshakes at once.
+func TestSilentStrangers(t *testing.T) {
+	cat, server, own, to := pair(t)
+	var ends [2]side
+	l := listen(t, cat("-key", "s", "-allow", own, "-timeout", "3s"), &ends[0])
+	for i := 0; i < 70; i++ {
+		quiet, err := net.Dial("tcp", l.address)
+		if err != nil {
+			t.Fatal(err)
+		}
+		defer quiet.Close()
+	}
+	client(to(server)(l.address), &ends[1])
+	l.wait()
+	if ends[0].status != 0 || ends[1].status != 0 {
+		t.Errorf("status %d and %d: %s", ends[0].status, ends[1].status, ends[1].said.String())
+	}
+}
+
+// TestKeep has one client after another, of which one is cut off.
+func TestKeep(t *testing.T) {
+	cat, server, own, to := pair(t)
+	var listening side
+	listening.in = strings.NewReader("isn't sent")
+	read, written, err := os.Pipe()
+	if err != nil {
+		t.Fatal(err)
+	}
+	defer read.Close()
+	listening.out = written
+	l := listen(t, cat("-key", "s", "-allow", own, "-keep"), &listening)
+	written.Close()
+	out := bufio.NewReader(read)
+	for _, text := range []string{"one\n", "two\n", "three\n"} {
+		var end side
+		var came strings.Builder
+		end.in, end.out = strings.NewReader(text), &came
+		client(to(server)(l.address), &end)
+		if got, _ := out.ReadString('\n'); got != text || end.status != 0 || came.Len() != 0 {
+			t.Errorf("%q in the place of %q, status %d: %s", got, text, end.status, end.said.String())
+		}
+		if text == "two\n" {
+			cut(t, to(server)(l.address))
+			l.says(t, "the connection was cut before the other end had sent all")
+		}
+	}
+}
+
+// cut runs a client whose input doesn't end, and kills it once its handshake is done.
+func cut(t *testing.T, cmd *exec.Cmd) {
+	t.Helper()
+	in, err := cmd.StdinPipe()
+	if err != nil {
+		t.Fatal(err)
+	}
+	defer in.Close()
+	cmd.Args = append(cmd.Args, "-v")
+	said, err := cmd.StderrPipe()
+	if err != nil {
+		t.Fatal(err)
+	}
+	if err := cmd.Start(); err != nil {
+		t.Fatal(err)
+	}
+	for lines := bufio.NewScanner(said); lines.Scan(); {
+		if strings.HasPrefix(lines.Text(), "peer's key: ") {
+			break
+		}
+	}
+	cmd.Process.Kill()
+	cmd.Wait()
+}
+
+// TestFilter has a program behind the listener that answers once it has read all.
+func TestFilter(t *testing.T) {
+	cat, server, own, to := pair(t)
+	in, answers, err := os.Pipe()
+	if err != nil {
+		t.Fatal(err)
+	}
+	questions, out, err := os.Pipe()
+	if err != nil {
+		t.Fatal(err)
+	}
+	var ends [2]side
+	ends[0].in, ends[0].out = in, out
+	l := listen(t, cat("-key", "s", "-allow", own), &ends[0])
+	in.Close()
+	out.Close()
+	go func() {
+		defer answers.Close()
+		all, _ := io.ReadAll(questions)
+		answers.Write(bytes.ToUpper(all))
+	}()
+	var came strings.Builder
+	ends[1].in, ends[1].out = strings.NewReader("a question"), &came
+	client(to(server)(l.address), &ends[1])
+	l.wait()
+	if ends[0].status != 0 || ends[1].status != 0 || came.String() != "A QUESTION" {
+		t.Errorf("status %d and %d, %q: %s", ends[0].status, ends[1].status, came.String(), ends[1].said.String())
+	}
+}
+
+// TestPSKs gives the two ends one file with a psk, and then two files with different ones.
+func TestPSKs(t *testing.T) {
+	_, cat := built(t)
+	keyFile(t, "one", cat)
+	keyFile(t, "other", cat)
+	var ends [2]side
+	came := new(strings.Builder)
+	ends[0].out, ends[1].in = came, strings.NewReader("hello")
+	l := listen(t, cat("-pattern", "NNpsk2", "-psk", "one"), &ends[0])
+	to := func(psk string) *exec.Cmd { return cat("-connect", l.address, "-pattern", "NNpsk2", "-psk", psk) }
+	var refusing side
+	client(to("other"), &refusing)
+	refused(t, &refusing, "message 2, payload: a tag is wrong: the message was changed, or the parties differ in the pattern, the prologue or a psk")
+	l.says(t, "the connection was cut before the other end had sent all")
+	l.wait() // its handshake has ended well: it wrote the last message
+	if ends[0].status != 1 || came.Len() != 0 {
+		t.Errorf("status %d, %q", ends[0].status, came)
+	}
+	l = listen(t, cat("-pattern", "NNpsk2", "-psk", "one"), &ends[0])
+	client(to("one"), &ends[1])
+	l.wait()
+	if ends[0].status != 0 || ends[1].status != 0 || came.String() != "hello" {
 		t.Error(ends[0].said.String(), ends[1].said.String())
 	}
-	ends := run("other")
-	refused(t, &ends[1], "another key, secret, pattern or prologue")
-	refused(t, &ends[0], "the connection was cut")
 }
 
-// TestOptions looks for faults that are found before anything is sent.
+// TestOptions looks for faults that are found before anything is sent: status 2 after wrong words, 1 for a file.
 func TestOptions(t *testing.T) {
 	room, cat := built(t)
-	keyFile(t, filepath.Join(room, "k"), cat("keygen"))
+	keyFile(t, "k", cat)
 	if err := os.WriteFile(filepath.Join(room, "short"), []byte("12\n"), 0o600); err != nil {
 		t.Fatal(err)
 	}
 	for words, args := range map[string]string{
-		"-peer: not 64 hex digits":                   "-connect 127.0.0.1:1 -key k -peer 12",
-		"short: not 64 hex digits":                   "-connect 127.0.0.1:1 -pattern NNpsk0 -psk short",
-		"open none: no such file":                    "-listen 127.0.0.1:0 -pattern NNpsk0 -psk none",
-		"Config.PSKs: noise: the number of secrets":  "-listen 127.0.0.1:0 -pattern NNpsk0 -psk k,k",
-		"Config.PSKs: noise: the number of secrets ": "-listen 127.0.0.1:0 -pattern NNpsk0 -insecure-any",
-		"Config.Static: noise: the pattern needs":    "-listen 127.0.0.1:0 -insecure-any",
-		"Config.VerifyPeer":                          "-listen 127.0.0.1:0 -key k",
-		"Config.Pattern: noise: not the name":        "-listen 127.0.0.1:0 -key k -pattern XXpsk7 -insecure-any",
+		"2 -peer: a key has 64 hexadecimal digits":                  "-connect 127.0.0.1:1 -key k -peer 12",
+		"2 -allow: a key has 64 hexadecimal digits":                 "-listen 127.0.0.1:0 -key k -allow k",
+		"1 a key has 64 hexadecimal digits: short":                  "-connect 127.0.0.1:1 -pattern NNpsk0 -psk short",
+		"1 a key has 64 hexadecimal digits:  short":                 "-connect 127.0.0.1:1 -key short -insecure-any",
+		"1 open none: no such file":                                 "-listen 127.0.0.1:0 -pattern NNpsk0 -psk none",
+		"2 -psk: the number of psks isn't":                          "-listen 127.0.0.1:0 -pattern NNpsk0 -psk k,k",
+		"2 -psk: the number of psks isn't the number of psk tokens": "-listen 127.0.0.1:0 -pattern NNpsk0 -insecure-any",
+		"2 -key: the pattern needs a static key of this party":      "-listen 127.0.0.1:0 -insecure-any",
+		"2 -peer: the pattern needs the other party's":              "-connect 127.0.0.1:1 -pattern NK -insecure-any",
+		"2 nothing says who may be the other end: name it by -peer": "-listen 127.0.0.1:0 -key k",
+		"2 -pattern: not the name":                                  "-listen 127.0.0.1:0 -key k -pattern XXpsk7 -insecure-any",
+		"2 flag provided but not defined: -what":                    "-listen 127.0.0.1:0 -what",
+		"2 invalid value":                                           "-listen 127.0.0.1:0 -interval x",
+		"2 one word too many: word":                                 "-listen 127.0.0.1:0 -key k -insecure-any word",
+		"2 name either -listen or -connect":                         "-key k",
+		"2 name either -listen or -connect: noisecat -h":            "-listen 127.0.0.1:0 -connect 127.0.0.1:1",
+		"2 -keep is for -listen":                                    "-connect 127.0.0.1:1 -keep -insecure-any",
+		"2 one word too many: now":                                  "keygen now",
+		"2 one word too many:  now":                                 "pubkey now",
+		"2 flag provided but not defined: -x":                       "keygen -x",
+		"1 standard input: a key has 64 hexadecimal digits":         "pubkey",
+		"1 open k: file exists":                                     "keygen -o k",
 	} {
+		words, want := strings.ReplaceAll(words[2:], ":  ", ": "), int(words[0]-'0')
 		var end side
-		cmd := cat(strings.Fields(args)...)
-		cmd.Stderr = &end.said
-		cmd.Run()
-		end.status = cmd.ProcessState.ExitCode()
-		refused(t, &end, words)
+		client(cat(strings.Fields(args)...), &end)
+		said := end.said.String()
+		if end.status != want || !strings.HasPrefix(said, "noisecat: ") || !strings.Contains(said, words) || strings.Count(said, "\n") != 1 {
+			t.Errorf("%s: status %d, want %d and %q: %s", args, end.status, want, words, said)
+		}
+	}
+}
+
+// TestKeys makes keys, looks at their files, and prints their public keys.
+func TestKeys(t *testing.T) {
+	room, cat := built(t)
+	public := keyFile(t, "k", cat)
+	name := filepath.Join(room, "k")
+	info, err := os.Stat(name)
+	if err != nil {
+		t.Fatal(err)
+	}
+	if info.Mode() != 0o600 {
+		t.Errorf("mode %v", info.Mode())
+	}
+	kept, err := os.ReadFile(name)
+	if err != nil {
+		t.Fatal(err)
+	}
+	cat("keygen", "-o", "k").Run()
+	if again, err := os.ReadFile(name); err != nil || !bytes.Equal(again, kept) {
+		t.Error("a key was overwritten")
+	}
+	cmd := cat("pubkey")
+	cmd.Stdin = bytes.NewReader(kept)
+	if got, err := cmd.Output(); err != nil || string(got) != public+"\n" {
+		t.Errorf("%q, %v, want %s", got, err, public)
+	}
+	for digits, want := range map[string]string{ // the second is Alice's of RFC 7748, 6.1
+		"77076d0a7318a57d 3c16c17251b26645df4c2f87ebc0992ab177fba51db92c2a":  "",
+		"77076d0a7318a57d3c16c17251b26645df4c2f87ebc0992ab177fba51db92c2a\n": "8520f0098930a754748b7ddcb43ef75a0dbf3a0d26381af4eba4a98eaa9b4e6a\n",
+	} {
+		cmd = cat("pubkey")
+		cmd.Stdin = strings.NewReader(digits)
+		if got, err := cmd.Output(); string(got) != want || (err == nil) != (want != "") {
+			t.Errorf("%q, %v, want %q", got, err, want)
+		}
+	}
+	for _, words := range []string{"keygen -h", "keygen -help", "-h", "-version"} {
+		got, err := cat(strings.Fields(words)...).Output()
+		if err != nil || words == "-version" != (string(got) == "noisecat 1.0.0\n") || words != "-version" && !strings.HasPrefix(string(got), "usage: noisecat") {
+			t.Errorf("%s: %v, %q", words, err, got)
+		}
+	}
+	got, _ := cat("-h").Output()
+	for _, word := range strings.Fields("keygen pubkey -o -listen -connect -key -allow -peer -psk -pattern -prologue -interval -insecure-any -keep -timeout -v -version") {
+		if !bytes.Contains(got, []byte(word)) {
+			t.Errorf("the usage lacks %s", word)
+		}
+	}
+	if names, err := os.ReadDir(room); err != nil || len(names) != 1 {
+		t.Errorf("%v, %v", names, err)
+	}
+}
+
+// TestKeyThatOthersCanRead looks for a warning.
+func TestKeyThatOthersCanRead(t *testing.T) {
+	cat, server, own, to := pair(t)
+	var ends [2]side
+	for name, mode := range map[string]os.FileMode{"s": 0o640, "c": 0o604} {
+		if err := os.Chmod(filepath.Join(cat().Dir, name), mode); err != nil {
+			t.Fatal(err)
+		}
+	}
+	run := cat("-key", "s", "-allow", own)
+	run.Args = append(run.Args, "-listen", "127.0.0.1:1x")
+	client(run, &ends[0])
+	client(to(server)("127.0.0.1:1x"), &ends[1])
+	for i, want := range []string{"warning: others can read s (mode 0640): chmod 600 s\n", "warning: others can read c (mode 0604): chmod 600 c\n"} {
+		if said := ends[i].said.String(); !strings.Contains(said, want) {
+			t.Errorf("%q, want %q", said, want)
+		}
 	}
 }
 

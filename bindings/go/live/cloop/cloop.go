@@ -1,6 +1,10 @@
 // Package cloop calls the library from a loop in C: what a message costs without Go.
 package cloop
 
+// The library is in the package, with which a program that imports this one is linked.
+
+// #cgo CFLAGS: -O2 -I${SRCDIR}/../..
+// #cgo linux LDFLAGS: -Wl,--unresolved-symbols=ignore-all
 // #include "noise.h"
 //
 // static noise_sender sending, not_sending;
@@ -44,6 +48,8 @@ package cloop
 //     return 1;
 // }
 import "C"
+
+import _ "example.org/yulimosar/noise" // the library
 
 // Start passes a handshake at both ends.
 func Start() bool { return C.start() != 0 }

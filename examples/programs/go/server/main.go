@@ -1,29 +1,31 @@
-// The responder: it takes connections on 127.0.0.1, port 4042, says which client it is, and sends its text back.
+// The responder: it takes connections on 127.0.0.1, port 4042, says which client it is, and sends its text back. It keeps its key in the file server.key.
 package main
 
 import (
 	"context"
+	"errors"
 	"fmt"
 	"io"
+	"io/fs"
 	"log"
-	"net"
 	"os"
+	"time"
 
-	"example.org/noise"
+	"example.org/yulimosar/noise"
 )
 
 func main() {
-	key, err := noise.GenerateKeyPair() // a server that lives longer keeps key.Secret() in a file
+	key, err := keptKey("server.key")
 	if err != nil {
 		log.Fatal(err)
 	}
-	public := key.Public()
-	if err := os.WriteFile("server.public", public[:], 0o644); err != nil { // the client gets it by a way that nobody else can write to
+	public := fmt.Sprintf("%x\n", key.Public())
+	if err := os.WriteFile("server.public", []byte(public), 0o644); err != nil { // the client gets it by a way that nobody else can write to
 		log.Fatal(err)
 	}
 	listener, err := noise.Listen("tcp", "127.0.0.1:4042", &noise.Config{
-		Pattern: "XX", Prologue: []byte("example channel 1"), Static: key, Interval: 1000,
-		VerifyPeer: func(_ context.Context, peer [noise.KeyLen]byte) error {
+		Pattern: "XX", Prologue: []byte("example channel 1"), Static: key, Interval: 1000, ErrorLog: log.Default(),
+		VerifyPeer: func(_ context.Context, peer noise.Key) error {
 			fmt.Printf("server: a client with the key %x\n", peer)
 			return nil // a server that lets in only some looks the key up here
 		},
@@ -36,13 +38,29 @@ func main() {
 		if err != nil {
 			log.Fatal(err)
 		}
-		go serve(conn)
+		go serve(conn.(*noise.Conn))
 	}
 }
 
-func serve(conn net.Conn) {
-	defer conn.Close()
-	if _, err := io.Copy(conn, conn); err != nil {
-		log.Print(err)
+// keptKey returns the key of a file, which it makes at the first start.
+func keptKey(file string) (*noise.KeyPair, error) {
+	key, err := noise.LoadKeyPair(file)
+	if !errors.Is(err, fs.ErrNotExist) {
+		return key, err
 	}
+	if key, err = noise.GenerateKeyPair(); err != nil {
+		return nil, err
+	}
+	return key, os.WriteFile(file, []byte(fmt.Sprintf("%x\n", key.Secret())), 0o600)
+}
+
+// serve sends back what it reads. If not all came, the client gets no end of the stream either.
+func serve(conn *noise.Conn) {
+	conn.SetDeadline(time.Now().Add(time.Minute))
+	if _, err := io.Copy(conn, conn); err != nil {
+		log.Printf("%v: %v", conn.RemoteAddr(), err)
+		conn.Abort()
+		return
+	}
+	conn.Close()
 }

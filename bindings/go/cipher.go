@@ -1,0 +1,107 @@
+package noise
+
+// #include "noise.h"
+import "C"
+
+import "sync"
+
+// CipherState is one direction's key and nonce (the framework's 5.1), for a protocol whose packets have associated data, name their nonces or have a form of
+// their own. HandshakeState.CipherStates makes two, one to send and one to receive, at nonce 0. Any goroutine may call it; of a one-way pattern, the one for
+// the responder's messages has no key: each call returns ErrOneWay.
+type CipherState struct {
+	mutex    sync.Mutex
+	memory   cipherMemory
+	receives bool
+	closed   bool
+	spare    []byte // a copy of the associated data, if it is where the message goes
+}
+
+// Encrypt appends the message of a plaintext to dst, with this associated data (EncryptWithAd): 16 bytes longer than the plaintext, which has at most 65519;
+// neither the data nor the nonce is in it. The next nonce is one greater. It allocates no memory if dst has room; dst may be plaintext[:0]. At an error
+// nothing changes: ErrTooLong, ErrLength if the data has more than 65535 bytes, ErrOneWay, ErrExhausted, ErrDirection, ErrClosed.
+func (c *CipherState) Encrypt(dst, ad, plaintext []byte) ([]byte, error) {
+	c.mutex.Lock()
+	defer c.mutex.Unlock()
+	switch {
+	case c.closed:
+		return dst, ErrClosed
+	case c.receives:
+		return dst, ErrDirection
+	case len(plaintext) > MaxMessage-TagLen:
+		return dst, ErrTooLong
+	}
+	whole, room := grown(dst, len(plaintext)+TagLen)
+	ad = apart(room, ad, &c.spare)
+	copy(room, plaintext)
+	m := &c.memory
+	code := C.noise_cipher_encrypt(&m.kept, place(ad), C.size_t(len(ad)), place(room), C.size_t(len(room)), C.size_t(len(plaintext)), &m.told)
+	if code != C.NOISE_OK {
+		return dst, Code(code)
+	}
+	return whole, nil
+}
+
+// Decrypt appends the plaintext of a message to dst (DecryptWithAd); dst may be message[:0]. The next nonce is one greater. It allocates no memory if dst has
+// room for the message. At an error nothing changes: ErrTag, ErrShort, ErrTooLong, ErrLength, ErrOneWay, ErrExhausted, ErrDirection, ErrClosed.
+func (c *CipherState) Decrypt(dst, ad, message []byte) ([]byte, error) {
+	c.mutex.Lock()
+	defer c.mutex.Unlock()
+	switch {
+	case c.closed:
+		return dst, ErrClosed
+	case !c.receives:
+		return dst, ErrDirection
+	case len(message) > MaxMessage:
+		return dst, ErrTooLong
+	}
+	whole, room := grown(dst, len(message))
+	ad = apart(room, ad, &c.spare)
+	copy(room, message)
+	m := &c.memory
+	code := C.noise_cipher_decrypt(&m.kept, place(ad), C.size_t(len(ad)), place(room), C.size_t(len(room)), &m.told)
+	if code != C.NOISE_OK {
+		return dst, Code(code)
+	}
+	return whole[:len(dst)+int(m.told.len)], nil
+}
+
+// Nonce returns the nonce of the next message; 0 after Close, and if there is no key.
+func (c *CipherState) Nonce() uint64 {
+	c.mutex.Lock()
+	defer c.mutex.Unlock()
+	if c.closed || C.noise_cipher_nonce(&c.memory.kept, &c.memory.nonce) != C.NOISE_OK {
+		return 0
+	}
+	return uint64(c.memory.nonce)
+}
+
+// SetNonce sets the nonce of the next message (the framework's 11.4). Who encrypts must never set it back: whoever sees two messages of one nonce learns the
+// xor of their plaintexts, and can forge messages of that nonce. Who decrypts has to refuse what came before. ErrOneWay, ErrClosed.
+func (c *CipherState) SetNonce(nonce uint64) error {
+	c.mutex.Lock()
+	defer c.mutex.Unlock()
+	if c.closed {
+		return ErrClosed
+	}
+	return asError(uint32(C.noise_cipher_set_nonce(&c.memory.kept, C.uint64_t(nonce))))
+}
+
+// Rekey replaces the key by the one that follows from it, and keeps the nonce (the framework's 11.3). ErrOneWay, ErrClosed.
+func (c *CipherState) Rekey() error {
+	c.mutex.Lock()
+	defer c.mutex.Unlock()
+	if c.closed {
+		return ErrClosed
+	}
+	return asError(uint32(C.noise_cipher_rekey(&c.memory.kept)))
+}
+
+// Close overwrites the key. Later calls return ErrClosed.
+func (c *CipherState) Close() error {
+	c.mutex.Lock()
+	defer c.mutex.Unlock()
+	c.closed = true
+	c.memory.wipe()
+	wipe(c.spare)
+	return nil
+}

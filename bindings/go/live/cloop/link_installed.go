@@ -1,6 +1,0 @@
-//go:build !noise_inplace
-
-package cloop
-
-// #cgo pkg-config: noise_c
-import "C"
