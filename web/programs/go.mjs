@@ -18,8 +18,8 @@ function keys({ has, psks }) {
     has.initiator && draw('clientKey'),
     has.responder && draw('serverKey'),
     psks > 0 && [
-      `\tpsks := make([][]byte, ${psks}) // in the order of the psk tokens`, '\tfor i := range psks {', '\t\tpsks[i] = make([]byte, noise.KeyLen)',
-      '\t\t_, err := rand.Read(psks[i])', '\t\tmust(err)', '\t}',
+      `\tpsks := make([]noise.Key, ${psks}) // in the order of the psk tokens`, '\tfor i := range psks {',
+      '\t\t_, err := rand.Read(psks[i][:])', '\t\tmust(err)', '\t}',
     ],
   );
 }
@@ -64,9 +64,9 @@ const DATAGRAMS = (window) => lines(
   '\t\tmust(err)',
   '\t\twriter, reader = reader, writer',
   '\t}',
-  `\tsending, err := initiator.Datagrams(${window})`,
+  `\tsending, _, err := initiator.Datagrams(${window})`,
   '\tmust(err)',
-  `\treceiving, err := responder.Datagrams(${window})`,
+  `\t_, receiving, err := responder.Datagrams(${window})`,
   '\tmust(err)',
   '\tdatagram, err := sending.Seal(nil, []byte("hello"))',
   '\tmust(err)',
@@ -79,7 +79,7 @@ export function go(facts) {
   const { section, name, isNamed, prologue, psks, has, isDatagrams, interval, window, oneWay, knowsEphemeral } = facts;
   if (knowsEphemeral.initiator || knowsEphemeral.responder) return `// ${section} has an ephemeral key before "...", which the package for Go has no field for. Take the program in C.\n`;
   const text = isNamed ? `"${section}"` : facts.lines.map((line) => `"${line}\\n"`).join(' +\n\t');
-  const imports = lines(psks > 0 && '\t"crypto/rand"', '\t"fmt"', !isDatagrams && '\t"io"', '\t"log"', !isDatagrams && '\t"net"', '', '\t"example.org/noise"');
+  const imports = lines(psks > 0 && '\t"crypto/rand"', '\t"fmt"', !isDatagrams && '\t"io"', '\t"log"', !isDatagrams && '\t"net"', '', '\t"example.org/yulimosar/noise"');
   return lines(
     `// The pattern ${section}: both parties in one program, ${name}.go. docs/GO.md has the go.mod for it.`,
     'package main', '', 'import (', imports.trimEnd(), ')', '',
@@ -96,7 +96,7 @@ export function go(facts) {
     (config('initiator', facts) + config('responder', facts)).trimEnd() || undefined,
     (isDatagrams ? DATAGRAMS(window) : STREAM(oneWay)).trimEnd(),
     '}', '',
-    (has.initiator || has.responder) && ['func public(key *noise.KeyPair) []byte {', '\tbytes := key.Public()', '\treturn bytes[:]', '}', ''],
+    (has.initiator || has.responder) && ['func public(key *noise.KeyPair) *noise.Key {', '\tpublic := key.Public()', '\treturn &public', '}', ''],
     'func must(err error) {', '\tif err != nil {', '\t\tlog.Fatal(err)', '\t}', '}',
   );
 }
