@@ -80,7 +80,7 @@ func (c *Conn) fail(err error) {
 	c.came.drop()
 	c.closeBelow()
 	if c.config.ErrorLog != nil && err != net.ErrClosed {
-		c.config.ErrorLog.Printf("noise: handshake with %v: %v", c.conn.RemoteAddr(), err)
+		c.config.ErrorLog.Printf("noise: handshake with %v: %s", c.conn.RemoteAddr(), withoutName(err))
 	}
 }
 

@@ -61,6 +61,9 @@ func (c Code) Error() string {
 	return fmt.Sprintf("noise: code %d", uint32(c))
 }
 
+// withoutName returns the text of an error without the package's name.
+func withoutName(err error) string { return strings.TrimPrefix(err.Error(), "noise: ") }
+
 // asError returns nil for 0, which is no Code.
 func asError(code uint32) error {
 	if code == 0 {
@@ -123,7 +126,7 @@ func (e *HandshakeError) Error() string {
 	if e.differ != "" && e.Err == ErrTag {
 		return "noise: " + place + ": a tag is wrong: the message was changed, or the parties differ in " + e.differ
 	}
-	return "noise: " + place + ": " + strings.TrimPrefix(e.Err.Error(), "noise: ")
+	return "noise: " + place + ": " + withoutName(e.Err)
 }
 
 // Unwrap returns the cause.
@@ -151,7 +154,7 @@ func (e *ConfigError) Error() string {
 	if e.Field == "" {
 		return "noise: Config: " + e.Err.Error()
 	}
-	return "noise: Config." + e.Field + ": " + strings.TrimPrefix(e.Err.Error(), "noise: ")
+	return "noise: Config." + e.Field + ": " + withoutName(e.Err)
 }
 
 // Unwrap returns what is wrong with the field.

@@ -28,12 +28,12 @@ func Example() {
 	must(err)
 	clientKey, err := noise.GenerateKeyPair()
 	must(err)
-	serverPublic, clientPublic := serverKey.Public(), clientKey.Public()
+	serverPublic, known := serverKey.Public(), map[noise.Key]bool{clientKey.Public(): true}
 
 	listener, err := noise.Listen("tcp", "127.0.0.1:0", &noise.Config{
-		Pattern: "IK", Prologue: []byte("chat 1"), Static: serverKey,
+		Pattern: "IK", Prologue: []byte("chat 1"), Static: serverKey, ErrorLog: log.Default(),
 		VerifyPeer: func(_ context.Context, key noise.Key) error {
-			if key != clientPublic {
+			if !known[key] {
 				return errors.New("not on the list")
 			}
 			return nil
@@ -42,10 +42,18 @@ func Example() {
 	must(err)
 	defer listener.Close()
 	go func() {
-		conn, err := listener.Accept()
-		must(err)
-		defer conn.Close()
-		io.Copy(conn, conn) // an echo
+		for {
+			conn, err := listener.Accept()
+			if err != nil {
+				return
+			}
+			go func() {
+				defer conn.Close() // it ends the stream, so that the client knows that it has all
+				if _, err := io.Copy(conn, conn); err != nil {
+					conn.(*noise.Conn).Abort() // not all came: no end
+				}
+			}()
+		}
 	}()
 
 	conn, err := noise.Dial("tcp", listener.Addr().String(), &noise.Config{
@@ -55,7 +63,7 @@ func Example() {
 	defer conn.Close()
 	fmt.Fprint(conn, "hello")
 	must(conn.CloseWrite())
-	answer, err := io.ReadAll(conn)
+	answer, err := io.ReadAll(conn) // an answer that was cut is an error
 	fmt.Println(string(answer), err)
 	// Output: hello <nil>
 }

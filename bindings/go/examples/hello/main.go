@@ -1,4 +1,4 @@
-// Hello is an HTTP service that takes known clients alone, and its client: hello serve KEY_FILE CLIENT | hello get KEY_FILE SERVER.
+// Hello is an HTTP service for one client, whose key it knows, and that client.
 package main
 
 import (
@@ -30,7 +30,7 @@ func main() {
 }
 
 func serve(config *noise.Config) {
-	config.ErrorLog = log.Default()                                // a line for each handshake that fails, with the address
+	config.ErrorLog = log.Default()                                // a line for each handshake that fails
 	listener, err := noise.Listen("tcp", "127.0.0.1:9000", config) // a handshake may take 10 seconds
 	must(err)
 	server := http.Server{ReadTimeout: 10 * time.Second} // the handshake and a request together
