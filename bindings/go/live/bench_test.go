@@ -31,7 +31,7 @@ func BenchmarkConnect(b *testing.B) {
 	})
 }
 
-func ours(b *testing.B, pattern string) (client, server *noise.Config) {
+func ours(b testing.TB, pattern string) (client, server *noise.Config) {
 	one, err := noise.GenerateKeyPair()
 	must(b, err)
 	two, err := noise.GenerateKeyPair()
@@ -39,7 +39,7 @@ func ours(b *testing.B, pattern string) (client, server *noise.Config) {
 	return &noise.Config{Pattern: pattern, Static: one, InsecureAcceptAnyKey: true}, &noise.Config{Pattern: pattern, Static: two, InsecureAcceptAnyKey: true}
 }
 
-func connectOurs(b *testing.B, client, server *noise.Config) (*noise.Sender, *noise.Receiver) {
+func connectOurs(b testing.TB, client, server *noise.Config) (*noise.Sender, *noise.Receiver) {
 	writer, err := noise.NewHandshakeState(client, true)
 	must(b, err)
 	reader, err := noise.NewHandshakeState(server, false)
@@ -59,7 +59,7 @@ func connectOurs(b *testing.B, client, server *noise.Config) (*noise.Sender, *no
 	return sender, receiver
 }
 
-func connectFlynn(b *testing.B, client, server flynn.DHKey) (sealing, opening *flynn.CipherState) {
+func connectFlynn(b testing.TB, client, server flynn.DHKey) (sealing, opening *flynn.CipherState) {
 	config := flynn.Config{CipherSuite: suite, Pattern: flynn.HandshakeXX, Initiator: true, StaticKeypair: client}
 	writer, err := flynn.NewHandshakeState(config)
 	must(b, err)

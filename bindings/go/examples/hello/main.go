@@ -33,7 +33,7 @@ func serve(config *noise.Config) {
 	config.ErrorLog = log.Default()                                // a line for each handshake that fails
 	listener, err := noise.Listen("tcp", "127.0.0.1:9000", config) // a handshake may take 10 seconds
 	must(err)
-	server := http.Server{ReadTimeout: 10 * time.Second} // the handshake and a request together
+	server := http.Server{ReadTimeout: 20 * time.Second} // the handshake and a request together
 	server.ConnContext = func(ctx context.Context, conn net.Conn) context.Context {
 		return context.WithValue(ctx, config, conn)
 	}
