@@ -1,10 +1,11 @@
-// Package noise makes secure channels by the Noise Protocol Framework, revision 34, with 25519, ChaChaPoly and SHA256, over the static library
-// noise_c, whose calls are proved to do what the framework says.
+// Package noise makes secure channels by the Noise Protocol Framework, revision 34, with 25519, ChaChaPoly and SHA256, over a library whose
+// calls are proved to do what the framework says.
 //
-// [Client] and [Server] wrap a [net.Conn] in another one whose bytes are sealed, as crypto/tls does. Below them, [HandshakeState], [Sender], [Receiver]
-// and [Datagrams] take and append to byte slices, for programs that move the messages by other means.
+// [Listen] and [Dial], or [Client] and [Server] over any [net.Conn], make a net.Conn whose bytes are sealed, as crypto/tls does. Below them,
+// [HandshakeState], [Sender], [Receiver], [DatagramSender], [DatagramReceiver] and [CipherState] take and append to byte slices, for programs that move
+// the messages by other means.
 //
-// A [Config] has the pattern, the keys and the secrets, and says who may be the other party. A Config that would accept anybody is refused, unless
+// A [Config] has the pattern and the keys, and says who may be the other party. A Config that would accept anybody is refused, unless
 // InsecureAcceptAnyKey is set.
 //
 // # Frames, and the end of a stream
@@ -14,8 +15,8 @@
 // If the connection ends without it, Read returns [ErrCut]. After a refused message, or once the connection was lost, nothing more is written, and no end
 // is sent. The library makes and reads the frames, and decides what is an end.
 //
-// # The library
+// # Building
 //
-// The package is linked with noise_c as pkg-config finds it (packaging/install installs it). With the build tag noise_inplace it is linked with
-// crates/noise_c/out/libnoise_c.a of the repository that contains this package.
+// The library is in the package as assembly text, which gcc or clang turns into code: cgo is needed. With the build tag noise_installed the package is
+// linked with the library noise_c that pkg-config finds, in place of the text.
 package noise
