@@ -180,9 +180,12 @@ func TestWriteDeadline(t *testing.T) {
 		errC, errS := both(c, s)
 		must(t, errC, errS)
 		sent := bytes.Repeat([]byte("0123456789"), 20000)
-		c.SetWriteDeadline(time.Now().Add(20 * time.Millisecond))
-		n, err := c.Write(sent)
-		wants(t, err, os.ErrDeadlineExceeded)
+		n := 0
+		for wait := 20 * time.Millisecond; n == 0; wait *= 4 { // a slow machine seals nothing until the deadline
+			c.SetWriteDeadline(time.Now().Add(wait))
+			n, err = c.Write(sent)
+			wants(t, err, os.ErrDeadlineExceeded)
+		}
 		if n != MaxMessage-TagLen {
 			t.Errorf("%d bytes are sealed", n)
 		}
