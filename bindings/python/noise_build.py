@@ -1,0 +1,36 @@
+"""The extension yulimosar._noise by cffi: every call of src/noise.h, whose declarations are read from that file, and
+the library as the assembly text of src/assembly."""
+import re
+from pathlib import Path
+
+import cffi
+
+HEADER = Path(__file__).resolve().parent / "src" / "noise.h"
+INLINE = """
+#define NOISE_VERSION ...
+void noise_wipe(void *at, size_t len);
+void noise_wipe_stack(void);
+const char *noise_text(uint32_t code);
+"""
+
+
+def declarations(header: str) -> str:
+    """What a header declares before its inline functions, as cffi reads it: the compiler finds sizes and alignments."""
+    text = re.sub(r"/\*.*?\*/", " ", header, flags=re.S)
+    text = text[:text.index("static inline")]
+    text = re.sub(r"^#.*$", "", text, flags=re.M).replace('extern "C" {', "")
+    text, kept = re.subn(r"NOISE_ALIGNED unsigned char kept\[\d+\];", "...;", text)
+    if not kept or "NOISE_ALIGNED" in text:
+        raise SystemExit("noise_build.py: noise.h isn't written as this script reads it")
+    return text + INLINE
+
+
+ffi = cffi.FFI()
+ffi.cdef(declarations(HEADER.read_text(encoding="utf-8")))
+ffi.set_source(
+    "yulimosar._noise",
+    '#include "noise.h"',
+    include_dirs=["src"],
+    sources=["src/assembly.S"],
+    depends=["src/noise.h", *sorted(str(path) for path in Path("src/assembly").glob("*.s"))],
+)

@@ -1,0 +1,322 @@
+"""A channel without input and output: bytes in, events out. The library says where frames begin and end, and whether
+the stream has ended, was cut or is broken."""
+from __future__ import annotations
+
+import threading
+from collections.abc import Awaitable, Generator
+from dataclasses import dataclass, field
+from typing import Any, TypeAlias, TypeVar
+
+from ._noise import ffi, lib
+from .codes import MAX_PAYLOAD, STREAM_OVERHEAD, Code
+from .config import Config
+from .errors import CallError, ChannelCut, MessageRefused
+from .handshake import Handshake, Steps
+from .memory import Buffer, Kept
+from .pattern import layout
+
+T = TypeVar("T")
+
+
+@dataclass(frozen=True, slots=True)
+class Agreed:
+    """What a handshake has agreed on. It is the event that says that the handshake is done."""
+
+    protocol: str               # the protocol name, as Noise_XX_25519_ChaChaPoly_SHA256
+    initiator: bool             # whether this party wrote the first message
+    hash: bytes                 # the same at both parties: to bind other data to the channel (Noise, 11.2)
+    peer_key: bytes | None      # the other party's static key; None if it has none
+    payloads: tuple[bytes | None, ...] = field(repr=False)    # those of the messages that came, by message; else None
+
+
+@dataclass(frozen=True, slots=True)
+class Data:
+    """What the other party has written next."""
+
+    payload: bytes
+
+
+@dataclass(frozen=True, slots=True)
+class End:
+    """The other party has ended its stream, and all of it came."""
+
+
+@dataclass(frozen=True, slots=True)
+class Pending:
+    """A function of the Config has returned an awaitable: await it, and call `answer` or `fail`."""
+
+    awaitable: Awaitable[Any]
+
+
+Event: TypeAlias = Agreed | Data | End | Pending
+_Events: TypeAlias = Generator[Event | None, Any, T]
+
+
+class Channel:
+    """One end of a channel. `receive_data` and `receive_eof` take what comes over the connection, `next_event` says
+    what it means, and `data_to_send` returns what is to be sent.
+
+    `next_event` raises MessageRefused or ChannelCut where the channel ends so; then nothing more is given out, and
+    there is nothing more to send. One thread may receive while another writes.
+    """
+
+    def __init__(self, config: Config, initiator: bool) -> None:
+        config.check(initiator)
+        self._config = config
+        self._initiator = initiator
+        self._handshake: Handshake | None = None
+        self._sender: Kept | None = None
+        self._receiver: Kept | None = None
+        self._agreed: Agreed | None = None
+        self._fault: Exception | None = None
+        self._answer: Any = None
+        self._failure: BaseException | None = None
+        self._in, self._out = threading.RLock(), threading.RLock()
+        self._came = _Came()
+        self._eof = self._reads_no_more = False
+        self._to_send: list[bytes] = []
+        self._events: _Events[None] = self._run()
+
+    @property
+    def agreed(self) -> Agreed | None:
+        """What the handshake has agreed on; None until it is done."""
+        return self._agreed
+
+    @property
+    def one_way(self) -> bool:
+        """Whether only the initiator may write."""
+        return layout(self._config.pattern).one_way
+
+    @property
+    def fault(self) -> Exception | None:
+        """Why the channel is broken: what `next_event` has raised; None if it isn't."""
+        return self._fault
+
+    def receive_data(self, data: Buffer) -> None:
+        """Takes bytes that came over the connection. After the end of the other's stream they are dropped."""
+        with self._in:
+            if self._fault is None and not self._reads_no_more:
+                self._came.add(data)
+
+    def receive_eof(self) -> None:
+        """Takes that the connection has ended, or was lost: nothing more comes."""
+        with self._in:
+            self._eof = True
+
+    def next_event(self) -> Event | None:
+        """What happened next; None until more comes. After it there may be something to send."""
+        with self._in:
+            if self._fault is not None:
+                raise self._fault.with_traceback(None)
+            answer, failure, self._answer, self._failure = self._answer, self._failure, None, None
+            try:
+                return self._events.throw(failure) if failure is not None else self._events.send(answer)
+            except StopIteration:
+                return None
+            except BaseException as fault:
+                self._break(fault if isinstance(fault, Exception) else CallError(None))
+                raise
+
+    def answer(self, result: Any) -> None:
+        """What the awaitable of Pending has given."""
+        self._answer = result
+
+    def fail(self, error: BaseException) -> None:
+        """What the awaitable of Pending has raised: `next_event` ends the handshake with it."""
+        self._failure = error
+
+    def write(self, payload: Buffer) -> None:
+        """Writes to the stream, once the handshake is done: `data_to_send` has the frames."""
+        with self._out, ffi.from_buffer(payload) as data:
+            sender = self._sends()
+            told, start, size = ffi.new("noise_stream_told *"), 0, len(data)
+            while start < size:
+                frame = bytearray(min(size - start, MAX_PAYLOAD) + STREAM_OVERHEAD)
+                with ffi.from_buffer(frame) as room:
+                    code = lib.noise_stream_write(sender, data + start, size - start, room, len(room), told)
+                if code:
+                    raise CallError(Code(code))
+                self._to_send.append(bytes(frame) if told.len == len(frame) else bytes(frame[:told.len]))
+                start += told.used
+
+    def write_eof(self) -> None:
+        """Writes the end of the stream: call it after the last `write`, and only if nothing went wrong."""
+        with self._out:
+            sender = self._sends()
+            told, room = ffi.new("noise_stream_told *"), ffi.new("char[]", STREAM_OVERHEAD)
+            if code := lib.noise_stream_end(sender, room, STREAM_OVERHEAD, told):
+                raise CallError(Code(code))
+            self._to_send.append(ffi.unpack(room, told.len))
+
+    def _sends(self) -> Any:
+        """The struct that sends, if anything may be sent."""
+        if self._fault is not None:
+            raise self._fault.with_traceback(None)
+        if self._sender is None:
+            raise CallError(Code.NOT_DONE)
+        if self._sender._at is None:
+            raise CallError(None)
+        return self._sender._at[0]
+
+    def data_to_send(self) -> bytes:
+        """The bytes to send next over the connection; none after a fault."""
+        with self._out:
+            data = b"".join(self._to_send)
+            self._to_send.clear()
+            return data
+
+    def close(self) -> None:
+        """Overwrites the keys. What `data_to_send` hasn't returned yet can still be sent."""
+        with self._in, self._out:
+            if self._fault is None:
+                self._fault = CallError(None)
+            if not self._events.gi_running:    # else a function of the Config calls this
+                self._events.close()
+            self._came.drop()
+            for kept in (self._handshake, self._sender, self._receiver):
+                if kept is not None:
+                    kept.close()
+
+    def _break(self, fault: Exception) -> None:
+        with self._out:
+            self._fault = fault
+            self._to_send.clear()
+            self.close()
+
+    def _run(self) -> _Events[None]:
+        """All events of a channel, one after another; None is a wait for more."""
+        payloads: list[bytes | None] = []
+        while not self._initiator and not self._came and not self._eof:    # nothing is drawn for who says nothing
+            yield None
+        with Handshake(self._config, self._initiator, late_psks=False) as handshake:
+            self._handshake = handshake
+            while not handshake.done:
+                if handshake.writes_next:
+                    yield from self._write_message(handshake)
+                    payloads.append(None)
+                else:
+                    payloads.append((yield from self._read_message(handshake)))
+            self._sender, self._receiver = handshake.stream()
+        self._handshake = None
+        self._agreed = Agreed(handshake.protocol, self._initiator, handshake.hash, handshake.peer_key, tuple(payloads))
+        self._reads_no_more = self._initiator and self.one_way
+        yield self._agreed
+        if not self._reads_no_more:
+            yield from self._read_stream(self._receiver)
+
+    def _pend(self, steps: Steps[T]) -> _Events[T]:
+        """Runs steps of the handshake; each awaitable is an event."""
+        try:
+            awaitable = next(steps)
+            while True:
+                try:
+                    result = yield Pending(awaitable)
+                except GeneratorExit:
+                    raise
+                except BaseException as error:
+                    awaitable = steps.throw(error)
+                else:
+                    awaitable = steps.send(result)
+        except StopIteration as end:
+            return end.value    # type: ignore[no-any-return]
+        finally:
+            steps.close()
+
+    def _write_message(self, handshake: Handshake) -> _Events[None]:
+        index, payloads = handshake.message, self._config.payloads
+        payload = payloads[index] if index < len(payloads) else b""
+        message = yield from self._pend(handshake.writing(payload))
+        frame = bytearray(2) + message
+        told = ffi.new("noise_stream_told *")
+        with ffi.from_buffer(frame) as room:
+            if code := lib.noise_frame_message(room, len(room), len(message), told):
+                raise CallError(Code(code))
+        with self._out:
+            self._to_send.append(bytes(frame[:told.len]))
+
+    def _read_message(self, handshake: Handshake) -> _Events[bytes]:
+        """Waits for the frame of a message, and reads it."""
+        told = ffi.new("noise_stream_told *")
+        index = handshake.message
+        most = handshake.longest_read(index)
+        while True:
+            place, left = self._came.left()
+            code = lib.noise_frame_find(place, left, told)
+            size = told.len if code == Code.OK else left + told.wanted - 2
+            if size > most and (code == Code.OK or left >= 2):
+                raise MessageRefused(index + 1, None, Code.TOO_LONG)
+            if code == Code.OK:
+                break
+            if self._eof:
+                raise ChannelCut
+            yield None
+        message = ffi.unpack(place + getattr(told, "from"), told.len)
+        self._came.use(told.used)
+        return (yield from self._pend(handshake.reading(message)))
+
+    def _read_stream(self, receiver: Kept) -> _Events[None]:
+        """Gives out the stream of the other party."""
+        told = ffi.new("noise_stream_told *")
+        while receiver._at is not None:
+            place, left = self._came.left()
+            code = lib.noise_stream_read(receiver._at[0], place, left, told)
+            if code == Code.OK:
+                payload = ffi.unpack(place + getattr(told, "from"), told.len)
+                self._came.use(told.used)
+                yield Data(payload)
+            elif code == Code.END:
+                self._reads_no_more = True
+                self._came.drop()
+                yield End()
+                return
+            elif code != Code.MORE:
+                raise MessageRefused(None, None, Code(code))
+            elif not self._eof:
+                yield None
+            elif lib.noise_stream_is_cut(receiver._at[0], left):
+                raise ChannelCut
+            else:
+                return
+        raise CallError(None)
+
+
+class _Came:
+    """What came and isn't used yet."""
+
+    __slots__ = ("_bytes", "_place", "_start")
+
+    def __init__(self) -> None:
+        self._bytes = bytearray()
+        self._place: Any = None     # where the bytes are, while that is asked for
+        self._start = 0
+
+    def __bool__(self) -> bool:
+        return len(self._bytes) > self._start
+
+    def add(self, data: Buffer) -> None:
+        self._settle()
+        self._bytes += data
+
+    def left(self) -> tuple[Any, int]:
+        """Where the bytes begin, until `add` is called, and how many there are."""
+        if self._place is None:
+            self._place = ffi.from_buffer(self._bytes)
+        return self._place + self._start, len(self._place) - self._start
+
+    def use(self, count: int) -> None:
+        """The first bytes aren't needed any more."""
+        self._start += count
+        if self._start == len(self._bytes):
+            self.drop()
+
+    def drop(self) -> None:
+        """Nothing of it is needed any more."""
+        self._start = len(self._bytes)
+        self._settle()
+
+    def _settle(self) -> None:
+        if self._place is not None:
+            ffi.release(self._place)
+            self._place = None
+        del self._bytes[:self._start]
+        self._start = 0

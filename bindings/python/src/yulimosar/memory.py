@@ -1,0 +1,106 @@
+"""The library's structs, and the bytes that calls get."""
+from __future__ import annotations
+
+import os
+import threading
+import weakref
+from types import TracebackType
+from typing import Any, NoReturn, Self, TypeAlias
+
+from ._noise import ffi, lib
+from .errors import CallError
+
+Buffer: TypeAlias = bytes | bytearray | memoryview
+
+SMALL = 2048    # how many bytes of a buffer are kept from call to call
+
+_size_of = ffi.sizeof
+_wipe = lib.noise_wipe
+_wipe_stack = lib.noise_wipe_stack
+_all: weakref.WeakSet[Kept] = weakref.WeakSet()
+
+
+def pointer(data: Buffer) -> tuple[Any, int]:
+    """What a call of the library takes for bytes, without a copy, and how many they are."""
+    if type(data) is bytes:
+        return data, len(data)
+    there = ffi.from_buffer(data)
+    return there, len(there)
+
+
+def copied(data: Buffer) -> tuple[Any, int]:
+    """A copy in which a call of the library works in place, and how many bytes it has."""
+    there, size = pointer(data)
+    copy = ffi.new("char[]", size)
+    ffi.memmove(copy, there, size)
+    return copy, size
+
+
+class Kept:
+    """Structs of the library with one owner. They are overwritten by `close`, at the end of a `with`, when Python frees
+    them, and in a process that is forked: a key must not seal two messages with one nonce. Threads may share one."""
+
+    __slots__ = ("_lock", "_at", "_spare", "__weakref__")
+
+    def __init__(self, *types: str) -> None:
+        self._lock = threading.RLock()
+        self._at: tuple[Any, ...] | None = tuple(ffi.new(f"{name} *") for name in types)
+        self._spare: Any = None     # a buffer of SMALL bytes
+        _all.add(self)
+
+    def _room(self, size: int) -> Any:
+        """A buffer of at least so many bytes."""
+        if size > SMALL:
+            return ffi.new("char[]", size)
+        if self._spare is None:
+            self._spare = ffi.new("char[]", SMALL)
+        return self._spare
+
+    def close(self) -> None:
+        """Overwrites the keys. Later calls raise CallError."""
+        with self._lock:
+            self._overwrite()
+
+    def _overwrite(self) -> None:
+        at, self._at = self._at, None
+        if at is None:
+            return
+        for struct in at:
+            _wipe(struct, _size_of(struct[0]))
+        if self._spare is not None:
+            _wipe(self._spare, SMALL)
+            self._spare = None
+        _wipe_stack()
+
+    @property
+    def closed(self) -> bool:
+        """Whether it was closed, or used up."""
+        return self._at is None
+
+    def __enter__(self) -> Self:
+        if self._at is None:
+            raise CallError(None)
+        return self
+
+    def __exit__(
+        self, kind: type[BaseException] | None, error: BaseException | None, trace: TracebackType | None
+    ) -> None:
+        self.close()
+
+    def __del__(self) -> None:
+        if getattr(self, "_at", None) is not None:
+            self._overwrite()
+
+    def __reduce__(self) -> NoReturn:
+        raise TypeError(f"a {type(self).__name__} isn't copied: two would seal with one key and nonce")
+
+
+def _close_in_child() -> None:
+    """Closes everything in a process that was forked: the keys are the parent's."""
+    for kept in list(_all):
+        kept._lock = threading.RLock()    # a thread that isn't in this process may hold it
+        kept._overwrite()
+
+
+if hasattr(os, "register_at_fork"):
+    os.register_at_fork(after_in_child=_close_in_child)

@@ -1,0 +1,420 @@
+"""Channels for asyncio: a reader and a writer, as asyncio.open_connection and asyncio.start_server have them."""
+from __future__ import annotations
+
+import asyncio
+import logging
+import warnings
+from collections.abc import Awaitable, Callable, Iterable
+from types import TracebackType
+from typing import Any, Self
+
+from .channel import Agreed, Channel, Data, Event, Pending
+from .codes import Code
+from .config import Config
+from .errors import CallError, ChannelCut, HandshakeTimeout
+from .memory import Buffer
+
+LIMIT = 2 ** 16        # of a reader's buffer, as asyncio's
+CLOSE_TIMEOUT = 30.0   # in seconds: how long `close` waits for a peer that takes nothing, as asyncio's does with TLS
+
+logger = logging.getLogger("yulimosar")
+
+
+class Reader(asyncio.StreamReader):
+    """A StreamReader. It gives out all that came before a fault; then each call raises the fault, and `at_eof` stays
+    False. b"" is the end that the other party has sent."""
+
+    def __init__(self, limit: int, loop: asyncio.AbstractEventLoop) -> None:
+        super().__init__(limit=limit, loop=loop)
+        self._fault: Exception | None = None
+
+    def set_exception(self, exc: Exception) -> None:
+        self._fault = exc
+        self.feed_eof()
+
+    def exception(self) -> Any:
+        return None if isinstance(self._fault, CallError) else self._fault    # a one-way writer may drain
+
+    def at_eof(self) -> bool:
+        return self._fault is None and super().at_eof()
+
+    async def read(self, n: int = -1) -> bytes:
+        data = await super().read(n)
+        if not data and n:
+            self._raise()
+        return data
+
+    async def readexactly(self, n: int) -> bytes:
+        try:
+            return await super().readexactly(n)
+        except asyncio.IncompleteReadError:
+            self._raise()
+            raise
+
+    async def readuntil(self, separator: bytes = b"\n") -> bytes:
+        try:
+            return await super().readuntil(separator)
+        except asyncio.IncompleteReadError:
+            self._raise()
+            raise
+
+    def _raise(self) -> None:
+        if self._fault is not None:
+            raise self._fault.with_traceback(None) from None
+
+
+class Writer(asyncio.StreamWriter):
+    """A StreamWriter. `close` sends the end of the stream, unless something went wrong; `abort` doesn't, so that the
+    other party gets ChannelCut. As an asynchronous context manager it closes, or aborts after an exception."""
+
+    def abort(self) -> None:
+        """Closes the connection at once, without the end of the stream."""
+        self.transport.abort()
+
+    async def __aenter__(self) -> Self:
+        return self
+
+    async def __aexit__(
+        self, kind: type[BaseException] | None, error: BaseException | None, trace: TracebackType | None
+    ) -> None:
+        if kind is not None:
+            self.abort()
+            return
+        self.close()
+        await self.wait_closed()
+
+    def __del__(self, *_ignored: object) -> None:
+        if not self.transport.is_closing():
+            warnings.warn(f"unclosed {self!r}", ResourceWarning, source=self)
+            try:
+                self.abort()
+            except RuntimeError:    # the event loop is closed
+                pass
+
+
+class _Transport(asyncio.Transport):
+    """What the protocol above writes to."""
+
+    def __init__(self, below: _Below) -> None:
+        super().__init__()
+        self._below = below
+        self._ended = False
+
+    def get_extra_info(self, name: str, default: Any = None) -> Any:
+        if name == "noise":
+            return self._below.channel.agreed
+        return self._below.transport.get_extra_info(name, default)
+
+    def set_protocol(self, protocol: asyncio.BaseProtocol) -> None:
+        assert isinstance(protocol, asyncio.Protocol)
+        self._below.above = protocol
+
+    def get_protocol(self) -> asyncio.BaseProtocol:
+        return self._below.above
+
+    def is_closing(self) -> bool:
+        return self._below.over
+
+    def close(self) -> None:
+        self._below.close()
+
+    def abort(self) -> None:
+        self._below.abort()
+
+    def is_reading(self) -> bool:
+        return not self._below.over and not self._below.paused
+
+    def pause_reading(self) -> None:
+        self._below.pause()
+
+    def resume_reading(self) -> None:
+        self._below.resume()
+
+    def set_write_buffer_limits(self, high: int | None = None, low: int | None = None) -> None:
+        self._below.transport.set_write_buffer_limits(high, low)
+
+    def get_write_buffer_limits(self) -> tuple[int, int]:
+        return self._below.transport.get_write_buffer_limits()
+
+    def get_write_buffer_size(self) -> int:
+        return self._below.transport.get_write_buffer_size()
+
+    def write(self, data: Buffer) -> None:
+        if self._ended:
+            raise RuntimeError("Cannot call write() after write_eof()")
+        self._below.write(data)
+
+    def writelines(self, list_of_data: Iterable[Buffer]) -> None:
+        self.write(b"".join(list_of_data))
+
+    def write_eof(self) -> None:
+        if not self._ended:
+            self._ended = True
+            self._below.write_eof()
+
+    def can_write_eof(self) -> bool:
+        return True
+
+
+class _Below(asyncio.Protocol):
+    """The protocol of the connection below. It carries a channel, and is to the protocol above as a transport is.
+
+    `ready` is called when the handshake is done; `failed`, if it has failed, once the connection is closed.
+    """
+
+    def __init__(
+        self, channel: Channel, above: asyncio.Protocol, timeout: float | None,
+        ready: Callable[[_Transport], None], failed: Callable[[Exception], None]
+    ) -> None:
+        self.loop = asyncio.get_running_loop()
+        self.channel = channel
+        self.above = above
+        self.transport: asyncio.Transport
+        self.over = False       # closed, broken or lost
+        self.paused = False     # whether the protocol above wants no more
+        self._fault: Exception | None = None
+        self._timeout, self._failed = timeout, failed
+        self._ready: Callable[[_Transport], None] | None = ready
+        self._timer: asyncio.TimerHandle | None = None
+        self._asking: asyncio.Task[None] | None = None    # what waits for an asynchronous function of the Config
+
+    def connection_made(self, transport: asyncio.BaseTransport) -> None:
+        assert isinstance(transport, asyncio.Transport)
+        self.transport = transport
+        if self._timeout is not None:
+            self._timer = self.loop.call_later(self._timeout, lambda: self.break_off(HandshakeTimeout()))
+        self.pump()
+
+    def data_received(self, data: bytes) -> None:
+        self.channel.receive_data(data)
+        self.pump()
+
+    def eof_received(self) -> bool:
+        self.channel.receive_eof()
+        self.pump()
+        return True    # what was broken is closed; else this party may still write
+
+    def pump(self) -> None:
+        """Gives out what has come, and sends what is to be sent."""
+        while not self.over and not self.paused and self._asking is None:
+            try:
+                event = self.channel.next_event()
+            except Exception as fault:
+                self.break_off(fault)
+                return
+            self._flush()
+            if event is None:
+                return
+            self._take(event)
+
+    def _take(self, event: Event) -> None:
+        if isinstance(event, Data):
+            self.above.data_received(event.payload)
+        elif isinstance(event, Agreed):
+            self._begin()
+        elif isinstance(event, Pending):
+            self.transport.pause_reading()
+            self._asking = self.loop.create_task(self._ask(event.awaitable))
+        elif not self.above.eof_received():
+            self.close()
+
+    def _begin(self) -> None:
+        self._stop_timer()
+        made = _Transport(self)
+        self.above.connection_made(made)
+        ready, self._ready = self._ready, None    # it may hold the reader, which the caller alone is to hold
+        if ready is not None:
+            ready(made)
+
+    async def _ask(self, awaitable: Awaitable[Any]) -> None:
+        try:
+            result = await awaitable
+        except asyncio.CancelledError:
+            self.break_off(CallError(None))
+            raise
+        except Exception as error:
+            self.channel.fail(error)
+        else:
+            self.channel.answer(result)
+        self._asking = None
+        if not self.over:
+            self.transport.resume_reading()
+            self.pump()
+
+    def _flush(self) -> None:
+        if data := self.channel.data_to_send():
+            self.transport.write(data)
+
+    def _stop_timer(self) -> None:
+        if self._timer is not None:
+            self._timer.cancel()
+            self._timer = None
+
+    def break_off(self, fault: Exception) -> None:
+        """Ends the channel for a fault: nothing more is sent."""
+        if not self.over:
+            self.over, self._fault = True, fault
+            self.channel.close()
+            self.transport.abort()
+
+    def abort(self) -> None:
+        """Closes the connection without the end of the stream."""
+        if not self.over:
+            self.over = True
+            self.channel.close()
+        self.transport.abort()
+
+    def close(self) -> None:
+        """Sends the end of the stream, and closes the connection once all is sent."""
+        if self.over:
+            return
+        self.write_eof()
+        self.over = True
+        self.channel.close()
+        self.transport.close()
+        self._watch(self.transport.get_write_buffer_size())
+
+    def _watch(self, left: int) -> None:
+        """Aborts if the peer takes nothing any more."""
+        def look() -> None:
+            now = self.transport.get_write_buffer_size()
+            if now < left:
+                self._watch(now)
+            else:
+                self.transport.abort()
+        self._timer = self.loop.call_later(CLOSE_TIMEOUT, look)
+
+    def write(self, data: Buffer) -> None:
+        if not self.over:
+            self.channel.write(data)
+            self._flush()
+
+    def write_eof(self) -> None:
+        if not self.over:
+            try:
+                self.channel.write_eof()
+            except CallError:    # it was ended before, or this party is the responder of a one-way pattern
+                return
+            self._flush()
+
+    def pause(self) -> None:
+        self.paused = True
+        if not self.over:
+            self.transport.pause_reading()
+
+    def resume(self) -> None:
+        self.paused = False
+        if not self.over:
+            self.transport.resume_reading()
+            self.loop.call_soon(self.pump)
+
+    def pause_writing(self) -> None:
+        if self.channel.agreed is not None:
+            self.above.pause_writing()
+
+    def resume_writing(self) -> None:
+        if self.channel.agreed is not None:
+            self.above.resume_writing()
+
+    def connection_lost(self, exc: Exception | None) -> None:
+        if not self.over:    # gives out what came before
+            self.paused = False
+            self.channel.receive_eof()
+            self.pump()
+        self.over = True
+        self._stop_timer()
+        if self._asking is not None:
+            self._asking.cancel()
+        if isinstance(self._fault, ChannelCut) and exc is not None:
+            self._fault.__cause__ = exc
+        self.channel.close()
+        fault = self._fault or exc
+        if self.channel.agreed is not None:
+            self.above.connection_lost(fault)
+        else:
+            self._tell_failure(fault or ChannelCut())
+
+    def _tell_failure(self, fault: Exception) -> None:
+        logger.info("handshake with %s: %s", self.transport.get_extra_info("peername"), fault)
+        self._failed(fault)
+
+
+async def open_connection(
+    host: str | None, port: int | str | None, config: Config, *, limit: int = LIMIT, **words: Any
+) -> tuple[Reader, Writer]:
+    """Connects, and runs the handshake as the initiator. The other words are those of loop.create_connection."""
+    config.check(True)
+    loop = asyncio.get_running_loop()
+    reader = Reader(limit, loop)
+    above = asyncio.StreamReaderProtocol(reader, loop=loop)
+    ready: asyncio.Future[_Transport] = loop.create_future()
+
+    def done(transport: _Transport) -> None:
+        if not ready.done():
+            ready.set_result(transport)
+
+    def failed(fault: Exception) -> None:
+        if not ready.done():
+            ready.set_exception(fault)
+            ready.exception()    # nobody may wait for it
+
+    below = _Below(Channel(config, True), above, config.handshake_timeout, done, failed)
+    connect: Any = loop.create_connection    # host and port are None where `words` have a socket
+    await connect(lambda: below, host, port, **words)
+    try:
+        transport = await ready
+    except asyncio.CancelledError:
+        below.abort()
+        raise
+    if below.channel.one_way:
+        reader.set_exception(CallError(Code.ONE_WAY))
+    return reader, Writer(transport, above, reader, loop)
+
+
+Handler = Callable[[Reader, Writer], Awaitable[None] | None]
+
+
+async def start_server(
+    handler: Handler, host: str | None, port: int | str | None, config: Config, *, limit: int = LIMIT, **words: Any
+) -> asyncio.Server:
+    """Listens, and runs the handshake as the responder with each client. `handler` is called once that is done. If it
+    raises, the connection is aborted. The other words are those of loop.create_server.
+
+    A handshake that fails, and a handler that ends with a ConnectionError, give a line at level INFO of the logger
+    "yulimosar".
+    """
+    config.check(False)
+    loop = asyncio.get_running_loop()
+    tasks: set[asyncio.Task[None]] = set()
+
+    def factory() -> asyncio.Protocol:
+        reader = Reader(limit, loop)
+        above = asyncio.StreamReaderProtocol(reader, loop=loop)
+
+        def ready(transport: _Transport) -> None:
+            task = loop.create_task(_serve(handler, reader, Writer(transport, above, reader, loop)))
+            tasks.add(task)
+            task.add_done_callback(tasks.discard)
+
+        return _Below(Channel(config, False), above, config.handshake_timeout, ready, lambda fault: None)
+
+    listen: Any = loop.create_server
+    server: asyncio.Server = await listen(factory, host, port, **words)
+    return server
+
+
+async def _serve(handler: Handler, reader: Reader, writer: Writer) -> None:
+    try:
+        result = handler(reader, writer)
+        if result is not None:
+            await result
+    except ConnectionError as fault:
+        writer.abort()
+        logger.info("channel with %s: %s", writer.get_extra_info("peername"), fault)
+    except Exception as error:
+        writer.abort()
+        words = {"message": "Unhandled exception in a handler of yulimosar.start_server", "exception": error}
+        asyncio.get_running_loop().call_exception_handler(words)
+    except BaseException:
+        writer.abort()
+        raise

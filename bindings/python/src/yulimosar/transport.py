@@ -1,0 +1,216 @@
+"""What comes after a handshake, message by message: Sender and Receiver, Datagrams, CipherState."""
+from __future__ import annotations
+
+from typing import Any
+
+from ._noise import ffi, lib
+from .codes import DATAGRAM_OVERHEAD, TAG_LEN, Code
+from .errors import CallError, MessageRefused
+from .memory import Buffer, Kept, pointer
+
+_REFUSALS = {Code.SHORT, Code.TAG, Code.TOO_LONG, Code.LENGTH, Code.RESERVED, Code.OLD, Code.REPEATED}
+
+_unpack = ffi.unpack
+_seal = lib.noise_seal
+_seal_in_place = lib.noise_seal_in_place
+_open = lib.noise_open
+_datagram_seal = lib.noise_datagram_seal
+_datagram_open = lib.noise_datagram_open
+_encrypt = lib.noise_cipher_encrypt
+_decrypt = lib.noise_cipher_decrypt
+
+
+def _unsealed(code: int) -> CallError:
+    return CallError(Code(code))
+
+
+def _unopened(code: int) -> Exception:
+    if code in _REFUSALS:
+        return MessageRefused(None, None, Code(code))
+    return CallError(Code(code))
+
+
+class Sender(Kept):
+    """Seals messages, which have to arrive in their order."""
+
+    __slots__ = ("_told",)
+
+    def __init__(self) -> None:
+        super().__init__("noise_sender")
+        self._told = ffi.new("noise_told *")
+
+    def seal(self, payload: Buffer) -> bytes:
+        """The next message: 16 bytes longer than the payload, which has at most 65519."""
+        data, size = pointer(payload)
+        with self._lock:
+            if self._at is None:
+                raise CallError(None)
+            room = self._room(size + TAG_LEN)
+            code = _seal(self._at[0], data, size, room, size + TAG_LEN, self._told)
+            if code:
+                raise _unsealed(code)
+            return _unpack(room, self._told.len)    # type: ignore[no-any-return]
+
+    def seal_in_place(self, buffer: bytearray | memoryview, size: int) -> int:
+        """Seals the first `size` bytes of a buffer where they are, without a copy. The message is 16 bytes longer."""
+        if size < 0:
+            raise ValueError("a negative size")
+        with self._lock, ffi.from_buffer(buffer, require_writable=True) as room:
+            if self._at is None:
+                raise CallError(None)
+            code = _seal_in_place(self._at[0], room, len(room), size, self._told)
+            if code:
+                raise _unsealed(code)
+            return self._told.len    # type: ignore[no-any-return]
+
+    @property
+    def nonce(self) -> int:
+        """How many messages were sealed."""
+        return _nonce(self, lib.noise_sender_nonce)
+
+
+class Receiver(Kept):
+    """Opens messages, in the order in which they were sealed."""
+
+    __slots__ = ("_told",)
+
+    def __init__(self) -> None:
+        super().__init__("noise_receiver")
+        self._told = ffi.new("noise_told *")
+
+    def open(self, message: Buffer) -> bytes:
+        """The payload of the next message. MessageRefused changes nothing; over a stream close at the first."""
+        data, size = pointer(message)
+        with self._lock:
+            if self._at is None:
+                raise CallError(None)
+            room = self._room(size)
+            ffi.memmove(room, data, size)
+            code = _open(self._at[0], room, size, self._told)
+            if code:
+                raise _unopened(code)
+            return _unpack(room + getattr(self._told, "from"), self._told.len)    # type: ignore[no-any-return]
+
+    def open_in_place(self, message: bytearray | memoryview) -> memoryview:
+        """Opens a message where it is, without a copy: the payload is a view of it."""
+        with self._lock, ffi.from_buffer(message, require_writable=True) as room:
+            if self._at is None:
+                raise CallError(None)
+            code = _open(self._at[0], room, len(room), self._told)
+            if code:
+                raise _unopened(code)
+            start = getattr(self._told, "from")
+            return memoryview(message).cast("B")[start:start + self._told.len]
+
+    @property
+    def nonce(self) -> int:
+        """How many messages were opened."""
+        return _nonce(self, lib.noise_receiver_nonce)
+
+
+def _nonce(kept: Kept, call: Any) -> int:
+    number = ffi.new("uint64_t *")
+    with kept._lock:
+        if kept._at is None:
+            raise CallError(None)
+        if code := call(kept._at[0], number):
+            raise CallError(Code(code))
+    return number[0]    # type: ignore[no-any-return]
+
+
+class Datagrams(Kept):
+    """Seals and opens datagrams, which may be lost, repeated and reordered."""
+
+    __slots__ = ("_told",)
+
+    def __init__(self) -> None:
+        super().__init__("noise_datagram_sender", "noise_datagram_receiver")
+        self._told = ffi.new("noise_told *")
+
+    def seal(self, payload: Buffer) -> bytes:
+        """A datagram: 24 bytes longer than the payload, which has at most 65519."""
+        data, size = pointer(payload)
+        with self._lock:
+            if self._at is None:
+                raise CallError(None)
+            room = self._room(size + DATAGRAM_OVERHEAD)
+            code = _datagram_seal(self._at[0], data, size, room, size + DATAGRAM_OVERHEAD, self._told)
+            if code:
+                raise _unsealed(code)
+            return _unpack(room, self._told.len)    # type: ignore[no-any-return]
+
+    def open(self, datagram: Buffer) -> bytes:
+        """The payload of a datagram. MessageRefused changes nothing: drop the datagram, and wait for the next."""
+        data, size = pointer(datagram)
+        with self._lock:
+            if self._at is None:
+                raise CallError(None)
+            room = self._room(size)
+            ffi.memmove(room, data, size)
+            code = _datagram_open(self._at[1], room, size, self._told)
+            if code:
+                raise _unopened(code)
+            return _unpack(room + getattr(self._told, "from"), self._told.len)    # type: ignore[no-any-return]
+
+    @property
+    def nonce(self) -> int:
+        """How many datagrams were sealed."""
+        return _nonce(self, lib.noise_datagram_sender_nonce)
+
+
+class CipherState(Kept):
+    """A cipher state of the standard (Noise, 5.1), for packets of your own. Never encrypt twice at one nonce."""
+
+    __slots__ = ("_told",)
+
+    def __init__(self) -> None:
+        super().__init__("noise_cipher")
+        self._told = ffi.new("noise_told *")
+
+    def encrypt_with_ad(self, ad: Buffer, plaintext: Buffer) -> bytes:
+        """Encrypts, with associated data, at the next nonce: 16 bytes longer than the plaintext. Neither is in it."""
+        data, size = pointer(plaintext)
+        ad_data, ad_size = pointer(ad)
+        with self._lock:
+            if self._at is None:
+                raise CallError(None)
+            room = self._room(size + TAG_LEN)
+            ffi.memmove(room, data, size)
+            code = _encrypt(self._at[0], ad_data, ad_size, room, size + TAG_LEN, size, self._told)
+            if code:
+                raise _unsealed(code)
+            return _unpack(room, self._told.len)    # type: ignore[no-any-return]
+
+    def decrypt_with_ad(self, ad: Buffer, ciphertext: Buffer) -> bytes:
+        """Decrypts, with associated data, at the next nonce. MessageRefused leaves the nonce as it was."""
+        data, size = pointer(ciphertext)
+        ad_data, ad_size = pointer(ad)
+        with self._lock:
+            if self._at is None:
+                raise CallError(None)
+            room = self._room(size)
+            ffi.memmove(room, data, size)
+            code = _decrypt(self._at[0], ad_data, ad_size, room, size, self._told)
+            if code:
+                raise _unopened(code)
+            return _unpack(room + getattr(self._told, "from"), self._told.len)    # type: ignore[no-any-return]
+
+    @property
+    def nonce(self) -> int:
+        """The nonce of the next message."""
+        return _nonce(self, lib.noise_cipher_nonce)
+
+    def set_nonce(self, nonce: int) -> None:
+        """Sets the nonce of the next message (Noise, 11.4): refuse yourself what you have received before."""
+        self._change(lib.noise_cipher_set_nonce, nonce)
+
+    def rekey(self) -> None:
+        """Replaces the key by the one that follows from it (Noise, 11.3), and keeps the nonce."""
+        self._change(lib.noise_cipher_rekey)
+
+    def _change(self, call: Any, *words: int) -> None:
+        with self._lock:
+            if self._at is None:
+                raise CallError(None)
+            if code := call(self._at[0], *words):
+                raise CallError(Code(code))

@@ -1,0 +1,48 @@
+"""The names and numbers of the package are those of noise.h."""
+import enum
+import re
+from pathlib import Path
+
+import pytest
+
+import yulimosar
+from yulimosar import Code, codes
+
+HEADER = Path(__file__).resolve().parent.parent / "src" / "noise.h"
+
+
+@pytest.fixture(scope="module")
+def header() -> str:
+    return re.sub(r"/\*.*?\*/", " ", HEADER.read_text(), flags=re.S)
+
+
+def test_codes(header):
+    named = re.search(r"enum noise_code \{(.*?)\}", header, re.S)[1]
+    assert {name: int(number) for name, number in re.findall(r"NOISE_(\w+)\s*=\s*(\d+)", named)} \
+        == {code.name: code.value for code in Code}
+
+
+def test_sizes(header):
+    sizes = re.findall(r"NOISE_(\w+)\s*=\s*(\d+)", re.search(r"enum \{(.*?)\}", header, re.S)[1])
+    assert len(sizes) == 9
+    for name, number in sizes:
+        assert getattr(codes, name) == int(number), name
+
+
+def test_sentences(header):
+    for name, sentence in re.findall(r'case NOISE_(\w+): return "(.*?)";', header):
+        assert str(Code[name]) == sentence
+
+
+def test_version(header):
+    parts = re.findall(r"#define NOISE_VERSION_[A-Z]+ (\d+)", header)
+    assert yulimosar.__version__ == ".".join(parts)
+
+
+def test_every_public_name_is_there():
+    for name in yulimosar.__all__:
+        assert getattr(yulimosar, name) is not None
+        assert name in dir(yulimosar)
+    with pytest.raises(AttributeError):
+        yulimosar.nothing
+    assert issubclass(Code, enum.IntEnum)
