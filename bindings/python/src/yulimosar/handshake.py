@@ -65,15 +65,16 @@ class Handshake(Kept):
         self._judged = False    # whether the other party's static key was, if it is known from the start
         self._told = ffi.new("noise_told *")
         self._stage = ffi.new("noise_stage_told *")
-        self._ephemeral: DH | None = (config.ephemeral or KeyPair.generate)()
+        draws = any(message.initiator == initiator and "e" in message.tokens for message in self._layout.messages)
+        self._ephemeral: DH | None = (config.ephemeral or KeyPair.generate)() if draws else None
         super().__init__("noise_handshake")
         self._start()
 
     def _start(self) -> None:
         config, setup = self.config, ffi.new("noise_setup *")
         setup.responder = not self.initiator
-        assert self._ephemeral is not None
-        _set_key(setup.e, self._ephemeral.public)
+        if self._ephemeral is not None:
+            _set_key(setup.e, self._ephemeral.public)
         if config.key is not None:
             _set_key(setup.s, config.key.public)
         if config.peer_key is not None and self._layout.knows(self.initiator):

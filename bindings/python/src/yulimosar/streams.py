@@ -85,11 +85,11 @@ class Writer(asyncio.StreamWriter):
 
     def __del__(self, *_ignored: object) -> None:
         if not self.transport.is_closing():
-            warnings.warn(f"unclosed {self!r}", ResourceWarning, source=self)
             try:
                 self.abort()
             except RuntimeError:    # the event loop is closed
                 pass
+            warnings.warn(f"unclosed {self!r}", ResourceWarning, source=self)
 
 
 class _Transport(asyncio.Transport):
@@ -332,11 +332,7 @@ class _Below(asyncio.Protocol):
         if self.channel.agreed is not None:
             self.above.connection_lost(fault)
         else:
-            self._tell_failure(fault or ChannelCut())
-
-    def _tell_failure(self, fault: Exception) -> None:
-        logger.info("handshake with %s: %s", self.transport.get_extra_info("peername"), fault)
-        self._failed(fault)
+            self._failed(fault or ChannelCut())
 
 
 async def open_connection(
@@ -396,7 +392,11 @@ async def start_server(
             tasks.add(task)
             task.add_done_callback(tasks.discard)
 
-        return _Below(Channel(config, False), above, config.handshake_timeout, ready, lambda fault: None)
+        def failed(fault: Exception) -> None:
+            logger.info("handshake with %s: %s", below.transport.get_extra_info("peername"), fault)
+
+        below = _Below(Channel(config, False), above, config.handshake_timeout, ready, failed)
+        return below
 
     listen: Any = loop.create_server
     server: asyncio.Server = await listen(factory, host, port, **words)
