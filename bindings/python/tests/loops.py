@@ -46,16 +46,17 @@ async def settle():
         await asyncio.sleep(0.01 if _ == 50 else 0)
 
 
-def run(main, *, faults=0, seconds=120):
+def run(main, *, faults=0, seconds=120, debug=True):
     """Runs `main(told)` and what it leaves; `faults` is how many errors the loop's exception handler is to get."""
     gc.collect()
     before, keys, told, caught = descriptors(), open_keys(), Told(), []
     loggers = [logging.getLogger("asyncio"), logging.getLogger("yulimosar")]
     for logger in loggers:
         logger.addHandler(told)
-        logger.setLevel(logging.INFO)
+        logger.setLevel(logging.INFO if debug else logging.WARNING)
+        logger.propagate = False    # pytest would keep the lines
     try:
-        with asyncio.Runner(debug=True) as runner:
+        with asyncio.Runner(debug=debug) as runner:
             loop = runner.get_loop()
             loop.slow_callback_duration = 60
             loop.set_exception_handler(lambda _loop, context: caught.append(context))
@@ -66,6 +67,7 @@ def run(main, *, faults=0, seconds=120):
     finally:
         for logger in loggers:
             logger.removeHandler(told)
+            logger.propagate = True
     assert len(caught) == faults, caught
     assert not told.warned, told.warned
     assert not descriptors() - before and open_keys() <= keys

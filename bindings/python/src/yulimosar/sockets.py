@@ -85,7 +85,8 @@ class NoiseSocket:
                 raise
             if data := self._channel.data_to_send():    # a message of the handshake
                 self._within(end, self._sock.sendall, data)
-            if event is not None or self._channel.one_way and self._channel.agreed is not None:
+            agreed = self._channel.agreed
+            if event is not None or agreed is not None and agreed.initiator and self._channel.one_way:
                 return event
             self._more(end)
 
@@ -137,8 +138,8 @@ class NoiseSocket:
     def _take(self, size: int) -> memoryview:
         if size < 0:
             raise ValueError("a negative size")
+        self._open()
         while size and not self._rest and not self._ended:
-            self._open()
             event = self._event()
             if event is None:
                 raise CallError(Code.ONE_WAY)

@@ -1,0 +1,136 @@
+"""python3 -m yulimosar connect, listen and keygen."""
+import concurrent.futures
+import os
+import stat
+import subprocess
+import sys
+
+import pytest
+
+from yulimosar import KeyPair
+
+SECONDS = 100
+NOISECAT = os.environ.get("NOISECAT")    # the command of bindings/go, if it is there
+
+
+def command(*words, **options):
+    return subprocess.run([sys.executable, "-m", "yulimosar", *map(str, words)], capture_output=True, timeout=SECONDS,
+                          **options)
+
+
+@pytest.fixture
+def keys(tmp_path):
+    """Two key files, and the public keys."""
+    made = {}
+    for name in ("client", "server"):
+        done = command("keygen", "-o", tmp_path / name)
+        made[name] = tmp_path / name, done.stderr.decode().split()[-1]
+    return made
+
+
+def listen(*words, program=None):
+    """A listener at a free port, and the port."""
+    program = program or [sys.executable, "-m", "yulimosar", "listen", "127.0.0.1:0"]
+    process = subprocess.Popen([*program, *map(str, words)], stdin=subprocess.PIPE, stdout=subprocess.PIPE,
+                               stderr=subprocess.PIPE)
+    line = process.stderr.readline().decode()
+    assert line.startswith("listening on "), line + process.stderr.read().decode()
+    return process, line.rsplit(":", 1)[1].strip()
+
+
+def finish(process, data=b""):
+    """Begins to read what a process says: what is returned waits for its status, its output and its errors."""
+    pool = concurrent.futures.ThreadPoolExecutor(1)
+    future = pool.submit(process.communicate, data, SECONDS)
+    pool.shutdown(wait=False)
+
+    def wait():
+        out, err = future.result(SECONDS)
+        return process.returncode, out, err.decode()
+
+    return wait
+
+
+def test_keygen(tmp_path):
+    done = command("keygen")
+    assert done.returncode == 0
+    assert KeyPair.from_secret(bytes.fromhex(done.stdout.decode())).public.hex() == done.stderr.decode().split()[-1]
+    path = tmp_path / "key"
+    assert command("keygen", "-o", path).returncode == 0
+    assert stat.S_IMODE(path.stat().st_mode) == 0o600 and len(KeyPair.from_file(path).public) == 32
+    again = command("keygen", "-o", path)
+    assert again.returncode == 1 and b"exists" in again.stderr
+
+
+@pytest.mark.parametrize("words", [[], ["keygen", "extra"], ["connect"], ["connect", "nowhere"], ["talk"],
+                                   ["connect", "127.0.0.1:1", "--peer", "12"], ["connect", "127.0.0.1:1"],
+                                   ["connect", "127.0.0.1:1", "--any", "--pattern", "XY"]])
+def test_wrong_options(words):
+    done = command(*words)
+    assert done.returncode == 2 and done.stderr and not done.stdout
+
+
+def test_version_and_help():
+    assert command("--version").stdout == b"yulimosar 1.0.0\n"
+    assert b"--peer" in command("listen", "--help").stdout
+
+
+@pytest.mark.parametrize("pattern", ["XX", "IK", "XXpsk3"])
+def test_a_conversation(keys, pattern, tmp_path):
+    data = os.urandom(1_000_000)
+    (tmp_path / "psk").write_text("07" * 32)
+    more = ["--pattern", pattern, "--prologue", "chat 1", "--interval", "5"]
+    more += ["--psk", tmp_path / "psk"] if "psk" in pattern else []
+    server, port = listen("--key", keys["server"][0], "--peer", keys["client"][1], "--peer", keys["server"][1], *more)
+    served = finish(server, data[::-1])
+    client = command("connect", f"127.0.0.1:{port}", "--key", keys["client"][0], "--peer", keys["server"][1], "-v",
+                     *more, input=data)
+    assert client.returncode == 0 and client.stdout == data[::-1], client.stderr
+    assert b"handshake hash: " in client.stderr and keys["server"][1].encode() in client.stderr
+    assert served()[:2] == (0, data)
+
+
+def test_a_client_that_is_not_accepted(keys):
+    server, port = listen("--key", keys["server"][0], "--peer", keys["server"][1])
+    client = command("connect", f"127.0.0.1:{port}", "--key", keys["client"][0], "--any", input=b"hello")
+    status, out, err = finish(server)()
+    assert status == 1 and out == b"" and "another static key" in err
+    assert client.returncode == 1 and client.stderr.startswith(b"yulimosar: ")
+
+
+def test_a_full_disk(keys):
+    """Both ends end with status 1."""
+    with open("/dev/full", "wb") as full:
+        server = subprocess.Popen([sys.executable, "-m", "yulimosar", "listen", "127.0.0.1:0", "--any", "--key",
+                                   keys["server"][0]], stdin=subprocess.DEVNULL, stdout=full, stderr=subprocess.PIPE)
+        port = server.stderr.readline().decode().rsplit(":", 1)[1].strip()
+        client = command("connect", f"127.0.0.1:{port}", "--any", "--key", keys["client"][0], input=b"x" * 100000)
+        assert server.wait(SECONDS) == 1 and b"No space" in server.stderr.read()
+        server.stderr.close()
+    assert client.returncode == 1
+
+
+@pytest.mark.skipif(NOISECAT is None, reason="NOISECAT isn't set")
+@pytest.mark.parametrize("pattern", ["XX", "IK", "NNpsk0", "KK"])
+def test_with_noisecat(keys, pattern, tmp_path):
+    """Both ways round, with 1 MB each way."""
+    data = os.urandom(1_000_000)
+    (tmp_path / "psk").write_text("07" * 32)
+    psk = ["-psk", tmp_path / "psk"] if "psk" in pattern else []
+    for listens in ("python", "go"):
+        names = ("server", "client") if listens == "python" else ("client", "server")
+        own = [] if "NN" in pattern else ["--key", keys[names[0]][0], "--peer", keys[names[1]][1]]
+        other = [] if "NN" in pattern else ["-key", keys[names[1]][0], "-peer", keys[names[0]][1]]
+        own += ["--pattern", pattern, "--prologue", "live", *(f"-{word}" if word == "-psk" else word for word in psk)]
+        other += ["-pattern", pattern, "-prologue", "live", *psk]
+        if listens == "python":
+            server, port = listen(*own)
+            served = finish(server, data[::-1])
+            client = subprocess.run([NOISECAT, "-connect", f"127.0.0.1:{port}", *map(str, other)], input=data,
+                                    capture_output=True, timeout=SECONDS)
+        else:
+            server, port = listen(*other, program=[NOISECAT, "-listen", "127.0.0.1:0"])
+            served = finish(server, data[::-1])
+            client = command("connect", f"127.0.0.1:{port}", *own, input=data)
+        assert client.returncode == 0 and client.stdout == data[::-1], client.stderr
+        assert served()[:2] == (0, data)

@@ -1,0 +1,356 @@
+"""Channels over blocking sockets: ends, cuts and refusals, timeouts, threads, and what is left."""
+import io
+import os
+import socket
+import threading
+import time
+
+import pytest
+from loops import descriptors, open_keys
+from toys import Xor, configs
+
+from yulimosar import (CallError, ChannelCut, Code, Config, ConfigError, HandshakeTimeout, MessageRefused, NoiseSocket,
+                       accept, connect, sockets)
+
+LONG = 60
+
+
+@pytest.fixture(autouse=True)
+def nothing_is_left():
+    before, keys = descriptors(), open_keys()
+    yield
+    assert open_keys() <= keys and not descriptors() - before
+
+
+def in_thread(call, *words):
+    """Runs a call in a thread; `.result()` waits for it."""
+    result = []
+
+    def run():
+        try:
+            result.append((call(*words), None))
+        except Exception as error:
+            result.append((None, error))
+
+    thread = threading.Thread(target=run, daemon=True)
+    thread.start()
+
+    def wait():
+        thread.join(LONG)
+        assert result, "it hangs"
+        if result[0][1] is not None:
+            raise result[0][1]
+        return result[0][0]
+
+    return wait
+
+
+def pair(pattern="XX", tcp=False, **words):
+    """Two ends of a channel, and their sockets."""
+    first, second = configs(pattern, **words)
+    if tcp:
+        with socket.create_server(("127.0.0.1", 0)) as listener:
+            a = socket.create_connection(listener.getsockname())
+            b, _ = listener.accept()
+    else:
+        a, b = socket.socketpair()
+    accepted = in_thread(accept, b, second)
+    connected = connect(a, first)
+    return connected, accepted(), a, b
+
+
+def test_a_conversation():
+    client, server, _, _ = pair(tcp=True)
+    with client, server:
+        assert isinstance(client, NoiseSocket)
+        assert client.noise.hash == server.noise.hash and client.noise.initiator
+        assert client.getpeername() == server.getsockname() and client.fileno() > 0
+        client.sendall(b"hello")
+        assert server.recv(2) == b"he" and server.pending() == 3
+        room = bytearray(10)
+        assert server.recv_into(room, 2) == 2 and server.recv_into(memoryview(room)[2:]) == 1
+        assert room[:3] == b"llo" and server.pending() == 0
+        assert server.recv(0) == b"" and server.send(b"") == 0
+        server.sendall(bytearray(b"answer"))
+        server.shutdown(socket.SHUT_WR)
+        server.shutdown(socket.SHUT_WR)
+        with pytest.raises(CallError) as caught:
+            server.send(b"late")
+        assert caught.value.code == Code.CLOSED
+        with pytest.raises(ValueError):
+            server.shutdown(socket.SHUT_RDWR)
+        assert client.recv(100) == b"answer" and client.recv(100) == b"" and client.recv(1) == b""
+        client.sendall(b"more")
+        assert server.recv(100) == b"more"
+    assert client.noise.hash == server.noise.hash
+    for call in (lambda: client.recv(1), lambda: client.send(b"x"), lambda: client.sendall(b"x"),
+                 lambda: client.shutdown(socket.SHUT_WR)):
+        with pytest.raises(CallError) as caught:
+            call()
+        assert caught.value.code is None
+    client.close()
+
+
+def test_much_both_ways_at_once():
+    data = os.urandom(3_000_000)
+    client, server, _, _ = pair("NN", interval=3)
+
+    def send(channel):
+        channel.sendall(data)
+        channel.shutdown(socket.SHUT_WR)
+
+    def receive(channel):
+        got = bytearray()
+        while part := channel.recv(50000):
+            got += part
+        return bytes(got)
+
+    with client, server:
+        waits = [in_thread(call, channel) for channel in (client, server) for call in (send, receive)]
+        assert [wait() for wait in waits] == [None, data, None, data]
+
+
+def test_files():
+    client, server, _, _ = pair("NN")
+    with client, server:
+        with client.makefile("rwb") as file, server.makefile("wb") as out:
+            out.write(b"a line\nanother\n")
+            out.flush()
+            assert file.readline() == b"a line\n" and file.readline() == b"another\n"
+            file.write(b"back")
+            file.flush()
+        raw = server.makefile("rb", 0)
+        assert isinstance(raw, io.RawIOBase) and raw.read(10) == b"back"
+        client.shutdown(socket.SHUT_WR)
+        assert raw.read(10) == b"" and server.makefile().read() == b""
+        with pytest.raises(ValueError):
+            server.makefile("r")
+
+
+def test_close_sends_the_end_and_an_exception_does_not():
+    client, server, _, _ = pair("NN")
+    with server:
+        with client:
+            client.sendall(b"all")
+        assert server.recv(10) == b"all" and server.recv(10) == b""
+    client, server, _, _ = pair("NN")
+    with server:
+        with pytest.raises(KeyError), client:
+            client.sendall(b"some")
+            raise KeyError
+        assert server.recv(10) == b"some"
+        for _ in range(2):
+            with pytest.raises(ChannelCut):
+                server.recv(10)
+        with pytest.raises(ConnectionError):
+            server.sendall(b"x")
+
+
+@pytest.mark.parametrize("end", ["FIN", "RST", "half"])
+def test_a_cut(end):
+    client, server, a, _ = pair("NN", tcp=True)
+    with server:
+        client.sendall(b"before")
+        if end == "half":
+            client._channel.write(b"half")
+            a.sendall(client._channel.data_to_send()[:10])
+        elif end == "RST":
+            a.setsockopt(socket.SOL_SOCKET, socket.SO_LINGER, b"\1\0\0\0\0\0\0\0")
+            assert server.recv(10) == b"before"
+        a.close()
+        if end != "RST":
+            assert server.recv(10) == b"before"
+        with pytest.raises(ChannelCut) as caught:
+            server.recv(10)
+        assert isinstance(caught.value, ConnectionResetError)
+        assert (caught.value.__cause__ is not None) == (end == "RST")
+        with pytest.raises(ChannelCut):
+            server.send(b"x")
+    client.abort()
+
+
+def test_a_refused_message():
+    client, server, a, _ = pair("NN")
+    with server:
+        a.sendall(b"\x00\x14" + bytes(20))
+        with pytest.raises(MessageRefused) as caught:
+            server.recv(10)
+        assert caught.value.cause == Code.TAG
+        for call in (lambda: server.recv(1), lambda: server.send(b"x"), lambda: server.sendall(b"x")):
+            with pytest.raises(MessageRefused):
+                call()
+    with pytest.raises(ChannelCut):    # neither a message nor an end was sent
+        client.recv(10)
+    client.close()
+
+
+def test_timeouts_leave_the_channel_as_it_is():
+    client, server, a, b = pair("NN")
+    with client, server:
+        server.settimeout(0.05)
+        assert server.gettimeout() == b.gettimeout() == 0.05
+        with pytest.raises(TimeoutError):
+            server.recv(10)
+        client._channel.write(b"in two parts")
+        frame = client._channel.data_to_send()
+        a.sendall(frame[:7])
+        with pytest.raises(TimeoutError):
+            server.recv(100)
+        a.sendall(frame[7:])
+        assert server.recv(100) == b"in two parts"
+        server.settimeout(0)
+        with pytest.raises(BlockingIOError):
+            server.recv(10)
+        server.settimeout(None)
+        client.sendall(b"x")
+        assert server.recv(1) == b"x"
+
+
+@pytest.mark.parametrize("timeout, error", [(0.05, TimeoutError), (0, BlockingIOError)])
+def test_a_send_that_times_out_loses_nothing(timeout, error):
+    client, server, _, _ = pair("NN")
+    sent = 0
+    with client, server:
+        client.settimeout(timeout)
+        payload = os.urandom(65519)
+        with pytest.raises(error):
+            while True:
+                sent += client.send(payload)
+
+        def receive():
+            count = 0
+            while part := server.recv(65519):
+                assert part == payload[count % 65519:][:len(part)]
+                count += len(part)
+            return count
+
+        received = in_thread(receive)
+        client.settimeout(None)
+        client.shutdown(socket.SHUT_WR)
+        assert received() == sent
+
+
+def test_a_sendall_that_times_out_sends_no_end(monkeypatch):
+    monkeypatch.setattr(sockets, "CLOSE_TIMEOUT", 0.1)
+    client, server, _, _ = pair("NN")
+    with server:
+        client.settimeout(0.05)
+        with pytest.raises(TimeoutError):
+            client.sendall(bytes(10_000_000))
+        client.close()
+        with pytest.raises(ChannelCut):
+            while server.recv(65519):
+                pass
+
+
+def test_silent_and_slow_peers():
+    for limit, own, error in ((0.1, None, HandshakeTimeout), (0.1, 5, HandshakeTimeout), (10, 0.1, TimeoutError)):
+        for call in (connect, accept):
+            a, b = socket.socketpair()
+            a.settimeout(own)
+            with b, pytest.raises(error):
+                call(a, configs("XX", handshake_timeout=limit)[call is accept])
+            assert a.fileno() == -1
+    a, b = socket.socketpair()
+    with b:
+        waiting = in_thread(accept, a, configs("XX", handshake_timeout=0.5)[1])
+        started = time.monotonic()
+        for byte in b"\x00\x20" + bytes(31):
+            try:
+                b.sendall(bytes([byte]))
+            except OSError:
+                break
+            time.sleep(0.05)
+        with pytest.raises(HandshakeTimeout):
+            waiting()
+        assert time.monotonic() - started < LONG
+
+
+def test_faults_of_the_handshake_close_the_socket():
+    async def verify(_key):
+        return True
+
+    first, second = configs("XX")
+    for config, error in ((Config(pattern="XX"), ConfigError),
+                          (Config(pattern="KK", key=Xor(), peer_key=bytes(32), verify=verify, ephemeral=Xor),
+                           MessageRefused),
+                          (first, ChannelCut)):
+        a, b = socket.socketpair()
+        b.shutdown(socket.SHUT_WR)
+        with b, pytest.raises(error):
+            connect(a, config)
+        assert a.fileno() == -1
+    a, b = socket.socketpair()
+    refused = in_thread(accept, b, Config(pattern="XX", key=second.key, verify=lambda key: False, prologue=b"test",
+                                          ephemeral=Xor))
+    client = connect(a, first)
+    with pytest.raises(MessageRefused) as caught:
+        refused()
+    assert caught.value.message == 3
+    with pytest.raises(ChannelCut):
+        client.recv(1)
+    client.close()
+
+
+@pytest.mark.parametrize("end", ["close", "abort"])
+def test_close_under_a_call_that_waits(end):
+    client, server, _, _ = pair("NN", tcp=True)
+    receiving = in_thread(client.recv, 10)
+    sending = in_thread(client.sendall, bytes(50_000_000))
+    time.sleep(0.1)
+    getattr(client, end)()
+    with pytest.raises(CallError):
+        receiving()
+    with pytest.raises((CallError, OSError)):
+        sending()
+    with server, pytest.raises(ChannelCut):    # a send was running, so there is no end
+        while server.recv(65519):
+            pass
+
+
+def test_one_way():
+    client, server, _, _ = pair("N")
+    with client, server:
+        client.sendall(b"letter")
+        client.shutdown(socket.SHUT_WR)
+        assert server.recv(10) == b"letter" and server.recv(10) == b""
+        for call in (lambda: client.recv(1), lambda: server.sendall(b"x"), lambda: server.shutdown(socket.SHUT_WR)):
+            with pytest.raises(CallError) as caught:
+                call()
+            assert caught.value.code == Code.ONE_WAY
+
+
+def test_two_threads_send_whole_messages():
+    client, server, _, _ = pair("NN")
+    with server:
+        def send(byte):
+            for _ in range(100):
+                client.sendall(bytes([byte]) * 1000)
+
+        waits = [in_thread(send, byte) for byte in (1, 2)]
+        got = b"".join(iter(lambda: server.recv(1000) if len(seen) < 200 and not seen.append(1) else b"", b""))
+        for wait in waits:
+            wait()
+        client.close()
+        assert server.recv(1) == b"" and all(len(set(got[n:n + 1000])) == 1 for n in range(0, 200_000, 1000))
+
+
+seen = []
+
+
+def test_fork():
+    """The child of a fork can't use the parent's channel, and its close sends nothing."""
+    client, server, _, _ = pair("NN")
+    with client, server:
+        child = os.fork()
+        if child == 0:
+            try:
+                client.sendall(b"from the child")
+                os._exit(1)
+            except CallError:
+                client._sock.detach()
+                client.close()
+                os._exit(0)
+        assert os.waitstatus_to_exitcode(os.waitpid(child, 0)[1]) == 0
+        client.sendall(b"from the parent")
+        assert server.recv(100) == b"from the parent"
