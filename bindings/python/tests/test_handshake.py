@@ -14,7 +14,7 @@ from yulimosar import (CallError, Code, Config, ConfigError, Handshake, KeyPair,
                        PeerRefused, PskWanted, check_pattern, layout)
 from yulimosar.pattern import FUNDAMENTAL
 
-TOP = Path(__file__).resolve().parents[3]
+TOP = Path(os.environ.get("NOISE_TOP") or Path(__file__).resolve().parents[3])
 TEXTS = {path.stem: path.read_text() for path in sorted((TOP / "examples/patterns").glob("*.pattern"))}
 OWN = {name: text for name, text in TEXTS.items() if name != "broken"}
 
@@ -118,10 +118,11 @@ def test_first_fault(text, code, line):
 
 
 def test_broken_rule():
-    fault = check_pattern(TEXTS["broken"])
-    assert fault.code == Code.RULE and fault.rule == 4    # as `./noise check` says of this file
+    broken = "MYKN:\n  -> s\n  ...\n  -> e\n  <- e, se\n"    # examples/patterns/broken.pattern
+    fault = check_pattern(broken)
+    assert fault.code == Code.RULE and fault.rule == 4    # as `./noise check` says of it
     with pytest.raises(ConfigError):
-        Handshake(Config(pattern=TEXTS["broken"], key=Xor(), accept_any_key=True), True)
+        Handshake(Config(pattern=broken, key=Xor(), accept_any_key=True), True)
     assert all(check_pattern(text) is None for text in OWN.values())
 
 

@@ -8,7 +8,7 @@ from __future__ import annotations
 from typing import TYPE_CHECKING, Any
 
 from ._noise import ffi, lib
-from .channel import Agreed, Channel, Data, End, Pending
+from .channel import Agreed, Channel, Data, End, Event, Pending
 from .codes import MAX_DATAGRAM, MAX_MESSAGE, MAX_PAYLOAD, Code
 from .config import Config
 from .errors import (
@@ -27,7 +27,7 @@ if TYPE_CHECKING:
 __version__ = "1.0.0"
 __all__ = [
     "Agreed", "CallError", "Channel", "ChannelCut", "CipherState", "Code", "Config", "ConfigError", "DH", "Data",
-    "Datagrams", "End", "Fault", "Handshake", "HandshakeTimeout", "KeyPair", "Layout", "LowOrderKey", "MAX_DATAGRAM",
+    "Datagrams", "End", "Event", "Fault", "Handshake", "HandshakeTimeout", "KeyPair", "Layout", "LowOrderKey", "MAX_DATAGRAM",
     "MAX_MESSAGE", "MAX_PAYLOAD", "Message", "MessageRefused", "NoiseError", "NoiseSocket", "PeerRefused", "Pending",
     "Piece", "PskWanted", "Reader", "Receiver", "Sender", "Writer", "accept", "check_pattern", "connect", "layout",
     "open_connection", "start_server",

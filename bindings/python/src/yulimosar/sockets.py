@@ -6,7 +6,7 @@ import socket
 import threading
 import time
 from types import TracebackType
-from typing import Any, Self
+from typing import Any, BinaryIO, Self, cast
 
 from .channel import Agreed, Channel, Data, End, Event, Pending
 from .codes import MAX_PAYLOAD, Code
@@ -280,16 +280,16 @@ class NoiseSocket:
         """That of the socket."""
         return self._sock.getsockname()
 
-    def makefile(self, mode: str = "rb", buffering: int = -1) -> io.IOBase:
+    def makefile(self, mode: str = "rb", buffering: int = -1) -> BinaryIO:
         """A binary file over the channel. To close it doesn't close the channel."""
         if mode not in ("rb", "wb", "rwb"):
             raise ValueError("mode is rb, wb or rwb")
         raw = _Raw(self, "r" in mode, "w" in mode)
         if buffering == 0:
-            return raw
+            return cast(BinaryIO, raw)
         size = io.DEFAULT_BUFFER_SIZE if buffering < 0 else buffering
         kinds: dict[str, Any] = {"rb": io.BufferedReader, "wb": io.BufferedWriter, "rwb": io.BufferedRWPair}
-        made: io.IOBase = kinds[mode](raw, raw, size) if mode == "rwb" else kinds[mode](raw, size)
+        made: BinaryIO = kinds[mode](raw, raw, size) if mode == "rwb" else kinds[mode](raw, size)
         return made
 
     def __enter__(self) -> Self:
