@@ -78,7 +78,7 @@ impl<'a, S: Dh> Builder<'a, S> {
     }
 
     /// The secrets of the psk tokens for which `psk` gives none come when their tokens do, chosen by the other party's static key: by
-    /// `Stream::with_psk_for` or `Handshake::set_psk`.
+    /// [`Stream::with_psk_for`](crate::Stream::with_psk_for), [`Connecting::set_psk`](crate::Connecting::set_psk) or [`Handshake::set_psk`].
     pub fn late_psks(mut self) -> Self {
         self.late_psks = true;
         self
@@ -90,8 +90,8 @@ impl<'a, S: Dh> Builder<'a, S> {
         self
     }
 
-    /// The most bytes of a handshake message that `Stream` takes; 8192 at first. A longer one is refused with `TooLong`
-    /// as soon as its length has come.
+    /// The most bytes of a handshake message that `Connecting` takes, and so `Stream` and `AsyncStream`; 8192 at first. A longer one is refused with
+    /// `TooLong` as soon as its length has come.
     pub fn max_handshake_message(mut self, len: usize) -> Self {
         self.options.max_message = len;
         self
@@ -114,20 +114,14 @@ impl<'a, S: Dh> Builder<'a, S> {
         if !raw::is_library() {
             return Err(Error::Version);
         }
-        let ephemeral = E::draw().ok_or(Error::KeyPair)?;
-        let mut psks = [[0; 32]; MAX_PSKS];
-        for (place, psk) in psks.iter_mut().zip(self.psks.iter().flatten()) {
+        let ephemeral = E::draw()?;
+        let mut setup = Setup::new(responder, Key::of(Some(ephemeral.public())));
+        setup.s = Key::of(self.static_key.as_ref().map(|key| key.public()));
+        setup.remote_s = Key::of(self.remote_static);
+        setup.psk_count = self.psk_count as u8;
+        for (place, psk) in setup.psks.iter_mut().zip(self.psks.iter().flatten()) {
             place.copy_from_slice(&psk[..]);
         }
-        let setup = Setup {
-            responder,
-            e: Key::of(Some(ephemeral.public())),
-            s: Key::of(self.static_key.as_ref().map(|key| key.public())),
-            remote_e: Key::default(),
-            remote_s: Key::of(self.remote_static),
-            psk_count: self.psk_count as u8,
-            psks,
-        };
         let mut memory = raw::Handshake::new();
         match start(&mut memory, self.pattern, self.prologue, &setup) {
             OK if memory.lacks_psk() != self.late_psks => Err(Error::PskCount),
@@ -151,15 +145,7 @@ impl<S: Dh> fmt::Debug for Builder<'_, S> {
 
 // Whether a party has a static key in the pattern: without one its setup lacks one.
 fn has_static(pattern: &str, responder: u8) -> bool {
-    let setup = Setup {
-        responder,
-        e: Key::of(Some([9; 32])),
-        s: Key::default(),
-        remote_e: Key::default(),
-        remote_s: Key::default(),
-        psk_count: 0,
-        psks: [[0; 32]; MAX_PSKS],
-    };
+    let setup = Setup::new(responder, Key::of(Some([9; 32])));
     start(&mut raw::Handshake::new(), pattern, &[], &setup) == STATIC_MISSING
 }
 

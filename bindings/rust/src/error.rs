@@ -1,4 +1,4 @@
-use crate::header;
+use crate::{header, DhError};
 use core::fmt;
 
 /// Why a call did nothing.
@@ -11,7 +11,7 @@ use core::fmt;
 /// assert_eq!(error, Error::StaticMissing);
 /// assert_eq!(error.to_string(), "the pattern needs a static key of this party: Builder::static_key");
 /// ```
-#[derive(Debug, Clone, Copy, PartialEq, Eq)]
+#[derive(Debug, Clone, PartialEq, Eq)]
 #[non_exhaustive]
 pub enum Error {
     /// Not the name of a fundamental pattern with 25519, ChaChaPoly and SHA256.
@@ -66,14 +66,18 @@ pub enum Error {
     Old,
     /// A datagram with this nonce was opened before.
     Repeated,
-    /// A key pair couldn't be drawn or read, or X25519 of the other party's public key fails or is zeros (Noise, 12.1).
-    KeyPair,
+    /// A key pair couldn't be drawn or read, or X25519 by it failed: the cause is the `source` of this error.
+    KeyPair(DhError),
+    /// X25519 of the other party's public key gives zeros (Noise, 12.1).
+    Zeros,
     /// The program refused the other party's static key, or the handshake has none.
     Refused,
     /// The connection ended before the stream did: what was read isn't all that the other party has written.
     Cut,
-    /// This party has ended its stream, or the channel is over: a message was refused, or the connection was lost.
+    /// This party has ended its stream.
     Closed,
+    /// The channel is over: a message was refused, or the connection was lost or cut. Nothing more is sent.
+    Aborted,
     /// The time of a `Deadline` has passed: the handshake has failed.
     Deadline,
     /// The linked library has another version or other sizes than this crate.
@@ -138,10 +142,12 @@ impl fmt::Display for Error {
             Error::Reserved => "the datagram has the reserved nonce",
             Error::Old => "the datagram is older than the window",
             Error::Repeated => "a datagram with this nonce was opened before",
-            Error::KeyPair => "a key pair couldn't be drawn or read, or X25519 of the other party's public key fails",
+            Error::KeyPair(_) => "a key pair couldn't be drawn or read, or X25519 by it failed",
+            Error::Zeros => "X25519 of the other party's public key gives zeros",
             Error::Refused => "the other party's static key isn't accepted",
             Error::Cut => "the connection ended before the stream did",
-            Error::Closed => "the stream was ended before, or the channel is over",
+            Error::Closed => "the stream was ended before",
+            Error::Aborted => "the channel is over: a message was refused, or the connection was lost",
             Error::Deadline => "the deadline has passed",
             Error::Version => "the linked library has another version or other sizes than this crate",
             Error::Library(code) => return write!(f, "code {code} of the library"),
@@ -162,7 +168,7 @@ impl Error {
         use std::io::ErrorKind;
         match self {
             Error::Short { .. } | Error::Tag { .. } | Error::TooLong => ErrorKind::InvalidData,
-            Error::Reserved | Error::Old | Error::Repeated => ErrorKind::InvalidData,
+            Error::Reserved | Error::Old | Error::Repeated | Error::Zeros => ErrorKind::InvalidData,
             Error::Name | Error::Pattern | Error::Window | Error::Room => ErrorKind::InvalidInput,
             Error::StaticMissing | Error::RemoteMissing | Error::RemoteUnexpected => ErrorKind::InvalidInput,
             Error::PskCount | Error::WantedPsk { .. } => ErrorKind::InvalidInput,
@@ -172,13 +178,27 @@ impl Error {
             Error::Cut => ErrorKind::UnexpectedEof,
             Error::Deadline => ErrorKind::TimedOut,
             Error::Closed => ErrorKind::BrokenPipe,
-            Error::Exhausted | Error::KeyPair | Error::Library(_) => ErrorKind::Other,
+            Error::Aborted => ErrorKind::ConnectionAborted,
+            Error::Exhausted | Error::KeyPair(_) | Error::Library(_) => ErrorKind::Other,
         }
     }
 }
 
+impl From<DhError> for Error {
+    fn from(cause: DhError) -> Error {
+        Error::KeyPair(cause)
+    }
+}
+
 #[cfg(feature = "std")]
-impl std::error::Error for Error {}
+impl std::error::Error for Error {
+    fn source(&self) -> Option<&(dyn std::error::Error + 'static)> {
+        match self {
+            Error::KeyPair(cause) => Some(cause.cause()),
+            _ => None,
+        }
+    }
+}
 
 #[cfg(feature = "std")]
 impl From<Error> for std::io::Error {

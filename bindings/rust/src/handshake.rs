@@ -1,9 +1,11 @@
 use crate::header::{OK, WANTED, WANTED_PSK};
 use crate::raw::{self, Told};
-use crate::{Datagrams, Dh, Ephemeral, Error, Transport};
+use crate::{Datagrams, Dh, Ephemeral, Error, ReceiveCipherState, SendCipherState, Transport};
 use core::fmt;
 
-/// A handshake, message by message. The parties write in turn, the initiator first; `finish` or `finish_datagrams` uses it up.
+/// A handshake, message by message. The parties write in turn, the initiator first; `finish`, `finish_datagrams` or `finish_ciphers` uses it up.
+///
+/// Calls through `&` only read: threads may make them at once, so a handshake is `Sync` where its key pairs are.
 ///
 #[cfg_attr(feature = "openssl", doc = "```")]
 #[cfg_attr(not(feature = "openssl"), doc = "```ignore")]
@@ -35,9 +37,9 @@ pub struct Handshake<S: Dh, E: Ephemeral> {
 #[derive(Clone, Copy, Debug)]
 pub(crate) struct Options {
     pub(crate) interval: u64,
-    #[cfg_attr(not(feature = "std"), allow(dead_code))]
+    #[cfg_attr(not(feature = "alloc"), allow(dead_code))]
     pub(crate) max_message: usize,
-    #[cfg_attr(not(feature = "std"), allow(dead_code))]
+    #[cfg_attr(not(feature = "alloc"), allow(dead_code))]
     pub(crate) other_has_static: bool,
 }
 
@@ -75,11 +77,13 @@ impl<S: Dh, E: Ephemeral> Handshake<S, E> {
 
     // Passes the X25519 result that the call needs. Zeros are refused (Noise, 12.1).
     fn answer(&mut self, told: &Told) -> Result<(), Error> {
-        let result = match &self.static_key {
-            Some(key) if told.of_static != 0 => key.agree(&told.remote),
-            _ => self.ephemeral.agree(&told.remote),
+        let mut result = match &self.static_key {
+            Some(key) if told.of_static != 0 => key.agree(&told.remote)?,
+            _ => self.ephemeral.agree(&told.remote)?,
         };
-        let mut result = result.filter(|result| result != &[0; 32]).ok_or(Error::KeyPair)?;
+        if result == [0; 32] {
+            return Err(Error::Zeros);
+        }
         let code = self.memory.answer(told.of_static, &told.remote, &result);
         raw::wipe(&mut result);
         match code {
@@ -157,22 +161,32 @@ impl<S: Dh, E: Ephemeral> Handshake<S, E> {
     }
 
     // Whether the pattern has a static key of the other party.
-    #[cfg(feature = "std")]
+    #[cfg(feature = "alloc")]
     pub(crate) fn other_has_static(&self) -> bool {
         self.options.other_has_static
     }
 
-    // The most bytes that a `Stream` takes as a message of the handshake.
-    #[cfg(feature = "std")]
+    // The most bytes that a `Connecting` takes as a message of the handshake.
+    #[cfg(feature = "alloc")]
     pub(crate) fn max_message(&self) -> usize {
         self.options.max_message
     }
 
-    #[cfg(feature = "std")]
+    #[cfg(feature = "alloc")]
     pub(crate) fn finish_stream(self) -> Result<(raw::StreamSender, raw::StreamReceiver), Error> {
         let (mut sender, mut receiver) = (raw::StreamSender::new(), raw::StreamReceiver::new());
         match self.memory.finish_stream(self.options.interval, &mut sender, &mut receiver) {
             OK => Ok((sender, receiver)),
+            code => Err(Error::of(code, None)),
+        }
+    }
+
+    /// Makes the two cipher states of Split (Noise, 5.2), for packets of your own: the one to encrypt what this party sends, and the one to decrypt what it
+    /// receives. The one for the responder's messages of a one-way pattern has no key: each call returns `OneWay` (Noise, 7.4).
+    pub fn finish_ciphers(self) -> Result<(SendCipherState, ReceiveCipherState), Error> {
+        let (mut send, mut receive) = (raw::Cipher::new(), raw::Cipher::new());
+        match self.memory.finish_ciphers(&mut send, &mut receive) {
+            OK => Ok((SendCipherState(send), ReceiveCipherState(receive))),
             code => Err(Error::of(code, None)),
         }
     }

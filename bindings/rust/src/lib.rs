@@ -1,12 +1,16 @@
-//! The Noise Protocol Framework, revision 34, with 25519, ChaChaPoly and SHA256, over the static library `noise_c`, whose calls are proved
-//! to do what the framework says.
+//! The Noise Protocol Framework, revision 34, with 25519, ChaChaPoly and SHA256. What computes the messages is the library `noise_c`, whose calls are
+//! proved to do what the framework says; its text is in the crate, and rustc assembles it.
 //!
-//! [`Builder`] starts a [`Handshake`], which becomes a [`Transport`], for a stream, or [`Datagrams`], for a network that loses and reorders.
-//! [`Stream`] does all of this over anything that reads and writes. X25519 comes through the trait [`Dh`]: from OpenSSL with the feature `openssl`, or
-//! from any other crate in a few lines.
+//! [`Builder`] starts a [`Handshake`], which becomes a [`Transport`], for messages in order, [`Datagrams`], for a network that loses and reorders, or two
+//! cipher states, for packets of your own. [`Stream`] does all of this over anything that reads and writes, [`AsyncStream`] over what tokio reads and writes,
+//! and [`Connection`] over whatever you have: it only takes bytes and gives bytes. X25519 comes through the trait [`Dh`]: from OpenSSL with the feature
+//! `openssl`, or from any other crate in a few lines.
 //!
-//! Only [`Stream`] uses the heap; without the feature `std` the crate is `no_std`. A value's keys are overwritten when it is dropped; what a move
-//! leaves on the stack isn't.
+//! Without the feature `std` the crate is `no_std`, and with neither `std` nor `alloc` it uses no heap. The feature `system` links an installed library in
+//! place of the text, as for a target that has none.
+//!
+//! A value's keys are overwritten when it is dropped; what a move leaves on the stack isn't. Calls through `&` only read, so threads may make them at once:
+//! each type is `Send` and `Sync` where what it is made of is.
 //!
 //! ```
 //! # #[cfg(feature = "openssl")] fn main() -> Result<(), Box<dyn std::error::Error>> {
@@ -38,8 +42,20 @@
 //! ```
 #![cfg_attr(not(feature = "std"), no_std)]
 #![deny(unsafe_op_in_unsafe_fn, missing_docs, missing_debug_implementations)]
+// Some link to what another feature adds.
+#![cfg_attr(not(feature = "tokio"), allow(rustdoc::broken_intra_doc_links))]
 
+#[cfg(feature = "alloc")]
+extern crate alloc;
+
+#[cfg(not(feature = "system"))]
+mod assembly;
+#[cfg(feature = "tokio")]
+mod async_stream;
 mod builder;
+mod cipher_state;
+#[cfg(feature = "alloc")]
+mod connection;
 #[cfg(feature = "std")]
 mod deadline;
 mod dh;
@@ -49,16 +65,21 @@ mod handshake;
 mod header;
 #[cfg(feature = "openssl")]
 mod key_pair;
-#[cfg_attr(not(feature = "std"), allow(dead_code))] // streams
+#[cfg_attr(not(feature = "alloc"), allow(dead_code))] // streams
 mod raw;
 #[cfg(feature = "std")]
 mod stream;
 mod transport;
 
+#[cfg(feature = "tokio")]
+pub use async_stream::{AsyncReadHalf, AsyncStream, AsyncWriteHalf};
 pub use builder::Builder;
+pub use cipher_state::{ReceiveCipherState, SendCipherState};
+#[cfg(feature = "alloc")]
+pub use connection::{Connecting, Connection, Event, Step, StreamReceiver, StreamSender};
 #[cfg(feature = "std")]
 pub use deadline::{Deadline, Timeouts};
-pub use dh::{Dh, Ephemeral, NoKey};
+pub use dh::{Dh, DhError, Ephemeral, NoKey};
 pub use error::Error;
 pub use handshake::Handshake;
 #[cfg(feature = "openssl")]

@@ -2,29 +2,12 @@
 //
 // Each call is sound since the types ensure what the header asks of a caller. Pointers come from references and slices: none is NULL, each leads to as
 // many bytes as its count says, and one that isn't const comes from `&mut`, so no other pointer leads there. The kept structs are aligned to 8
-// by their declaration, and their sizes are compared with the library's before the first is written (`is_library`). A kept struct that a call may
-// change comes from `&mut`: no other thread has it. Calls that take one as const may run at once, so `&` may be shared. The call checks its content.
-use crate::header::{KEY_LEN, MAX_PSKS, OK, ONE_WAY, SIZE_OF_HANDSHAKE, SIZE_OF_RECEIVER, SIZE_OF_SENDER, VERSION};
-use crate::header::{
-    SIZE_OF_DATAGRAM_RECEIVER, SIZE_OF_DATAGRAM_SENDER, SIZE_OF_STREAM_RECEIVER, SIZE_OF_STREAM_SENDER,
-};
+// by their declaration, and their sizes are compared with the library's before the first is written (`is_library`). A call that changes a kept struct
+// takes it as `&mut`: no other thread has it. A call that takes it as const takes `&`: the header allows such calls at once, on any number of threads,
+// so the structs are `Sync`. The call checks a struct's content.
+use crate::header::*;
 use core::mem::size_of;
 use core::sync::atomic::{compiler_fence, AtomicBool, Ordering};
-
-#[repr(C, align(8))]
-pub(crate) struct Handshake([u8; SIZE_OF_HANDSHAKE]);
-#[repr(C, align(8))]
-pub(crate) struct StreamSender([u8; SIZE_OF_STREAM_SENDER]);
-#[repr(C, align(8))]
-pub(crate) struct StreamReceiver([u8; SIZE_OF_STREAM_RECEIVER]);
-#[repr(C, align(8))]
-pub(crate) struct Sender([u8; SIZE_OF_SENDER]);
-#[repr(C, align(8))]
-pub(crate) struct Receiver([u8; SIZE_OF_RECEIVER]);
-#[repr(C, align(8))]
-pub(crate) struct DatagramSender([u8; SIZE_OF_DATAGRAM_SENDER]);
-#[repr(C, align(8))]
-pub(crate) struct DatagramReceiver([u8; SIZE_OF_DATAGRAM_RECEIVER]);
 
 #[repr(C)]
 #[derive(Clone, Copy, Default)]
@@ -73,15 +56,58 @@ pub(crate) struct Stage {
     pub(crate) writes_next: u8,
 }
 
+// The sizes that C gives these structs.
+const _: () = assert!(size_of::<Key>() == 33 && size_of::<Setup>() == 2 + 4 * 33 + 9 * 32 && size_of::<Stage>() == 4);
+#[cfg(target_pointer_width = "64")]
+const _: () = assert!(size_of::<Told>() == 56 && size_of::<StreamTold>() == 32);
+
+macro_rules! kept {
+    ($($name:ident $size:ident $told:ident;)*) => {
+        $(
+            #[repr(C, align(8))]
+            pub(crate) struct $name([u8; $size]);
+
+            const _: () = assert!(size_of::<$name>() == $size);
+
+            impl $name {
+                // Memory that holds nothing: each call on it returns STRUCT.
+                pub(crate) const fn new() -> $name {
+                    $name([0; $size])
+                }
+            }
+
+            impl Drop for $name {
+                fn drop(&mut self) {
+                    wipe(&mut self.0);
+                }
+            }
+        )*
+
+        extern "C" {
+            $(fn $told() -> usize;)*
+        }
+
+        fn has_sizes() -> bool {
+            // SAFETY: these take nothing.
+            unsafe { true $(&& $told() == size_of::<$name>())* }
+        }
+    };
+}
+
+kept! {
+    Handshake SIZE_OF_HANDSHAKE noise_handshake_size;
+    StreamSender SIZE_OF_STREAM_SENDER noise_stream_sender_size;
+    StreamReceiver SIZE_OF_STREAM_RECEIVER noise_stream_receiver_size;
+    Sender SIZE_OF_SENDER noise_sender_size;
+    Receiver SIZE_OF_RECEIVER noise_receiver_size;
+    DatagramSender SIZE_OF_DATAGRAM_SENDER noise_datagram_sender_size;
+    DatagramReceiver SIZE_OF_DATAGRAM_RECEIVER noise_datagram_receiver_size;
+    Cipher SIZE_OF_CIPHER noise_cipher_size;
+}
+
+#[cfg_attr(feature = "system", link(name = "noise_c"))]
 extern "C" {
     fn noise_version() -> u32;
-    fn noise_handshake_size() -> usize;
-    fn noise_stream_sender_size() -> usize;
-    fn noise_stream_receiver_size() -> usize;
-    fn noise_sender_size() -> usize;
-    fn noise_receiver_size() -> usize;
-    fn noise_datagram_sender_size() -> usize;
-    fn noise_datagram_receiver_size() -> usize;
     fn noise_start(
         h: *mut Handshake,
         pattern: *const u8,
@@ -128,7 +154,16 @@ extern "C" {
         out_len: usize,
         told: *mut Told,
     ) -> u32;
+    fn noise_seal_in_place(
+        s: *mut Sender,
+        buffer: *mut u8,
+        buffer_len: usize,
+        payload_len: usize,
+        told: *mut Told,
+    ) -> u32;
     fn noise_open(r: *mut Receiver, message: *mut u8, message_len: usize, told: *mut Told) -> u32;
+    fn noise_sender_nonce(s: *const Sender, nonce: *mut u64) -> u32;
+    fn noise_receiver_nonce(r: *const Receiver, nonce: *mut u64) -> u32;
     fn noise_finish_datagrams(
         h: *const Handshake,
         window: u32,
@@ -143,7 +178,36 @@ extern "C" {
         out_len: usize,
         told: *mut Told,
     ) -> u32;
+    fn noise_datagram_seal_in_place(
+        s: *mut DatagramSender,
+        buffer: *mut u8,
+        buffer_len: usize,
+        payload_len: usize,
+        told: *mut Told,
+    ) -> u32;
     fn noise_datagram_open(r: *mut DatagramReceiver, datagram: *mut u8, datagram_len: usize, told: *mut Told) -> u32;
+    fn noise_datagram_sender_nonce(s: *const DatagramSender, nonce: *mut u64) -> u32;
+    fn noise_finish_ciphers(h: *const Handshake, send: *mut Cipher, receive: *mut Cipher) -> u32;
+    fn noise_cipher_encrypt(
+        c: *mut Cipher,
+        ad: *const u8,
+        ad_len: usize,
+        buffer: *mut u8,
+        buffer_len: usize,
+        text_len: usize,
+        told: *mut Told,
+    ) -> u32;
+    fn noise_cipher_decrypt(
+        c: *mut Cipher,
+        ad: *const u8,
+        ad_len: usize,
+        message: *mut u8,
+        message_len: usize,
+        told: *mut Told,
+    ) -> u32;
+    fn noise_cipher_rekey(c: *mut Cipher) -> u32;
+    fn noise_cipher_nonce(c: *const Cipher, nonce: *mut u64) -> u32;
+    fn noise_cipher_set_nonce(c: *mut Cipher, nonce: u64) -> u32;
 }
 
 impl Key {
@@ -153,6 +217,20 @@ impl Key {
 
     fn bytes(self) -> Option<[u8; KEY_LEN]> {
         Some(self.bytes).filter(|_| self.present != 0)
+    }
+}
+
+impl Setup {
+    pub(crate) fn new(responder: u8, e: Key) -> Setup {
+        let none = Key::default();
+        let psks = [[0; KEY_LEN]; MAX_PSKS];
+        Setup { responder, e, s: none, remote_e: none, remote_s: none, psk_count: 0, psks }
+    }
+}
+
+impl Drop for Setup {
+    fn drop(&mut self) {
+        self.psks.iter_mut().for_each(|psk| wipe(psk));
     }
 }
 
@@ -173,24 +251,19 @@ pub(crate) fn is_library() -> bool {
     if IS_LIBRARY.load(Ordering::Relaxed) {
         return true;
     }
-    // SAFETY: these take nothing.
-    let (version, sizes) = unsafe {
-        let handshake = noise_handshake_size();
-        let streams = [noise_stream_sender_size(), noise_stream_receiver_size()];
-        let messages = [noise_sender_size(), noise_receiver_size()];
-        let datagrams = [noise_datagram_sender_size(), noise_datagram_receiver_size()];
-        (noise_version(), (handshake, streams, messages, datagrams))
-    };
-    let expected = (
-        size_of::<Handshake>(),
-        [size_of::<StreamSender>(), size_of::<StreamReceiver>()],
-        [size_of::<Sender>(), size_of::<Receiver>()],
-        [size_of::<DatagramSender>(), size_of::<DatagramReceiver>()],
-    );
-    let own = VERSION[0] << 16 | VERSION[1] << 8 | VERSION[2];
-    let is = version >> 16 == VERSION[0] && version >= own && sizes == expected;
+    let is = is_version(version()) && has_sizes();
     IS_LIBRARY.store(is, Ordering::Relaxed);
     is
+}
+
+fn version() -> u32 {
+    // SAFETY: it takes nothing.
+    unsafe { noise_version() }
+}
+
+fn is_version(version: u32) -> bool {
+    let own = VERSION[0] << 16 | VERSION[1] << 8 | VERSION[2];
+    version >> 16 == VERSION[0] && version >= own
 }
 
 // Puts the length in front of a message that was written to buffer[2..].
@@ -206,11 +279,6 @@ pub(crate) fn frame_find(buffer: &[u8], told: &mut StreamTold) -> u32 {
 }
 
 impl Handshake {
-    // Memory without a handshake: each call on it returns STRUCT.
-    pub(crate) const fn new() -> Handshake {
-        Handshake([0; SIZE_OF_HANDSHAKE])
-    }
-
     pub(crate) fn start(&mut self, pattern: &[u8], prologue: &[u8], setup: &Setup) -> u32 {
         // SAFETY: see above.
         unsafe { noise_start(self, pattern.as_ptr(), pattern.len(), prologue.as_ptr(), prologue.len(), setup) }
@@ -278,22 +346,18 @@ impl Handshake {
         unsafe { noise_finish(self, interval, sender, receiver) }
     }
 
-    pub(crate) fn finish_datagrams(
-        &self,
-        window: u32,
-        sender: &mut DatagramSender,
-        receiver: &mut DatagramReceiver,
-    ) -> u32 {
+    pub(crate) fn finish_datagrams(&self, window: u32, s: &mut DatagramSender, r: &mut DatagramReceiver) -> u32 {
         // SAFETY: see above.
-        unsafe { noise_finish_datagrams(self, window, sender, receiver) }
+        unsafe { noise_finish_datagrams(self, window, s, r) }
+    }
+
+    pub(crate) fn finish_ciphers(&self, send: &mut Cipher, receive: &mut Cipher) -> u32 {
+        // SAFETY: see above.
+        unsafe { noise_finish_ciphers(self, send, receive) }
     }
 }
 
 impl StreamSender {
-    pub(crate) const fn new() -> StreamSender {
-        StreamSender([0; SIZE_OF_STREAM_SENDER])
-    }
-
     pub(crate) fn write(&mut self, payload: &[u8], out: &mut [u8], told: &mut StreamTold) -> u32 {
         // SAFETY: see above.
         unsafe { noise_stream_write(self, payload.as_ptr(), payload.len(), out.as_mut_ptr(), out.len(), told) }
@@ -306,10 +370,6 @@ impl StreamSender {
 }
 
 impl StreamReceiver {
-    pub(crate) const fn new() -> StreamReceiver {
-        StreamReceiver([0; SIZE_OF_STREAM_RECEIVER])
-    }
-
     pub(crate) fn read(&mut self, buffer: &mut [u8], told: &mut StreamTold) -> u32 {
         // SAFETY: see above.
         unsafe { noise_stream_read(self, buffer.as_mut_ptr(), buffer.len(), told) }
@@ -328,93 +388,121 @@ impl StreamReceiver {
 }
 
 impl Sender {
-    pub(crate) const fn new() -> Sender {
-        Sender([0; SIZE_OF_SENDER])
-    }
-
     pub(crate) fn seal(&mut self, payload: &[u8], out: &mut [u8], told: &mut Told) -> u32 {
         // SAFETY: see above.
         unsafe { noise_seal(self, payload.as_ptr(), payload.len(), out.as_mut_ptr(), out.len(), told) }
     }
+
+    pub(crate) fn seal_in_place(&mut self, buffer: &mut [u8], payload_len: usize, told: &mut Told) -> u32 {
+        // SAFETY: see above.
+        unsafe { noise_seal_in_place(self, buffer.as_mut_ptr(), buffer.len(), payload_len, told) }
+    }
+
+    pub(crate) fn nonce(&self) -> u64 {
+        let mut nonce = 0;
+        // SAFETY: see above.
+        unsafe { noise_sender_nonce(self, &mut nonce) };
+        nonce
+    }
 }
 
 impl Receiver {
-    pub(crate) const fn new() -> Receiver {
-        Receiver([0; SIZE_OF_RECEIVER])
-    }
-
     pub(crate) fn open(&mut self, message: &mut [u8], told: &mut Told) -> u32 {
         // SAFETY: see above.
         unsafe { noise_open(self, message.as_mut_ptr(), message.len(), told) }
     }
+
+    pub(crate) fn nonce(&self) -> u64 {
+        let mut nonce = 0;
+        // SAFETY: see above.
+        unsafe { noise_receiver_nonce(self, &mut nonce) };
+        nonce
+    }
 }
 
 impl DatagramSender {
-    pub(crate) const fn new() -> DatagramSender {
-        DatagramSender([0; SIZE_OF_DATAGRAM_SENDER])
-    }
-
     pub(crate) fn seal(&mut self, payload: &[u8], out: &mut [u8], told: &mut Told) -> u32 {
         // SAFETY: see above.
         unsafe { noise_datagram_seal(self, payload.as_ptr(), payload.len(), out.as_mut_ptr(), out.len(), told) }
     }
+
+    pub(crate) fn seal_in_place(&mut self, buffer: &mut [u8], payload_len: usize, told: &mut Told) -> u32 {
+        // SAFETY: see above.
+        unsafe { noise_datagram_seal_in_place(self, buffer.as_mut_ptr(), buffer.len(), payload_len, told) }
+    }
+
+    pub(crate) fn nonce(&self) -> u64 {
+        let mut nonce = 0;
+        // SAFETY: see above.
+        unsafe { noise_datagram_sender_nonce(self, &mut nonce) };
+        nonce
+    }
 }
 
 impl DatagramReceiver {
-    pub(crate) const fn new() -> DatagramReceiver {
-        DatagramReceiver([0; SIZE_OF_DATAGRAM_RECEIVER])
-    }
-
     pub(crate) fn open(&mut self, datagram: &mut [u8], told: &mut Told) -> u32 {
         // SAFETY: see above.
         unsafe { noise_datagram_open(self, datagram.as_mut_ptr(), datagram.len(), told) }
     }
 }
 
-impl Drop for Handshake {
-    fn drop(&mut self) {
-        wipe(&mut self.0);
+impl Cipher {
+    pub(crate) fn encrypt(&mut self, ad: &[u8], buffer: &mut [u8], text_len: usize, told: &mut Told) -> u32 {
+        // SAFETY: see above.
+        unsafe { noise_cipher_encrypt(self, ad.as_ptr(), ad.len(), buffer.as_mut_ptr(), buffer.len(), text_len, told) }
+    }
+
+    pub(crate) fn decrypt(&mut self, ad: &[u8], message: &mut [u8], told: &mut Told) -> u32 {
+        // SAFETY: see above.
+        unsafe { noise_cipher_decrypt(self, ad.as_ptr(), ad.len(), message.as_mut_ptr(), message.len(), told) }
+    }
+
+    pub(crate) fn rekey(&mut self) -> u32 {
+        // SAFETY: see above.
+        unsafe { noise_cipher_rekey(self) }
+    }
+
+    pub(crate) fn nonce(&self) -> u64 {
+        let mut nonce = 0;
+        // SAFETY: see above.
+        unsafe { noise_cipher_nonce(self, &mut nonce) };
+        nonce
+    }
+
+    pub(crate) fn set_nonce(&mut self, nonce: u64) -> u32 {
+        // SAFETY: see above.
+        unsafe { noise_cipher_set_nonce(self, nonce) }
     }
 }
 
-impl Drop for StreamSender {
-    fn drop(&mut self) {
-        wipe(&mut self.0);
-    }
-}
+#[cfg(test)]
+mod tests {
+    use super::*;
+    use core::mem::ManuallyDrop;
 
-impl Drop for StreamReceiver {
-    fn drop(&mut self) {
-        wipe(&mut self.0);
+    #[test]
+    fn another_version_is_refused() {
+        assert!(is_library());
+        assert!(is_version(0x10000) && is_version(0x10001) && is_version(0x10200));
+        assert!(!is_version(0) && !is_version(0xffff) && !is_version(0x20000) && !is_version(0x1010000));
     }
-}
 
-impl Drop for Sender {
-    fn drop(&mut self) {
-        wipe(&mut self.0);
+    #[test]
+    #[cfg(not(feature = "system"))]
+    fn the_text_has_this_version() {
+        assert_eq!(version(), VERSION[0] << 16 | VERSION[1] << 8 | VERSION[2]);
     }
-}
 
-impl Drop for Receiver {
-    fn drop(&mut self) {
-        wipe(&mut self.0);
-    }
-}
-
-impl Drop for DatagramSender {
-    fn drop(&mut self) {
-        wipe(&mut self.0);
-    }
-}
-
-impl Drop for DatagramReceiver {
-    fn drop(&mut self) {
-        wipe(&mut self.0);
-    }
-}
-
-impl Drop for Setup {
-    fn drop(&mut self) {
-        self.psks.iter_mut().for_each(|psk| wipe(psk));
+    #[test]
+    fn what_is_dropped_is_overwritten() {
+        let mut handshake = ManuallyDrop::new(Handshake([7; SIZE_OF_HANDSHAKE]));
+        let mut setup = ManuallyDrop::new(Setup::new(0, Key::default()));
+        setup.psks = [[7; KEY_LEN]; MAX_PSKS];
+        // SAFETY: neither is used as what it was any more; both are bytes, which stay.
+        unsafe {
+            ManuallyDrop::drop(&mut handshake);
+            ManuallyDrop::drop(&mut setup);
+        }
+        assert!(handshake.0 == [0; SIZE_OF_HANDSHAKE] && setup.psks == [[0; KEY_LEN]; MAX_PSKS]);
     }
 }

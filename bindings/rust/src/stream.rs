@@ -1,17 +1,17 @@
 mod handshake;
+pub(crate) mod passing;
 mod reading;
 mod writing;
 
 pub use handshake::{HandshakeError, MidHandshake};
 
-use crate::{Dh, Ephemeral, Error, Handshake};
-use handshake::Peer;
-use reading::Reading;
+use crate::connection::connecting::Peer;
+use crate::{Connection, Dh, Ephemeral, Error, Handshake};
 use std::fmt;
 use std::io::{self, ErrorKind, Read, Write};
-use std::sync::atomic::{AtomicBool, Ordering};
-use std::sync::Arc;
-use writing::Writing;
+
+pub(crate) use reading::Reading;
+pub(crate) use writing::Writing;
 
 /// A secure channel over anything that reads and writes. Each message comes after its length in two bytes, the higher
 /// first (Noise, 13). The crate's first page has an example.
@@ -46,22 +46,8 @@ pub struct WriteHalf<T> {
     writing: Writing,
 }
 
-// Whether a message was refused or the connection was lost, for both directions.
-#[derive(Clone, Default)]
-struct Over(Arc<AtomicBool>);
-
-impl Over {
-    fn set(&self) {
-        self.0.store(true, Ordering::Release);
-    }
-
-    fn is_set(&self) -> bool {
-        self.0.load(Ordering::Acquire)
-    }
-}
-
 // The error of this crate in an `io::Error`.
-fn own(error: &io::Error) -> Option<&Error> {
+pub(crate) fn own(error: &io::Error) -> Option<&Error> {
     error.get_ref().and_then(|inner| inner.downcast_ref())
 }
 
@@ -74,7 +60,7 @@ pub(crate) fn is_wait(error: &io::Error) -> bool {
 fn again(error: &io::Error) -> io::Error {
     match (error.raw_os_error(), own(error)) {
         (Some(code), _) => io::Error::from_raw_os_error(code),
-        (None, Some(own)) => io::Error::new(error.kind(), *own),
+        (None, Some(own)) => io::Error::new(error.kind(), own.clone()),
         (None, None) => io::Error::new(error.kind(), error.to_string()),
     }
 }
@@ -148,6 +134,12 @@ impl<T> Stream<T> {
     /// The other party's static key; `None` if the handshake has none.
     pub fn remote_static(&self) -> Option<&[u8; 32]> {
         self.remote_static.as_ref()
+    }
+
+    pub(crate) fn of(below: T, connection: Connection) -> Stream<T> {
+        let (hash, remote_static) = (*connection.hash(), connection.remote_static().copied());
+        let (sender, receiver) = connection.split();
+        Stream { below, reading: Reading::new(receiver), writing: Writing::new(sender), hash, remote_static }
     }
 
     // The same channel over what `map` makes of the stream below.
@@ -258,6 +250,8 @@ macro_rules! over {
         }
     };
 }
+
+pub(crate) use over;
 
 over!(Stream);
 over!(ReadHalf);

@@ -4,16 +4,10 @@ use crate::Error;
 use core::fmt;
 
 /// Seals transport messages. They have to arrive in the order in which they were sealed.
-pub struct Sender {
-    memory: raw::Sender,
-    nonce: u64,
-}
+pub struct Sender(raw::Sender);
 
 /// Opens transport messages, in their order.
-pub struct Receiver {
-    memory: raw::Receiver,
-    nonce: u64,
-}
+pub struct Receiver(raw::Receiver);
 
 /// Both directions of a transport, over a stream, which loses no message and keeps their order.
 ///
@@ -93,14 +87,18 @@ impl Sender {
     /// Seals a payload of at most 65519 bytes to the front of `out`: 16 bytes longer. At an error nothing is changed.
     pub fn seal(&mut self, payload: &[u8], out: &mut [u8]) -> Result<usize, Error> {
         let mut told = Told::default();
-        let len = length(self.memory.seal(payload, out, &mut told), &told)?;
-        self.nonce += 1;
-        Ok(len)
+        length(self.0.seal(payload, out, &mut told), &told)
+    }
+
+    /// Seals in place: the payload is the first `payload_len` bytes of `buffer`, which needs 16 bytes more.
+    pub fn seal_in_place(&mut self, buffer: &mut [u8], payload_len: usize) -> Result<usize, Error> {
+        let mut told = Told::default();
+        length(self.0.seal_in_place(buffer, payload_len, &mut told), &told)
     }
 
     /// How many messages were sealed.
     pub fn nonce(&self) -> u64 {
-        self.nonce
+        self.0.nonce()
     }
 }
 
@@ -108,22 +106,19 @@ impl Receiver {
     /// Opens the next message in place, and returns its payload. At an error nothing is changed; over a stream close at the first.
     pub fn open<'m>(&mut self, message: &'m mut [u8]) -> Result<&'m mut [u8], Error> {
         let mut told = Told::default();
-        let payload = place(self.memory.open(message, &mut told), &told, message)?;
-        self.nonce += 1;
-        Ok(payload)
+        place(self.0.open(message, &mut told), &told, message)
     }
 
     /// How many messages were opened.
     pub fn nonce(&self) -> u64 {
-        self.nonce
+        self.0.nonce()
     }
 }
 
 impl Transport {
     pub(crate) fn of(handshake: &raw::Handshake, interval: u64) -> Result<Transport, Error> {
-        let mut sender = Sender { memory: raw::Sender::new(), nonce: 0 };
-        let mut receiver = Receiver { memory: raw::Receiver::new(), nonce: 0 };
-        match handshake.finish(interval, &mut sender.memory, &mut receiver.memory) {
+        let (mut sender, mut receiver) = (Sender(raw::Sender::new()), Receiver(raw::Receiver::new()));
+        match handshake.finish(interval, &mut sender.0, &mut receiver.0) {
             OK => Ok(Transport { sender, receiver }),
             code => Err(Error::of(code, None)),
         }
@@ -150,6 +145,17 @@ impl DatagramSender {
     pub fn seal(&mut self, payload: &[u8], out: &mut [u8]) -> Result<usize, Error> {
         let mut told = Told::default();
         length(self.0.seal(payload, out, &mut told), &told)
+    }
+
+    /// Seals in place: the payload is `payload_len` bytes of `buffer` from the ninth on, after which 16 bytes more are needed.
+    pub fn seal_in_place(&mut self, buffer: &mut [u8], payload_len: usize) -> Result<usize, Error> {
+        let mut told = Told::default();
+        length(self.0.seal_in_place(buffer, payload_len, &mut told), &told)
+    }
+
+    /// How many datagrams were sealed: the nonce of the next.
+    pub fn nonce(&self) -> u64 {
+        self.0.nonce()
     }
 }
 
@@ -190,19 +196,19 @@ impl Datagrams {
 
 impl fmt::Debug for Sender {
     fn fmt(&self, f: &mut fmt::Formatter<'_>) -> fmt::Result {
-        f.debug_struct("Sender").field("nonce", &self.nonce).finish_non_exhaustive()
+        f.debug_struct("Sender").field("nonce", &self.nonce()).finish_non_exhaustive()
     }
 }
 
 impl fmt::Debug for Receiver {
     fn fmt(&self, f: &mut fmt::Formatter<'_>) -> fmt::Result {
-        f.debug_struct("Receiver").field("nonce", &self.nonce).finish_non_exhaustive()
+        f.debug_struct("Receiver").field("nonce", &self.nonce()).finish_non_exhaustive()
     }
 }
 
 impl fmt::Debug for DatagramSender {
     fn fmt(&self, f: &mut fmt::Formatter<'_>) -> fmt::Result {
-        f.debug_struct("DatagramSender").finish_non_exhaustive()
+        f.debug_struct("DatagramSender").field("nonce", &self.nonce()).finish_non_exhaustive()
     }
 }
 

@@ -2,7 +2,7 @@
 use std::io::{self, ErrorKind, Read, Write};
 use std::net::{Shutdown, TcpStream};
 use toy::{begun, streams, tcp, Party, Toy, PSK};
-use yulimosar::{Builder, Dh, Error, HandshakeError, NoKey, Stream};
+use yulimosar::{Builder, Dh, DhError, Error, HandshakeError, NoKey, Stream};
 
 mod toy;
 
@@ -122,7 +122,7 @@ fn failure<T, S: Dh>(passed: Passed<T, S>) -> io::Error {
 }
 
 fn inner<T, S: Dh>(passed: Passed<T, S>) -> Error {
-    *failure(passed).get_ref().unwrap().downcast_ref::<Error>().unwrap()
+    failure(passed).get_ref().unwrap().downcast_ref::<Error>().unwrap().clone()
 }
 
 #[test]
@@ -227,7 +227,10 @@ fn kinds_of_errors() {
     assert_eq!(kind(Error::StaticMissing), ErrorKind::InvalidInput);
     assert_eq!(kind(Error::Tag { token: Some(1) }), ErrorKind::InvalidData);
     assert_eq!(kind(Error::Cut), ErrorKind::UnexpectedEof);
-    assert_eq!(kind(Error::KeyPair), ErrorKind::Other);
+    assert_eq!(kind(Error::Zeros), ErrorKind::InvalidData);
+    assert_eq!(kind(Error::KeyPair(DhError::new("none"))), ErrorKind::Other);
+    assert_eq!(kind(Error::Closed), ErrorKind::BrokenPipe);
+    assert_eq!(kind(Error::Aborted), ErrorKind::ConnectionAborted);
     // The error of the library is the cause, also of an error that is returned again.
     let (client, mut server) = streams();
     drop(client.into_inner());
@@ -262,7 +265,7 @@ fn nothing_is_sent_after_a_refusal_or_a_cut() {
             let (client, mut server) = streams();
             client.get_ref().write_all(bytes).unwrap();
             client.get_ref().shutdown(Shutdown::Write).unwrap();
-            let closed = |result: io::Result<()>| assert_eq!(result.unwrap_err().kind(), ErrorKind::BrokenPipe);
+            let closed = |result: io::Result<()>| assert_eq!(result.unwrap_err().kind(), ErrorKind::ConnectionAborted);
             if is_split {
                 let (mut reads, mut writes) = server.split(TcpStream::try_clone).unwrap();
                 assert!(reads.read(&mut [0]).is_err());

@@ -1,116 +1,34 @@
 // Two ends of one session with a relay between them that flips, cuts, repeats or drops at each byte, whatever the order
-// in which they end their streams. Neither blocks, and bytes come and go in small pieces. What each side reports is
-// compared with the law: what was read is the first of what was written; an end is reported only if the writer has
-// ended and all of it came, and else a refused message or a cut; and after that nothing more is sent.
+// in which they end their streams: over `Stream`, over `AsyncStream`, and over `Connection` alone. None of them blocks, and
+// bytes come and go in small pieces. What each side reports is compared with the law: what was read is the first of what was
+// written; an end is reported only if the writer has ended and all of it came, and else a refused message or a cut; and after
+// that nothing more is sent.
+use ends::{Alone, Below, Channel, Fault, Opening, Pipe};
 use std::cell::{Cell, RefCell};
 use std::collections::VecDeque;
-use std::io::{self, ErrorKind, Read, Write};
+use std::io::{self, ErrorKind};
 use std::rc::Rc;
 use toy::{builder, Toy};
-use yulimosar::{HandshakeError, MidHandshake, Stream};
+use yulimosar::{Connection, Stream};
 
+mod ends;
 mod toy;
 
 const TEXTS: [[&[u8]; 3]; 2] =
     [[b"a first text", b"b", b"the last of the client"], [b"1", b"what the server has to say", b"and good bye"]];
 
-#[derive(Clone, Copy, Debug, PartialEq)]
-enum Fault {
-    Nothing,
-    Flip(u8),
-    Cut,
-    Repeat,
-    Drop,
-}
-
-// One direction, with one fault, or none, at a byte.
-struct Pipe {
-    fault: Fault,
-    at: usize,
-    sent: Vec<u8>,
-    came: Vec<u8>,
-    waiting: VecDeque<u8>,
-    is_closed: bool,
-}
-
-impl Pipe {
-    fn put(&mut self, byte: u8) {
-        let fault = if self.sent.len() == self.at { self.fault } else { Fault::Nothing };
-        self.sent.push(byte);
-        self.is_closed |= fault == Fault::Cut;
-        let bytes = match fault {
-            _ if self.is_closed => vec![],
-            Fault::Drop => vec![],
-            Fault::Flip(bit) => vec![byte ^ 1 << bit],
-            Fault::Repeat => vec![byte; 2],
-            _ => vec![byte],
-        };
-        self.came.extend(&bytes);
-        self.waiting.extend(bytes);
-    }
-}
-
-// A connection that doesn't block. It takes and gives few bytes at a time, and every third write would block.
-struct Below {
-    to: Rc<RefCell<Pipe>>,
-    from: Rc<RefCell<Pipe>>,
-    moves: Rc<Cell<usize>>,
-    calls: usize,
-}
-
-impl Below {
-    fn piece(&mut self, len: usize) -> usize {
-        self.calls += 1;
-        len.min(1 + self.calls * 7 % 40)
-    }
-}
-
-impl Read for Below {
-    fn read(&mut self, into: &mut [u8]) -> io::Result<usize> {
-        let count = self.piece(into.len());
-        let mut from = self.from.borrow_mut();
-        if from.waiting.is_empty() {
-            return if from.is_closed { Ok(0) } else { Err(ErrorKind::WouldBlock.into()) };
-        }
-        self.moves.set(self.moves.get() + 1);
-        from.waiting.read(&mut into[..count])
-    }
-}
-
-impl Write for Below {
-    fn write(&mut self, bytes: &[u8]) -> io::Result<usize> {
-        let count = self.piece(bytes.len());
-        if self.calls % 3 == 0 {
-            return Err(ErrorKind::WouldBlock.into());
-        }
-        self.moves.set(self.moves.get() + 1);
-        bytes[..count].iter().for_each(|byte| self.to.borrow_mut().put(*byte));
-        Ok(count)
-    }
-
-    fn flush(&mut self) -> io::Result<()> {
-        Ok(())
-    }
-}
-
-impl Drop for Below {
-    fn drop(&mut self) {
-        self.to.borrow_mut().is_closed = true;
-    }
-}
-
-enum State {
-    Shaking(MidHandshake<Below, Toy, Toy>),
-    Open(Box<Stream<Below>>),
+enum State<C: Channel> {
+    Shaking(C::Shaking),
+    Open(Box<C>),
     Closed,
 }
 
 // One party: it does its handshake, writes its texts, and ends its stream, at once or, where it waits, only once the
 // other's has ended. At an error it tries to write and to end its stream, and closes.
-struct End {
+struct End<C: Channel> {
     role: usize,
     waits: bool,
-    state: State,
+    state: State<C>,
     to: Rc<RefCell<Pipe>>,
     taken: usize,
     got: Vec<u8>,
@@ -119,14 +37,14 @@ struct End {
     told: Option<Result<(), ErrorKind>>,
 }
 
-impl End {
-    fn new(role: usize, waits: bool, pipes: &[Rc<RefCell<Pipe>>; 2], moves: &Rc<Cell<usize>>) -> End {
+impl<C: Channel> End<C> {
+    fn new(role: usize, waits: bool, pipes: &[Rc<RefCell<Pipe>>; 2], moves: &Rc<Cell<usize>>) -> End<C> {
         let (to, from) = (pipes[role].clone(), pipes[1 - role].clone());
         let below = Below { to: to.clone(), from, moves: moves.clone(), calls: 0 };
         let (own, other) = [(Toy(3), Toy(5)), (Toy(5), Toy(3))][role];
         let builder = builder("XX", own, other, role == 0).interval(2);
         let handshake = if role == 0 { builder.initiator() } else { builder.responder() }.unwrap();
-        let begun = Stream::new(below, handshake, |_| true);
+        let begun = C::begin(below, handshake);
         let mut end = End {
             role,
             waits,
@@ -142,12 +60,12 @@ impl End {
         end
     }
 
-    fn after(&mut self, passed: Result<Stream<Below>, HandshakeError<Below, Toy, Toy>>) -> State {
-        match passed {
-            Ok(stream) => State::Open(Box::new(stream)),
-            Err(HandshakeError::Interrupted(it)) => State::Shaking(it),
-            Err(error) => {
-                self.told = Some(Err(io::Error::from(error).kind()));
+    fn after(&mut self, opening: Opening<C>) -> State<C> {
+        match opening {
+            Opening::Open(channel) => State::Open(Box::new(channel)),
+            Opening::Waits(it) => State::Shaking(it),
+            Opening::Failed(error) => {
+                self.told = Some(Err(error.kind()));
                 State::Closed
             }
         }
@@ -155,7 +73,7 @@ impl End {
 
     fn run(&mut self) {
         self.state = match std::mem::replace(&mut self.state, State::Closed) {
-            State::Shaking(it) => self.after(it.resume(|_| true)),
+            State::Shaking(it) => self.after(C::go_on(it)),
             State::Open(mut stream) => match self.pass(&mut stream) {
                 Err(error) if error.kind() != ErrorKind::WouldBlock => {
                     self.fail(*stream, error.kind());
@@ -168,7 +86,7 @@ impl End {
         };
     }
 
-    fn pass(&mut self, stream: &mut Stream<Below>) -> io::Result<()> {
+    fn pass(&mut self, stream: &mut C) -> io::Result<()> {
         if let Err(error) = self.write(stream) {
             assert_eq!(error.kind(), ErrorKind::WouldBlock);
         }
@@ -182,24 +100,24 @@ impl End {
         Ok(())
     }
 
-    fn write(&mut self, stream: &mut Stream<Below>) -> io::Result<()> {
+    fn write(&mut self, stream: &mut C) -> io::Result<()> {
         while let Some(text) = TEXTS[self.role].get(self.taken) {
             assert_eq!(stream.write(text)?, text.len());
             self.taken += 1;
         }
         if !self.has_sent_end && (!self.waits || self.told.is_some()) {
             self.ends = true;
-            stream.close_write()?;
+            stream.end()?;
             self.has_sent_end = true;
         }
         Ok(())
     }
 
-    fn fail(&mut self, mut stream: Stream<Below>, kind: ErrorKind) {
+    fn fail(&mut self, mut stream: C, kind: ErrorKind) {
         self.told = Some(Err(kind));
         let before = self.to.borrow().sent.len();
-        for result in [stream.write(b"more").map(drop), stream.flush(), stream.close_write()] {
-            assert_eq!(result.unwrap_err().kind(), ErrorKind::BrokenPipe);
+        for result in [stream.write(b"more").map(drop), stream.flush(), stream.end()] {
+            assert_eq!(result.unwrap_err().kind(), ErrorKind::ConnectionAborted);
         }
         assert_eq!(stream.read(&mut [0]).unwrap_err().kind(), kind);
         drop(stream);
@@ -207,7 +125,7 @@ impl End {
     }
 }
 
-fn run_all(ends: &mut [End; 2], moves: &Cell<usize>) {
+fn run_all<C: Channel>(ends: &mut [End<C>; 2], moves: &Cell<usize>) {
     let (mut before, mut idle) = (0, 0);
     while idle < 4 {
         ends.iter_mut().for_each(End::run);
@@ -217,13 +135,13 @@ fn run_all(ends: &mut [End; 2], moves: &Cell<usize>) {
 }
 
 // Passes a session, and returns how many bytes each party has sent.
-fn pass_session(waits: [bool; 2], faults: [(Fault, usize); 2]) -> [usize; 2] {
+fn pass_session<C: Channel>(waits: [bool; 2], faults: [(Fault, usize); 2]) -> [usize; 2] {
     let pipes = faults.map(|(fault, at)| {
         let (waiting, is_closed) = (VecDeque::new(), false);
         Rc::new(RefCell::new(Pipe { fault, at, sent: Vec::new(), came: Vec::new(), waiting, is_closed }))
     });
     let moves = Rc::new(Cell::new(0));
-    let mut ends = [0, 1].map(|role| End::new(role, waits[role], &pipes, &moves));
+    let mut ends = [0, 1].map(|role| End::<C>::new(role, waits[role], &pipes, &moves));
     run_all(&mut ends, &moves);
     // Where both wait for the other, a deadline closes the connection.
     pipes.iter().for_each(|pipe| pipe.borrow_mut().is_closed = true);
@@ -249,21 +167,36 @@ fn pass_session(waits: [bool; 2], faults: [(Fault, usize); 2]) -> [usize; 2] {
     pipes.map(|pipe| pipe.borrow().sent.len())
 }
 
-#[test]
-fn each_side_reports_what_is_true() {
+fn each_side_reports_what_is_true<C: Channel>() {
     let (none, mut sessions) = ((Fault::Nothing, 0), 0);
     for waits in [[false, false], [true, false], [false, true]] {
-        let sent = pass_session(waits, [none, none]);
+        let sent = pass_session::<C>(waits, [none, none]);
         for direction in [0, 1] {
             for at in 0..sent[direction] {
                 for fault in [Fault::Flip((at * 5 % 8) as u8), Fault::Cut, Fault::Repeat, Fault::Drop] {
                     let mut faults = [none, none];
                     faults[direction] = (fault, at);
-                    pass_session(waits, faults);
+                    pass_session::<C>(waits, faults);
                     sessions += 1;
                 }
             }
         }
     }
     assert!(sessions > 4500, "{sessions} sessions");
+}
+
+#[test]
+fn each_side_of_a_stream_reports_what_is_true() {
+    each_side_reports_what_is_true::<Stream<Below>>();
+}
+
+#[test]
+fn each_side_of_a_connection_reports_what_is_true() {
+    each_side_reports_what_is_true::<Alone<Connection>>();
+}
+
+#[test]
+#[cfg(feature = "tokio")]
+fn each_side_of_an_async_stream_reports_what_is_true() {
+    each_side_reports_what_is_true::<yulimosar::AsyncStream<Below>>();
 }

@@ -2,7 +2,7 @@
 #![allow(dead_code)] // each test uses some
 use std::net::{TcpListener, TcpStream};
 use std::sync::atomic::{AtomicU8, Ordering};
-use yulimosar::{Builder, Dh, Ephemeral, Handshake, Stream};
+use yulimosar::{Builder, Dh, DhError, Ephemeral, Handshake, Stream};
 
 #[derive(Clone, Copy)]
 pub struct Toy(pub u8);
@@ -14,14 +14,18 @@ impl Dh for Toy {
         [self.0; 32]
     }
 
-    fn agree(&self, remote: &[u8; 32]) -> Option<[u8; 32]> {
-        Some([self.0.wrapping_mul(remote[0]) | 1; 32]).filter(|_| remote != &[0; 32])
+    fn agree(&self, remote: &[u8; 32]) -> Result<[u8; 32], DhError> {
+        match remote[0] {
+            0 => Ok([0; 32]),
+            2 => Err(DhError::new("the device is gone")),
+            first => Ok([self.0.wrapping_mul(first) | 1; 32]),
+        }
     }
 }
 
 impl Ephemeral for Toy {
-    fn draw() -> Option<Toy> {
-        Some(Toy(DRAWN.fetch_add(2, Ordering::Relaxed) | 1))
+    fn draw() -> Result<Toy, DhError> {
+        Ok(Toy(DRAWN.fetch_add(2, Ordering::Relaxed) | 1))
     }
 }
 

@@ -1,0 +1,62 @@
+use super::{bytes_of, Run, Told};
+use std::io;
+use tokio::io::{AsyncRead, AsyncReadExt, AsyncWrite, AsyncWriteExt};
+use tokio::net::{TcpListener, TcpStream};
+use tokio::sync::oneshot;
+use yulimosar::AsyncStream;
+
+#[tokio::main]
+pub async fn run(run: Run) -> io::Result<Told> {
+    let below = if run.is_initiator {
+        TcpStream::connect(&run.address).await?
+    } else {
+        let listener = TcpListener::bind(&run.address).await?;
+        println!("{}", listener.local_addr()?);
+        listener.accept().await?.0
+    };
+    let stream = match run.peer() {
+        Some(peer) => AsyncStream::new(below, run.handshake()?, |key| async move { key == peer }).await?,
+        None => AsyncStream::anonymous(below, run.handshake()?).await?,
+    };
+    let (reads, mut writes) = stream.split(TcpStream::into_split);
+    let (says, hears) = oneshot::channel();
+    let (bytes, first) = (bytes_of(run.is_initiator, run.size), run.ends_first);
+    let writer = tokio::spawn(async move {
+        let (wrote, mut has_ended) = (write(&mut writes, &bytes).await, false);
+        if wrote == bytes.len() && (first || hears.await == Ok(true)) {
+            has_ended = writes.shutdown().await.is_ok();
+        }
+        (wrote, has_ended)
+    });
+    let (read, end) = read(reads, &bytes_of(!run.is_initiator, run.size)).await;
+    let _ = says.send(end.is_ok());
+    let (wrote, has_ended) = writer.await?;
+    Ok(Told { wrote, has_ended, read, end })
+}
+
+async fn write(writes: &mut (impl AsyncWrite + Unpin), bytes: &[u8]) -> usize {
+    let mut wrote = 0;
+    while wrote < bytes.len() {
+        match writes.write(&bytes[wrote..bytes.len().min(wrote + 10_000)]).await {
+            Ok(count) => wrote += count,
+            Err(_) => return wrote,
+        }
+    }
+    // What was taken may still be kept.
+    let _ = writes.flush().await;
+    wrote
+}
+
+async fn read(mut reads: impl AsyncRead + Unpin, expected: &[u8]) -> (usize, io::Result<()>) {
+    let (mut bytes, mut count) = ([0; 5000], 0);
+    loop {
+        match reads.read(&mut bytes).await {
+            Ok(0) => return (count, Ok(())),
+            Ok(some) => {
+                assert_eq!(&bytes[..some], &expected[count..count + some]);
+                count += some;
+            }
+            Err(error) => return (count, Err(error)),
+        }
+    }
+}

@@ -1,0 +1,59 @@
+use super::{bytes_of, Run, Told};
+use std::io::{self, Read, Write};
+use std::net::{TcpListener, TcpStream};
+use std::sync::mpsc;
+use std::thread;
+use yulimosar::{ReadHalf, Stream};
+
+pub fn run(run: Run) -> io::Result<Told> {
+    let below = if run.is_initiator {
+        TcpStream::connect(&run.address)?
+    } else {
+        let listener = TcpListener::bind(&run.address)?;
+        println!("{}", listener.local_addr()?);
+        listener.accept()?.0
+    };
+    let stream = match run.peer() {
+        Some(peer) => Stream::new(below, run.handshake()?, |key| key == &peer)?,
+        None => Stream::anonymous(below, run.handshake()?)?,
+    };
+    let (mut reads, mut writes) = stream.split(TcpStream::try_clone)?;
+    let (says, hears) = mpsc::channel();
+    let (bytes, first) = (bytes_of(run.is_initiator, run.size), run.ends_first);
+    let writer = thread::spawn(move || {
+        let (wrote, mut has_ended) = (write(&mut writes, &bytes), false);
+        if wrote == bytes.len() && (first || hears.recv() == Ok(true)) {
+            has_ended = writes.close_write().is_ok();
+        }
+        (wrote, has_ended)
+    });
+    let (read, end) = read(&mut reads, &bytes_of(!run.is_initiator, run.size));
+    let _ = says.send(end.is_ok());
+    let (wrote, has_ended) = writer.join().expect("no panic");
+    Ok(Told { wrote, has_ended, read, end })
+}
+
+fn write(writes: &mut impl Write, bytes: &[u8]) -> usize {
+    let mut wrote = 0;
+    while wrote < bytes.len() {
+        match writes.write(&bytes[wrote..bytes.len().min(wrote + 10_000)]) {
+            Ok(count) => wrote += count,
+            Err(_) => break,
+        }
+    }
+    wrote
+}
+
+fn read(reads: &mut ReadHalf<TcpStream>, expected: &[u8]) -> (usize, io::Result<()>) {
+    let (mut bytes, mut count) = ([0; 5000], 0);
+    loop {
+        match reads.read(&mut bytes) {
+            Ok(0) => return (count, Ok(())),
+            Ok(some) => {
+                assert_eq!(&bytes[..some], &expected[count..count + some]);
+                count += some;
+            }
+            Err(error) => return (count, Err(error)),
+        }
+    }
+}

@@ -1,0 +1,89 @@
+// One end over TCP, for tests/live.py: live PATTERN OWN_SECRET PEER_KEY PSK ADDRESS ORDER SIZE [async]. It connects as the initiator; where ADDRESS begins
+// with '@' it listens there, as the responder, and prints the address. Both ends send SIZE bytes at once. ORDER is "first": it ends its stream after its
+// last byte; or "last": only once the other's has ended. PSK is '-' if there is none. The last line is "wrote COUNT ended|open, read COUNT end|cut|refused|lost".
+mod asynchronous;
+mod blocking;
+
+use std::io::{self, ErrorKind};
+use yulimosar::{Builder, Handshake, KeyPair};
+
+pub struct Run {
+    words: Vec<String>,
+    pub is_initiator: bool,
+    pub address: String,
+    pub ends_first: bool,
+    pub size: usize,
+}
+
+pub type Party = Handshake<KeyPair, KeyPair>;
+
+fn bytes32(digits: &str) -> [u8; 32] {
+    let mut bytes = [0; 32];
+    for (i, byte) in bytes.iter_mut().enumerate() {
+        *byte = u8::from_str_radix(&digits[2 * i..2 * i + 2], 16).expect("hex digits");
+    }
+    bytes
+}
+
+impl Run {
+    fn new(words: Vec<String>) -> Run {
+        let is_initiator = !words[5].starts_with('@');
+        let address = words[5].trim_start_matches('@').to_owned();
+        let (ends_first, size) = (words[6] == "first", words[7].parse().expect("a size"));
+        Run { words, is_initiator, address, ends_first, size }
+    }
+
+    pub fn handshake(&self) -> io::Result<Party> {
+        let (pattern, peer, psk) = (&self.words[1], bytes32(&self.words[3]), &self.words[4]);
+        let mut builder =
+            Builder::new(pattern).prologue(b"live").static_key(KeyPair::from_secret(&bytes32(&self.words[2]))?);
+        let letters = pattern.split("psk").next().unwrap_or_default().as_bytes();
+        if letters[if self.is_initiator { 1 } else { 0 }] == b'K' {
+            builder = builder.remote_static(&peer);
+        }
+        let secret = if psk == "-" { [0; 32] } else { bytes32(psk) };
+        if psk != "-" {
+            builder = builder.psk(&secret);
+        }
+        Ok(if self.is_initiator { builder.initiator()? } else { builder.responder()? })
+    }
+
+    pub fn peer(&self) -> Option<[u8; 32]> {
+        Some(bytes32(&self.words[3])).filter(|_| !self.words[1].starts_with("NN"))
+    }
+}
+
+// The bytes that a party sends.
+pub fn bytes_of(is_initiator: bool, size: usize) -> Vec<u8> {
+    (0..size).map(|i| ((i * 7 + usize::from(is_initiator)) % 251) as u8).collect()
+}
+
+// What a party tells of its two directions.
+pub struct Told {
+    pub wrote: usize,
+    pub has_ended: bool,
+    pub read: usize,
+    pub end: io::Result<()>,
+}
+
+impl Told {
+    fn print(&self) {
+        let end = match self.end.as_ref().map_err(io::Error::kind) {
+            Ok(()) => "end",
+            Err(ErrorKind::UnexpectedEof) => "cut",
+            Err(ErrorKind::InvalidData) => "refused",
+            Err(_) => "lost",
+        };
+        let ended = if self.has_ended { "ended" } else { "open" };
+        println!("wrote {} {ended}, read {} {end}", self.wrote, self.read);
+    }
+}
+
+fn main() -> io::Result<()> {
+    let words: Vec<String> = std::env::args().collect();
+    let is_async = words.last().map_or(false, |word| word == "async");
+    let run = Run::new(words);
+    let told = if is_async { asynchronous::run(run) } else { blocking::run(run) };
+    told.unwrap_or_else(|end| Told { wrote: 0, has_ended: false, read: 0, end: Err(end) }).print();
+    Ok(())
+}

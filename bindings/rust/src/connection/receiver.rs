@@ -1,0 +1,156 @@
+use super::buffers::Incoming;
+use super::Over;
+use crate::header::{CLOSED, END, MORE, OK};
+use crate::raw::{self, StreamTold};
+use crate::Error;
+use core::fmt;
+use core::mem::take;
+use core::ops::Range;
+
+/// What has come over a [`Connection`](crate::Connection).
+#[derive(Debug, PartialEq, Eq)]
+pub enum Event<'c> {
+    /// Bytes that the other party has written, one at least. Each comes once.
+    Data(&'c [u8]),
+    /// More bytes are needed, of which `receive` takes at most so many; or `closed` says that none comes.
+    Receive(usize),
+    /// The other party has ended its stream, and all that it wrote has come.
+    End,
+}
+
+/// The direction of a [`Connection`](crate::Connection) that this party reads.
+pub struct StreamReceiver {
+    memory: raw::StreamReceiver,
+    incoming: Incoming,
+    wanted: usize,
+    opened: Range<usize>, // what of the first frame is opened, and not read yet
+    used: usize,          // how many bytes that frame has
+    is_closed: bool,
+    is_silent: bool,
+    failure: Option<Error>,
+    over: Over,
+}
+
+// What is due, without the bytes.
+#[derive(Clone, Copy)]
+pub(crate) enum Due {
+    Data,
+    Receive,
+    End,
+}
+
+impl StreamReceiver {
+    pub(super) fn new(memory: raw::StreamReceiver, incoming: Incoming, over: Over) -> StreamReceiver {
+        let is_silent = memory.is_silent();
+        let (opened, failure) = (0..0, None);
+        StreamReceiver { memory, incoming, wanted: 0, opened, used: 0, is_closed: false, is_silent, failure, over }
+    }
+
+    /// What has come. After an error each later call returns the same; [`Error::OneWay`] alone, in the silent direction of a one-way pattern, leaves the
+    /// channel as it was.
+    pub fn event(&mut self) -> Result<Event<'_>, Error> {
+        match self.due()? {
+            Due::Data => {
+                let range = take(&mut self.opened);
+                Ok(Event::Data(&self.incoming.bytes()[range]))
+            }
+            Due::Receive => Ok(Event::Receive(self.wanted)),
+            Due::End => Ok(Event::End),
+        }
+    }
+
+    /// Takes bytes that came, in their order, and returns how many: at most as many as the last [`Event::Receive`] says, so none before it. Ask `event`
+    /// again before you pass the others.
+    pub fn receive(&mut self, bytes: &[u8]) -> usize {
+        let count = self.incoming.take(bytes, self.wanted);
+        self.wanted -= count;
+        count
+    }
+
+    /// The connection has closed, and all that came over it was taken: `event` says whether the stream had ended.
+    pub fn closed(&mut self) {
+        self.is_closed = true;
+    }
+
+    // Opens the next payload, if none is opened.
+    pub(crate) fn due(&mut self) -> Result<Due, Error> {
+        if !self.opened.is_empty() {
+            return Ok(Due::Data);
+        }
+        if let Some(failure) = &self.failure {
+            return Err(failure.clone());
+        }
+        if self.is_silent {
+            return Err(Error::OneWay);
+        }
+        self.incoming.remove(take(&mut self.used));
+        let mut told = StreamTold::default();
+        loop {
+            match self.memory.read(self.incoming.bytes_mut(), &mut told) {
+                OK => {
+                    self.opened = told.from..told.from + told.len;
+                    self.used = told.used;
+                    return Ok(Due::Data);
+                }
+                MORE if !self.is_closed => {
+                    self.wanted = told.wanted;
+                    return Ok(Due::Receive);
+                }
+                END => self.incoming.remove(told.used),
+                MORE | CLOSED => return self.ended(),
+                code => return Err(self.fail(Error::of(code, None))),
+            }
+        }
+    }
+
+    // What it means that nothing more comes: the end of the stream, or a cut.
+    fn ended(&mut self) -> Result<Due, Error> {
+        self.wanted = 0;
+        match self.memory.is_cut(self.incoming.len()) {
+            OK => Ok(Due::End),
+            code => Err(self.fail(Error::of(code, None))),
+        }
+    }
+
+    // Ends the channel: this party writes nothing more, not even the end of its stream.
+    fn fail(&mut self, error: Error) -> Error {
+        self.over.set();
+        self.wanted = 0;
+        self.failure = Some(error.clone());
+        error
+    }
+
+    // The connection is lost.
+    #[cfg(feature = "std")]
+    pub(crate) fn lose(&self) {
+        self.over.set();
+    }
+
+    // Copies bytes that are opened.
+    #[cfg(feature = "std")]
+    pub(crate) fn read(&mut self, into: &mut [u8]) -> usize {
+        let count = into.len().min(self.opened.len());
+        let start = self.opened.start;
+        into[..count].copy_from_slice(&self.incoming.bytes()[start..start + count]);
+        self.opened.start += count;
+        count
+    }
+
+    // Room for the bytes that are wanted, and how many of them came.
+    #[cfg(feature = "std")]
+    pub(crate) fn room(&mut self) -> &mut [u8] {
+        self.incoming.room(self.wanted)
+    }
+
+    #[cfg(feature = "std")]
+    pub(crate) fn came(&mut self, count: usize) {
+        self.incoming.came(count);
+        self.wanted -= count;
+    }
+}
+
+impl fmt::Debug for StreamReceiver {
+    fn fmt(&self, f: &mut fmt::Formatter<'_>) -> fmt::Result {
+        f.debug_struct("StreamReceiver").field("failure", &self.failure).finish_non_exhaustive()
+    }
+}

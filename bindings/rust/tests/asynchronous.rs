@@ -1,0 +1,172 @@
+// `AsyncStream` over TCP: halves in tasks, peers that are silent or don't read, futures that are dropped, keys and secrets that are waited for.
+#![cfg(feature = "tokio")]
+use std::io::{self, ErrorKind};
+use std::time::Duration;
+use tokio::io::{AsyncReadExt, AsyncWriteExt};
+use tokio::net::{TcpListener, TcpStream};
+use tokio::time::{sleep, timeout};
+use toy::{begun, builder, Toy};
+use yulimosar::{AsyncStream, Builder, Dh, Error};
+
+mod toy;
+
+async fn tcp() -> (TcpStream, TcpStream) {
+    let listener = TcpListener::bind("127.0.0.1:0").await.unwrap();
+    let client = TcpStream::connect(listener.local_addr().unwrap()).await.unwrap();
+    (client, listener.accept().await.unwrap().0)
+}
+
+type Pair = (AsyncStream<TcpStream>, AsyncStream<TcpStream>);
+
+async fn streams(pattern: &str) -> Pair {
+    let ((a, b), (client, server)) = (tcp().await, begun(pattern));
+    let server = tokio::spawn(AsyncStream::new(b, server, |key| async move { key == [3; 32] }));
+    let client = AsyncStream::new(a, client, |key| async move { key == [5; 32] }).await.unwrap();
+    (client, server.await.unwrap().unwrap())
+}
+
+fn inner(error: &io::Error) -> Option<&Error> {
+    error.get_ref().and_then(|inner| inner.downcast_ref())
+}
+
+#[tokio::test(flavor = "multi_thread")]
+async fn halves_carry_all_both_ways_at_once() {
+    let sent: Vec<u8> = (0..1_000_000_u32).map(|i| (i % 251) as u8).collect();
+    let (client, server) = streams("XX").await;
+    assert_eq!(client.hash(), server.hash());
+    assert_eq!((client.remote_static(), server.remote_static()), (Some(&[5; 32]), Some(&[3; 32])));
+    let mut tasks = Vec::new();
+    for stream in [client, server] {
+        let (mut reads, mut writes) = stream.split(TcpStream::into_split);
+        let bytes = sent.clone();
+        let writer = tokio::spawn(async move {
+            writes.write_all(&bytes).await?;
+            writes.shutdown().await
+        });
+        let reader = tokio::spawn(async move {
+            let mut got = Vec::new();
+            reads.read_to_end(&mut got).await.map(|_| got)
+        });
+        tasks.push((writer, reader));
+    }
+    for (writer, reader) in tasks {
+        writer.await.unwrap().unwrap();
+        assert!(reader.await.unwrap().unwrap() == sent);
+    }
+}
+
+#[tokio::test]
+async fn ends_cuts_and_refusals() {
+    // The client ends its stream, and can still read; what it writes then is refused.
+    let (mut client, mut server) = streams("XX").await;
+    client.write_all(b"hello").await.unwrap();
+    client.shutdown().await.unwrap();
+    let mut text = String::new();
+    server.read_to_string(&mut text).await.unwrap();
+    assert_eq!(text, "hello");
+    server.write_all(b"answer").await.unwrap();
+    server.shutdown().await.unwrap();
+    text.clear();
+    client.read_to_string(&mut text).await.unwrap();
+    assert_eq!(text, "answer");
+    assert_eq!(client.write(b"x").await.unwrap_err().kind(), ErrorKind::BrokenPipe);
+    // A connection that closes without an end is a cut; damage is refused; after both nothing is sent.
+    for (bytes, kind) in [(&[][..], ErrorKind::UnexpectedEof), (&[0, 2, 1, 1], ErrorKind::InvalidData)] {
+        let (client, mut server) = streams("XX").await;
+        let mut below = client.into_inner();
+        below.write_all(bytes).await.unwrap();
+        below.shutdown().await.unwrap();
+        for _ in 0..2 {
+            assert_eq!(server.read(&mut [0]).await.unwrap_err().kind(), kind);
+        }
+        let aborted = |result: io::Result<()>| assert_eq!(inner(&result.unwrap_err()), Some(&Error::Aborted));
+        aborted(server.write(b"x").await.map(drop));
+        aborted(server.flush().await);
+        aborted(server.shutdown().await);
+        drop(server);
+        assert_eq!(below.read_to_end(&mut Vec::new()).await.unwrap(), 0);
+    }
+}
+
+// What a stream below that is full doesn't take is kept, and a read whose future is dropped loses nothing.
+#[tokio::test]
+async fn dropped_futures_lose_nothing() {
+    let (mut client, mut server) = streams("XX").await;
+    let part = vec![7; 50_000];
+    let mut written = 0;
+    while let Ok(count) = timeout(Duration::from_millis(20), client.write(&part)).await {
+        written += count.unwrap();
+    }
+    let sender = tokio::spawn(async move { client.shutdown().await.map(|_| client) });
+    let (mut got, mut bytes) = (0, vec![0; 4096]);
+    loop {
+        // Each read is begun, dropped where it is pending, and begun again.
+        match timeout(Duration::from_micros(50), server.read(&mut bytes)).await {
+            Ok(Ok(0)) => break,
+            Ok(count) => got += count.unwrap(),
+            Err(_) => {}
+        }
+    }
+    assert_eq!(got, written);
+    sender.await.unwrap().unwrap();
+}
+
+#[tokio::test]
+async fn a_silent_party_is_waited_for_until_the_timeout() {
+    let (mut client, server) = tcp().await;
+    client.write_all(&[0]).await.unwrap();
+    let opening = AsyncStream::new(server, begun("XX").1, |_| async { true });
+    assert!(timeout(Duration::from_millis(50), opening).await.is_err());
+    // The connection was dropped with the future.
+    assert_eq!(client.read(&mut [0]).await.unwrap(), 0);
+}
+
+#[tokio::test]
+async fn keys_and_secrets_are_waited_for() {
+    let later = |answer: bool| async move {
+        sleep(Duration::from_millis(5)).await;
+        answer
+    };
+    for accepts in [true, false] {
+        let ((a, b), (client, server)) = (tcp().await, begun("XX"));
+        let server = tokio::spawn(AsyncStream::new(b, server, |_| async { true }));
+        let client = AsyncStream::new(a, client, |_| later(accepts)).await;
+        assert_eq!(client.is_ok(), accepts);
+        if let Err(error) = client {
+            assert_eq!(error.kind(), ErrorKind::PermissionDenied);
+            assert_eq!(server.await.unwrap().err().unwrap().kind(), ErrorKind::UnexpectedEof);
+        }
+    }
+    for (key, secret) in [(Toy(11), Some([7; 32])), (Toy(13), None)] {
+        let (a, b) = tcp().await;
+        let server =
+            Builder::new("XXpsk3").prologue(b"test").static_key(Toy(5)).late_psks().responder::<Toy>().unwrap();
+        let server = tokio::spawn(AsyncStream::with_psk_for(b, server, move |peer| async move {
+            sleep(Duration::from_millis(5)).await;
+            assert_eq!(peer, key.public());
+            secret
+        }));
+        let client = builder("XXpsk3", key, Toy(5), true).initiator::<Toy>().unwrap();
+        let _client = AsyncStream::anonymous(a, client).await.unwrap();
+        assert_eq!(server.await.unwrap().is_ok(), secret.is_some());
+    }
+}
+
+#[tokio::test]
+async fn unauthenticated_set_ups_are_refused_before_a_byte() {
+    let (mut client, server) = tcp().await;
+    let error = AsyncStream::new(server, begun("NN").1, |_| async { true }).await.err().unwrap();
+    assert_eq!(inner(&error), Some(&Error::Refused));
+    assert_eq!(client.read(&mut [0]).await.unwrap(), 0);
+}
+
+#[tokio::test]
+async fn the_stream_below_comes_back() {
+    fn must_be_sent<T: Send + Sync + Unpin>(_: &T) {}
+    let (mut client, server) = streams("XX").await;
+    must_be_sent(&client);
+    client.get_ref().set_nodelay(true).unwrap();
+    assert!(client.get_mut().nodelay().unwrap());
+    let text = format!("{client:?} {:?}", server.split(TcpStream::into_split));
+    assert!(text.starts_with("AsyncStream { below: ") && text.len() < 1000, "{text}");
+}

@@ -1,0 +1,92 @@
+// One end over TCP, as examples/live/main.rs says: node peer.mjs PATTERN OWN_SECRET PEER_KEY PSK ADDRESS ORDER SIZE, by the package for JavaScript.
+import { once } from 'node:events';
+import { connect, createServer } from 'node:net';
+import { KeyPair, NoiseSocket, code, load, protocolName } from '../../../js/noise.mjs';
+
+const [name, secret, peer, psk, address, order, digits] = process.argv.slice(2);
+const size = Number(digits);
+const bytes = (text) => new Uint8Array(Buffer.from(text, 'hex'));
+const isInitiator = !address.startsWith('@');
+
+/** Byte i of what a party sends. */
+const byteOf = (initiator, i) => (i * 7 + Number(initiator)) % 251;
+
+async function connection() {
+  const [host, port] = address.replace('@', '').split(':');
+  if (isInitiator) {
+    const socket = connect({ port: Number(port), host, allowHalfOpen: true });
+    await once(socket, 'connect');
+    return socket;
+  }
+  const server = createServer({ allowHalfOpen: true });
+  server.listen(Number(port), host);
+  await once(server, 'listening');
+  console.log(`${host}:${server.address().port}`);
+  const [socket] = await once(server, 'connection');
+  server.close();
+  return socket;
+}
+
+function told(error) {
+  if ([code.TAG, code.SHORT, code.TOO_LONG].includes(error.code)) return 'refused';
+  return error.code === code.CLOSED ? 'cut' : 'lost';
+}
+
+async function write(channel) {
+  let wrote = 0;
+  try {
+    while (wrote < size) {
+      const part = Uint8Array.from({ length: Math.min(10000, size - wrote) }, (_, i) => byteOf(isInitiator, wrote + i));
+      await channel.send(part);
+      wrote += part.length;
+    }
+  } catch {
+    // What it reads says why.
+  }
+  return wrote;
+}
+
+async function read(channel) {
+  let count = 0;
+  try {
+    for await (const payload of channel) {
+      const at = count;
+      if (payload.some((byte, i) => byte !== byteOf(!isInitiator, at + i))) process.exit(1);
+      count += payload.length;
+    }
+    return { count, end: 'end' };
+  } catch (error) {
+    return { count, end: told(error) };
+  }
+}
+
+async function run(channel) {
+  const reading = read(channel);
+  const wrote = await write(channel);
+  let ended = 'open';
+  if (wrote === size && (order === 'first' || (await reading).end === 'end')) {
+    ended = await channel.end().then(() => 'ended', () => 'open');
+  }
+  const { count, end } = await reading;
+  console.log(`wrote ${wrote} ${ended}, read ${count} ${end}`);
+  await channel.close();
+}
+
+await load();
+const letters = name.split('psk')[0];
+const knows = letters[isInitiator ? 1 : 0] === 'K';
+try {
+  await run(await NoiseSocket.open(await connection(), {
+    pattern: protocolName(name),
+    responder: !isInitiator,
+    prologue: new TextEncoder().encode('live'),
+    staticKey: letters === 'NN' ? undefined : await KeyPair.fromSecret(bytes(secret)),
+    remoteStatic: knows ? bytes(peer) : undefined,
+    psks: psk === '-' ? [] : [bytes(psk)],
+    judge: letters === 'NN' ? undefined : (key) => Buffer.from(key).toString('hex') === peer,
+    acceptAnyKey: letters === 'NN',
+  }));
+} catch (error) {
+  console.log(`wrote 0 open, read 0 ${told(error)}`);
+}
+process.exit(0);
