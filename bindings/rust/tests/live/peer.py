@@ -5,12 +5,12 @@ import struct
 import sys
 import threading
 
-from cryptography.exceptions import InvalidTag
 from dissononce.cipher.chachapoly import ChaChaPolyCipher
 from dissononce.dh.keypair import KeyPair
 from dissononce.dh.x25519.private import PrivateKey
 from dissononce.dh.x25519.public import PublicKey
 from dissononce.dh.x25519.x25519 import X25519DH
+from dissononce.exceptions.decrypt import DecryptFailedException
 from dissononce.hash.sha256 import SHA256Hash
 from dissononce.processing.handshakepatterns.interactive.IK import IKHandshakePattern
 from dissononce.processing.handshakepatterns.interactive.KK import KKHandshakePattern
@@ -58,7 +58,7 @@ class End:
             return call()
         except Cut:
             raise
-        except (InvalidTag, ValueError, AssertionError, IndexError) as error:
+        except (DecryptFailedException, ValueError, AssertionError, IndexError) as error:
             self.connection.close()
             raise Refused from error
 

@@ -5,10 +5,12 @@ a command that takes the words of examples/live/main.rs.
 Each pattern, in both roles, with 1 MB each way at once and both ends closing in each order; over `Stream` and `AsyncStream`. Then again with less bytes
 behind a relay that flips, cuts, repeats or drops one byte. What each side reports is compared with the law: it has read the first of what the other has
 written; it reports an end only if the other has ended its stream and all of it came, and else a refused message or a cut; and after that it ends nothing.
+NOISE_LIVE=short takes for each pair of programs and pattern one order, another for the next, and fewer places of a fault.
 """
 
 import concurrent.futures
 import itertools
+import os
 import re
 import secrets
 import shlex
@@ -169,34 +171,40 @@ def session(names, programs, pattern, orders, size, faults=(None, None)):
     return [direction.sent for direction in directions]
 
 
-def struck(names, programs, number):
+def struck(names, programs, number, parts):
     """Sessions of one pair with each fault, at places over all of what each direction has."""
     pattern, orders = PATTERNS[number % len(PATTERNS)], ORDERS[number % len(ORDERS)]
     sent = session(names, programs, pattern, orders, SMALL)
-    for way, fault, part in itertools.product((0, 1), FAULTS, range(4)):
+    for way, fault, part in itertools.product((0, 1), FAULTS, range(parts)):
         faults = [None, None]
-        faults[way] = (fault, min(sent[way] - 1, (part * 2 + number % 2) * sent[way] // 7))
+        faults[way] = (fault, (sent[way] - 1) * (part * 5 + number % 5) // (parts * 5 - 1))
         session(names, programs, pattern, orders, SMALL, tuple(faults))
-    return 1 + 2 * 4 * len(FAULTS)
+    return 2 * len(FAULTS) * parts
 
 
 def main():
+    is_short = os.environ.get("NOISE_LIVE") == "short"
     rust = sys.argv[1]
     ours = {"Stream": rust, "AsyncStream": f"{rust} async"}
     others = dict(word.split("=", 1) for word in sys.argv[2:])
-    pairs = [(own, other) for own in ours for other in [*others, "Stream", "AsyncStream"]]
-    both = [pair for own, other in pairs for pair in ((own, other), (other, own))]
     programs = {**others, **ours}
+    pairs = [pair for own in ours for other in programs for pair in ((own, other), (other, own))]
+    runs = list(itertools.product(dict.fromkeys(pairs), PATTERNS, ORDERS))
+    if is_short:
+        runs = [run for i, run in enumerate(runs) if i % 3 == i // 18 % 3]
     with concurrent.futures.ThreadPoolExecutor(6) as pool:
         plain = [
             pool.submit(session, names, [programs[name] for name in names], pattern, orders, SIZE)
-            for names, pattern, orders in itertools.product(dict.fromkeys(both), PATTERNS, ORDERS)
+            for names, pattern, orders in runs
         ]
-        damaged = [pool.submit(struck, names, [programs[name] for name in names], i) for i, names in enumerate(dict.fromkeys(both))]
         for it in plain:
             it.result()
-        count = sum(it.result() for it in damaged)
-    print(f"{len(plain)} sessions with {', '.join(others)}, and {count} behind a relay")
+        print(f"{len(plain)} sessions with {', '.join(others)}", flush=True)
+        damaged = [
+            pool.submit(struck, names, [programs[name] for name in names], i, 1 if is_short else 4)
+            for i, names in enumerate(dict.fromkeys(pairs))
+        ]
+        print(f"{sum(it.result() for it in damaged)} sessions behind a relay")
 
 
 main()
