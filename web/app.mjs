@@ -1,169 +1,258 @@
 // The page: what is set up, and what happens at each button. What the first verdict doesn't need is loaded after it.
 import { layout } from '../bindings/js/layout.mjs';
 import { load } from '../bindings/js/module.mjs';
-import { FUNDAMENTAL, textOf } from '../bindings/js/patterns.mjs';
-import { Editor } from './editor.mjs';
-import { element } from './element.mjs';
-import { picture, words } from './picture.mjs';
+import { DEFERRED, FUNDAMENTAL, textOf } from '../bindings/js/patterns.mjs';
+import { Editor, standardOf } from './editor.mjs';
+import { element, enable } from './element.mjs';
+import { showBeside, showFacts, warningsOf } from './factsview.mjs';
+import { STYLE, picture, words } from './picture.mjs';
 import * as link from './link.mjs';
+import * as own from './own.mjs';
 
 const at = (id) => document.getElementById(id);
-const setup = link.read(location.hash, { text: textOf('XX'), prologue: 'my protocol 1', interval: 0 });
-let plan;
-let run;
-let language = 'C';
+const STARTED = { text: textOf('XX'), prologue: 'my protocol 1', interval: 0 };
+const INPUTS = ['prologue', 'interval', 'mode', 'window'];
+const page = { setup: link.read(location.hash, STARTED), plan: undefined, run: undefined, isStale: false };
 let busy = false;
 let addressing;
-/** What run.mjs, runview.mjs, code.mjs and bytes.mjs export, once they are there. */
+let editor;
+/** What the scripts export that come after the first verdict, and what is made of them. */
 let late;
 
 async function loadLate() {
-  const modules = await Promise.all([import('./run.mjs'), import('./runview.mjs'), import('./code.mjs'), import('./bytes.mjs')]);
-  return Object.assign({}, ...modules);
+  const names = ['./run.mjs', './runview.mjs', './sentences.mjs', './take.mjs', './bytes.mjs', './mends.mjs', './vectorfile.mjs', './schedule.mjs'];
+  const modules = await Promise.all(names.map((name) => import(name)));
+  const all = Object.assign({}, ...modules);
+  return { ...all, log: new all.Log(at('log'), at('earlier')), take: new all.Take(page) };
 }
 
-function save(name, type, text) {
-  const url = URL.createObjectURL(new Blob([text], { type }));
-  const anchor = element('a');
-  Object.assign(anchor, { href: url, download: name });
-  anchor.click();
-  setTimeout(() => URL.revokeObjectURL(url), 1000);
-}
+/** A set-up without what its mode doesn't use, as a text to compare. */
+const keyOf = ({ text, prologue, interval, mode, window }) => JSON.stringify([text, prologue, mode, mode === 'datagrams' ? window : interval]);
 
 function showPicture() {
-  at('picture').classList.toggle('stale', !plan);
-  if (!plan) return;
-  at('picture').innerHTML = picture(plan, innerWidth < 632 ? 360 : 760);
-  at('words').replaceChildren(...words(plan).map((line) => element('li', '', line)));
+  at('picture').classList.toggle('old', !page.plan);
+  at('shape-old').hidden = Boolean(page.plan);
+  if (!page.plan) return;
+  at('picture').innerHTML = picture(page.plan, at('picture').clientWidth);
+  at('words').replaceChildren(...words(page.plan).map((line) => element('li', '', line)));
+  showFacts(at('facts'), page.plan);
 }
 
-function showCode() {
-  if (!late) return;
-  for (const button of at('languages').children) button.setAttribute('aria-pressed', String(button.textContent === language));
-  at('save-program').disabled = !plan;
-  at('code').classList.toggle('stale', !plan);
-  if (plan) at('code').textContent = late.program(language, plan, setup).text;
+const SECTION = (text) => text.split('\n')[0].replace(/:$/, '');
+
+/** Shows a pattern of the standard, or one's own, beside this one. */
+function showOther() {
+  const { value } = at('beside');
+  if (!value || !page.plan) return at('other').replaceChildren();
+  const other = value.startsWith('own ') ? own.all()[Number(value.slice(4))] : textOf(value);
+  return showBeside(at('other'), [SECTION(page.setup.text), page.setup.text], [SECTION(other), other]);
+}
+
+/** What can be shown beside: one's own patterns that are valid, then those of the standard. */
+function fillBeside() {
+  const { value } = at('beside');
+  const mine = own.all().map((text, n) => new Option(`your ${own.nameOf(text)}`, `own ${n}`));
+  at('beside').replaceChildren(new Option('nothing', ''), ...mine, ...[...FUNDAMENTAL, ...DEFERRED].map((base) => new Option(base)));
+  at('beside').value = value;
+}
+
+function showInputs() {
+  const { setup } = page;
+  for (const name of INPUTS) if (at(name) !== document.activeElement || at(name).value !== String(setup[name])) at(name).value = setup[name];
+  at('interval-l').hidden = setup.mode === 'datagrams';
+  at('window-l').hidden = setup.mode !== 'datagrams';
+}
+
+function showButtons() {
+  const { run, plan, isStale } = page;
+  const isLive = Boolean(run) && !isStale;
+  enable(at('start'), plan);
+  at('start').textContent = run ? 'Begin again with new keys' : 'Draw keys and begin';
+  enable(at('all'), isLive && run.next !== undefined);
+  for (const it of document.querySelectorAll('[data-write]')) enable(it, isLive && (run.silenceOf(it.dataset.write) === undefined || !run[it.dataset.write].sealer));
+  const isStream = isLive && page.setup.mode === 'stream';
+  at('ends').hidden = !isStream || !run.isOpen;
+  for (const it of document.querySelectorAll('[data-end]')) enable(it, isStream && !run.silenceOf(it.dataset.end));
+  enable(at('close'), isStream && run.isOpen && !run.isClosed);
+  at('write').hidden = !run;
+  at('keys').hidden = !run;
 }
 
 function showRun() {
   if (!late) return;
-  const isOpen = Boolean(run?.isOpen);
-  at('start').disabled = !plan;
-  at('start').textContent = run ? 'Begin again with new keys' : 'Draw keys and begin';
-  at('all').disabled = !run || run.next === undefined;
-  at('write').hidden = !run;
-  at('save-vector').disabled = !run;
-  at('interval-l').hidden = setup.mode === 'datagrams';
-  at('window-l').hidden = setup.mode !== 'datagrams';
-  for (const button of document.querySelectorAll('[data-write]')) {
-    button.disabled = !run || run[button.dataset.write].ended || (!isOpen && run.setup.mode === 'datagrams' && Boolean(run[button.dataset.write].sealer));
-  }
+  const { run, isStale } = page;
+  showButtons();
   at('state').textContent = late.stateOf(run);
-  late.showLog(at('log'), run, act);
+  late.log.show(run, act);
   late.showWindows(at('windows'), run);
+  at('stale').hidden = !isStale;
+  late.showStale(at('ran'), isStale);
+  late.take.show();
+}
+
+/** The page's address has the set-up and the run: not at each key, which browsers refuse. */
+function keepAddress() {
+  clearTimeout(addressing);
+  addressing = setTimeout(() => history.replaceState(null, '', link.address(page.setup, page.run && !page.isStale ? page.run.steps : [])), 250);
+}
+
+/** Keeps the address as it is for Back, and goes on under one of its own. */
+function leave() {
+  clearTimeout(addressing);
+  const steps = page.run && !page.isStale ? page.run.steps : [];
+  history.replaceState(null, '', link.address(page.setup, steps));
+  history.pushState(null, '', link.address(page.setup, steps));
+}
+
+/** After each change of the set-up. The run stays; it is greyed while it belongs to another one. */
+function changed() {
+  page.isStale = Boolean(page.run) && keyOf(page.run.given) !== keyOf(page.setup);
+  keepAddress();
+  showInputs();
+  showRun();
+}
+
+function patternChanged(text, verdict) {
+  page.setup.text = text;
+  page.plan = verdict.valid ? layout(text) : undefined;
+  if (page.plan) at('verdict').append(...warningsOf(page.plan).map((says) => element('p', 'warns', element('strong', '', 'Warning: '), says)));
+  showPicture();
+  showOther();
+  changed();
+}
+
+/** Says what has come of a call: the newest entry, or why it couldn't be made. */
+function announce(entries) {
+  at('said').textContent = entries.map((entry) => `${entry.at}. ${late.sentenceOf(page.run, entry)}`).join(' ');
+  at('said').classList.toggle('bad', entries.some(({ kind }) => ['refused', 'unwritten'].includes(kind)));
 }
 
 /** Does one thing at a time with the run, and shows the outcome. */
 async function act(work) {
   if (busy) return;
   busy = true;
+  const { run } = page;
+  const before = run?.log.length ?? 0;
   try {
+    if (page.isStale) throw new late.NotNow('This run belongs to another set-up: begin again with this one.');
     await work();
-    at('copied').textContent = '';
+    late.take.clear();
+    keepAddress();
     showRun();
+    const entries = page.run.log.slice(page.run === run ? before : 0);
+    if (entries.length) announce(entries.slice(-3));
   } catch (error) {
-    at('state').textContent = `This can’t be done: ${error.message}`;
+    at('said').textContent = error instanceof late.NotNow ? error.message : `This can’t be done: ${error.message}`;
+    at('said').classList.add('bad');
+    showRun();
   } finally {
     busy = false;
   }
 }
 
-function endRun() {
-  run?.dispose();
-  run = undefined;
-  at('log').replaceChildren();
-}
-
-/** After each change of the set-up: a run of another set-up is over. */
-function changed() {
-  // Browsers refuse an address that changes at each key.
-  clearTimeout(addressing);
-  addressing = setTimeout(() => history.replaceState(null, '', link.write(setup)), 250);
-  endRun();
-  showRun();
-  showCode();
-}
-
-function patternChanged(text, verdict) {
-  setup.text = text;
-  plan = verdict.valid ? layout(text) : undefined;
-  showPicture();
-  changed();
+async function start() {
+  const { setup, plan } = page;
+  page.run?.dispose();
+  page.run = await late.Run.start({ ...setup, prologue: late.encode(setup.prologue), isOwn: !FUNDAMENTAL.includes(plan.base) });
+  page.run.given = { ...setup };
+  page.isStale = false;
+  late.showKeys(at('key-list'), page.run);
+  at('said').textContent = 'New keys are drawn. The initiator writes the first message.';
+  at('said').classList.remove('bad');
 }
 
 async function begin() {
-  endRun();
-  run = await late.Run.start({ ...setup, prologue: late.encode(setup.prologue), isOwn: !FUNDAMENTAL.includes(plan.base) });
+  page.isStale = false;
+  await act(start);
+}
+
+/** Does the steps of a run again, with new keys. */
+async function repeat(steps) {
+  await act(async () => {
+    await start();
+    for (const step of steps) await page.run.repeat(step);
+  });
+  if (page.run) at('said').textContent = `The run of the link was done again with new keys: ${page.run.log.length} entries. ${at('said').textContent}`;
+}
+
+/** Takes the set-up of the page's address, and its run unless that is the one at hand. */
+async function follow() {
+  const setup = link.read(location.hash, STARTED);
+  const steps = link.readSteps(location.hash);
+  if (link.write(page.setup) !== link.write(setup)) {
+    Object.assign(page.setup, setup);
+    editor.replace(setup.text);
+  }
+  changed();
+  clearTimeout(addressing);
+  const isAtHand = !steps.length || (page.run && !page.isStale && link.write(setup, steps) === link.write(setup, page.run.steps));
+  if (!isAtHand && page.plan && late) await repeat(steps);
 }
 
 const payload = () => late.encode(at('payload').value);
+const onPress = (it, work) => it.addEventListener('click', () => { if (it.getAttribute('aria-disabled') !== 'true') work(); });
+const wired = (id, work) => onPress(at(id), work);
 
-function wire() {
-  at('prologue').value = setup.prologue;
-  at('interval').value = setup.interval;
-  at('mode').value = setup.mode;
-  at('window').value = setup.window;
-  at('prologue').addEventListener('input', () => { setup.prologue = at('prologue').value; changed(); });
-  at('interval').addEventListener('input', () => { setup.interval = Math.min(999999999, Math.max(0, Math.floor(Number(at('interval').value)) || 0)); changed(); });
-  at('mode').addEventListener('change', () => { setup.mode = at('mode').value; changed(); });
-  at('window').addEventListener('change', () => { setup.window = Number(at('window').value); changed(); });
-  at('start').addEventListener('click', () => act(begin));
-  at('all').addEventListener('click', () => act(() => run.passAll(payload)));
-  for (const button of document.querySelectorAll('[data-write]')) button.addEventListener('click', () => act(() => run.write(button.dataset.write, payload())));
-  at('payload').addEventListener('keydown', ({ key }) => { if (key === 'Enter' && run?.next) act(() => run.write(run.next, payload())); });
-  at('save-vector').addEventListener('click', () => { const { name, text } = run.vectorFile(); save(name, 'text/plain', text); });
-  at('save-pattern').addEventListener('click', () => save(`${plan?.base ?? 'mine'}.pattern`, 'text/plain', setup.text));
-  at('save-program').addEventListener('click', () => { const { name, text } = late.program(language, plan, setup); save(name, 'text/plain', text); });
-  at('save-picture').addEventListener('click', () => save(`${plan?.base ?? 'pattern'}.svg`, 'image/svg+xml', at('picture').innerHTML));
-  at('copy-link').addEventListener('click', async () => {
-    try {
-      await navigator.clipboard.writeText(location.href.split('#')[0] + link.write(setup));
-      at('copied').textContent = 'Copied.';
-    } catch {
-      at('copied').textContent = 'The address of this page is the link.';
-    }
-  });
-  addEventListener('resize', showPicture);
+function wireRun() {
+  const clicks = (name, work) => {
+    for (const it of document.querySelectorAll(`[data-${name}]`)) onPress(it, () => act(() => work(it.dataset[name])));
+  };
+  wired('start', begin);
+  wired('again', begin);
+  wired('back', () => { Object.assign(page.setup, page.run.given); editor.replace(page.setup.text); changed(); at('start').focus(); });
+  wired('all', () => act(() => page.run.passAll(payload)));
+  wired('close', () => act(() => page.run.close()));
+  clicks('write', (role) => page.run.write(role, payload()));
+  clicks('end', (role) => page.run.write(role));
+  at('payload').addEventListener('keydown', ({ key }) => { if (key === 'Enter' && page.run?.next) act(() => page.run.write(page.run.next, payload())); });
 }
 
-/** The buttons of section 4 that show a program. */
-function wireLanguages() {
-  for (const name of late.LANGUAGES) {
-    const button = element('button', '', name);
-    button.type = 'button';
-    button.addEventListener('click', () => { language = name; showCode(); });
-    at('languages').append(button);
-  }
+function wire() {
+  const set = (name, type, value) => at(name).addEventListener(type, () => { page.setup[name] = value(at(name).value); changed(); });
+  set('prologue', 'input', (it) => it);
+  set('interval', 'input', (it) => Math.min(999999999, Math.max(0, Math.floor(Number(it)) || 0)));
+  set('mode', 'change', (it) => it);
+  set('window', 'change', Number);
+  at('beside').addEventListener('focus', fillBeside);
+  at('beside').addEventListener('change', showOther);
+  addEventListener('resize', showPicture);
+  addEventListener('popstate', follow);
+}
+
+/** Keeps the page for use without a network. */
+function keepOffline() {
+  if (isSecureContext && navigator.serviceWorker) navigator.serviceWorker.register('offline.mjs').catch(() => {});
 }
 
 try {
+  const sheet = new CSSStyleSheet();
+  sheet.replaceSync(STYLE);
+  document.adoptedStyleSheets = [sheet];
   await load();
+  showInputs();
   wire();
-  const editor = new Editor(patternChanged);
-  editor.set(setup.text);
-  addEventListener('hashchange', () => {
-    Object.assign(setup, link.read(location.hash, setup));
-    for (const name of ['prologue', 'interval', 'mode', 'window']) at(name).value = setup[name];
-    editor.set(setup.text);
-  });
+  fillBeside();
+  editor = new Editor(patternChanged, leave);
+  editor.set(page.setup.text);
+  document.body.classList.remove('loading');
   const firstVerdict = performance.now();
+  const steps = link.readSteps(location.hash);
   late = await loadLate();
-  wireLanguages();
+  wireRun();
+  editor.mendsOf = late.mendsOf;
+  editor.showMends();
   showRun();
-  showCode();
-  // What the checks and a curious reader of the console may look at; the vector file of a run has its secrets, but no private keys.
-  globalThis.noisePage = { get vectorFile() { return run?.vectorFile().text; }, get lines() { return run?.lines; }, firstVerdict };
+  if (steps.length && page.plan) await repeat(steps);
+  // What the checks and a curious reader of the console may look at; the vector file and the key schedule of a run have its secrets, but no private keys.
+  globalThis.noisePage = {
+    get vectorFile() { return page.run && late.vectorFile(page.run).text; },
+    get lines() { return page.run?.lines; },
+    get log() { return page.run && late.scheduleOf(page.run).then(({ whole }) => whole); },
+    standardOf, firstVerdict,
+  };
+  keepOffline();
 } catch (error) {
+  document.body.classList.remove('loading');
   at('verdict').className = 'bad';
   const title = error.code === -3 ? 'This browser can’t run the library.' : 'The library couldn’t be loaded.';
   at('verdict').replaceChildren(element('p', 'title', title), element('p', '', error.message));

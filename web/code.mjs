@@ -4,9 +4,10 @@ import { FUNDAMENTAL } from '../bindings/js/patterns.mjs';
 import { c } from './programs/c.mjs';
 import { go } from './programs/go.mjs';
 import { javascript } from './programs/javascript.mjs';
+import { python } from './programs/python.mjs';
 import { rust } from './programs/rust.mjs';
 
-const MADE = { C: [c, '.c'], Go: [go, '.go'], Rust: [rust, '.rs'], JavaScript: [javascript, '.mjs'] };
+const MADE = { C: [c, '.c'], Go: [go, '.go'], Rust: [rust, '.rs'], JavaScript: [javascript, '.mjs'], Python: [python, '.py'] };
 export const LANGUAGES = Object.keys(MADE);
 
 /** What the programs need to know of a pattern and its set-up. `knows` says whose static key is in the other party's set-up. */

@@ -1,9 +1,11 @@
-// The text of the pattern: it is checked at each change, its first fault is marked, and a click sets psk places.
+// The text of the pattern: it is checked at each change, its first fault is marked, and a click sets psk places or mends a fault. What the page changes in
+// it the browser's own undo takes back.
 import { checkPattern } from '../bindings/js/check.mjs';
 import { layout, linesOf } from '../bindings/js/layout.mjs';
 import { DEFERRED, FUNDAMENTAL, textOf } from '../bindings/js/patterns.mjs';
 import { explain } from './faults.mjs';
-import { element } from './element.mjs';
+import { button, element } from './element.mjs';
+import * as own from './own.mjs';
 
 const HEADING = /^([A-Z][A-Z0-9]{0,7})((?:psk[0-8])(?:\+psk[0-8])*)?:$/;
 
@@ -14,6 +16,12 @@ export const whole = (value) => (value.endsWith('\n') ? value : `${value}\n`);
 function placesOf(text) {
   const parts = HEADING.exec(text.split('\n')[0]);
   return (parts?.[2]?.match(/\d/g) ?? []).map(Number);
+}
+
+/** Which pattern of the standard a text is, or ''. */
+export function standardOf(text) {
+  const base = text.split('\n')[0].replace(/(psk.*)?:$/, '');
+  return [...FUNDAMENTAL, ...DEFERRED].includes(base) && textOf(base, placesOf(text)) === text ? base : '';
 }
 
 /** The text with a psk token at this place, or without the one that is there. */
@@ -36,37 +44,77 @@ export function togglePsk(text, place) {
   return `${changed.join('\n')}\n`;
 }
 
+/** The range of a text that another one has otherwise, and what stands there in it. */
+function difference(old, text) {
+  let from = 0;
+  while (from < old.length && from < text.length && old[from] === text[from]) from += 1;
+  let rest = 0;
+  while (rest < old.length - from && rest < text.length - from && old.at(-1 - rest) === text.at(-1 - rest)) rest += 1;
+  return [from, old.length - rest, text.slice(from, text.length - rest)];
+}
+
 export class Editor {
   #text = document.getElementById('text');
   #marks = document.getElementById('marks');
   #verdict = document.getElementById('verdict');
+  #mends = document.getElementById('mends');
   #pick = document.getElementById('pick');
   #places = document.getElementById('places');
+  #verdictOf;
+  #mine = element('optgroup');
 
-  /** `changed(text, verdict)` is called after each change. */
-  constructor(changed) {
-    this.changed = changed;
+  /** `changed(text, verdict, says)` is called after each change; `leaves()` before the page puts another pattern in the place of this one. */
+  constructor(changed, leaves) {
+    Object.assign(this, { changed, leaves, mendsOf: () => [] });
     const group = (label, bases) => {
       const made = element('optgroup', '', ...bases.map((base) => new Option(base)));
       made.label = label;
       return made;
     };
-    this.#pick.append(new Option('your own', ''), group('Fundamental (7.4, 7.5)', FUNDAMENTAL), group('Deferred (18.1)', DEFERRED));
-    this.#pick.addEventListener('change', () => this.set(this.#pick.value ? textOf(this.#pick.value) : this.text.replace(/^[A-Z0-9]*/, 'MINE')));
+    this.#mine.label = 'Your own';
+    this.#pick.append(this.#mine, group('Fundamental (7.4, 7.5)', FUNDAMENTAL), group('Deferred (18.1)', DEFERRED));
+    this.#pick.addEventListener('change', () => this.#choose(this.#pick.value));
     for (let place = 0; place <= 8; place += 1) {
       const box = element('input');
       Object.assign(box, { type: 'checkbox', value: place });
       box.setAttribute('aria-label', place === 0 ? 'psk before message 1' : `psk at the end of message ${place}`);
-      box.addEventListener('change', () => this.set(togglePsk(whole(this.#text.value), place)));
+      box.addEventListener('change', () => this.replace(togglePsk(this.text, place)));
       this.#places.append(element('label', '', box, String(place)));
     }
     this.#text.addEventListener('input', () => this.judge());
     this.#text.addEventListener('scroll', () => { this.#marks.scrollTop = this.#text.scrollTop; this.#marks.scrollLeft = this.#text.scrollLeft; });
+    addEventListener('pagehide', () => this.#remember());
   }
 
+  #remember() {
+    if (!standardOf(this.text)) own.remember(this.text);
+  }
+
+  #choose(value) {
+    const text = value.startsWith('own ') ? own.all()[Number(value.slice(4))] : value === '' ? undefined : textOf(value);
+    this.#remember();
+    if (text !== undefined) this.leaves();
+    this.replace(text ?? this.text.replace(/^[A-Z0-9]*/, 'MINE'));
+  }
+
+  /** Sets the text at the start, without a way back. */
   set(text) {
     this.#text.value = text;
     this.judge();
+  }
+
+  /** Puts another text in the place of this one, as typing would: undo takes it back. The focus stays where it is. */
+  replace(text) {
+    const [from, to, middle] = difference(this.#text.value, text);
+    if (from === to && middle === '') return;
+    const { activeElement } = document;
+    this.#text.inputMode = 'none';    // no keyboard on the screen
+    this.#text.focus({ preventScroll: true });
+    this.#text.setSelectionRange(from, to);
+    const isDone = middle === '' ? document.execCommand('delete') : document.execCommand('insertText', false, middle);
+    this.#text.inputMode = '';
+    if (activeElement && activeElement !== document.body) activeElement.focus({ preventScroll: true });
+    if (!isDone || this.#text.value !== text) this.set(text);
   }
 
   get text() {
@@ -77,8 +125,10 @@ export class Editor {
     const { text } = this;
     const verdict = checkPattern(text);
     const says = verdict.valid ? undefined : explain(text, verdict);
+    this.#verdictOf = verdict;
     this.#mark(text, says?.span);
     this.#tell(text, verdict, says);
+    this.showMends();
     this.#set(text);
     this.changed(text, verdict);
   }
@@ -96,22 +146,33 @@ export class Editor {
     this.#verdict.replaceChildren(...(verdict.valid
       ? [
         line('title', `Valid: ${verdict.messages} ${verdict.messages === 1 ? 'message' : 'messages'}.`),
-        line('mend', 'None of the five rules is broken. A valid pattern isn’t necessarily a secure one.'),
-        line('mend', `Without their payloads the messages have ${layout(text).messages.map(({ length }) => length).join(', ')} bytes.`),
+        line('mend', `No rule is broken. Without payloads the messages have ${layout(text).messages.map(({ length }) => length).join(', ')} bytes.`),
       ]
       : [line('title', `${says.title}.`), line('', says.says), line('mend', says.mend)]));
   }
 
+  /** The corrections that are offered. */
+  showMends() {
+    const mends = this.#verdictOf.valid ? [] : this.mendsOf(this.text, this.#verdictOf);
+    this.#mends.replaceChildren(...mends.map(({ label, text }) => button(label, () => {
+      this.#text.focus();
+      this.replace(text);
+    })));
+  }
+
   /** Shows which pattern of the standard this is, and which psk places it has. */
   #set(text) {
-    const base = text.split('\n')[0].replace(/(psk.*)?:$/, '');
-    this.#pick.value = [...FUNDAMENTAL, ...DEFERRED].includes(base) && textOf(base, placesOf(text)) === text ? base : '';
+    const base = standardOf(text);
+    const mine = own.all();
+    const options = mine.map((it, n) => (it === text ? undefined : new Option(`your ${own.nameOf(it)}`, `own ${n}`))).filter(Boolean);
+    this.#mine.replaceChildren(...(base ? [] : [new Option('this pattern', 'this')]), ...options, ...(base && mine.length === 0 ? [new Option('make it your own', '')] : []));
+    this.#pick.value = base || 'this';
     const lines = linesOf(text);
     const messages = lines.length - 1 - Math.max(lines.findIndex(({ line }) => line === '  ...'), 0);
     const places = placesOf(text);
     for (const box of this.#places.querySelectorAll('input')) {
       box.checked = places.includes(Number(box.value));
-      box.disabled = Number(box.value) > messages && !box.checked;
+      box.disabled = Number(box.value) > messages && !box.checked && box !== document.activeElement;
     }
   }
 }

@@ -5,3 +5,28 @@ export function element(name, cls, ...children) {
   made.append(...children);
   return made;
 }
+
+/** A button that does something. `more` are properties and, after a colon, attributes. */
+export function button(label, act, cls = '') {
+  const made = element('button', cls, label);
+  made.type = 'button';
+  made.addEventListener('click', (event) => { if (made.getAttribute('aria-disabled') !== 'true') act(event); });
+  return made;
+}
+
+/** Switches a button off or on. It keeps the focus where it has it. */
+export function enable(it, isEnabled) {
+  it.setAttribute('aria-disabled', String(!isEnabled));
+}
+
+/** A button that copies a text. `what` says of what, for those who don't see where it is. */
+export function copier(what, textOf) {
+  const made = button('Copy', async () => {
+    let isCopied = true;
+    try { await navigator.clipboard.writeText(textOf()); } catch { isCopied = false; }
+    made.textContent = isCopied ? 'Copied' : 'Not allowed';
+    setTimeout(() => { made.textContent = 'Copy'; }, 1500);
+  }, 'copy');
+  made.setAttribute('aria-label', `Copy ${what}`);
+  return made;
+}

@@ -2,28 +2,52 @@
 // the line and the kind of a malformed text, but no contract covers these two. The place in that line is this page's own reading.
 import { linesOf } from '../bindings/js/layout.mjs';
 
-const RULES = {
-  1: ['This DH needs a public key that its party doesn’t have yet.', 'Send the missing e or s in an earlier place, or name it before “...”.'],
-  2: ['This party has sent this key already.', 'Leave the second one out.'],
-  3: ['This DH occurs twice, and adds nothing the second time.', 'Leave the second one out.'],
-  4: [
-    'Something is encrypted after a DH of this party’s static key, but the DH of its ephemeral key with the same key of the other party hasn’t been done.',
-    'Put that DH (ee for se or es, es or se for ss) before this one.',
-  ],
-  5: ['Something is encrypted after a psk by a party that has sent no e: the same key and nonce could come again.', 'Let this party send an e before it.'],
-};
-const FORMS = {
+/** For each rule a sentence, and how to mend it. Words in braces are filled in by `brokenRule`. */
+export const RULES = Object.freeze({
+  1: ['{token} needs the {owner}’s {key}, which is neither sent before this place nor named above “...”.', 'Let the {owner} send {key} earlier, or name it above “...”.'],
+  2: ['The {sender} has sent {token} already.', 'Leave the second one out.'],
+  3: ['{token} is mixed in already, and adds nothing the second time.', 'Leave the second one out.'],
+  4: ['The {sender} encrypts here, {after} is mixed in, and {missing} isn’t: what it encrypts could depend on no fresh key of its own.', 'Put {missing} before {after}.'],
+  5: ['The {sender} encrypts here after psk, and has sent no e: the same key and nonce could come again.', 'Let the {sender} send e before it.'],
+});
+/** The same for each kind of malformed line, by its code in include/noise.h. */
+export const FORMS = Object.freeze({
   30: ['The first line has to be a name of 1 to 8 upper-case letters and digits, then psk places such as psk0 or psk0+psk2, then a colon.', 'For example: MINE:'],
   31: ['The line has to begin with two spaces, an arrow (-> or <-) and one space.', 'For example: two spaces, then “-> e”.'],
   32: ['This isn’t a token.', 'The tokens are e, s, ee, es, se, ss and psk, with a comma and a space between two.'],
-  33: ['Before “...” a line has e, s or “e, s”, the initiator’s first, and “...” comes once, after them.', 'Move this line, or leave it out.'],
+  33: ['Above “...” a line has e, s or “e, s”, the initiator’s first, and “...” comes once, after them.', 'Move this line, or leave it out.'],
   34: ['It is the other party’s turn.', 'Turn the arrow around: the initiator (->) begins, and then they alternate.'],
   35: ['The psk tokens aren’t where the heading says.', 'psk0 is before message 1, pskN at the end of message N: set the places by the boxes above the text.'],
   36: ['This name belongs to a fundamental pattern, and the text is another one.', 'Give it a name of its own.'],
   37: ['Too much: a pattern has at most 8 messages, and each from 1 to 8 tokens besides psk.', 'Leave some out.'],
   38: ['There is no message.', 'Add a line such as “  -> e”.'],
-};
+});
+/** What stands in the place of a sentence of FORMS where the line shows more. */
+const CLOSER = Object.freeze({
+  empty: ['The line is empty.', 'Leave it out.'],
+  dots: ['A key that is known before the first message stands above a line of two spaces and “...”, and that line is missing.', 'Put “...” below this line.'],
+  space: ['A space is at the end of the line.', 'Take it out.'],
+  arrow: ['The arrow is written as two characters: -> or <-.', 'Write it so.'],
+});
 const WORDS = new Set(['e', 's', 'ee', 'es', 'se', 'ss', 'psk']);
+export const OTHER = Object.freeze({ initiator: 'responder', responder: 'initiator' });
+
+/** The number of the line with the first message. */
+export const firstOf = (lines) => lines.findIndex(({ line }) => line === '  ...') + 1 || 1;
+
+/** Whether the lines down to this one are keys known before, whose “...” was forgotten: the last such line, or undefined. */
+export function forgottenDots(lines, n) {
+  if (lines.some(({ line }) => line === '  ...')) return undefined;
+  const isKeys = ({ tokens }) => tokens !== undefined && ['s', 'e,s'].includes(tokens.map(({ name }) => name).join());
+  const [first, second] = lines.slice(1, 3);
+  if (n === 1) return first.role === 'responder' && isKeys(first) ? 1 : undefined;
+  if (n === 2 || n === 3) {
+    const isPair = n === 3 && first.role === 'initiator' && second.role === 'responder' && isKeys(first) && isKeys(second);
+    if (isPair) return 2;
+    return n === 2 && isKeys(first) && first.role === second.role ? 1 : undefined;
+  }
+  return undefined;
+}
 
 /** The place of a line in the text. */
 function span(lines, n, from = 0, to = lines[n].line.length) {
@@ -34,6 +58,7 @@ function span(lines, n, from = 0, to = lines[n].line.length) {
 function spanInLine(lines, n, code) {
   const { line, tokens } = lines[n];
   const token = (found) => (found ? span(lines, n, found.start, found.end) : span(lines, n));
+  if (/\s$/.test(line) && line.trim() !== '') return span(lines, n, line.trimEnd().length);
   if (code === 32) return token(tokens?.find(({ name }) => !WORDS.has(name)));
   if (code === 34) return span(lines, n, 2, 4);
   if (code === 35) return n === 0 ? span(lines, n, line.indexOf('psk')) : token(tokens?.find(({ name }) => name === 'psk'));
@@ -43,32 +68,59 @@ function spanInLine(lines, n, code) {
 
 /** The place of a broken rule: the token, or for a payload the message's last token, or for the transport the last message's. */
 function spanOfRule(lines, { message, token }) {
-  const dots = lines.findIndex(({ line }) => line === '  ...');
-  const first = dots < 0 ? 1 : dots + 1;
-  const n = Math.min(first + message - 1, lines.length - 1);
+  const n = Math.min(firstOf(lines) + message - 1, lines.length - 1);
   const { tokens } = lines[n];
-  const at = first + message - 1 < lines.length ? tokens[Math.min(token, tokens.length - 1)] : tokens.at(-1);
+  const at = firstOf(lines) + message - 1 < lines.length ? tokens[Math.min(token, tokens.length - 1)] : tokens.at(-1);
   return span(lines, n, at.start, at.end);
 }
 
 function placeOf(lines, { message, token }) {
-  const dots = lines.findIndex(({ line }) => line === '  ...');
-  const messages = lines.length - 1 - Math.max(dots, 0);
-  if (message > messages) return `the first transport message of the ${token === 0 ? 'initiator' : 'responder'}`;
-  const { tokens } = lines[Math.max(dots, 0) + message];
-  return token < tokens.length ? `message ${message}, token ${token + 1} (${tokens[token].name})` : `the payload of message ${message}`;
+  const line = lines[firstOf(lines) + message - 1];
+  if (!line) return `the first transport message of the ${token === 0 ? 'initiator' : 'responder'}`;
+  return token < line.tokens.length ? `message ${message}, token ${line.tokens[token].name}` : `the payload of message ${message}`;
+}
+
+/** What a broken rule is about, by name: the words that are filled in. */
+export function brokenRule(lines, { rule, message, token }) {
+  const line = lines[firstOf(lines) + message - 1];
+  const sender = line ? line.role : ['initiator', 'responder'][token];
+  const name = line?.tokens[token]?.name;
+  if (rule === 1) {
+    const earlier = lines.slice(1, firstOf(lines) + message - 1).map(({ role, tokens = [] }) => ({ role, names: tokens.map((it) => it.name) }));
+    earlier.push({ role: sender, names: line.tokens.slice(0, token).map((it) => it.name) });
+    const has = (role, key) => earlier.some((it) => it.role === role && it.names.includes(key));
+    const owner = has('initiator', name[0]) ? 'responder' : 'initiator';
+    return { token: name, sender, owner, key: owner === 'initiator' ? name[0] : name[1] };
+  }
+  if (rule !== 4) return { token: name, sender };
+  const names = lines.slice(firstOf(lines), firstOf(lines) + message).flatMap(({ tokens }, n) => tokens.slice(0, n === message - 1 ? token : undefined).map((it) => it.name));
+  const needs = sender === 'initiator' ? [['se', 'ee'], ['ss', 'es']] : [['es', 'ee'], ['ss', 'se']];
+  const [after, missing] = needs.find(([dh, first]) => names.includes(dh) && !names.includes(first)) ?? needs[0];
+  return { token: name, sender, after, missing };
+}
+
+const filled = (text, values) => text.replace(/\{(\w+)\}/g, (_, name) => values[name]);
+
+function closerOf(lines, n, code) {
+  const { line } = lines[n];
+  if (line.trim() === '' && code === 31) return CLOSER.empty;
+  if (code === 34 && forgottenDots(lines, n) !== undefined) return CLOSER.dots;
+  if (/\s$/.test(line) && [30, 31, 32].includes(code)) return CLOSER.space;
+  if (code === 31 && /[→←⟶⟵⇒⇐]/.test(line)) return CLOSER.arrow;
+  return FORMS[code];
 }
 
 /** What a verdict says: a title, a sentence, how to correct it, and its place in the text as two offsets. */
 export function explain(text, verdict) {
   const lines = linesOf(text);
   if (verdict.rule) {
-    const [says, mend] = RULES[verdict.rule];
+    const values = brokenRule(lines, verdict);
+    const [says, mend] = RULES[verdict.rule].map((it) => filled(it, values));
     return { title: `Rule ${verdict.rule} is broken at ${placeOf(lines, verdict)}`, says, mend, span: spanOfRule(lines, verdict) };
   }
   const n = Math.min(verdict.line, lines.length) - 1;
-  const [says, mend] = verdict.code === 31 && lines[n].line.trim() === '' ? ['The line is empty.', 'Leave it out.'] : FORMS[verdict.code];
-  return { title: `Line ${verdict.line}: ${verdict.name.slice(6).toLowerCase().replace('_', ' ')}`, says, mend, span: spanInLine(lines, n, verdict.code) };
+  const [says, mend] = closerOf(lines, n, verdict.code);
+  return { title: `Line ${verdict.line}: ${verdict.name.slice(6).toLowerCase().replaceAll('_', '-')}`, says, mend, span: spanInLine(lines, n, verdict.code) };
 }
 
 /** Why a message, a datagram or a set-up was refused. */
@@ -84,4 +136,5 @@ export const CAUSES = {
   26: 'its nonce is 2⁶⁴ − 1, which none has',
   27: 'its nonce is below the window',
   28: 'a datagram of its nonce was opened',
+  43: 'its stream has ended',
 };

@@ -1,28 +1,51 @@
 // The picture of a handshake, as SVG, and the same in words. The page's own reading of the standard (bindings/js/layout.mjs) is drawn, and not proved.
-const STYLE = `
-  .bg{fill:#fff}.ink{fill:#1c2330}.dim{fill:#596275}.line{stroke:#596275;stroke-width:1.5;fill:none}.life{stroke:#c4cad6;stroke-width:1.5}
-  .e{fill:#8fb8f0}.s{fill:#f2b872}.sealed{fill:#7fc8a9}.tag{fill:#b9a3e3}
-  .payload{fill:#e6e9ef;stroke:#596275;stroke-dasharray:3 2}.payload.sealed{fill:#cfeadf;stroke-dasharray:none}
-  .dh{fill:none;stroke:#596275}.on{fill:#141a24}text{font:13px system-ui,sans-serif}.small{font-size:11.5px}.bold{font-weight:600}
+import { OTHER } from './faults.mjs';
+
+/** The picture's own rules: the page adopts them, and a saved picture has them inside. */
+export const STYLE = `
+  .noise .bg{fill:#fff}.noise .ink{fill:#1c2330}.noise .dim{fill:#566074}.noise .line{stroke:#566074;stroke-width:1.5;fill:none}
+  .noise .life{stroke:#c4cad6;stroke-width:1.5}.noise .e{fill:#8fb8f0}.noise .s{fill:#f2b872}.noise .sealed{fill:#7fc8a9}.noise .tag{fill:#b9a3e3}
+  .noise .payload{fill:#e6e9ef;stroke:#566074;stroke-dasharray:3 2}.noise .payload.sealed{fill:#cfeadf;stroke-dasharray:none}
+  .noise .dh{fill:none;stroke:#566074}.noise .on{fill:#141a24;forced-color-adjust:none}.noise text{font:13px system-ui,sans-serif}
+  .noise .small{font-size:12px}.noise .bold{font-weight:600}
   @media (prefers-color-scheme:dark){
-    .bg{fill:#171c25}.ink{fill:#e7ebf2}.dim{fill:#a3adbf}.line,.dh{stroke:#a3adbf}.life{stroke:#3b4454}
-    .payload{fill:#2a3140;stroke:#a3adbf}.payload.sealed{fill:#24483b}
+    .noise .bg{fill:#171c25}.noise .ink{fill:#e7ebf2}.noise .dim{fill:#a3adbf}.noise .line,.noise .dh{stroke:#a3adbf}.noise .life{stroke:#3b4454}
+    .noise .payload{fill:#2a3140;stroke:#a3adbf}.noise .payload.sealed{fill:#24483b}
+  }
+  @media (forced-colors:active){
+    .noise .bg,.noise .payload,.noise .payload.sealed{fill:Canvas}.noise .line,.noise .dh,.noise .life,.noise .payload{stroke:CanvasText}
+    .noise .ink,.noise .dim{fill:CanvasText}
   }
 `;
+const PAYLOAD = 58;
+const MIXED = 32;
+const LEAST = { true: 316, false: 620 };
 const escape = (s) => String(s).replace(/[&<>"]/g, (c) => ({ '&': '&amp;', '<': '&lt;', '>': '&gt;', '"': '&quot;' })[c]);
-const text = (x, y, cls, value, more = '') => `<text x="${x.toFixed(1)}" y="${y.toFixed(1)}" class="${cls}" ${more}>${escape(value)}</text>`;
+const text = (x, y, cls, value, anchor = 'start') => `<text x="${x.toFixed(1)}" y="${y.toFixed(1)}" class="${cls}" text-anchor="${anchor}">${escape(value)}</text>`;
 
 /** How a piece is called. */
 export function pieceName({ kind, sealed, length }) {
   if (kind === 'e') return `ephemeral key, clear, ${length} bytes`;
-  if (kind === 's') return `static key, ${sealed ? 'sealed' : 'clear'}, ${length} bytes`;
+  if (kind === 's') return `static key, ${sealed ? 'encrypted' : 'clear'}, ${length} bytes`;
   if (kind === 'tag') return `tag, ${length} bytes`;
-  if (kind === 'payload') return `payload, ${sealed ? 'sealed' : 'clear'}`;
+  if (kind === 'payload') return `payload, ${sealed ? 'encrypted' : 'clear'}`;
   return kind === 'psk' ? 'pre-shared secret mixed in' : `DH ${kind} mixed in`;
 }
 
 const arrowOf = (from) => (from === 'initiator' ? '→' : '←');
-const list = (items) => (items.length ? items.join(', ') : 'nothing');
+const isKey = (item) => item.includes('’s ') || item.includes("'s ");
+const coveredBy = (n) => ['message 1', 'messages 1 and 2'][n] ?? `messages 1 to ${n + 1}`;
+
+/** What a party knows of the other's keys, and what it has mixed in. */
+function knowledge(known, role) {
+  const keys = known.filter(isKey).map((item) => item.at(-1));
+  return { keys: keys.length ? `${OTHER[role]}’s ${keys.join(', ')}` : '', mixed: known.filter((item) => !isKey(item)) };
+}
+
+function knownWords(known, role) {
+  const { keys, mixed } = knowledge(known, role);
+  return `The ${role} ${keys ? `knows the ${keys}` : 'knows no key'} and has mixed in ${mixed.length ? mixed.join(', ') : 'nothing'}.`;
+}
 
 /** The same as the picture, in words, a line for each message. */
 export function words({ section, before, messages }) {
@@ -30,86 +53,91 @@ export function words({ section, before, messages }) {
   for (const role of ['initiator', 'responder']) if (before[role].length) lines.push(`Known before: the ${role}’s ${before[role].join(' and ')}.`);
   messages.forEach(({ from, pieces, length, known }, n) => {
     lines.push(`Message ${n + 1}, from the ${from}, ${length} bytes and the payload: ${pieces.map(pieceName).join('; ')}. `
-      + `The hash then covers the protocol name, the prologue, keys known before, and all bytes of ${n === 0 ? 'message 1' : `messages 1 to ${n + 1}`}. `
-      + `Mixed in or known to the initiator: ${list(known.initiator)}; to the responder: ${list(known.responder)}.`);
+      + `The hash then covers the protocol name, the prologue, keys known before, and all bytes of ${coveredBy(n)}. `
+      + `${knownWords(known.initiator, 'initiator')} ${knownWords(known.responder, 'responder')}`);
   });
   return lines;
 }
 
-/** Lines of at most so many characters. */
-function wrap(items, width) {
-  const lines = [];
-  for (const item of items) {
-    if (lines.length && lines.at(-1).length + item.length + 2 <= width) lines[lines.length - 1] += `, ${item}`;
-    else lines.push(item);
-  }
-  return lines;
+/** What a party knows, in lines of at most so many characters: the other's keys, then what is mixed in. */
+function columnLines(known, role, most) {
+  const { keys, mixed } = knowledge(known, role);
+  const lines = keys ? [keys] : [];
+  mixed.forEach((name, n) => {
+    if (n === 0) lines.push(`mixed: ${name}`);
+    else if (lines.at(-1).length + name.length + 2 <= most) lines[lines.length - 1] += `, ${name}`;
+    else lines.push(name);
+  });
+  return lines.length ? lines : ['nothing yet'];
 }
+
+/** One piece: what it is called, how wide it is, its class and its label. */
+function drawn(piece, scale) {
+  const { kind, sealed, length } = piece;
+  if (kind === 'payload') return { width: PAYLOAD, cls: `payload${sealed ? ' sealed' : ''}`, label: 'payload', ink: 'ink' };
+  if (length === 0) return { width: MIXED, cls: 'dh', label: kind, ink: 'ink', isMixed: true };
+  return { width: length * scale, cls: kind === 's' && sealed ? 'sealed' : kind, label: kind === 'tag' ? '16' : `${kind} ${length}`, ink: 'on' };
+}
+
+const widthOf = (pieces, scale) => pieces.reduce((sum, piece) => sum + drawn(piece, scale).width, 0);
 
 /** A bar of pieces to scale. A payload, whose length is open, has a width of its own. */
 function bar(pieces, x0, y, scale) {
   let x = x0;
-  let out = '';
-  const payloadWidth = 54;
-  for (const piece of pieces) {
-    if (piece.length === 0 && piece.kind !== 'payload') {
-      out += `<g><title>${escape(pieceName(piece))}</title><rect x="${(x + 2).toFixed(1)}" y="${y}" width="26" height="26" rx="13" class="dh"/>`
-        + `${text(x + 15, y + 17, 'ink small', piece.kind, 'text-anchor="middle"')}</g>`;
-      x += 30;
-      continue;
-    }
-    const width = piece.kind === 'payload' ? payloadWidth : piece.length * scale;
-    const cls = piece.kind === 'payload' ? `payload${piece.sealed ? ' sealed' : ''}` : piece.kind === 's' && piece.sealed ? 'sealed' : piece.kind;
-    const label = piece.kind === 'payload' ? 'payload' : piece.kind === 'tag' ? '16' : `${piece.kind} ${piece.length}`;
-    out += `<g><title>${escape(pieceName(piece))}</title><rect x="${x.toFixed(1)}" y="${y}" width="${width.toFixed(1)}" height="26" class="${cls}"/>`
-      + `${text(x + width / 2, y + 17, `small ${piece.kind === 'payload' ? 'ink' : 'on'}`, label, 'text-anchor="middle"')}</g>`;
+  return pieces.map((piece) => {
+    const { width, cls, label, ink, isMixed } = drawn(piece, scale);
+    const [left, wide, round] = isMixed ? [x + 2, width - 4, ' rx="13"'] : [x, width, ''];
+    const middle = x + width / 2;
     x += width;
-  }
-  return out;
+    return `<g><title>${escape(pieceName(piece))}</title><rect x="${left.toFixed(1)}" y="${y}" width="${wide.toFixed(1)}" height="26"${round} class="${cls}"/>`
+      + `${text(middle, y + 17, `small ${ink}`, label, 'middle')}</g>`;
+  }).join('');
 }
 
-function widthOf(pieces, scale) {
-  return pieces.reduce((sum, { kind, length }) => sum + (kind === 'payload' ? 54 : length ? length * scale : 30), 0);
+/** How many units wide the picture has to be, and how many units a byte is. */
+function measure(plan, given) {
+  const isNarrow = given < 620;
+  const side = isNarrow ? 10 : 165;
+  const wanted = plan.messages.map(({ pieces }) => ({ fixed: widthOf(pieces, 0), bytes: pieces.reduce((sum, { length }) => sum + length, 0) }));
+  const width = Math.max(given, LEAST[isNarrow], ...wanted.map(({ fixed, bytes }) => Math.ceil(2 * side + 16 + fixed + 1.05 * bytes)));
+  const scale = Math.min(2.4, ...wanted.map(({ fixed, bytes }) => (width - 2 * side - 16 - fixed) / Math.max(bytes, 1)));
+  return { isNarrow, side, width, scale };
 }
 
-/** The picture, so many units wide. */
-export function picture(plan, width) {
-  const narrow = width < 560;
-  const side = narrow ? 12 : 150;
-  const [left, right] = [side, width - side];
-  const fixed = (pieces) => widthOf(pieces, 0);
-  const bytes = (pieces) => pieces.reduce((sum, { length }) => sum + length, 0);
-  const scale = Math.min(2.4, ...plan.messages.map(({ pieces }) => (right - left - 20 - fixed(pieces)) / Math.max(bytes(pieces), 1)));
-  let y = 52;
-  let body = text(left, 26, 'ink bold', 'Initiator', `text-anchor="${narrow ? 'start' : 'middle'}"`)
-    + text(right, 26, 'ink bold', 'Responder', `text-anchor="${narrow ? 'end' : 'middle'}"`);
-  const column = (lines, role, at) => {
-    const [x, anchor] = role === 'initiator' ? [8, ''] : [width - 8, 'text-anchor="end"'];
-    return (lines.length ? lines : ['no key of the other']).map((line, n) => text(x, at + n * 15, 'dim small', line, anchor)).join('');
+/** The picture, at least so many units wide: a unit is a pixel, so that its text has the size of the page's. */
+export function picture(plan, given) {
+  const { isNarrow, side, width, scale } = measure(plan, Math.floor(given));
+  const [left, right, middle] = [side, width - side, width / 2];
+  const most = Math.floor((isNarrow ? width / 2 - 16 : side - 14) / 6.4);
+  const outer = { initiator: [8, 'start'], responder: [width - 8, 'end'] };
+  const place = (role, lines, y, cls) => lines.map((line, n) => text(outer[role][0], y + 15 * n, cls, line, outer[role][1])).join('');
+  const knows = (known, y) => {
+    const columns = ['initiator', 'responder'].map((role) => [role, columnLines(known[role], role, most)]);
+    return [columns.map(([role, lines]) => place(role, lines, y, 'dim small')).join(''), Math.max(...columns.map(([, lines]) => lines.length)) * 15];
   };
-  const knows = (known, at) => {
-    const rows = ['initiator', 'responder'].map((role) => wrap(known[role], narrow ? Math.floor(width / 15) : 19));
-    body += column(rows[0], 'initiator', at) + column(rows[1], 'responder', at);
-    return Math.max(rows[0].length, rows[1].length, 1) * 15;
-  };
-  const first = knows(plan.atFirst, y);
-  y += first + 12;
-  plan.messages.forEach((message, n) => {
-    const { from, pieces, length, known } = message;
-    const middle = (left + right) / 2;
+  let body = ['Initiator', 'Responder'].map((name) => {
+    const role = name.toLowerCase();
+    return place(role, [name], 20, 'ink bold') + place(role, ['knows, has mixed'], 38, 'dim small');
+  }).join('');
+  const [first, height] = knows(plan.atFirst, 56);
+  body += first;
+  let y = 56 + height;
+  plan.messages.forEach(({ from, pieces, length, known }, n) => {
     const [x1, x2] = from === 'initiator' ? [left + 4, right - 6] : [right - 4, left + 6];
-    body += text(middle, y + 10, 'ink', `${arrowOf(from)} message ${n + 1}: ${length} bytes + payload`, 'text-anchor="middle"');
-    body += `<path class="line" marker-end="url(#head)" d="M${x1} ${y + 20}H${x2}"/>`;
-    body += bar(pieces, middle - widthOf(pieces, scale) / 2, y + 30, scale);
-    const keys = plan.before.initiator.length + plan.before.responder.length && !narrow ? 'known keys, ' : '';
-    const covered = `name, prologue, ${keys}${n === 0 ? 'message 1' : `messages 1 to ${n + 1}`}`;
-    body += text(middle, y + 74, 'dim small', `${narrow ? 'hash:' : 'the hash covers'} ${covered}`, 'text-anchor="middle"');
-    const height = knows(known, narrow ? y + 92 : y + 40);
-    y += narrow ? 92 + height + 14 : Math.max(94, 40 + height + 14);
+    const covered = `name, prologue, ${plan.before.initiator.length + plan.before.responder.length ? 'known keys, ' : ''}${coveredBy(n)}`;
+    body += text(middle, y + 10, 'ink', `${arrowOf(from)} message ${n + 1}: ${length} bytes + payload`, 'middle')
+      + `<path class="line" marker-end="url(#head)" d="M${x1} ${y + 20}H${x2}"/>${bar(pieces, middle - widthOf(pieces, scale) / 2, y + 30, scale)}`
+      + text(middle, y + 74, 'dim small', `${isNarrow ? 'hash' : 'the hash covers'}: ${covered}`, 'middle');
+    const [columns, deep] = knows(known, isNarrow ? y + 92 : y + 40);
+    body += columns;
+    y += isNarrow ? 92 + deep + 12 : Math.max(92, 40 + deep + 10);
   });
-  const lives = narrow ? '' : [left, right].map((x) => `<path class="life" d="M${x} 34V${y}"/>`).join('');
-  return `<svg xmlns="http://www.w3.org/2000/svg" viewBox="0 0 ${width} ${y + 6}" role="img" aria-labelledby="picture-title" aria-describedby="picture-desc">`
-    + `<title id="picture-title">The handshake ${escape(plan.section)}</title><desc id="picture-desc">${escape(words(plan).join(' '))}</desc><style>${STYLE}</style>`
-    + `<defs><marker id="head" viewBox="0 0 8 8" refX="7" refY="4" markerWidth="8" markerHeight="8" orient="auto"><path class="dim" d="M0 0L8 4L0 8z"/></marker></defs>`
-    + `<rect class="bg" width="${width}" height="${y + 6}"/>${lives}${body}</svg>`;
+  const lives = isNarrow ? '' : [left, right].map((x) => `<path class="life" d="M${x} 12V${y - 4}"/>`).join('');
+  return `<svg xmlns="http://www.w3.org/2000/svg" class="noise" width="${width}" height="${y}" viewBox="0 0 ${width} ${y}" role="img" aria-labelledby="picture-title" `
+    + `aria-describedby="picture-desc"><title id="picture-title">The handshake ${escape(plan.section)}</title><desc id="picture-desc">${escape(words(plan).join(' '))}</desc>`
+    + '<defs><marker id="head" viewBox="0 0 8 8" refX="7" refY="4" markerWidth="8" markerHeight="8" orient="auto"><path class="dim" d="M0 0L8 4L0 8z"/></marker></defs>'
+    + `<rect class="bg" width="${width}" height="${y}"/>${lives}${body}</svg>`;
 }
+
+/** The picture as a file of its own. */
+export const pictureFile = (plan) => picture(plan, 760).replace('</desc>', `</desc><style>${STYLE}</style>`);

@@ -1,67 +1,40 @@
-// A run of a pattern: two parties with real keys in one page, the messages between them, and what the vector file says of it. No DOM here.
+// A run of a pattern: two parties with real keys in one page, the messages between them, and what has come of each. No DOM here.
 import { Handshake, KeyPair, layout } from '../bindings/js/noise.mjs';
 import { frame, hex, hexOrDash } from './bytes.mjs';
+import { Asked, OTHER, Party, ROLES } from './party.mjs';
+import { frameOf, linesOf, rawOf, reports, silence, take } from './streams.mjs';
 
-export const OTHER = { initiator: 'responder', responder: 'initiator' };
-const WORDS = { 10: 'not-your-turn', 11: 'too-long', 13: 'ended', 15: 'short', 16: 'tag', 17: 'exhausted', 22: 'one-way', 26: 'reserved', 27: 'old', 28: 'repeated' };
+/** The words of the command for the codes of include/noise.h. */
+export const WORDS = { 10: 'not-your-turn', 11: 'too-long', 13: 'ended', 15: 'short', 16: 'tag', 17: 'exhausted', 22: 'one-way', 26: 'reserved', 27: 'old', 28: 'repeated' };
 
-/** A key pair that remembers what it was asked: the answers that a vector file hands in. */
-class Asked {
-  constructor(pair, own) {
-    Object.assign(this, { pair, own, publicKey: pair.publicKey, answers: [] });
-  }
-
-  async agree(remote) {
-    const answer = await this.pair.agree(remote);
-    this.answers.push(`answer ${this.own} ${hex(remote)} ${hex(answer)}`);
-    return answer;
-  }
-}
-
-/** One party of the run. */
-class Party {
-  constructor(role, keys) {
-    Object.assign(this, { role, keys, written: [], datagrams: [], opened: new Set(), ended: false, sent: 0, taken: 0 });
-  }
-
-  get stage() {
-    if (this.ended) return 'ended';
-    return this.sealer ? this.mode : 'handshake';
-  }
-
-  get hash() {
-    if (this.sealer) return this.sealer.hash;
-    return this.ended ? undefined : this.handshake.hash;
-  }
-}
+/** A call that can't be made now, with the reason for the user. */
+export class NotNow extends Error {}
 
 export class Run {
-  /** Draws keys, and makes both parties. `setup` has text, prologue (bytes), interval, mode ('transport' or 'datagrams') and window. */
+  /** Draws keys, and makes both parties. `setup` has text, prologue (bytes), interval, mode ('transport', 'stream' or 'datagrams') and window. */
   static async start(setup) {
-    const run = new Run();
-    run.setup = setup;
-    run.plan = layout(setup.text);
-    run.events = [];
-    run.lines = [];
-    run.log = [];
-    run.psks = Array.from({ length: run.plan.psks }, () => crypto.getRandomValues(new Uint8Array(32)));
+    const plan = layout(setup.text);
+    const run = Object.assign(new Run(), { setup, plan, events: [], lines: [], log: [], steps: [], isClosed: false });
+    run.psks = Array.from({ length: plan.psks }, () => crypto.getRandomValues(new Uint8Array(32)));
     const keys = {};
     const draw = async (own) => new Asked(await KeyPair.generate(), own);
-    await Promise.all(['initiator', 'responder'].map(async (role) => {
-      const [e, s] = await Promise.all([draw('e'), run.plan.static[role] ? draw('s') : undefined]);
+    await Promise.all(ROLES.map(async (role) => {
+      const [e, s] = await Promise.all([draw('e'), plan.static[role] ? draw('s') : undefined]);
       keys[role] = { e, s };
     }));
-    for (const role of ['initiator', 'responder']) {
-      const known = (own) => (run.plan.before[OTHER[role]].includes(own) ? keys[OTHER[role]][own].publicKey : undefined);
-      const party = new Party(role, keys[role]);
-      party.mode = setup.mode;
-      party.handshake = new Handshake({
-        pattern: setup.text, responder: role === 'responder', prologue: setup.prologue, psks: run.psks,
-        ephemeralKey: keys[role].e, staticKey: keys[role].s, remoteStatic: known('s'), remoteEphemeral: known('e'),
-      });
-      run[role] = party;
-    }
+    for (const role of ROLES) run[role] = run.#party(role, keys);
     return run;
+  }
+
+  #party(role, keys) {
+    const { text, prologue, mode } = this.setup;
+    const known = (own) => (this.plan.before[OTHER[role]].includes(own) ? keys[OTHER[role]][own].publicKey : undefined);
+    const party = new Party(role, keys[role], mode);
+    party.handshake = new Handshake({
+      pattern: text, responder: role === 'responder', prologue, psks: this.psks,
+      ephemeralKey: keys[role].e, staticKey: keys[role].s, remoteStatic: known('s'), remoteEphemeral: known('e'),
+    });
+    return party;
   }
 
   get isOpen() {
@@ -70,96 +43,176 @@ export class Run {
 
   /** Who is to write the handshake's next message, or undefined. */
   get next() {
-    return ['initiator', 'responder'].find((role) => {
+    return ROLES.find((role) => {
       const party = this[role];
       return !party.sealer && !party.ended && party.handshake.stage.writesNext && !party.handshake.stage.done;
     });
   }
 
-  #finish(party) {
-    if (!party.handshake.stage.done) return;
-    party.sealer = this.setup.mode === 'datagrams' ? party.handshake.finishDatagrams({ window: this.setup.window }) : party.handshake.finish({ interval: this.setup.interval });
-    if (this.setup.mode === 'datagrams' && this.isOpen) {
-      this.events.push(`datagrams ${this.setup.window}`);
-      this.lines.push(`datagrams ${this.setup.window}`);
-    }
+  /** Why a party can't write now, or undefined. */
+  silenceOf(role) {
+    const party = this[role];
+    if (party.ended) return 'its handshake has ended';
+    if (party.isIn('stream')) return silence(this, role);
+    return party.isIn('datagrams') && !this.isOpen ? 'the other party isn’t open yet' : undefined;
   }
 
-  #note(role, kind, says, more = {}) {
-    const entry = { role, kind, says, hash: { initiator: this.initiator.hash, responder: this.responder.hash }, ...more };
+  #finish(party) {
+    const { interval, window, mode } = this.setup;
+    if (party.sealer || !party.handshake.stage.done) return;
+    if (mode === 'datagrams') party.sealer = party.handshake.finishDatagrams({ window });
+    else party.sealer = mode === 'stream' ? party.handshake.finishStream({ interval }) : party.handshake.finish({ interval });
+    if (mode !== 'datagrams' || !this.isOpen) return;
+    this.events.push(`datagrams ${window}`);
+    this.lines.push(`datagrams ${window}`);
+  }
+
+  #note(role, kind, more = {}) {
+    const entry = { role, kind, at: this.log.length + 1, hash: { initiator: this.initiator.hash, responder: this.responder.hash }, ...more };
     this.log.push(entry);
     return entry;
   }
 
-  /** A party writes its next message, or datagram, with this payload. */
+  /** Keeps what a party has written. `whole` is a message, or of a stream its frame. */
+  #keep(party, whole, about) {
+    const message = party.isIn('stream') ? whole.subarray(2) : whole;
+    const kept = about.isDatagram ? party.datagrams : party.written;
+    const transport = about.number === undefined && !about.isDatagram ? party.sent + 1 : undefined;
+    const item = { ...about, message, transport, n: kept.length, flips: new Set(), comings: [] };
+    kept.push(item);
+    party.sent += about.number === undefined ? 1 : 0;
+    this.lines.push(`${about.isDatagram ? 'sealed' : 'wrote'} ${party.role} ${item.n} ${hex(about.isDatagram ? message : frame(message))}`);
+    return item;
+  }
+
+  async #make(party, payload) {
+    if (party.isIn('stream')) return frameOf(party, payload);
+    return party.sealer ? party.sealer.seal(payload) : party.handshake.write(payload);
+  }
+
+  /** A party writes its next message, or datagram, with this payload; without one it ends its stream. */
   async write(role, payload) {
     const party = this[role];
-    const isDatagram = party.mode === 'datagrams' && this.isOpen;
-    if (party.mode === 'datagrams' && party.sealer && !isDatagram) throw new Error('the other party isn’t open yet');
-    const [event, wrote, refused] = isDatagram ? ['seal', 'sealed', 'unsealed'] : ['write', 'wrote', 'unwritten'];
-    this.events.push(`${event} ${role} ${hexOrDash(payload)}`);
+    const why = this.silenceOf(role);
+    if (why && party.sealer) throw new NotNow(`The ${role} can’t write: ${why}.`);
+    if (payload === undefined && !party.isIn('stream')) throw new NotNow(`The ${role} has no stream to end.`);
+    if (payload?.length === 0 && party.isIn('stream')) throw new NotNow('A stream has no empty payload: nothing was written.');
+    const isDatagram = party.isIn('datagrams');
+    const isEnd = payload === undefined;
+    this.steps.push(isEnd ? { step: 'end', role } : { step: 'write', role, payload });
+    this.events.push(`${isDatagram ? 'seal' : 'write'} ${role} ${hexOrDash(payload ?? new Uint8Array(0))}`);
     try {
       const number = party.sealer ? undefined : party.handshake.stage.passed;
-      const message = party.sealer ? party.sealer.seal(payload) : await party.handshake.write(payload);
-      if (number !== undefined && message.length !== this.plan.messages[number].length + payload.length) throw new Error('the picture has another length than the message');
-      const kept = isDatagram ? party.datagrams : party.written;
-      const n = kept.push({ message, number, payload, isDatagram }) - 1;
-      this.lines.push(`${wrote} ${role} ${n} ${hex(isDatagram ? message : frame(message))}`);
-      this.#finishOf(party);
-      party.sent += number === undefined ? 1 : 0;
-      return this.#note(role, 'wrote', `wrote ${message.length} bytes`, { n, message, number, payload, isDatagram });
+      const whole = await this.#make(party, payload);
+      if (number !== undefined && whole.length !== this.plan.messages[number].length + payload.length) throw new Error('the picture has another length than the message');
+      const item = this.#keep(party, whole, { number, payload, isDatagram, isEnd });
+      this.#finish(party);
+      return this.#note(role, 'wrote', { ...item, item });
     } catch (error) {
       if (error.code === undefined) throw error;
-      this.lines.push(`${refused} ${role} ${WORDS[error.code] ?? error.name}`);
-      return this.#note(role, 'refused', 'wrote nothing', { code: error.code });
+      this.lines.push(`${isDatagram ? 'unsealed' : 'unwritten'} ${role} ${WORDS[error.code] ?? error.name}`);
+      return this.#note(role, 'unwritten', { code: error.code });
     }
   }
 
-  #finishOf(party) {
-    if (!party.sealer) this.#finish(party);
+  /** What the other party has written comes to this one: as it is, or with the lowest bits of these bytes changed. */
+  async deliver(role, n, flips = []) {
+    const item = this.#written(role, n);
+    const bytes = item.message.slice();
+    for (const at of flips) bytes[at] ^= 1;
+    if (this.isClosed) throw new NotNow('The connection is closed.');
+    this.steps.push({ step: 'deliver', role, n, flips: [...flips] });
+    const about = { n, item, number: item.number, transport: item.transport, isDatagram: item.isDatagram, isEnd: item.isEnd, flips: [...flips], bytes };
+    return this[role].isIn('stream') ? this.#take(role, frame(bytes), about) : this.#read(role, bytes, about);
   }
 
-  /** What the other party has written comes to this one: as it is, or with one byte changed. */
-  async deliver(role, n, changed) {
+  #written(role, n) {
     const from = this[OTHER[role]];
     const isDatagram = this.isOpen && this.setup.mode === 'datagrams';
-    if (this[role].sealer && this.setup.mode === 'datagrams' && !isDatagram) throw new Error('the other party isn’t open yet');
-    const { message, number } = (isDatagram ? from.datagrams : from.written)[n];
-    const bytes = message.slice();
-    if (changed !== undefined) bytes[changed] ^= 1;
-    const [plain, other] = isDatagram ? ['open', 'foreign'] : ['deliver', 'raw'];
-    const whole = isDatagram ? bytes : frame(bytes);
-    this.events.push(changed !== undefined ? `${other} ${role} ${hex(whole)}` : isDatagram ? `${plain} ${role} ${n}` : `${plain} ${role} ${n} -`);
-    return this.#take(role, bytes, { n, number, changed, isDatagram });
+    if (this[role].isIn('datagrams') && !isDatagram) throw new NotNow('The other party isn’t open yet.');
+    const item = (isDatagram ? from.datagrams : from.written)[n];
+    if (!item) throw new NotNow('There is no such message.');
+    return item;
   }
 
-  async #take(role, bytes, about) {
+  /** Bytes of a stream come to a party. */
+  #take(role, bytes, about) {
+    const isWhole = bytes.length === about.item.message.length + 2;
+    const outcomes = take(this, role, bytes);
+    if (!outcomes[0]?.isUnread) {
+      this.events.push(about.flips.length || !isWhole ? rawOf(role, bytes) : `deliver ${role} ${about.n} -`);
+      this.lines.push(...linesOf(role, outcomes));
+    }
+    for (const { payload, code, wanted, isUnread } of outcomes) {
+      if (isUnread) this.#outcome(role, 'unread', { ...about, code: this[role].isBroken ? undefined : 43 });
+      else if (code !== undefined) this.#outcome(role, 'refused', { ...about, code });
+      else if (wanted !== undefined) this.#outcome(role, 'waits', { ...about, wanted });
+      else this.#outcome(role, payload === undefined ? 'ended' : 'accepted', { ...about, payload });
+    }
+    return this.log.at(-1);
+  }
+
+  /** Notes what came of a message, with the message too. */
+  #outcome(role, kind, about) {
+    about.item.comings.push(kind);
+    return this.#note(role, kind, about);
+  }
+
+  async #read(role, bytes, about) {
     const party = this[role];
-    const left = (word) => this.lines.push(`left ${role} ${word} ${bytes.length + 2}`);
+    const { n, isDatagram, flips } = about;
+    const [plain, other] = isDatagram ? ['open', 'foreign'] : ['deliver', 'raw'];
+    const end = isDatagram ? '' : ' -';
+    this.events.push(flips.length ? `${other} ${role} ${hex(isDatagram ? bytes : frame(bytes))}` : `${plain} ${role} ${n}${end}`);
     if (party.ended) {
-      left('ended');
-      return this.#note(role, 'refused', 'didn’t listen', { ...about, code: 13 });
+      this.lines.push(`left ${role} ended ${bytes.length + 2}`);
+      return this.#outcome(role, 'refused', { ...about, code: 13 });
     }
     try {
       const payload = party.sealer ? party.sealer.open(bytes) : await party.handshake.read(bytes);
       this.lines.push(`payload ${role} ${hexOrDash(payload)}`);
       if (party.sealer) party.taken += 1;
-      if (about.isDatagram) party.opened.add(about.n);
-      this.#finishOf(party);
-      return this.#note(role, 'accepted', 'accepted it', { ...about, payload });
+      if (isDatagram) party.opened.add(n);
+      this.#finish(party);
+      return this.#outcome(role, 'accepted', { ...about, payload });
     } catch (error) {
       if (error.code === undefined) throw error;
-      const { code, token } = error;
-      if (about.isDatagram) this.lines.push(`rejected ${role} ${WORDS[code]}`);
-      else if (code === 10) left('your-turn');
-      else if (code === 22) left('silent');
-      else if (party.sealer) this.lines.push(`dropped ${role} ${WORDS[code]}`);
-      else {
-        this.lines.push(`refused ${role} ${token} ${WORDS[code]}`);
-        party.ended = true;
-      }
-      return this.#note(role, 'refused', 'refused it', { ...about, code, token });
+      return this.#refuse(party, error, { ...about, length: bytes.length + 2 });
     }
+  }
+
+  #refuse(party, { code, token }, about) {
+    const { role } = party;
+    if (about.isDatagram) this.lines.push(`rejected ${role} ${WORDS[code]}`);
+    else if (code === 10 || code === 22) this.lines.push(`left ${role} ${code === 10 ? 'your-turn' : 'silent'} ${about.length}`);
+    else if (party.sealer) this.lines.push(`dropped ${role} ${WORDS[code]}`);
+    else {
+      this.lines.push(`refused ${role} ${token} ${WORDS[code]}`);
+      party.ended = true;
+    }
+    return this.#outcome(role, 'refused', { ...about, code, token });
+  }
+
+  /** So many bytes of a frame of a stream come to a party, and then the connection ends. */
+  async cut(role, n, count) {
+    const item = this.#written(role, n);
+    if (this.isClosed || !this[role].isIn('stream')) throw new NotNow('There is no stream to cut.');
+    this.steps.push({ step: 'cut', role, n, count });
+    const about = { n, item, transport: item.transport, number: item.number, isEnd: item.isEnd, flips: [], bytes: item.message };
+    if (count > 0) this.#take(role, frame(item.message).subarray(0, count), about);
+    return this.#closed();
+  }
+
+  /** The connection ends. */
+  async close() {
+    if (this.isClosed || !this.isOpen || this.setup.mode !== 'stream') throw new NotNow('There is no open stream to close.');
+    this.steps.push({ step: 'close' });
+    return this.#closed();
+  }
+
+  #closed() {
+    this.isClosed = true;
+    return this.#note(undefined, 'closed', { reports: reports(this) });
   }
 
   /** Passes what is left of the handshake. */
@@ -170,36 +223,16 @@ export class Run {
     }
   }
 
-  #stateLine(role) {
-    const party = this[role];
-    if (party.ended) return `state ${role} ended`;
-    if (party.mode === 'datagrams' && this.isOpen) return `state ${role} datagrams ${party.sealer.nonce}`;
-    if (!party.sealer) return `state ${role} handshake ${party.handshake.stage.passed}`;
-    const { send, receive } = party.mode === 'datagrams' ? { send: 0, receive: 0 } : party.sealer.nonces;
-    return `state ${role} transport ${send} ${receive} ${hex(party.sealer.hash)}`;
-  }
-
-  /** The run as a vector file of version 2, with the lines that `noise replay` prints. */
-  vectorFile() {
-    const { text, prologue, interval } = this.setup;
-    const { section, base } = this.plan;
-    const fundamental = !this.setup.isOwn;
-    const keys = (role) => {
-      const { e, s } = this[role].keys;
-      return [`${role} table ${hex(e.publicKey)} ${s ? hex(s.publicKey) : '-'}`, ...new Set([...e.answers, ...(s?.answers ?? [])])];
-    };
-    const lines = [
-      'vector 2', `protocol Noise_${section}_25519_ChaChaPoly_SHA256`,
-      ...(fundamental ? [] : [text.trimEnd(), 'end']),
-      `prologue ${hexOrDash(prologue)}`, `interval ${interval}`, ...this.psks.map((psk) => `psk ${hex(psk)}`),
-      ...keys('initiator'), ...keys('responder'), ...this.events,
-      ...[...this.lines, this.#stateLine('initiator'), this.#stateLine('responder')].map((line) => `expect ${line}`),
-    ];
-    return { name: `${base}.vector`, text: `${lines.join('\n')}\n` };
+  /** Does a step of a run that was kept, with the keys of this one. */
+  async repeat({ step, role, payload, n, flips, count }) {
+    if (step === 'write') return this.write(role, payload);
+    if (step === 'end') return this.write(role);
+    if (step === 'deliver') return this.deliver(role, n, flips);
+    return step === 'cut' ? this.cut(role, n, count) : this.close();
   }
 
   dispose() {
-    for (const role of ['initiator', 'responder']) {
+    for (const role of ROLES) {
       this[role].sealer?.dispose();
       this[role].handshake.dispose();
     }

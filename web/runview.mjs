@@ -1,112 +1,188 @@
-// The run as it is shown: each message with its bytes by piece, its outcome, and the buttons that deliver it.
-import { CAUSES } from './faults.mjs';
-import { OTHER } from './run.mjs';
-import { element } from './element.mjs';
+// The run as it is shown: each entry with its outcome, and each message with its bytes and the buttons that deliver it.
 import { hex, shown } from './bytes.mjs';
+import { bytesView } from './bytesview.mjs';
+import { button, copier, element, enable } from './element.mjs';
+import { OTHER, ROLES } from './party.mjs';
+import { scheduleOf } from './schedule.mjs';
+import { CHIPS, fateOf, messageName, named, sentenceOf } from './sentences.mjs';
 
-export const named = (role) => role[0].toUpperCase() + role.slice(1);
+/** How many of the newest entries are open, and how many are shown unless more are asked for. */
+const OPEN = 4;
+const SHOWN = 16;
 
-/** The pieces of a message in bytes, for one of the handshake, the transport or datagrams. */
-function piecesOf(run, { number, message, isDatagram }) {
-  if (number === undefined) {
-    const head = isDatagram ? [{ kind: 'nonce', length: 8 }] : [];
-    return [...head, { kind: 'text', length: message.length - 16 - (isDatagram ? 8 : 0) }, { kind: 'tag', length: 16 }];
-  }
-  const { pieces, length } = run.plan.messages[number];
-  const rest = message.length - length;
-  const kindOf = ({ kind, sealed }) => (sealed && { s: 'sealed', payload: 'text' }[kind]) || kind;
-  return pieces.map((piece) => ({ ...piece, length: piece.kind === 'payload' ? rest : piece.length, kind: kindOf(piece) })).filter(({ length: size }) => size > 0);
-}
+const COLUMNS = ['Step', 'h', 'ck', 'k', 'n'];
+const HEX = /^[0-9a-f]{64}$/;
 
-const TITLES = { e: 'ephemeral key', s: 'static key', sealed: 'static key, sealed', tag: 'tag', payload: 'payload', nonce: 'nonce', text: 'payload, sealed' };
-
-function hexOf(run, entry) {
-  const box = element('div', 'hex');
-  let at = 0;
-  for (const { kind, length } of piecesOf(run, entry)) {
-    const part = element('span', `p-${kind}`, hex(entry.message.subarray(at, at + length)));
-    part.title = `${TITLES[kind]}, bytes ${at} to ${at + length - 1}`;
-    box.append(part, ' ');
-    at += length;
-  }
+/** A table of lines of `noise trace`. */
+function scheduleTable(lines) {
+  const head = element('tr', '', ...COLUMNS.map((name) => element('th', '', name)));
+  const rows = lines.map((line) => {
+    const words = line.split(' ');
+    const cells = [words[8], words[9], words[10], words[11]].map((word) => element('td', '', HEX.test(word) ? element('code', '', `${word.slice(0, 8)}…`) : word));
+    cells.forEach((cell, n) => { cell.title = words[8 + n]; });
+    return element('tr', '', element('th', '', `${words[4]} (${words[5]})`), ...cells);
+  });
+  for (const row of rows) row.firstChild.scope = 'row';
+  for (const th of head.children) th.scope = 'col';
+  const box = element('div', 'scroll', element('table', 'schedule', element('thead', '', head), element('tbody', '', ...rows)));
+  Object.assign(box, { tabIndex: 0, role: 'group', ariaLabel: 'Key schedule' });
   return box;
 }
 
-/** Where the library says that a message was refused. */
-function tokenOf(run, { number, token }) {
-  if (token === undefined) return '';
-  const tokens = run.plan.messages[number]?.tokens ?? [];
-  return token < tokens.length ? ` at token ${token + 1} (${tokens[token]})` : ' at the payload';
+/** The key schedule of an entry: worked out when it is opened. */
+function scheduleDetails(run, entry, name) {
+  const made = element('details', 'keys', element('summary', '', 'Key schedule'));
+  made.addEventListener('toggle', async () => {
+    if (!made.open || made.childElementCount > 1) return;
+    try {
+      const { entries } = await scheduleOf(run);
+      const lines = entries.get(entry);
+      if (made.childElementCount > 1) return;
+      if (!lines.length) return made.append(element('p', '', 'No step of the key schedule belongs to it.'));
+      made.append(scheduleTable(lines), copier(`the key schedule of ${name} as a log`, () => lines.map((line) => `${line}\n`).join('')),
+        element('p', 'hint', 'Secrets of this run, as noise trace prints them: h is the library’s, ck and k are worked out by this page.'));
+    } catch (error) {
+      made.append(element('p', 'bad', `This page can’t work it out: ${error.message}.`));
+    }
+    return undefined;
+  });
+  return made;
 }
 
-function outcome(run, entry) {
-  const { role, kind, n, number, changed, code, payload, isDatagram, message } = entry;
-  const what = isDatagram ? `datagram ${n}` : number === undefined ? `transport message` : `message ${number + 1}`;
-  if (kind === 'wrote') return [`${named(role)} wrote ${what}: ${message.length} bytes, the payload ${shown(payload)}`];
-  const how = changed === undefined ? '' : `, whose byte ${changed} was changed on its way`;
-  if (kind === 'accepted') return [`${named(role)} accepted ${what}${how}: the payload is ${shown(payload)}`];
-  if (n === undefined) return [`${named(role)} wrote nothing: ${CAUSES[code]}. Its state stays.`];
-  const end = token => (token === undefined ? 'Its state stays.' : 'Its handshake has ended.');
-  return [`${named(role)} refused ${what}${how}${tokenOf(run, entry)}: ${CAUSES[code] ?? `code ${code}`}. ${end(entry.token)}`];
-}
-
-/** The buttons that let a written message come, as it is or changed. */
+/** The buttons that let a written message come, as it is or changed; of a stream also the one that cuts it. */
 function deliverRow(run, entry, act) {
+  const { item } = entry;
+  const to = OTHER[entry.role];
+  const name = messageName(entry);
   const row = element('div', 'deliver');
   row.setAttribute('role', 'group');
-  row.setAttribute('aria-label', `What was written at place ${entry.n + 1} by the ${entry.role}`);
-  const to = OTHER[entry.role];
-  const button = (label, work) => {
-    const made = element('button', '', label);
-    made.type = 'button';
-    made.addEventListener('click', () => act(work));
-    row.append(made);
-  };
-  const place = element('input');
-  Object.assign(place, { type: 'number', min: 0, max: entry.message.length - 1, value: 0 });
-  const here = () => Math.max(0, Math.min(entry.message.length - 1, Math.floor(Number(place.value)) || 0));
-  button(`Deliver to the ${to}`, () => run.deliver(to, entry.n));
-  button('Deliver with a byte changed', () => run.deliver(to, entry.n, here()));
-  row.append(element('label', '', 'byte ', place));
-  return row;
-}
-
-function item(run, entry, act) {
-  const li = element('li', entry.kind);
-  li.append(element('p', 'who', ...outcome(run, entry)));
-  if (entry.kind === 'wrote') li.append(hexOf(run, entry), deliverRow(run, entry, act));
-  const { initiator, responder } = entry.hash;
-  if (entry.number !== undefined && initiator && responder) {
-    const [a, b] = [hex(initiator), hex(responder)];
-    li.append(element('p', 'hash', a === b ? `hash at both ends ${a}` : `hash: initiator ${a.slice(0, 16)}…, responder ${b.slice(0, 16)}…`));
+  row.setAttribute('aria-label', named(name));
+  const deliver = button('', () => act(() => run.deliver(to, item.n, [...item.flips].sort((a, b) => a - b))), 'go');
+  row.append(deliver);
+  if (run.setup.mode === 'stream' && item.number === undefined) {
+    const place = element('input');
+    Object.assign(place, { type: 'number', min: 0, max: item.message.length + 1, value: 2 });
+    place.setAttribute('aria-label', `So many bytes of ${name} come, with its length of 2`);
+    const count = () => Math.max(0, Math.min(item.message.length + 1, Math.floor(Number(place.value)) || 0));
+    row.append(button('Cut the connection after', () => act(() => run.cut(to, item.n, count()))), element('label', '', place, ' bytes'));
   }
-  return li;
-}
-
-/** Shows what is new in the log, the newest at the top. */
-export function showLog(list, run, act) {
-  if (!run) return list.replaceChildren();
-  for (const entry of run.log.slice(list.childElementCount)) list.prepend(item(run, entry, act));
-  return undefined;
-}
-
-export function stateOf(run) {
-  if (!run) return 'No keys are drawn yet.';
-  const of = (role) => {
-    const party = run[role];
-    if (party.ended) return `the ${role}’s handshake has ended: begin again with new keys`;
-    if (party.sealer) return `the ${role} is open (sent ${party.sent}, taken ${party.taken})`;
-    return `the ${role} has passed ${party.handshake.stage.passed} of ${run.plan.messages.length}`;
+  const show = () => {
+    const { size } = item.flips;
+    const [at] = item.flips;
+    deliver.textContent = size === 0 ? `Deliver to the ${to}` : `Deliver with ${size === 1 ? `byte ${at}` : `${size} bytes`} changed`;
   };
-  const both = `${of('initiator')}; ${of('responder')}.`;
-  return both[0].toUpperCase() + both.slice(1);
+  show();
+  return { row, show };
+}
+
+function hashLine({ initiator, responder }) {
+  if (!initiator || !responder) return undefined;
+  const [a, b] = [hex(initiator), hex(responder)];
+  if (a !== b) return element('p', 'hash', `hash: initiator ${a.slice(0, 16)}…, responder ${b.slice(0, 16)}…`);
+  return element('p', 'hash', `hash at both ends ${a} `, copier('the hash', () => a));
+}
+
+/** What is inside an entry, made when it is first opened. */
+function inside(run, entry, act) {
+  const parts = [];
+  const name = entry.kind === 'closed' ? '' : entry.item ? messageName(entry) : '';
+  if (entry.kind === 'wrote') {
+    const { row, show } = deliverRow(run, entry, act);
+    parts.push(bytesView(run, entry.item, name, show), row);
+    if (entry.payload?.length > 48) parts.push(element('p', 'payload', `payload: ${shown(entry.payload)} `, copier(`the payload of ${name} in hex`, () => hex(entry.payload))));
+  }
+  if (entry.number !== undefined) parts.push(hashLine(entry.hash));
+  if (entry.item && !entry.isDatagram) parts.push(scheduleDetails(run, entry, name));
+  return parts.filter(Boolean);
+}
+
+function entryItem(run, entry, act) {
+  const isRefused = ['refused', 'unwritten'].includes(entry.kind);
+  const li = element('li', isRefused ? 'refused' : entry.kind);
+  const chip = element('span', 'chip', CHIPS[entry.kind]);
+  const fate = element('span', 'fate');
+  const sentence = element('span', 'who', `${entry.at}. ${sentenceOf(run, entry)} `);
+  const hasMore = entry.kind === 'wrote' || entry.item;
+  if (!hasMore) {
+    li.append(element('p', '', chip, ' ', sentence));
+    return { li, entry };
+  }
+  const details = element('details', 'entry', element('summary', '', chip, ' ', sentence, fate));
+  const open = () => {
+    details.open = true;
+    if (details.childElementCount === 1) details.append(...inside(run, entry, act));
+  };
+  details.addEventListener('toggle', () => { if (details.open) open(); });
+  li.append(details);
+  return { li, entry, details, fate, open };
+}
+
+/** The log: its newest entries are open, older ones are a line each, and of many the oldest are left out until they are asked for. */
+export class Log {
+  #list;
+  #more;
+  #shown = [];
+  #run;
+
+  constructor(list, more) {
+    Object.assign(this, { isWhole: false });
+    this.#list = list;
+    this.#more = more;
+    more.addEventListener('click', () => {
+      this.isWhole = true;
+      this.#limit();
+      this.#list.children[SHOWN]?.querySelector('summary, p')?.focus();
+    });
+  }
+
+  show(run, act) {
+    if (run !== this.#run) {
+      this.#list.replaceChildren();
+      Object.assign(this, { isWhole: false });
+      this.#shown = [];
+      this.#run = run;
+    }
+    if (!run) return this.#limit();
+    for (const entry of run.log.slice(this.#shown.length)) {
+      const made = entryItem(run, entry, act);
+      this.#shown.push(made);
+      this.#list.prepend(made.li);
+    }
+    this.#shown.forEach(({ details, fate, entry, open }, n) => {
+      if (fate && entry.kind === 'wrote') fate.textContent = fateOf(entry.item);
+      if (details) this.#fold(details, open, n >= this.#shown.length - OPEN);
+    });
+    return this.#limit();
+  }
+
+  /** Opens what is new, once, and closes what has become old, unless the focus is in it or the user has opened it. */
+  #fold(details, open, isNew) {
+    if (isNew && details.dataset.was === undefined) open();
+    if (!isNew && details.dataset.was === 'new' && !details.contains(document.activeElement)) details.open = false;
+    if (isNew || !details.contains(document.activeElement)) details.dataset.was = isNew ? 'new' : 'old';
+  }
+
+  #limit() {
+    const { length } = this.#shown;
+    const isShort = this.isWhole || length <= SHOWN;
+    [...this.#list.children].forEach((li, n) => { li.hidden = !isShort && n >= SHOWN && !li.contains(document.activeElement); });
+    this.#more.hidden = isShort;
+    this.#more.textContent = `Show ${length - SHOWN} earlier entries`;
+  }
+}
+
+/** The keys of a run: public ones, and the pre-shared secrets. */
+export function showKeys(box, run) {
+  const row = (name, bytes) => element('p', 'key', element('span', '', `${name} `), element('code', '', hex(bytes)), ' ', copier(name, () => hex(bytes)));
+  const of = (role) => ['e', 's'].filter((own) => run[role].keys[own]).map((own) => row(`${named(role)}’s ${own}, public`, run[role].keys[own].publicKey));
+  box.replaceChildren(...(run ? [...ROLES.flatMap(of), ...run.psks.map((psk, n) => row(`psk ${n + 1}, a secret of this run`, psk))] : []));
 }
 
 /** Draws the window of datagrams that a party keeps: the nonces up to the greatest one that it has opened. This is the page's own account. */
 export function showWindows(box, run) {
   box.replaceChildren();
   if (!run?.isOpen || run.setup.mode !== 'datagrams') return;
-  for (const role of ['initiator', 'responder']) {
+  for (const role of ROLES) {
     const { opened } = run[role];
     const { window } = run.setup;
     const top = opened.size ? Math.max(...opened) : -1;
@@ -120,4 +196,10 @@ export function showWindows(box, run) {
     grid.setAttribute('aria-hidden', 'true');
     box.append(element('div', '', element('p', '', label), grid));
   }
+}
+
+/** Greys a run whose set-up isn't the one above any more: nothing more happens in it. */
+export function showStale(section, isStale) {
+  section.classList.toggle('stale', isStale);
+  for (const it of section.querySelectorAll('#log .deliver button')) enable(it, !isStale);
 }

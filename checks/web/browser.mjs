@@ -79,10 +79,17 @@ export class Browser {
     throw new Error(`never: ${expression}`);
   }
 
-  async press(key, text) {
-    const code = { Tab: 9, Enter: 13, ' ': 32, ArrowUp: 38, ArrowDown: 40 }[key] ?? 0;
-    await this.send('Input.dispatchKeyEvent', { type: 'keyDown', key, code: key, windowsVirtualKeyCode: code, text });
-    await this.send('Input.dispatchKeyEvent', { type: 'keyUp', key, code: key, windowsVirtualKeyCode: code });
+  async press(key, text, modifiers = 0) {
+    const code = { Tab: 9, Enter: 13, ' ': 32, End: 35, Home: 36, ArrowLeft: 37, ArrowUp: 38, ArrowRight: 39, ArrowDown: 40 }[key] ?? 0;
+    await this.send('Input.dispatchKeyEvent', { type: 'keyDown', key, code: key === ' ' ? 'Space' : key, windowsVirtualKeyCode: code, text, modifiers });
+    await this.send('Input.dispatchKeyEvent', { type: 'keyUp', key, code: key === ' ' ? 'Space' : key, windowsVirtualKeyCode: code, modifiers });
+  }
+
+  /** A letter with the control key, as a keyboard sends it. */
+  async chord(letter, windowsVirtualKeyCode) {
+    const event = { key: letter, code: `Key${letter.toUpperCase()}`, windowsVirtualKeyCode, modifiers: 2 };
+    await this.send('Input.dispatchKeyEvent', { type: 'rawKeyDown', ...event });
+    await this.send('Input.dispatchKeyEvent', { type: 'keyUp', ...event });
   }
 
   /** Types a text where the focus is, in the place of what is there. */

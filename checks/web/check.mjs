@@ -1,154 +1,156 @@
-// The page as a user meets it: node check.mjs TOP ROOM, with the top of the repository. Saved vector files go to ROOM/files, screenshots to ROOM/pictures.
+// The page as a user meets it: node check.mjs TOP ROOM BUILT, with the top of the repository and the folder that web/build has made. Saved vector files and
+// key schedules go to ROOM/files, screenshots to ROOM/pictures.
 import assert from 'node:assert/strict';
 import { writeFile } from 'node:fs/promises';
 import { join } from 'node:path';
 import { Browser } from './browser.mjs';
-import { keyboard, speech } from './access.mjs';
-import { figures } from './figures.mjs';
+import { speech } from './access.mjs';
+import { axe } from './axe.mjs';
+import { figures, weight } from './figures.mjs';
+import { Keyboard, Pointer } from './hands.mjs';
+import { Page } from './page.mjs';
 import { serve } from './server.mjs';
 import { EXPECTED, takeChannels } from './socket-server.mjs';
+import { Walk } from './walk.mjs';
 import { DEFERRED, FUNDAMENTAL } from '../../bindings/js/patterns.mjs';
 
-const [top, room] = process.argv.slice(2);
+const [top, room, built] = process.argv.slice(2);
 const server = await serve(top);
 const browser = await Browser.start();
+const page = new Page(browser, `${server.url}web/`, room);
 const report = (text) => console.log(`web: ${text}`);
 const quoted = JSON.stringify;
-const run = (work) => browser.evaluate(`(async () => { ${work} })()`);
-const newest = 'document.getElementById("log").firstElementChild';
-const click = (selector) => run(`document.querySelector(${quoted(selector)}).click()`);
-const type = (id, value) => run(`const it = document.getElementById(${quoted(id)});
-  it.value = ${quoted(value)}; it.dispatchEvent(new Event('input')); it.dispatchEvent(new Event('change'))`);
-const count = () => browser.evaluate('document.getElementById("log").childElementCount');
-const state = () => browser.evaluate('document.getElementById("state").textContent');
-const save = async (name) => writeFile(join(room, 'files', `${name}.vector`), await browser.evaluate('noisePage.vectorFile'));
-
-async function open(fragment = '') {
-  await browser.open(`${server.url}web/${fragment}`);
-  await browser.until('globalThis.noisePage !== undefined');
-}
-
-async function begin() {
-  await click('#start');
-  await browser.until('document.getElementById("all").disabled === false');
-}
-
-/** Does something that adds so many entries to the log. */
-async function adding(entries, work) {
-  const before = await count();
-  await work();
-  await browser.until(`document.getElementById("log").childElementCount >= ${before + entries}`);
-}
-const write = (role) => adding(1, () => click(`[data-write=${role}]`));
-/** Presses a button of the Nth message that was written. */
-const deliver = (n, button = 0) => adding(1, () => run(`[...document.querySelectorAll('#log .deliver')].reverse()[${n}].querySelectorAll('button')[${button}].click()`));
-const last = () => browser.evaluate(`${newest}.className + ': ' + ${newest}.firstElementChild.textContent`);
 
 async function allPatterns() {
-  await type('payload', 'hi');
+  await page.type('payload', 'hi');
   for (const base of [...FUNDAMENTAL, ...DEFERRED]) {
-    await type('pick', base);
-    await begin();
-    await click('#all');
-    await browser.until('document.getElementById("all").disabled');
-    assert.match(await state(), /initiator is open .*responder is open/, base);
-    assert.match(await browser.evaluate('document.querySelector("#log .hash").textContent'), /^hash at both ends [0-9a-f]{64}$/, base);
+    await page.type('pick', base);
+    await page.begin();
+    await page.passAll();
+    assert.match(await page.textOf('state'), /initiator is open .*responder is open/, base);
+    assert.match(await page.evaluate('document.querySelector("#log .hash").textContent'), /^hash at both ends [0-9a-f]{64} /, base);
     // Each length in the picture is that of the message that the library has written, with a payload of two bytes.
-    const labels = await browser.evaluate('[...document.querySelectorAll("#picture text")].map((it) => it.textContent)');
+    const labels = await page.evaluate('[...document.querySelectorAll("#picture text")].map((it) => it.textContent)');
     const drawn = labels.map((label) => /: (\d+) bytes \+ payload/.exec(label)?.[1]).filter(Boolean).map(Number);
-    const written = await browser.evaluate('noisePage.lines.filter((it) => it.startsWith("wrote")).map((it) => it.split(" ")[3].length / 2 - 4)');
+    const written = await page.evaluate('noisePage.lines.filter((it) => it.startsWith("wrote")).map((it) => it.split(" ")[3].length / 2 - 4)');
     assert.deepEqual(drawn, written, base);
-    await write('initiator');
-    await deliver(written.length);
-    assert.match(await last(), /^accepted/, base);
-    await save(base);
+    await page.write('initiator');
+    await page.deliver(written.length);
+    assert.match(await page.last(), /^accepted/, base);
+    await page.save(base);
   }
   report(`${FUNDAMENTAL.length} fundamental and ${DEFERRED.length} deferred patterns run to the end, with equal hashes`);
 }
 
 async function faults() {
   const cases = [
-    ['MINE:\n  -> e, es\n', 'es', 'Rule 1'],
+    ['MINE:\n  -> e, es\n', 'es', 'Rule 1 is broken at message 1, token es'],
     ['MINE:\n  -> e\n  <- e, ee\n  -> e\n', 'e', 'Rule 2'],
     ['MINE:\n  -> e\n  <- e, ee, ee\n', 'ee', 'Rule 3'],
     ['MINE:\n  -> e, s\n  <- e, se\n', 'se', 'Rule 4'],
     ['MINEpsk0:\n  -> psk, s\n', 's', 'Rule 5'],
-    ['mine:\n  -> e\n', 'mine:', 'Line 1'],
-    ['MINE:\n -> e\n', ' -> e', 'Line 2'],
-    ['MINE:\n  -> e, foo, s\n', 'foo', 'Line 2'],
-    ['MINE:\n  -> e\n  -> e, ee\n', '->', 'Line 3'],
-    ['MINE:\n  -> e, psk\n', 'psk', 'Line 2'],
-    ['XX:\n  -> e\n', 'XX', 'Line 1'],
-    ['MINE:\n  <- s\n  -> s\n  ...\n  -> e, es\n', '  -> s', 'Line 3'],
-    ['MINE:\n  -> e\n  <- e, e, e, e, e, e, e, e, e\n', '  <- e, e, e, e, e, e, e, e, e', 'Line 3'],
+    ['mine:\n  -> e\n', 'mine:', 'Line 1: heading'],
+    ['MINE:\n -> e\n', ' -> e', 'Line 2: arrow'],
+    ['MINE:\n  -> e, foo, s\n', 'foo', 'Line 2: token'],
+    ['MINE:\n  -> e \n', ' ', 'Line 2: token'],
+    ['MINE:\n  -> e\n  -> e, ee\n', '->', 'Line 3: turn'],
+    ['MINE:\n  -> e, psk\n', 'psk', 'Line 2: psk-place'],
+    ['XX:\n  -> e\n', 'XX', 'Line 1: name-taken'],
+    ['MINE:\n  <- s\n  -> s\n  ...\n  -> e, es\n', '  -> s', 'Line 3: pre-message'],
+    ['MINE:\n  -> e\n  <- e, e, e, e, e, e, e, e, e\n', '  <- e, e, e, e, e, e, e, e, e', 'Line 3: limit'],
     ['MINE:\n', 'MINE:', 'Line 2: ending'],
     ['MINE:\n  -> e\n\n', ' ', 'Line 3: arrow'],
   ];
   for (const [text, marked, title] of cases) {
-    await type('text', text);
-    assert.equal(await browser.evaluate('document.querySelector("mark").textContent'), marked, text);
-    assert.ok((await browser.evaluate('document.querySelector("#verdict .title").textContent')).startsWith(title), text);
-    assert.equal(await browser.evaluate('document.getElementById("start").disabled'), true);
-    assert.equal(await browser.evaluate('document.getElementById("text").getAttribute("aria-invalid")'), 'true');
+    await page.type('text', text);
+    assert.equal(await page.evaluate('document.querySelector("mark").textContent'), marked, text);
+    assert.ok((await page.evaluate('document.querySelector("#verdict .title").textContent')).startsWith(title), text);
+    assert.equal(await page.evaluate('document.getElementById("start").getAttribute("aria-disabled")'), 'true');
+    assert.equal(await page.evaluate('document.getElementById("text").getAttribute("aria-invalid")'), 'true');
   }
   report(`${cases.length} faults are marked at their places`);
 }
 
 async function ownPattern() {
-  await type('text', 'MINE:\n  <- s\n  ...\n  -> e, es\n  <- e, ee\n  -> s, se\n');
-  await run('document.querySelector("#places input[value=\'2\']").click()');
-  assert.equal(await browser.evaluate('document.getElementById("text").value.split("\\n")[0]'), 'MINEpsk2:');
-  assert.match(await browser.evaluate('document.getElementById("verdict").className'), /good/);
-  await type('interval', '2');
-  await begin();
-  await click('#all');
-  await browser.until('document.getElementById("all").disabled');
-  for (let n = 0; n < 5; n += 1) await write('initiator');
-  for (const n of [3, 4, 5]) await deliver(n);
-  await deliver(3);
-  assert.match(await last(), /^refused: Responder refused transport message.*a tag is wrong. Its state stays/);
-  await deliver(6, 1);
-  await deliver(6);
-  assert.match(await last(), /^accepted/);
-  await save('own-pattern');
-  await type('interval', '0');
+  await page.type('text', 'MINE:\n  <- s\n  ...\n  -> e, es\n  <- e, ee\n  -> s, se\n');
+  await page.run('document.querySelector("#places input[value=\'2\']").click()');
+  assert.equal(await page.evaluate('document.getElementById("text").value.split("\\n")[0]'), 'MINEpsk2:');
+  assert.match(await page.evaluate('document.getElementById("verdict").className'), /good/);
+  await page.type('interval', '2');
+  await page.begin();
+  await page.passAll();
+  for (let n = 0; n < 5; n += 1) await page.write('initiator');
+  for (const n of [3, 4, 5]) await page.deliver(n);
+  await page.deliver(3);
+  assert.match(await page.last(), /^refused: \d+\. Responder refused transport message 1 of the initiator: a tag is wrong\. It goes on as before/);
+  await page.deliver(6, [0]);
+  assert.match(await page.last(), /^refused: .*Changed on the way: byte 0\./);
+  await page.deliver(6);
+  assert.match(await page.last(), /^accepted/);
+  await page.save('own-pattern');
+  await page.type('interval', '0');
 }
 
 async function refusals() {
-  await type('pick', 'XX');
-  await begin();
-  await write('initiator');
-  await write('initiator');
-  assert.match(await last(), /^refused: Initiator wrote nothing: it is the other party’s turn/);
-  await deliver(0);
-  await deliver(0);
-  assert.match(await last(), /other party’s turn/);
-  await write('responder');
-  await run('document.querySelector("#log .deliver").querySelector("input").value = 40');
-  await deliver(1, 1);
-  assert.match(await last(), /^refused: Initiator refused message 2, whose byte 40 was changed on its way at token 3 \(s\): a tag is wrong. Its handshake has ended/);
-  await deliver(1);
-  await save('refused');
+  await page.type('pick', 'XX');
+  await page.begin();
+  await page.write('initiator');
+  await page.write('initiator');
+  assert.match(await page.last(), /^refused: 2\. Initiator wrote nothing: it is the other party’s turn/);
+  await page.deliver(0);
+  await page.deliver(0);
+  assert.match(await page.last(), /other party’s turn/);
+  await page.write('responder');
+  await page.deliver(1, [40]);
+  assert.match(await page.last(), /Initiator refused message 2, token s: a tag is wrong\. Changed on the way: byte 40\. Its handshake has ended/);
+  await page.deliver(1);
+  await page.save('refused');
 }
 
 async function datagrams() {
-  await type('pick', 'IK');
-  await type('mode', 'datagrams');
-  await begin();
-  await click('#all');
-  await browser.until('document.getElementById("all").disabled');
-  for (let n = 0; n < 4; n += 1) await write('initiator');
-  for (const n of [4, 3]) await deliver(n);
-  await deliver(3);
-  assert.match(await last(), /a datagram of its nonce was opened/);
-  await deliver(5, 1);
-  assert.match(await last(), /^refused/);
-  assert.equal(await browser.evaluate('document.querySelectorAll(".window i.opened, .window i.top").length'), 2);
-  await save('datagrams');
-  await browser.until('location.hash.includes("datagrams") && location.hash.includes("IK")');
-  const fragment = await browser.evaluate('location.hash');
-  await open(fragment);
-  assert.equal(await browser.evaluate('document.getElementById("mode").value + document.getElementById("pick").value'), 'datagramsIK');
+  await page.type('pick', 'IK');
+  await page.type('mode', 'datagrams');
+  await page.begin();
+  await page.passAll();
+  for (let n = 0; n < 4; n += 1) await page.write('initiator');
+  for (const n of [4, 3]) await page.deliver(n);
+  await page.deliver(3);
+  assert.match(await page.last(), /datagram 1 of the initiator: a datagram of its nonce was opened/);
+  await page.deliver(5, [30]);
+  assert.match(await page.last(), /^refused/);
+  assert.equal(await page.evaluate('document.querySelectorAll(".window i.opened, .window i.top").length'), 2);
+  await page.save('datagrams');
+  await page.until('location.hash.includes("datagrams") && location.hash.includes("IK")');
+  const fragment = await page.evaluate('location.hash');
+  await page.open(fragment);
+  assert.equal(await page.evaluate('document.getElementById("mode").value + document.getElementById("pick").value'), 'datagramsIK');
+}
+
+/** Long payloads and long runs: the page stays short, and all of it can be seen. */
+async function long() {
+  await page.resize(390);
+  await page.open('#pattern=NN%3A%0A++-%3E+e%0A++%3C-+e%2C+ee%0A&mode=transport');
+  await page.begin();
+  await page.passAll();
+  await page.type('payload', 'a'.repeat(2000));
+  for (let n = 0; n < 30; n += 1) await page.write('initiator');
+  assert.ok(await page.evaluate('document.getElementById("log").offsetHeight') < 3500, 'a long run makes a long page');
+  assert.ok(await page.evaluate('document.querySelector("#log li").offsetHeight') < 450, 'a long payload makes a long entry');
+  await page.click('#log li:first-child .bytes .more');
+  assert.equal(await page.evaluate('document.querySelectorAll("#log li:first-child .bytes [data-at]").length'), 2016);
+  await page.click('#earlier');
+  assert.equal(await page.evaluate('[...document.querySelectorAll("#log li")].filter((it) => !it.hidden).length'), 34);
+  await page.type('payload', 'hello');
+}
+
+/** Each walk with one hand, at one width each; then the other way round. */
+async function walks() {
+  await browser.send('Browser.grantPermissions', { permissions: ['clipboardReadWrite', 'clipboardSanitizedWrite'] });
+  for (const [Hand, width] of [[Keyboard, 390], [Pointer, 1100], [Keyboard, 1100], [Pointer, 390]]) {
+    await page.resize(width);
+    await new Walk(page, new Hand(browser)).all();
+  }
+  report('a pattern of one’s own, its fault mended, undo, a run with a refusal, its key schedule and link, streams: by keyboard alone and by pointer, at two widths');
 }
 
 /** Channels over the browser's WebSocket, from a page of this server that isn't the one of web/. */
@@ -156,7 +158,7 @@ async function sockets() {
   const told = await takeChannels(server.server);
   await browser.open(`${server.url}bindings/js/package.json`);
   await browser.until('document.readyState === "complete" && location.href.endsWith("package.json")');
-  const outcomes = await run(`const { attempts } = await import('/checks/web/socket-client.mjs');
+  const outcomes = await page.run(`const { attempts } = await import('/checks/web/socket-client.mjs');
     return attempts(${quoted(server.url.replace('http', 'ws'))}, ${quoted(Object.keys(EXPECTED))});`);
   assert.deepEqual(outcomes, EXPECTED);
   assert.deepEqual(told.failed, []);
@@ -170,41 +172,68 @@ const SHIFT = `new Promise((done) => {
   new PerformanceObserver(add).observe({ type: 'layout-shift', buffered: true });
   setTimeout(() => done(sum), 200);
 })`;
+const isNarrowEnough = 'document.scrollingElement.scrollWidth <= innerWidth';
+const SMALL = `[...document.querySelectorAll('#picture text')].filter((it) => parseFloat(getComputedStyle(it).fontSize) * it.ownerSVGElement.getScreenCTM().a < 11.99).length`;
 
 async function pictures() {
   const [wide, phone] = [[1100, 1010], [390, 844]];
   for (const [name, [width, height], dark] of [['page-wide', wide, false], ['page-wide-dark', wide, true], ['page-phone', phone, false], ['page-phone-dark', phone, true]]) {
     await browser.send('Emulation.setDeviceMetricsOverride', { width, height, deviceScaleFactor: 1, mobile: width < 500 });
-    await open();
-    assert.ok(await browser.evaluate('document.scrollingElement.scrollWidth <= innerWidth'), `${name} is too wide`);
-    assert.equal(await browser.evaluate('document.getElementById("write").offsetHeight'), 0);
-    assert.ok(await browser.evaluate(SHIFT) < 0.02, `${name} shifts while it loads`);
-    if (!name.includes('phone')) await type('pick', 'IK');
-    await begin();
-    await click('#all');
-    await browser.until('document.getElementById("all").disabled');
+    await page.open();
+    assert.ok(await page.evaluate(isNarrowEnough), `${name} is too wide`);
+    assert.equal(await page.evaluate('document.getElementById("write").offsetHeight'), 0);
+    assert.equal(await page.evaluate(SHIFT), 0, `${name} shifts while it loads`);
+    assert.equal(await page.evaluate(SMALL), 0, `${name}: the picture has small text`);
+    if (!name.includes('phone')) await page.type('pick', 'IK');
+    await page.begin();
+    await page.passAll();
     await writeFile(join(room, 'pictures', `${name}.png`), await browser.picture(width, height, dark));
-    await run('document.getElementById("run").scrollIntoView()');
+    await page.run('document.getElementById("run").scrollIntoView()');
     await writeFile(join(room, 'pictures', `${name}-run.png`), await browser.picture(width, height, dark));
-    assert.ok(await browser.evaluate('document.scrollingElement.scrollWidth <= innerWidth'), `${name} is too wide after a run`);
-    await run('scrollTo(0, 0)');
+    assert.ok(await page.evaluate(isNarrowEnough), `${name} is too wide after a run`);
+    await page.run('scrollTo(0, 0)');
   }
 }
 
+/** The folder that web/build makes, in a folder of another server; and then without that server. */
+async function offline() {
+  const other = await serve(built, 'some/place/');
+  const there = new Page(browser, `${other.url}some/place/`, room);
+  await there.open();
+  await there.until('navigator.serviceWorker.controller !== null');
+  const scripts = await there.evaluate('performance.getEntriesByType("resource").map(({ name }) => name)');
+  assert.ok(scripts.every((name) => name.startsWith(`${other.url}some/place/`)), 'the page asks for something outside of its folder');
+  other.close();
+  await there.evaluate('delete globalThis.noisePage');
+  await browser.open(`${there.url}#mode=stream`);
+  await there.until('globalThis.noisePage !== undefined');
+  await there.begin();
+  await there.passAll();
+  assert.match(await there.textOf('state'), /initiator is open/);
+  await browser.open(`${there.url}rules.html`);
+  await there.until('document.querySelectorAll("article li").length === 5');
+  report('the folder that web/build makes works on another server, and without it after the first load');
+}
+
 try {
-  await open();
+  await page.open();
   await allPatterns();
   await faults();
   await ownPattern();
   await refusals();
   await datagrams();
-  await keyboard(browser, open);
-  await speech(browser, open);
+  await long();
+  await walks();
+  await page.resize(1100);
+  await speech(page);
+  report(await axe(page));
   await sockets();
-  report(await figures(browser, open));
+  report(await figures(browser, () => page.open()));
+  report(await weight(page));
   await pictures();
   assert.deepEqual(browser.said, [], 'the console has to be silent');
-  report('a pattern of one’s own, refusals, transport, datagrams, the link, the keyboard alone, what a screen reader gets: as they should be; the console is silent');
+  await offline();
+  report('a pattern of one’s own, refusals, transport, datagrams, the link, what a screen reader gets: as they should be; the console is silent');
 } finally {
   await browser.close();
   server.close();

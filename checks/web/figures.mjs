@@ -1,5 +1,7 @@
 // What the page and the module take in Chromium. These are printed, and nothing fails by them: how fast a machine is, and what else it does, differs.
-// Of several runs the faster half counts.
+// Of several runs the faster half counts. How many bytes the page has is demanded.
+import assert from 'node:assert/strict';
+import { gzipSync } from 'node:zlib';
 
 const TYPING = `const it = document.getElementById('text'); const start = performance.now();
   for (let n = 0; n < 50; n += 1) { it.value = 'MINE:\\n  -> e, s\\n  <- e, ee, se\\n'.slice(0, 6 + n % 30); it.dispatchEvent(new Event('input')); }
@@ -45,6 +47,16 @@ const SEALING = `const { Handshake, protocolName } = await import('../bindings/j
     times.push(performance.now() - start);
   }
   return 10 * 40 * 16384 / times.sort((x, y) => x - y).slice(0, 10).reduce((x, y) => x + y) / 1e3;`;
+
+/** How many bytes the page has, compressed: all that a first visit loads, with the module and what a run loads. */
+export async function weight(page) {
+  await page.open();
+  const names = await page.evaluate(`[location.href.split('#')[0], ...performance.getEntriesByType('resource').map(({ name }) => name)]`);
+  const sizes = await Promise.all([...new Set(names)].map(async (name) => gzipSync(Buffer.from(await (await fetch(name)).arrayBuffer()), { level: 9 }).length));
+  const sum = sizes.reduce((a, b) => a + b, 0);
+  assert.ok(sum <= 200e3, `the page has ${sum} bytes`);
+  return `the page has ${(sum / 1000).toFixed(0)} KB in ${sizes.length} files, compressed`;
+}
 
 export async function figures(browser, open) {
   const run = (work) => browser.evaluate(`(async () => { ${work} })()`);

@@ -26,7 +26,7 @@ for (const [number, setup] of SETUPS.entries()) {
   const whole = { prologue: 'my protocol 1', interval: 0, mode: 'transport', window: 64, ...given };
   const plan = layout(whole.text);
   for (const language of LANGUAGES) {
-    if (isForCAndJavaScript && ['Go', 'Rust'].includes(language)) continue;
+    if (isForCAndJavaScript && ['Go', 'Rust', 'Python'].includes(language)) continue;
     const { name, text } = program(language, plan, whole);
     const answers = language !== 'C' && whole.mode === 'transport' && !plan.oneWay;
     const place = join(folder, language, String(number));

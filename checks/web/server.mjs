@@ -1,14 +1,15 @@
-// A server of the files of one folder, on 127.0.0.1.
+// A server of the files of one folder, on 127.0.0.1: at its top, or below a path.
 import { createServer } from 'node:http';
 import { readFile } from 'node:fs/promises';
 import { extname, join, normalize } from 'node:path';
 
 const TYPES = { '.html': 'text/html', '.json': 'application/json', '.css': 'text/css', '.mjs': 'text/javascript', '.wasm': 'application/wasm' };
 
-export async function serve(folder) {
+export async function serve(folder, below = '') {
   const server = createServer(async ({ url }, answer) => {
-    const path = normalize(decodeURIComponent(new URL(url, 'http://localhost').pathname));
-    if (path === '/favicon.ico') {
+    const whole = normalize(decodeURIComponent(new URL(url, 'http://localhost').pathname));
+    const path = whole.startsWith(`/${below}`) ? `/${whole.slice(below.length + 1)}` : '/none';
+    if (whole === '/favicon.ico') {
       answer.writeHead(204).end();
       return;
     }

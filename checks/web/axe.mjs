@@ -1,0 +1,68 @@
+// axe-core over the page, at four widths, in light and in dark, and over the pages beside it. Chromium's own tools have axe-core, as a part of Lighthouse:
+// it is taken from there, and left out where it isn't.
+import assert from 'node:assert/strict';
+import vm from 'node:vm';
+
+const BUNDLE = 'devtools://devtools/bundled/third_party/lighthouse/lighthouse-dt-bundle.js';
+const WIDTHS = [320, 390, 820, 1440];
+const RUN = `axe.run(document, { resultTypes: ['violations'], rules: { region: { enabled: true }, 'target-size': { enabled: true } } })
+  .then(({ violations }) => violations.map(({ id, nodes }) => id + ': ' + nodes.slice(0, 3).map(({ html, any, all, none }) =>
+    html.slice(0, 140) + ' ' + [...any, ...all, ...none].map(({ message }) => message).join(' ')).join(' | ')))`;
+
+/** The text of axe-core, or undefined. */
+async function source(browser) {
+  await browser.open(BUNDLE);
+  await browser.until('document.readyState === "complete" && document.documentElement !== null').catch(() => {});
+  const bundle = await browser.evaluate('document.documentElement.textContent').catch(() => '');
+  const found = /`(\/\*! axe v[^]*?[^\\])`/.exec(bundle);
+  return found ? vm.runInNewContext(`\`${found[1]}\``) : undefined;
+}
+
+async function check(page, text, what) {
+  await page.browser.evaluate(`${text}; undefined`);
+  const violations = await page.evaluate(RUN);
+  assert.deepEqual(violations, [], what);
+}
+
+/** A page with a bit of all: a run with a refusal, a key schedule, two patterns beside each other, a fault. */
+async function fill(page) {
+  await page.open('#pattern=IK%3A%0A++%3C-+s%0A++...%0A++-%3E+e%2C+es%2C+s%2C+ss%0A++%3C-+e%2C+ee%2C+se%0A&mode=stream');
+  await page.begin();
+  await page.passAll();
+  await page.write('initiator');
+  await page.deliver(2, [3]);
+  await page.run('for (const it of document.querySelectorAll("details")) it.open = true');
+  await page.type('beside', 'NK1');
+  await page.until('document.querySelectorAll(".schedule").length >= 1');
+}
+
+export async function axe(page) {
+  const { browser } = page;
+  const text = await source(browser);
+  const scheme = (value) => browser.send('Emulation.setEmulatedMedia', { features: [{ name: 'prefers-color-scheme', value }] });
+  if (!text) return 'left out: axe-core: this Chromium’s tools have none';
+  let runs = 0;
+  for (const width of WIDTHS) {
+    await page.resize(width);
+    await fill(page);
+    assert.ok(await page.evaluate('document.scrollingElement.scrollWidth <= innerWidth'), `the page is too wide at ${width}`);
+    for (const dark of ['light', 'dark']) {
+      await scheme(dark);
+      await check(page, text, `at ${width}, ${dark}`);
+      runs += 1;
+    }
+    await page.type('prologue', 'another');
+    await page.type('text', 'MINE:\n  <- s\n  -> e, es\n');
+    await check(page, text, `at ${width}, with a fault and an old run`);
+    runs += 1;
+    for (const name of ['rules', 'format', 'mistakes']) {
+      await browser.open(`${page.url}${name}.html`);
+      await browser.until('document.readyState === "complete" && document.querySelector("article") !== null');
+      assert.ok(await page.evaluate('document.scrollingElement.scrollWidth <= innerWidth'), `${name} is too wide at ${width}`);
+      await check(page, text, `${name} at ${width}`);
+      runs += 1;
+    }
+  }
+  await scheme('light');
+  return `axe-core ${/axe v([\d.]+)/.exec(text)[1]} finds nothing in ${runs} runs, at ${WIDTHS.join(', ')} px, in light and in dark`;
+}

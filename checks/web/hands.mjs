@@ -1,0 +1,113 @@
+// Two ways to use the page: by the keyboard alone, and by the pointer. Both have the same calls; a selector names what is used.
+import assert from 'node:assert/strict';
+
+const quoted = JSON.stringify;
+
+class Hand {
+  constructor(browser) {
+    this.browser = browser;
+  }
+
+  evaluate(expression) {
+    return this.browser.evaluate(expression);
+  }
+
+  /** Types a text into a field, in the place of what is there. */
+  async type(selector, text) {
+    await this.reach(selector);
+    await this.browser.type(text);
+  }
+
+  /** The browser's own undo, and redo. */
+  async undo() {
+    await this.browser.chord('z', 90);
+  }
+}
+
+/** Tab to get there, Enter, the space bar and the arrow keys to use it. */
+export class Keyboard extends Hand {
+  name = 'the keyboard';
+
+  /** Goes on by Tab from where the focus is: backwards if the control is before it. */
+  async reach(selector) {
+    const is = `document.activeElement.matches(${quoted(selector)})`;
+    const isBefore = await this.evaluate(`(() => { const it = document.querySelector(${quoted(selector)});
+      if (!it) throw new Error('there is no ' + ${quoted(selector)});
+      return Boolean(document.activeElement !== document.body && (document.activeElement.compareDocumentPosition(it) & Node.DOCUMENT_POSITION_PRECEDING)); })()`);
+    for (let n = 0; n < 150 && !await this.evaluate(is); n += 1) await this.browser.press('Tab', undefined, isBefore ? 8 : 0);
+    assert.ok(await this.evaluate(is), `Tab doesn't reach ${selector}: it is at ${await this.evaluate('document.activeElement.outerHTML.slice(0, 120)')}`);
+  }
+
+  async press(selector) {
+    await this.reach(selector);
+    await this.browser.press('Enter', '\r');
+  }
+
+  async tick(selector) {
+    await this.reach(selector);
+    await this.browser.press(' ', ' ');
+  }
+
+  /** Goes through the options of a list by the arrow keys. */
+  async choose(selector, value) {
+    await this.reach(selector);
+    const at = `(() => { const it = document.querySelector(${quoted(selector)}); const values = [...it.options].map(({ value }) => value);
+      return [values.indexOf(it.value), values.indexOf(${quoted(value)})]; })()`;
+    for (let n = 0; n < 60; n += 1) {
+      const [is, to] = await this.evaluate(at);
+      assert.ok(to >= 0, `${selector} has no ${value}`);
+      if (is === to) return;
+      await this.browser.press(is < to ? 'ArrowDown' : 'ArrowUp');
+    }
+    assert.fail(`${selector} doesn't come to ${value}`);
+  }
+
+  /** One byte of the newest written message. */
+  async flip(box, at) {
+    await this.reach(`${box} [tabindex="0"]`);
+    await this.browser.press('Home');
+    for (let n = 0; n < at; n += 1) await this.browser.press('ArrowRight');
+    await this.browser.press(' ', ' ');
+  }
+}
+
+/** Moves to the middle of a control, and clicks. */
+export class Pointer extends Hand {
+  name = 'the pointer';
+
+  async reach(selector) {
+    await this.click(selector);
+  }
+
+  async click(selector) {
+    const [x, y] = await this.evaluate(`(async () => { const it = document.querySelector(${quoted(selector)});
+      if (!it) throw new Error('there is no ' + ${quoted(selector)});
+      it.scrollIntoView({ block: 'center' });
+      const { left, top, width, height } = it.getBoundingClientRect();
+      const at = [left + width / 2, top + height / 2];
+      const there = document.elementFromPoint(...at);
+      if (!it.contains(there)) throw new Error(${quoted(selector)} + ' is covered by ' + there?.outerHTML.slice(0, 100));
+      return at; })()`);
+    await this.browser.send('Input.dispatchMouseEvent', { type: 'mouseMoved', x, y });
+    for (const type of ['mousePressed', 'mouseReleased']) await this.browser.send('Input.dispatchMouseEvent', { type, x, y, button: 'left', clickCount: 1 });
+  }
+
+  async press(selector) {
+    await this.click(selector);
+  }
+
+  async tick(selector) {
+    await this.click(selector);
+  }
+
+  /** A list opens as a window of its own, which the protocol doesn't reach: the option is set, and the change told. */
+  async choose(selector, value) {
+    await this.evaluate(`(() => { const it = document.querySelector(${quoted(selector)}); it.focus(); it.value = ${quoted(value)};
+      if (it.value !== ${quoted(value)}) throw new Error('no such option');
+      for (const name of ['input', 'change']) it.dispatchEvent(new Event(name, { bubbles: true })); })()`);
+  }
+
+  async flip(box, at) {
+    await this.click(`${box} [data-at="${at}"]`);
+  }
+}

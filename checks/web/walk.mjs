@@ -1,0 +1,212 @@
+// The page as a designer uses it, with one hand: a pattern of one's own from nothing, its fault mended, and nothing of it lost; a run with a refusal, its
+// key schedule and its link; streams, an end and a cut. `hand` is one of hands.mjs.
+import assert from 'node:assert/strict';
+
+const FAULTY = 'MINE:\n  <- s\n  -> e, es\n  <- e, ee\n';
+const MENDED = 'MINE:\n  <- s\n  ...\n  -> e, es\n  <- e, ee\n';
+const quoted = JSON.stringify;
+
+export class Walk {
+  constructor(page, hand) {
+    Object.assign(this, { page, hand });
+  }
+
+  text() {
+    return this.page.evaluate('document.getElementById("text").value');
+  }
+
+  of(id) {
+    return this.page.textOf(id);
+  }
+
+  /** Something becomes so, at most in some seconds. */
+  until(expression) {
+    return this.page.until(expression);
+  }
+
+  async all() {
+    await this.design();
+    await this.beside();
+    await this.undone();
+    await this.refusal();
+    await this.stale();
+    await this.shared();
+    await this.streams();
+  }
+
+  /** A pattern from nothing, whose “...” was forgotten, and its facts. */
+  async design() {
+    const { hand } = this;
+    await this.page.open();
+    await hand.type('#text', FAULTY);
+    assert.match(await this.of('verdict'), /^Line 2: turn\..*that line is missing/);
+    await hand.press('#mends button');
+    assert.equal(await this.text(), MENDED);
+    assert.equal(await this.page.evaluate('document.activeElement.id'), 'text');
+    assert.match(await this.of('verdict'), /^Valid: 2 messages/);
+    assert.match(await this.of('facts'), /Message 1es.*Whoever has the responder’s static private key can compute these keys/);
+    assert.match(await this.of('facts'), /No static key of the initiator takes part.*Message 1 can be replayed.*Noise Explorer/);
+    await hand.type('#text', 'MINE:\n  -> e\n  <- e\n');
+    assert.match(await this.of('verdict'), /Warning: No DH is mixed: everybody can compute these keys/);
+    assert.equal(await this.page.evaluate('document.querySelectorAll("#facts tr.warns").length'), 1);
+    await hand.undo();
+    assert.equal(await this.text(), MENDED);
+  }
+
+  /** Two patterns beside each other. */
+  async beside() {
+    const { hand } = this;
+    await hand.choose('#pick', 'NK');
+    await hand.choose('#beside', 'NK1');
+    const rows = await this.page.evaluate('[...document.querySelectorAll("#other tbody tr")].map((it) => [it.className, ...[...it.children].map((cell) => cell.textContent)])');
+    const row = (name) => rows.find(([, head]) => head.startsWith(name));
+    assert.deepEqual(row('Known before'), ['', 'Known before', '<- s', '<- s']);
+    assert.deepEqual(row('Message 1'), ['other', 'Message 1 differs', '→ e, es (48 bytes)', '→ e (32 bytes)']);
+    assert.equal(row('Keys of transport')[0], '');
+    await hand.choose('#beside', '');
+  }
+
+  /** What the page changes in the editor the browser's undo takes back, and Back, and the list of one's own patterns. */
+  async undone() {
+    const { hand } = this;
+    assert.match(await this.text(), /^NK:/);
+    await hand.tick('#places input[value="2"]');
+    assert.match(await this.text(), /^NKpsk2:[^]*ee, psk/);
+    await hand.undo();
+    assert.match(await this.text(), /^NK:[^]*ee\n/);
+    await hand.undo();
+    assert.equal(await this.text(), MENDED);
+    await hand.choose('#pick', 'XX');
+    assert.match(await this.text(), /^XX:/);
+    await this.page.evaluate('history.back()');
+    await this.until(`document.getElementById("text").value === ${quoted(MENDED)}`);
+    await hand.choose('#pick', 'XX');
+    const mine = await this.page.evaluate('[...document.querySelectorAll("#pick option")].find((it) => it.textContent === "your MINE").value');
+    await hand.choose('#pick', mine);
+    assert.equal(await this.text(), MENDED);
+  }
+
+  /** A byte is changed on its way, and what refuses it says message and token by name. */
+  async refusal() {
+    const { hand } = this;
+    await hand.choose('#pick', 'XX');
+    await hand.type('#prologue', 'walk');
+    await this.begin();
+    await this.write('initiator');
+    await this.deliver(2);
+    await this.write('responder');
+    assert.equal(await this.page.newest('.fate'), 'not delivered');
+    await hand.flip('#log li:first-child .bytes', 40);
+    assert.match(await this.page.newest('.piece'), /^byte 40: static key, encrypted \(bytes 32 to 79\), changed/);
+    assert.match(await this.page.newest('.go'), /^Deliver with byte 40 changed/);
+    await this.deliver(4);
+    assert.match(await this.of('said'), /^4\. Initiator refused message 2, token s: a tag is wrong\. Changed on the way: byte 40\. Its handshake has ended\.$/);
+    assert.equal(await this.page.newest('.chip'), 'refused');
+    assert.equal(await this.page.evaluate('document.querySelector("#log li:nth-child(2) .fate").textContent'), 'refused');
+    assert.notEqual(await this.page.evaluate('document.activeElement.tagName'), 'BODY');
+    assert.equal(await this.page.evaluate('document.querySelector("#said").getAttribute("aria-live")'), 'polite');
+    await hand.press('#log li:nth-child(2) details.keys summary');
+    await this.until('document.querySelector("#log li:nth-child(2) .schedule tbody tr") !== null');
+    const steps = await this.page.evaluate('[...document.querySelectorAll("#log li:nth-child(2) .schedule tbody th")].map((it) => it.textContent)');
+    assert.deepEqual(steps, ['e (MixHash)', 'ee (MixKey)', 's (EncryptAndHash)', 'es (MixKey)', 'payload (EncryptAndHash)']);
+    await hand.press('#log li:nth-child(2) details.keys .copy');
+    assert.match(await this.clipboard(/^trace /), /^trace responder 0?1? ?\d e MixHash 0 [0-9a-f]{64} [0-9a-f]{64} [0-9a-f]{64} - 0\n/);
+    await hand.press('#log li:nth-child(2) .message > .copy');
+    assert.match(await this.clipboard(/^[0-9a-f]*$/), /^[0-9a-f]{192,}$/);
+  }
+
+  /** The run of another set-up stays, greyed, and the way back and onward is beside it. */
+  async stale() {
+    const { hand } = this;
+    const before = await this.page.count();
+    await hand.type('#prologue', 'walks');
+    assert.equal(await this.page.count(), before);
+    assert.ok(await this.page.evaluate('document.getElementById("ran").matches(".stale") && document.getElementById("again").offsetHeight > 0'));
+    await hand.press('#back');
+    assert.equal(await this.page.evaluate('document.getElementById("prologue").value + document.getElementById("ran").className'), 'walk');
+    assert.equal(await this.page.count(), before);
+  }
+
+  /** A reload and a link bring back the set-up and the run; the refusal is the same with other keys. */
+  async shared() {
+    const { hand } = this;
+    const said = (await this.of('said')).replace(/^.*?4\. /, '');
+    const entries = () => this.page.evaluate('[...document.querySelectorAll("#log .who")].map((it) => it.textContent.trim())');
+    const [first, keys] = [await entries(), await this.of('key-list')];
+    await hand.press('#copy-run');
+    const address = await this.clipboard(/#pattern=/);
+    assert.ok(address.startsWith(await this.page.evaluate('location.href.split("#")[0]')));
+    for (const [, key] of keys.matchAll(/([0-9a-f]{64})/g)) assert.ok(!address.includes(key));
+    await this.page.open(new URL(address).hash);
+    await this.until('document.getElementById("log").childElementCount === 4');
+    assert.deepEqual(await entries(), first);
+    assert.ok((await this.of('said')).includes(said.slice(0, 40)));
+    assert.notEqual(await this.of('key-list'), keys);
+    await this.page.until('location.hash.includes("run=")');
+    await this.page.reload();
+    await this.until('document.getElementById("log").childElementCount === 4');
+    assert.deepEqual(await entries(), first);
+  }
+
+  /** Streams: an end, a cut, a refusal after which nothing is sent, and what each side reports. */
+  async streams() {
+    const { hand } = this;
+    await hand.choose('#pick', 'NN');
+    await hand.choose('#mode', 'stream');
+    await hand.press('#again');
+    await this.until('document.getElementById("log").childElementCount === 0');
+    await hand.press('#all');
+    await this.until('document.getElementById("log").childElementCount === 4');
+    await this.write('initiator');
+    await this.deliver(6);
+    await this.adding(7, () => hand.press('[data-end=initiator]'));
+    assert.match(await this.of('said'), /^7\. Initiator wrote the end of the initiator’s stream \(transport message 2\)/);
+    await this.deliver(8);
+    assert.match(await this.of('said'), /^8\. Responder accepted the end of the initiator’s stream .*all of it has come/);
+    await this.write('responder');
+    await hand.type('#log li:first-child .deliver input', '9');
+    await this.adding(11, () => hand.press('#log li:first-child .deliver button:not(.go)'));
+    assert.match(await this.of('said'), /11\. The connection has ended\. The initiator reports a cut: .* after 0 payloads and 9 bytes of an unfinished message\./);
+    assert.match(await this.of('said'), /The responder reports the end of the initiator’s stream, after all of it: 1 payload\./);
+    await this.page.save(`stream-${this.hand.name.split(' ')[1]}`);
+    await hand.press('#start');
+    await this.until('document.getElementById("log").childElementCount === 0');
+    await hand.press('#all');
+    await this.until('document.getElementById("log").childElementCount === 4');
+    await this.write('initiator');
+    await hand.flip('#log li:first-child .bytes', 2);
+    await this.deliver(6);
+    assert.match(await this.of('said'), /^6\. Responder refused transport message 1 of the initiator: a tag is wrong\..*sends nothing, no end either/);
+    const buttons = '[...document.querySelectorAll("[data-write=responder], [data-end=responder]")]';
+    assert.equal(await this.page.evaluate(`${buttons}.map((it) => it.getAttribute("aria-disabled")).join()`), 'true,true');
+  }
+
+  async begin() {
+    await this.hand.press('#start');
+    await this.until('document.getElementById("all").getAttribute("aria-disabled") === "false"');
+  }
+
+  async adding(count, work) {
+    await work();
+    await this.until(`document.getElementById("log").childElementCount === ${count}`);
+  }
+
+  async write(role) {
+    await this.adding(await this.page.count() + 1, () => this.hand.press(`[data-write=${role}]`));
+  }
+
+  /** Delivers the newest message, after which the log has so many entries. */
+  async deliver(count) {
+    await this.adding(count, () => this.hand.press('#log li:first-child .go'));
+  }
+
+  /** What the clipboard has, once it is of this form. */
+  async clipboard(form) {
+    for (let n = 0; n < 300; n += 1) {
+      const text = await this.page.evaluate('navigator.clipboard.readText()');
+      if (form.test(text)) return text;
+      await new Promise((resolve) => { setTimeout(resolve, 10); });
+    }
+    return assert.fail(`the clipboard never has ${form}`);
+  }
+}

@@ -1,0 +1,124 @@
+// The bytes of a message by piece. Each byte is a button that flips its lowest bit; one of them is reached by Tab, the others by the arrow keys.
+import { copier, element } from './element.mjs';
+import { hex } from './bytes.mjs';
+
+const MOST = 160;
+const HEAD = 64;
+const TAIL = 32;
+export const TITLES = {
+  e: 'ephemeral key', s: 'static key, clear', sealed: 'static key, encrypted', tag: 'tag', payload: 'payload, clear', nonce: 'nonce', text: 'payload, encrypted',
+};
+const HINT = 'Point at a byte to see what it is; press it to change its lowest bit on the way.';
+
+/** The pieces of a message in bytes, for one of the handshake, the transport or datagrams. */
+export function piecesOf(run, { number, message, isDatagram }) {
+  if (number === undefined) {
+    const head = isDatagram ? [{ kind: 'nonce', length: 8 }] : [];
+    return [...head, { kind: 'text', length: message.length - 16 - (isDatagram ? 8 : 0) }, { kind: 'tag', length: 16 }];
+  }
+  const { pieces, length } = run.plan.messages[number];
+  const kindOf = ({ kind, sealed }) => (sealed && { s: 'sealed', payload: 'text' }[kind]) || kind;
+  return pieces.map((piece) => ({ length: piece.kind === 'payload' ? message.length - length : piece.length, kind: kindOf(piece) })).filter((piece) => piece.length > 0);
+}
+
+/** A piece for each byte, with the places of the piece's first and last byte. */
+function placesOf(pieces) {
+  const places = [];
+  for (const { kind, length } of pieces) {
+    const from = places.length;
+    for (let n = 0; n < length; n += 1) places.push({ kind, from, to: from + length - 1 });
+  }
+  return places;
+}
+
+const nameAt = (places, at) => `byte ${at}: ${TITLES[places[at].kind]} (bytes ${places[at].from} to ${places[at].to})`;
+const valueOf = ({ message, flips }, at) => hex([message[at] ^ (flips.has(at) ? 1 : 0)]);
+
+function showByte(made, item, places, at) {
+  const isChanged = item.flips.has(at);
+  made.textContent = valueOf(item, at);
+  made.setAttribute('aria-pressed', String(isChanged));
+  made.setAttribute('aria-label', `${nameAt(places, at)}, ${valueOf(item, at)}${isChanged ? ', changed' : ''}`);
+}
+
+function byteButton(item, places, at) {
+  const made = element('button', `p-${places[at].kind}`);
+  Object.assign(made, { type: 'button', tabIndex: -1 });
+  made.dataset.at = at;
+  showByte(made, item, places, at);
+  return made;
+}
+
+/** Moves the one that Tab reaches. */
+function moveTo(box, made) {
+  box.querySelector('[tabindex="0"]')?.setAttribute('tabindex', '-1');
+  made.tabIndex = 0;
+}
+
+/** Where an arrow key leads from a byte. */
+function neighbour(box, made, key) {
+  const all = [...box.querySelectorAll('[data-at]')];
+  const n = all.indexOf(made);
+  const to = { ArrowLeft: n - 1, ArrowRight: n + 1, Home: 0, End: all.length - 1 }[key];
+  if (to !== undefined) return all[to];
+  const rows = { ArrowUp: -1, ArrowDown: 1 }[key];
+  if (rows === undefined) return undefined;
+  const beyond = all.filter((it) => Math.sign(it.offsetTop - made.offsetTop) === rows);
+  const next = rows > 0 ? beyond[0] : beyond.at(-1);
+  const row = beyond.filter((it) => it.offsetTop === next?.offsetTop);
+  return row.sort((a, b) => Math.abs(a.offsetLeft - made.offsetLeft) - Math.abs(b.offsetLeft - made.offsetLeft))[0];
+}
+
+function fill(box, item, places, isWhole) {
+  const { length } = item.message;
+  const isShort = isWhole || length <= MOST;
+  const byte = (at) => byteButton(item, places, at);
+  const range = (from, to) => Array.from({ length: to - from }, (_, n) => byte(from + n));
+  if (isShort) return box.replaceChildren(...range(0, length));
+  const more = element('button', 'more', `… ${length - HEAD - TAIL} more bytes …`);
+  more.type = 'button';
+  more.addEventListener('click', () => {
+    fill(box, item, places, true);
+    const first = box.querySelector(`[data-at="${HEAD}"]`);
+    moveTo(box, first);
+    first.focus();
+  });
+  return box.replaceChildren(...range(0, HEAD), more, ...range(length - TAIL, length));
+}
+
+/** The bytes of a message. `changed()` is called after a byte was flipped. */
+export function bytesView(run, item, name, changed) {
+  const places = placesOf(piecesOf(run, item));
+  const box = element('div', 'bytes');
+  const tells = element('p', 'piece', HINT);
+  box.setAttribute('role', 'toolbar');
+  box.setAttribute('aria-label', `The bytes of ${name}; press one to change it on the way`);
+  fill(box, item, places, false);
+  if (item.message.length) box.firstChild.tabIndex = 0;
+  const of = (event) => event.target.closest('[data-at]');
+  const tell = (event) => {
+    const at = Number(of(event)?.dataset.at);
+    if (at >= 0) tells.textContent = `${nameAt(places, at)}${item.flips.has(at) ? ', changed' : ''}`;
+  };
+  box.addEventListener('mouseover', tell);
+  box.addEventListener('focusin', tell);
+  box.addEventListener('click', (event) => {
+    const made = of(event);
+    if (!made) return;
+    const at = Number(made.dataset.at);
+    if (!item.flips.delete(at)) item.flips.add(at);
+    showByte(made, item, places, at);
+    moveTo(box, made);
+    tell(event);
+    changed();
+  });
+  box.addEventListener('keydown', (event) => {
+    const made = of(event);
+    const next = made && neighbour(box, made, event.key);
+    if (!next) return;
+    event.preventDefault();
+    moveTo(box, next);
+    next.focus();
+  });
+  return element('div', 'message', box, tells, copier(name, () => hex(item.message)));
+}

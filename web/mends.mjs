@@ -1,0 +1,150 @@
+// Corrections of a refused text that the page offers. Each is a whole text, and is offered only if the proved check takes it, or finds its next fault
+// further on. There is no DOM here.
+import { checkPattern } from '../bindings/js/check.mjs';
+import { linesOf } from '../bindings/js/layout.mjs';
+import { FUNDAMENTAL } from '../bindings/js/patterns.mjs';
+import { brokenRule, firstOf, forgottenDots } from './faults.mjs';
+
+const textOf = (lines) => lines.map((line) => `${line}\n`).join('');
+const plain = (lines) => lines.map(({ line }) => line);
+const bodyOf = (names, role) => `  ${role === 'initiator' ? '->' : '<-'} ${names.join(', ')}`;
+
+/** A line as the format has it: its arrow, spaces, commas and letters. */
+function tidyLine(line, n) {
+  const spaced = line.replace(/[\t\u00a0\r]/g, ' ');
+  if (n === 0 && !/->|<-|[→←]/.test(spaced)) {
+    const parts = /^([A-Za-z0-9]*?)((?:psk\d\+?)*):?$/i.exec(spaced.replace(/ /g, ''));
+    const places = [...new Set(parts?.[2].match(/\d/g) ?? [])].sort();
+    return parts?.[1] ? `${parts[1].toUpperCase()}${places.map((it) => `psk${it}`).join('+')}:` : line;
+  }
+  const arrowed = spaced.replace(/[→⟶⇒]|[-–−=]{1,2}>/, '->').replace(/[←⟵⇐]|<[-–−=]{1,2}/, '<-');
+  if (/^ *(\.{2,}|…) *$/.test(arrowed)) return '  ...';
+  const parts = /^ *(->|<-)(.*)$/.exec(arrowed);
+  return parts ? `  ${parts[1]} ${parts[2].toLowerCase().split(/[ ,;]+/).filter(Boolean).join(', ')}` : line;
+}
+
+function tidy(text) {
+  const lines = text.replace(/\n$/, '').split('\n');
+  return textOf(lines.map(tidyLine).filter((line) => line.trim() !== ''));
+}
+
+/** What `tidy` has changed, in words. */
+function tidied(text) {
+  if (text.replace(/[ \t\r]+$/gm, '') === tidy(text)) return 'Take the space at the end out';
+  if (/[→←⟶⟵⇒⇐]/.test(text)) return 'Write the arrows as -> and <-';
+  if (/\n\s*\n/.test(text)) return 'Leave the empty line out';
+  return 'Mend spaces, commas and letters';
+}
+
+const changedLine = (lines, n, line) => textOf(plain(lines).map((it, at) => (at === n ? line : it)));
+const withLine = (lines, n, line) => textOf([...plain(lines).slice(0, n), line, ...plain(lines).slice(n)]);
+const namesOf = ({ tokens }) => tokens.map(({ name }) => name);
+
+/** The text with a token more before one of line N, or with one less. */
+function spliced(lines, n, at, less, ...more) {
+  const names = namesOf(lines[n]);
+  names.splice(at, less, ...more);
+  return changedLine(lines, n, bodyOf(names, lines[n].role));
+}
+
+/** The heading with the places at which the psk tokens stand, or undefined where one stands elsewhere. */
+function placed(lines) {
+  const [base] = /^[A-Z0-9]*/.exec(lines[0].line);
+  const places = [];
+  for (const [n, line] of lines.slice(firstOf(lines)).entries()) {
+    const names = namesOf(line);
+    names.forEach((name, at) => {
+      if (name !== 'psk') return;
+      if (n === 0 && at === 0) places.push(0);
+      else if (at === names.length - 1) places.push(n + 1);
+      else places.push(NaN);
+    });
+  }
+  return places.some(Number.isNaN) ? undefined : `${base}${places.map((it) => `psk${it}`).join('+')}:`;
+}
+
+/** The psk tokens where the heading says. */
+function moved(lines) {
+  const places = (lines[0].line.match(/psk(\d)/g) ?? []).map((it) => Number(it[3]));
+  const first = firstOf(lines);
+  return textOf(lines.map((line, n) => {
+    if (n < first) return line.line;
+    const names = namesOf(line).filter((name) => name !== 'psk');
+    return bodyOf([...(n === first && places.includes(0) ? ['psk'] : []), ...names, ...(places.includes(n - first + 1) ? ['psk'] : [])], line.role);
+  }));
+}
+
+const FORM_MENDS = {
+  30: (lines) => (lines[0].tokens ? [['Put a heading above it', `MINE:\n${textOf(plain(lines))}`]] : []),
+  33: (lines, n) => (n === 2 && lines[2].role === 'initiator' && lines[1].role === 'responder'
+    ? [['Put the initiator’s line first', textOf([lines[0].line, lines[2].line, lines[1].line, ...plain(lines).slice(3)])]] : []),
+  34: (lines, n) => {
+    const dots = forgottenDots(lines, n);
+    const turned = { '->': '<-', '<-': '->' }[lines[n].line.slice(2, 4)];
+    return [
+      ...(dots === undefined ? [] : [[`Put “...” below line ${dots + 1}`, withLine(lines, dots + 1, '  ...')]]),
+      ['Turn the arrow around', changedLine(lines, n, `  ${turned}${lines[n].line.slice(4)}`)],
+    ];
+  },
+  35: (lines) => {
+    const heading = placed(lines);
+    return [...(heading ? [[`Call it ${heading}`, changedLine(lines, 0, heading)]] : []), ['Put the psk tokens where the heading says', moved(lines)]];
+  },
+  36: (lines) => [['Call it MINE', changedLine(lines, 0, lines[0].line.replace(/^[A-Z0-9]*/, 'MINE'))]],
+  38: (lines) => [['Add a first message', `${textOf(plain(lines))}  -> e\n`]],
+};
+
+/** Names a key above “...”. */
+function named(lines, owner, key) {
+  const dots = lines.findIndex(({ line }) => line === '  ...');
+  const known = { initiator: [], responder: [] };
+  for (const line of lines.slice(1, Math.max(dots, 1))) known[line.role] = namesOf(line);
+  known[owner] = ['e', 's'].filter((it) => it === key || known[owner].includes(it));
+  const above = ['initiator', 'responder'].filter((role) => known[role].length).map((role) => bodyOf(known[role], role));
+  return textOf([lines[0].line, ...above, '  ...', ...plain(lines).slice(firstOf(lines))]);
+}
+
+/** Has a party send a key: in this message before the token, or as the last of its earlier ones. */
+function sending(lines, n, token, owner, key) {
+  if (lines[n]?.role === owner) return spliced(lines, n, token, 0, key);
+  const earlier = lines.map(({ role }, at) => (role === owner && at >= firstOf(lines) && at < n ? at : -1)).filter((at) => at >= 0).at(-1);
+  if (earlier === undefined) return undefined;
+  return spliced(lines, earlier, key === 'e' ? 0 : lines[earlier].tokens.filter(({ name }) => name !== 'psk').length, 0, key);
+}
+
+function ruleMends(lines, verdict) {
+  const { rule, message, token } = verdict;
+  const n = firstOf(lines) + message - 1;
+  const { owner, key, sender, after, missing } = brokenRule(lines, verdict);
+  if (rule === 1) {
+    return [[`Let the ${owner} send ${key} before`, sending(lines, n, token, owner, key)], [`Name the ${owner}’s ${key} above “...”`, named(lines, owner, key)]];
+  }
+  if (rule === 2 || rule === 3) {
+    const names = namesOf(lines[n]);
+    if (names.length > 1) return [[`Leave the second ${names[token]} out`, spliced(lines, n, token, 1)]];
+    return n === lines.length - 1 ? [[`Leave message ${message} out`, textOf(plain(lines).slice(0, -1))]] : [];
+  }
+  if (rule === 5) return [[`Let the ${sender} send e before`, sending(lines, n, lines[n]?.tokens[0].name === 'psk' ? 1 : 0, sender, 'e')]];
+  const at = lines.findIndex((line, place) => place >= firstOf(lines) && line.tokens && namesOf(line).includes(after));
+  return at < 0 ? [] : [[`Put ${missing} before ${after}`, spliced(lines, at, namesOf(lines[at]).indexOf(after), 0, missing)]];
+}
+
+/** How far a text is right, as a number for comparing. */
+function reach(verdict) {
+  if (verdict.valid) return Infinity;
+  return verdict.rule ? 1e6 + verdict.message * 100 + verdict.token : verdict.line * 100 + (verdict.code === 36 ? 1 : 0);
+}
+
+/** Corrections of a refused text, each with a label and the whole text after it: at most two. */
+export function mendsOf(text, verdict) {
+  const lines = linesOf(text);
+  const tidyText = tidy(text);
+  const found = tidyText === text ? [] : [[tidied(text), tidyText]];
+  if (verdict.rule) found.push(...ruleMends(lines, verdict));
+  else if (tidyText === text) found.push(...(FORM_MENDS[verdict.code]?.(lines, Math.min(verdict.line, lines.length) - 1) ?? []));
+  const isBetter = (candidate) => candidate !== undefined && candidate !== text && reach(checkPattern(candidate)) > reach(verdict);
+  return found.filter(([, candidate]) => isBetter(candidate)).slice(0, 2).map(([label, candidate]) => ({ label, text: candidate }));
+}
+
+/** A name that no fundamental pattern has, for a text that is to become one's own. */
+export const renamed = (text) => (FUNDAMENTAL.includes(/^[A-Z0-9]*/.exec(text)[0]) ? text.replace(/^[A-Z0-9]*/, 'MINE') : text);
