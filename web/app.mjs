@@ -1,4 +1,5 @@
 // The page: what is set up, and what happens at each button. What the first verdict doesn't need is loaded after it.
+import { checkPattern } from '../bindings/js/check.mjs';
 import { layout } from '../bindings/js/layout.mjs';
 import { load } from '../bindings/js/module.mjs';
 import { DEFERRED, FUNDAMENTAL, textOf } from '../bindings/js/patterns.mjs';
@@ -15,6 +16,7 @@ const INPUTS = ['prologue', 'interval', 'mode', 'window'];
 const page = { setup: link.read(location.hash, STARTED), plan: undefined, run: undefined, isStale: false };
 let busy = false;
 let addressing;
+let pictureWidth;
 let editor;
 /** What the scripts export that come after the first verdict, and what is made of them. */
 let late;
@@ -33,7 +35,7 @@ function showPicture() {
   at('picture').classList.toggle('old', !page.plan);
   at('shape-old').hidden = Boolean(page.plan);
   if (!page.plan) return;
-  at('picture').innerHTML = picture(page.plan, at('picture').clientWidth);
+  at('picture').innerHTML = picture(page.plan, pictureWidth);
   at('words').replaceChildren(...words(page.plan).map((line) => element('li', '', line)));
   showFacts(at('facts'), page.plan);
 }
@@ -44,14 +46,15 @@ const SECTION = (text) => text.split('\n')[0].replace(/:$/, '');
 function showOther() {
   const { value } = at('beside');
   if (!value || !page.plan) return at('other').replaceChildren();
-  const other = value.startsWith('own ') ? own.all()[Number(value.slice(4))] : textOf(value);
+  const other = value.startsWith('own ') ? own.all().find((text) => own.nameOf(text) === value.slice(4)) : textOf(value);
+  if (!other || !checkPattern(other).valid) return at('other').replaceChildren();
   return showBeside(at('other'), [SECTION(page.setup.text), page.setup.text], [SECTION(other), other]);
 }
 
 /** What can be shown beside: one's own patterns that are valid, then those of the standard. */
 function fillBeside() {
   const { value } = at('beside');
-  const mine = own.all().map((text, n) => new Option(`your ${own.nameOf(text)}`, `own ${n}`));
+  const mine = own.all().filter((text) => checkPattern(text).valid).map((text) => new Option(`your ${own.nameOf(text)}`, `own ${own.nameOf(text)}`));
   at('beside').replaceChildren(new Option('nothing', ''), ...mine, ...[...FUNDAMENTAL, ...DEFERRED].map((base) => new Option(base)));
   at('beside').value = value;
 }
@@ -215,7 +218,11 @@ function wire() {
   set('window', 'change', Number);
   at('beside').addEventListener('focus', fillBeside);
   at('beside').addEventListener('change', showOther);
-  addEventListener('resize', showPicture);
+  new ResizeObserver(() => {
+    if (pictureWidth === at('picture').clientWidth) return;
+    pictureWidth = at('picture').clientWidth;
+    showPicture();
+  }).observe(at('picture'));
   addEventListener('popstate', follow);
 }
 
@@ -229,6 +236,7 @@ try {
   sheet.replaceSync(STYLE);
   document.adoptedStyleSheets = [sheet];
   await load();
+  pictureWidth = at('picture').clientWidth;
   showInputs();
   wire();
   fillBeside();

@@ -1,10 +1,10 @@
 // The bytes of a message by piece. Each byte is a button that flips its lowest bit; one of them is reached by Tab, the others by the arrow keys.
-import { copier, element } from './element.mjs';
+import { element } from './element.mjs';
 import { hex } from './bytes.mjs';
 
-const MOST = 160;
-const HEAD = 64;
-const TAIL = 32;
+const MOST = 128;
+const HEAD = 48;
+const TAIL = 16;
 export const TITLES = {
   e: 'ephemeral key', s: 'static key, clear', sealed: 'static key, encrypted', tag: 'tag', payload: 'payload, clear', nonce: 'nonce', text: 'payload, encrypted',
 };
@@ -120,5 +120,5 @@ export function bytesView(run, item, name, changed) {
     moveTo(box, next);
     next.focus();
   });
-  return element('div', 'message', box, tells, copier(name, () => hex(item.message)));
+  return element('div', 'message', box, tells);
 }

@@ -62,6 +62,9 @@ export class Editor {
   #places = document.getElementById('places');
   #verdictOf;
   #mine = element('optgroup');
+  /** The text when the list of patterns got the focus, and whether another was chosen since. */
+  #chosen = { text: '', isOther: false };
+  #isReplacing = false;
 
   /** `changed(text, verdict, says)` is called after each change; `leaves()` before the page puts another pattern in the place of this one. */
   constructor(changed, leaves) {
@@ -73,6 +76,7 @@ export class Editor {
     };
     this.#mine.label = 'Your own';
     this.#pick.append(this.#mine, group('Fundamental (7.4, 7.5)', FUNDAMENTAL), group('Deferred (18.1)', DEFERRED));
+    this.#pick.addEventListener('focus', () => { if (!this.#isReplacing) this.#fillPick(); });
     this.#pick.addEventListener('change', () => this.#choose(this.#pick.value));
     for (let place = 0; place <= 8; place += 1) {
       const box = element('input');
@@ -90,11 +94,24 @@ export class Editor {
     if (!standardOf(this.text)) own.remember(this.text);
   }
 
+  /** The list of patterns has one's own first. It stays as it is while it has the focus, since the arrow keys go through it. */
+  #fillPick() {
+    const { text } = this;
+    const isStandard = standardOf(text) !== '';
+    this.#chosen = { text, isOther: false };
+    const mine = own.all().filter((it) => it !== text).map((it) => new Option(`your ${own.nameOf(it)}`, `own ${own.nameOf(it)}`));
+    const copied = new Option('make it your own', 'copy');
+    this.#mine.replaceChildren(...(isStandard ? [] : [new Option('this pattern', 'this')]), ...mine, ...(isStandard && mine.length === 0 ? [copied] : []));
+  }
+
   #choose(value) {
-    const text = value.startsWith('own ') ? own.all()[Number(value.slice(4))] : value === '' ? undefined : textOf(value);
+    const { text, isOther } = this.#chosen;
+    if (!isOther) this.leaves();
+    this.#chosen.isOther = true;
     this.#remember();
-    if (text !== undefined) this.leaves();
-    this.replace(text ?? this.text.replace(/^[A-Z0-9]*/, 'MINE'));
+    if (value === 'this') return this.replace(text);
+    if (value === 'copy') return this.replace(text.replace(/^[A-Z0-9]*/, 'MINE'));
+    return this.replace(value.startsWith('own ') ? own.all().find((it) => own.nameOf(it) === value.slice(4)) : textOf(value));
   }
 
   /** Sets the text at the start, without a way back. */
@@ -108,12 +125,14 @@ export class Editor {
     const [from, to, middle] = difference(this.#text.value, text);
     if (from === to && middle === '') return;
     const { activeElement } = document;
+    this.#isReplacing = true;
     this.#text.inputMode = 'none';    // no keyboard on the screen
     this.#text.focus({ preventScroll: true });
     this.#text.setSelectionRange(from, to);
     const isDone = middle === '' ? document.execCommand('delete') : document.execCommand('insertText', false, middle);
     this.#text.inputMode = '';
     if (activeElement && activeElement !== document.body) activeElement.focus({ preventScroll: true });
+    this.#isReplacing = false;
     if (!isDone || this.#text.value !== text) this.set(text);
   }
 
@@ -160,13 +179,20 @@ export class Editor {
     })));
   }
 
-  /** Shows which pattern of the standard this is, and which psk places it has. */
+  /** Shows which pattern of the standard this is. */
   #set(text) {
     const base = standardOf(text);
-    const mine = own.all();
-    const options = mine.map((it, n) => (it === text ? undefined : new Option(`your ${own.nameOf(it)}`, `own ${n}`))).filter(Boolean);
-    this.#mine.replaceChildren(...(base ? [] : [new Option('this pattern', 'this')]), ...options, ...(base && mine.length === 0 ? [new Option('make it your own', '')] : []));
+    if (!this.#isReplacing) this.#fillPick();
     this.#pick.value = base || 'this';
+    if (!base && text !== this.#chosen.text) this.#pick.value = `own ${own.nameOf(text)}`;
+    if (this.#pick.selectedIndex >= 0) return this.#setPlaces(text);
+    this.#mine.prepend(new Option('this pattern', 'this'));
+    this.#chosen.text = text;
+    this.#pick.value = 'this';
+    return this.#setPlaces(text);
+  }
+
+  #setPlaces(text) {
     const lines = linesOf(text);
     const messages = lines.length - 1 - Math.max(lines.findIndex(({ line }) => line === '  ...'), 0);
     const places = placesOf(text);

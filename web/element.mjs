@@ -6,7 +6,7 @@ export function element(name, cls, ...children) {
   return made;
 }
 
-/** A button that does something. `more` are properties and, after a colon, attributes. */
+/** A button that does something, unless it is switched off. */
 export function button(label, act, cls = '') {
   const made = element('button', cls, label);
   made.type = 'button';
@@ -20,13 +20,13 @@ export function enable(it, isEnabled) {
 }
 
 /** A button that copies a text. `what` says of what, for those who don't see where it is. */
-export function copier(what, textOf) {
-  const made = button('Copy', async () => {
+export function copier(what, textOf, label = 'Copy') {
+  const made = button(label, async () => {
     let isCopied = true;
     try { await navigator.clipboard.writeText(textOf()); } catch { isCopied = false; }
     made.textContent = isCopied ? 'Copied' : 'Not allowed';
-    setTimeout(() => { made.textContent = 'Copy'; }, 1500);
+    setTimeout(() => { made.textContent = label; }, 1500);
   }, 'copy');
-  made.setAttribute('aria-label', `Copy ${what}`);
+  made.setAttribute('aria-label', `${label}: ${what}`);
   return made;
 }

@@ -9,7 +9,7 @@ export const TABLE = Object.freeze({
   oneStatic: { says: 'Whoever has the {role}’s static private key{psk} can compute these keys.' },
   eitherStatic: { says: 'Whoever has the static private key of either party{psk} can compute these keys.' },
   bothStatics: { says: 'Whoever has the static private keys of both parties{psk} can compute these keys.' },
-  ephemeral: { says: 'ee is mixed, which is made of ephemeral keys alone.' },
+  ephemeral: { says: 'Of these, ee is made of ephemeral keys alone.' },
   clear: { says: 'The payload is in the clear: there is no key yet.' },
   noStatic: { says: 'No static key of the {role} takes part: the {other} can’t tell who it is.' },
   onlyPsk: { says: 'No static key of the {role} takes part: the {other} can tell only that it has the pre-shared secret.' },

@@ -66,7 +66,7 @@ export function showBeside(box, [nameA, textA], [nameB, textB]) {
     return element('tr', isOther ? 'other' : '', element('th', '', name, ...mark), cell('td', left), cell('td', right));
   });
   for (const row of rows) row.firstChild.scope = 'row';
-  const table = element('table', 'beside', headed('', nameA, nameB), element('tbody', '', ...rows));
+  const table = element('table', 'beside', headed('What', nameA, nameB), element('tbody', '', ...rows));
   const differs = count === 1 ? '1 row differs' : `${count} rows differ`;
   box.replaceChildren(element('p', '', count ? `${nameA} and ${nameB}: ${differs}.` : `${nameA} and ${nameB} are alike in all of these.`), table);
 }

@@ -124,19 +124,25 @@ export function picture(plan, given) {
   let y = 56 + height;
   plan.messages.forEach(({ from, pieces, length, known }, n) => {
     const [x1, x2] = from === 'initiator' ? [left + 4, right - 6] : [right - 4, left + 6];
-    const covered = `name, prologue, ${plan.before.initiator.length + plan.before.responder.length ? 'known keys, ' : ''}${coveredBy(n)}`;
-    body += text(middle, y + 10, 'ink', `${arrowOf(from)} message ${n + 1}: ${length} bytes + payload`, 'middle')
-      + `<path class="line" marker-end="url(#head)" d="M${x1} ${y + 20}H${x2}"/>${bar(pieces, middle - widthOf(pieces, scale) / 2, y + 30, scale)}`
-      + text(middle, y + 74, 'dim small', `${isNarrow ? 'hash' : 'the hash covers'}: ${covered}`, 'middle');
+    const keys = plan.before.initiator.length + plan.before.responder.length ? `${isNarrow ? '' : 'known '}keys, ` : '';
+    const covered = `name, prologue, ${keys}${coveredBy(n)}`;
+    body += [
+      text(middle, y + 10, 'ink', `${arrowOf(from)} message ${n + 1}: ${length} bytes + payload`, 'middle'),
+      `<path class="line" marker-end="url(#head)" d="M${x1} ${y + 20}H${x2}"/>`,
+      bar(pieces, middle - widthOf(pieces, scale) / 2, y + 30, scale),
+      text(middle, y + 74, 'dim small', `${isNarrow ? 'hash' : 'the hash covers'}: ${covered}`, 'middle'),
+    ].join('');
     const [columns, deep] = knows(known, isNarrow ? y + 92 : y + 40);
     body += columns;
     y += isNarrow ? 92 + deep + 12 : Math.max(92, 40 + deep + 10);
   });
   const lives = isNarrow ? '' : [left, right].map((x) => `<path class="life" d="M${x} 12V${y - 4}"/>`).join('');
-  return `<svg xmlns="http://www.w3.org/2000/svg" class="noise" width="${width}" height="${y}" viewBox="0 0 ${width} ${y}" role="img" aria-labelledby="picture-title" `
-    + `aria-describedby="picture-desc"><title id="picture-title">The handshake ${escape(plan.section)}</title><desc id="picture-desc">${escape(words(plan).join(' '))}</desc>`
-    + '<defs><marker id="head" viewBox="0 0 8 8" refX="7" refY="4" markerWidth="8" markerHeight="8" orient="auto"><path class="dim" d="M0 0L8 4L0 8z"/></marker></defs>'
-    + `<rect class="bg" width="${width}" height="${y}"/>${lives}${body}</svg>`;
+  return [
+    `<svg xmlns="http://www.w3.org/2000/svg" class="noise" width="${width}" height="${y}" viewBox="0 0 ${width} ${y}" role="img" aria-labelledby="picture-title" `,
+    `aria-describedby="picture-desc"><title id="picture-title">The handshake ${escape(plan.section)}</title><desc id="picture-desc">${escape(words(plan).join(' '))}</desc>`,
+    '<defs><marker id="head" viewBox="0 0 8 8" refX="7" refY="4" markerWidth="8" markerHeight="8" orient="auto"><path class="dim" d="M0 0L8 4L0 8z"/></marker></defs>',
+    `<rect class="bg" width="${width}" height="${y}"/>${lives}${body}</svg>`,
+  ].join('');
 }
 
 /** The picture as a file of its own. */

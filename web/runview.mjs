@@ -7,8 +7,8 @@ import { scheduleOf } from './schedule.mjs';
 import { CHIPS, fateOf, messageName, named, sentenceOf } from './sentences.mjs';
 
 /** How many of the newest entries are open, and how many are shown unless more are asked for. */
-const OPEN = 4;
-const SHOWN = 16;
+const OPEN = 3;
+const SHOWN = 12;
 
 const COLUMNS = ['Step', 'h', 'ck', 'k', 'n'];
 const HEX = /^[0-9a-f]{64}$/;
@@ -39,7 +39,7 @@ function scheduleDetails(run, entry, name) {
       const lines = entries.get(entry);
       if (made.childElementCount > 1) return;
       if (!lines.length) return made.append(element('p', '', 'No step of the key schedule belongs to it.'));
-      made.append(scheduleTable(lines), copier(`the key schedule of ${name} as a log`, () => lines.map((line) => `${line}\n`).join('')),
+      made.append(scheduleTable(lines), copier(`the key schedule of ${name}`, () => lines.map((line) => `${line}\n`).join(''), 'Copy as log'),
         element('p', 'hint', 'Secrets of this run, as noise trace prints them: h is the library’s, ck and k are worked out by this page.'));
     } catch (error) {
       made.append(element('p', 'bad', `This page can’t work it out: ${error.message}.`));
@@ -66,6 +66,7 @@ function deliverRow(run, entry, act) {
     const count = () => Math.max(0, Math.min(item.message.length + 1, Math.floor(Number(place.value)) || 0));
     row.append(button('Cut the connection after', () => act(() => run.cut(to, item.n, count()))), element('label', '', place, ' bytes'));
   }
+  row.append(copier(name, () => hex(item.message)));
   const show = () => {
     const { size } = item.flips;
     const [at] = item.flips;

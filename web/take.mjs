@@ -31,6 +31,7 @@ export class Take {
   #page;
   #language = 'C';
   #shown = '';
+  #coding;
 
   /** `page` has `setup`, `plan`, `run` and `text`. */
   constructor(page) {
@@ -64,7 +65,13 @@ export class Take {
     for (const id of ['save-vector', 'copy-run', 'copy-log']) enable(at(id), run && !this.#page.isStale);
     at('code').classList.toggle('old', !plan);
     at('code-old').hidden = Boolean(plan);
-    if (!plan) return;
+    clearTimeout(this.#coding);
+    this.#coding = setTimeout(() => this.#showCode(), 0);
+  }
+
+  /** The program, once the keys that came have been seen to. */
+  #showCode() {
+    if (!this.#page.plan) return;
     const { text } = this.#program();
     if (text === this.#shown) return;
     this.#shown = text;

@@ -51,10 +51,12 @@ export async function axe(page) {
       await check(page, text, `at ${width}, ${dark}`);
       runs += 1;
     }
+    if (![320, 1440].includes(width)) continue;
     await page.type('prologue', 'another');
     await page.type('text', 'MINE:\n  <- s\n  -> e, es\n');
     await check(page, text, `at ${width}, with a fault and an old run`);
     runs += 1;
+    await scheme(width === 320 ? 'dark' : 'light');
     for (const name of ['rules', 'format', 'mistakes']) {
       await browser.open(`${page.url}${name}.html`);
       await browser.until('document.readyState === "complete" && document.querySelector("article") !== null');

@@ -116,7 +116,7 @@ async function datagrams() {
   for (const n of [4, 3]) await page.deliver(n);
   await page.deliver(3);
   assert.match(await page.last(), /datagram 1 of the initiator: a datagram of its nonce was opened/);
-  await page.deliver(5, [30]);
+  await page.deliver(5, [20]);
   assert.match(await page.last(), /^refused/);
   assert.equal(await page.evaluate('document.querySelectorAll(".window i.opened, .window i.top").length'), 2);
   await page.save('datagrams');
@@ -134,7 +134,8 @@ async function long() {
   await page.passAll();
   await page.type('payload', 'a'.repeat(2000));
   for (let n = 0; n < 30; n += 1) await page.write('initiator');
-  assert.ok(await page.evaluate('document.getElementById("log").offsetHeight') < 3500, 'a long run makes a long page');
+  const height = await page.evaluate('document.getElementById("log").offsetHeight');
+  assert.ok(height < 3500, `a long run makes a long page: ${height} px`);
   assert.ok(await page.evaluate('document.querySelector("#log li").offsetHeight') < 450, 'a long payload makes a long entry');
   await page.click('#log li:first-child .bytes .more');
   assert.equal(await page.evaluate('document.querySelectorAll("#log li:first-child .bytes [data-at]").length'), 2016);

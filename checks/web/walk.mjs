@@ -74,15 +74,16 @@ export class Walk {
     assert.match(await this.text(), /^NKpsk2:[^]*ee, psk/);
     await hand.undo();
     assert.match(await this.text(), /^NK:[^]*ee\n/);
-    await hand.undo();
+    // By the arrow keys each pattern on the way was chosen.
+    for (let n = 0; n < 12 && await this.text() !== MENDED; n += 1) await hand.undo();
     assert.equal(await this.text(), MENDED);
     await hand.choose('#pick', 'XX');
     assert.match(await this.text(), /^XX:/);
     await this.page.evaluate('history.back()');
     await this.until(`document.getElementById("text").value === ${quoted(MENDED)}`);
     await hand.choose('#pick', 'XX');
-    const mine = await this.page.evaluate('[...document.querySelectorAll("#pick option")].find((it) => it.textContent === "your MINE").value');
-    await hand.choose('#pick', mine);
+    await hand.reach('#text');
+    await hand.choose('#pick', 'own MINE');
     assert.equal(await this.text(), MENDED);
   }
 
@@ -97,7 +98,7 @@ export class Walk {
     await this.write('responder');
     assert.equal(await this.page.newest('.fate'), 'not delivered');
     await hand.flip('#log li:first-child .bytes', 40);
-    assert.match(await this.page.newest('.piece'), /^byte 40: static key, encrypted \(bytes 32 to 79\), changed/);
+    assert.match(await this.page.newest('.piece'), /^byte 40: static key, encrypted \(bytes 32 to 63\), changed/);
     assert.match(await this.page.newest('.go'), /^Deliver with byte 40 changed/);
     await this.deliver(4);
     assert.match(await this.of('said'), /^4\. Initiator refused message 2, token s: a tag is wrong\. Changed on the way: byte 40\. Its handshake has ended\.$/);
@@ -111,7 +112,7 @@ export class Walk {
     assert.deepEqual(steps, ['e (MixHash)', 'ee (MixKey)', 's (EncryptAndHash)', 'es (MixKey)', 'payload (EncryptAndHash)']);
     await hand.press('#log li:nth-child(2) details.keys .copy');
     assert.match(await this.clipboard(/^trace /), /^trace responder 0?1? ?\d e MixHash 0 [0-9a-f]{64} [0-9a-f]{64} [0-9a-f]{64} - 0\n/);
-    await hand.press('#log li:nth-child(2) .message > .copy');
+    await hand.press('#log li:nth-child(2) .deliver .copy');
     assert.match(await this.clipboard(/^[0-9a-f]*$/), /^[0-9a-f]{192,}$/);
   }
 
