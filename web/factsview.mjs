@@ -28,10 +28,10 @@ export function showFacts(box, plan) {
   box.replaceChildren(table, list, element('p', 'hint', UNJUDGED));
 }
 
-/** The warnings of a pattern, each once. */
+/** The warnings of a pattern. */
 export function warningsOf(plan) {
   const { moments, facts } = judge(plan);
-  return [...new Set([...moments.map(({ fact }) => fact), ...facts].filter(warns).map(sentence))];
+  return [...moments.filter(({ fact }) => warns(fact)).map((moment) => `${nameOf(moment)}: ${sentence(moment.fact)}`), ...facts.filter(warns).map(sentence)];
 }
 
 /** What is shown of a pattern beside another one, each with a name: `[name, text]`. */

@@ -17,9 +17,9 @@ export const STYLE = `
     .noise .ink,.noise .dim{fill:CanvasText}
   }
 `;
-const PAYLOAD = 58;
-const MIXED = 32;
-const LEAST = { true: 316, false: 620 };
+/** How wide a payload, and something mixed in, is drawn, how wide a byte is at least, and how wide the picture. */
+const WIDE = { payload: 58, mixed: 32, byte: 1.05, least: 620 };
+const NARROW = { payload: 54, mixed: 29, byte: 0.9, least: 250 };
 const escape = (s) => String(s).replace(/[&<>"]/g, (c) => ({ '&': '&amp;', '<': '&lt;', '>': '&gt;', '"': '&quot;' })[c]);
 const text = (x, y, cls, value, anchor = 'start') => `<text x="${x.toFixed(1)}" y="${y.toFixed(1)}" class="${cls}" text-anchor="${anchor}">${escape(value)}</text>`;
 
@@ -72,21 +72,21 @@ function columnLines(known, role, most) {
 }
 
 /** One piece: what it is called, how wide it is, its class and its label. */
-function drawn(piece, scale) {
+function drawn(piece, scale, sizes) {
   const { kind, sealed, length } = piece;
-  if (kind === 'payload') return { width: PAYLOAD, cls: `payload${sealed ? ' sealed' : ''}`, label: 'payload', ink: 'ink' };
-  if (length === 0) return { width: MIXED, cls: 'dh', label: kind, ink: 'ink', isMixed: true };
+  if (kind === 'payload') return { width: sizes.payload, cls: `payload${sealed ? ' sealed' : ''}`, label: 'payload', ink: 'ink' };
+  if (length === 0) return { width: sizes.mixed, cls: 'dh', label: kind, ink: 'ink', isMixed: true };
   return { width: length * scale, cls: kind === 's' && sealed ? 'sealed' : kind, label: kind === 'tag' ? '16' : `${kind} ${length}`, ink: 'on' };
 }
 
-const widthOf = (pieces, scale) => pieces.reduce((sum, piece) => sum + drawn(piece, scale).width, 0);
+const widthOf = (pieces, scale, sizes) => pieces.reduce((sum, piece) => sum + drawn(piece, scale, sizes).width, 0);
 
 /** A bar of pieces to scale. A payload, whose length is open, has a width of its own. */
-function bar(pieces, x0, y, scale) {
+function bar(pieces, x0, y, scale, sizes) {
   let x = x0;
   return pieces.map((piece) => {
-    const { width, cls, label, ink, isMixed } = drawn(piece, scale);
-    const [left, wide, round] = isMixed ? [x + 2, width - 4, ' rx="13"'] : [x, width, ''];
+    const { width, cls, label, ink, isMixed } = drawn(piece, scale, sizes);
+    const [left, wide, round] = isMixed ? [x + 1.5, width - 3, ' rx="13"'] : [x, width, ''];
     const middle = x + width / 2;
     x += width;
     return `<g><title>${escape(pieceName(piece))}</title><rect x="${left.toFixed(1)}" y="${y}" width="${wide.toFixed(1)}" height="26"${round} class="${cls}"/>`
@@ -97,16 +97,17 @@ function bar(pieces, x0, y, scale) {
 /** How many units wide the picture has to be, and how many units a byte is. */
 function measure(plan, given) {
   const isNarrow = given < 620;
-  const side = isNarrow ? 10 : 165;
-  const wanted = plan.messages.map(({ pieces }) => ({ fixed: widthOf(pieces, 0), bytes: pieces.reduce((sum, { length }) => sum + length, 0) }));
-  const width = Math.max(given, LEAST[isNarrow], ...wanted.map(({ fixed, bytes }) => Math.ceil(2 * side + 16 + fixed + 1.05 * bytes)));
-  const scale = Math.min(2.4, ...wanted.map(({ fixed, bytes }) => (width - 2 * side - 16 - fixed) / Math.max(bytes, 1)));
-  return { isNarrow, side, width, scale };
+  const sizes = isNarrow ? NARROW : WIDE;
+  const around = isNarrow ? 8 : 2 * 165 + 16;
+  const wanted = plan.messages.map(({ pieces }) => ({ fixed: widthOf(pieces, 0, sizes), bytes: pieces.reduce((sum, { length }) => sum + length, 0) }));
+  const width = Math.max(given, sizes.least, ...wanted.map(({ fixed, bytes }) => Math.ceil(around + fixed + sizes.byte * bytes)));
+  const scale = Math.min(2.4, ...wanted.map(({ fixed, bytes }) => (width - around - fixed) / Math.max(bytes, 1)));
+  return { isNarrow, side: isNarrow ? 10 : 165, width, scale, sizes };
 }
 
 /** The picture, at least so many units wide: a unit is a pixel, so that its text has the size of the page's. */
 export function picture(plan, given) {
-  const { isNarrow, side, width, scale } = measure(plan, Math.floor(given));
+  const { isNarrow, side, width, scale, sizes } = measure(plan, Math.floor(given));
   const [left, right, middle] = [side, width - side, width / 2];
   const most = Math.floor((isNarrow ? width / 2 - 16 : side - 14) / 6.4);
   const outer = { initiator: [8, 'start'], responder: [width - 8, 'end'] };
@@ -125,13 +126,15 @@ export function picture(plan, given) {
   plan.messages.forEach(({ from, pieces, length, known }, n) => {
     const [x1, x2] = from === 'initiator' ? [left + 4, right - 6] : [right - 4, left + 6];
     const keys = plan.before.initiator.length + plan.before.responder.length ? `${isNarrow ? '' : 'known '}keys, ` : '';
-    const covered = `name, prologue, ${keys}${coveredBy(n)}`;
+    const whole = [`${isNarrow ? 'hash' : 'the hash covers'}: name, prologue, ${keys}`, coveredBy(n)];
+    const covered = width < 340 ? whole.map((line) => line.trimEnd()) : [whole.join('')];
     body += [
       text(middle, y + 10, 'ink', `${arrowOf(from)} message ${n + 1}: ${length} bytes + payload`, 'middle'),
       `<path class="line" marker-end="url(#head)" d="M${x1} ${y + 20}H${x2}"/>`,
-      bar(pieces, middle - widthOf(pieces, scale) / 2, y + 30, scale),
-      text(middle, y + 74, 'dim small', `${isNarrow ? 'hash' : 'the hash covers'}: ${covered}`, 'middle'),
+      bar(pieces, middle - widthOf(pieces, scale, sizes) / 2, y + 30, scale, sizes),
+      ...covered.map((line, row) => text(middle, y + 74 + 15 * row, 'dim small', line, 'middle')),
     ].join('');
+    y += 15 * (covered.length - 1);
     const [columns, deep] = knows(known, isNarrow ? y + 92 : y + 40);
     body += columns;
     y += isNarrow ? 92 + deep + 12 : Math.max(92, 40 + deep + 10);

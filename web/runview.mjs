@@ -202,5 +202,5 @@ export function showWindows(box, run) {
 /** Greys a run whose set-up isn't the one above any more: nothing more happens in it. */
 export function showStale(section, isStale) {
   section.classList.toggle('stale', isStale);
-  for (const it of section.querySelectorAll('#log .deliver button')) enable(it, !isStale);
+  for (const it of section.querySelectorAll('#log .deliver button:not(.copy)')) enable(it, !isStale);
 }

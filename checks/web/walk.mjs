@@ -47,7 +47,7 @@ export class Walk {
     assert.match(await this.of('facts'), /Message 1es.*Whoever has the responder’s static private key can compute these keys/);
     assert.match(await this.of('facts'), /No static key of the initiator takes part.*Message 1 can be replayed.*Noise Explorer/);
     await hand.type('#text', 'MINE:\n  -> e\n  <- e\n');
-    assert.match(await this.of('verdict'), /Warning: No DH is mixed: everybody can compute these keys/);
+    assert.match(await this.of('verdict'), /Warning: Transport: No DH is mixed: everybody can compute these keys/);
     assert.equal(await this.page.evaluate('document.querySelectorAll("#facts tr.warns").length'), 1);
     await hand.undo();
     assert.equal(await this.text(), MENDED);
