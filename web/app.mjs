@@ -201,7 +201,7 @@ function wireRun() {
     for (const it of document.querySelectorAll(`[data-${name}]`)) onPress(it, () => act(() => work(it.dataset[name])));
   };
   wired('start', begin);
-  wired('again', begin);
+  wired('again', () => begin().then(() => at('start').focus()));
   wired('back', () => { Object.assign(page.setup, page.run.given); editor.replace(page.setup.text); changed(); at('start').focus(); });
   wired('all', () => act(() => page.run.passAll(payload)));
   wired('close', () => act(() => page.run.close()));

@@ -24,6 +24,16 @@ async function check(page, text, what) {
   assert.deepEqual(violations, [], what);
 }
 
+/** Controls whose border has less than 3:1 to what is around it. */
+const BORDERS = `(() => {
+  const parts = (colour) => colour.match(/[\\d.]+/g).slice(0, 3).map((it) => it / 255).map((it) => (it <= 0.04045 ? it / 12.92 : ((it + 0.055) / 1.055) ** 2.4));
+  const light = (colour) => { const [r, g, b] = parts(colour); return 0.2126 * r + 0.7152 * g + 0.0722 * b; };
+  const ratio = (a, b) => { const [x, y] = [light(a), light(b)].sort((p, q) => q - p); return (x + 0.05) / (y + 0.05); };
+  const all = [...document.querySelectorAll('input:not([type=checkbox]), select, .editor, button:not(.bytes button)')];
+  const shown = all.filter((it) => it.offsetHeight && it.getAttribute('aria-disabled') !== 'true');
+  return shown.filter((it) => ratio(getComputedStyle(it).borderTopColor, getComputedStyle(it.closest('section')).backgroundColor) < 3).map((it) => it.outerHTML.slice(0, 100));
+})()`;
+
 /** A page with a bit of all: a run with a refusal, a key schedule, two patterns beside each other, a fault. */
 async function fill(page) {
   await page.open('#pattern=IK%3A%0A++%3C-+s%0A++...%0A++-%3E+e%2C+es%2C+s%2C+ss%0A++%3C-+e%2C+ee%2C+se%0A&mode=stream');
@@ -49,6 +59,7 @@ export async function axe(page) {
     for (const dark of ['light', 'dark']) {
       await scheme(dark);
       await check(page, text, `at ${width}, ${dark}`);
+      assert.deepEqual(await page.evaluate(BORDERS), [], `borders at ${width}, ${dark}`);
       runs += 1;
     }
     if (![320, 1440].includes(width)) continue;

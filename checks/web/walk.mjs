@@ -156,6 +156,7 @@ export class Walk {
     await hand.choose('#mode', 'stream');
     await hand.press('#again');
     await this.until('document.getElementById("log").childElementCount === 0');
+    await this.until('document.activeElement.id === "start"');
     await hand.press('#all');
     await this.until('document.getElementById("log").childElementCount === 4');
     await this.write('initiator');

@@ -1,4 +1,4 @@
-// A pattern as a program in JavaScript, over bindings/js/noise.mjs.
+// A pattern as a program in JavaScript, over the package of bindings/js.
 import { lines } from './text.mjs';
 
 const quoted = (text) => `'${JSON.stringify(text).slice(1, -1).replaceAll('\\"', '"').replaceAll("'", "\\'")}'`;
@@ -83,8 +83,8 @@ export function javascript(facts) {
   const imported = [isDatagrams && 'Handshake', isKeyed && 'KeyPair', !isDatagrams && 'NoiseSocket', 'load'].filter(Boolean);
   const pattern = isNamed ? `'${section}'` : `[\n${facts.lines.map((line) => `  '${line}',`).join('\n')}\n  '',\n].join('\\n')`;
   return lines(
-    `// The pattern ${section}: both parties in one program, ${name}.mjs, beside noise.mjs of bindings/js.`,
-    `import { ${imported.join(', ')} } from './noise.mjs';`, '',
+    `// The pattern ${section}: both parties in one program, ${name}.mjs. docs/JAVASCRIPT.md says how the package is installed.`,
+    `import { ${imported.join(', ')} } from 'yulimosar';`, '',
     'const bytes = (it) => new TextEncoder().encode(it);',
     'const text = (it) => new TextDecoder().decode(it);', '',
     'await load();',
