@@ -101,7 +101,7 @@ export function channels([near, far], client = NN, server = client) {
 }
 
 /** What becomes of a promise: its value, or the name of its error, or 'pending' after so many milliseconds. */
-export async function outcome(promise, milliseconds = 2000) {
+export async function outcome(promise, milliseconds = 60000) {
   let timer;
   const late = new Promise((resolve) => { timer = setTimeout(() => resolve('pending'), milliseconds); });
   const settled = promise.then((value) => value, ({ name }) => name);

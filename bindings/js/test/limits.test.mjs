@@ -65,7 +65,7 @@ test('limits', { timeout: 300000 }, async (t) => {
     let judged;
     const isJudged = new Promise((resolve) => { judged = resolve; });
     const judge = () => { judged(); return new Promise(() => {}); };
-    const opened = outcome(NoiseSocket.open(near, { pattern: 'XX', staticKey, responder: true, judge }), 5000);
+    const opened = outcome(NoiseSocket.open(near, { pattern: 'XX', staticKey, responder: true, judge }));
     const peer = NoiseSocket.open(far, { pattern: 'XX', staticKey, acceptAnyKey: true });
     await Promise.all([isJudged, peer]);
     const message = new Uint8Array(65519);
@@ -79,7 +79,7 @@ test('limits', { timeout: 300000 }, async (t) => {
     await once(near, 'close');
     assert.equal(await opened, 'NOISE_BACKLOG');    // though judge hasn't answered
     const [here, there] = openSockets();
-    const refusal = outcome(NoiseSocket.open(here, { ...NN, responder: true }), 5000);
+    const refusal = outcome(NoiseSocket.open(here, { ...NN, responder: true }));
     for (let n = 0; n < 1000; n += 1) here.take(message);
     assert.match(await refusal, /^NOISE_(BACKLOG|TOO_LONG)$/u);
     assert.deepEqual(EVENTS.map((it) => here.listeners(it)), [0, 0, 0]);
