@@ -10,7 +10,7 @@ const bytes = (text) => new TextEncoder().encode(text);
 
 /** A connection, once the server listens. */
 async function connection() {
-  for (let n = 0; n < 100; n += 1) {
+  for (let n = 0; n < 600; n += 1) {
     const socket = connect(4041, '127.0.0.1');
     const said = await new Promise((resolve) => { socket.once('connect', () => resolve('connected')).once('error', resolve); });
     if (said === 'connected') return socket;

@@ -49,7 +49,7 @@ function options({ pattern, responder }, { own, other, psk }) {
   const plan = layout(pattern);
   const [role, remote] = responder ? ['responder', 'initiator'] : ['initiator', 'responder'];
   return {
-    pattern, responder, prologue: new TextEncoder().encode('live'), signal: AbortSignal.timeout(20000),
+    pattern, responder, prologue: new TextEncoder().encode('live'), signal: AbortSignal.timeout(120000),
     staticKey: plan.static[role] ? own : undefined,
     remoteStatic: plan.before[remote].includes('s') ? other.publicKey : undefined,
     psks: psk === '-' ? [] : [new Uint8Array(Buffer.from(psk, 'hex'))],

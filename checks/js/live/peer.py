@@ -201,7 +201,7 @@ class End:
                 self.connection.sendall(framed(cipher.encrypt(payload[at : at + size])))
                 at += size
             if self.order == "waits":
-                self.over.wait(20)
+                self.over.wait(120)
                 if not self.other_ended:
                     return
             self.ended = True
@@ -261,7 +261,7 @@ def main():
         print("%s:%d" % listener.getsockname(), flush=True)
     for _ in range(words.count):
         connection = listener.accept()[0] if listens else socket.create_connection((host, int(port)))
-        connection.settimeout(20)
+        connection.settimeout(120)
         End(connection, words, not listens).run()
 
 

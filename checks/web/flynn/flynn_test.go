@@ -183,7 +183,7 @@ func meet(t *testing.T, program string, words []string, initiator bool) (*end, f
 		conn, err = l.Accept()
 		must(t, err)
 	}
-	conn.SetDeadline(time.Now().Add(20 * time.Second))
+	conn.SetDeadline(time.Now().Add(2 * time.Minute))
 	t.Cleanup(func() { conn.Close() })
 	return &end{Conn: conn}, cmd.Wait
 }

@@ -90,7 +90,7 @@ func each(w words, open func(net.Conn) (stream, error)) {
 	for i := 0; i < w.count; i++ {
 		conn, err := next()
 		fail(err)
-		fail(conn.SetDeadline(time.Now().Add(20 * time.Second)))
+		fail(conn.SetDeadline(time.Now().Add(2 * time.Minute)))
 		r := report{sum: sha256.New().Sum(nil)}
 		s, err := open(conn)
 		if r.failedError = err; err == nil {

@@ -126,7 +126,7 @@ fn main() -> io::Result<()> {
             None => TcpStream::connect(&words.address)?,
         };
         for set in [TcpStream::set_read_timeout, TcpStream::set_write_timeout] {
-            set(&below, Some(Duration::from_secs(20)))?;
+            set(&below, Some(Duration::from_secs(120)))?;
         }
         let refused = |_| Report { count: 0, sum: sha256(b""), other_ended: false, ended: false, error: "refused" };
         let Report { count, sum, other_ended, ended, error } =
