@@ -20,6 +20,7 @@ func join(o *options) error {
 		return err
 	}
 	if o.connect != "" {
+		o.warn()
 		below, err := net.DialTimeout("tcp", o.connect, o.timeout)
 		if err != nil {
 			return err
@@ -38,8 +39,9 @@ func join(o *options) error {
 		return err
 	}
 	if o.verbose || strings.HasSuffix(o.listen, ":0") {
-		fmt.Fprintln(os.Stderr, "listening on", l.Addr())
+		fmt.Fprintln(os.Stderr, "listening on", l.Addr()) // the first line
 	}
+	o.warn()
 	return o.serve(l, config)
 }
 

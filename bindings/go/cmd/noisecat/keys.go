@@ -79,11 +79,13 @@ func pubkey(words []string) error {
 // withoutName returns the text of an error without the package's name.
 func withoutName(err error) string { return strings.TrimPrefix(err.Error(), "noise: ") }
 
-// warn says if others can read a file.
-func warn(name string) {
-	info, err := os.Stat(name)
-	if err == nil && runtime.GOOS != "windows" && info.Mode().IsRegular() && info.Mode().Perm()&0o077 != 0 {
-		fmt.Fprintf(os.Stderr, "noisecat: warning: others can read %s (mode %04o): chmod 600 %s\n", name, info.Mode().Perm(), name)
+// warn says which files of keys and psks others can read.
+func (o *options) warn() {
+	for _, name := range append(strings.Split(o.psk, ","), o.key) {
+		info, err := os.Stat(name)
+		if err == nil && runtime.GOOS != "windows" && info.Mode().IsRegular() && info.Mode().Perm()&0o077 != 0 {
+			fmt.Fprintf(os.Stderr, "noisecat: warning: others can read %s (mode %04o): chmod 600 %s\n", name, info.Mode().Perm(), name)
+		}
 	}
 }
 
@@ -97,7 +99,6 @@ func (o *options) config() (*noise.Config, error) {
 		c.Pattern = string(text)
 	}
 	if o.key != "" {
-		warn(o.key)
 		key, err := noise.LoadKeyPair(o.key)
 		if err != nil {
 			return nil, err
@@ -121,7 +122,6 @@ func (o *options) setPSKs(c *noise.Config) error {
 		return nil
 	}
 	for _, name := range strings.Split(o.psk, ",") {
-		warn(name)
 		text, err := os.ReadFile(name)
 		if err != nil {
 			return err

@@ -483,10 +483,7 @@ func TestKeyThatOthersCanRead(t *testing.T) {
 			t.Fatal(err)
 		}
 	}
-	run := cat("-key", "s", "-allow", own)
-	run.Args = append(run.Args, "-listen", "127.0.0.1:1x")
-	client(run, &ends[0])
-	client(to(server)("127.0.0.1:1x"), &ends[1])
+	run2(t, cat("-key", "s", "-allow", own), to(server), &ends)
 	for i, want := range []string{"warning: others can read s (mode 0640): chmod 600 s\n", "warning: others can read c (mode 0604): chmod 600 c\n"} {
 		if said := ends[i].said.String(); !strings.Contains(said, want) {
 			t.Errorf("%q, want %q", said, want)
