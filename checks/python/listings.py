@@ -1,5 +1,5 @@
-"""Writes the listings of docs/PYTHON.md as programs: listings.py FOLDER. server.py and client.py are as they stand, at a
-free port; pieces.py runs the others."""
+"""Writes the listings of docs/PYTHON.md as programs: listings.py FOLDER. server.py and client.py are as they stand, at
+a free port; pieces.py runs the others."""
 import re
 import socket
 import sys
@@ -12,7 +12,7 @@ import threading
 from collections.abc import AsyncIterator
 from typing import Any, Protocol
 
-from yulimosar import Channel, Config, Data, End, Event, Handshake, Pending, accept, connect, open_connection, start_server
+from yulimosar import Channel, Config, Data, End, Event, Handshake, Pending, accept, connect, start_server
 
 
 class trio:

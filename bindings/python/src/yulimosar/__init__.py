@@ -27,10 +27,10 @@ if TYPE_CHECKING:
 __version__ = "1.0.0"
 __all__ = [
     "Agreed", "CallError", "Channel", "ChannelCut", "CipherState", "Code", "Config", "ConfigError", "DH", "Data",
-    "Datagrams", "End", "Event", "Fault", "Handshake", "HandshakeTimeout", "KeyPair", "Layout", "LowOrderKey", "MAX_DATAGRAM",
-    "MAX_MESSAGE", "MAX_PAYLOAD", "Message", "MessageRefused", "NoiseError", "NoiseSocket", "PeerRefused", "Pending",
-    "Piece", "PskWanted", "Reader", "Receiver", "Sender", "Writer", "accept", "check_pattern", "connect", "layout",
-    "open_connection", "start_server",
+    "Datagrams", "End", "Event", "Fault", "Handshake", "HandshakeTimeout", "KeyPair", "Layout", "LowOrderKey",
+    "MAX_DATAGRAM", "MAX_MESSAGE", "MAX_PAYLOAD", "Message", "MessageRefused", "NoiseError", "NoiseSocket",
+    "PeerRefused", "Pending", "Piece", "PskWanted", "Reader", "Receiver", "Sender", "Writer", "accept",
+    "check_pattern", "connect", "layout", "open_connection", "start_server",
 ]
 
 _STREAMS = {"Reader", "Writer", "open_connection", "start_server"}
