@@ -3,6 +3,16 @@ import assert from 'node:assert/strict';
 
 const quoted = JSON.stringify;
 
+/** How many presses of Tab a control is away, about: fewer than 0 if it is before the focus. */
+const DISTANCE = `(selector) => {
+  const to = document.querySelector(selector);
+  if (!to) throw new Error('there is no ' + selector);
+  const stops = [...document.querySelectorAll('a[href], button, input, select, textarea, summary, [tabindex="0"]')]
+    .filter((it) => it.tabIndex >= 0 && !it.disabled && it.checkVisibility({ visibilityProperty: true }));
+  const from = stops.indexOf(document.activeElement);
+  return from < 0 ? 0 : stops.indexOf(to) - from;
+}`;
+
 class Hand {
   constructor(browser) {
     this.browser = browser;
@@ -28,13 +38,13 @@ class Hand {
 export class Keyboard extends Hand {
   name = 'the keyboard';
 
-  /** Goes on by Tab from where the focus is: backwards if the control is before it. */
+  /** Goes on by Tab from where the focus is: backwards if the control is before it. Most of the way it doesn't look. */
   async reach(selector) {
     const is = `document.activeElement.matches(${quoted(selector)})`;
-    const isBefore = await this.evaluate(`(() => { const it = document.querySelector(${quoted(selector)});
-      if (!it) throw new Error('there is no ' + ${quoted(selector)});
-      return Boolean(document.activeElement !== document.body && (document.activeElement.compareDocumentPosition(it) & Node.DOCUMENT_POSITION_PRECEDING)); })()`);
-    for (let n = 0; n < 150 && !await this.evaluate(is); n += 1) await this.browser.press('Tab', undefined, isBefore ? 8 : 0);
+    const far = await this.evaluate(`(${DISTANCE})(${quoted(selector)})`);
+    const back = far < 0 ? 8 : 0;
+    for (let n = 1; n < Math.abs(far); n += 1) await this.browser.press('Tab', undefined, back);
+    for (let n = 0; n < 150 && !await this.evaluate(is); n += 1) await this.browser.press('Tab', undefined, back);
     assert.ok(await this.evaluate(is), `Tab doesn't reach ${selector}: it is at ${await this.evaluate('document.activeElement.outerHTML.slice(0, 120)')}`);
   }
 
