@@ -153,10 +153,10 @@ returns-in-Refused c =
     let refused = sym c.in-Err-Declined.fault-is ∙ c.in-Refused.is in
     let within : (14 ≤ code) × (code ≤ 16) = refused-within fault code _ _ is refused in
     let far : (p : Plan) (v : View) → KeepsView old p v → code ≡ 14 → ⊥ = λ p v k e.
-        let r = c.in-Err-Declined.ensures.reads v k.later (stands-for old h p v c.in-Some.ensures.one c.in-Some.ensures.same k) in
-        let d = subst (λ (u : LateUnread). LeavesLateUnread v (length h.secrets) c.args.message.now u) c.in-Err-Declined.field-0-is r.0 in
-        let why = agreement-of v c.args.message.now fault (sym is ∙ e) d.0 in
-        d.1 why.0 why.1 in
+    let r = c.in-Err-Declined.ensures.reads v k.later (stands-for old h p v c.in-Some.ensures.one c.in-Some.ensures.same k) in
+    let d = subst (λ (u : LateUnread). LeavesLateUnread v (length h.secrets) c.args.message.now u) c.in-Err-Declined.field-0-is r.0 in
+    let why = agreement-of v c.args.message.now fault (sym is ∙ e) d.0 in
+    d.1 why.0 why.1 in
     record {
       unusable = (not-after code 16 23 within.1 refl, λ none. absurd (none (c.in-Some.ensures.usable.0 refl)));
       length = (not-after code 16 24 within.1 refl, λ w. too-long (length c.args.message.now) 65535 w.0 c.if-message-gt-MESSAGE_MAX.false);
