@@ -3,6 +3,7 @@ package noise
 import (
 	"bytes"
 	"math"
+	"sync"
 	"testing"
 )
 
@@ -147,4 +148,41 @@ func TestCipherStateRefusals(t *testing.T) {
 	must(t, err)
 	_, _, err = h.CipherStates()
 	wants(t, err, ErrNotDone)
+}
+
+// TestCipherStateOfManyGoroutines encrypts from several goroutines at once: each nonce has been used, once.
+func TestCipherStateOfManyGoroutines(t *testing.T) {
+	s, r, _ := ciphers(t, "NN")
+	const each = 40
+	made := make(chan []byte, 4*each)
+	var group sync.WaitGroup
+	for i := 0; i < 4; i++ {
+		group.Add(1)
+		go func() {
+			defer group.Done()
+			for i := 0; i < each; i++ {
+				message, err := s.Encrypt(nil, nil, []byte("text"))
+				if err != nil {
+					t.Error(err)
+				}
+				made <- message
+			}
+		}()
+	}
+	group.Wait()
+	close(made)
+	used := map[int]int{}
+	for message := range made {
+		for nonce := 0; nonce < 4*each; nonce++ {
+			must(t, r.SetNonce(uint64(nonce)))
+			if _, err := r.Decrypt(nil, nil, message); err == nil {
+				used[nonce]++
+			}
+		}
+	}
+	for nonce := 0; nonce < 4*each; nonce++ {
+		if used[nonce] != 1 {
+			t.Errorf("nonce %d was used %d times", nonce, used[nonce])
+		}
+	}
 }
