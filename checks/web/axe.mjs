@@ -5,7 +5,10 @@ import vm from 'node:vm';
 
 const BUNDLE = 'devtools://devtools/bundled/third_party/lighthouse/lighthouse-dt-bundle.js';
 const WIDTHS = [320, 390, 820, 1440];
-const RUN = `axe.run(document, { resultTypes: ['violations'], rules: { region: { enabled: true }, 'target-size': { enabled: true } } })
+const RULES = `{ rules: { region: { enabled: true }, 'target-size': { enabled: true } } }`;
+/** Of what depends on the scheme alone. */
+const COLOURS = `{ runOnly: { type: 'rule', values: ['color-contrast', 'link-in-text-block'] } }`;
+const run = (rules) => `axe.run(document, { resultTypes: ['violations'], ...${rules} })
   .then(({ violations }) => violations.map(({ id, nodes }) => id + ': ' + nodes.slice(0, 3).map(({ html, any, all, none }) =>
     html.slice(0, 140) + ' ' + [...any, ...all, ...none].map(({ message }) => message).join(' ')).join(' | ')))`;
 
@@ -18,9 +21,9 @@ async function source(browser) {
   return found ? vm.runInNewContext(`\`${found[1]}\``) : undefined;
 }
 
-async function check(page, text, what) {
-  await page.browser.evaluate(`${text}; undefined`);
-  const violations = await page.evaluate(RUN);
+async function check(page, text, what, rules = RULES) {
+  await page.browser.evaluate(`globalThis.axe ?? (() => { ${text} })(); undefined`);
+  const violations = await page.evaluate(run(rules));
   assert.deepEqual(violations, [], what);
 }
 
@@ -58,7 +61,7 @@ export async function axe(page) {
     assert.ok(await page.evaluate('document.scrollingElement.scrollWidth <= innerWidth'), `the page is too wide at ${width}`);
     for (const dark of ['light', 'dark']) {
       await scheme(dark);
-      await check(page, text, `at ${width}, ${dark}`);
+      await check(page, text, `at ${width}, ${dark}`, dark === 'dark' ? COLOURS : RULES);
       assert.deepEqual(await page.evaluate(BORDERS), [], `borders at ${width}, ${dark}`);
       runs += 1;
     }
