@@ -295,7 +295,7 @@ func TestKeep(t *testing.T) {
 		}
 		if text == "two\n" {
 			cut(t, to(server)(l.address))
-			l.says(t, "the connection was cut before the other end had sent all")
+			l.says(t, "the connection was cut")
 		}
 	}
 }
@@ -368,7 +368,7 @@ func TestPSKs(t *testing.T) {
 	var refusing side
 	client(to("other"), &refusing)
 	refused(t, &refusing, "message 2, payload: a tag is wrong: the message was changed, or the parties differ in the pattern, the prologue or a psk")
-	l.says(t, "the connection was cut before the other end had sent all")
+	l.says(t, "the connection was cut")
 	l.wait() // its handshake has ended well: it wrote the last message
 	if ends[0].status != 1 || came.Len() != 0 {
 		t.Errorf("status %d, %q", ends[0].status, came)
