@@ -532,7 +532,7 @@ func TestFaults(t *testing.T) {
 	}
 }
 
-// TestOwnFaults has one end whose disk is full, and one whose input can't be read.
+// TestOwnFaults has one end whose disk is full, one behind which nobody reads, and one whose input can't be read.
 func TestOwnFaults(t *testing.T) {
 	cat, server, client, to := pair(t)
 	full, err := os.OpenFile("/dev/full", os.O_WRONLY, 0)
@@ -545,10 +545,16 @@ func TestOwnFaults(t *testing.T) {
 		t.Fatal(err)
 	}
 	defer folder.Close()
+	read, unread, err := os.Pipe()
+	if err != nil {
+		t.Fatal(err)
+	}
+	read.Close()
+	defer unread.Close()
 	for _, it := range []struct {
 		side  side
 		words string
-	}{{side{out: full}, "no space left on device"}, {side{in: folder}, "is a directory"}} {
+	}{{side{out: full}, "no space left on device"}, {side{out: unread}, "stdout: broken pipe"}, {side{in: folder}, "is a directory"}} {
 		for end := 0; end < 2; end++ {
 			var ends [2]side
 			ends[end].in, ends[end].out = it.side.in, it.side.out
