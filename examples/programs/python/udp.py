@@ -54,8 +54,8 @@ class Client(asyncio.DatagramProtocol):
 
 
 async def exchange(transport: asyncio.DatagramTransport, client: Client, message: bytes, kind: bytes) -> bytes:
-    """Sends a message until one of this kind comes."""
-    while True:
+    """Sends a message, at most ten times, until one of this kind comes."""
+    for _ in range(10):
         transport.sendto(message)
         try:
             async with asyncio.timeout(0.5):
@@ -64,6 +64,7 @@ async def exchange(transport: asyncio.DatagramTransport, client: Client, message
                 return data[1:]
         except TimeoutError:
             pass
+    raise TimeoutError("the server doesn't answer")
 
 
 async def ping() -> None:
