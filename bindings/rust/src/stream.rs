@@ -25,7 +25,8 @@ pub(crate) use writing::Writing;
 /// A stream below that doesn't block, or that has timeouts, may return `WouldBlock` or `TimedOut`. `read`, `flush` and
 /// `close_write` return the same then, and a later call continues. A `write` that takes bytes seals them, and what of
 /// their frame the stream below doesn't take is kept: the next `write`, `flush` or `close_write` sends it first, and a
-/// `write` that can't do so takes nothing. So `flush` after the last `write`.
+/// `write` that can't do so takes nothing. So `flush` after the last `write`. Windows doesn't say how much of a write
+/// past its timeout was sent: drop the channel there.
 pub struct Stream<T> {
     below: T,
     reading: Reading,

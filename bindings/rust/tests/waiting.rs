@@ -50,6 +50,7 @@ fn a_frame_is_kept_where_a_write_would_block() {
 }
 
 #[test]
+#[cfg(not(windows))] // which doesn't say how much of a write past its timeout was sent
 fn a_frame_is_kept_past_a_write_timeout() {
     let (client, server) = streams();
     client.get_ref().set_write_timeout(Some(Duration::from_millis(20))).unwrap();

@@ -22,11 +22,9 @@ pub async fn run(run: Run) -> io::Result<Told> {
     let (says, hears) = oneshot::channel();
     let (bytes, first) = (bytes_of(run.is_initiator, run.size), run.ends_first);
     let writer = tokio::spawn(async move {
-        let (wrote, mut has_ended) = (write(&mut writes, &bytes).await, false);
-        if wrote == bytes.len() && (first || hears.await == Ok(true)) {
-            has_ended = writes.shutdown().await.is_ok();
-        }
-        (wrote, has_ended)
+        let (wrote, is_whole) = write(&mut writes, &bytes).await;
+        let may_end = is_whole && (first || hears.await == Ok(true));
+        (wrote, may_end && writes.shutdown().await.is_ok())
     });
     let (read, end) = read(reads, &bytes_of(!run.is_initiator, run.size)).await;
     let _ = says.send(end.is_ok());
@@ -34,17 +32,17 @@ pub async fn run(run: Run) -> io::Result<Told> {
     Ok(Told { wrote, has_ended, read, end })
 }
 
-async fn write(writes: &mut (impl AsyncWrite + Unpin), bytes: &[u8]) -> usize {
+// Writes, and returns how many bytes, with those of a write that has failed after a part of them was sent; and whether none has.
+async fn write(writes: &mut (impl AsyncWrite + Unpin), bytes: &[u8]) -> (usize, bool) {
     let mut wrote = 0;
-    while wrote < bytes.len() {
-        match writes.write(&bytes[wrote..bytes.len().min(wrote + 10_000)]).await {
-            Ok(count) => wrote += count,
-            Err(_) => return wrote,
+    for part in bytes.chunks(10_000) {
+        wrote += part.len();
+        if writes.write_all(part).await.is_err() {
+            return (wrote, false);
         }
     }
     // What was taken may still be kept.
-    let _ = writes.flush().await;
-    wrote
+    (wrote, writes.flush().await.is_ok())
 }
 
 async fn read(mut reads: impl AsyncRead + Unpin, expected: &[u8]) -> (usize, io::Result<()>) {

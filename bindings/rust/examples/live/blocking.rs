@@ -21,11 +21,9 @@ pub fn run(run: Run) -> io::Result<Told> {
     let (says, hears) = mpsc::channel();
     let (bytes, first) = (bytes_of(run.is_initiator, run.size), run.ends_first);
     let writer = thread::spawn(move || {
-        let (wrote, mut has_ended) = (write(&mut writes, &bytes), false);
-        if wrote == bytes.len() && (first || hears.recv() == Ok(true)) {
-            has_ended = writes.close_write().is_ok();
-        }
-        (wrote, has_ended)
+        let (wrote, is_whole) = write(&mut writes, &bytes);
+        let may_end = is_whole && (first || hears.recv() == Ok(true));
+        (wrote, may_end && writes.close_write().is_ok())
     });
     let (read, end) = read(&mut reads, &bytes_of(!run.is_initiator, run.size));
     let _ = says.send(end.is_ok());
@@ -33,15 +31,16 @@ pub fn run(run: Run) -> io::Result<Told> {
     Ok(Told { wrote, has_ended, read, end })
 }
 
-fn write(writes: &mut impl Write, bytes: &[u8]) -> usize {
+// Writes, and returns how many bytes, with those of a write that has failed after a part of them was sent; and whether none has.
+fn write(writes: &mut impl Write, bytes: &[u8]) -> (usize, bool) {
     let mut wrote = 0;
-    while wrote < bytes.len() {
-        match writes.write(&bytes[wrote..bytes.len().min(wrote + 10_000)]) {
-            Ok(count) => wrote += count,
-            Err(_) => break,
+    for part in bytes.chunks(10_000) {
+        wrote += part.len();
+        if writes.write_all(part).is_err() {
+            return (wrote, false);
         }
     }
-    wrote
+    (wrote, true)
 }
 
 fn read(reads: &mut ReadHalf<TcpStream>, expected: &[u8]) -> (usize, io::Result<()>) {

@@ -37,8 +37,8 @@ async function write(channel) {
   try {
     while (wrote < size) {
       const part = Uint8Array.from({ length: Math.min(10000, size - wrote) }, (_, i) => byteOf(isInitiator, wrote + i));
+      wrote += part.length;    // also where it fails after a part of it was sent
       await channel.send(part);
-      wrote += part.length;
     }
   } catch {
     // What it reads says why.

@@ -91,7 +91,7 @@ class End:
 
 def stream(initiator, size):
     """What a party sends."""
-    return bytes((i * 7 + initiator) % 251 for i in range(size))
+    return (bytes((i * 7 + initiator) % 251 for i in range(251)) * (size // 251 + 1))[:size]
 
 
 def told(error):
@@ -112,8 +112,8 @@ class Session:
         try:
             while self.wrote < self.size:
                 part = everything[self.wrote : self.wrote + 10000]
+                self.wrote += len(part)  # also where it fails after a part of it was sent
                 self.end.write(part)
-                self.wrote += len(part)
             if not self.first:
                 self.can_end.wait()
             if self.first or self.whole:

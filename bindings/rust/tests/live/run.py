@@ -22,7 +22,7 @@ import threading
 from cryptography.hazmat.primitives import serialization
 from cryptography.hazmat.primitives.asymmetric.x25519 import X25519PrivateKey
 
-SECONDS = 60
+SECONDS = 240
 IDLE = 0.7  # after so long a relay that has struck closes the connection
 SIZE, SMALL = 1_000_000, 700
 PATTERNS = ["XX", "IK", "NNpsk0", "XXpsk3", "IKpsk2", "KK"]

@@ -108,8 +108,8 @@ func run(c channel, w words) {
 	done := make(chan struct{})
 	go func() {
 		defer close(done)
-		wrote = write(c, w)
-		if wrote == w.size && (w.first || <-hears) {
+		var ok bool
+		if wrote, ok = write(c, w); ok && (w.first || <-hears) {
 			ended = c.CloseWrite() == nil
 		}
 	}()
@@ -119,20 +119,19 @@ func run(c channel, w words) {
 	fmt.Printf("wrote %d %s, read %d %s\n", wrote, map[bool]string{true: "ended", false: "open"}[ended], count, told(err))
 }
 
-func write(c channel, w words) int {
+func write(c channel, w words) (int, bool) {
 	wrote := 0
 	for wrote < w.size {
 		part := make([]byte, min(10000, w.size-wrote))
 		for i := range part {
 			part[i] = byteOf(w.initiator, wrote+i)
 		}
-		n, err := c.Write(part)
-		wrote += n
-		if err != nil {
-			break
+		wrote += len(part) // also where it fails after a part of it was sent
+		if _, err := c.Write(part); err != nil {
+			return wrote, false
 		}
 	}
-	return wrote
+	return wrote, true
 }
 
 func read(c channel, w words) (int, error) {
