@@ -12,8 +12,8 @@ use Rattle.noise_c.specs.declared.kept.NoiseHandshake.{NoiseHandshake}
 use Rattle.noise_c.specs.declared.kept.NoiseTold.{NoiseTold}
 use Rattle.noise_c.specs.Kept.{own_in, remote_told, TellsWant}
 use Rattle.noise_c.specs.Outcomes.{ReadOutcome, WriteOutcome}
-use Rattle.noise_c.specs.Outcomes.ReadOutcome as read
-use Rattle.noise_c.specs.Outcomes.WriteOutcome as write
+use Rattle.noise_c.specs.Outcomes.ReadOutcome.{wants_answer as read_wants_answer, wants_secret as read_wants_secret}
+use Rattle.noise_c.specs.Outcomes.WriteOutcome.{wants_answer as write_wants_answer, wants_secret as write_wants_secret}
 use Rattle.noise_c.proofs.Wants.{reads-secret, writes-secret}
 
 reads-answer : (v : View) (m : List ℕ) (own : Own) (key : List ℕ) (told : NoiseTold) → own_in told.of_static ≡ own → told.remote ≡ key
@@ -26,26 +26,24 @@ writes-answer : (v : View) (own : Own) (key : List ℕ) (told : NoiseTold) → o
 writes-answer v own key told o k r =
     subst (λ (z : List ℕ). WantsToWrite v (own_in told.of_static) z) (sym k) (subst (λ (x : Own). WantsToWrite v x key) (sym o) r)
 
-module _ (p : Plan) (v : View) (old : NoiseHandshake) (payload : List ℕ) (room : ℕ) (out : List ℕ) (n : ℕ) where
-  -- writing changes nothing then
+module _ (p : Plan) (v : View) (old new : NoiseHandshake) (payload : List ℕ) (room : ℕ) (out : List ℕ) (n : ℕ) where
   pub writes-outcome : (want : Want) (told : NoiseTold) (code : ℕ) → TellsWant want told code → n ≡ old.secret_count → WantsLate v n want
-      → WriteOutcome p v old payload room old out told code
+      → WriteOutcome p v old payload room new out told code
   writes-outcome (Answer own key) told code t count r =
-      subst (λ (c : ℕ). WriteOutcome p v old payload room old out told c) (sym t.0)
-      (write.wants_answer (writes-answer v own key told t.1 t.2 r))
+      subst (λ (c : ℕ). WriteOutcome p v old payload room new out told c) (sym t.0)
+      (write_wants_answer (writes-answer v own key told t.1 t.2 r))
   writes-outcome (Secret remote) told code t count r =
       let s = writes-secret v n (Secret remote) told code t t.0 r in
-      subst (λ (c : ℕ). WriteOutcome p v old payload room old out told c) (sym t.0)
-      (write.wants_secret (subst (λ (i : ℕ). WantsSecretToWrite v i) count s.0) s.1)
+      subst (λ (c : ℕ). WriteOutcome p v old payload room new out told c) (sym t.0)
+      (write_wants_secret (subst (λ (i : ℕ). WantsSecretToWrite v i) count s.0) s.1)
 
-module _ (p : Plan) (v : View) (old : NoiseHandshake) (message after : List ℕ) (n : ℕ) where
-  -- nor does reading
+module _ (p : Plan) (v : View) (old new : NoiseHandshake) (message after : List ℕ) (n : ℕ) where
   pub reads-outcome : (want : Want) (told : NoiseTold) (code : ℕ) → TellsWant want told code → n ≡ old.secret_count
-      → LeavesLateUnread v n message (unread.Wants want) → ReadOutcome p v old message old after told code
+      → LeavesLateUnread v n message (unread.Wants want) → ReadOutcome p v old message new after told code
   reads-outcome (Answer own key) told code t count r =
-      subst (λ (c : ℕ). ReadOutcome p v old message old after told c) (sym t.0)
-      (read.wants_answer (reads-answer v message own key told t.1 t.2 r))
+      subst (λ (c : ℕ). ReadOutcome p v old message new after told c) (sym t.0)
+      (read_wants_answer (reads-answer v message own key told t.1 t.2 r))
   reads-outcome (Secret remote) told code t count r =
       let s = reads-secret v n message (Secret remote) told code t t.0 r in
-      subst (λ (c : ℕ). ReadOutcome p v old message old after told c) (sym t.0)
-      (read.wants_secret (subst (λ (i : ℕ). WantsSecretToRead v i message (remote_told told)) count s))
+      subst (λ (c : ℕ). ReadOutcome p v old message new after told c) (sym t.0)
+      (read_wants_secret (subst (λ (i : ℕ). WantsSecretToRead v i message (remote_told told)) count s))

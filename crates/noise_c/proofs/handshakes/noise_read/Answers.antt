@@ -239,7 +239,7 @@ returns-in-Err-Wants-clause-outcome c p v k =
     let s = stands-for c.args.kept.now h p v c.in-Some.ensures.one c.in-Some.ensures.same k in
     let leaves = subst (λ (u : LateUnread). LeavesLateUnread v (length h.secrets) c.args.message.now u) c.in-Err-Wants.field-0-is
     (c.in-Err-Wants.ensures.reads v k.later s).0 in
-    reads-outcome p v c.args.kept.now c.args.message.now c.read_or_ask.new.message (length h.secrets) c.in-Err-Wants.want c.tell.new.told c.tell.result
+    reads-outcome p v c.args.kept.now _ c.args.message.now c.read_or_ask.new.message (length h.secrets) c.in-Err-Wants.want c.tell.new.told c.tell.result
     (subst (λ (w : Want). TellsWant w c.tell.new.told c.tell.result) c.in-Err-Wants.want-is c.tell.ensures.want) c.in-Some.ensures.count leaves
 
 want-same : (u : LateUnread) (a b : Want) → ◌≡◌ {A = Result (ℕ × ℕ) LateUnread} (Err u) (Err (unread.Wants b)) → u ≡ unread.Wants a → a ≡ b

@@ -157,7 +157,7 @@ returns-in-Err-Wants c =
     (c.in-Err-Wants.ensures.writes v k.later (stands-for old h p v c.in-Some.ensures.one c.in-Some.ensures.same k)).0 in
     record {
       unusable = (wants-other want told code 23 t refl refl, λ none. absurd (none (c.in-Some.ensures.usable.0 refl)));
-      outcome = λ p v k. writes-outcome p v old c.args.payload.now (length c.args.out.now) c.write_or_ask.new.out (length h.secrets) want told code t
+      outcome = λ p v k. writes-outcome p v old _ c.args.payload.now (length c.args.out.now) c.write_or_ask.new.out (length h.secrets) want told code t
           c.in-Some.ensures.count (leaves p v k);
       stays = wants-other want told code 0 t refl refl;
       len = wants-other want told code 0 t refl refl;
