@@ -2,7 +2,7 @@
 use std::io::{self, ErrorKind, Read, Write};
 use std::net::{Shutdown, TcpStream};
 use toy::{begun, streams, tcp, Party, Toy, PSK};
-use yulimosar::{Builder, Dh, DhError, Error, HandshakeError, NoKey, Stream};
+use yulimosar::{Builder, Connecting, Dh, DhError, Error, Event, HandshakeError, NoKey, Stream};
 
 mod toy;
 
@@ -252,7 +252,10 @@ fn debug_text_has_no_secret() {
     must_be_shared(&stream);
     let text = format!("{text} {client:?} {transport:?} {datagrams:?} {stream:?}");
     let (reads, writes) = stream.split(TcpStream::try_clone).unwrap();
-    let text = format!("{text} {reads:?} {writes:?}");
+    let (connecting, ciphers) = (Connecting::anonymous(begun("NN").0).unwrap(), done("NN").0.finish_ciphers().unwrap());
+    must_be_shared(&connecting);
+    must_be_shared(&ciphers);
+    let text = format!("{text} {reads:?} {writes:?} {connecting:?} {ciphers:?} {:?}", Event::Data(&PSK));
     assert!(text.contains("XXpsk3") && text.contains("WriteHalf { below: TcpStream") && !text.contains("7, 7, 7"));
     assert!(text.len() < 2000, "{text}");
 }

@@ -8,7 +8,7 @@ use core::mem::take;
 use core::ops::Range;
 
 /// What has come over a [`Connection`](crate::Connection).
-#[derive(Debug, PartialEq, Eq)]
+#[derive(PartialEq, Eq)]
 pub enum Event<'c> {
     /// Bytes that the other party has written, one at least. Each comes once.
     Data(&'c [u8]),
@@ -146,6 +146,17 @@ impl StreamReceiver {
     pub(crate) fn came(&mut self, count: usize) {
         self.incoming.came(count);
         self.wanted -= count;
+    }
+}
+
+// What was written may be secret.
+impl fmt::Debug for Event<'_> {
+    fn fmt(&self, f: &mut fmt::Formatter<'_>) -> fmt::Result {
+        match self {
+            Event::Data(bytes) => write!(f, "Data(.. {} bytes)", bytes.len()),
+            Event::Receive(wanted) => f.debug_tuple("Receive").field(wanted).finish(),
+            Event::End => f.write_str("End"),
+        }
     }
 }
 
