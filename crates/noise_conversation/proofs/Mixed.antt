@@ -1,6 +1,6 @@
 -- The texts that a party hashes as it mixes texts, and the two of two parties that clash.
 use Rattle.std.proofs.Common.{◌≡◌, ◌≢◌, ◌<◌, ℕ, List, [], ◌∷◌, ◌++◌, length, reverse, refl, ap, sym, subst, ◌∙◌, inl, inr, Option, Some, get_or}
-use Rattle.std.proofs.lemmas.List.{length-reverse, map-append, reverse-append, reverse-reverse}
+use Rattle.std.proofs.lemmas.List.{map-append, reverse-append}
 use Rattle.std.proofs.lemmas.Option.{same_Some, slice_get-map, slice_get_cases, slice_get_read}
 use Rattle.std.specs.Global.{Global}
 use Rattle.std.specs.Option.{option_map}
@@ -10,10 +10,9 @@ use Rattle.noise_kdf.specs.Hkdf.{second_output}
 use Rattle.noise_state.specs.declared.symmetric.SymmetricState.{SymmetricState}
 use Rattle.noise_state.specs.History.{History, Entry, MixHash, Ciphertext, MixKey, MixKeyAndHash, and_then, chaining_key_of, hash, hash_of}
 use Rattle.noise_state.specs.Standing.{StateStands}
-use Rattle.noise_duel.specs.Clash.{ClashFound, ClashStands, clash_position, first_clash}
+use Rattle.noise_duel.specs.Clash.{ClashStands, clash_position, first_clash}
 use Rattle.noise_duel.specs.Collision.{hash_texts, hash_texts_of, hashed, hashed_of}
 use Rattle.noise_duel.specs.Entries.{bytes_of}
-use Rattle.noise_duel.proofs.Histories.{histories-alike}
 use Rattle.noise_conversation.specs.declared.clashing.HashClash.{HashClash}
 use Rattle.noise_conversation.specs.Mixed.{HasMixed, IsHashClash}
 
@@ -121,14 +120,3 @@ is-hash-clash stands r s c fs gs e f at in-left in-right left right =
       differ = λ same. both.differ (is-left ∙ same ∙ sym is-right);
       same = ap sha256 (sym is-left) ∙ both.same ∙ ap sha256 is-right;
     }
-
--- with one hash there is such a position, or the two mixed the same
-pub is-there : ClashFound → (r s : History) (name : List ℕ) (xs ys : List (List ℕ)) → HasMixed r name xs → HasMixed s name ys
-    → length xs ≡ length ys → xs ≢ ys → hash r ≡ hash s → (j : ℕ) × (clash_position r s ≡ Some j)
-is-there found r s name xs ys h k long differ same =
-    let many : length (hashed r) ≡ length (hashed s) =
-    ap length h.mixed ∙ length-reverse xs ∙ long ∙ sym (length-reverse ys) ∙ sym (ap length k.mixed) in
-    elim (histories-alike r s (h.named ∙ sym k.named) many same) [
-      | inl one ↦ absurd (differ (sym (reverse-reverse xs) ∙ ap (λ (zs : List (List ℕ)). reverse zs) (sym h.mixed ∙ one ∙ k.mixed) ∙ reverse-reverse ys))
-      | inr c ↦ (let w = found r s c.0 c.1 in (w.0, w.1))
-    ]

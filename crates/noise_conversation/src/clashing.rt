@@ -1,8 +1,8 @@
 //! Where the texts that two parties hashed clash.
 #![tactic(auto)]
 
-ghost use Rattle.std.specs.Prelude.{◌≡◌, ◌≢◌, ◌<◌, length, IfOk, IsSome, MatchOption, None};
-ghost use Rattle.noise_state.specs.History.{History, hash};
+ghost use Rattle.std.specs.Prelude.{◌≡◌, IfOk, MatchOption, None};
+ghost use Rattle.noise_state.specs.History.{History};
 ghost use Rattle.noise_duel.specs.Clash.{clash, clash_position, first_clash};
 ghost use Rattle.noise_duel.specs.Collision.{hash_texts};
 ghost use Rattle.noise_duel.specs.Entries.{bytes_of};
@@ -50,8 +50,8 @@ pub fn find_clash(left: &[Vec<u8>], right: &[Vec<u8>]) -> Option<usize>
 /// Two parties of one protocol name mixed these texts into their hashes, each the first one first: the first two of the texts that they hashed so which
 /// differ with one SHA-256 digest. None where there are none.
 ///
-/// Where both mixed as many texts, and not the same, and have one handshake hash, there are such two. What a party mixes is what MixHash, EncryptAndHash and
-/// DecryptAndHash add to `h`: the prologue, public keys and payloads as they travel; and of each psk the second output of HKDF, a secret (Noise, 5.2).
+/// What a party mixes is what MixHash, EncryptAndHash and DecryptAndHash add to `h`: the prologue, public keys and payloads as they travel; and of each psk
+/// the second output of HKDF, a secret (Noise, 5.2).
 pub fn find_mix_hash_clash(
     alloc: Global,
     name: &[u8],
@@ -60,9 +60,6 @@ pub fn find_mix_hash_clash(
 ) -> Result<Option<HashClash>, AllocError>
     ensures found { (r s : History) → HasMixed r name.now (bytes_of left.now) → HasMixed s name.now (bytes_of right.now)
         → IfOk result (λ found. MatchOption found (clash_position r s ≡ None) (λ told. IsHashClash r s told)) }
-    ensures there { (r s : History) → HasMixed r name.now (bytes_of left.now) → HasMixed s name.now (bytes_of right.now)
-        → length left.now ≡ length right.now → bytes_of left.now ≢ bytes_of right.now → hash r ≡ hash s
-        → IfOk result (λ found. IsSome found) }
 {
     clash_told();
     let mut first = texts_hashed(alloc, name, left)?;

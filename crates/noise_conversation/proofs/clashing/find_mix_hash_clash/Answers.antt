@@ -1,11 +1,10 @@
 use Rattle.std.proofs.Common.{◌≡◌, ◌∙◌, ℕ, List, sym, length, reverse, Some, None, arith}
-use Rattle.std.proofs.lemmas.List.{length-map}
 use Rattle.std.specs.Global.{Global}
 use Rattle.std.specs.Prelude.{Vec}
 use Rattle.noise_state.specs.History.{History}
 use Rattle.noise_duel.specs.Clash.{clash_position}
 use Rattle.noise_duel.specs.Entries.{bytes_of}
-use Rattle.noise_conversation.proofs.Mixed.{both-within, clash-at, has-mixed, is-hash-clash, is-there, mixing}
+use Rattle.noise_conversation.proofs.Mixed.{both-within, clash-at, has-mixed, is-hash-clash, mixing}
 use Rattle.noise_conversation.proofs.clashing.find_mix_hash_clash.Goals as goal
 
 pub swap_remove-requires : goal.swap_remove-requires
@@ -54,17 +53,3 @@ returns-clause-found c = λ r s h k.
     clash-at r s c.in_ok-first.first.items c.in_ok-second.second.items c.deref.result.now c.deref-2.result.now c.find_clash.result
     (c.in_ok-first.ensures r h) (c.in_ok-second.ensures s k) c.deref.ensures.value c.deref-2.ensures.value c.find_clash.ensures
     ∙ c.in-None.is
-
-pub returns-clause-there : goal.returns-clause-there
-returns-clause-there c = λ r s h k long differ same.
-    let items : Vec ℕ Global → List ℕ = λ f. f.items in
-    let left = c.args.left.now in
-    let right = c.args.right.now in
-    let many : length (bytes_of left) ≡ length (bytes_of right) = length-map left items ∙ long ∙ sym (length-map right items) in
-    let w = is-there c.clash_told.ensures.found r s c.args.name.now (bytes_of left) (bytes_of right) h k many differ same in
-    let there : clash_position r s ≡ Some w.0 = w.1 in
-    let none : clash_position r s ≡ None =
-    clash-at r s c.in_ok-first.first.items c.in_ok-second.second.items c.deref.result.now c.deref-2.result.now c.find_clash.result
-    (c.in_ok-first.ensures r h) (c.in_ok-second.ensures s k) c.deref.ensures.value c.deref-2.ensures.value c.find_clash.ensures
-    ∙ c.in-None.is in
-    absurd (cc)
