@@ -102,7 +102,8 @@ class Handshake(Kept):
             ephemeral.close()
 
     def _passed(self) -> Any:
-        code = lib.noise_stage(self._open(), self._stage)
+        with self._lock:
+            code = lib.noise_stage(self._open(), self._stage)
         if code:
             raise CallError(Code(code))
         return self._stage
@@ -140,7 +141,9 @@ class Handshake(Kept):
         if self._agreed is not None:
             return self._agreed[0]
         hash_ = ffi.new("char[]", KEY_LEN)
-        if code := lib.noise_hash(self._open(), hash_):
+        with self._lock:
+            code = lib.noise_hash(self._open(), hash_)
+        if code:
             raise CallError(Code(code))
         return ffi.unpack(hash_, KEY_LEN)    # type: ignore[no-any-return]
 
@@ -150,7 +153,9 @@ class Handshake(Kept):
         if self._agreed is not None:
             return self._agreed[1]
         key = ffi.new("noise_key *")
-        if code := lib.noise_remote_static(self._open(), key):
+        with self._lock:
+            code = lib.noise_remote_static(self._open(), key)
+        if code:
             raise CallError(Code(code))
         return bytes(key.bytes) if key.present else None
 
