@@ -110,6 +110,19 @@ def test_a_full_disk(keys):
     assert client.returncode == 1
 
 
+def test_input_that_cannot_be_read(keys):
+    """Both ends end with status 1, though each has ended its own stream or would."""
+    folder = os.open("/", os.O_RDONLY)
+    server = subprocess.Popen([sys.executable, "-m", "yulimosar", "listen", "127.0.0.1:0", "--any", "--key",
+                               keys["server"][0]], stdin=folder, stdout=subprocess.DEVNULL, stderr=subprocess.PIPE)
+    os.close(folder)
+    port = server.stderr.readline().decode().rsplit(":", 1)[1].strip()
+    client = command("connect", f"127.0.0.1:{port}", "--any", "--key", keys["client"][0], input=b"x" * 100000)
+    assert server.wait(SECONDS) == 1 and b"directory" in server.stderr.read()
+    server.stderr.close()
+    assert client.returncode == 1
+
+
 @pytest.mark.skipif(NOISECAT is None, reason="NOISECAT isn't set")
 @pytest.mark.parametrize("pattern", ["XX", "IK", "NNpsk0", "KK"])
 def test_with_noisecat(keys, pattern, tmp_path):

@@ -9,7 +9,6 @@ import argparse
 import contextlib
 import os
 import socket
-import struct
 import sys
 import threading
 from pathlib import Path
@@ -127,13 +126,15 @@ def _join(options: argparse.Namespace) -> None:
         key = channel.noise.peer_key
         print(f"{channel.noise.protocol}\nhandshake hash: {channel.noise.hash.hex()}\n"
               f"peer's key: {key.hex() if key else '-'}", file=sys.stderr)
+    channel._resets = True    # after a fault, so that the other end's status isn't 0
     try:
         _carry(channel)
         _part(sock)
-        channel.close()
     except BaseException:
-        _reset(channel)
+        channel._shut()
         raise
+    channel._resets = False
+    channel.close()
 
 
 def _carry(channel: NoiseSocket) -> None:
@@ -159,14 +160,8 @@ def _send(channel: NoiseSocket, faults: list[Exception]) -> None:
     except Exception as fault:
         if not (isinstance(fault, CallError) and fault.code == Code.ONE_WAY):
             faults.append(fault)
-            _reset(channel)    # also ends `recv`
-
-
-def _reset(channel: NoiseSocket) -> None:
-    """Resets the connection, so that the other end gets an error, also if it has read all."""
-    with contextlib.suppress(OSError):    # it was closed before
-        channel._sock.setsockopt(socket.SOL_SOCKET, socket.SO_LINGER, struct.pack("ii", 1, 0))
-    channel.abort()
+            with contextlib.suppress(OSError):
+                channel._sock.shutdown(socket.SHUT_RD)    # ends `recv`
 
 
 def _receive(channel: NoiseSocket) -> None:

@@ -3,6 +3,7 @@ from __future__ import annotations
 
 import io
 import socket
+import struct
 import threading
 import time
 from types import TracebackType
@@ -56,6 +57,7 @@ class NoiseSocket:
         self._pending = memoryview(b"")    # sealed, and not sent yet
         self._whole = True              # whether all was sent that had to be
         self._closed = False
+        self._resets = False            # whether to reset the connection in place of ending it
         self._lost: OSError | None = None    # what the socket has raised
         self._agreed: Agreed
 
@@ -246,7 +248,11 @@ class NoiseSocket:
     def _shut(self) -> None:
         """Ends the connection, also under a call that waits."""
         try:
-            self._sock.shutdown(socket.SHUT_RDWR)
+            if self._resets:    # no FIN before it: the other end gets an error, also if it has read all
+                self._sock.setsockopt(socket.SOL_SOCKET, socket.SO_LINGER, struct.pack("ii", 1, 0))
+                self._sock.close()
+            else:
+                self._sock.shutdown(socket.SHUT_RDWR)
         except OSError:
             pass    # it has ended
 
