@@ -131,7 +131,8 @@ export class Editor {
     this.#text.setSelectionRange(from, to);
     const isDone = middle === '' ? document.execCommand('delete') : document.execCommand('insertText', false, middle);
     this.#text.inputMode = '';
-    if (activeElement && activeElement !== document.body) activeElement.focus({ preventScroll: true });
+    if (activeElement === document.body) this.#text.blur();
+    else activeElement?.focus({ preventScroll: true });
     this.#isReplacing = false;
     if (!isDone || this.#text.value !== text) this.set(text);
   }
