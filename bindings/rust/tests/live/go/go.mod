@@ -3,7 +3,7 @@ module example.org/live
 go 1.19
 
 require (
-	example.org/noise v0.0.0
+	example.org/yulimosar/noise v1.0.0
 	github.com/flynn/noise v1.0.0
 )
 
@@ -12,7 +12,7 @@ require golang.org/x/crypto v0.4.0 // indirect
 require golang.org/x/sys v0.3.0 // indirect
 
 replace (
-	example.org/noise => ../../../../go
+	example.org/yulimosar/noise => ../../../../go
 	github.com/flynn/noise => /usr/share/gocode/src/github.com/flynn/noise
 	golang.org/x/crypto => /usr/share/gocode/src/golang.org/x/crypto
 	golang.org/x/sys => /usr/share/gocode/src/golang.org/x/sys

@@ -11,7 +11,7 @@ import (
 	"strconv"
 	"strings"
 
-	"example.org/noise"
+	"example.org/yulimosar/noise"
 )
 
 // channel is what both have.
@@ -75,14 +75,14 @@ func connect(address string, initiator bool) net.Conn {
 }
 
 func openNoise(conn net.Conn, w words) (channel, error) {
-	own, err := noise.NewKeyPair(w.own)
+	own, err := noise.NewKeyPair(*(*noise.Key)(w.own))
 	must(err)
 	config := &noise.Config{Pattern: w.pattern, Prologue: []byte("live"), Static: own}
 	if w.psk != nil {
-		config.PSKs = [][]byte{w.psk}
+		config.PSKs = []noise.Key{*(*noise.Key)(w.psk)}
 	}
 	if !strings.HasPrefix(w.pattern, "NN") {
-		config.PeerStatic = w.peer
+		config.PeerStatic = (*noise.Key)(w.peer)
 	}
 	make := noise.Server
 	if w.initiator {
