@@ -112,13 +112,14 @@ def test_a_full_disk(keys):
 
 def test_input_that_cannot_be_read(keys):
     """Both ends end with status 1, though each has ended its own stream or would."""
-    folder = os.open("/", os.O_RDONLY)
+    only_written = os.open("/dev/null", os.O_WRONLY)
     server = subprocess.Popen([sys.executable, "-m", "yulimosar", "listen", "127.0.0.1:0", "--any", "--key",
-                               keys["server"][0]], stdin=folder, stdout=subprocess.DEVNULL, stderr=subprocess.PIPE)
-    os.close(folder)
+                               keys["server"][0]], stdin=only_written, stdout=subprocess.DEVNULL,
+                              stderr=subprocess.PIPE)
+    os.close(only_written)
     port = server.stderr.readline().decode().rsplit(":", 1)[1].strip()
     client = command("connect", f"127.0.0.1:{port}", "--any", "--key", keys["client"][0], input=b"x" * 100000)
-    assert server.wait(SECONDS) == 1 and b"directory" in server.stderr.read()
+    assert server.wait(SECONDS) == 1 and b"Bad file" in server.stderr.read()
     server.stderr.close()
     assert client.returncode == 1
 
