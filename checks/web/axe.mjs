@@ -55,29 +55,25 @@ export async function axe(page) {
   const scheme = (value) => browser.send('Emulation.setEmulatedMedia', { features: [{ name: 'prefers-color-scheme', value }] });
   if (!text) return 'left out: axe-core: this Chromium’s tools have none';
   let runs = 0;
-  for (const width of WIDTHS) {
+  const at = async (width, what, rules) => {
     await page.resize(width);
-    await fill(page);
-    assert.ok(await page.evaluate('document.scrollingElement.scrollWidth <= innerWidth'), `the page is too wide at ${width}`);
-    for (const dark of ['light', 'dark']) {
-      await scheme(dark);
-      await check(page, text, `at ${width}, ${dark}`, dark === 'dark' ? COLOURS : RULES);
-      assert.deepEqual(await page.evaluate(BORDERS), [], `borders at ${width}, ${dark}`);
-      runs += 1;
-    }
-    if (![320, 1440].includes(width)) continue;
-    await page.type('prologue', 'another');
-    await page.type('text', 'MINE:\n  <- s\n  -> e, es\n');
-    await check(page, text, `at ${width}, with a fault and an old run`);
+    assert.ok(await page.evaluate('document.scrollingElement.scrollWidth <= innerWidth'), `${what} is too wide at ${width}`);
+    await check(page, text, `${what} at ${width}`, rules);
     runs += 1;
-    await scheme(width === 320 ? 'dark' : 'light');
-    for (const name of width === 320 ? ['rules', 'mistakes'] : ['format']) {
-      await browser.open(`${page.url}${name}.html`);
-      await browser.until('document.readyState === "complete" && document.querySelector("article") !== null');
-      assert.ok(await page.evaluate('document.scrollingElement.scrollWidth <= innerWidth'), `${name} is too wide at ${width}`);
-      await check(page, text, `${name} at ${width}`);
-      runs += 1;
-    }
+  };
+  await fill(page);
+  for (const colours of ['light', 'dark']) {
+    await scheme(colours);
+    for (const width of WIDTHS) await at(width, `the page, ${colours},`, colours === 'dark' ? COLOURS : RULES);
+    assert.deepEqual(await page.evaluate(BORDERS), [], `borders, ${colours}`);
+  }
+  await page.type('prologue', 'another');
+  await page.type('text', 'MINE:\n  <- s\n  -> e, es\n');
+  await at(1440, 'a fault and an old run');
+  for (const [name, width] of [['rules', 320], ['mistakes', 320], ['format', 1440]]) {
+    await browser.open(`${page.url}${name}.html`);
+    await browser.until('document.readyState === "complete" && document.querySelector("article") !== null');
+    await at(width, name);
   }
   await scheme('light');
   return `axe-core ${/axe v([\d.]+)/.exec(text)[1]} finds nothing in ${runs} runs, at ${WIDTHS.join(', ')} px, in light and in dark`;
