@@ -2,6 +2,7 @@
 # make install   installs them: PREFIX (/usr/local), LIBDIR (PREFIX/lib), DESTDIR
 # make check     runs the gate, ./check; without Rattle's `rt` it leaves out the proofs
 # make prove     proves the library and the command from the sources, and compares what comes out with dist/; needs `rt`
+# make web       puts the page, for any static server, into out/web
 # make clean     removes what `make` built, and no proofs
 PREFIX ?= /usr/local
 export CC CFLAGS LDFLAGS AR PREFIX LIBDIR DESTDIR
@@ -26,7 +27,10 @@ check:
 prove:
 	@dist/make --check
 
-clean:
-	rm -rf packaging/out
+web:
+	@web/build
 
-.PHONY: all install check prove clean
+clean:
+	rm -rf packaging/out out/web
+
+.PHONY: all install check prove web clean
