@@ -36,20 +36,24 @@ swap_remove-requires-in-Some c =
     omega (arith, both.1)
 
 pub returns-in-Some : goal.returns-in-Some
-returns-in-Some c = λ r s h k.
-    let first = c.in_ok-first.first.items in
-    let second = c.in_ok-second.second.items in
-    let e = c.in_ok-first.ensures r h in
-    let f = c.in_ok-second.ensures s k in
-    let at = clash-at r s first second c.deref.result.now c.deref-2.result.now c.find_clash.result e f c.deref.ensures.value c.deref-2.ensures.value
-    c.find_clash.ensures ∙ c.in-Some.is in
-    let both = both-within c.clash_told.ensures.stands r s c.in-Some.position first second e f at in
-    is-hash-clash c.clash_told.ensures.stands r s
-    (record { position = c.in-Some.position; left = c.swap_remove.result; right = c.swap_remove-in-Some.result }) first second e f at both.0 both.1
-    c.swap_remove.ensures.value c.swap_remove-in-Some.ensures.value
+returns-in-Some c = record {
+  found = (λ r s h k.
+      let first = c.in_ok-first.first.items in
+      let second = c.in_ok-second.second.items in
+      let e = c.in_ok-first.ensures r h in
+      let f = c.in_ok-second.ensures s k in
+      let at = clash-at r s first second c.deref.result.now c.deref-2.result.now c.find_clash.result e f c.deref.ensures.value c.deref-2.ensures.value
+      c.find_clash.ensures ∙ c.in-Some.is in
+      let both = both-within c.clash_told.ensures.stands r s c.in-Some.position first second e f at in
+      is-hash-clash c.clash_told.ensures.stands r s
+      (record { position = c.in-Some.position; left = c.swap_remove.result; right = c.swap_remove-in-Some.result }) first second e f at both.0 both.1
+      c.swap_remove.ensures.value c.swap_remove-in-Some.ensures.value);
+}
 
 pub returns : goal.returns
-returns c = λ r s h k.
-    clash-at r s c.in_ok-first.first.items c.in_ok-second.second.items c.deref.result.now c.deref-2.result.now c.find_clash.result
-    (c.in_ok-first.ensures r h) (c.in_ok-second.ensures s k) c.deref.ensures.value c.deref-2.ensures.value c.find_clash.ensures
-    ∙ c.in-None.is
+returns c = record {
+  found = (λ r s h k.
+      clash-at r s c.in_ok-first.first.items c.in_ok-second.second.items c.deref.result.now c.deref-2.result.now c.find_clash.result
+      (c.in_ok-first.ensures r h) (c.in_ok-second.ensures s k) c.deref.ensures.value c.deref-2.ensures.value c.find_clash.ensures
+      ∙ c.in-None.is);
+}
