@@ -652,7 +652,7 @@ def test_memory_is_flat():
                 after = tracemalloc.get_traced_memory()[0]
             finally:
                 tracemalloc.stop()
-            assert after - before < 20_000, (before, after)
+            assert after - before < 20_000 + 3 * CONNECTIONS, (before, after)
     run(main, seconds=600, debug=False)
 
 
