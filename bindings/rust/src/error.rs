@@ -87,6 +87,7 @@ pub enum Error {
 }
 
 impl Error {
+    #[cold]
     pub(crate) fn of(code: u32, token: Option<u8>) -> Error {
         match code {
             header::NAME => Error::Name,

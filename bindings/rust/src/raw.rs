@@ -388,11 +388,13 @@ impl StreamReceiver {
 }
 
 impl Sender {
+    #[inline]
     pub(crate) fn seal(&mut self, payload: &[u8], out: &mut [u8], told: &mut Told) -> u32 {
         // SAFETY: see above.
         unsafe { noise_seal(self, payload.as_ptr(), payload.len(), out.as_mut_ptr(), out.len(), told) }
     }
 
+    #[inline]
     pub(crate) fn seal_in_place(&mut self, buffer: &mut [u8], payload_len: usize, told: &mut Told) -> u32 {
         // SAFETY: see above.
         unsafe { noise_seal_in_place(self, buffer.as_mut_ptr(), buffer.len(), payload_len, told) }
@@ -407,6 +409,7 @@ impl Sender {
 }
 
 impl Receiver {
+    #[inline]
     pub(crate) fn open(&mut self, message: &mut [u8], told: &mut Told) -> u32 {
         // SAFETY: see above.
         unsafe { noise_open(self, message.as_mut_ptr(), message.len(), told) }
@@ -421,11 +424,13 @@ impl Receiver {
 }
 
 impl DatagramSender {
+    #[inline]
     pub(crate) fn seal(&mut self, payload: &[u8], out: &mut [u8], told: &mut Told) -> u32 {
         // SAFETY: see above.
         unsafe { noise_datagram_seal(self, payload.as_ptr(), payload.len(), out.as_mut_ptr(), out.len(), told) }
     }
 
+    #[inline]
     pub(crate) fn seal_in_place(&mut self, buffer: &mut [u8], payload_len: usize, told: &mut Told) -> u32 {
         // SAFETY: see above.
         unsafe { noise_datagram_seal_in_place(self, buffer.as_mut_ptr(), buffer.len(), payload_len, told) }
@@ -440,6 +445,7 @@ impl DatagramSender {
 }
 
 impl DatagramReceiver {
+    #[inline]
     pub(crate) fn open(&mut self, datagram: &mut [u8], told: &mut Told) -> u32 {
         // SAFETY: see above.
         unsafe { noise_datagram_open(self, datagram.as_mut_ptr(), datagram.len(), told) }

@@ -71,6 +71,7 @@ pub struct Datagrams {
     receiver: DatagramReceiver,
 }
 
+#[inline]
 fn length(code: u32, told: &Told) -> Result<usize, Error> {
     match code {
         OK => Ok(told.len),
@@ -78,6 +79,7 @@ fn length(code: u32, told: &Told) -> Result<usize, Error> {
     }
 }
 
+#[inline]
 fn place<'m>(code: u32, told: &Told, bytes: &'m mut [u8]) -> Result<&'m mut [u8], Error> {
     let len = length(code, told)?;
     Ok(&mut bytes[told.from..told.from + len])
@@ -85,12 +87,14 @@ fn place<'m>(code: u32, told: &Told, bytes: &'m mut [u8]) -> Result<&'m mut [u8]
 
 impl Sender {
     /// Seals a payload of at most 65519 bytes to the front of `out`: 16 bytes longer. At an error nothing is changed.
+    #[inline]
     pub fn seal(&mut self, payload: &[u8], out: &mut [u8]) -> Result<usize, Error> {
         let mut told = Told::default();
         length(self.0.seal(payload, out, &mut told), &told)
     }
 
     /// Seals in place: the payload is the first `payload_len` bytes of `buffer`, which needs 16 bytes more.
+    #[inline]
     pub fn seal_in_place(&mut self, buffer: &mut [u8], payload_len: usize) -> Result<usize, Error> {
         let mut told = Told::default();
         length(self.0.seal_in_place(buffer, payload_len, &mut told), &told)
@@ -104,6 +108,7 @@ impl Sender {
 
 impl Receiver {
     /// Opens the next message in place, and returns its payload. At an error nothing is changed; over a stream close at the first.
+    #[inline]
     pub fn open<'m>(&mut self, message: &'m mut [u8]) -> Result<&'m mut [u8], Error> {
         let mut told = Told::default();
         place(self.0.open(message, &mut told), &told, message)
@@ -125,11 +130,13 @@ impl Transport {
     }
 
     /// Seals a payload as [`Sender::seal`] does.
+    #[inline]
     pub fn seal(&mut self, payload: &[u8], out: &mut [u8]) -> Result<usize, Error> {
         self.sender.seal(payload, out)
     }
 
     /// Opens the next message as [`Receiver::open`] does.
+    #[inline]
     pub fn open<'m>(&mut self, message: &'m mut [u8]) -> Result<&'m mut [u8], Error> {
         self.receiver.open(message)
     }
@@ -142,12 +149,14 @@ impl Transport {
 
 impl DatagramSender {
     /// Seals a payload of at most 65519 bytes to the front of `out`: 24 bytes longer. At an error nothing is changed.
+    #[inline]
     pub fn seal(&mut self, payload: &[u8], out: &mut [u8]) -> Result<usize, Error> {
         let mut told = Told::default();
         length(self.0.seal(payload, out, &mut told), &told)
     }
 
     /// Seals in place: the payload is `payload_len` bytes of `buffer` from the ninth on, after which 16 bytes more are needed.
+    #[inline]
     pub fn seal_in_place(&mut self, buffer: &mut [u8], payload_len: usize) -> Result<usize, Error> {
         let mut told = Told::default();
         length(self.0.seal_in_place(buffer, payload_len, &mut told), &told)
@@ -162,6 +171,7 @@ impl DatagramSender {
 impl DatagramReceiver {
     /// Opens a datagram in place, and returns its payload. At an error nothing is changed: drop the datagram. `Old` and `Repeated` alone
     /// are no sign of an attack.
+    #[inline]
     pub fn open<'m>(&mut self, datagram: &'m mut [u8]) -> Result<&'m mut [u8], Error> {
         let mut told = Told::default();
         place(self.0.open(datagram, &mut told), &told, datagram)
@@ -179,11 +189,13 @@ impl Datagrams {
     }
 
     /// Seals a payload as [`DatagramSender::seal`] does.
+    #[inline]
     pub fn seal(&mut self, payload: &[u8], out: &mut [u8]) -> Result<usize, Error> {
         self.sender.seal(payload, out)
     }
 
     /// Opens a datagram as [`DatagramReceiver::open`] does.
+    #[inline]
     pub fn open<'m>(&mut self, datagram: &'m mut [u8]) -> Result<&'m mut [u8], Error> {
         self.receiver.open(datagram)
     }
