@@ -1,6 +1,6 @@
 #!/usr/bin/env python3
 """Writes the first listings of docs/GO.md and docs/RUST.md as modules that compile: listings.py FOLDER. It also compares the other listings of docs/GO.md,
-and those of "A secret for each peer" in docs/RUST.md and docs/JAVASCRIPT.md, with the programs and tests that run them.
+and those of "A secret for each peer" in docs/RUST.md, with the programs and tests that run them.
 
 FOLDER/go and FOLDER/rust get the program; their go.mod, Cargo.toml and .cargo/config.toml are those of the page, with the path of this repository, and for
 Go also with what the page adds for Debian's.
@@ -63,7 +63,6 @@ def main() -> None:
     write(folder / "rust/.cargo/config.toml", indented("RUST.md", "[source.crates-io]"))
     write(folder / "rust/src/main.rs", listings("RUST.md", "rust")[0])
     compare("RUST.md", "rust", "bindings/rust/src/stream.rs", "bindings/rust/src/handshake.rs")
-    compare("JAVASCRIPT.md", "js", "bindings/js/test/noise.test.mjs")
 
 
 main()
