@@ -9,8 +9,8 @@ import pytest
 from loops import descriptors, open_keys
 from toys import Xor, configs
 
-from yulimosar import (CallError, ChannelCut, Code, Config, ConfigError, HandshakeTimeout, MessageRefused, NoiseSocket,
-                       accept, connect, sockets)
+from yulimosar import (CallError, Channel, ChannelCut, Code, Config, ConfigError, HandshakeTimeout, MessageRefused,
+                       NoiseSocket, accept, connect, sockets)
 
 LONG = 60
 
@@ -89,6 +89,22 @@ def test_a_conversation():
             call()
         assert caught.value.code is None
     client.close()
+
+
+def test_what_is_sealed_is_taken_by_the_sender_alone(monkeypatch):
+    client, server, _, _ = pair("NN")
+    takers, take = set(), Channel.data_to_send
+
+    def taken(channel):
+        takers.add(threading.get_ident())
+        return take(channel)
+
+    monkeypatch.setattr(Channel, "data_to_send", taken)
+    with client, server:
+        received = in_thread(client.recv, 10)
+        client.sendall(b"there")
+        server.sendall(b"and back")
+        assert (received(), server.recv(10), takers) == (b"and back", b"there", {threading.get_ident()})
 
 
 def test_much_both_ways_at_once():

@@ -68,15 +68,16 @@ class NoiseSocket:
 
     def _shake(self, limit: float | None) -> None:
         end = None if limit is None else time.monotonic() + limit
-        while not isinstance(event := self._event(end), Agreed):
+        while not isinstance(event := self._event(end, shaking=True), Agreed):
             if isinstance(event, Pending):
                 if hasattr(event.awaitable, "close"):
                     event.awaitable.close()
                 self._channel.fail(TypeError("a function of the Config is asynchronous, and a socket isn't"))
         self._agreed = event
 
-    def _event(self, end: float | None = None) -> Event | None:
-        """The next event; before `end`, if that is said."""
+    def _event(self, end: float | None = None, shaking: bool = False) -> Event | None:
+        """The next event; before `end`, if that is said. After the handshake what is sealed is the sender's to take: another
+        thread may be at it."""
         while True:
             try:
                 event = self._channel.next_event()
@@ -85,7 +86,7 @@ class NoiseSocket:
                 if isinstance(fault, ChannelCut) and self._lost is not None:
                     raise fault from self._lost
                 raise
-            if data := self._channel.data_to_send():    # a message of the handshake
+            if shaking and (data := self._channel.data_to_send()):
                 self._within(end, self._sock.sendall, data)
             agreed = self._channel.agreed
             if event is not None or agreed is not None and agreed.initiator and self._channel.one_way:
