@@ -19,7 +19,10 @@ fn write_much(mut client: Stream<TcpStream>, mut server: Stream<TcpStream>) {
             Ok(count) => sent.extend(&part(waits)[..count]),
             Err(error) => {
                 assert_eq!(error.kind(), ErrorKind::WouldBlock);
-                assert_eq!(client.flush().unwrap_err().kind(), ErrorKind::WouldBlock);
+                // The kernel may have made room meanwhile.
+                if let Err(error) = client.flush() {
+                    assert_eq!(error.kind(), ErrorKind::WouldBlock);
+                }
                 waits += 1;
             }
         }

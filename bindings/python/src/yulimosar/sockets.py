@@ -76,8 +76,8 @@ class NoiseSocket:
         self._agreed = event
 
     def _event(self, end: float | None = None, shaking: bool = False) -> Event | None:
-        """The next event; before `end`, if that is said. After the handshake what is sealed is the sender's to take: another
-        thread may be at it."""
+        """The next event; before `end`, if that is said. After the handshake what is sealed is the sender's to take:
+        another thread may be at it."""
         while True:
             try:
                 event = self._channel.next_event()
