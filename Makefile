@@ -1,5 +1,5 @@
 # make           builds the libraries and the command of the assembly text in dist/, in packaging/out; CC is the compiler
-# make install   installs them: PREFIX (/usr/local), LIBDIR (PREFIX/lib), DESTDIR
+# make install   installs them, and noisecat where Go is: PREFIX (/usr/local), LIBDIR (PREFIX/lib), DESTDIR
 # make check     runs the gate, ./check; without Rattle's `rt` it leaves out the proofs
 # make prove     proves the library and the command from the sources, and compares what comes out with dist/; needs `rt`
 # make web       puts the page, for any static server, into out/web
@@ -19,6 +19,7 @@ packaging/out/libnoise_c.a:
 	@packaging/build
 
 install: | packaging/out/libnoise_c.a
+	@packaging/noisecat
 	@packaging/install
 
 check:

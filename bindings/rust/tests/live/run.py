@@ -1,8 +1,8 @@
 #!/usr/bin/env python3
-"""Runs the example `live` of this crate against other implementations over TCP on 127.0.0.1: run.py RUST WORD=PROGRAM.., where WORD is a name, and PROGRAM
-a command that takes the words of examples/live/main.rs.
+"""Runs the ends of one package against each other and against other implementations, over TCP on 127.0.0.1: run.py WORD=PROGRAM.. -- WORD=PROGRAM.., the
+package's own first. WORD is a name, and PROGRAM a command that takes the words of examples/live/main.rs; its last word may be "async".
 
-Each pattern, in both roles, with 1 MB each way at once and both ends closing in each order; over `Stream` and `AsyncStream`. Then again with less bytes
+Each pattern, in both roles, with 1 MB each way at once and both ends closing in each order. Then again with less bytes
 behind a relay that flips, cuts, repeats or drops one byte. What each side reports is compared with the law: it has read the first of what the other has
 written; it reports an end only if the other has ended its stream and all of it came, and else a refused message or a cut; and after that it ends nothing.
 NOISE_LIVE=short takes for each pair of programs and pattern one order, another for the next, and fewer places of a fault.
@@ -184,9 +184,8 @@ def struck(names, programs, number, parts):
 
 def main():
     is_short = os.environ.get("NOISE_LIVE") == "short"
-    rust = sys.argv[1]
-    ours = {"Stream": rust, "AsyncStream": f"{rust} async"}
-    others = dict(word.split("=", 1) for word in sys.argv[2:])
+    split = sys.argv.index("--")
+    ours, others = (dict(word.split("=", 1) for word in words) for words in (sys.argv[1:split], sys.argv[split + 1 :]))
     programs = {**others, **ours}
     pairs = [pair for own in ours for other in programs for pair in ((own, other), (other, own))]
     runs = list(itertools.product(dict.fromkeys(pairs), PATTERNS, ORDERS))
