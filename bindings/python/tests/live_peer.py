@@ -54,7 +54,8 @@ class Run:
 
     def tell(self):
         assert sent_by(not self.initiator, self.size).startswith(self.got), "other bytes"
-        print(f"wrote {self.wrote} {'ended' if self.has_ended else 'open'}, read {len(self.got)} {self.end}", flush=True)
+        ended = "ended" if self.has_ended else "open"
+        print(f"wrote {self.wrote} {ended}, read {len(self.got)} {self.end}", flush=True)
 
 
 class Blocking:
