@@ -23,7 +23,13 @@ type relayed struct {
 	fault         string
 	direction, at int
 	bit           uint
-	waits         int // the party that ends its stream only after the other's has ended; -1: neither
+	waits         int    // the party that ends its stream only after the other's has ended; -1: neither
+	tail          []byte // what came in that direction from the fault's place on
+}
+
+// isAfterTheEnd says whether the fault is a byte more after all that came: a last byte, or one of several equal ones, is repeated.
+func (it *relayed) isAfterTheEnd() bool {
+	return it.fault == "repeat" && bytes.Count(it.tail, it.tail[:1]) == len(it.tail)
 }
 
 // report is what one end has read and written.
@@ -52,7 +58,7 @@ func TestRelay(t *testing.T) {
 				if testing.Short() && at%16 != 0 {
 					continue
 				}
-				it := &relayed{relayFaults[i%len(relayFaults)], direction, at, uint(at) % 8, waits}
+				it := &relayed{relayFaults[i%len(relayFaults)], direction, at, uint(at) % 8, waits, nil}
 				sessions++
 				running.Add(1)
 				free <- true
@@ -94,7 +100,7 @@ func passRelay(t *testing.T, client, server *Config, it *relayed) (sent [2]int) 
 		sent[i] = <-relays[i]
 	}
 	for i := range came {
-		if fault := it.judge(i, &came[i], &came[1-i], sent); fault != "" {
+		if fault := it.judge(i, &came[i], &came[1-i]); fault != "" {
 			t.Errorf("%+v: party %d: %s: got %q, %v", *it, i, fault, came[i].got, came[i].err)
 		}
 	}
@@ -102,7 +108,7 @@ func passRelay(t *testing.T, client, server *Config, it *relayed) (sent [2]int) 
 }
 
 // judge says what of a report of party i the law doesn't allow; other is the other party's.
-func (it *relayed) judge(i int, own, other *report, sent [2]int) string {
+func (it *relayed) judge(i int, own, other *report) string {
 	written := strings.Join(relayTexts[1-i], "")
 	switch {
 	case !strings.HasPrefix(written, string(own.got)):
@@ -111,7 +117,7 @@ func (it *relayed) judge(i int, own, other *report, sent [2]int) string {
 		return "neither an end nor an error"
 	case own.err == io.EOF && (!other.ended || string(own.got) != written):
 		return "an end, and not all of it came"
-	case own.err == io.EOF && it.direction == 1-i && !(it.fault == "repeat" && it.at == sent[it.direction]-1): // a byte after the end
+	case own.err == io.EOF && it.direction == 1-i && !it.isAfterTheEnd():
 		return "an end of what was damaged"
 	case own.err != io.EOF && it.direction < 0:
 		return "an error without a fault"
@@ -181,6 +187,9 @@ func (it *relayed) relay(direction int, from, to *memoryEnd) (count int) {
 		var out []byte
 		for _, b := range room[:n] {
 			here := it.direction == direction && count == it.at
+			if it.direction == direction && count >= it.at {
+				it.tail = append(it.tail, b)
+			}
 			count++
 			switch {
 			case here && it.fault == "cut":

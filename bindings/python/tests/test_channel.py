@@ -325,10 +325,16 @@ class Relay:
     """One direction, with one fault, or none, at a byte."""
 
     def __init__(self, fault, at, bit):
-        self.fault, self.at, self.bit, self.sent, self.waiting, self.closed = fault, at, bit, 0, bytearray(), False
+        self.fault, self.at, self.bit, self.waiting, self.closed = fault, at, bit, bytearray(), False
+        self.came = bytearray()
+
+    def is_after_the_end(self):
+        """Whether the fault is a byte more after all that came: a last byte, or one of several equal ones, is repeated."""
+        return self.fault == "repeat" and len(set(self.came[self.at:])) == 1
 
     def send(self, data):
-        at, self.sent = self.at - self.sent, self.sent + len(data)
+        at = self.at - len(self.came)
+        self.came += data
         if self.closed:
             return
         if self.fault == "nothing" or not 0 <= at < len(data):
@@ -391,7 +397,7 @@ def pass_relay(configured, waits, faults, pieces):
                     call()
             assert party.channel.data_to_send() == b""
     judge(parties)
-    return parties, [relay.sent for relay in relays]
+    return parties, relays
 
 
 def judge(parties):
@@ -411,15 +417,15 @@ def test_relay():
     for waits in ((False, False), (True, False), (False, True)):
         configured = configs("XX", interval=2)
         none = ("nothing", -1, 0)
-        parties, sent = pass_relay(configured, waits, [none, none], pieces)
+        parties, relays = pass_relay(configured, waits, [none, none], pieces)
         assert all(party.got_end and party.fault is None for party in parties)
         for direction, kind in itertools.product((0, 1), ("flip", "cut", "repeat", "drop")):
-            for at in range(sent[direction]):
+            for at in range(len(relays[direction].came)):
                 fault = (kind, at, pieces.randrange(8))
                 faults = [fault, none] if direction == 0 else [none, fault]
-                parties, _ = pass_relay(configured, waits, faults, pieces)
-                last = kind == "repeat" and at == sent[direction] - 1    # a byte after the end
-                assert last or not parties[1 - direction].got_end, (waits, direction, fault)
+                parties, damaged = pass_relay(configured, waits, faults, pieces)
+                after = damaged[direction].is_after_the_end()
+                assert after or not parties[1 - direction].got_end, (waits, direction, fault)
                 sessions += 1
     assert sessions > 4000
 

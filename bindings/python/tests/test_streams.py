@@ -504,6 +504,7 @@ class Relay:
 
     def __init__(self, address, direction=-1, fault="", at=0):
         self.address, self.direction, self.fault, self.at, self.sent = address, direction, fault, at, [0, 0]
+        self.tail = bytearray()             # what comes in that direction from the fault's place on
         self.idle = 0.3 if fault else 60    # in seconds: where both wait, the connections are lost
         self.done = asyncio.Event()
 
@@ -523,6 +524,8 @@ class Relay:
             self.timeout.reschedule(asyncio.get_running_loop().time() + self.idle)
             at, self.sent[direction] = self.at - self.sent[direction], self.sent[direction] + len(data)
             cut = False
+            if direction == self.direction and at < len(data):
+                self.tail += data[max(at, 0):]
             if direction == self.direction and 0 <= at < len(data):
                 here = {"flip": bytes([data[at] ^ 1 << at % 8]), "repeat": data[at:at + 1] * 2}.get(self.fault, b"")
                 cut = self.fault == "cut"
@@ -585,16 +588,17 @@ async def pass_relay(configured, waits, direction, fault, at):
         if tasks:
             await asyncio.wait(tasks)
         server.close()
-    return reports, relay.sent
+    return reports, relay
 
 
-def judge(reports, direction, fault, last):
+def judge(reports, direction, after):
+    """`after` is whether the fault is a byte more after all that came."""
     for role, report in enumerate(reports):
         written = "".join(TEXTS[1 - role]).encode()
         assert written.startswith(report.got)
         if report.end is True:
             assert reports[1 - role].ended and report.got == written
-            assert direction != 1 - role or last, "an end of what was damaged"
+            assert direction != 1 - role or after, "an end of what was damaged"
         elif report.end is not None:
             assert isinstance(report.end, ConnectionError) and direction >= 0
             assert role == 0 and report.late is None and not report.got or report.late is not None
@@ -605,18 +609,18 @@ def judge(reports, direction, fault, last):
 def test_relay(waits):
     async def main(_told):
         configured = configs("XX", interval=2)
-        reports, sent = await pass_relay(configured, waits, -1, "", 0)
+        reports, whole = await pass_relay(configured, waits, -1, "", 0)
         assert all(report.end is True for report in reports)
         free = asyncio.Semaphore(16)
 
         async def one(direction, fault, at):
             async with free:
-                reports, _ = await pass_relay(configured, waits, direction, fault, at)
-                judge(reports, direction, fault, fault == "repeat" and at == sent[direction] - 1)
+                reports, relay = await pass_relay(configured, waits, direction, fault, at)
+                judge(reports, direction, fault == "repeat" and len(set(relay.tail)) == 1)
 
         async with asyncio.TaskGroup() as group:
             for direction in (0, 1):
-                for number, at in enumerate(range(0, sent[direction], STEP)):
+                for at in range(0, whole.sent[direction], STEP):
                     for fault in ("flip", "cut", "repeat", "drop"):
                         group.create_task(one(direction, fault, at))
     run(main)

@@ -37,17 +37,19 @@ class Direction:
     def __init__(self, fault=None, at=None):
         self.fault, self.at = fault, at
         self.sent, self.is_struck, self.is_whole = 0, False, True
+        self.repeated = set()  # the byte that is there twice
 
     def pass_on(self, data):
         """The bytes to pass on, and whether the connection is cut after them."""
         start, self.sent = self.sent, self.sent + len(data)
         if self.is_struck:
-            self.is_whole = False
+            self.is_whole = self.is_whole and set(data) <= self.repeated
         if self.fault is None or not start <= self.at < self.sent:
             return data, False
         place, self.is_struck = self.at - start, True
         before, byte, after = data[:place], data[place : place + 1], data[place + 1 :]
-        self.is_whole = self.fault == "repeat" and not after  # then it comes after the end
+        self.repeated = set(byte) if self.fault == "repeat" else set()
+        self.is_whole = self.fault == "repeat" and set(after) <= self.repeated  # then it comes after the end
         changed = {"flip": bytes([byte[0] ^ 1 << self.at % 8]), "cut": b"", "repeat": byte * 2, "drop": b""}[self.fault]
         return before + changed + (b"" if self.fault == "cut" else after), self.fault == "cut"
 
