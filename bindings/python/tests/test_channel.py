@@ -329,7 +329,7 @@ class Relay:
         self.came = bytearray()
 
     def is_after_the_end(self):
-        """Whether the fault is a byte more after all that came: the last byte, or one of several equal ones, is repeated."""
+        """Whether the fault is one more byte after all that came: the last one, or one of equal ones, is repeated."""
         return self.fault == "repeat" and len(set(self.came[self.at:])) == 1
 
     def send(self, data):
