@@ -42,39 +42,15 @@ pub struct Handshake<K: Keys> {
 }
 
 impl<K: Keys> Model for Handshake<K> {
-    ghost use Rattle.std.specs.Prelude.{◌≡◌, ◌≤◌, length, drop};
-    ghost use Rattle.noise_names.specs.Plan.{has_psk};
     ghost use Rattle.noise_handshake.specs.Held.{Held};
-    ghost use Rattle.noise_handshake.specs.inner.Known.{KnowsRemote};
-    ghost use Rattle.noise_handshake.specs.inner.Sound.{IsSound};
-    ghost use Rattle.noise_handshake.specs.inner.Layout.{LaysNext};
-    ghost use Rattle.noise_names.specs.Validity.{IsValid};
 
     ghost Value = { Held K };
 
-    ghost view = { λ a. record {
-      pattern = a.pattern;
-      role = a.role;
-      keys = a.keys;
-      remote = a.remote;
-      secrets = drop a.used a.secrets.items;
-      passed = a.passed;
-      ended = a.ended;
-      state = a.state;
-    } };
+    ghost use Rattle.noise_handshake.specs.inner.Kept.{held_in, IsKept};
 
-    ghost invariant = { λ a. let h : Held K = record {
-      pattern = a.pattern;
-      role = a.role;
-      keys = a.keys;
-      remote = a.remote;
-      secrets = drop a.used a.secrets.items;
-      passed = a.passed;
-      ended = a.ended;
-      state = a.state;
-    } in
-        (a.psks ≡ has_psk a.pattern) × (a.used ≤ length a.secrets.items) × IsSound K.public_of h × KnowsRemote h × LaysNext a.pattern a.passed a.next
-        × IsValid a.pattern };
+    ghost view = { held_in };
+
+    ghost invariant = { IsKept K.public_of };
 }
 
 impl<K: Keys> Handshake<K> {

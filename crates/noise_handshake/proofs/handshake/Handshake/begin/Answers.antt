@@ -1,8 +1,9 @@
-use Rattle.std.proofs.Common.{◌≡◌, ℕ, List, length, ap, sym, subst, ◌∙◌, arith}
+use Rattle.std.proofs.Common.{◌≡◌, ℕ, length, ap, sym, subst, ◌∙◌, arith}
 use Rattle.std.specs.Prelude.{Bool, not, false, None}
 use Rattle.noise_names.specs.declared.token.Role.TheVariants.{Initiator, Responder}
 use Rattle.noise_names.specs.Plan.{Plan, has_psk}
 use Rattle.noise_handshake.specs.declared.remote.Remote.{Remote}
+use Rattle.noise_handshake.specs.Held.{Held}
 use Rattle.noise_handshake.specs.Setup.{keys_of, setup_fault, secrets_of}
 use Rattle.noise_handshake.specs.inner.PreMessage.{HasPre}
 use Rattle.noise_handshake.specs.inner.Sound.{IsSound}
@@ -47,17 +48,17 @@ invariant_of-result g c =
     let b : Bool = not c.is_plain-with_psks.result in
     let psks : b ≡ has_psk plan = flips c.is_plain-with_psks.result (has_psk plan) c.is_plain-with_psks.ensures in
     let count : n ≡ secrets_of plan.messages = counted plan c.args.role own c.args.remote n none in
-    let items : List (List ℕ) = c.args.secrets.items in
-    let h : IsSound P (record {
-      pattern = plan;
+    let at : Plan → Held g.row.K.Denot = λ z. record {
+      pattern = z;
       role = c.args.role;
       keys = c.args.keys;
       remote = c.args.remote;
-      secrets = items;
+      secrets = c.args.secrets.items;
       passed = 0;
       ended = false;
       state = c.start-state.result;
-    }) = record {
+    } in
+    let sound : IsSound P (at plan) = record {
       within = omega arith;
       few = few-messages plan c.messages.ensures.limits;
       secrets = count;
@@ -66,33 +67,16 @@ invariant_of-result g c =
       keyed = c.start-state.ensures.key;
       nonce = c.start-state.ensures.nonce;
       bound = omega (arith, c.start-state.ensures.nonce);
+    } in
+    let known = remote-exactly plan c.args.role own c.args.remote n none in
+    let knows : KnowsRemote (at plan) = record {
+      e = known.0 ∙ sym (stands-start plan (other c.args.role) E);
+      s = known.1 ∙ sym (stands-start plan (other c.args.role) S);
     } in (
       psks ∙ ap has_psk q,
       omega arith,
-      subst (λ (z : Plan). IsSound P (record {
-        pattern = z;
-        role = c.args.role;
-        keys = c.args.keys;
-        remote = c.args.remote;
-        secrets = items;
-        passed = 0;
-        ended = false;
-        state = c.start-state.result;
-      })) q h,
-      (let known = remote-exactly plan c.args.role own c.args.remote n none in
-          subst (λ (z : Plan). KnowsRemote (record {
-            pattern = z;
-            role = c.args.role;
-            keys = c.args.keys;
-            remote = c.args.remote;
-            secrets = items;
-            passed = 0;
-            ended = false;
-            state = c.start-state.result;
-          })) q (record {
-            e = known.0 ∙ sym (stands-start plan (other c.args.role) E);
-            s = known.1 ∙ sym (stands-start plan (other c.args.role) S);
-          })),
+      subst (λ (z : Plan). IsSound P (at z)) q sound,
+      subst (λ (z : Plan). KnowsRemote (at z)) q knows,
       subst (λ (z : Plan). LaysNext z 0 c.lay_next-next.result) q c.lay_next-next.ensures,
       c.pattern-plan.ensures.valid,
     )

@@ -1,142 +1,35 @@
-use Rattle.std.proofs.Common.{◌≡◌, ◌<◌, ◌≤◌, ℕ, List, length, drop, ap, sym, subst, ◌∙◌, arith}
-use Rattle.std.specs.Prelude.{None, count_by, true, is_some}
-use Rattle.noise_names.specs.Overhead.{has_key}
-use Rattle.noise_handshake.specs.Held.{Held, read_fault}
-use Rattle.noise_handshake.specs.View.{tokens_at, tokens_now}
-use Rattle.noise_handshake.specs.inner.Known.{are_known}
-use Rattle.noise_handshake.proofs.Knowing.{reading-known}
-use Rattle.noise_handshake.proofs.Layouts.{length-tokens_of, tokens-laid, places-laid}
-use Rattle.noise_handshake.proofs.Standing.{due, tokens-are, listening, listens}
+use Rattle.std.proofs.Common.{refl, sym, ◌∙◌, arith}
+use Rattle.noise_handshake.proofs.Next.{reads-next, places-next, secrets-next, nonces-next, known-next, trial-next, listening-next}
 use Rattle.noise_handshake.proofs.Wanted.{wants}
-use Rattle.noise_state.specs.Standing.{keyed, nonce_now}
-use Rattle.noise_names.specs.declared.token.Token.{Token}
-use Rattle.noise_names.specs.Plan.{has_psk}
-use Rattle.noise_names.specs.Tokens.{is_psk}
-use Rattle.noise_handshake.specs.declared.layout.PlacedToken.{PlacedToken}
-use Rattle.noise_handshake.specs.declared.layout.MessageLayout.{MessageLayout}
-use Rattle.noise_handshake.specs.Passed.{passed_places}
-use Rattle.noise_handshake.specs.Party.{Stands}
-use Rattle.noise_handshake.specs.inner.Layout.{tokens_of, IsLaid}
-use Rattle.noise_handshake.proofs.Keeping.{enough}
-use Rattle.noise_handshake.proofs.Views.{items-from}
 use Rattle.noise_handshake.proofs.handshake.Handshake.wants_to_read.Goals as goal
 
 pub read_lacking-requires-clause-placed : goal.read_lacking-requires-clause-placed
 read_lacking-requires-clause-placed g c =
-    let a = c.self.inside in
-    let i = c.self.invariant in
-    let h : Held g.row.K.Denot = record {
-      pattern = a.pattern;
-      role = a.role;
-      keys = a.keys;
-      remote = a.remote;
-      secrets = drop a.used a.secrets.items;
-      passed = a.passed;
-      ended = a.ended;
-      state = a.state;
-    } in
-    let none : read_fault h ≡ None = ap (λ (z : Held g.row.K.Denot). read_fault z) c.self.view_is ∙ sym c.read_fault.ensures.value ∙ c.in_default.is in
-    let less : a.passed < length a.pattern.messages = due h i.2.within none in
-    let found : MessageLayout = a.next in
-    let laid : IsLaid (has_psk a.pattern) (has_key a.pattern (passed_places a.pattern a.passed)) (tokens_at a.pattern.messages a.passed) found = i.4 less in
-    let placed : List PlacedToken = c.deref-2.result.now in
-    places-laid a.pattern a.passed found laid placed c.deref-2.ensures.0 a.psks (keyed a.state) i.0 i.2.keyed
+    let less = reads-next g.K.Keys.public_of c.self.inside c.self.invariant c.args.self.now c.self.view_is (sym c.read_fault.ensures.value ∙ c.in_default.is) in
+    places-next g.K.Keys.public_of c.self.inside c.self.invariant less c.deref-2.result.now c.deref-2.ensures.0 c.self.inside.state refl
 
 pub read_lacking-requires-clause-secrets : goal.read_lacking-requires-clause-secrets
 read_lacking-requires-clause-secrets g c =
-    let P = g.K.Keys.public_of in
-    let a = c.self.inside in
-    let i = c.self.invariant in
-    let h : Held g.row.K.Denot = record {
-      pattern = a.pattern;
-      role = a.role;
-      keys = a.keys;
-      remote = a.remote;
-      secrets = drop a.used a.secrets.items;
-      passed = a.passed;
-      ended = a.ended;
-      state = a.state;
-    } in
-    let none : read_fault h ≡ None = ap (λ (z : Held g.row.K.Denot). read_fault z) c.self.view_is ∙ sym c.read_fault.ensures.value ∙ c.in_default.is in
-    let less : a.passed < length a.pattern.messages = due h i.2.within none in
-    let found : MessageLayout = a.next in
-    let laid : IsLaid (has_psk a.pattern) (has_key a.pattern (passed_places a.pattern a.passed)) (tokens_at a.pattern.messages a.passed) found = i.4 less in
-    let placed : List PlacedToken = c.deref-2.result.now in
-    let ts : List Token = tokens_of placed in
-    let e : ts ≡ tokens_at a.pattern.messages a.passed = tokens-laid a.pattern a.passed found laid placed c.deref-2.ensures.0 in
-    let d = items-from c.deref.result.now a.secrets.items a.used c.deref.ensures.0 in
-    subst (λ (z : List (List ℕ)). count_by is_psk ts ≤ length z) (sym d) (enough P h i.2 ts e less)
+    let less = reads-next g.K.Keys.public_of c.self.inside c.self.invariant c.args.self.now c.self.view_is (sym c.read_fault.ensures.value ∙ c.in_default.is) in
+    secrets-next g.K.Keys.public_of c.self.inside c.self.invariant less c.deref-2.result.now c.deref-2.ensures.0 c.deref.result.now c.deref.ensures.0
 
 pub read_lacking-requires-clause-nonces : goal.read_lacking-requires-clause-nonces
 read_lacking-requires-clause-nonces g c =
-    let a = c.self.inside in
-    let i = c.self.invariant in
-    let h : Held g.row.K.Denot = record {
-      pattern = a.pattern;
-      role = a.role;
-      keys = a.keys;
-      remote = a.remote;
-      secrets = drop a.used a.secrets.items;
-      passed = a.passed;
-      ended = a.ended;
-      state = a.state;
-    } in
-    let none : read_fault h ≡ None = ap (λ (z : Held g.row.K.Denot). read_fault z) c.self.view_is ∙ sym c.read_fault.ensures.value ∙ c.in_default.is in
-    let less : a.passed < length a.pattern.messages = due h i.2.within none in
-    let placed : List PlacedToken = c.deref-2.result.now in
-    let ts : List Token = tokens_of placed in
-    let few : length ts ≤ 10 = omega (arith, length-tokens_of placed, c.deref-2.ensures.1) in
-    omega (arith, i.2.bound, i.2.few, less, few)
+    let less = reads-next g.K.Keys.public_of c.self.inside c.self.invariant c.args.self.now c.self.view_is (sym c.read_fault.ensures.value ∙ c.in_default.is) in
+    nonces-next g.K.Keys.public_of c.self.inside c.self.invariant less c.deref-2.result.now c.deref-2.ensures.0 c.self.inside.state refl
+    (omega (arith, c.deref-2.ensures.1))
 
 pub read_lacking-requires-clause-known : goal.read_lacking-requires-clause-known
 read_lacking-requires-clause-known g c =
-    let a = c.self.inside in
-    let i = c.self.invariant in
-    let h : Held g.row.K.Denot = record {
-      pattern = a.pattern;
-      role = a.role;
-      keys = a.keys;
-      remote = a.remote;
-      secrets = drop a.used a.secrets.items;
-      passed = a.passed;
-      ended = a.ended;
-      state = a.state;
-    } in
-    let none : read_fault h ≡ None = ap (λ (z : Held g.row.K.Denot). read_fault z) c.self.view_is ∙ sym c.read_fault.ensures.value ∙ c.in_default.is in
-    let less : a.passed < length a.pattern.messages = due h i.2.within none in
-    let found : MessageLayout = a.next in
-    let laid : IsLaid (has_psk a.pattern) (has_key a.pattern (passed_places a.pattern a.passed)) (tokens_at a.pattern.messages a.passed) found = i.4 less in
-    let placed : List PlacedToken = c.deref-2.result.now in
-    let ts : List Token = tokens_of placed in
-    let e : ts ≡ tokens_at a.pattern.messages a.passed = tokens-laid a.pattern a.passed found laid placed c.deref-2.ensures.0 in
-    subst (λ (zs : List Token). are_known a.role (is_some a.remote.e) (is_some a.remote.s) zs ≡ true) (sym e)
-    (reading-known a.pattern a.passed less i.5 a.role (is_some a.remote.e) (is_some a.remote.s) i.3.e i.3.s)
+    let less = reads-next g.K.Keys.public_of c.self.inside c.self.invariant c.args.self.now c.self.view_is (sym c.read_fault.ensures.value ∙ c.in_default.is) in
+    known-next g.K.Keys.public_of c.self.inside c.self.invariant less c.deref-2.result.now c.deref-2.ensures.0
 
 pub returns : goal.returns
 returns g c v s =
-    let P = g.K.Keys.public_of in
-    let a = c.self.inside in
-    let i = c.self.invariant in
-    let h : Held g.row.K.Denot = record {
-      pattern = a.pattern;
-      role = a.role;
-      keys = a.keys;
-      remote = a.remote;
-      secrets = drop a.used a.secrets.items;
-      passed = a.passed;
-      ended = a.ended;
-      state = a.state;
-    } in
-    let none : read_fault h ≡ None = ap (λ (z : Held g.row.K.Denot). read_fault z) c.self.view_is ∙ sym c.read_fault.ensures.value ∙ c.in_default.is in
-    let less : a.passed < length a.pattern.messages = due h i.2.within none in
-    let found : MessageLayout = a.next in
-    let laid : IsLaid (has_psk a.pattern) (has_key a.pattern (passed_places a.pattern a.passed)) (tokens_at a.pattern.messages a.passed) found = i.4 less in
-    let placed : List PlacedToken = c.deref-2.result.now in
-    let ts : List Token = tokens_of placed in
-    let e : ts ≡ tokens_at a.pattern.messages a.passed = tokens-laid a.pattern a.passed found laid placed c.deref-2.ensures.0 in
-    let d = items-from c.deref.result.now a.secrets.items a.used c.deref.ensures.0 in
     let A = g.K.Keys.agreement in
-    let s0 : Stands P A h v = subst (λ (z : Held g.row.K.Denot). Stands P A z v) (sym c.self.view_is) s in
-    let here : ts ≡ tokens_now v = e ∙ tokens-are P A h v s0 in
-    let l = listening P A h v s0 a.psks _ ts (listens P A h v s0 i.2.within none) i.0 d here in
-    wants v c.args.message.now c.read_lacking.result a.role a.psks (A a.keys) _ a.remote ts l (c.read_lacking.ensures v.history s0.history)
+    let a = c.self.inside in
+    let less = reads-next g.K.Keys.public_of c.self.inside c.self.invariant c.args.self.now c.self.view_is (sym c.read_fault.ensures.value ∙ c.in_default.is) in
+    let l = listening-next g.K.Keys.public_of c.self.inside c.self.invariant less c.deref-2.result.now c.deref-2.ensures.0 A c.args.self.now c.self.view_is v s
+    c.deref.result.now c.deref.ensures.0 (sym c.read_fault.ensures.value ∙ c.in_default.is) in
+    let trial = trial-next g.K.Keys.public_of c.self.inside c.self.invariant less c.deref-2.result.now c.deref-2.ensures.0 A c.args.self.now c.self.view_is v s a.state refl in
+    wants v c.args.message.now c.read_lacking.result a.role a.psks (A a.keys) _ a.remote _ l (c.read_lacking.ensures v.history trial)
