@@ -12,7 +12,7 @@ use Rattle.noise_handshake.specs.declared.faults.Cause.{Cause}
 use Rattle.noise_handshake.specs.declared.faults.Cause.TheVariants.{Agreement}
 use Rattle.noise_handshake.specs.declared.faults.ReadFault.{ReadFault}
 use Rattle.noise_handshake.specs.declared.faults.ReadFault.TheVariants as read
-use Rattle.noise_handshake.specs.Held.{Held, Advances, IsAgreement, ended_as, is_turn, length_now, write_fault}
+use Rattle.noise_handshake.specs.Held.{Held, Advances, IsAgreement, ended_as, is_turn, length_now, read_fault, write_fault}
 use Rattle.noise_handshake.specs.declared.faults.WriteFault.{WriteFault}
 use Rattle.noise_handshake.specs.declared.faults.WriteFault.TheVariants as write
 use Rattle.noise_keys.specs.declared.faults.SetupFault.{SetupFault}
@@ -27,6 +27,9 @@ use Rattle.noise_handshake.proofs.Fronts.{lacks-all, lacks-first, lacks-for-all}
 use Rattle.noise_handshake.specs.inner.Late.{without_last, IsPskAfter}
 use Rattle.noise_handshake.specs.inner.Listening.{BeginsBefore}
 use Rattle.noise_handshake.proofs.Apart.{front-apart, reads-leads}
+use Rattle.noise_handshake.specs.declared.late_faults.Want.{Want}
+use Rattle.noise_handshake.specs.declared.stop.Stop.{Stop}
+use Rattle.noise_handshake.proofs.Standing.{ends, listens, with-secrets}
 use Rattle.noise_handshake.proofs.Later.{count-take, count-less, given-same, leads-same, reads-same, stops-same, stops-for-same, lacks-same, lacks-for-same}
 use Rattle.noise_handshake.proofs.Keeping.{secrets_of-drop}
 use Rattle.noise_handshake.proofs.Once.{refuses-one}
@@ -188,59 +191,45 @@ module _ (s later : List (List ℕ)) (lacking : ℕ) (w : lacking ≤ length s) 
       (ap (λ (k : ℕ). take k snew) count ∙ ap (take (given - c)) n ∙ sym (drop-take c (given - c) s) ∙ ap (λ (k : ℕ). drop c (take k s)) whole)
       ∙ sym (drop-append-le c (take given s) later (omega (arith, h, length-given))) ∙ ap (drop c) e
 
--- ---- the view of what was filled up
+-- ---- the view of what was filled up, where g is what the handshake holds without the last secrets
+
+module _ {K : Type 0} (h : Held K) (lacking : ℕ) (w : lacking ≤ length h.secrets) (g : Held K) (seen : without_last lacking h ≡ g) where
+  given-is : length g.secrets ≡ length h.secrets - lacking
+  given-is = ap (λ (z : Held K). length z.secrets) (sym seen) ∙ length-given h.secrets [] lacking w
 
 module _ {K : Type 0} (public_of : K → Own → Option (List ℕ)) (agreement : K → Own → List ℕ → Option (List ℕ)) (h : Held K) (lacking : ℕ)
-    (w : lacking ≤ length h.secrets) (v : View) (later : List (List ℕ)) (s : Stands public_of agreement (with_later (without_last lacking h) later) v) where
+    (w : lacking ≤ length h.secrets) (g : Held K) (seen : without_last lacking h ≡ g) (v : View) (later : List (List ℕ))
+    (s : Stands public_of agreement (with_later g later) v) where
+  begins : Stands public_of agreement (with_later (without_last lacking h) later) v
+  begins = subst (λ (z : Held K). Stands public_of agreement (with_later z later) v) (sym seen) s
+
   pub stands-filled : Stands public_of agreement h (holding v h.secrets)
-  stands-filled = record {
-    pattern = s.pattern;
-    role = s.role;
-    secrets = refl;
-    own = s.own;
-    agree = s.agree;
-    remote = s.remote;
-    passed = s.passed;
-    ended = s.ended;
-    history = s.history;
-  }
+  stands-filled =
+      with-secrets public_of agreement (with_later (without_last lacking h) later) v begins h.secrets h.secrets
+      (refl)
 
-  pub agrees : take (length h.secrets - lacking) h.secrets ≡ take (length h.secrets - lacking) v.secrets
-  agrees = same-given h.secrets later lacking w v.secrets s.secrets
+  pub agrees : take (length g.secrets) h.secrets ≡ take (length g.secrets) v.secrets
+  agrees =
+      subst (λ (k : ℕ). take k h.secrets ≡ take k v.secrets) (sym (given-is h lacking w g seen))
+      (same-given h.secrets later lacking w v.secrets begins.secrets)
 
-  pub after-read : (h2 : Held K) (xs : List (List ℕ)) (payload : List ℕ) → count_by is_psk (tokens_now v) ≤ length h.secrets - lacking
+  pub after-read : (h2 : Held K) (xs : List (List ℕ)) (payload : List ℕ) → count_by is_psk (tokens_now v) ≤ length g.secrets
       → Stands public_of agreement h2 (after_message (holding v h.secrets) xs payload)
       → Stands public_of agreement (with_later (without_last lacking h2) later) (after_message v xs payload)
-  after-read h2 xs payload c t = record {
-    pattern = t.pattern;
-    role = t.role;
-    secrets = after-given h.secrets later lacking w v.secrets h2.secrets (count_by is_psk (tokens_now v)) c t.secrets s.secrets;
-    own = t.own;
-    agree = t.agree;
-    remote = t.remote;
-    passed = t.passed;
-    ended = t.ended;
-    history = t.history;
-  }
+  after-read h2 xs payload c t =
+      with-secrets public_of agreement h2 (after_message (holding v h.secrets) xs payload) t _ _
+      (after-given h.secrets later lacking w v.secrets h2.secrets (count_by is_psk (tokens_now v)) (omega (arith, c, given-is h lacking w g seen)) t.secrets begins.secrets)
 
-  pub after-written : (h2 : Held K) (xs : List (List ℕ)) (payload : List ℕ) → count_by is_psk (tokens_now v) ≤ length h.secrets - lacking
+  pub after-written : (h2 : Held K) (xs : List (List ℕ)) (payload : List ℕ) → count_by is_psk (tokens_now v) ≤ length g.secrets
       → Stands public_of agreement h2 (after_own (holding v h.secrets) xs payload)
       → Stands public_of agreement (with_later (without_last lacking h2) later) (after_own v xs payload)
-  after-written h2 xs payload c t = record {
-    pattern = t.pattern;
-    role = t.role;
-    secrets = after-given h.secrets later lacking w v.secrets h2.secrets (count_by is_psk (tokens_now v)) c t.secrets s.secrets;
-    own = t.own;
-    agree = t.agree;
-    remote = t.remote;
-    passed = t.passed;
-    ended = t.ended;
-    history = t.history;
-  }
+  after-written h2 xs payload c t =
+      with-secrets public_of agreement h2 (after_own (holding v h.secrets) xs payload) t _ _
+      (after-given h.secrets later lacking w v.secrets h2.secrets (count_by is_psk (tokens_now v)) (omega (arith, c, given-is h lacking w g seen)) t.secrets begins.secrets)
 
 -- ---- what a message leaves
 
-pub late-advances : {K : Type 0} (h h2 : Held K) (lacking : ℕ) → lacking ≤ length h2.secrets → Advances h h2
+late-advances : {K : Type 0} (h h2 : Held K) (lacking : ℕ) → lacking ≤ length h2.secrets → Advances h h2
     → Advances (without_last lacking h) (without_last lacking h2)
 late-advances h h2 lacking w a =
     let count : length h.secrets - lacking ≡ length a.taken + (length h2.secrets - lacking) =
@@ -257,7 +246,7 @@ late-advances h h2 lacking w a =
     }
 
 -- the secrets that lack are still to come
-pub lacking-left : {K : Type 0} (h h2 : Held K) (lacking : ℕ) → Advances h h2 → h.passed < length h.pattern.messages
+lacking-left : {K : Type 0} (h h2 : Held K) (lacking : ℕ) → Advances h h2 → h.passed < length h.pattern.messages
     → length h.secrets ≡ secrets_of (drop h.passed h.pattern.messages) → length h2.secrets ≡ secrets_of (drop h2.passed h2.pattern.messages)
     → lacking ≤ length h.secrets → count_by is_psk (tokens_at h.pattern.messages h.passed) ≤ length h.secrets - lacking → lacking ≤ length h2.secrets
 lacking-left h h2 lacking a due n n2 w c =
@@ -265,6 +254,16 @@ lacking-left h h2 lacking a due n n2 w c =
     let left : length h2.secrets ≡ secrets_of (drop (suc h.passed) h.pattern.messages) =
     n2 ∙ ap (λ (k : ℕ). secrets_of (drop k h2.pattern.messages)) next ∙ ap (λ (p : Plan). secrets_of (drop (suc h.passed) p.messages)) a.pattern in
     omega (arith, n, left, secrets_of-drop h.pattern.messages h.passed due, w, c)
+
+module _ {K : Type 0} (h : Held K) (lacking : ℕ) (w : lacking ≤ length h.secrets) (g : Held K) (seen : without_last lacking h ≡ g)
+    (few : count_by is_psk (tokens_at h.pattern.messages h.passed) ≤ length g.secrets) (h2 : Held K) (a : Advances h h2)
+    (due : h.passed < length h.pattern.messages) (n : length h.secrets ≡ secrets_of (drop h.passed h.pattern.messages))
+    (n2 : length h2.secrets ≡ secrets_of (drop h2.passed h2.pattern.messages)) where
+  pub left-after : lacking ≤ length h2.secrets
+  left-after = lacking-left h h2 lacking a due n n2 w (omega (arith, few, given-is h lacking w g seen))
+
+  pub advances-after : Advances g (without_last lacking h2)
+  advances-after = subst (λ (z : Held K). Advances z (without_last lacking h2)) seen (late-advances h h2 lacking left-after a)
 
 -- ---- what a handshake may hold
 
@@ -301,12 +300,16 @@ wants-all : (v : View) (own : Own) (key : List ℕ) (w : WantsToWrite v own key)
 wants-all v own key w = omega (arith, w.lacks.lacks.within)
 
 module _ {K : Type 0} (public_of : K → Own → Option (List ℕ)) (agreement : K → Own → List ℕ → Option (List ℕ)) (h : Held K) (lacking : ℕ)
-    (w : lacking ≤ length h.secrets) (v : View) (later : List (List ℕ)) (s : Stands public_of agreement (with_later (without_last lacking h) later) v) where
+    (w : lacking ≤ length h.secrets) (g : Held K) (seen : without_last lacking h ≡ g) (v : View) (later : List (List ℕ))
+    (s : Stands public_of agreement (with_later g later) v) where
   abbrev n : ℕ
-  n = length h.secrets - lacking
+  n = length g.secrets
+
+  filled : Stands public_of agreement h (holding v h.secrets)
+  filled = stands-filled public_of agreement h lacking w g seen v later s
 
   pub same-tokens : tokens_at h.pattern.messages h.passed ≡ tokens_now v
-  same-tokens = ap (λ (p : Plan). tokens_at p.messages h.passed) s.pattern ∙ ap (λ (k : ℕ). tokens_at v.pattern.messages k) s.passed
+  same-tokens = ap (λ (p : Plan). tokens_at p.messages h.passed) filled.pattern ∙ ap (λ (k : ℕ). tokens_at v.pattern.messages k) filled.passed
 
   pub few-now : count_by is_psk (tokens_at h.pattern.messages h.passed) ≤ n → count_by is_psk (tokens_now v) ≤ n
   few-now c = subst (λ (us : List Token). count_by is_psk us ≤ n) same-tokens c
@@ -314,23 +317,23 @@ module _ {K : Type 0} (public_of : K → Own → Option (List ℕ)) (agreement :
   pub write-none : count_by is_psk (tokens_at h.pattern.messages h.passed) ≤ n → ((token : ℕ) → LacksAnswer (holding v h.secrets) token → ⊥)
       → (token : ℕ) → LacksAnswer v token → ⊥
   write-none c f token l =
-      f token (lacks-back v h.secrets n (agrees public_of agreement h lacking w v later s) token
+      f token (lacks-back v h.secrets n (agrees public_of agreement h lacking w g seen v later s) token
       (omega (arith, few-now c, count-take (tokens_now v) (suc token))) l)
 
   pub write-answer : (own : Own) (key : List ℕ) → count_by is_psk (tokens_at h.pattern.messages h.passed) ≤ n
       → WantsToWrite (holding v h.secrets) own key → WantsToWrite v own key
   write-answer own key c a =
-      wants-write-held v h.secrets n (agrees public_of agreement h lacking w v later s) own key (length (tokens_now v))
+      wants-write-held v h.secrets n (agrees public_of agreement h lacking w g seen v later s) own key (length (tokens_now v))
       (omega (arith, few-now c, count-take (tokens_now v) (length (tokens_now v)))) a (wants-all (holding v h.secrets) own key a)
 
-  module _ (k : ℕ) (at : IsPskAfter (tokens_at h.pattern.messages h.passed) n k) where
+  module _ (count : ℕ) (e : count ≡ n) (k : ℕ) (at : IsPskAfter (tokens_at h.pattern.messages h.passed) count k) where
     pub at-now : IsPskAfter (tokens_now v) n k
-    at-now = subst (λ (us : List Token). IsPskAfter us n k) same-tokens at
+    at-now = subst (λ (us : List Token). IsPskAfter us n k) same-tokens (subst (λ (i : ℕ). IsPskAfter (tokens_at h.pattern.messages h.passed) i k) e at)
 
     first-answer : (own : Own) (key : List ℕ) → LacksAnswerFor (writer v) v.remote h.secrets (take k (tokens_now v)) own key
         → LacksAnswerFor (writer v) v.remote v.secrets (take k (tokens_now v)) own key
     first-answer own key l =
-        lacks-for-same (writer v) v.remote h.secrets v.secrets n (agrees public_of agreement h lacking w v later s) (take k (tokens_now v)) own key l
+        lacks-for-same (writer v) v.remote h.secrets v.secrets n (agrees public_of agreement h lacking w g seen v later s) (take k (tokens_now v)) own key l
         (omega (arith, at-now.count, count-take (take k (tokens_now v)) (suc (length l.before))))
 
     pub write-before : (own : Own) (key : List ℕ) → Speaks (holding v h.secrets) → LacksAnswerFor (writer v) v.remote h.secrets (take k (tokens_now v)) own key
@@ -357,7 +360,7 @@ module _ {K : Type 0} (public_of : K → Own → Option (List ℕ)) (agreement :
       tokens = at-now.tokens;
       count = at-now.count;
       answered = λ j less l.
-          f j (lacks-same (writer v) v.remote v.secrets h.secrets n (sym (agrees public_of agreement h lacking w v later s)) (take k (tokens_now v)) j
+          f j (lacks-same (writer v) v.remote v.secrets h.secrets n (sym (agrees public_of agreement h lacking w g seen v later s)) (take k (tokens_now v)) j
           (omega (arith, at-now.count, count-take (take k (tokens_now v)) (suc j)))
           (lacks-first (writer v) v.remote v.secrets (tokens_now v) k j (omega (arith, less, length-take k (tokens_now v))) l.lacks));
     }
@@ -367,59 +370,48 @@ module _ {K : Type 0} (public_of : K → Own → Option (List ℕ)) (agreement :
 wants-read-all : (v : View) (m : List ℕ) (own : Own) (key : List ℕ) (w : WantsToRead v m own key) → suc (length w.stops.before) ≤ length (tokens_now v)
 wants-read-all v m own key w = omega (arith, ap length w.stops.tokens, length-append w.stops.before (w.stops.token ∷ w.stops.later))
 
+-- which answer is told to be lacking, or that none is
+module _ (v : View) (m : List ℕ) (o : Option (Own × List ℕ))
+    (told : MatchOption o ((token : ℕ) → Refuses v m token Agreement → ⊥) (λ want. WantsToRead v m want.0 want.1)) where
+  pub wants-some : (want : Own × List ℕ) → o ≡ Some want → WantsToRead v m want.0 want.1
+  wants-some want e =
+      subst (λ (z : Option (Own × List ℕ)). MatchOption z ((token : ℕ) → Refuses v m token Agreement → ⊥) (λ x. WantsToRead v m x.0 x.1)) e told
+
+  pub wants-none : o ≡ None → (token : ℕ) → Refuses v m token Agreement → ⊥
+  wants-none e =
+      subst (λ (z : Option (Own × List ℕ)). MatchOption z ((token : ℕ) → Refuses v m token Agreement → ⊥) (λ x. WantsToRead v m x.0 x.1)) e told
+
 module _ {K : Type 0} (public_of : K → Own → Option (List ℕ)) (agreement : K → Own → List ℕ → Option (List ℕ)) (h : Held K) (lacking : ℕ)
-    (w : lacking ≤ length h.secrets) (v : View) (later : List (List ℕ)) (s : Stands public_of agreement (with_later (without_last lacking h) later) v)
+    (w : lacking ≤ length h.secrets) (g : Held K) (seen : without_last lacking h ≡ g) (v : View) (later : List (List ℕ))
+    (s : Stands public_of agreement (with_later g later) v)
     (m : List ℕ) where
   abbrev given-now : ℕ
-  given-now = length h.secrets - lacking
+  given-now = length g.secrets
+
+  first : Stands public_of agreement (with_later (without_last lacking h) later) v
+  first = begins public_of agreement h lacking w g seen v later s
 
   abbrev alike : take given-now h.secrets ≡ take given-now v.secrets
-  alike = agrees public_of agreement h lacking w v later s
+  alike = agrees public_of agreement h lacking w g seen v later s
 
   -- nothing has changed
   pub stands-same : (h2 : Held K) → Stands public_of agreement h2 (holding v h.secrets)
       → Stands public_of agreement (with_later (without_last lacking h2) later) v
-  stands-same h2 t = record {
-    pattern = t.pattern;
-    role = t.role;
-    secrets = ap (λ (z : List (List ℕ)). take (length z - lacking) z ++ later) t.secrets ∙ s.secrets;
-    own = t.own;
-    agree = t.agree;
-    remote = t.remote;
-    passed = t.passed;
-    ended = t.ended;
-    history = t.history;
-  }
+  stands-same h2 t =
+      with-secrets public_of agreement h2 (holding v h.secrets) t _ _
+      (ap (λ (z : List (List ℕ)). take (length z - lacking) z ++ later) t.secrets ∙ first.secrets)
 
   -- or it has ended
   stands-over : (h2 : Held K) → Stands public_of agreement h2 (over (holding v h.secrets))
       → Stands public_of agreement (with_later (without_last lacking h2) later) (over v)
-  stands-over h2 t = record {
-    pattern = t.pattern;
-    role = t.role;
-    secrets = ap (λ (z : List (List ℕ)). take (length z - lacking) z ++ later) t.secrets ∙ s.secrets;
-    own = t.own;
-    agree = t.agree;
-    remote = t.remote;
-    passed = t.passed;
-    ended = t.ended;
-    history = t.history;
-  }
+  stands-over h2 t =
+      with-secrets public_of agreement h2 (over (holding v h.secrets)) t _ _
+      (ap (λ (z : List (List ℕ)). take (length z - lacking) z ++ later) t.secrets ∙ first.secrets)
 
   pub stands-ended : (h2 : Held K) → h2 ≡ ended_as h → Stands public_of agreement (with_later (without_last lacking h2) later) (over v)
   stands-ended h2 e =
       subst (λ (z : Held K). Stands public_of agreement (with_later (without_last lacking z) later) (over v)) (sym e)
-      (record {
-        pattern = s.pattern;
-        role = s.role;
-        secrets = s.secrets;
-        own = s.own;
-        agree = s.agree;
-        remote = s.remote;
-        passed = s.passed;
-        ended = refl;
-        history = s.history;
-      })
+      (ends public_of agreement (with_later (without_last lacking h) later) v first true refl)
 
   pub stands-declined : (h2 : Held K) (fault : ReadFault) → Stands public_of agreement h2 (after_not_read (holding v h.secrets) fault)
       → Stands public_of agreement (with_later (without_last lacking h2) later) (after_not_read v fault)
@@ -430,10 +422,10 @@ module _ {K : Type 0} (public_of : K → Own → Option (List ℕ)) (agreement :
 
   module _ (few : count_by is_psk (tokens_at h.pattern.messages h.passed) ≤ given-now) where
     few-here : (k : ℕ) → count_by is_psk (take k (tokens_now v)) ≤ given-now
-    few-here k = omega (arith, few-now public_of agreement h lacking w v later s few, count-take (tokens_now v) k)
+    few-here k = omega (arith, few-now public_of agreement h lacking w g seen v later s few, count-take (tokens_now v) k)
 
     pub read-accepts : (xs : List (List ℕ)) (p : List ℕ) → Accepts (holding v h.secrets) m xs p → Accepts v m xs p
-    read-accepts xs p a = accepts-held v h.secrets given-now alike m xs p (few-now public_of agreement h lacking w v later s few) a
+    read-accepts xs p a = accepts-held v h.secrets given-now alike m xs p (few-now public_of agreement h lacking w g seen v later s few) a
 
     pub read-answer : (own : Own) (key : List ℕ) → WantsToRead (holding v h.secrets) m own key → WantsToRead v m own key
     read-answer own key a =
@@ -459,11 +451,11 @@ module _ {K : Type 0} (public_of : K → Own → Option (List ℕ)) (agreement :
     )
 
     pub read-none : (remote : Option (List ℕ)) → WantsSecretToRead v given-now m remote → ⊥
-    read-none remote x = secret-none v m given-now remote (few-now public_of agreement h lacking w v later s few) x
+    read-none remote x = secret-none v m given-now remote (few-now public_of agreement h lacking w g seen v later s few) x
 
-  module _ (k : ℕ) (at : IsPskAfter (tokens_at h.pattern.messages h.passed) given-now k) where
+  module _ (count : ℕ) (same : count ≡ given-now) (k : ℕ) (at : IsPskAfter (tokens_at h.pattern.messages h.passed) count k) where
     at-read : IsPskAfter (tokens_now v) given-now k
-    at-read = at-now public_of agreement h lacking w v later s k at
+    at-read = at-now public_of agreement h lacking w g seen v later s count same k at
 
     few-before : (j : ℕ) → j ≤ k → count_by is_psk (take j (tokens_now v)) ≤ given-now
     few-before j less = omega (arith, at-read.count, count-less (tokens_now v) j k less)
@@ -478,28 +470,39 @@ module _ {K : Type 0} (public_of : K → Own → Option (List ℕ)) (agreement :
       remote_is = l.remote_is;
     }
 
-    pub before-secret : (remote : Option (List ℕ)) → Listens (holding v h.secrets)
+    pub before-secret : (remote : Option (List ℕ)) → h.passed ≤ length h.pattern.messages → read_fault h ≡ None
         → BeginsBefore (reader v) v.remote h.secrets v.history (tokens_now v) m k remote → WantsSecretToRead v given-now m remote
-    before-secret remote l b = wants-secret v m given-now k remote (listens-held v h.secrets l) at-read (leads-here remote b)
+    before-secret remote within none b =
+        wants-secret v m given-now k remote (listens-held v h.secrets (listens public_of agreement h (holding v h.secrets)
+        (stands-filled public_of agreement h lacking w g seen v later s) within none)) at-read (leads-here remote b)
 
     pub before-one : (remote other : Option (List ℕ)) → BeginsBefore (reader v) v.remote h.secrets v.history (tokens_now v) m k remote
         → WantsSecretToRead v given-now m other → remote ≡ other
     before-one remote other b x = secret-one v m given-now k remote other at-read (leads-here remote b) x
 
-    module _ (token : ℕ) (cause : Cause) (less : token < k) (stop : Refuses (holding v h.secrets) m token cause) where
-      pub before-refused : Refuses v m token cause
-      before-refused = refuses-held v h.secrets given-now alike m token cause (few-before (suc token) less) stop
+    module _ (stop : Stop) (stops : (stop.token < k) × Refuses (holding v h.secrets) m stop.token stop.cause
+        × MatchOption stop.want ((j : ℕ) → Refuses (holding v h.secrets) m j Agreement → ⊥)
+        (λ want. WantsToRead (holding v h.secrets) m want.0 want.1)) where
+      few-to : count_by is_psk (take (suc stop.token) (tokens_now v)) ≤ given-now
+      few-to = few-before (suc stop.token) stops.0
+
+      pub before-refused : Refuses v m stop.token stop.cause
+      before-refused = refuses-held v h.secrets given-now alike m stop.token stop.cause few-to stops.1
 
       pub before-not : (remote : Option (List ℕ)) → WantsSecretToRead v given-now m remote → ⊥
-      before-not remote x = secret-not v m given-now k token cause remote at-read less before-refused x
+      before-not remote x = secret-not v m given-now k stop.token stop.cause remote at-read stops.0 before-refused x
 
-      pub before-declined : ((j : ℕ) → Refuses (holding v h.secrets) m j Agreement → ⊥) → (j : ℕ) → Refuses v m j Agreement → ⊥
-      before-declined none j r = refuses-not v h.secrets given-now alike m token j cause (few-before (suc token) less) stop none r
+      pub before-declined : stop.want ≡ None → (j : ℕ) → Refuses v m j Agreement → ⊥
+      before-declined e j r =
+          refuses-not v h.secrets given-now alike m stop.token j stop.cause few-to stops.1
+          (wants-none (holding v h.secrets) m stop.want stops.2 e) r
 
-      pub before-answer : (own : Own) (key : List ℕ) → WantsToRead (holding v h.secrets) m own key → WantsToRead v m own key
-      before-answer own key a =
-          let one = refuses-one (holding v h.secrets) m (length a.stops.before) token Agreement cause (record { listens = a.listens; stops = a.stops.stops }) stop in
-          wants-held v h.secrets given-now alike m own key k (few-before k (omega arith)) a (omega (arith, one.0, less))
+      pub before-answer : (want : Own × List ℕ) → stop.want ≡ Some want → WantsToRead v m want.0 want.1
+      before-answer want e =
+          let a = wants-some (holding v h.secrets) m stop.want stops.2 want e in
+          let one = refuses-one (holding v h.secrets) m (length a.stops.before) stop.token Agreement stop.cause
+          (record { listens = a.listens; stops = a.stops.stops }) stops.1 in
+          wants-held v h.secrets given-now alike m want.0 want.1 k (few-before k (omega arith)) a (omega (arith, one.0, stops.0))
 
 -- ---- faults
 
@@ -571,10 +574,21 @@ going-on false false false long e = absurd (cc)
 going-on false false true long e = refl
 
 -- where a payload is due the party speaks
-pub write-due-test : {K : Type 0} (h : Held K) (payload : ℕ) → write_fault h payload ≡ None
+write-due-test : {K : Type 0} (h : Held K) (payload : ℕ) → write_fault h payload ≡ None
     → (not h.ended && not (h.passed == length h.pattern.messages) && is_turn h.role h.passed) ≡ true
 write-due-test h payload e =
     going-on h.ended (h.passed == length h.pattern.messages) (is_turn h.role h.passed) (nat_lt 65535 (length_now h payload)) e
+
+-- where it lacks neither an answer nor a secret, the secrets that were handed in suffice
+module _ {K : Type 0} (h : Held K) (lacking : ℕ) (w : lacking ≤ length h.secrets) (g : Held K) (seen : without_last lacking h ≡ g) (payload : ℕ)
+    (none : write_fault h payload ≡ None) (o : Option Want) (clear : o ≡ None) where
+  pub taken-within : ((not g.ended && not (g.passed == length g.pattern.messages) && is_turn g.role g.passed) ≡ true → o ≡ None
+      → count_by is_psk (tokens_at g.pattern.messages g.passed) ≤ length g.secrets)
+      → count_by is_psk (tokens_at h.pattern.messages h.passed) ≤ length g.secrets
+  taken-within few =
+      subst (λ (z : Held K). count_by is_psk (tokens_at z.pattern.messages z.passed) ≤ length g.secrets) (sym seen)
+      (few (subst (λ (z : Held K). (not z.ended && not (z.passed == length z.pattern.messages) && is_turn z.role z.passed) ≡ true) seen
+      (write-due-test h payload none)) clear)
 
 pub lacks-held : (v : View) (u : List (List ℕ)) (n : ℕ) → take n u ≡ take n v.secrets → (k : ℕ) → count_by is_psk (take (suc k) (tokens_now v)) ≤ n
     → LacksAnswer (holding v u) k → LacksAnswer v k

@@ -160,6 +160,20 @@ module _ {K : Type 0} (public_of : K → Own → Option (List ℕ)) (agreement :
         (subst (λ (z : Bool). StateStands state (after_payload z v.history tokens xs payload)) (b ∙ ap has_psk s.pattern) k);
   }
 
+  -- with other secrets
+  pub with-secrets : (u us : List (List ℕ)) → u ≡ us → Stands public_of agreement (record h { secrets = u }) (record v { secrets = us })
+  with-secrets u us e = record {
+    pattern = s.pattern;
+    role = s.role;
+    secrets = e;
+    own = s.own;
+    agree = s.agree;
+    remote = s.remote;
+    passed = s.passed;
+    ended = s.ended;
+    history = s.history;
+  }
+
   -- it has ended
   pub ends : (b : Bool) → b ≡ true → Stands public_of agreement (record h { ended = b }) (over v)
   ends b e = record {

@@ -1,15 +1,7 @@
-use Rattle.std.proofs.Common.{sym, subst}
-use Rattle.noise_handshake.specs.Held.{Held}
-use Rattle.noise_handshake.specs.Late.{with_later}
-use Rattle.noise_handshake.specs.Party.{Stands}
 use Rattle.noise_handshake.proofs.LateViews.{holding, stands-filled, opens-held}
 use Rattle.noise_handshake.proofs.late.LateHandshake.finish.Goals as goal
 
 pub returns-in-Ok-clause-opened : goal.returns-in-Ok-clause-opened
 returns-in-Ok-clause-opened g c v later s =
-    let P = g.K.Keys.public_of in
-    let A = g.K.Keys.agreement in
-    let a = c.self.inside in
-    let s0 = subst (λ (z : Held g.row.K.Denot). Stands P A (with_later z later) v) (sym c.self.view_is) s in
-    opens-held c.in-Ok.opened v a.filled.secrets
-    (c.in-Ok.ensures.opened (holding v a.filled.secrets) (stands-filled P A a.filled a.lacking c.self.invariant v later s0))
+    opens-held c.in-Ok.opened v c.self.inside.filled.secrets
+    (c.in-Ok.ensures.opened (holding v c.self.inside.filled.secrets) (stands-filled g.K.Keys.public_of g.K.Keys.agreement c.self.inside.filled c.self.inside.lacking c.self.invariant c.args.self c.self.view_is v later s))

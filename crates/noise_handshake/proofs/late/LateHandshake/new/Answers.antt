@@ -2,6 +2,7 @@ use Rattle.std.proofs.Common.{◌≡◌, ◌-◌, ◌++◌, ℕ, List, length, t
 use Rattle.std.specs.Prelude.{None}
 use Rattle.noise_handshake.specs.Setup.{secrets_of, setup_fault}
 use Rattle.noise_handshake.proofs.Setting.{counted}
+use Rattle.noise_handshake.proofs.Standing.{with-secrets}
 use Rattle.noise_handshake.proofs.late.LateHandshake.new.Goals as goal
 
 pub overflow_sub-lacking : goal.overflow_sub-lacking
@@ -33,17 +34,8 @@ returns-clause-stands g c later =
     omega (arith, total, counted c.pattern-plan.result.now c.args.role own c.args.remote n none, c.max-count.ensures, c.filled-secrets.ensures.count) in
     let same : take (length c.begin-filled.result.secrets - lacking) c.begin-filled.result.secrets ≡ psks =
     ap (λ (z : List (List ℕ)). take (length z - lacking) z) c.begin-filled.ensures.secrets ∙ ap (λ (k : ℕ). take k all) count ∙ c.filled-secrets.ensures.kept in
-    let s = c.begin-filled.ensures.stands in record {
-      pattern = s.pattern;
-      role = s.role;
-      secrets = ap (λ (z : List (List ℕ)). z ++ later) same;
-      own = s.own;
-      agree = s.agree;
-      remote = s.remote;
-      passed = s.passed;
-      ended = s.ended;
-      history = s.history;
-    }
+    with-secrets g.K.Keys.public_of g.K.Keys.agreement c.begin-filled.result _ c.begin-filled.ensures.stands _ _
+    (ap (λ (z : List (List ℕ)). z ++ later) same)
 
 pub returns-clause-secrets : goal.returns-clause-secrets
 returns-clause-secrets g c =
