@@ -1,5 +1,5 @@
 -- The layout of a message: its tokens, and where they stand.
-use Rattle.std.proofs.Common.{◌≡◌, ℕ, suc, ◌+◌, List, [], ◌∷◌, length, refl, ap, sym, subst, ◌∙◌}
+use Rattle.std.proofs.Common.{◌≡◌, ◌≤◌, ℕ, suc, ◌+◌, List, [], ◌∷◌, length, drop, refl, ap, sym, subst, ◌∙◌, arith, length-drop, drop-drop}
 use Rattle.std.specs.Prelude.{Bool}
 use Rattle.noise_names.specs.declared.token.Token.{Token}
 use Rattle.noise_names.specs.Plan.{Plan, has_psk}
@@ -26,6 +26,24 @@ pub first-placed : (psks key : Bool) (place : ℕ) (placed : List PlacedToken) (
     → ArePlaced psks key place placed
     → (first.place ≡ place) × (first.width ≡ token_width key first.token) × ArePlaced psks (keyed_after psks key first.token) (place + first.width) later
 first-placed psks key place placed first later e a = subst (λ (ps : List PlacedToken). ArePlaced psks key place ps) e a
+
+-- where the first of them stands in a message, and those after it once it was read
+module _ (psks key : Bool) (place : ℕ) (placed : List PlacedToken) (first : PlacedToken) (later : List PlacedToken) (e : placed ≡ first ∷ later)
+    (are : ArePlaced psks key place placed) (m rest : List ℕ) (from : rest ≡ drop first.place m) where
+  pub rest-first : rest ≡ drop place m
+  rest-first = from ∙ ap (λ (k : ℕ). drop k m) (first-placed psks key place placed first later e are).0
+
+  pub later-placed : place ≤ length m → (n : ℕ) (key2 : Bool) → n ≡ token_width key first.token → n ≤ length rest → key2 ≡ keyed_after psks key first.token
+      → (n ≡ first.width) × (place + first.width ≤ length m) × ArePlaced psks key2 (place + first.width) later
+      × (drop (place + first.width) m ≡ drop n (drop place m))
+  later-placed within n key2 wide range on =
+      let u = first-placed psks key place placed first later e are in
+      let same : n ≡ first.width = wide ∙ sym u.1 in (
+        same,
+        omega (arith, within, same, ap length rest-first, length-drop place m, range),
+        subst (λ (b : Bool). ArePlaced psks b (place + first.width) later) (sym on) u.2,
+        ap (λ (k : ℕ). drop (place + k) m) (sym same) ∙ sym (drop-drop n place m),
+      )
 
 pub length-tokens_of : (ps : List PlacedToken) → length (tokens_of ps) ≡ length ps
 length-tokens_of [] = refl

@@ -12,7 +12,7 @@ ghost use Rattle.noise_handshake.specs.inner.Known.{is_known, are_known, e_after
 ghost use Rattle.noise_handshake.specs.Length.{keyed_after, keyed_after_tokens, token_width};
 ghost use Rattle.noise_handshake.specs.View.{Reader, Fits, BeginsAs, Stops, known_after, learned, Reads};
 ghost use Rattle.noise_handshake.specs.View.{cause_of, secrets_after};
-ghost use Rattle.noise_handshake.specs.inner.Listening.{Fails, StopsKnowing, BeginsBefore, width_of_key};
+ghost use Rattle.noise_handshake.specs.inner.Listening.{reader_of, Fails, StopsKnowing, BeginsBefore, width_of_key};
 ghost use Rattle.noise_names.specs.declared.token.Token.{Token};
 ghost use Rattle.noise_handshake.specs.inner.Layout.{tokens_of, ArePlaced};
 ghost use Rattle.noise_names.specs.Tokens.{is_psk};
@@ -139,7 +139,7 @@ fn read_token<K: Keys>(
     ensures counted { OnOk result (nonce_now state.new ≡ nonce_after means.now.psks (keyed state.old) (nonce_now state.old) placed.token) }
     ensures unchanged { OnErr result (known.new ≡ known.old) }
     ensures read { (r : History) → StateStands state.old r
-        → let v : Reader = record { role = means.now.role; psks = means.now.psks; agree = K.agreement means.now.keys.now } in MatchResult result
+        → let v : Reader = reader_of K.agreement means.now.role means.now.psks means.now.keys.now in MatchResult result
         (λ n. (x : List ℕ) × Fits v known.old secrets.now placed.token x × (message.now ≡ token_bytes r placed.token x ++ drop n message.now)
         × StateStands state.new (after_token means.now.psks r placed.token x) × (known.new ≡ known_after known.old placed.token x))
         (λ cause. Fails v known.old secrets.now r placed.token message.now × (cause ≡ cause_of (is_some (cipher_key r)) placed.token message.now)) }
@@ -193,7 +193,7 @@ fn read_tokens<K: Keys>(
     ensures counted { OnOk result (nonce_now state.new ≡ nonce_after_tokens means.now.psks (keyed state.old) (nonce_now state.old) (tokens_of placed.now)) }
     ensures read { (r : History) (place : ℕ) → StateStands state.old r → place ≤ length message.now
         → ArePlaced means.now.psks (keyed state.old) place placed.now
-        → let v : Reader = record { role = means.now.role; psks = means.now.psks; agree = K.agreement means.now.keys.now } in
+        → let v : Reader = reader_of K.agreement means.now.role means.now.psks means.now.keys.now in
         let tokens : List Token = tokens_of placed.now in MatchResult result
         (λ n. (xs : List (List ℕ)) × BeginsAs v known.old secrets.now r tokens xs (drop place message.now) (drop (place + n) message.now)
         × StateStands state.new (after_tokens means.now.psks r tokens xs) × (known.new ≡ learned known.old tokens xs))
@@ -264,7 +264,7 @@ pub(crate) fn read_lacking<K: Keys>(
     requires nonces { nonce_now state.now + length (tokens_of placed.now) < 2 ^ 64 - 1 }
     requires known { IsTrue (are_known means.now.role (is_some known.now.e) (is_some known.now.s) (tokens_of placed.now)) }
     ensures { (r : History) → StateStands state.now r
-        → let v : Reader = record { role = means.now.role; psks = means.now.psks; agree = K.agreement means.now.keys.now } in
+        → let v : Reader = reader_of K.agreement means.now.role means.now.psks means.now.keys.now in
         let tokens : List Token = tokens_of placed.now in MatchOption result
         ((k : ℕ) → Stops v known.now secrets.now r tokens message.now k Agreement → ⊥)
         (λ want. StopsFor v known.now secrets.now r tokens message.now want.0 want.1) }
@@ -295,7 +295,7 @@ pub(crate) fn read_before<K: Keys>(
     requires within { k ≤ length placed.now }
     requires few { length placed.now ≤ 10 }
     ensures { (r : History) → StateStands state.now r
-        → let v : Reader = record { role = means.now.role; psks = means.now.psks; agree = K.agreement means.now.keys.now } in
+        → let v : Reader = reader_of K.agreement means.now.role means.now.psks means.now.keys.now in
         let tokens : List Token = tokens_of placed.now in MatchResult result
         (λ s. BeginsBefore v known.now secrets.now r tokens message.now k s)
         (λ stop. (stop.token < k) × Stops v known.now secrets.now r tokens message.now stop.token stop.cause × MatchOption stop.want
@@ -345,7 +345,7 @@ pub(crate) fn read_message<K: Keys>(
     ensures nonce { nonce_now state.new ≤ nonce_now state.old + length (tokens_of placed.now) + 1 }
     ensures counted { OnOk result (nonce_now state.new ≡ nonce_after_message means.now.psks (keyed state.old) (nonce_now state.old) (tokens_of placed.now)) }
     ensures read { (r : History) → StateStands state.old r
-        → let v : Reader = record { role = means.now.role; psks = means.now.psks; agree = K.agreement means.now.keys.now } in
+        → let v : Reader = reader_of K.agreement means.now.role means.now.psks means.now.keys.now in
         let tokens : List Token = tokens_of placed.now in MatchResult result
         (λ place. let payload = slice_range message.new place.0 place.1 in (xs : List (List ℕ)) × Reads v known.old secrets.now r tokens message.old xs payload
         × StateStands state.new (after_payload means.now.psks r tokens xs payload) × (known.new ≡ learned known.old tokens xs))

@@ -13,7 +13,7 @@ ghost use Rattle.noise_handshake.specs.inner.Known.{is_known, remote_known};
 ghost use Rattle.noise_handshake.specs.Length.{keyed_after, keyed_after_tokens, tag_width, token_width, tokens_width, added_width};
 ghost use Rattle.noise_handshake.specs.Writing.{Writer, Gives, Given, LacksAnswerAt};
 ghost use Rattle.noise_handshake.specs.Wanting.{LacksAnswerFor};
-ghost use Rattle.noise_handshake.specs.inner.Speaking.{has_own};
+ghost use Rattle.noise_handshake.specs.inner.Speaking.{has_own, writer_of};
 ghost use Rattle.noise_names.specs.declared.token.Token.{Token};
 ghost use Rattle.noise_handshake.specs.inner.Layout.{tokens_of};
 ghost use Rattle.noise_names.specs.Tokens.{is_psk};
@@ -98,12 +98,7 @@ fn write_token<K: Keys>(
     ensures used { nonce_now state.new ≤ nonce_now state.old + 1 }
     ensures counted { IfSome result (λ _. nonce_now state.new ≡ nonce_after means.now.psks (keyed state.old) (nonce_now state.old) token) }
     ensures written { (r : History) → StateStands state.old r
-        → let w : Writer = record {
-          role = means.now.role;
-          psks = means.now.psks;
-          own = K.public_of means.now.keys.now;
-          agree = K.agreement means.now.keys.now;
-        } in
+        → let w : Writer = writer_of K.public_of K.agreement means.now.role means.now.psks means.now.keys.now in
         MatchOption result
         ((x : List ℕ) → Gives w known.now secrets.now token x → ⊥)
         (λ n. (x : List ℕ) × Gives w known.now secrets.now token x × (take n out.new ≡ token_bytes r token x)
@@ -151,12 +146,7 @@ fn write_tokens<K: Keys>(
     ensures used { nonce_now state.new ≤ nonce_now state.old + length (tokens_of placed.now) }
     ensures counted { IfOk result (λ _. nonce_now state.new ≡ nonce_after_tokens means.now.psks (keyed state.old) (nonce_now state.old) (tokens_of placed.now)) }
     ensures written { (r : History) → StateStands state.old r
-        → let w : Writer = record {
-          role = means.now.role;
-          psks = means.now.psks;
-          own = K.public_of means.now.keys.now;
-          agree = K.agreement means.now.keys.now;
-        } in
+        → let w : Writer = writer_of K.public_of K.agreement means.now.role means.now.psks means.now.keys.now in
         MatchResult result
         (λ n. (xs : List (List ℕ)) × Given w known.now secrets.now (tokens_of placed.now) xs
         × (take n out.new ≡ before_payload means.now.psks r (tokens_of placed.now) xs)
@@ -186,12 +176,7 @@ fn text_at<K: Keys>(
     requires secret { token ≡ Token.Psk → 0 < length secrets.now }
     requires own { IsTrue (has_own (K.public_of means.now.keys.now) token) }
     requires known { IsTrue (is_known means.now.role (is_some known.now.e) (is_some known.now.s) token) }
-    ensures text { let w : Writer = record {
-      role = means.now.role;
-      psks = means.now.psks;
-      own = K.public_of means.now.keys.now;
-      agree = K.agreement means.now.keys.now;
-    } in
+    ensures text { let w : Writer = writer_of K.public_of K.agreement means.now.role means.now.psks means.now.keys.now in
         MatchOption result ((x : List ℕ) → Gives w known.now secrets.now token x → ⊥) (λ x. Gives w known.now secrets.now token x) }
     ensures dh { result ≡ None → IsTrue (remote_known means.now.role (is_some known.now.e) (is_some known.now.s) token) }
 {
@@ -213,12 +198,7 @@ pub(crate) fn write_lacking<K: Keys>(
     requires secrets { count_by is_psk (tokens_of placed.now) ≤ length secrets.now }
     requires own { IsTrue (list_all (has_own (K.public_of means.now.keys.now)) (tokens_of placed.now)) }
     requires known { IsTrue (list_all (is_known means.now.role (is_some known.now.e) (is_some known.now.s)) (tokens_of placed.now)) }
-    ensures { let w : Writer = record {
-      role = means.now.role;
-      psks = means.now.psks;
-      own = K.public_of means.now.keys.now;
-      agree = K.agreement means.now.keys.now;
-    } in
+    ensures { let w : Writer = writer_of K.public_of K.agreement means.now.role means.now.psks means.now.keys.now in
         MatchOption result
         ((k : ℕ) → LacksAnswerAt w known.now secrets.now (tokens_of placed.now) k → ⊥)
         (λ want. LacksAnswerFor w known.now secrets.now (tokens_of placed.now) want.0 want.1) }
@@ -245,12 +225,7 @@ pub(crate) fn write_lacking_before<K: Keys>(
     requires own { IsTrue (list_all (has_own (K.public_of means.now.keys.now)) (tokens_of placed.now)) }
     requires known { IsTrue (list_all (is_known means.now.role (is_some known.now.e) (is_some known.now.s)) (tokens_of placed.now)) }
     requires within { k ≤ length placed.now }
-    ensures { let w : Writer = record {
-      role = means.now.role;
-      psks = means.now.psks;
-      own = K.public_of means.now.keys.now;
-      agree = K.agreement means.now.keys.now;
-    } in
+    ensures { let w : Writer = writer_of K.public_of K.agreement means.now.role means.now.psks means.now.keys.now in
         MatchOption result
         ((j : ℕ) → LacksAnswerAt w known.now secrets.now (take k (tokens_of placed.now)) j → ⊥)
         (λ want. LacksAnswerFor w known.now secrets.now (take k (tokens_of placed.now)) want.0 want.1) }
@@ -282,12 +257,7 @@ pub(crate) fn write_message<K: Keys>(
     ensures used { nonce_now state.new ≤ nonce_now state.old + length (tokens_of placed.now) + 1 }
     ensures counted { IfOk result (λ _. nonce_now state.new ≡ nonce_after_message means.now.psks (keyed state.old) (nonce_now state.old) (tokens_of placed.now)) }
     ensures written { (r : History) → StateStands state.old r
-        → let w : Writer = record {
-          role = means.now.role;
-          psks = means.now.psks;
-          own = K.public_of means.now.keys.now;
-          agree = K.agreement means.now.keys.now;
-        } in
+        → let w : Writer = writer_of K.public_of K.agreement means.now.role means.now.psks means.now.keys.now in
         MatchResult result
         (λ n. (xs : List (List ℕ)) × Given w known.now secrets.now (tokens_of placed.now) xs
         × (take n out.new ≡ message_bytes means.now.psks r (tokens_of placed.now) xs payload.now)

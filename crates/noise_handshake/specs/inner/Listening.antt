@@ -10,6 +10,10 @@ use Rattle.noise_handshake.specs.declared.faults.Cause.{Cause}
 use Rattle.noise_handshake.specs.Message.{token_bytes}
 use Rattle.noise_handshake.specs.View.{View, Reader, Fits, BeginsAs, Listens, Stops, learned, tokens_now}
 
+-- what reading asks of a party with these keys
+abbrev pub reader_of : {K : Type 0} → (K → Own → List ℕ → Option (List ℕ)) → Role → Bool → K → Reader
+reader_of agreement role psks keys = record { role = role; psks = psks; agree = agreement keys }
+
 -- no text of token t fits here
 abbrev pub Fails : Reader → Remote → List (List ℕ) → History → Token → List ℕ → Type 0
 Fails v known secrets r t m = (x rest : List ℕ) → Fits v known secrets t x → m ≡ token_bytes r t x ++ rest → ⊥

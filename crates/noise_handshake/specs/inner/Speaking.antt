@@ -8,6 +8,13 @@ use Rattle.noise_keys.specs.declared.keys.Own.{Own}
 use Rattle.noise_keys.specs.declared.keys.Own.TheVariants.{Ephemeral, Static}
 use Rattle.noise_handshake.specs.declared.remote.Remote.{Remote}
 use Rattle.noise_handshake.specs.View.{View, Speaks, tokens_now}
+use Rattle.noise_handshake.specs.Writing.{Writer}
+
+-- what writing asks of a party with these keys
+abbrev pub writer_of : {K : Type 0} → (K → Own → Option (List ℕ)) → (K → Own → List ℕ → Option (List ℕ)) → Role → Bool
+    → K → Writer
+writer_of public_of agreement role psks keys =
+    record { role = role; psks = psks; own = public_of keys; agree = agreement keys }
 
 -- whether the party has the key of its own that a token sends
 abbrev pub has_own : (Own → Option (List ℕ)) → Token → Bool

@@ -1,3 +1,4 @@
+use Rattle.noise_handshake.specs.inner.Listening.{reader_of}
 use Rattle.std.proofs.Common.{◌≡◌, suc, ap, ℕ, ◌+◌, ◌-◌, ◌≤◌, List, ◌∷◌, ◌++◌, length, drop, sym, subst, ◌∙◌, arith, length-drop, drop-drop}
 use Rattle.std.specs.Prelude.{Bool, is_some}
 use Rattle.noise_names.specs.declared.token.Token.{Token}
@@ -12,7 +13,7 @@ use Rattle.noise_handshake.specs.Length.{keyed_after_tokens}
 use Rattle.noise_handshake.specs.Nonces.{nonce_after_tokens}
 use Rattle.noise_handshake.specs.inner.Known.{e_after_tokens, s_after_tokens}
 use Rattle.noise_handshake.proofs.DhTokens.{none_taken}
-use Rattle.noise_handshake.proofs.Layouts.{first-placed}
+use Rattle.noise_handshake.proofs.Layouts.{first-placed, later-placed, rest-first}
 use Rattle.noise_handshake.proofs.Stepwise.{keyed-on, e-on, s-on, nonce-on, bound-on, bound-first, some-token, one-later, place-fits, nonce-left, secret-due, known-first, none-added, none-after, known-later, secrets-later, nonces-later}
 use Rattle.noise_handshake.proofs.Steps.{led-none, stopped, led, learned-on, stopped-later}
 use Rattle.noise_handshake.proofs.reading.+read_tokens.Goals as goal
@@ -20,168 +21,105 @@ use Rattle.std.proofs.lemmas.List.{nil_from_length}
 
 pub bytes_from-rest-requires : goal.bytes_from-rest-requires
 bytes_from-rest-requires g t c =
-    let place : ℕ = c.requires.placed.0 in
-    let within : place ≤ length c.args.message.now = c.requires.placed.1 in
-    let are = c.requires.placed.2 in
-    let psks : Bool = c.args.means.now.psks in
-    let key : Bool = keyed c.args.state.now in
-    let first : PlacedToken = c.in-Some.first.now in
-    let u = first-placed psks key place c.args.placed.now first c.in-Some.later.now c.in-Some.ensures.cases.0 are in
-    omega (arith, u.0, within)
+    let u = first-placed c.args.means.now.psks (keyed c.args.state.now) c.requires.placed.0 c.args.placed.now c.in-Some.first.now c.in-Some.later.now c.in-Some.ensures.cases.0 c.requires.placed.2 in
+    omega (arith, u.0, c.requires.placed.1)
 
 pub read_token-requires-clause-width : goal.read_token-requires-clause-width
 read_token-requires-clause-width g t c =
-    let place : ℕ = c.requires.placed.0 in
-    let are = c.requires.placed.2 in
-    let psks : Bool = c.args.means.now.psks in
-    let key : Bool = keyed c.args.state.now in
-    let first : PlacedToken = c.in-Some.first.now in
-    let u = first-placed psks key place c.args.placed.now first c.in-Some.later.now c.in-Some.ensures.cases.0 are in
+    let u = first-placed c.args.means.now.psks (keyed c.args.state.now) c.requires.placed.0 c.args.placed.now c.in-Some.first.now c.in-Some.later.now c.in-Some.ensures.cases.0 c.requires.placed.2 in
     u.1
 
 pub overflow_add-result : goal.overflow_add-result
 overflow_add-result g t c =
-    let place : ℕ = c.requires.placed.0 in
-    let within : place ≤ length c.args.message.now = c.requires.placed.1 in
-    let are = c.requires.placed.2 in
-    let psks : Bool = c.args.means.now.psks in
-    let key : Bool = keyed c.args.state.now in
-    let m : List ℕ = c.args.message.now in
-    let first : PlacedToken = c.in-Some.first.now in
-    let u = first-placed psks key place c.args.placed.now first c.in-Some.later.now c.in-Some.ensures.cases.0 are in
-    let n : ℕ = c.in-Ok.n in
-    let wide : n ≡ first.width = c.in-Ok.ensures.width ∙ sym u.1 in
-    let count : length c.bytes_from-rest.result.now ≡ length m - place =
-    ap length (c.bytes_from-rest.ensures ∙ ap (λ (k : ℕ). drop k m) u.0) ∙ length-drop place m in
-    let next : place + first.width ≤ length m = omega (arith, within, count, wide, c.in-Ok.ensures.range) in
-    let placed : ArePlaced psks (keyed c.read_token.new.state) (place + first.width) c.in-Some.later.now =
-    subst (λ (b : Bool). ArePlaced psks b (place + first.width) c.in-Some.later.now) (sym c.in-Ok.ensures.key) u.2 in
-    omega (arith, wide, c.in-Ok-read_tokens.ensures.range (place + first.width) next placed)
+    let u = later-placed c.args.means.now.psks (keyed c.args.state.now) c.requires.placed.0 c.args.placed.now c.in-Some.first.now c.in-Some.later.now c.in-Some.ensures.cases.0 c.requires.placed.2
+    c.args.message.now c.bytes_from-rest.result.now c.bytes_from-rest.ensures c.requires.placed.1 c.in-Ok.n (keyed c.read_token.new.state) c.in-Ok.ensures.width c.in-Ok.ensures.range c.in-Ok.ensures.key in
+    omega (arith, u.0, c.in-Ok-read_tokens.ensures.range (c.requires.placed.0 + c.in-Some.first.now.width) u.1 u.2)
 
 pub returns-in-Ok-read_tokens-clause-within : goal.returns-in-Ok-read_tokens-clause-within
 returns-in-Ok-read_tokens-clause-within g t c =
-    let place : ℕ = c.requires.placed.0 in
-    let within : place ≤ length c.args.message.now = c.requires.placed.1 in
-    let are = c.requires.placed.2 in
-    let psks : Bool = c.args.means.now.psks in
-    let key : Bool = keyed c.args.state.now in
-    let m : List ℕ = c.args.message.now in
-    let first : PlacedToken = c.in-Some.first.now in
-    let u = first-placed psks key place c.args.placed.now first c.in-Some.later.now c.in-Some.ensures.cases.0 are in
-    let n : ℕ = c.in-Ok.n in
-    let wide : n ≡ first.width = c.in-Ok.ensures.width ∙ sym u.1 in
-    let count : length c.bytes_from-rest.result.now ≡ length m - place =
-    ap length (c.bytes_from-rest.ensures ∙ ap (λ (k : ℕ). drop k m) u.0) ∙ length-drop place m in
-    let next : place + first.width ≤ length m = omega (arith, within, count, wide, c.in-Ok.ensures.range) in
-    let placed : ArePlaced psks (keyed c.read_token.new.state) (place + first.width) c.in-Some.later.now =
-    subst (λ (b : Bool). ArePlaced psks b (place + first.width) c.in-Some.later.now) (sym c.in-Ok.ensures.key) u.2 in
-    omega (arith, wide, c.in-Ok-read_tokens.ensures.range (place + first.width) next placed)
+    let u = later-placed c.args.means.now.psks (keyed c.args.state.now) c.requires.placed.0 c.args.placed.now c.in-Some.first.now c.in-Some.later.now c.in-Some.ensures.cases.0 c.requires.placed.2
+    c.args.message.now c.bytes_from-rest.result.now c.bytes_from-rest.ensures c.requires.placed.1 c.in-Ok.n (keyed c.read_token.new.state) c.in-Ok.ensures.width c.in-Ok.ensures.range c.in-Ok.ensures.key in
+    omega (arith, u.0, c.in-Ok-read_tokens.ensures.range (c.requires.placed.0 + c.in-Some.first.now.width) u.1 u.2)
 
 pub returns-in-Ok-read_tokens-clause-range : goal.returns-in-Ok-read_tokens-clause-range
 returns-in-Ok-read_tokens-clause-range g t c place within are =
-    let psks : Bool = c.args.means.now.psks in
-    let key : Bool = keyed c.args.state.now in
-    let m : List ℕ = c.args.message.now in
-    let first : PlacedToken = c.in-Some.first.now in
-    let u = first-placed psks key place c.args.placed.now first c.in-Some.later.now c.in-Some.ensures.cases.0 are in
-    let n : ℕ = c.in-Ok.n in
-    let wide : n ≡ first.width = c.in-Ok.ensures.width ∙ sym u.1 in
-    let count : length c.bytes_from-rest.result.now ≡ length m - place =
-    ap length (c.bytes_from-rest.ensures ∙ ap (λ (k : ℕ). drop k m) u.0) ∙ length-drop place m in
-    let next : place + first.width ≤ length m = omega (arith, within, count, wide, c.in-Ok.ensures.range) in
-    let placed : ArePlaced psks (keyed c.read_token.new.state) (place + first.width) c.in-Some.later.now =
-    subst (λ (b : Bool). ArePlaced psks b (place + first.width) c.in-Some.later.now) (sym c.in-Ok.ensures.key) u.2 in
-    omega (arith, wide, c.in-Ok-read_tokens.ensures.range (place + first.width) next placed)
+    let u = later-placed c.args.means.now.psks (keyed c.args.state.now) place c.args.placed.now c.in-Some.first.now c.in-Some.later.now c.in-Some.ensures.cases.0 are
+    c.args.message.now c.bytes_from-rest.result.now c.bytes_from-rest.ensures within c.in-Ok.n (keyed c.read_token.new.state) c.in-Ok.ensures.width c.in-Ok.ensures.range c.in-Ok.ensures.key in
+    omega (arith, u.0, c.in-Ok-read_tokens.ensures.range (place + c.in-Some.first.now.width) u.1 u.2)
 
 pub returns-in-Err-clause-read : goal.returns-in-Err-clause-read
 returns-in-Err-clause-read g t c r place s within are =
-    let v : Reader = record { role = c.args.means.now.role; psks = c.args.means.now.psks; agree = g.K.Keys.agreement c.args.means.now.keys.now } in
-    let psks : Bool = c.args.means.now.psks in
-    let key : Bool = keyed c.args.state.now in
-    let m : List ℕ = c.args.message.now in
+    let v : Reader = reader_of g.K.Keys.agreement c.args.means.now.role c.args.means.now.psks c.args.means.now.keys.now in
     let first : PlacedToken = c.in-Some.first.now in
     let token : Token = first.token in
     let later : List Token = tokens_of c.in-Some.later.now in
     let split : tokens_of c.args.placed.now ≡ token ∷ later = ap tokens_of c.in-Some.ensures.cases.0 in
-    let u = first-placed psks key place c.args.placed.now first c.in-Some.later.now c.in-Some.ensures.cases.0 are in
-    let here : c.bytes_from-rest.result.now ≡ drop place m = c.bytes_from-rest.ensures ∙ ap (λ (k : ℕ). drop k m) u.0 in
+    let here = rest-first c.args.means.now.psks (keyed c.args.state.now) place c.args.placed.now c.in-Some.first.now c.in-Some.later.now c.in-Some.ensures.cases.0 are
+    c.args.message.now c.bytes_from-rest.result.now c.bytes_from-rest.ensures in
     let d = c.in-Err.ensures.read r s in
-    stopped v c.args.known.now c.args.secrets.now r (tokens_of c.args.placed.now) later token (drop place m) c.in-Err.cause c.read_token.new.known split
-    (subst (λ (z : List ℕ). Fails v c.args.known.now c.args.secrets.now r token z) here d.0)
+    stopped v c.args.known.now c.args.secrets.now r (tokens_of c.args.placed.now) later token (drop place c.args.message.now) c.in-Err.cause
+    c.read_token.new.known split (subst (λ (z : List ℕ). Fails v c.args.known.now c.args.secrets.now r token z) here d.0)
     (subst (λ (z : List ℕ). c.in-Err.cause ≡ cause_of (is_some (cipher_key r)) token z) here d.1) c.in-Err.ensures.unchanged
 
 pub returns-in-Ok-read_tokens-clause-read : goal.returns-in-Ok-read_tokens-clause-read
 returns-in-Ok-read_tokens-clause-read g t c r place s within are =
-    let v : Reader = record { role = c.args.means.now.role; psks = c.args.means.now.psks; agree = g.K.Keys.agreement c.args.means.now.keys.now } in
+    let v : Reader = reader_of g.K.Keys.agreement c.args.means.now.role c.args.means.now.psks c.args.means.now.keys.now in
     let psks : Bool = c.args.means.now.psks in
-    let key : Bool = keyed c.args.state.now in
-    let m : List ℕ = c.args.message.now in
     let first : PlacedToken = c.in-Some.first.now in
     let token : Token = first.token in
     let later : List Token = tokens_of c.in-Some.later.now in
     let split : tokens_of c.args.placed.now ≡ token ∷ later = ap tokens_of c.in-Some.ensures.cases.0 in
-    let u = first-placed psks key place c.args.placed.now first c.in-Some.later.now c.in-Some.ensures.cases.0 are in
-    let here : c.bytes_from-rest.result.now ≡ drop place m = c.bytes_from-rest.ensures ∙ ap (λ (k : ℕ). drop k m) u.0 in
+    let here = rest-first c.args.means.now.psks (keyed c.args.state.now) place c.args.placed.now c.in-Some.first.now c.in-Some.later.now c.in-Some.ensures.cases.0 are
+    c.args.message.now c.bytes_from-rest.result.now c.bytes_from-rest.ensures in
+    let u = later-placed c.args.means.now.psks (keyed c.args.state.now) place c.args.placed.now c.in-Some.first.now c.in-Some.later.now c.in-Some.ensures.cases.0 are
+    c.args.message.now c.bytes_from-rest.result.now c.bytes_from-rest.ensures within c.in-Ok.n (keyed c.read_token.new.state) c.in-Ok.ensures.width c.in-Ok.ensures.range c.in-Ok.ensures.key in
+    let m : List ℕ = c.args.message.now in
     let n : ℕ = c.in-Ok.n in
-    let wide : n ≡ first.width = c.in-Ok.ensures.width ∙ sym u.1 in
-    let count : length c.bytes_from-rest.result.now ≡ length m - place =
-    ap length (c.bytes_from-rest.ensures ∙ ap (λ (k : ℕ). drop k m) u.0) ∙ length-drop place m in
-    let next : place + first.width ≤ length m = omega (arith, within, count, wide, c.in-Ok.ensures.range) in
-    let placed : ArePlaced psks (keyed c.read_token.new.state) (place + first.width) c.in-Some.later.now =
-    subst (λ (b : Bool). ArePlaced psks b (place + first.width) c.in-Some.later.now) (sym c.in-Ok.ensures.key) u.2 in
     let rest : List ℕ = drop place m in
     let d = c.in-Ok.ensures.read r s in
     let spelled : rest ≡ token_bytes r token d.0 ++ drop n rest = subst (λ (z : List ℕ). z ≡ token_bytes r token d.0 ++ drop n z) here d.2 in
-    let goes : drop (place + first.width) m ≡ drop n rest = ap (λ (k : ℕ). drop (place + k) m) (sym wide) ∙ sym (drop-drop n place m) in
     let more : ℕ = c.in-Ok-read_tokens.more in
     let known2 = c.read_token.new.known in
     let others : List (List ℕ) = c.secrets_after-others.result.now in
-    let i = c.in-Ok-read_tokens.ensures.read (after_token psks r token d.0) (place + first.width) d.3 next placed in
+    let i = c.in-Ok-read_tokens.ensures.read (after_token psks r token d.0) (place + first.width) d.3 u.1 u.2 in
     let leads : BeginsAs v known2 others (after_token psks r token d.0) later i.0 (drop (place + first.width) m) (drop more (drop (place + first.width) m)) =
     subst (λ (z : List ℕ). BeginsAs v known2 others (after_token psks r token d.0) later i.0 (drop (place + first.width) m) z)
     (sym (drop-drop more (place + first.width) m)) i.1 in
     let whole = led v c.args.known.now known2 c.args.secrets.now others r (tokens_of c.args.placed.now) later token d.0 rest (drop (place + first.width) m) n
-    split d.1 spelled d.4 c.secrets_after-others.ensures goes i.0 more leads in (
+    split d.1 spelled d.4 c.secrets_after-others.ensures u.3 i.0 more leads in (
       d.0 ∷ i.0,
       subst (λ (z : List ℕ). BeginsAs v c.args.known.now c.args.secrets.now r (tokens_of c.args.placed.now) (d.0 ∷ i.0) rest z)
           (drop-drop (n + more) place m) whole,
       subst (λ (us : List Token). StateStands c.read_tokens.new.state (after_tokens psks r us (d.0 ∷ i.0))) (sym split) i.2,
       learned-on v c.args.known.now known2 c.args.secrets.now others r (tokens_of c.args.placed.now) later token d.0 rest (drop (place + first.width) m) n
-          split d.1 spelled d.4 c.secrets_after-others.ensures goes i.0 c.read_tokens.new.known i.3,
+          split d.1 spelled d.4 c.secrets_after-others.ensures u.3 i.0 c.read_tokens.new.known i.3,
     )
 
 pub returns-in-Err-read_tokens-clause-read : goal.returns-in-Err-read_tokens-clause-read
 returns-in-Err-read_tokens-clause-read g t c r place s within are =
-    let v : Reader = record { role = c.args.means.now.role; psks = c.args.means.now.psks; agree = g.K.Keys.agreement c.args.means.now.keys.now } in
-    let psks : Bool = c.args.means.now.psks in
-    let key : Bool = keyed c.args.state.now in
-    let m : List ℕ = c.args.message.now in
+    let v : Reader = reader_of g.K.Keys.agreement c.args.means.now.role c.args.means.now.psks c.args.means.now.keys.now in
     let first : PlacedToken = c.in-Some.first.now in
     let token : Token = first.token in
     let later : List Token = tokens_of c.in-Some.later.now in
     let split : tokens_of c.args.placed.now ≡ token ∷ later = ap tokens_of c.in-Some.ensures.cases.0 in
-    let u = first-placed psks key place c.args.placed.now first c.in-Some.later.now c.in-Some.ensures.cases.0 are in
-    let here : c.bytes_from-rest.result.now ≡ drop place m = c.bytes_from-rest.ensures ∙ ap (λ (k : ℕ). drop k m) u.0 in
+    let here = rest-first c.args.means.now.psks (keyed c.args.state.now) place c.args.placed.now c.in-Some.first.now c.in-Some.later.now c.in-Some.ensures.cases.0 are
+    c.args.message.now c.bytes_from-rest.result.now c.bytes_from-rest.ensures in
+    let u = later-placed c.args.means.now.psks (keyed c.args.state.now) place c.args.placed.now c.in-Some.first.now c.in-Some.later.now c.in-Some.ensures.cases.0 are
+    c.args.message.now c.bytes_from-rest.result.now c.bytes_from-rest.ensures within c.in-Ok.n (keyed c.read_token.new.state) c.in-Ok.ensures.width c.in-Ok.ensures.range c.in-Ok.ensures.key in
+    let m : List ℕ = c.args.message.now in
     let n : ℕ = c.in-Ok.n in
-    let wide : n ≡ first.width = c.in-Ok.ensures.width ∙ sym u.1 in
-    let count : length c.bytes_from-rest.result.now ≡ length m - place =
-    ap length (c.bytes_from-rest.ensures ∙ ap (λ (k : ℕ). drop k m) u.0) ∙ length-drop place m in
-    let next : place + first.width ≤ length m = omega (arith, within, count, wide, c.in-Ok.ensures.range) in
-    let placed : ArePlaced psks (keyed c.read_token.new.state) (place + first.width) c.in-Some.later.now =
-    subst (λ (b : Bool). ArePlaced psks b (place + first.width) c.in-Some.later.now) (sym c.in-Ok.ensures.key) u.2 in
     let rest : List ℕ = drop place m in
     let d = c.in-Ok.ensures.read r s in
     let spelled : rest ≡ token_bytes r token d.0 ++ drop n rest = subst (λ (z : List ℕ). z ≡ token_bytes r token d.0 ++ drop n z) here d.2 in
-    let goes : drop (place + first.width) m ≡ drop n rest = ap (λ (k : ℕ). drop (place + k) m) (sym wide) ∙ sym (drop-drop n place m) in
-    let i = c.in-Err-read_tokens.ensures.read (after_token psks r token d.0) (place + first.width) d.3 next placed in
+    let i = c.in-Err-read_tokens.ensures.read (after_token c.args.means.now.psks r token d.0) (place + first.width) d.3 u.1 u.2 in
     stopped-later v c.args.known.now c.read_token.new.known c.args.secrets.now c.secrets_after-others.result.now r
     (tokens_of c.args.placed.now) later token d.0
-    rest (drop (place + first.width) m) n split d.1 spelled d.4 c.secrets_after-others.ensures goes
+    rest (drop (place + first.width) m) n split d.1 spelled d.4 c.secrets_after-others.ensures u.3
     c.in-Err-read_tokens.k c.in-Err-read_tokens.cause c.read_tokens.new.known c.in-Err-read_tokens.ensures.stop i
 
 pub returns-in_default-clause-read : goal.returns-in_default-clause-read
 returns-in_default-clause-read g t c r place s within are =
-    let v : Reader = record { role = c.args.means.now.role; psks = c.args.means.now.psks; agree = g.K.Keys.agreement c.args.means.now.keys.now } in
+    let v : Reader = reader_of g.K.Keys.agreement c.args.means.now.role c.args.means.now.psks c.args.means.now.keys.now in
     let m : List ℕ = c.args.message.now in
     let d = led-none v c.args.known.now c.args.secrets.now r (tokens_of c.args.placed.now) (drop place m) c.args.state.now
     (ap tokens_of (nil_from_length c.args.placed.now c.in_default.ensures.cases)) s in
@@ -273,23 +211,13 @@ read_tokens-requires g t c κs k =
     let token : Token = c.in-Some.first.now.token in
     let split : all ≡ token ∷ later = ap tokens_of c.in-Some.ensures.cases.0 in
     let fewer : length c.args.placed.now ≡ suc (length c.in-Some.later.now) = ap length c.in-Some.ensures.cases.0 in
-    let place : ℕ = c.requires.placed.0 in
-    let within : place ≤ length c.args.message.now = c.requires.placed.1 in
-    let psks : Bool = c.args.means.now.psks in
-    let m : List ℕ = c.args.message.now in
-    let first : PlacedToken = c.in-Some.first.now in
-    let u = first-placed psks (keyed c.args.state.now) place c.args.placed.now first c.in-Some.later.now c.in-Some.ensures.cases.0 c.requires.placed.2 in
-    let wide : c.in-Ok.n ≡ first.width = c.in-Ok.ensures.width ∙ sym u.1 in
-    let count : length c.bytes_from-rest.result.now ≡ length m - place =
-    ap length (c.bytes_from-rest.ensures ∙ ap (λ (i : ℕ). drop i m) u.0) ∙ length-drop place m in
-    let next : place + first.width ≤ length m = omega (arith, within, count, wide, c.in-Ok.ensures.range) in
-    let placed : ArePlaced psks (keyed c.read_token.new.state) (place + first.width) c.in-Some.later.now =
-    subst (λ (b : Bool). ArePlaced psks b (place + first.width) c.in-Some.later.now) (sym c.in-Ok.ensures.key) u.2 in (
+    let u = later-placed c.args.means.now.psks (keyed c.args.state.now) c.requires.placed.0 c.args.placed.now c.in-Some.first.now c.in-Some.later.now c.in-Some.ensures.cases.0 c.requires.placed.2
+    c.args.message.now c.bytes_from-rest.result.now c.bytes_from-rest.ensures c.requires.placed.1 c.in-Ok.n (keyed c.read_token.new.state) c.in-Ok.ensures.width c.in-Ok.ensures.range c.in-Ok.ensures.key in (
       omega (arith, fewer, c.decreases),
       (
         k,
         (
-          (place + first.width, next, placed),
+          (c.requires.placed.0 + c.in-Some.first.now.width, u.1, u.2),
           (
             secrets-later all later token split c.args.secrets.now c.secrets_after-others.result.now c.secrets_after-others.ensures c.requires.secrets,
             (

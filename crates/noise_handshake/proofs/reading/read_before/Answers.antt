@@ -1,3 +1,4 @@
+use Rattle.noise_handshake.specs.inner.Listening.{reader_of}
 use Rattle.std.proofs.Common.{◌≡◌, ◌<◌, ◌≤◌, ◌+◌, ℕ, List, length, take, drop, true, sym, ap, subst, refl, ◌∙◌, arith, length-take}
 use Rattle.std.specs.Prelude.{Option, Bool, count_by, is_some}
 use Rattle.noise_names.specs.declared.token.Token.{Token}
@@ -55,7 +56,7 @@ overflow_cast-result g c =
 
 pub returns-in-Ok : goal.returns-in-Ok
 returns-in-Ok g c r s =
-    let v : Reader = record { role = c.args.means.now.role; psks = c.args.means.now.psks; agree = g.K.Keys.agreement c.args.means.now.keys.now } in
+    let v : Reader = reader_of g.K.Keys.agreement c.args.means.now.role c.args.means.now.psks c.args.means.now.keys.now in
     let trial : StateStands c.for_trial-trial.result r = subst (λ (z : SymmetricState). StateStands z r) (sym c.for_trial-trial.ensures) s in
     let placed : ArePlaced c.args.means.now.psks (keyed c.for_trial-trial.result) 0 (take c.args.k c.args.placed.now) =
     subst (λ (z : SymmetricState). ArePlaced c.args.means.now.psks (keyed z) 0 (take c.args.k c.args.placed.now)) (sym c.for_trial-trial.ensures)
@@ -72,7 +73,7 @@ returns-in-Ok g c r s =
 
 pub returns-in-Err : goal.returns-in-Err
 returns-in-Err g c r s =
-    let v : Reader = record { role = c.args.means.now.role; psks = c.args.means.now.psks; agree = g.K.Keys.agreement c.args.means.now.keys.now } in
+    let v : Reader = reader_of g.K.Keys.agreement c.args.means.now.role c.args.means.now.psks c.args.means.now.keys.now in
     let trial : StateStands c.for_trial-trial.result r = subst (λ (z : SymmetricState). StateStands z r) (sym c.for_trial-trial.ensures) s in
     let placed : ArePlaced c.args.means.now.psks (keyed c.for_trial-trial.result) 0 (take c.args.k c.args.placed.now) =
     subst (λ (z : SymmetricState). ArePlaced c.args.means.now.psks (keyed z) 0 (take c.args.k c.args.placed.now)) (sym c.for_trial-trial.ensures)

@@ -1,3 +1,4 @@
+use Rattle.noise_handshake.specs.inner.Listening.{reader_of}
 use Rattle.noise_state.specs.Standing.{StateStands, keyed, nonce_now}
 use Rattle.noise_state.specs.History.{cipher_key}
 use Rattle.std.proofs.Common.{◌≡◌, [], get_or, length, refl, sym, ap, subst, ◌∙◌}
@@ -16,7 +17,7 @@ use Rattle.noise_handshake.proofs.reading.read_token.Goals as goal
 pub returns-in-Psk-clause-read : goal.returns-in-Psk-clause-read
 returns-in-Psk-clause-read g c r s =
     psk-read StateStands c.mix_key_and_hash.new.self
-    (record { role = c.args.means.now.role; psks = c.args.means.now.psks; agree = g.K.Keys.agreement c.args.means.now.keys.now })
+    (reader_of g.K.Keys.agreement c.args.means.now.role c.args.means.now.psks c.args.means.now.keys.now)
     c.args.known.now c.args.secrets.now r c.args.placed.token c.args.message.now (get_or c.args.secrets.now 0 [])
     c.in-Psk.is (first_secret-read c.args.secrets.now) (c.mix_key_and_hash.ensures.stands r s)
 
@@ -57,7 +58,7 @@ pub returns-in-Some-clause-read : goal.returns-in-Some-clause-read
 returns-in-Some-clause-read g c r s =
     let d = c.in_default in
     dh-read c.args.placed.token d.not-E d.not-S d.not-Psk StateStands c.mix_key.new.self
-    (record { role = c.args.means.now.role; psks = c.args.means.now.psks; agree = g.K.Keys.agreement c.args.means.now.keys.now })
+    (reader_of g.K.Keys.agreement c.args.means.now.role c.args.means.now.psks c.args.means.now.keys.now)
     c.args.known.now c.args.secrets.now r c.args.message.now c.in-Some.answer c.answer_at.result c.answer_at.ensures c.in-Some.is (c.mix_key.ensures.stands r s)
 
 pub returns-in-None-clause-unchanged : goal.returns-in-None-clause-unchanged
@@ -67,7 +68,7 @@ pub returns-in-None-clause-read : goal.returns-in-None-clause-read
 returns-in-None-clause-read g c r s =
     let d = c.in_default in
     dh-fails c.args.placed.token d.not-E d.not-S d.not-Psk
-    (record { role = c.args.means.now.role; psks = c.args.means.now.psks; agree = g.K.Keys.agreement c.args.means.now.keys.now })
+    (reader_of g.K.Keys.agreement c.args.means.now.role c.args.means.now.psks c.args.means.now.keys.now)
     c.args.known.now c.args.secrets.now r c.args.message.now (is_some (cipher_key r)) c.answer_at.result c.answer_at.ensures c.in-None.is
 
 pub returns-in-E-clause-width : goal.returns-in-E-clause-width
@@ -101,7 +102,7 @@ returns-in-E-clause-counted g c = subst (λ (t : Token). OnOk c.read_e.result (n
 pub returns-in-E-clause-read : goal.returns-in-E-clause-read
 returns-in-E-clause-read g c r s =
     read-as StateStands c.read_e.new.state
-    (record { role = c.args.means.now.role; psks = c.args.means.now.psks; agree = g.K.Keys.agreement c.args.means.now.keys.now })
+    (reader_of g.K.Keys.agreement c.args.means.now.role c.args.means.now.psks c.args.means.now.keys.now)
     c.args.known.now c.read_e.new.known c.args.secrets.now r c.args.message.now c.read_e.result E c.args.placed.token c.in-E.is (c.read_e.ensures.read r s)
 
 pub returns-in-S-clause-width : goal.returns-in-S-clause-width
@@ -137,7 +138,7 @@ returns-in-S-clause-counted g c = subst (λ (t : Token). OnOk c.read_s.result (n
 pub returns-in-S-clause-read : goal.returns-in-S-clause-read
 returns-in-S-clause-read g c r s =
     read-as StateStands c.read_s.new.state
-    (record { role = c.args.means.now.role; psks = c.args.means.now.psks; agree = g.K.Keys.agreement c.args.means.now.keys.now })
+    (reader_of g.K.Keys.agreement c.args.means.now.role c.args.means.now.psks c.args.means.now.keys.now)
     c.args.known.now c.read_s.new.known c.args.secrets.now r c.args.message.now c.read_s.result S c.args.placed.token c.in-S.is (c.read_s.ensures.read r s)
 
 pub returns-in-Psk-clause-width : goal.returns-in-Psk-clause-width

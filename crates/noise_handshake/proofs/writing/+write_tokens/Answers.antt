@@ -1,3 +1,4 @@
+use Rattle.noise_handshake.specs.inner.Speaking.{writer_of}
 use Rattle.noise_state.specs.Standing.{StateStands, keyed, nonce_now}
 use Rattle.std.proofs.Common.{◌≡◌, suc, ap, ℕ, ◌+◌, ◌-◌, ◌≤◌, List, ◌∷◌, length, take, drop, sym, ◌∙◌, arith, length-take, length-drop}
 use Rattle.std.specs.Prelude.{Bool, is_some}
@@ -34,12 +35,7 @@ returns-in-Ok-clause-rest g t c =
 
 pub returns-in-Ok-clause-written : goal.returns-in-Ok-clause-written
 returns-in-Ok-clause-written g t c r s =
-    let w : Writer = record {
-      role = c.args.means.now.role;
-      psks = c.args.means.now.psks;
-      own = g.K.Keys.public_of c.args.means.now.keys.now;
-      agree = g.K.Keys.agreement c.args.means.now.keys.now;
-    } in
+    let w : Writer = writer_of g.K.Keys.public_of g.K.Keys.agreement c.args.means.now.role c.args.means.now.psks c.args.means.now.keys.now in
     let n : ℕ = c.in-Some-write_token.n in
     let k : ℕ = c.in-Ok.more in
     let token : Token = c.in-Some.first.now.token in
@@ -69,12 +65,7 @@ returns-in-Ok-clause-written g t c r s =
 
 pub returns-in-Err-clause-written : goal.returns-in-Err-clause-written
 returns-in-Err-clause-written g t c r s =
-    let w : Writer = record {
-      role = c.args.means.now.role;
-      psks = c.args.means.now.psks;
-      own = g.K.Keys.public_of c.args.means.now.keys.now;
-      agree = g.K.Keys.agreement c.args.means.now.keys.now;
-    } in
+    let w : Writer = writer_of g.K.Keys.public_of g.K.Keys.agreement c.args.means.now.role c.args.means.now.psks c.args.means.now.keys.now in
     let token : Token = c.in-Some.first.now.token in
     let a = c.in-Some-write_token.ensures.written r s in
     let next : History = after_token c.args.means.now.psks r token a.0 in
@@ -101,12 +92,7 @@ returns-in_default-write_token-clause-used g t c = bound-first (tokens_of c.args
 
 pub returns-in_default-write_token-clause-written : goal.returns-in_default-write_token-clause-written
 returns-in_default-write_token-clause-written g t c r s =
-    let w : Writer = record {
-      role = c.args.means.now.role;
-      psks = c.args.means.now.psks;
-      own = g.K.Keys.public_of c.args.means.now.keys.now;
-      agree = g.K.Keys.agreement c.args.means.now.keys.now;
-    } in
+    let w : Writer = writer_of g.K.Keys.public_of g.K.Keys.agreement c.args.means.now.role c.args.means.now.psks c.args.means.now.keys.now in
     lacks-first (tokens_of c.args.placed.now) (tokens_of c.in-Some.later.now) c.in-Some.first.now.token (ap tokens_of c.in-Some.ensures.cases.0) w c.args.known.now c.args.secrets.now (c.in_default-write_token.ensures.written r s)
 
 pub returns-in-Ok-clause-width : goal.returns-in-Ok-clause-width

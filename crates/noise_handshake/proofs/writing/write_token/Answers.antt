@@ -1,3 +1,4 @@
+use Rattle.noise_handshake.specs.inner.Speaking.{writer_of}
 use Rattle.noise_state.specs.Standing.{StateStands, keyed, nonce_now}
 use Rattle.std.proofs.Common.{◌≡◌, ℕ, List, [], length, take, get_or, refl, sym, ap, ◌∙◌, arith}
 use Rattle.std.specs.Prelude.{is_some}
@@ -56,12 +57,7 @@ returns-in-Psk-clause-counted g c = c.mix_key_and_hash.ensures.nonce ∙ ap (non
 
 pub returns-in-Some-clause-written : goal.returns-in-Some-clause-written
 returns-in-Some-clause-written g c r s =
-    let w : Writer = record {
-      role = c.args.means.now.role;
-      psks = c.args.means.now.psks;
-      own = g.K.Keys.public_of c.args.means.now.keys.now;
-      agree = g.K.Keys.agreement c.args.means.now.keys.now;
-    } in
+    let w : Writer = writer_of g.K.Keys.public_of g.K.Keys.agreement c.args.means.now.role c.args.means.now.psks c.args.means.now.keys.now in
     let key : List ℕ = c.in-Some.key in
     let long : length key ≡ 32 = omega arith in
     let d = c.write_e.ensures.written r s in
@@ -70,12 +66,7 @@ returns-in-Some-clause-written g c r s =
 
 pub returns-in-Some-public-clause-written : goal.returns-in-Some-public-clause-written
 returns-in-Some-public-clause-written g c r s =
-    let w : Writer = record {
-      role = c.args.means.now.role;
-      psks = c.args.means.now.psks;
-      own = g.K.Keys.public_of c.args.means.now.keys.now;
-      agree = g.K.Keys.agreement c.args.means.now.keys.now;
-    } in
+    let w : Writer = writer_of g.K.Keys.public_of g.K.Keys.agreement c.args.means.now.role c.args.means.now.psks c.args.means.now.keys.now in
     let key : List ℕ = c.in-Some-public.key in
     let long : length key ≡ 32 = omega arith in
     let d = c.write_part.ensures.written r s in
@@ -84,11 +75,6 @@ returns-in-Some-public-clause-written g c r s =
 
 pub returns-in-Psk-clause-written : goal.returns-in-Psk-clause-written
 returns-in-Psk-clause-written g c r s =
-    let w : Writer = record {
-      role = c.args.means.now.role;
-      psks = c.args.means.now.psks;
-      own = g.K.Keys.public_of c.args.means.now.keys.now;
-      agree = g.K.Keys.agreement c.args.means.now.keys.now;
-    } in
+    let w : Writer = writer_of g.K.Keys.public_of g.K.Keys.agreement c.args.means.now.role c.args.means.now.psks c.args.means.now.keys.now in
     written-as StateStands c.mix_key_and_hash.new.self w c.args.known.now c.args.secrets.now r [] Psk c.args.token c.in-Psk.is
     (get_or c.args.secrets.now 0 [], first_secret-read c.args.secrets.now, refl, c.mix_key_and_hash.ensures.stands r s)
