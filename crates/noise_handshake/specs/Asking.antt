@@ -10,7 +10,8 @@ use Rattle.noise_handshake.specs.Wanting.{WantsToRead}
 -- Reading the message wants this answer; or the party declines it, and not for want of an answer.
 abbrev pub LeavesUnread : View → List ℕ → Unread → Type 0
 LeavesUnread v message (Wanted own key) = WantsToRead v message own key
-LeavesUnread v message (Declined fault) = DoesNotRead v message fault × ((token : ℕ) → Refuses v message token Agreement → ⊥)
+LeavesUnread v message (Declined fault) = DoesNotRead v message fault
+    × ((token : ℕ) → Refuses v message token Agreement → ⊥)
 
 -- the view after it
 abbrev pub after_asked : View → Unread → View

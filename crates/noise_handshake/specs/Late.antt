@@ -1,4 +1,5 @@
--- A handshake that starts with fewer secrets than its pattern has psk tokens (Noise, 9): the others are handed in when their tokens come.
+-- A handshake that starts with fewer secrets than its pattern has psk tokens (Noise, 9): the others are handed in when
+-- their tokens come.
 use Rattle.std.specs.Prelude.{◌≡◌, ℕ, ◌<◌, List, ◌∷◌, ◌++◌, length, max, Option, count_by}
 use Rattle.noise_names.specs.declared.token.Role.{Role}
 use Rattle.noise_names.specs.declared.token.Token.{Token}
@@ -36,7 +37,8 @@ late_fault p role own remote secrets =
 abbrev pub IsLateWhole : {K : Type 0} → (K → Own → Option (List ℕ)) → Held K → Type 0
 IsLateWhole public_of h = (later : List (List ℕ)) × IsWhole public_of (with_later h later)
 
--- The message begins as some sender's tokens would before a psk token, the first after n others; this static key of the other party is known there.
+-- The message begins as some sender's tokens would before a psk token, the first after n others; this static key of the
+-- other party is known there.
 pub record WantsSecretToRead (v : View) (n : ℕ) (message : List ℕ) (remote : Option (List ℕ)) : Type 0 where
   pub listens : Listens v
   pub before : List Token
@@ -61,7 +63,8 @@ pub record WantsSecretToWrite (v : View) (n : ℕ) : Type 0 where
 abbrev pub LeavesLateUnread : View → ℕ → List ℕ → LateUnread → Type 0
 LeavesLateUnread v n message (unread.Wants (Answer own key)) = WantsToRead v message own key
 LeavesLateUnread v n message (unread.Wants (Secret remote)) = WantsSecretToRead v n message remote
-LeavesLateUnread v n message (unread.Declined fault) = DoesNotRead v message fault × ((token : ℕ) → Refuses v message token Agreement → ⊥)
+LeavesLateUnread v n message (unread.Declined fault) = DoesNotRead v message fault
+    × ((token : ℕ) → Refuses v message token Agreement → ⊥)
 
 -- what that leaves
 abbrev pub after_late_unread : {K : Type 0} → Held K → LateUnread → Held K
@@ -83,7 +86,8 @@ abbrev pub WantsLate : View → ℕ → Want → Type 0
 WantsLate v n (Answer own key) = WantsToWrite v own key
 WantsLate v n (Secret remote) = WantsSecretToWrite v n × (remote ≡ v.remote.s)
 
--- Why a payload of this length isn't written, where n secrets have been handed in; the want of an answer or a secret is no fault.
+-- Why a payload of this length isn't written, where n secrets have been handed in; the want of an answer or a secret is
+-- no fault.
 abbrev pub LeavesLateUnwritten : View → ℕ → ℕ → LateUnwritten → Type 0
 LeavesLateUnwritten v n payload (unwritten.Wants want) = WantsLate v n want
 LeavesLateUnwritten v n payload (unwritten.Withheld fault) = DoesNotWrite v payload fault × (IsAgreement fault → ⊥)

@@ -3,7 +3,8 @@ use Rattle.std.specs.Prelude.{◌≡◌, ℕ, ◌+◌, Bool, true, ◌||◌, Lis
 use Rattle.noise_names.specs.declared.token.Token.{Token}
 use Rattle.noise_names.specs.declared.token.Token.TheVariants.{E, S}
 
--- whether there is a key after a token, where there is one before it or not: a DH and a psk give one, and in a psk pattern an e does
+-- whether there is a key after a token, where there is one before it or not: a DH and a psk give one, and in a psk
+-- pattern an e does
 abbrev pub keyed_after : Bool → Bool → Token → Bool
 keyed_after psks keyed E = psks || keyed
 keyed_after psks keyed S = keyed

@@ -1,5 +1,5 @@
--- One handshake message (Noise 5.3, 9.2): what its tokens and payload travel as, and the history after them.
--- A message carries one text for each of its tokens: a public key for e and s, the answer for a DH token, the secret for psk.
+-- One handshake message (Noise 5.3, 9.2): what its tokens and payload travel as, and the history after them. A message
+-- carries one text for each of its tokens: a public key for e and s, the answer for a DH token, the secret for psk.
 use Rattle.std.specs.Prelude.{ℕ, List, [], ◌∷◌, ◌++◌, Bool, if◌then◌else◌}
 use Rattle.noise_names.specs.declared.token.Token.{Token}
 use Rattle.noise_names.specs.declared.token.Token.TheVariants.{E, S, Psk}
@@ -38,4 +38,5 @@ abbrev pub message_bytes : Bool → History → List Token → List (List ℕ) �
 message_bytes psks r ts xs payload = before_payload psks r ts xs ++ ciphertext (after_tokens psks r ts xs) payload
 
 abbrev pub after_payload : Bool → History → List Token → List (List ℕ) → List ℕ → History
-after_payload psks r ts xs payload = and_then (after_tokens psks r ts xs) (Ciphertext (ciphertext (after_tokens psks r ts xs) payload))
+after_payload psks r ts xs payload =
+    and_then (after_tokens psks r ts xs) (Ciphertext (ciphertext (after_tokens psks r ts xs) payload))

@@ -16,7 +16,8 @@ nonce_after psks keyed n _ = 0
 
 abbrev pub nonce_after_tokens : Bool → Bool → ℕ → List Token → ℕ
 nonce_after_tokens psks keyed n [] = n
-nonce_after_tokens psks keyed n (t ∷ ts) = nonce_after_tokens psks (keyed_after psks keyed t) (nonce_after psks keyed n t) ts
+nonce_after_tokens psks keyed n (t ∷ ts) =
+    nonce_after_tokens psks (keyed_after psks keyed t) (nonce_after psks keyed n t) ts
 
 -- after a message, whose payload takes one if there is a key
 abbrev pub nonce_after_message : Bool → Bool → ℕ → List Token → ℕ

@@ -34,10 +34,11 @@ pub record HasProgress {K : Type 0} (h : Held K) (g : Progress) : Type 0 where
   pub ended : g.ended ≡ h.ended
   pub state : state_of g.state ≡ h.state
 
--- What holds of every handshake: no more messages have passed than there are, a secret is left for each psk token that is still to come (9.2),
--- the party has each key of its own that the pattern has a token for, exactly those keys of the other party's are known whose tokens stand in
--- its pre-message or in a message that has passed (5.3), there is a cipher key exactly where the pattern says so (5.2), and its nonce counts
--- the texts that were encrypted under it (5.1), 0 without a key.
+-- What holds of every handshake: no more messages have passed than there are, a secret is left for each psk token that
+-- is still to come (9.2), the party has each key of its own that the pattern has a token for, exactly those keys of the
+-- other party's are known whose tokens stand in its pre-message or in a message that has passed (5.3), there is a
+-- cipher key exactly where the pattern says so (5.2), and its nonce counts the texts that were encrypted under it
+-- (5.1), 0 without a key.
 pub record IsWhole {K : Type 0} (public_of : K → Own → Option (List ℕ)) (h : Held K) : Type 0 where
   pub within : h.passed ≤ length h.pattern.messages
   pub secrets : length h.secrets ≡ secrets_of (drop h.passed h.pattern.messages)

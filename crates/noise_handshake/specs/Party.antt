@@ -72,7 +72,8 @@ DoesNotWrite v payload write.Ended = v.ended ≡ true
 DoesNotWrite v payload write.Done = (v.ended ≡ false) × (v.passed ≡ length v.pattern.messages)
 DoesNotWrite v payload write.NotYourTurn = Listens v
 DoesNotWrite v payload write.TooLong = Speaks v × (65535 < overhead_of v.pattern (v.passed + 1) + payload)
-DoesNotWrite v payload (write.Agreement token) = (overhead_of v.pattern (v.passed + 1) + payload ≤ 65535) × LacksAnswer v token
+DoesNotWrite v payload (write.Agreement token) = (overhead_of v.pattern (v.passed + 1) + payload ≤ 65535)
+    × LacksAnswer v token
 
 -- the view after such a fault: only a DH without an answer ends the handshake
 abbrev pub after_not_written : View → WriteFault → View

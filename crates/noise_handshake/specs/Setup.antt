@@ -33,10 +33,12 @@ keys_of party role own remote = if same_role party role then own else remote
 -- the history at the start, for a role with these keys
 abbrev pub start_of : Plan → Role → List ℕ → Remote → Remote → History
 start_of p role prologue own remote =
-    start (name_bytes (record { base = p.base; places = p.places })) p prologue (keys_of Initiator role own remote) (keys_of Responder role own remote)
+    start (name_bytes (record { base = p.base; places = p.places })) p prologue (keys_of Initiator role own remote)
+    (keys_of Responder role own remote)
 
 -- the view at the start
-abbrev pub begun : Plan → Role → List ℕ → (Own → Option (List ℕ)) → (Own → List ℕ → Option (List ℕ)) → Remote → List (List ℕ) → View
+abbrev pub begun : Plan → Role → List ℕ → (Own → Option (List ℕ)) → (Own → List ℕ → Option (List ℕ)) → Remote
+    → List (List ℕ) → View
 begun p role prologue own agree remote secrets = record {
   pattern = p;
   role = role;
@@ -68,11 +70,13 @@ has_before p role t = has_token t (pre_of role p)
 
 -- whether a key of the other party's pre-message isn't there
 abbrev pub lacks_remote : Plan → Role → Remote → Bool
-lacks_remote p role remote = (has_before p (other role) E && is_none remote.e) || (has_before p (other role) S && is_none remote.s)
+lacks_remote p role remote = (has_before p (other role) E && is_none remote.e)
+    || (has_before p (other role) S && is_none remote.s)
 
 -- whether a key of the other party is there that isn't in its pre-message
 abbrev pub has_unexpected : Plan → Role → Remote → Bool
-has_unexpected p role remote = (is_some remote.e && not (has_before p (other role) E)) || (is_some remote.s && not (has_before p (other role) S))
+has_unexpected p role remote = (is_some remote.e && not (has_before p (other role) E))
+    || (is_some remote.s && not (has_before p (other role) S))
 
 -- what is wrong with a setup, the first of these
 abbrev pub setup_fault : Plan → Role → (Own → Option (List ℕ)) → Remote → ℕ → Option SetupFault

@@ -109,7 +109,8 @@ abbrev pub Fit : Reader → Remote → List (List ℕ) → List Token → List (
 Fit v known secrets [] [] = Unit {0}
 Fit v known secrets [] (x ∷ xs) = ⊥
 Fit v known secrets (t ∷ ts) [] = ⊥
-Fit v known secrets (t ∷ ts) (x ∷ xs) = Fits v known secrets t x × Fit v (known_after known t x) (secrets_after secrets t) ts xs
+Fit v known secrets (t ∷ ts) (x ∷ xs) = Fits v known secrets t x
+    × Fit v (known_after known t x) (secrets_after secrets t) ts xs
 
 -- the keys known after all tokens
 abbrev pub learned : Remote → List Token → List (List ℕ) → Remote
@@ -135,13 +136,15 @@ pub record Speaks (v : View) : Type 0 where
   pub turn : turn_from Initiator v.passed ≡ v.role
 
 -- The message begins as some sender's tokens would that carry these texts, and this is left of it.
-pub record BeginsAs (v : Reader) (known : Remote) (secrets : List (List ℕ)) (r : History) (ts : List Token) (xs : List (List ℕ))
+pub record BeginsAs (v : Reader) (known : Remote) (secrets : List (List ℕ)) (r : History) (ts : List Token)
+    (xs : List (List ℕ))
     (message rest : List ℕ) : Type 0 where
   pub fit : Fit v known secrets ts xs
   pub spelled : message ≡ before_payload v.psks r ts xs ++ rest
 
 -- It begins as some sender's tokens would.
-pub record CanBegin (v : Reader) (known : Remote) (secrets : List (List ℕ)) (r : History) (ts : List Token) (message : List ℕ) : Type 0 where
+pub record CanBegin (v : Reader) (known : Remote) (secrets : List (List ℕ)) (r : History) (ts : List Token)
+    (message : List ℕ) : Type 0 where
   pub carried : List (List ℕ)
   pub rest : List ℕ
   pub leads : BeginsAs v known secrets r ts carried message rest
@@ -159,21 +162,24 @@ cause_at keyed (t ∷ ts) zero rest = cause_of keyed t rest
 cause_at keyed (t ∷ ts) (suc k) rest = cause_at keyed ts k rest
 
 -- The message is one whose tokens carry these texts, with this payload.
-pub record Reads (v : Reader) (known : Remote) (secrets : List (List ℕ)) (r : History) (ts : List Token) (message : List ℕ)
+pub record Reads (v : Reader) (known : Remote) (secrets : List (List ℕ)) (r : History) (ts : List Token)
+    (message : List ℕ)
     (xs : List (List ℕ)) (payload : List ℕ) : Type 0 where
   pub fit : Fit v known secrets ts xs
   pub spelled : message ≡ message_bytes v.psks r ts xs payload
 
--- Reading stops at token k: some sender's tokens before it lead there, and none's lead further. The payload counts as the token
--- after the last.
-pub record Stops (v : Reader) (known : Remote) (secrets : List (List ℕ)) (r : History) (ts : List Token) (message : List ℕ)
+-- Reading stops at token k: some sender's tokens before it lead there, and none's lead further. The payload counts as
+-- the token after the last.
+pub record Stops (v : Reader) (known : Remote) (secrets : List (List ℕ)) (r : History) (ts : List Token)
+    (message : List ℕ)
     (k : ℕ) (cause : Cause) : Type 0 where
   pub within : k ≤ length ts
   pub carried : List (List ℕ)
   pub rest : List ℕ
   pub leads : BeginsAs v known secrets r (take k ts) carried message rest
   pub further : k < length ts → CanBegin v known secrets r (take (suc k) ts) message → ⊥
-  pub unread : k ≡ length ts → (xs : List (List ℕ)) (payload : List ℕ) → Reads v known secrets r ts message xs payload → ⊥
+  pub unread : k ≡ length ts → (xs : List (List ℕ)) (payload : List ℕ) → Reads v known secrets r ts message xs payload
+      → ⊥
   pub why : cause ≡ cause_at (is_some (cipher_key (after_tokens v.psks r (take k ts) carried))) ts k rest
 
 -- The party accepts the message as this payload, where the tokens carry these texts.

@@ -1,4 +1,5 @@
--- Which DH answer a party lacks for the next message (the table of Noise 5.3): that of one of its key pairs to a public key of the other party.
+-- Which DH answer a party lacks for the next message (the table of Noise 5.3): that of one of its key pairs to a public
+-- key of the other party.
 use Rattle.std.specs.Prelude.{◌≡◌, ℕ, List, ◌∷◌, ◌++◌, length, Some}
 use Rattle.noise_names.specs.declared.token.Token.{Token}
 use Rattle.noise_keys.specs.declared.keys.Own.{Own}
@@ -8,8 +9,10 @@ use Rattle.noise_state.specs.History.{History}
 use Rattle.noise_handshake.specs.View.{View, Reader, reader, Listens, Speaks, Stops, learned, own_at, remote_at, tokens_now}
 use Rattle.noise_handshake.specs.Writing.{Writer, writer, LacksAnswerAt}
 
--- Reading stops at a DH for want of its answer: that of this key pair to this key of the other party, as it is known after the tokens before.
-pub record StopsFor (v : Reader) (known : Remote) (secrets : List (List ℕ)) (r : History) (ts : List Token) (message : List ℕ)
+-- Reading stops at a DH for want of its answer: that of this key pair to this key of the other party, as it is known
+-- after the tokens before.
+pub record StopsFor (v : Reader) (known : Remote) (secrets : List (List ℕ)) (r : History) (ts : List Token)
+    (message : List ℕ)
     (own : Own) (key : List ℕ) : Type 0 where
   pub before : List Token
   pub token : Token
@@ -25,7 +28,8 @@ pub record WantsToRead (v : View) (message : List ℕ) (own : Own) (key : List �
   pub stops : StopsFor (reader v) v.remote v.secrets v.history (tokens_now v) message own key
 
 -- The first token without a text is a DH without its answer: that of this key pair to this key of the other party.
-pub record LacksAnswerFor (w : Writer) (known : Remote) (secrets : List (List ℕ)) (ts : List Token) (own : Own) (key : List ℕ) : Type 0 where
+pub record LacksAnswerFor (w : Writer) (known : Remote) (secrets : List (List ℕ)) (ts : List Token) (own : Own)
+    (key : List ℕ) : Type 0 where
   pub before : List Token
   pub token : Token
   pub later : List Token

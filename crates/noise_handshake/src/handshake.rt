@@ -24,8 +24,9 @@ const MAX_LEN: usize = 65535;
 
 /// One party of a handshake (Noise, 5.3), in either role of any valid pattern. It asks for no memory.
 ///
-/// Messages are written and read in turn, the initiator's first. A message goes on in a trial of the symmetric state, so
-/// that a fault leaves what the messages before it made. Each message is laid out once, when the one before it has passed.
+/// Messages are written and read in turn, the initiator's first. A message goes on in a trial of the symmetric state,
+/// so that a fault leaves what the messages before it made. Each message is laid out once, when the one before it has
+/// passed.
 #[derive(Drop)]
 pub struct Handshake<K: Keys> {
     pattern: ValidPattern,
@@ -90,10 +91,13 @@ impl<K: Keys> Handshake<K> {
         psks: &[[u8; 32]],
     ) -> Result<Handshake<K>, SetupFault>
         requires { length prologue.now ≤ 65535 }
-        ensures fault { MatchOption (setup_fault pattern role (K.public_of keys) remote (length psks.now)) (IsOk result) (λ fault. result ≡ Err fault) }
+        ensures fault { MatchOption (setup_fault pattern role (K.public_of keys) remote (length psks.now))
+            (IsOk result) (λ fault. result ≡ Err fault) }
         ensures stands { IfOk result
-            (λ h. Stands K.public_of K.agreement h (begun pattern role prologue.now (K.public_of keys) (K.agreement keys) remote psks.now)) }
-        ensures parts { IfOk result (λ h. (h.pattern ≡ pattern) × (h.role ≡ role) × (h.keys ≡ keys) × (h.passed ≡ 0) × (h.ended ≡ false)) }
+            (λ h. Stands K.public_of K.agreement h (begun pattern role prologue.now (K.public_of keys)
+            (K.agreement keys) remote psks.now)) }
+        ensures parts { IfOk result
+            (λ h. (h.pattern ≡ pattern) × (h.role ≡ role) × (h.keys ≡ keys) × (h.passed ≡ 0) × (h.ended ≡ false)) }
         ensures valid { IsPattern pattern × IsValid pattern }
     {
         let plan = pattern.pattern();
@@ -119,7 +123,8 @@ impl<K: Keys> Handshake<K> {
         requires right { setup_fault pattern role (K.public_of keys) remote (length secrets.items) ≡ None }
         ensures stands { Stands K.public_of K.agreement result
             (begun pattern role prologue.now (K.public_of keys) (K.agreement keys) remote secrets.items) }
-        ensures parts { (result.pattern ≡ pattern) × (result.role ≡ role) × (result.keys ≡ keys) × (result.passed ≡ 0) × (result.ended ≡ false) }
+        ensures parts { (result.pattern ≡ pattern) × (result.role ≡ role) × (result.keys ≡ keys) × (result.passed ≡ 0)
+            × (result.ended ≡ false) }
         ensures secrets { result.secrets ≡ secrets.items }
     {
         let plan = pattern.pattern();
@@ -150,9 +155,10 @@ impl<K: Keys> Handshake<K> {
         &self.secrets[self.used..]
     }
 
-    /// A copy of what messages have changed so far, the secrets aside, for a caller that keeps it itself until the next message. It has
-    /// the cipher key with its nonce, and nothing prevents going on both with this handshake and with one that is put together of the copy:
-    /// the two would encrypt at the same nonce. So take it when this handshake is given up.
+    /// A copy of what messages have changed so far, the secrets aside, for a caller that keeps it itself until the next
+    /// message. It has the cipher key with its nonce, and nothing prevents going on both with this handshake and with
+    /// one that is put together of the copy: the two would encrypt at the same nonce. So take it when this handshake is
+    /// given up.
     pub fn progress(&self) -> Progress
         ensures same { HasProgress self.now result }
         ensures whole { IsWhole K.public_of self.now }
@@ -166,7 +172,8 @@ impl<K: Keys> Handshake<K> {
         }
     }
 
-    /// What it holds, for a caller that keeps it itself until the next message. Its secrets are gone: `secrets` tells them before.
+    /// What it holds, for a caller that keeps it itself until the next message. Its secrets are gone: `secrets` tells
+    /// them before.
     pub fn into_parts(self) -> Parts<K>
         ensures same { held_of result self.secrets ≡ self }
         ensures whole { IsWhole K.public_of self }
@@ -180,10 +187,11 @@ impl<K: Keys> Handshake<K> {
         }
     }
 
-    /// The handshake that holds these parts, and these secrets for the psk tokens that are still to come, in their order; or None for
-    /// what no handshake holds. It stands for what the handshake stood for that was taken apart; at None the parts are gone. What can't be
-    /// told from the parts isn't tested, as whether the keys and the hash come of messages: of other parts it may be a handshake that
-    /// stands for no view. The nonce has to be the number of texts that the pattern's tokens encrypt under the present key.
+    /// The handshake that holds these parts, and these secrets for the psk tokens that are still to come, in their
+    /// order; or None for what no handshake holds. It stands for what the handshake stood for that was taken apart; at
+    /// None the parts are gone. What can't be told from the parts isn't tested, as whether the keys and the hash come
+    /// of messages: of other parts it may be a handshake that stands for no view. The nonce has to be the number of
+    /// texts that the pattern's tokens encrypt under the present key.
     ///
     /// A handshake that was taken apart is put together once: two of them would encrypt at the same nonce.
     pub fn from_parts(parts: Parts<K>, secrets: &[[u8; 32]]) -> Option<Handshake<K>>
@@ -265,8 +273,8 @@ impl<K: Keys> Handshake<K> {
         }
     }
 
-    /// The other party's static public key, 32 bytes, as far as its pre-message and the messages that passed tell it, also
-    /// after the handshake has ended.
+    /// The other party's static public key, 32 bytes, as far as its pre-message and the messages that passed tell it,
+    /// also after the handshake has ended.
     pub fn remote_static(&self) -> Option<[u8; 32]>
         ensures { result ≡ self.now.remote.s }
     {
@@ -314,14 +322,17 @@ impl<K: Keys> Handshake<K> {
         requires due { read_fault self.old ≡ None }
         ensures range { IfOk result (λ place. (place.0 ≤ place.1) × (place.1 ≤ length message.new)) }
         ensures beyond { IfOk result (λ place.
-            (take place.0 message.new ≡ take place.0 message.old) × (drop place.1 message.new ≡ drop place.1 message.old)) }
+            (take place.0 message.new ≡ take place.0 message.old)
+            × (drop place.1 message.new ≡ drop place.1 message.old)) }
         ensures unchanged { OnErr result (message.new ≡ message.old) }
         ensures state { MatchResult result (λ _. Advances self.old self.new) (λ _. self.new ≡ self.old) }
         ensures reads { (v : View) → Stands K.public_of K.agreement self.old v → MatchResult result
-            (λ place. let payload = slice_range message.new place.0 place.1 in (xs : List (List ℕ)) × Accepts v message.old xs payload
+            (λ place. let payload = slice_range message.new place.0 place.1 in (xs : List (List ℕ))
+            × Accepts v message.old xs payload
             × Stands K.public_of K.agreement self.new (after_message v xs payload))
             (λ stop. Refuses v message.old stop.token stop.cause × MatchOption stop.want
-            ((token : ℕ) → Refuses v message.old token Cause.Agreement → ⊥) (λ want. WantsToRead v message.old want.0 want.1)) }
+            ((token : ℕ) → Refuses v message.old token Cause.Agreement → ⊥)
+            (λ want. WantsToRead v message.old want.0 want.1)) }
     {
         let means = Means {
             keys: &self.keys,
@@ -350,8 +361,8 @@ impl<K: Keys> Handshake<K> {
         }
     }
 
-    /// Reads a message in place, and returns from where to where its payload then is in it, in bytes. The bytes in front of
-    /// the payload and after it stay as they are: an encrypted static key isn't decrypted there.
+    /// Reads a message in place, and returns from where to where its payload then is in it, in bytes. The bytes in
+    /// front of the payload and after it stay as they are: an encrypted static key isn't decrypted there.
     ///
     /// The message has at most 65535 bytes. At an `Err` its bytes are unchanged. `Refused` ends the handshake, and the
     /// other faults leave it as it was.
@@ -359,14 +370,18 @@ impl<K: Keys> Handshake<K> {
         requires { length message.old ≤ 65535 }
         ensures range { IfOk result (λ place. (place.0 ≤ place.1) × (place.1 ≤ length message.new)) }
         ensures beyond { IfOk result (λ place.
-            (take place.0 message.new ≡ take place.0 message.old) × (drop place.1 message.new ≡ drop place.1 message.old)) }
+            (take place.0 message.new ≡ take place.0 message.old)
+            × (drop place.1 message.new ≡ drop place.1 message.old)) }
         ensures unchanged { OnErr result (message.new ≡ message.old) }
         ensures fault { MatchOption (read_fault self.old) (IfErr result IsRefusal) (λ fault. result ≡ Err fault) }
-        ensures state { MatchResult result (λ _. Advances self.old self.new) (λ fault. self.new ≡ after_read_fault self.old fault) }
+        ensures state { MatchResult result (λ _. Advances self.old self.new)
+            (λ fault. self.new ≡ after_read_fault self.old fault) }
         ensures reads { (v : View) → Stands K.public_of K.agreement self.old v → MatchResult result
-            (λ place. let payload = slice_range message.new place.0 place.1 in (xs : List (List ℕ)) × Accepts v message.old xs payload
+            (λ place. let payload = slice_range message.new place.0 place.1 in (xs : List (List ℕ))
+            × Accepts v message.old xs payload
             × Stands K.public_of K.agreement self.new (after_message v xs payload))
-            (λ fault. DoesNotRead v message.old fault × Stands K.public_of K.agreement self.new (after_not_read v fault)) }
+            (λ fault. DoesNotRead v message.old fault
+            × Stands K.public_of K.agreement self.new (after_not_read v fault)) }
     {
         if let Some(fault) = self.read_fault() {
             return Err(fault);
@@ -386,36 +401,45 @@ impl<K: Keys> Handshake<K> {
     /// other faults leave it as it was.
     pub fn read<'a>(&mut self, message: &'a mut [u8]) -> Result<&'a mut [u8], ReadFault>
         requires { length message.old ≤ 65535 }
-        ensures part { IfOk result (λ payload. (from : ℕ) × (payload.ref_ptr ≡ (message.entry.ref_ptr.0, message.entry.ref_ptr.1 + from))
+        ensures part { IfOk result
+            (λ payload. (from : ℕ) × (payload.ref_ptr ≡ (message.entry.ref_ptr.0, message.entry.ref_ptr.1 + from))
             × (from + length payload.now ≤ length message.old)) }
         ensures fault { MatchOption (read_fault self.old) (IfErr result IsRefusal) (λ fault. result ≡ Err fault) }
-        ensures state { MatchResult result (λ _. Advances self.old self.new) (λ fault. self.new ≡ after_read_fault self.old fault) }
+        ensures state { MatchResult result (λ _. Advances self.old self.new)
+            (λ fault. self.new ≡ after_read_fault self.old fault) }
         ensures reads { (v : View) → Stands K.public_of K.agreement self.old v → MatchResult result
-            (λ payload. (xs : List (List ℕ)) × Accepts v message.old xs payload.now × Stands K.public_of K.agreement self.new (after_message v xs payload.now))
-            (λ fault. DoesNotRead v message.old fault × Stands K.public_of K.agreement self.new (after_not_read v fault)) }
+            (λ payload. (xs : List (List ℕ)) × Accepts v message.old xs payload.now
+            × Stands K.public_of K.agreement self.new (after_message v xs payload.now))
+            (λ fault. DoesNotRead v message.old fault
+            × Stands K.public_of K.agreement self.new (after_not_read v fault)) }
     {
         let (from, to) = self.read_within(message)?;
         Ok(&mut message[from..to])
     }
 
-    /// Reads a message in place as `read_within` does; but where it would be refused for want of a DH answer, this returns which
-    /// answer is wanted, and changes nothing.
+    /// Reads a message in place as `read_within` does; but where it would be refused for want of a DH answer, this
+    /// returns which answer is wanted, and changes nothing.
     ///
-    /// The message has at most 65535 bytes. At an `Err` its bytes are unchanged. `Declined` with `Refused` ends the handshake, and
-    /// everything else leaves it as it was. So a caller whose private keys lie elsewhere has the answer made, puts it to its keys,
-    /// and reads the message again.
+    /// The message has at most 65535 bytes. At an `Err` its bytes are unchanged. `Declined` with `Refused` ends the
+    /// handshake, and everything else leaves it as it was. So a caller whose private keys lie elsewhere has the answer
+    /// made, puts it to its keys, and reads the message again.
     pub fn read_or_ask(&mut self, message: &mut [u8]) -> Result<(usize, usize), Unread>
         requires { length message.old ≤ 65535 }
         ensures range { IfOk result (λ place. (place.0 ≤ place.1) × (place.1 ≤ length message.new)) }
         ensures beyond { IfOk result (λ place.
-            (take place.0 message.new ≡ take place.0 message.old) × (drop place.1 message.new ≡ drop place.1 message.old)) }
+            (take place.0 message.new ≡ take place.0 message.old)
+            × (drop place.1 message.new ≡ drop place.1 message.old)) }
         ensures unchanged { OnErr result (message.new ≡ message.old) }
-        ensures fault { MatchOption (read_fault self.old) (IfErr result IsOfDue) (λ fault. result ≡ Err (Unread.Declined fault)) }
-        ensures state { MatchResult result (λ _. Advances self.old self.new) (λ unread. self.new ≡ after_unread self.old unread) }
+        ensures fault { MatchOption (read_fault self.old) (IfErr result IsOfDue)
+            (λ fault. result ≡ Err (Unread.Declined fault)) }
+        ensures state { MatchResult result (λ _. Advances self.old self.new)
+            (λ unread. self.new ≡ after_unread self.old unread) }
         ensures reads { (v : View) → Stands K.public_of K.agreement self.old v → MatchResult result
-            (λ place. let payload = slice_range message.new place.0 place.1 in (xs : List (List ℕ)) × Accepts v message.old xs payload
+            (λ place. let payload = slice_range message.new place.0 place.1 in (xs : List (List ℕ))
+            × Accepts v message.old xs payload
             × Stands K.public_of K.agreement self.new (after_message v xs payload))
-            (λ unread. LeavesUnread v message.old unread × Stands K.public_of K.agreement self.new (after_asked v unread)) }
+            (λ unread. LeavesUnread v message.old unread
+            × Stands K.public_of K.agreement self.new (after_asked v unread)) }
     {
         if let Some(fault) = self.read_fault() {
             return Err(Unread::Declined(fault));
@@ -435,8 +459,9 @@ impl<K: Keys> Handshake<K> {
         }
     }
 
-    /// For want of which DH answer reading this message would be refused: of which key pair of this party, and to which public
-    /// key of the other, as the message tells it. None where it wouldn't be refused for that. Nothing changes.
+    /// The DH answer without which this message would be refused: of which key pair of this party it is, and to which
+    /// public key of the other party, as the message tells it. None where the message wouldn't be refused for that.
+    /// Nothing changes.
     ///
     /// So a caller whose private keys lie elsewhere asks, has the answer made, puts it to its keys, and asks again.
     pub fn wants_to_read(&self, message: &[u8]) -> Option<(Own, [u8; 32])>
@@ -463,8 +488,8 @@ impl<K: Keys> Handshake<K> {
         )
     }
 
-    /// The handshake hash (Noise, 11.2), 32 bytes, of the start and the messages that passed, also after the handshake has
-    /// ended.
+    /// The handshake hash (Noise, 11.2), 32 bytes, of the start and the messages that passed, also after the handshake
+    /// has ended.
     pub fn hash(&self) -> [u8; 32]
         ensures { (v : View) → Stands K.public_of K.agreement self.now v → result ≡ hash v.history }
     {
@@ -493,7 +518,8 @@ impl<K: Keys> Handshake<K> {
     pub(crate) fn withheld(&self, payload_len: usize) -> Option<WriteFault>
         ensures value { result ≡ write_fault self.now payload_len }
         ensures due { result ≡ None → self.now.passed < length self.now.pattern.messages }
-        ensures withholds { (v : View) → Stands K.public_of K.agreement self.now v → IfSome result (λ fault. DoesNotWrite v payload_len fault) }
+        ensures withholds { (v : View) → Stands K.public_of K.agreement self.now v
+            → IfSome result (λ fault. DoesNotWrite v payload_len fault) }
     {
         let _ = self.left();
         self.write_fault(payload_len)
@@ -516,14 +542,19 @@ impl<K: Keys> Handshake<K> {
     /// holds; the other faults change nothing.
     pub fn write(&mut self, payload: &[u8], out: &mut [u8]) -> Result<usize, WriteFault>
         requires { ForSome (message_len_of self.old (length payload.now)) (λ n. n ≤ length out.old) }
-        ensures len { IfOk result (λ n. (message_len_of self.old (length payload.now) ≡ Some n) × (n ≤ length out.new)) }
-        ensures fault { MatchOption (write_fault self.old (length payload.now)) (IfErr result IsAgreement) (λ fault. (result ≡ Err fault)
+        ensures len { IfOk result
+            (λ n. (message_len_of self.old (length payload.now) ≡ Some n) × (n ≤ length out.new)) }
+        ensures fault { MatchOption (write_fault self.old (length payload.now)) (IfErr result IsAgreement)
+            (λ fault. (result ≡ Err fault)
             × (out.new ≡ out.old)) }
-        ensures state { MatchResult result (λ _. Advances self.old self.new) (λ fault. self.new ≡ after_write_fault self.old fault) }
+        ensures state { MatchResult result (λ _. Advances self.old self.new)
+            (λ fault. self.new ≡ after_write_fault self.old fault) }
         ensures beyond { IfOk result (λ n. drop n out.new ≡ drop n out.old) }
         ensures writes { (v : View) → Stands K.public_of K.agreement self.old v → MatchResult result
-            (λ n. (xs : List (List ℕ)) × Writes v payload.now xs (take n out.new) × Stands K.public_of K.agreement self.new (after_own v xs payload.now))
-            (λ fault. DoesNotWrite v (length payload.now) fault × Stands K.public_of K.agreement self.new (after_not_written v fault)) }
+            (λ n. (xs : List (List ℕ)) × Writes v payload.now xs (take n out.new)
+            × Stands K.public_of K.agreement self.new (after_own v xs payload.now))
+            (λ fault. DoesNotWrite v (length payload.now) fault
+            × Stands K.public_of K.agreement self.new (after_not_written v fault)) }
     {
         if let Some(fault) = self.write_fault(payload.len()) {
             return Err(fault);
@@ -561,15 +592,17 @@ impl<K: Keys> Handshake<K> {
 
     // Whether a message of this party is due.
     pub(crate) fn speaks(&self) -> bool
-        ensures { result ≡ (not self.now.ended && not (self.now.passed == length self.now.pattern.messages) && is_turn self.now.role self.now.passed) }
+        ensures { result ≡ (not self.now.ended && not (self.now.passed == length self.now.pattern.messages)
+            && is_turn self.now.role self.now.passed) }
     {
         !self.ended
             && self.passed as usize != self.pattern.pattern().messages().len()
             && self.writes_next()
     }
 
-    /// For want of which DH answer no message would be written now: of which key pair of this party, and to which public key of
-    /// the other. None where a message is due and lacks no answer, and where none is due. Nothing changes.
+    /// The DH answer without which no message can be written now: of which key pair of this party it is, and to which
+    /// public key of the other party. None where a message is due and lacks no answer, and where none is due. Nothing
+    /// changes.
     pub fn wants_to_write(&self) -> Option<(Own, [u8; 32])>
         ensures { (v : View) → Stands K.public_of K.agreement self.now v → MatchOption result
             ((token : ℕ) → LacksAnswer v token → ⊥)
@@ -623,14 +656,16 @@ impl<K: Keys> Handshake<K> {
         psk_after(&self.next_layout().tokens, count)
     }
 
-    // Reads a due message before token k, and returns the other party's static key as it is known there; or where reading stops before.
+    // Reads a due message before token k, and returns the other party's static key as it is known there; or where
+    // reading stops before.
     pub(crate) fn read_before(&self, k: usize, message: &[u8]) -> Result<Option<[u8; 32]>, Stop>
         requires due { read_fault self.now ≡ None }
         requires within { k ≤ length (tokens_at self.now.pattern.messages self.now.passed) }
         ensures { (v : View) → Stands K.public_of K.agreement self.now v → MatchResult result
             (λ s. BeginsBefore (reader v) v.remote v.secrets v.history (tokens_now v) message.now k s)
             (λ stop. (stop.token < k) × Refuses v message.now stop.token stop.cause × MatchOption stop.want
-            ((token : ℕ) → Refuses v message.now token Cause.Agreement → ⊥) (λ want. WantsToRead v message.now want.0 want.1)) }
+            ((token : ℕ) → Refuses v message.now token Cause.Agreement → ⊥)
+            (λ want. WantsToRead v message.now want.0 want.1)) }
     {
         let means = Means {
             keys: &self.keys,
@@ -649,9 +684,10 @@ impl<K: Keys> Handshake<K> {
         )
     }
 
-    // For want of which DH answer no message would be written now, if one lacks before token k.
+    // The DH answer before token k without which no message can be written now, if there is one.
     pub(crate) fn wants_before(&self, k: usize) -> Option<(Own, [u8; 32])>
-        requires due { (not self.now.ended && not (self.now.passed == length self.now.pattern.messages) && is_turn self.now.role self.now.passed) ≡ true }
+        requires due { (not self.now.ended && not (self.now.passed == length self.now.pattern.messages)
+            && is_turn self.now.role self.now.passed) ≡ true }
         requires within { k ≤ length (tokens_at self.now.pattern.messages self.now.passed) }
         ensures { (v : View) → Stands K.public_of K.agreement self.now v → Speaks v × MatchOption result
             ((token : ℕ) → LacksAnswerAt (writer v) v.remote v.secrets (take k (tokens_now v)) token → ⊥)

@@ -14,12 +14,12 @@ use arrayvec::ArrayVec;
 use noise_names::{Role, ValidPattern};
 use std::marker::Model;
 
-/// One party of a handshake as `Handshake` is, which may start with fewer secrets than the pattern has psk tokens (Noise, 9): reading
-/// and writing ask for the others when their tokens come, and `put_secret` hands them in. So a responder can choose the secret when it
-/// knows the other party.
+/// One party of a handshake as `Handshake` is, which may start with fewer secrets than the pattern has psk tokens
+/// (Noise, 9): reading and writing ask for the others when their tokens come, and `put_secret` hands them in. So a
+/// responder can choose the secret when it knows the other party.
 ///
-/// It runs as a handshake that had all secrets from the start: what its calls do holds for each view whose secrets begin with those that
-/// were handed in. No message is read or written whose psk tokens lack a secret.
+/// It runs as a handshake that had all secrets from the start: what its calls do holds for each view whose secrets
+/// begin with those that were handed in. No message is read or written whose psk tokens lack a secret.
 #[derive(Drop)]
 pub struct LateHandshake<K: Keys> {
     // It has zeros in place of the secrets that lack, the last ones. No call mixes them.
@@ -70,8 +70,9 @@ impl<K: Keys> LateHandshake<K> {
     ghost use Rattle.noise_handshake.specs.Late.{with_later, late_fault, IsLateWhole, WantsSecretToRead, WantsSecretToWrite, WantsLate, LeavesLateUnread};
     ghost use Rattle.noise_handshake.specs.Late.{LeavesLateUnwritten, after_late_unread, after_late_declined, after_late_unwritten, IsLateOfDue, IsLateOfTurn, IsLateWant};
 
-    /// The handshake of one party before its first message, as `Handshake::new` makes it; `psks` has the secrets of the first psk tokens,
-    /// in their order, and may have fewer than there are psk tokens. At an `Err` what was handed in is gone.
+    /// The handshake of one party before its first message, as `Handshake::new` makes it; `psks` has the secrets of the
+    /// first psk tokens, in their order, and may have fewer than there are psk tokens. At an `Err` what was handed in
+    /// is gone.
     pub fn new(
         pattern: ValidPattern,
         role: Role,
@@ -81,10 +82,12 @@ impl<K: Keys> LateHandshake<K> {
         psks: &[[u8; 32]],
     ) -> Result<LateHandshake<K>, SetupFault>
         requires { length prologue.now ≤ 65535 }
-        ensures fault { MatchOption (late_fault pattern role (K.public_of keys) remote (length psks.now)) (IsOk result) (λ fault. result ≡ Err fault) }
+        ensures fault { MatchOption (late_fault pattern role (K.public_of keys) remote (length psks.now)) (IsOk result)
+            (λ fault. result ≡ Err fault) }
         ensures stands { IfOk result (λ h. (later : List (List ℕ)) → Stands K.public_of K.agreement (with_later h later)
             (begun pattern role prologue.now (K.public_of keys) (K.agreement keys) remote (psks.now ++ later))) }
-        ensures parts { IfOk result (λ h. (h.pattern ≡ pattern) × (h.role ≡ role) × (h.keys ≡ keys) × (h.passed ≡ 0) × (h.ended ≡ false)) }
+        ensures parts { IfOk result
+            (λ h. (h.pattern ≡ pattern) × (h.role ≡ role) × (h.keys ≡ keys) × (h.passed ≡ 0) × (h.ended ≡ false)) }
         ensures secrets { IfOk result (λ h. h.secrets ≡ psks.now) }
         ensures valid { IsPattern pattern × IsValid pattern }
     {
@@ -111,10 +114,12 @@ impl<K: Keys> LateHandshake<K> {
 
     /// Hands in the secret of the first psk token that lacks one. False where none does; then nothing changes.
     pub fn put_secret(&mut self, secret: [u8; 32]) -> bool
-        ensures lacks { IsTrue result ↔ (length self.old.secrets < secrets_of (drop self.old.passed self.old.pattern.messages)) }
+        ensures lacks { IsTrue result
+            ↔ (length self.old.secrets < secrets_of (drop self.old.passed self.old.pattern.messages)) }
         ensures put { IsTrue result → self.new ≡ with_later self.old (secret ∷ []) }
         ensures same { result ≡ false → self.new ≡ self.old }
-        ensures stands { IsTrue result → (v : View) (later : List (List ℕ)) → Stands K.public_of K.agreement (with_later self.old (secret ∷ later)) v
+        ensures stands { IsTrue result → (v : View) (later : List (List ℕ))
+            → Stands K.public_of K.agreement (with_later self.old (secret ∷ later)) v
             → Stands K.public_of K.agreement (with_later self.new later) v }
     {
         let left = self.filled.left();
@@ -135,8 +140,8 @@ impl<K: Keys> LateHandshake<K> {
         self.filled.progress()
     }
 
-    /// The handshake that holds these parts, and these secrets for the first psk tokens that are still to come, in their order; or None
-    /// for what no handshake holds. Else it is as `Handshake::from_parts`.
+    /// The handshake that holds these parts, and these secrets for the first psk tokens that are still to come, in
+    /// their order; or None for what no handshake holds. Else it is as `Handshake::from_parts`.
     pub fn from_parts(parts: Parts<K>, secrets: &[[u8; 32]]) -> Option<LateHandshake<K>>
         ensures whole { IsSome result ↔ IsLateWhole K.public_of (held_of parts secrets.now) }
         ensures same { IfSome result (λ h. h ≡ held_of parts secrets.now) }
@@ -205,13 +210,14 @@ impl<K: Keys> LateHandshake<K> {
 
     /// The handshake hash (Noise, 11.2), 32 bytes, of the start and the messages that passed.
     pub fn hash(&self) -> [u8; 32]
-        ensures { (v : View) (later : List (List ℕ)) → Stands K.public_of K.agreement (with_later self.now later) v → result ≡ hash v.history }
+        ensures { (v : View) (later : List (List ℕ)) → Stands K.public_of K.agreement (with_later self.now later) v
+            → result ≡ hash v.history }
     {
         self.filled.hash()
     }
 
-    /// The length of the message that would be written for a payload of this length, both in bytes. None where it would be refused
-    /// before any DH.
+    /// The length of the message that would be written for a payload of this length, both in bytes. None where it would
+    /// be refused before any DH.
     pub fn message_len(&self, payload_len: usize) -> Option<usize>
         ensures { result ≡ message_len_of self.now payload_len }
     {
@@ -226,26 +232,33 @@ impl<K: Keys> LateHandshake<K> {
         self.filled.left() - self.lacking
     }
 
-    /// Reads a message in place, and returns from where to where its payload then is in it, as `Handshake::read_within` does; but
-    /// where reading lacks a DH answer or a secret, this returns which, and changes nothing.
+    /// Reads a message in place, and returns from where to where its payload then is in it, as `Handshake::read_within`
+    /// does; but where reading lacks a DH answer or a secret, this returns which, and changes nothing.
     ///
-    /// The message has at most 65535 bytes. At an `Err` its bytes are unchanged. `Declined` with `Refused` ends the handshake, and
-    /// everything else leaves it as it was: hand in what is wanted, and read the message again.
+    /// The message has at most 65535 bytes. At an `Err` its bytes are unchanged. `Declined` with `Refused` ends the
+    /// handshake, and everything else leaves it as it was: hand in what is wanted, and read the message again.
     pub fn read_or_ask(&mut self, message: &mut [u8]) -> Result<(usize, usize), LateUnread>
         requires { length message.old ≤ 65535 }
         ensures range { IfOk result (λ place. (place.0 ≤ place.1) × (place.1 ≤ length message.new)) }
         ensures beyond { IfOk result (λ place.
-            (take place.0 message.new ≡ take place.0 message.old) × (drop place.1 message.new ≡ drop place.1 message.old)) }
+            (take place.0 message.new ≡ take place.0 message.old)
+            × (drop place.1 message.new ≡ drop place.1 message.old)) }
         ensures unchanged { OnErr result (message.new ≡ message.old) }
-        ensures fault { MatchOption (read_fault self.old) (IfErr result IsLateOfDue) (λ fault. result ≡ Err (LateUnread.Declined fault)) }
-        ensures state { MatchResult result (λ _. Advances self.old self.new) (λ unread. self.new ≡ after_late_unread self.old unread) }
-        ensures reads { (v : View) (later : List (List ℕ)) → Stands K.public_of K.agreement (with_later self.old later) v → MatchResult result
-            (λ place. let payload = slice_range message.new place.0 place.1 in (xs : List (List ℕ)) × Accepts v message.old xs payload
+        ensures fault { MatchOption (read_fault self.old) (IfErr result IsLateOfDue)
+            (λ fault. result ≡ Err (LateUnread.Declined fault)) }
+        ensures state { MatchResult result (λ _. Advances self.old self.new)
+            (λ unread. self.new ≡ after_late_unread self.old unread) }
+        ensures reads { (v : View) (later : List (List ℕ))
+            → Stands K.public_of K.agreement (with_later self.old later) v → MatchResult result
+            (λ place. let payload = slice_range message.new place.0 place.1 in (xs : List (List ℕ))
+            × Accepts v message.old xs payload
             × Stands K.public_of K.agreement (with_later self.new later) (after_message v xs payload))
             (λ unread. LeavesLateUnread v (length self.old.secrets) message.old unread
             × Stands K.public_of K.agreement (with_later self.new later) (after_late_declined v unread)) }
-        ensures asked { (v : View) (later : List (List ℕ)) → Stands K.public_of K.agreement (with_later self.old later) v → (remote : Option (List ℕ))
-            → WantsSecretToRead v (length self.old.secrets) message.old remote → result ≡ Err (LateUnread.Wants (Want.Secret remote)) }
+        ensures asked { (v : View) (later : List (List ℕ))
+            → Stands K.public_of K.agreement (with_later self.old later) v → (remote : Option (List ℕ))
+            → WantsSecretToRead v (length self.old.secrets) message.old remote
+            → result ≡ Err (LateUnread.Wants (Want.Secret remote)) }
     {
         if let Some(fault) = self.filled.read_fault() {
             return Err(LateUnread::Declined(fault));
@@ -278,13 +291,15 @@ impl<K: Keys> LateHandshake<K> {
         }
     }
 
-    /// For want of which DH answer or secret this message would not be read now, as `read_or_ask` tells it. None where it lacks neither, and
-    /// where no message is due. Nothing changes.
+    /// The DH answer or secret that reading this message lacks now, as `read_or_ask` returns it. None where it lacks
+    /// neither, and where no message is due. Nothing changes.
     pub fn wants_to_read(&self, message: &[u8]) -> Option<Want>
-        ensures wants { (v : View) (later : List (List ℕ)) → Stands K.public_of K.agreement (with_later self.now later) v → MatchOption result
+        ensures wants { (v : View) (later : List (List ℕ))
+            → Stands K.public_of K.agreement (with_later self.now later) v → MatchOption result
             ((token : ℕ) → Refuses v message.now token Agreement → ⊥)
             (λ want. LeavesLateUnread v (length self.now.secrets) message.now (LateUnread.Wants want)) }
-        ensures asked { (v : View) (later : List (List ℕ)) → Stands K.public_of K.agreement (with_later self.now later) v → (remote : Option (List ℕ))
+        ensures asked { (v : View) (later : List (List ℕ))
+            → Stands K.public_of K.agreement (with_later self.now later) v → (remote : Option (List ℕ))
             → WantsSecretToRead v (length self.now.secrets) message.now remote → result ≡ Some (Want.Secret remote) }
     {
         if let Some(_) = self.filled.read_fault() {
@@ -311,15 +326,19 @@ impl<K: Keys> LateHandshake<K> {
         }
     }
 
-    /// For want of which DH answer or secret no message would be written now. None where a message is due and lacks neither, and where
-    /// none is due. Nothing changes.
+    /// The DH answer or secret that writing a message lacks now. None where a message is due and lacks neither, and
+    /// where none is due. Nothing changes.
     pub fn wants_to_write(&self) -> Option<Want>
-        ensures wants { (v : View) (later : List (List ℕ)) → Stands K.public_of K.agreement (with_later self.now later) v → MatchOption result
+        ensures wants { (v : View) (later : List (List ℕ))
+            → Stands K.public_of K.agreement (with_later self.now later) v → MatchOption result
             ((token : ℕ) → LacksAnswer v token → ⊥) (λ want. WantsLate v (length self.now.secrets) want) }
-        ensures asked { (v : View) (later : List (List ℕ)) → Stands K.public_of K.agreement (with_later self.now later) v
+        ensures asked { (v : View) (later : List (List ℕ))
+            → Stands K.public_of K.agreement (with_later self.now later) v
             → WantsSecretToWrite v (length self.now.secrets) → result ≡ Some (Want.Secret self.now.remote.s) }
-        ensures few { (not self.now.ended && not (self.now.passed == length self.now.pattern.messages) && is_turn self.now.role self.now.passed) ≡ true
-            → result ≡ None → count_by is_psk (tokens_at self.now.pattern.messages self.now.passed) ≤ length self.now.secrets }
+        ensures few { (not self.now.ended && not (self.now.passed == length self.now.pattern.messages)
+            && is_turn self.now.role self.now.passed) ≡ true
+            → result ≡ None → count_by is_psk (tokens_at self.now.pattern.messages self.now.passed)
+            ≤ length self.now.secrets }
     {
         if !self.filled.speaks() {
             return None;
@@ -344,25 +363,30 @@ impl<K: Keys> LateHandshake<K> {
         }
     }
 
-    /// Writes a message to the front of `out`, and returns its length in bytes, as `Handshake::write` does; but where writing lacks a DH
-    /// answer or a secret, this returns which, and changes nothing.
+    /// Writes a message to the front of `out`, and returns its length in bytes, as `Handshake::write` does; but where
+    /// writing lacks a DH answer or a secret, this returns which, and changes nothing.
     ///
-    /// Where `message_len` gives a length, `out` holds it. At an `Err` nothing changes: hand in what is wanted, and write again.
+    /// Where `message_len` gives a length, `out` holds it. At an `Err` nothing changes: hand in what is wanted, and
+    /// write again.
     pub fn write_or_ask(&mut self, payload: &[u8], out: &mut [u8]) -> Result<usize, LateUnwritten>
         requires { ForSome (message_len_of self.old (length payload.now)) (λ n. n ≤ length out.old) }
-        ensures len { IfOk result (λ n. (message_len_of self.old (length payload.now) ≡ Some n) × (n ≤ length out.new)) }
+        ensures len { IfOk result
+            (λ n. (message_len_of self.old (length payload.now) ≡ Some n) × (n ≤ length out.new)) }
         ensures fault { MatchOption (write_fault self.old (length payload.now)) (IfErr result IsLateOfTurn) (λ fault.
             (result ≡ Err (LateUnwritten.Withheld fault)) × (out.new ≡ out.old)) }
-        ensures state { MatchResult result (λ _. Advances self.old self.new) (λ unwritten. self.new ≡ after_late_unwritten self.old unwritten) }
+        ensures state { MatchResult result (λ _. Advances self.old self.new)
+            (λ unwritten. self.new ≡ after_late_unwritten self.old unwritten) }
         ensures beyond { IfOk result (λ n. drop n out.new ≡ drop n out.old) }
         ensures asks { IfErr result (λ unwritten. IsLateWant unwritten → out.new ≡ out.old) }
-        ensures writes { (v : View) (later : List (List ℕ)) → Stands K.public_of K.agreement (with_later self.old later) v → MatchResult result
+        ensures writes { (v : View) (later : List (List ℕ))
+            → Stands K.public_of K.agreement (with_later self.old later) v → MatchResult result
             (λ n. (xs : List (List ℕ)) × Writes v payload.now xs (take n out.new)
             × Stands K.public_of K.agreement (with_later self.new later) (after_own v xs payload.now))
             (λ unwritten. LeavesLateUnwritten v (length self.old.secrets) (length payload.now) unwritten
             × Stands K.public_of K.agreement (with_later self.new later) v) }
         ensures asked { write_fault self.old (length payload.now) ≡ None → (v : View) (later : List (List ℕ))
-            → Stands K.public_of K.agreement (with_later self.old later) v → WantsSecretToWrite v (length self.old.secrets)
+            → Stands K.public_of K.agreement (with_later self.old later) v
+            → WantsSecretToWrite v (length self.old.secrets)
             → result ≡ Err (LateUnwritten.Wants (Want.Secret self.old.remote.s)) }
     {
         if let Some(fault) = self.filled.withheld(payload.len()) {
@@ -383,7 +407,8 @@ impl<K: Keys> LateHandshake<K> {
     /// What the handshake leaves once all messages have passed and it hasn't ended; else it comes back as it was.
     pub fn finish(self) -> Result<Opened, LateHandshake<K>>
         ensures when { IsOk result ↔ ((self.ended ≡ false) × (self.passed ≡ length self.pattern.messages)) }
-        ensures opened { (v : View) (later : List (List ℕ)) → Stands K.public_of K.agreement (with_later self later) v → IfOk result (λ o. Opens o v) }
+        ensures opened { (v : View) (later : List (List ℕ)) → Stands K.public_of K.agreement (with_later self later) v
+            → IfOk result (λ o. Opens o v) }
         ensures back { IfErr result (λ h. h ≡ self) }
     {
         let lacking = self.lacking;

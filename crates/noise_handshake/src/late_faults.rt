@@ -8,8 +8,8 @@ use crate::{Own, ReadFault, WriteFault};
 pub enum Want {
     /// The DH answer of this key pair of the party to this public key of the other.
     Answer { own: Own, key: [u8; 32] },
-    /// The secret of a psk token. `remote` is the other party's static key as it is known before that token: the message that is read
-    /// may have told it.
+    /// The secret of a psk token. `remote` is the other party's static key as it is known before that token: the
+    /// message that is read may have told it.
     Secret { remote: Option<[u8; 32]> },
 }
 

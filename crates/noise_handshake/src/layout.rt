@@ -113,7 +113,8 @@ pub(crate) fn lay_next(pattern: &Pattern, psks: bool, keyed: bool, passed: u8) -
 // The place of the psk token after so many others, if there is one.
 pub(crate) fn psk_after(placed: &[PlacedToken], count: usize) -> Option<usize>
     requires { length placed.now ≤ 10 }
-    ensures { MatchOption result (count_by is_psk (tokens_of placed.now) ≤ count) (λ k. IsPskAfter (tokens_of placed.now) count k) }
+    ensures { MatchOption result (count_by is_psk (tokens_of placed.now) ≤ count)
+        (λ k. IsPskAfter (tokens_of placed.now) count k) }
 {
     let (first, later) = placed.split_first()?;
     match (first.token, count) {

@@ -20,7 +20,8 @@ use noise_state::StateParts;
 /// What messages change of a handshake, its secrets aside.
 #[derive(Drop)]
 pub struct Progress {
-    /// The public keys of the other party that are known: those of its pre-message and of the messages that passed, and no others.
+    /// The public keys of the other party that are known: those of its pre-message and of the messages that passed, and
+    /// no others.
     pub remote: Remote,
     /// How many messages have passed.
     pub passed: u8,
@@ -29,7 +30,8 @@ pub struct Progress {
     pub state: StateParts,
 }
 
-/// What a handshake holds between two messages, its secrets aside, for a caller that keeps it itself, as one in another language.
+/// What a handshake holds between two messages, its secrets aside, for a caller that keeps it itself, as one in another
+/// language.
 #[derive(Drop)]
 pub struct Parts<K> {
     pub pattern: ValidPattern,
@@ -49,11 +51,15 @@ impl<K: Keys> Parts<K> {
             && !lacks_own(pattern, self.role, &self.keys, Own::Static)
     }
 
-    // Whether exactly those keys of the other party are there whose tokens stand in its pre-message or in a message that has passed.
+    // Whether exactly those keys of the other party are there whose tokens stand in its pre-message or in a message
+    // that has passed.
     fn has_remote(&self) -> bool
         requires { self.now.progress.passed ≤ length self.now.pattern.messages }
-        ensures { IsTrue result ↔ ((is_some self.now.progress.remote.e ≡ is_among (other self.now.role) E (passed_places self.now.pattern self.now.progress.passed))
-            × (is_some self.now.progress.remote.s ≡ is_among (other self.now.role) S (passed_places self.now.pattern self.now.progress.passed))) }
+        ensures { IsTrue result
+            ↔ ((is_some self.now.progress.remote.e ≡ is_among (other self.now.role) E
+            (passed_places self.now.pattern self.now.progress.passed))
+            × (is_some self.now.progress.remote.s ≡ is_among (other self.now.role) S
+            (passed_places self.now.pattern self.now.progress.passed))) }
     {
         let pattern = self.pattern.pattern();
         let passed = self.progress.passed as usize;
@@ -62,10 +68,13 @@ impl<K: Keys> Parts<K> {
             && self.progress.remote.s.is_some() == was_sent(pattern, passed, other, Own::Static)
     }
 
-    // Whether there is a cipher key exactly where the pattern says so, and the nonce counts what was encrypted under it.
+    // Whether there is a cipher key exactly where the pattern says so, and the nonce counts what was encrypted under
+    // it.
     fn has_state(&self) -> bool
         requires { self.now.progress.passed ≤ length self.now.pattern.messages }
-        ensures whole { IsTrue result ↔ ((is_some self.now.progress.state.key ≡ has_key self.now.pattern (passed_places self.now.pattern self.now.progress.passed))
+        ensures whole { IsTrue result
+            ↔ ((is_some self.now.progress.state.key ≡ has_key self.now.pattern
+            (passed_places self.now.pattern self.now.progress.passed))
             × (self.now.progress.state.nonce ≡ nonce_due self.now.pattern self.now.progress.passed)) }
         ensures bound { IsTrue result → self.now.progress.state.nonce ≤ 11 * self.now.progress.passed }
     {

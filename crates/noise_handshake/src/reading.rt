@@ -38,10 +38,12 @@ fn read_e(
     ensures key { OnOk result (keyed state.new ≡ keyed_after psks (keyed state.old) Token.E) }
     ensures known { OnOk result ((is_some known.new.e ≡ true) × (known.new.s ≡ known.old.s)) }
     ensures nonce { nonce_now state.new ≤ nonce_now state.old }
-    ensures counted { OnOk result (nonce_now state.new ≡ nonce_after psks (keyed state.old) (nonce_now state.old) Token.E) }
+    ensures counted { OnOk result (nonce_now state.new
+        ≡ nonce_after psks (keyed state.old) (nonce_now state.old) Token.E) }
     ensures unchanged { OnErr result (known.new ≡ known.old) }
     ensures read { (r : History) → StateStands state.old r → MatchResult result
-        (λ n. (x : List ℕ) × (length x ≡ 32) × (message.now ≡ x ++ drop n message.now) × StateStands state.new (with_ephemeral psks r x)
+        (λ n. (x : List ℕ) × (length x ≡ 32) × (message.now ≡ x ++ drop n message.now)
+        × StateStands state.new (with_ephemeral psks r x)
         × (known.new ≡ record known.old { e = Some x }))
         (λ cause. ((x rest : List ℕ) → length x ≡ 32 → message.now ≡ x ++ rest → ⊥) × (cause ≡ Short)) }
 {
@@ -63,7 +65,8 @@ fn open_key(state: &mut SymmetricState, buffer: &mut [u8]) -> Option<[u8; 32]>
     ensures counted { IfSome result (λ _. nonce_now state.new ≡ next_nonce (keyed state.old) (nonce_now state.old)) }
     ensures opened { (r : History) → StateStands state.old r → length buffer.old ≡ width_of_key r → MatchOption result
         ((x : List ℕ) → buffer.old ≡ ciphertext r x → ⊥)
-        (λ x. (length x ≡ 32) × (buffer.old ≡ ciphertext r x) × StateStands state.new (and_then r (Ciphertext (ciphertext r x)))) }
+        (λ x. (length x ≡ 32) × (buffer.old ≡ ciphertext r x)
+        × StateStands state.new (and_then r (Ciphertext (ciphertext r x)))) }
 {
     match state.decrypt_and_hash(buffer) {
         Ok(_) => Some(first_32(buffer)),
@@ -98,9 +101,11 @@ fn read_s(
     ensures counted { OnOk result (nonce_now state.new ≡ next_nonce (keyed state.old) (nonce_now state.old)) }
     ensures unchanged { OnErr result (known.new ≡ known.old) }
     ensures read { (r : History) → StateStands state.old r → MatchResult result
-        (λ n. (x : List ℕ) × (length x ≡ 32) × (message.now ≡ ciphertext r x ++ drop n message.now) × StateStands state.new (and_then r (Ciphertext (ciphertext r x)))
+        (λ n. (x : List ℕ) × (length x ≡ 32) × (message.now ≡ ciphertext r x ++ drop n message.now)
+        × StateStands state.new (and_then r (Ciphertext (ciphertext r x)))
         × (known.new ≡ record known.old { s = Some x }))
-        (λ cause. ((x rest : List ℕ) → length x ≡ 32 → message.now ≡ ciphertext r x ++ rest → ⊥) × (cause ≡ cause_of (is_some (cipher_key r)) Token.S message.now)) }
+        (λ cause. ((x rest : List ℕ) → length x ≡ 32 → message.now ≡ ciphertext r x ++ rest → ⊥)
+        × (cause ≡ cause_of (is_some (cipher_key r)) Token.S message.now)) }
 {
     if message.len() < width {
         return Err(Cause::Short);
@@ -136,13 +141,17 @@ fn read_token<K: Keys>(
     ensures e { OnOk result (is_some known.new.e ≡ e_after (is_some known.old.e) placed.token) }
     ensures s { OnOk result (is_some known.new.s ≡ s_after (is_some known.old.s) placed.token) }
     ensures nonce { nonce_now state.new ≤ nonce_now state.old + 1 }
-    ensures counted { OnOk result (nonce_now state.new ≡ nonce_after means.now.psks (keyed state.old) (nonce_now state.old) placed.token) }
+    ensures counted { OnOk result (nonce_now state.new
+        ≡ nonce_after means.now.psks (keyed state.old) (nonce_now state.old) placed.token) }
     ensures unchanged { OnErr result (known.new ≡ known.old) }
     ensures read { (r : History) → StateStands state.old r
         → let v : Reader = reader_of K.agreement means.now.role means.now.psks means.now.keys.now in MatchResult result
-        (λ n. (x : List ℕ) × Fits v known.old secrets.now placed.token x × (message.now ≡ token_bytes r placed.token x ++ drop n message.now)
-        × StateStands state.new (after_token means.now.psks r placed.token x) × (known.new ≡ known_after known.old placed.token x))
-        (λ cause. Fails v known.old secrets.now r placed.token message.now × (cause ≡ cause_of (is_some (cipher_key r)) placed.token message.now)) }
+        (λ n. (x : List ℕ) × Fits v known.old secrets.now placed.token x
+        × (message.now ≡ token_bytes r placed.token x ++ drop n message.now)
+        × StateStands state.new (after_token means.now.psks r placed.token x)
+        × (known.new ≡ known_after known.old placed.token x))
+        (λ cause. Fails v known.old secrets.now r placed.token message.now
+        × (cause ≡ cause_of (is_some (cipher_key r)) placed.token message.now)) }
 {
     match placed.token {
         Token::E => read_e(state, means.psks, known, message),
@@ -178,24 +187,30 @@ fn read_tokens<K: Keys>(
     placed: &[PlacedToken],
     message: &[u8],
 ) -> Result<usize, (usize, Cause)>
-    requires placed { (place : ℕ) × (place ≤ length message.now) × ArePlaced means.now.psks (keyed state.old) place placed.now }
+    requires placed { (place : ℕ) × (place ≤ length message.now)
+        × ArePlaced means.now.psks (keyed state.old) place placed.now }
     requires secrets { count_by is_psk (tokens_of placed.now) ≤ length secrets.now }
     requires nonces { nonce_now state.old + length (tokens_of placed.now) < 2 ^ 64 - 1 }
-    requires known { IsTrue (are_known means.now.role (is_some known.old.e) (is_some known.old.s) (tokens_of placed.now)) }
+    requires known { IsTrue (are_known means.now.role (is_some known.old.e) (is_some known.old.s)
+        (tokens_of placed.now)) }
     ensures within { IfOk result (λ n. n ≤ length message.now) }
-    ensures range { (place : ℕ) → place ≤ length message.now → ArePlaced means.now.psks (keyed state.old) place placed.now
+    ensures range { (place : ℕ) → place ≤ length message.now
+        → ArePlaced means.now.psks (keyed state.old) place placed.now
         → IfOk result (λ n. place + n ≤ length message.now) }
     ensures stop { IfErr result (λ stop. stop.0 < length (tokens_of placed.now)) }
-    ensures key { OnOk result (keyed state.new ≡ keyed_after_tokens means.now.psks (keyed state.old) (tokens_of placed.now)) }
+    ensures key { OnOk result (keyed state.new ≡ keyed_after_tokens means.now.psks (keyed state.old)
+        (tokens_of placed.now)) }
     ensures e { OnOk result (is_some known.new.e ≡ e_after_tokens (is_some known.old.e) (tokens_of placed.now)) }
     ensures s { OnOk result (is_some known.new.s ≡ s_after_tokens (is_some known.old.s) (tokens_of placed.now)) }
     ensures nonce { nonce_now state.new ≤ nonce_now state.old + length (tokens_of placed.now) }
-    ensures counted { OnOk result (nonce_now state.new ≡ nonce_after_tokens means.now.psks (keyed state.old) (nonce_now state.old) (tokens_of placed.now)) }
+    ensures counted { OnOk result (nonce_now state.new
+        ≡ nonce_after_tokens means.now.psks (keyed state.old) (nonce_now state.old) (tokens_of placed.now)) }
     ensures read { (r : History) (place : ℕ) → StateStands state.old r → place ≤ length message.now
         → ArePlaced means.now.psks (keyed state.old) place placed.now
         → let v : Reader = reader_of K.agreement means.now.role means.now.psks means.now.keys.now in
         let tokens : List Token = tokens_of placed.now in MatchResult result
-        (λ n. (xs : List (List ℕ)) × BeginsAs v known.old secrets.now r tokens xs (drop place message.now) (drop (place + n) message.now)
+        (λ n. (xs : List (List ℕ))
+        × BeginsAs v known.old secrets.now r tokens xs (drop place message.now) (drop (place + n) message.now)
         × StateStands state.new (after_tokens means.now.psks r tokens xs) × (known.new ≡ learned known.old tokens xs))
         (λ stop. StopsKnowing v known.old secrets.now r tokens (drop place message.now) stop.0 stop.1 known.new) }
 {
@@ -222,8 +237,8 @@ fn token_at(placed: &[PlacedToken], k: usize) -> Token
     placed[k].token
 }
 
-// The DH without an answer at which reading stopped, if it stopped at token k for want of one: of which key pair it is, and to
-// which remote key.
+// The DH without an answer at which reading stopped, if it stopped at token k for want of one: of which key pair it is,
+// and to which remote key.
 pub(crate) fn lacked(
     role: Role,
     known: &Remote,
@@ -232,7 +247,8 @@ pub(crate) fn lacked(
     cause: Cause,
 ) -> Option<(Own, [u8; 32])>
     ensures { (v : Reader) (before : Remote) (secrets : List (List ℕ)) (r : History) (message : List ℕ) → v.role ≡ role
-        → let tokens : List Token = tokens_of placed.now in IsTrue (are_known role (is_some before.e) (is_some before.s) tokens)
+        → let tokens : List Token = tokens_of placed.now in
+        IsTrue (are_known role (is_some before.e) (is_some before.s) tokens)
         → StopsKnowing v before secrets r tokens message k cause known.now → MatchOption result
         ((j : ℕ) → Stops v before secrets r tokens message j Agreement → ⊥)
         (λ want. StopsFor v before secrets r tokens message want.0 want.1) }
@@ -262,7 +278,8 @@ pub(crate) fn read_lacking<K: Keys>(
     requires placed { ArePlaced means.now.psks (keyed state.now) 0 placed.now }
     requires secrets { count_by is_psk (tokens_of placed.now) ≤ length secrets.now }
     requires nonces { nonce_now state.now + length (tokens_of placed.now) < 2 ^ 64 - 1 }
-    requires known { IsTrue (are_known means.now.role (is_some known.now.e) (is_some known.now.s) (tokens_of placed.now)) }
+    requires known { IsTrue (are_known means.now.role (is_some known.now.e) (is_some known.now.s)
+        (tokens_of placed.now)) }
     ensures { (r : History) → StateStands state.now r
         → let v : Reader = reader_of K.agreement means.now.role means.now.psks means.now.keys.now in
         let tokens : List Token = tokens_of placed.now in MatchOption result
@@ -277,8 +294,8 @@ pub(crate) fn read_lacking<K: Keys>(
     }
 }
 
-// Reads the tokens before token k, and returns the other party's static key as it is known there; or where reading stops before, and
-// the DH that lacks its answer there.
+// Reads the tokens before token k, and returns the other party's static key as it is known there; or where reading
+// stops before, and the DH that lacks its answer there.
 pub(crate) fn read_before<K: Keys>(
     state: &SymmetricState,
     known: &Remote,
@@ -291,14 +308,16 @@ pub(crate) fn read_before<K: Keys>(
     requires placed { ArePlaced means.now.psks (keyed state.now) 0 placed.now }
     requires secrets { count_by is_psk (tokens_of placed.now) ≤ length secrets.now }
     requires nonces { nonce_now state.now + length (tokens_of placed.now) < 2 ^ 64 - 1 }
-    requires known { IsTrue (are_known means.now.role (is_some known.now.e) (is_some known.now.s) (tokens_of placed.now)) }
+    requires known { IsTrue (are_known means.now.role (is_some known.now.e) (is_some known.now.s)
+        (tokens_of placed.now)) }
     requires within { k ≤ length placed.now }
     requires few { length placed.now ≤ 10 }
     ensures { (r : History) → StateStands state.now r
         → let v : Reader = reader_of K.agreement means.now.role means.now.psks means.now.keys.now in
         let tokens : List Token = tokens_of placed.now in MatchResult result
         (λ s. BeginsBefore v known.now secrets.now r tokens message.now k s)
-        (λ stop. (stop.token < k) × Stops v known.now secrets.now r tokens message.now stop.token stop.cause × MatchOption stop.want
+        (λ stop. (stop.token < k) × Stops v known.now secrets.now r tokens message.now stop.token stop.cause
+        × MatchOption stop.want
         ((j : ℕ) → Stops v known.now secrets.now r tokens message.now j Agreement → ⊥)
         (λ want. StopsFor v known.now secrets.now r tokens message.now want.0 want.1)) }
 {
@@ -334,21 +353,26 @@ pub(crate) fn read_message<K: Keys>(
     requires secrets { count_by is_psk (tokens_of placed.now) ≤ length secrets.now }
     requires fits { length message.old ≤ 65535 }
     requires nonces { nonce_now state.old + length (tokens_of placed.now) < 2 ^ 64 - 1 }
-    requires known { IsTrue (are_known means.now.role (is_some known.old.e) (is_some known.old.s) (tokens_of placed.now)) }
+    requires known { IsTrue (are_known means.now.role (is_some known.old.e) (is_some known.old.s)
+        (tokens_of placed.now)) }
     ensures range { IfOk result (λ place. (place.0 ≤ place.1) × (place.1 ≤ length message.new)) }
     ensures beyond { IfOk result (λ place.
         (take place.0 message.new ≡ take place.0 message.old) × (drop place.1 message.new ≡ drop place.1 message.old)) }
     ensures stop { IfErr result (λ stop. stop.0 ≤ length (tokens_of placed.now)) }
-    ensures key { OnOk result (keyed state.new ≡ keyed_after_tokens means.now.psks (keyed state.old) (tokens_of placed.now)) }
+    ensures key { OnOk result (keyed state.new ≡ keyed_after_tokens means.now.psks (keyed state.old)
+        (tokens_of placed.now)) }
     ensures e { OnOk result (is_some known.new.e ≡ e_after_tokens (is_some known.old.e) (tokens_of placed.now)) }
     ensures s { OnOk result (is_some known.new.s ≡ s_after_tokens (is_some known.old.s) (tokens_of placed.now)) }
     ensures nonce { nonce_now state.new ≤ nonce_now state.old + length (tokens_of placed.now) + 1 }
-    ensures counted { OnOk result (nonce_now state.new ≡ nonce_after_message means.now.psks (keyed state.old) (nonce_now state.old) (tokens_of placed.now)) }
+    ensures counted { OnOk result (nonce_now state.new
+        ≡ nonce_after_message means.now.psks (keyed state.old) (nonce_now state.old) (tokens_of placed.now)) }
     ensures read { (r : History) → StateStands state.old r
         → let v : Reader = reader_of K.agreement means.now.role means.now.psks means.now.keys.now in
         let tokens : List Token = tokens_of placed.now in MatchResult result
-        (λ place. let payload = slice_range message.new place.0 place.1 in (xs : List (List ℕ)) × Reads v known.old secrets.now r tokens message.old xs payload
-        × StateStands state.new (after_payload means.now.psks r tokens xs payload) × (known.new ≡ learned known.old tokens xs))
+        (λ place. let payload = slice_range message.new place.0 place.1 in (xs : List (List ℕ))
+        × Reads v known.old secrets.now r tokens message.old xs payload
+        × StateStands state.new (after_payload means.now.psks r tokens xs payload)
+        × (known.new ≡ learned known.old tokens xs))
         (λ stop. StopsKnowing v known.old secrets.now r tokens message.old stop.0 stop.1 known.new) }
     ensures unchanged { OnErr result (message.new ≡ message.old) }
 {

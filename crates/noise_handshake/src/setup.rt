@@ -122,7 +122,8 @@ pub(crate) fn lacks_own<K: Keys>(pattern: &Pattern, role: Role, keys: &K, own: O
 
 // Whether a key of this pre-message isn't there.
 fn lacks_key(pre: &[Token], remote: &Remote) -> bool
-    ensures { result ≡ ((list_any (λ t. same_token t E) pre.now && is_none remote.now.e) || (list_any (λ t. same_token t S) pre.now && is_none remote.now.s)) }
+    ensures { result ≡ ((list_any (λ t. same_token t E) pre.now && is_none remote.now.e)
+        || (list_any (λ t. same_token t S) pre.now && is_none remote.now.s)) }
 {
     (has_token(pre, Own::Ephemeral) && remote.e.is_none())
         || (has_token(pre, Own::Static) && remote.s.is_none())
@@ -130,8 +131,8 @@ fn lacks_key(pre: &[Token], remote: &Remote) -> bool
 
 // Whether a key is there that isn't in this pre-message.
 fn has_other_key(pre: &[Token], remote: &Remote) -> bool
-    ensures { result ≡ ((is_some remote.now.e && not (list_any (λ t. same_token t E) pre.now)) || (is_some remote.now.s && not (list_any
-        (λ t. same_token t S) pre.now))) }
+    ensures { result ≡ ((is_some remote.now.e && not (list_any (λ t. same_token t E) pre.now))
+        || (is_some remote.now.s && not (list_any (λ t. same_token t S) pre.now))) }
 {
     (remote.e.is_some() && !has_token(pre, Own::Ephemeral))
         || (remote.s.is_some() && !has_token(pre, Own::Static))
@@ -189,9 +190,11 @@ pub(crate) fn mix_premessage(
 )
     requires e { list_any (λ t. same_token t (token_of Own.Ephemeral)) tokens.now ≡ true → is_some keys.now.e ≡ true }
     requires s { list_any (λ t. same_token t (token_of Own.Static)) tokens.now ≡ true → is_some keys.now.s ≡ true }
-    ensures key { keyed state.new ≡ keyed state.old || (psks && list_any (λ t. same_token t (token_of Own.Ephemeral)) tokens.now) }
+    ensures key { keyed state.new ≡ keyed state.old
+        || (psks && list_any (λ t. same_token t (token_of Own.Ephemeral)) tokens.now) }
     ensures nonce { nonce_now state.new ≤ nonce_now state.old }
-    ensures mixed { (r : History) → StateStands state.old r → StateStands state.new (with_premessage psks keys.now tokens.now r) }
+    ensures mixed { (r : History) → StateStands state.old r
+        → StateStands state.new (with_premessage psks keys.now tokens.now r) }
 {
     let Some((token, later)) = tokens.split_first() else {
         return;
@@ -216,7 +219,8 @@ fn keys_of(party: Role, role: Role, own: &Remote, remote: &Remote) -> Remote
 fn mix_prologue(state: &mut SymmetricState, prologue: &[u8])
     ensures key { keyed state.new ≡ keyed state.old }
     ensures nonce { nonce_now state.new ≡ nonce_now state.old }
-    ensures mixed { (r : History) → StateStands state.old r → StateStands state.new (and_then r (MixHash prologue.now)) }
+    ensures mixed { (r : History) → StateStands state.old r
+        → StateStands state.new (and_then r (MixHash prologue.now)) }
 {
     state.mix_hash(prologue);
 }

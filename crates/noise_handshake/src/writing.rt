@@ -72,7 +72,8 @@ fn write_e(state: &mut SymmetricState, psks: bool, key: &[u8; 32], out: &mut [u8
     ensures keyed { keyed state.new ≡ keyed_after psks (keyed state.old) Token.E }
     ensures used { nonce_now state.new ≤ nonce_now state.old }
     ensures counted { nonce_now state.new ≡ nonce_after psks (keyed state.old) (nonce_now state.old) Token.E }
-    ensures written { (r : History) → StateStands state.old r → (take result out.new ≡ key.now) × StateStands state.new (with_ephemeral psks r key.now) }
+    ensures written { (r : History) → StateStands state.old r → (take result out.new ≡ key.now)
+        × StateStands state.new (with_ephemeral psks r key.now) }
 {
     mix_ephemeral(state, psks, key);
     put(key, out)
@@ -96,7 +97,8 @@ fn write_token<K: Keys>(
     ensures rest { IfSome result (λ n. drop n out.new ≡ drop n out.old) }
     ensures keyed { IfSome result (λ _. keyed state.new ≡ keyed_after means.now.psks (keyed state.old) token) }
     ensures used { nonce_now state.new ≤ nonce_now state.old + 1 }
-    ensures counted { IfSome result (λ _. nonce_now state.new ≡ nonce_after means.now.psks (keyed state.old) (nonce_now state.old) token) }
+    ensures counted { IfSome result
+        (λ _. nonce_now state.new ≡ nonce_after means.now.psks (keyed state.old) (nonce_now state.old) token) }
     ensures written { (r : History) → StateStands state.old r
         → let w : Writer = writer_of K.public_of K.agreement means.now.role means.now.psks means.now.keys.now in
         MatchOption result
@@ -136,15 +138,19 @@ fn write_tokens<K: Keys>(
 ) -> Result<usize, usize>
     requires secrets { count_by is_psk (tokens_of placed.now) ≤ length secrets.now }
     requires own { IsTrue (list_all (has_own (K.public_of means.now.keys.now)) (tokens_of placed.now)) }
-    requires known { IsTrue (list_all (is_known means.now.role (is_some known.now.e) (is_some known.now.s)) (tokens_of placed.now)) }
+    requires known { IsTrue (list_all (is_known means.now.role (is_some known.now.e) (is_some known.now.s))
+        (tokens_of placed.now)) }
     requires room { tokens_width means.now.psks (keyed state.old) (tokens_of placed.now) ≤ length out.old }
     requires nonces { nonce_now state.old + length (tokens_of placed.now) < 2 ^ 64 - 1 }
     ensures width { MatchResult result (λ n. n ≡ tokens_width means.now.psks (keyed state.old) (tokens_of placed.now))
         (λ k. k < length (tokens_of placed.now)) }
     ensures rest { IfOk result (λ n. drop n out.new ≡ drop n out.old) }
-    ensures keyed { IfOk result (λ _. keyed state.new ≡ keyed_after_tokens means.now.psks (keyed state.old) (tokens_of placed.now)) }
+    ensures keyed { IfOk result
+        (λ _. keyed state.new ≡ keyed_after_tokens means.now.psks (keyed state.old) (tokens_of placed.now)) }
     ensures used { nonce_now state.new ≤ nonce_now state.old + length (tokens_of placed.now) }
-    ensures counted { IfOk result (λ _. nonce_now state.new ≡ nonce_after_tokens means.now.psks (keyed state.old) (nonce_now state.old) (tokens_of placed.now)) }
+    ensures counted { IfOk result
+        (λ _. nonce_now state.new ≡ nonce_after_tokens means.now.psks (keyed state.old) (nonce_now state.old)
+        (tokens_of placed.now)) }
     ensures written { (r : History) → StateStands state.old r
         → let w : Writer = writer_of K.public_of K.agreement means.now.role means.now.psks means.now.keys.now in
         MatchResult result
@@ -176,9 +182,12 @@ fn text_at<K: Keys>(
     requires secret { token ≡ Token.Psk → 0 < length secrets.now }
     requires own { IsTrue (has_own (K.public_of means.now.keys.now) token) }
     requires known { IsTrue (is_known means.now.role (is_some known.now.e) (is_some known.now.s) token) }
-    ensures text { let w : Writer = writer_of K.public_of K.agreement means.now.role means.now.psks means.now.keys.now in
-        MatchOption result ((x : List ℕ) → Gives w known.now secrets.now token x → ⊥) (λ x. Gives w known.now secrets.now token x) }
-    ensures dh { result ≡ None → IsTrue (remote_known means.now.role (is_some known.now.e) (is_some known.now.s) token) }
+    ensures text { let w : Writer =
+        writer_of K.public_of K.agreement means.now.role means.now.psks means.now.keys.now in
+        MatchOption result ((x : List ℕ) → Gives w known.now secrets.now token x → ⊥)
+        (λ x. Gives w known.now secrets.now token x) }
+    ensures dh { result ≡ None
+        → IsTrue (remote_known means.now.role (is_some known.now.e) (is_some known.now.s) token) }
 {
     match token {
         Token::E => means.keys.public(Own::Ephemeral),
@@ -197,7 +206,8 @@ pub(crate) fn write_lacking<K: Keys>(
 ) -> Option<(Own, [u8; 32])>
     requires secrets { count_by is_psk (tokens_of placed.now) ≤ length secrets.now }
     requires own { IsTrue (list_all (has_own (K.public_of means.now.keys.now)) (tokens_of placed.now)) }
-    requires known { IsTrue (list_all (is_known means.now.role (is_some known.now.e) (is_some known.now.s)) (tokens_of placed.now)) }
+    requires known { IsTrue (list_all (is_known means.now.role (is_some known.now.e) (is_some known.now.s))
+        (tokens_of placed.now)) }
     ensures { let w : Writer = writer_of K.public_of K.agreement means.now.role means.now.psks means.now.keys.now in
         MatchOption result
         ((k : ℕ) → LacksAnswerAt w known.now secrets.now (tokens_of placed.now) k → ⊥)
@@ -213,7 +223,8 @@ pub(crate) fn write_lacking<K: Keys>(
     }
 }
 
-// The first DH without an answer among the tokens before token k, if there is one: of which key pair it is, and to which remote key.
+// The first DH without an answer among the tokens before token k, if there is one: of which key pair it is, and to
+// which remote key.
 pub(crate) fn write_lacking_before<K: Keys>(
     known: &Remote,
     means: &Means<K>,
@@ -223,7 +234,8 @@ pub(crate) fn write_lacking_before<K: Keys>(
 ) -> Option<(Own, [u8; 32])>
     requires secrets { count_by is_psk (tokens_of placed.now) ≤ length secrets.now }
     requires own { IsTrue (list_all (has_own (K.public_of means.now.keys.now)) (tokens_of placed.now)) }
-    requires known { IsTrue (list_all (is_known means.now.role (is_some known.now.e) (is_some known.now.s)) (tokens_of placed.now)) }
+    requires known { IsTrue (list_all (is_known means.now.role (is_some known.now.e) (is_some known.now.s))
+        (tokens_of placed.now)) }
     requires within { k ≤ length placed.now }
     ensures { let w : Writer = writer_of K.public_of K.agreement means.now.role means.now.psks means.now.keys.now in
         MatchOption result
@@ -233,8 +245,8 @@ pub(crate) fn write_lacking_before<K: Keys>(
     write_lacking(known, means, secrets, &placed[..k])
 }
 
-// Writes a message to the front of a buffer, and returns how long it is, or which token is the first DH without an answer.
-// What the buffer and the state hold is open in that case.
+// Writes a message to the front of a buffer, and returns how long it is, or which token is the first DH without an
+// answer. What the buffer and the state hold is open in that case.
 pub(crate) fn write_message<K: Keys>(
     state: &mut SymmetricState,
     known: &Remote,
@@ -246,16 +258,22 @@ pub(crate) fn write_message<K: Keys>(
 ) -> Result<usize, usize>
     requires secrets { count_by is_psk (tokens_of placed.now) ≤ length secrets.now }
     requires own { IsTrue (list_all (has_own (K.public_of means.now.keys.now)) (tokens_of placed.now)) }
-    requires known { IsTrue (list_all (is_known means.now.role (is_some known.now.e) (is_some known.now.s)) (tokens_of placed.now)) }
-    requires room { added_width means.now.psks (keyed state.old) (tokens_of placed.now) + length payload.now ≤ length out.old }
+    requires known { IsTrue (list_all (is_known means.now.role (is_some known.now.e) (is_some known.now.s))
+        (tokens_of placed.now)) }
+    requires room { added_width means.now.psks (keyed state.old) (tokens_of placed.now) + length payload.now
+        ≤ length out.old }
     requires most { added_width means.now.psks (keyed state.old) (tokens_of placed.now) + length payload.now ≤ 65535 }
     requires nonces { nonce_now state.old + length (tokens_of placed.now) < 2 ^ 64 - 1 }
-    ensures width { MatchResult result (λ n. n ≡ added_width means.now.psks (keyed state.old) (tokens_of placed.now) + length payload.now)
+    ensures width { MatchResult result
+        (λ n. n ≡ added_width means.now.psks (keyed state.old) (tokens_of placed.now) + length payload.now)
         (λ k. k < length (tokens_of placed.now)) }
     ensures rest { IfOk result (λ n. drop n out.new ≡ drop n out.old) }
-    ensures keyed { IfOk result (λ _. keyed state.new ≡ keyed_after_tokens means.now.psks (keyed state.old) (tokens_of placed.now)) }
+    ensures keyed { IfOk result
+        (λ _. keyed state.new ≡ keyed_after_tokens means.now.psks (keyed state.old) (tokens_of placed.now)) }
     ensures used { nonce_now state.new ≤ nonce_now state.old + length (tokens_of placed.now) + 1 }
-    ensures counted { IfOk result (λ _. nonce_now state.new ≡ nonce_after_message means.now.psks (keyed state.old) (nonce_now state.old) (tokens_of placed.now)) }
+    ensures counted { IfOk result
+        (λ _. nonce_now state.new ≡ nonce_after_message means.now.psks (keyed state.old) (nonce_now state.old)
+        (tokens_of placed.now)) }
     ensures written { (r : History) → StateStands state.old r
         → let w : Writer = writer_of K.public_of K.agreement means.now.role means.now.psks means.now.keys.now in
         MatchResult result

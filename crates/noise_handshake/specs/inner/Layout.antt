@@ -21,11 +21,13 @@ abbrev pub tokens_of : List PlacedToken → List Token
 tokens_of [] = []
 tokens_of (p ∷ ps) = p.token ∷ tokens_of ps
 
--- These tokens stand one after another from this place on, each as wide as it travels, where there is a key before the first or not.
+-- These tokens stand one after another from this place on, each as wide as it travels, where there is a key before the
+-- first or not.
 abbrev pub ArePlaced : Bool → Bool → ℕ → List PlacedToken → Type 0
 ArePlaced psks keyed place [] = Unit {0}
 ArePlaced psks keyed place (p ∷ ps) =
-    (p.place ≡ place) × (p.width ≡ token_width keyed p.token) × ArePlaced psks (keyed_after psks keyed p.token) (place + p.width) ps
+    (p.place ≡ place) × (p.width ≡ token_width keyed p.token)
+    × ArePlaced psks (keyed_after psks keyed p.token) (place + p.width) ps
 
 -- The layout of a message of these tokens, where there is a key before it or not.
 pub record IsLaid (psks keyed : Bool) (ts : List Token) (laid : MessageLayout) : Type 0 where
@@ -35,4 +37,5 @@ pub record IsLaid (psks keyed : Bool) (ts : List Token) (laid : MessageLayout) :
 
 -- The layout of the message of a pattern after so many, if there is one.
 abbrev pub LaysNext : Plan → ℕ → MessageLayout → Type 0
-LaysNext p passed laid = passed < length p.messages → IsLaid (has_psk p) (has_key p (passed_places p passed)) (tokens_at p.messages passed) laid
+LaysNext p passed laid = passed < length p.messages
+    → IsLaid (has_psk p) (has_key p (passed_places p passed)) (tokens_at p.messages passed) laid

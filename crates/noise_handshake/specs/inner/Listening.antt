@@ -20,10 +20,13 @@ Fails v known secrets r t m = (x rest : List ℕ) → Fits v known secrets t x �
 
 -- Reading stops at token k for this cause, and these keys of the other party are known there.
 abbrev pub StopsKnowing : Reader → Remote → List (List ℕ) → History → List Token → List ℕ → ℕ → Cause → Remote → Type 0
-StopsKnowing v known secrets r ts m k cause here = (s : Stops v known secrets r ts m k cause) × (here ≡ learned known (take k ts) s.carried)
+StopsKnowing v known secrets r ts m k cause here = (s : Stops v known secrets r ts m k cause)
+    × (here ≡ learned known (take k ts) s.carried)
 
--- The message begins as some sender's tokens before token k would, and this static key of the other party is known there.
-pub record BeginsBefore (v : Reader) (known : Remote) (secrets : List (List ℕ)) (r : History) (ts : List Token) (m : List ℕ) (k : ℕ)
+-- The message begins as some sender's tokens before token k would, and this static key of the other party is known
+-- there.
+pub record BeginsBefore (v : Reader) (known : Remote) (secrets : List (List ℕ)) (r : History) (ts : List Token)
+    (m : List ℕ) (k : ℕ)
     (remote : Option (List ℕ)) : Type 0 where
   pub carried : List (List ℕ)
   pub rest : List ℕ

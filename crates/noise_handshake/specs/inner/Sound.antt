@@ -12,9 +12,9 @@ use Rattle.noise_handshake.specs.Nonces.{nonce_due}
 use Rattle.noise_handshake.specs.Setup.{secrets_of}
 use Rattle.noise_handshake.specs.Passed.{passed_places}
 
--- No more messages have passed than there are, a secret is left for each psk token that is still to come, the party has each key of its own
--- that the pattern has a token for, there is a key exactly where the pattern says so, and its nonce counts the texts that were encrypted
--- under it, at most one for each token and one for each payload.
+-- No more messages have passed than there are, a secret is left for each psk token that is still to come, the party has
+-- each key of its own that the pattern has a token for, there is a key exactly where the pattern says so, and its nonce
+-- counts the texts that were encrypted under it, at most one for each token and one for each payload.
 pub record IsSound {K : Type 0} (public_of : K → Own → Option (List ℕ)) (h : Held K) : Type 0 where
   pub within : h.passed ≤ length h.pattern.messages
   pub few : length h.pattern.messages ≤ 8

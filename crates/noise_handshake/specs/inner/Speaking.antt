@@ -23,7 +23,8 @@ has_own own S = is_some (own Static)
 has_own own _ = true
 
 -- A party that speaks, with these parts, for a view.
-pub record Speaking (v : View) (role : Role) (psks : Bool) (own : Own → Option (List ℕ)) (agree : Own → List ℕ → Option (List ℕ))
+pub record Speaking (v : View) (role : Role) (psks : Bool) (own : Own → Option (List ℕ))
+    (agree : Own → List ℕ → Option (List ℕ))
     (secrets : List (List ℕ)) (known : Remote) (tokens : List Token) : Type 0 where
   pub speaks : Speaks v
   pub role_is : role ≡ v.role
