@@ -3,8 +3,8 @@ use Rattle.std.specs.Prelude.{◌≡◌, []}
 use Rattle.noise_handshake.specs.Counterparts.{Counterparts}
 use Rattle.noise_session.specs.Ends.{EndView}
 
--- Their parties are counterparts, with one interval; each has received as many transport messages as the other one sent, and
--- nothing of a frame is on its way.
+-- Their parties are counterparts, with one interval; each has received as many transport messages as the other one
+-- sent, and nothing of a frame is on its way.
 pub record EndCounterparts (v w : EndView) : Type 0 where
   pub parties : Counterparts v.party w.party
   pub interval : w.interval ≡ v.interval

@@ -1,7 +1,10 @@
--- The two directions of a party's datagrams, each by itself: that of the datagrams that it seals, and that of those that it opens (Noise 5.1, 7.4 and 11.4).
-use Rattle.std.specs.Prelude.{◌≡◌, ℕ, List, Bool, Option, Some}
+-- The two directions of a party's datagrams, each by itself: that of the datagrams that it seals, and that of those
+-- that it opens (Noise 5.1, 7.4 and 11.4).
+use Rattle.std.specs.Prelude.{◌≡◌, ◌++◌, ℕ, List, [], Bool, Option, Some}
+use Rattle.std.specs.Int.{w64, to_be_bytes}
 use Rattle.noise_names.specs.declared.token.Role.{Role}
 use Rattle.noise_names.specs.Tokens.{other}
+use Rattle.noise_state.specs.History.{ciphertext_under}
 use Rattle.noise_session.specs.declared.window.Ring.{Ring}
 use Rattle.noise_session.specs.Transport.{split_key}
 use Rattle.noise_events.specs.Windows.{width_of}
@@ -28,6 +31,11 @@ datagram_sending_half d = record { role = d.role; one_way = d.one_way; key = d.s
 
 abbrev pub datagram_receiving_half : HeldDatagrams → HeldDatagramReceiver
 datagram_receiving_half d = record { role = d.role; one_way = d.one_way; key = d.receive_key; recent = d.recent }
+
+-- the datagram is that of the payload, under the half's key and at its nonce
+abbrev pub IsDatagram : HeldDatagramSender → List ℕ → List ℕ → Type 0
+IsDatagram h payload datagram =
+    datagram ≡ to_be_bytes w64 h.nonce ++ ciphertext_under h.key h.nonce [] payload
 
 -- The half that seals holds what the view says.
 pub record DatagramSenderStands (h : HeldDatagramSender) (v : DatagramView) : Type 0 where

@@ -1,6 +1,6 @@
 -- Datagrams: transport messages that may get lost, or come late or twice (Noise 5.1, 7.4 and 11.4).
 use Rattle.std.specs.Prelude.{◌≡◌, ℕ, ◌+◌, ◌==◌, nat_lt, nat_le, List, [], ◌∷◌, ◌++◌, length, take, drop}
-use Rattle.std.specs.Prelude.{Bool, false, ◌&&◌, Option, Some, None, Result, Ok, Err, if◌then◌else◌}
+use Rattle.std.specs.Prelude.{Bool, false, ◌&&◌, Option, Some, None, Result, Ok, Err, MatchOption, if◌then◌else◌}
 use Rattle.std.specs.Int.{w64, to_be_bytes, from_be_bytes}
 use Rattle.noise_names.specs.declared.token.Role.{Role}
 use Rattle.noise_names.specs.declared.token.Role.TheVariants.{Initiator, Responder}
@@ -18,7 +18,8 @@ use Rattle.noise_session.specs.Transport.{split_key, packet, last_nonce}
 use Rattle.noise_events.specs.Windows.{width_of}
 use Rattle.noise_session.specs.Windows.{is_among, window_fault, Recalls}
 
--- Datagram n of a writer: the nonce in 8 bytes, the highest first, and the transport message of that nonce. Its key is never renewed.
+-- Datagram n of a writer: the nonce in 8 bytes, the highest first, and the transport message of that nonce. Its key is
+-- never renewed.
 abbrev pub datagram : History → Role → ℕ → List ℕ → List ℕ
 datagram r writer n payload = to_be_bytes w64 n ++ packet r writer 0 n payload
 
@@ -94,16 +95,26 @@ IsSealed v bytes payload = drop 8 bytes ≡ packet v.history (other v.role) 0 (n
 pub data Opens : DatagramView → List ℕ → Result (List ℕ) DatagramFault → DatagramView → Type 0 where
   opened : (v : DatagramView) (bytes payload : List ℕ) → datagram_fault v bytes ≡ None → IsSealed v bytes payload
       → Opens v bytes (Ok payload) (accepting v (nonce_named bytes))
-  refused : (v : DatagramView) (bytes : List ℕ) (why : DatagramFault) → datagram_fault v bytes ≡ Some why → Opens v bytes (Err why) v
-  forged : (v : DatagramView) (bytes : List ℕ) → datagram_fault v bytes ≡ None → ((payload : List ℕ) → IsSealed v bytes payload → ⊥)
+  refused : (v : DatagramView) (bytes : List ℕ) (why : DatagramFault) → datagram_fault v bytes ≡ Some why
+      → Opens v bytes (Err why) v
+  forged : (v : DatagramView) (bytes : List ℕ) → datagram_fault v bytes ≡ None
+      → ((payload : List ℕ) → IsSealed v bytes payload → ⊥)
       → Opens v bytes (Err fault.Tag) v
+
+-- A datagram of this nonce gives the payload, unless the window refuses it.
+abbrev pub OpensInWindow : DatagramView → List ℕ → ℕ → List ℕ → Type 0
+OpensInWindow v bytes nonce payload =
+    MatchOption (window_fault v.width v.accepted nonce) (Opens v bytes (Ok payload) (accepting v nonce))
+    (λ fault. Opens v bytes (Err fault) v)
 
 -- A list of calls makes one view of another, and these are the nonces of the datagrams that it opened, in order.
 pub data Runs : DatagramView → List ℕ → DatagramView → Type 0 where
   ends : (v : DatagramView) → Runs v [] v
   seals : (v w : DatagramView) (nonces : List ℕ) → Runs (record v { sent = v.sent + 1 }) nonces w → Runs v nonces w
-  opens : (v w x : DatagramView) (bytes payload nonces : List ℕ) → Opens v bytes (Ok payload) w → Runs w nonces x → Runs v (nonce_named bytes ∷ nonces) x
-  refuses : (v w x : DatagramView) (bytes nonces : List ℕ) (why : DatagramFault) → Opens v bytes (Err why) w → Runs w nonces x → Runs v nonces x
+  opens : (v w x : DatagramView) (bytes payload nonces : List ℕ) → Opens v bytes (Ok payload) w → Runs w nonces x
+      → Runs v (nonce_named bytes ∷ nonces) x
+  refuses : (v w x : DatagramView) (bytes nonces : List ℕ) (why : DatagramFault) → Opens v bytes (Err why) w
+      → Runs w nonces x → Runs v nonces x
 
 -- no number stands in the list twice
 abbrev pub AreOnce : List ℕ → Type 0

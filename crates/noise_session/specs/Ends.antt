@@ -13,7 +13,8 @@ use Rattle.noise_session.specs.HeldTransport.{HeldTransport, TransportView, Tran
 use Rattle.noise_session.specs.Progress.{Progress}
 use Rattle.noise_session.specs.Progress.Progress.{Handshaking, Open, Closed}
 
--- an end as contracts see it: a handshake, with the interval of the transport that it leads to; its transport; or what is left of it
+-- an end as contracts see it: a handshake, with the interval of the transport that it leads to; its transport; or what
+-- is left of it
 pub record HeldEnd (K : Type 0) : Type 0 where
   pub phase : Phase K
   pub held : List ℕ  -- what has come of the next frame
@@ -55,7 +56,8 @@ pub record EndView : Type 0 where
 abbrev pub progress_of : EndView → Progress
 progress_of v =
     if v.party.ended then Closed v.party.role
-    else if v.party.passed == length v.party.pattern.messages then Open v.party.role (is_one_way v.party.pattern) v.sent v.received
+    else if v.party.passed == length v.party.pattern.messages
+    then Open v.party.role (is_one_way v.party.pattern) v.sent v.received
     else Handshaking v.party.pattern v.party.role v.party.passed
 
 -- a new end of that party

@@ -11,8 +11,8 @@ use Rattle.noise_session.specs.Progress.{is_open}
 use Rattle.noise_session.specs.Ends.{EndView, progress_of}
 use Rattle.noise_session.specs.Taking.{Judges}
 
--- The message is one of this payload, at the place where the end stands: once open the packet at the receiving nonce, and before that the message of the
--- message that is due, with some public keys that the sender may have (Noise 5.3).
+-- The message is one of this payload, at the place where the end stands: once open the packet at the receiving nonce,
+-- and before that the message of the message that is due, with some public keys that the sender may have (Noise 5.3).
 abbrev pub Encodes : EndView → List ℕ → List ℕ → Type 0
 Encodes v message payload =
     MatchBool (is_open (progress_of v))
@@ -27,4 +27,5 @@ pub record IsToldExactly (v : EndView) (message : List ℕ) (told : Told) : Type
   pub refused : (token : ℕ) (cause : Cause) → told ≡ Refused token cause ↔ Refuses v.party message token cause
 
 abbrev pub AcceptedExactly : Type 0
-AcceptedExactly = (v next : EndView) (message : List ℕ) (told : Told) → Judges v message told next → IsToldExactly v message told
+AcceptedExactly = (v next : EndView) (message : List ℕ) (told : Told) → Judges v message told next
+    → IsToldExactly v message told

@@ -10,7 +10,8 @@ use Rattle.noise_session.specs.Frames.{frame, IsPartial}
 number-frame : (m rest : List ℕ) → length m ≤ 65535 → big_number 2 (frame m ++ rest) ≡ length m
 number-frame m rest short =
     let fits : length m < 256 ^ 2 = omega arith in
-    ap (big_number 2) (append_assoc (big_bytes 2 (length m)) m rest) ∙ big_number-reads_back 2 (length m) (m ++ rest) fits
+    ap (big_number 2) (append_assoc (big_bytes 2 (length m)) m rest)
+    ∙ big_number-reads_back 2 (length m) (m ++ rest) fits
 
 length-frame : (m rest : List ℕ) → length (frame m ++ rest) ≡ 2 + length m + length rest
 length-frame m rest = omega (arith, length-append (frame m) rest, length-append (big_bytes 2 (length m)) m)
@@ -22,7 +23,8 @@ frame-whole m rest short partial =
     let number = number-frame m rest short in
     grind (arith, nat_tests)
 
-pub frame-same : (m n r s : List ℕ) → length m ≤ 65535 → length n ≤ 65535 → frame m ++ r ≡ frame n ++ s → (m ≡ n) × (r ≡ s)
+pub frame-same : (m n r s : List ℕ) → length m ≤ 65535 → length n ≤ 65535 → frame m ++ r ≡ frame n ++ s → (m ≡ n)
+    × (r ≡ s)
 frame-same m n r s short other e =
     let long : length m ≡ length n = sym (number-frame m r short) ∙ (ap (big_number 2) e ∙ number-frame n s other) in
     let joined : big_bytes 2 (length m) ++ (m ++ r) ≡ big_bytes 2 (length m) ++ (n ++ s) =

@@ -1,4 +1,5 @@
--- The two directions of a transport, each by itself: that of the messages that a party seals, and that of those that it opens (Noise 5.1 and 7.4).
+-- The two directions of a transport, each by itself: that of the messages that a party seals, and that of those that it
+-- opens (Noise 5.1 and 7.4).
 use Rattle.std.specs.Prelude.{ℕ, ◌+◌, ◌==◌, nat_lt, List, Bool, ◌&&◌, Option, Some, None, if◌then◌else◌}
 use Rattle.noise_names.specs.declared.token.Role.{Role}
 use Rattle.noise_names.specs.declared.token.Role.TheVariants.{Initiator, Responder}

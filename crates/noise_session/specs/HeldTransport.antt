@@ -66,17 +66,19 @@ pub record TransportStands (t : HeldTransport) (v : TransportView) : Type 0 wher
   pub receive_key : t.receive_key ≡ Some (transport_key v.history (other v.role) v.interval v.received)
   pub receive_nonce : t.receive_nonce ≡ v.received
 
--- The key of the message at this nonce, after that of the message before: a new one where the nonce is a multiple of the interval
--- (11.3). An interval of 0 means never.
+-- The key of the message at this nonce, after that of the message before: a new one where the nonce is a multiple of
+-- the interval (11.3). An interval of 0 means never.
 abbrev pub renewed_key : ℕ → ℕ → Option (List ℕ) → Option (List ℕ)
 renewed_key interval nonce key = if not (interval == 0) && (nonce % interval == 0) then option_map rekeyed key else key
 
 -- the direction of the messages that the party seals, and that of those that it opens
 abbrev pub sending_half : HeldTransport → HeldHalf
-sending_half t = record { role = t.role; one_way = t.one_way; interval = t.interval; key = t.send_key; nonce = t.send_nonce }
+sending_half t =
+    record { role = t.role; one_way = t.one_way; interval = t.interval; key = t.send_key; nonce = t.send_nonce }
 
 abbrev pub receiving_half : HeldTransport → HeldHalf
-receiving_half t = record { role = t.role; one_way = t.one_way; interval = t.interval; key = t.receive_key; nonce = t.receive_nonce }
+receiving_half t =
+    record { role = t.role; one_way = t.one_way; interval = t.interval; key = t.receive_key; nonce = t.receive_nonce }
 
 -- The half that seals holds what the view says.
 pub record SenderStands (h : HeldHalf) (v : TransportView) : Type 0 where

@@ -10,13 +10,14 @@ use Rattle.noise_session.specs.Progress.{idle_step}
 use Rattle.noise_session.specs.Ends.{EndView, progress_of}
 use Rattle.noise_session.specs.Taking.{Takes}
 
--- An end reads these bytes: none where it doesn't listen, else the missing ones of one frame. Where the input ends, or a read fails, it keeps those
--- that came; an end of the input between frames is none of a frame.
+-- An end reads these bytes: none where it doesn't listen, else the missing ones of one frame. Where the input ends, or
+-- a read fails, it keeps those that came; an end of the input between frames is none of a frame.
 pub data Receives : EndView → List ℕ → Result (Option Told) ReceiveFault → EndView → Type 0 where
   takes : (v next : EndView) (bytes : List ℕ) (step : Told) → step ≢ More → Takes v bytes (length bytes) step next
       → Receives v bytes (Ok (Some step)) next
   pauses : (v : EndView) → idle_step (progress_of v) ≡ None → v.held ≡ [] → Receives v [] (Ok None) v
-  is_cut : (v : EndView) (bytes : List ℕ) → idle_step (progress_of v) ≡ None → IsPartial (v.held ++ bytes) → v.held ++ bytes ≢ []
+  is_cut : (v : EndView) (bytes : List ℕ) → idle_step (progress_of v) ≡ None → IsPartial (v.held ++ bytes)
+      → v.held ++ bytes ≢ []
       → Receives v bytes (Err CutShort) (record v { held = v.held ++ bytes })
   fails : (v : EndView) (bytes : List ℕ) → idle_step (progress_of v) ≡ None → IsPartial (v.held ++ bytes)
       → Receives v bytes (Err Input) (record v { held = v.held ++ bytes })

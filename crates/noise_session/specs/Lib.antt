@@ -4,6 +4,7 @@ pub mod Transport
 pub mod Renewing
 pub mod Halves
 pub mod HeldTransport
+pub mod HalfCalls
 pub mod Counting
 pub mod Faults
 pub mod Steps

@@ -36,7 +36,8 @@ quotient-turned i n some none =
 
 pub quotient-kept : (i n : ℕ) → 0 < i → 0 < (n + 1) % i → (n + 1) / i ≡ n / i
 quotient-kept i n some more =
-    kept i (n / i) ((n + 1) / i) (n % i) ((n + 1) % i) (omega (arith, div-add-mod n i, div-add-mod (n + 1) i)) (omega arith) (omega arith) more
+    kept i (n / i) ((n + 1) / i) (n % i) ((n + 1) % i) (omega (arith, div-add-mod n i, div-add-mod (n + 1) i))
+    (omega arith) (omega arith) more
 
 pub renewals-turned : (i n : ℕ) → i ≢ 0 → (n + 1) % i ≡ 0 → renewals i (n + 1) ≡ suc (renewals i n)
 renewals-turned i n some none =

@@ -18,10 +18,14 @@ after_fault v why = if ends why then closed v else v
 pub data Sends : EndView → List ℕ → Result (List ℕ) SendFault → EndView → Type 0 where
   refuses : (v : EndView) (payload : List ℕ) (why : SendFault) → refusal (progress_of v) (length payload) ≡ Some why
       → Sends v payload (Err why) (after_fault v why)
-  lacks_answer : (v : EndView) (payload : List ℕ) (token : ℕ) → refusal (progress_of v) (length payload) ≡ None → LacksAnswer v.party token
+  lacks_answer : (v : EndView) (payload : List ℕ) (token : ℕ) → refusal (progress_of v) (length payload) ≡ None
+      → LacksAnswer v.party token
       → Sends v payload (Err (fault.Agreement token)) (closed v)
-  sends_handshake : (v : EndView) (payload message : List ℕ) (xs : List (List ℕ)) → refusal (progress_of v) (length payload) ≡ None
+  sends_handshake : (v : EndView) (payload message : List ℕ) (xs : List (List ℕ))
+      → refusal (progress_of v) (length payload) ≡ None
       → Writes v.party payload xs message
       → Sends v payload (Ok (frame message)) (record v { party = after_own v.party xs payload })
-  sends_transport : (v : EndView) (payload : List ℕ) → refusal (progress_of v) (length payload) ≡ None → IsTrue (is_open (progress_of v))
-      → Sends v payload (Ok (frame (packet v.party.history v.party.role v.interval v.sent payload))) (record v { sent = v.sent + 1 })
+  sends_transport : (v : EndView) (payload : List ℕ) → refusal (progress_of v) (length payload) ≡ None
+      → IsTrue (is_open (progress_of v))
+      → Sends v payload (Ok (frame (packet v.party.history v.party.role v.interval v.sent payload)))
+      (record v { sent = v.sent + 1 })

@@ -12,7 +12,8 @@ use Rattle.noise_session.specs.Steps.Told.{More, Payload, Dropped, Refused, Exha
 use Rattle.noise_session.specs.Progress.{is_open, idle_step}
 use Rattle.noise_session.specs.Ends.{EndView, progress_of, closed}
 
--- A whole message comes to an end that listens. A refused handshake message ends the session; a refused transport message is dropped.
+-- A whole message comes to an end that listens. A refused handshake message ends the session; a refused transport
+-- message is dropped.
 pub data Judges : EndView → List ℕ → Told → EndView → Type 0 where
   accepted : (v : EndView) (message payload : List ℕ) (xs : List (List ℕ)) → Accepts v.party message xs payload
       → Judges v message (Payload payload) (record v { party = after_message v.party xs payload; held = [] })
@@ -27,8 +28,8 @@ pub data Judges : EndView → List ℕ → Told → EndView → Type 0 where
   exhausted : (v : EndView) (message : List ℕ) → IsTrue (is_open (progress_of v)) → v.received ≡ last_nonce
       → Judges v message Exhausted (closed v)
 
--- A piece of the stream comes to an end, which takes so many of its bytes: none where it doesn't listen; all where they make no whole frame with
--- those that are held; else those up to the end of the first frame.
+-- A piece of the stream comes to an end, which takes so many of its bytes: none where it doesn't listen; all where they
+-- make no whole frame with those that are held; else those up to the end of the first frame.
 pub data Takes : EndView → List ℕ → ℕ → Told → EndView → Type 0 where
   idles : (v : EndView) (piece : List ℕ) (step : Told) → idle_step (progress_of v) ≡ Some step → Takes v piece 0 step v
   waits : (v : EndView) (piece : List ℕ) → idle_step (progress_of v) ≡ None → IsPartial (v.held ++ piece)

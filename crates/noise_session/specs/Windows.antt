@@ -37,11 +37,13 @@ window_fault width accepted nonce =
 abbrev pub bit_of : Ring → ℕ → ℕ
 bit_of r nonce = bit_at (slice_index r.words (nonce / 64 % words_of r.window)) (nonce % 64)
 
--- Of the accepted nonces the ring has the greatest, and which there are in its block and in as many blocks below as the width has.
+-- Of the accepted nonces the ring has the greatest, and which there are in its block and in as many blocks below as the
+-- width has.
 pub record Recalls (r : Ring) (accepted : List ℕ) : Type 0 where
   pub greatest : (n : ℕ) → is_among accepted n ≡ true → n ≤ r.greatest
   pub reached : 0 < r.greatest → is_among accepted r.greatest ≡ true
-  pub bits : (n : ℕ) → n / 64 ≤ r.greatest / 64 → r.greatest / 64 < n / 64 + words_of r.window → (bit_of r n == 1) ≡ is_among accepted n
+  pub bits : (n : ℕ) → n / 64 ≤ r.greatest / 64 → r.greatest / 64 < n / 64 + words_of r.window
+      → (bit_of r n == 1) ≡ is_among accepted n
 
 -- ---- rings that some accepted nonces have
 
@@ -49,7 +51,8 @@ pub record Recalls (r : Ring) (accepted : List ℕ) : Type 0 where
 abbrev pub top_word : Ring → ℕ
 top_word r = slice_index r.words (r.greatest / 64 % words_of r.window)
 
--- The highest bit of that word is the greatest nonce's. Where the greatest is 0 it may be that none was accepted: then there is no bit.
+-- The highest bit of that word is the greatest nonce's. Where the greatest is 0 it may be that none was accepted: then
+-- there is no bit.
 abbrev pub ends_at_greatest : Ring → Bool
 ends_at_greatest r = (top_word r / 2 ^ (r.greatest % 64) == 1) || ((r.greatest == 0) && (top_word r == 0))
 
@@ -57,6 +60,8 @@ ends_at_greatest r = (top_word r / 2 ^ (r.greatest % 64) == 1) || ((r.greatest =
 abbrev pub begun_words : Ring → ℕ
 begun_words r = min (words_of r.window) (r.greatest / 64 + 1)
 
--- Some accepted nonces have this ring: the greatest isn't the nonce that no message has, its bit is there, and none above it.
+-- Some accepted nonces have this ring: the greatest isn't the nonce that no message has, its bit is there, and none
+-- above it.
 abbrev pub is_ring : Ring → Bool
-is_ring r = nat_lt r.greatest last_nonce && ends_at_greatest r && list_all (λ word. word == 0) (drop (begun_words r) r.words)
+is_ring r = nat_lt r.greatest last_nonce && ends_at_greatest r && list_all
+    (λ word. word == 0) (drop (begun_words r) r.words)

@@ -3,3 +3,4 @@ pub mod Filling
 pub mod Incoming
 pub mod Outcomes
 pub mod Phases
+pub mod States

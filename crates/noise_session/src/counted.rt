@@ -8,8 +8,8 @@ ghost use Rattle.noise_session.specs.Counting.{inner_of, failures_of, after_call
 
 use std::io::{self, Read, Write};
 
-/// A reader or writer with a count of its failed reads and writes: those that answered an error, an interruption too, and
-/// each write that took none of some bytes. A flush isn't counted. The count begins again at 0 after 2^64 - 1.
+/// A reader or writer with a count of its failed reads and writes: those that answered an error, an interruption too,
+/// and each write that took none of some bytes. A flush isn't counted. The count begins again at 0 after 2^64 - 1.
 #[derive(Debug, Drop)]
 pub struct Counted<T> {
     inner: T,
@@ -46,7 +46,8 @@ impl<R: Read> Read for Counted<R> {
 
     fn read(&mut self, buf: &mut [u8]) -> io::Result<usize>
         ensures bound { ReadsAtMost result buf.new }
-        ensures bytes { ReadConsumes (R.remaining (inner_of self.old)) (R.remaining (inner_of self.new)) result buf.new }
+        ensures bytes { ReadConsumes (R.remaining (inner_of self.old)) (R.remaining (inner_of self.new)) result
+            buf.new }
         ensures failures { failures_of self.new ≡ after_call (failures_of self.old) result }
     {
         let result = self.inner.read(buf);

@@ -1,9 +1,7 @@
 //! The receiving half of datagrams (Noise, 11.4).
 #![tactic(auto)]
 
-ghost use Rattle.std.specs.Prelude.{◌≡◌, ◌≢◌, ◌≤◌, ◌<◌, ◌+◌, ◌&&◌, length, take, drop, is_some, true, Ok, Err, IsSome, IfSome, IfOk, IfNone, OnErr, MatchResult};
-ghost use Rattle.noise_names.specs.declared.token.Role.TheVariants.{Initiator};
-ghost use Rattle.noise_names.specs.Tokens.{same_role};
+ghost use Rattle.std.specs.Prelude.{◌≡◌, ◌≢◌, ◌≤◌, ◌<◌, ◌+◌, length, take, drop, is_some, true, Ok, Err, IsSome, IfSome, IfOk, IfNone, OnErr, MatchResult};
 ghost use Rattle.noise_state.specs.Cipher.{key_in};
 ghost use Rattle.noise_events.specs.Windows.{width_of};
 ghost use Rattle.noise_session.specs.Transport.{last_nonce};
@@ -12,6 +10,8 @@ ghost use Rattle.noise_session.specs.Datagrams.{DatagramView, Opens, nonce_named
 ghost use Rattle.noise_session.specs.DatagramHalves.{DatagramReceiverStands};
 ghost use Rattle.noise_session.specs.Parts.{datagram_receiver_in};
 
+use crate::limits::{DATAGRAM_MAX, LAST_NONCE, NONCE_LEN, OVERHEAD};
+use crate::one_way::hears_nothing;
 use crate::parts::key_and_nonce;
 use crate::window::Ring;
 use crate::{DatagramFault, DatagramReceiverParts};
@@ -19,22 +19,11 @@ use noise_names::Role;
 use noise_state::CipherState;
 use std::marker::Model;
 
-// The bytes of a nonce, which come first.
-const NONCE_LEN: usize = 8;
-
-// Those of a nonce and a tag.
-const OVERHEAD: usize = 24;
-
-// The longest datagram in bytes: a nonce and the longest message (Noise, 3).
-const DATAGRAM_MAX: usize = 65543;
-
-// The nonce that no message has (Noise, 5.1).
-const LAST_NONCE: u64 = u64::MAX;
-
-/// The receiving half of datagrams: it opens those of the other party, each nonce at most once, as the whole `Datagrams` does.
+/// The receiving half of datagrams: it opens those of the other party, each nonce at most once, as the whole
+/// `Datagrams` does.
 ///
-/// `Datagrams::split` makes it, for a thread of its own. That of the initiator of a one-way session answers OneWay to every
-/// datagram. No call takes memory, and a fault changes nothing.
+/// `Datagrams::split` makes it, for a thread of its own. That of the initiator of a one-way session answers OneWay to
+/// every datagram. No call takes memory, and a fault changes nothing.
 #[derive(Drop)]
 pub struct DatagramReceiver {
     role: Role,
@@ -102,7 +91,8 @@ impl DatagramReceiver {
         }
     }
 
-    /// The receiving half that holds these parts: none where no opened nonces leave them, as parts with a bit above the greatest nonce.
+    /// The receiving half that holds these parts: none where no opened nonces leave them, as parts with a bit above the
+    /// greatest nonce.
     ///
     /// Every half that was taken apart comes back. A key doesn't show of which half it is.
     pub fn from_parts(parts: DatagramReceiverParts) -> Option<DatagramReceiver>
@@ -119,20 +109,15 @@ impl DatagramReceiver {
         })
     }
 
-    // Whether nothing comes to this party: it is the initiator of a one-way session.
-    fn is_deaf(&self) -> bool
-        ensures { result ≡ (self.now.one_way && same_role self.now.role Initiator) }
-    {
-        self.one_way && self.role == Role::Initiator
-    }
-
     // Why such bytes aren't opened, whatever message they have.
     fn refusal(&self, datagram: &[u8]) -> Option<DatagramFault>
-        ensures bounds { IfNone result ((24 ≤ length datagram.now) × (length datagram.now ≤ 65543) × (nonce_named datagram.now ≢ last_nonce)) }
-        ensures young { IfNone result (self.now.recent.greatest < nonce_named datagram.now + width_of self.now.recent.window) }
+        ensures bounds { IfNone result ((24 ≤ length datagram.now) × (length datagram.now ≤ 65543)
+            × (nonce_named datagram.now ≢ last_nonce)) }
+        ensures young { IfNone result
+            (self.now.recent.greatest < nonce_named datagram.now + width_of self.now.recent.window) }
         ensures told { (v : DatagramView) → DatagramReceiverStands self.now v → result ≡ datagram_fault v datagram.now }
     {
-        if self.is_deaf() {
+        if hears_nothing(self.one_way, self.role) {
             return Some(DatagramFault::OneWay);
         }
         if datagram.len() < OVERHEAD {
@@ -148,13 +133,15 @@ impl DatagramReceiver {
         self.recent.refusal(nonce)
     }
 
-    /// Opens a datagram in place, and returns how many of its bytes from the ninth on are then the payload. The 8 of the nonce in
-    /// front of them and the 16 of the tag after them stay as they are.
+    /// Opens a datagram in place, and returns how many of its bytes from the ninth on are then the payload. The 8 of
+    /// the nonce in front of them and the 16 of the tag after them stay as they are.
     ///
     /// At an `Err` its bytes are unchanged.
     pub fn open_within(&mut self, datagram: &mut [u8]) -> Result<usize, DatagramFault>
         ensures len { IfOk result (λ n. n + 24 ≡ length datagram.new) }
-        ensures beyond { IfOk result (λ n. (take 8 datagram.new ≡ take 8 datagram.old) × (drop (8 + n) datagram.new ≡ drop (8 + n) datagram.old)) }
+        ensures beyond { IfOk result
+            (λ n. (take 8 datagram.new ≡ take 8 datagram.old)
+            × (drop (8 + n) datagram.new ≡ drop (8 + n) datagram.old)) }
         ensures same { self.new ≡ record self.old { recent = self.new.recent } }
         ensures unchanged { OnErr result ((self.new ≡ self.old) × (datagram.new ≡ datagram.old)) }
         ensures opens { (v : DatagramView) → DatagramReceiverStands self.old v → MatchResult result
@@ -181,7 +168,8 @@ impl DatagramReceiver {
     /// At an `Err` its bytes are unchanged.
     pub fn open<'a>(&mut self, datagram: &'a mut [u8]) -> Result<&'a mut [u8], DatagramFault>
         ensures part { IfOk result (λ payload.
-            (payload.ref_ptr ≡ (datagram.entry.ref_ptr.0, datagram.entry.ref_ptr.1 + 8)) × (length payload.now + 24 ≡ length datagram.old)) }
+            (payload.ref_ptr ≡ (datagram.entry.ref_ptr.0, datagram.entry.ref_ptr.1 + 8))
+            × (length payload.now + 24 ≡ length datagram.old)) }
         ensures same { self.new ≡ record self.old { recent = self.new.recent } }
         ensures unchanged { OnErr result (self.new ≡ self.old) }
         ensures opens { (v : DatagramView) → DatagramReceiverStands self.old v → MatchResult result

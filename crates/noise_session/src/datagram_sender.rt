@@ -1,37 +1,26 @@
 //! The sending half of datagrams (Noise, 11.4).
 #![tactic(auto)]
 
-ghost use Rattle.std.specs.Prelude.{◌≡◌, ◌≢◌, ◌≤◌, ◌+◌, ◌++◌, [], length, take, drop, None, Err, IsOk, IsSome, IfOk, OnOk, OnErr, MatchOption};
-ghost use Rattle.std.specs.Int.{w64, to_be_bytes};
+ghost use Rattle.std.specs.Prelude.{◌≡◌, ◌≢◌, ◌≤◌, ◌+◌, [], length, take, drop, None, Err, IsOk, IsSome, IfOk, OnOk, OnErr, MatchOption};
 ghost use Rattle.noise_state.specs.Cipher.{key_in, nonce_in};
 ghost use Rattle.noise_state.specs.History.{ciphertext_under};
 ghost use Rattle.noise_session.specs.Transport.{last_nonce};
 ghost use Rattle.noise_session.specs.Datagrams.{DatagramView, datagram, unsealed};
-ghost use Rattle.noise_session.specs.DatagramHalves.{DatagramSenderStands};
+ghost use Rattle.noise_session.specs.DatagramHalves.{DatagramSenderStands, IsDatagram};
 ghost use Rattle.noise_session.specs.Parts.{datagram_sender_in};
 
+use crate::limits::{DATAGRAM_MAX, LAST_NONCE, NONCE_LEN, OVERHEAD};
+use crate::one_way::writes_nothing;
 use crate::parts::key_and_nonce;
 use crate::{DatagramSenderParts, SendFault};
 use noise_names::Role;
 use noise_state::CipherState;
 use std::marker::Model;
 
-// The bytes of a nonce, which come first.
-const NONCE_LEN: usize = 8;
-
-// Those of a nonce and a tag.
-const OVERHEAD: usize = 24;
-
-// The longest datagram in bytes: a nonce and the longest message (Noise, 3).
-const DATAGRAM_MAX: usize = 65543;
-
-// The nonce that no message has (Noise, 5.1).
-const LAST_NONCE: u64 = u64::MAX;
-
 /// The sending half of datagrams: it seals this party's payloads, as the whole `Datagrams` does.
 ///
-/// `Datagrams::split` makes it, for a thread of its own. That of the responder of a one-way session answers OneWay to every
-/// payload. No call takes memory, and a fault changes nothing.
+/// `Datagrams::split` makes it, for a thread of its own. That of the responder of a one-way session answers OneWay to
+/// every payload. No call takes memory, and a fault changes nothing.
 #[derive(Drop)]
 pub struct DatagramSender {
     role: Role,
@@ -82,7 +71,8 @@ impl DatagramSender {
         }
     }
 
-    /// The sending half that holds these parts. Any parts make one: a key and a nonce don't show of which half they are.
+    /// The sending half that holds these parts. Any parts make one: a key and a nonce don't show of which half they
+    /// are.
     ///
     /// A half that was taken apart is put together once: two of them would seal at the same nonce.
     pub fn from_parts(parts: DatagramSenderParts) -> DatagramSender
@@ -106,7 +96,7 @@ impl DatagramSender {
     fn refusal(&self, payload_len: usize) -> Option<SendFault>
         ensures { result ≡ unsealed self.now.role self.now.one_way self.now.nonce payload_len }
     {
-        if self.one_way && self.role == Role::Responder {
+        if writes_nothing(self.one_way, self.role) {
             return Some(SendFault::OneWay);
         }
         if payload_len > DATAGRAM_MAX - OVERHEAD {
@@ -120,19 +110,21 @@ impl DatagramSender {
 
     /// Seals a payload into the first bytes of `out`, 24 more than it has, and returns how many.
     ///
-    /// `out` holds them where the payload has at most 65519 bytes. The faults are OneWay, TooLong and Exhausted, looked for
-    /// in this order.
+    /// `out` holds them where the payload has at most 65519 bytes. The faults are OneWay, TooLong and Exhausted, looked
+    /// for in this order.
     pub fn seal(&mut self, payload: &[u8], out: &mut [u8]) -> Result<usize, SendFault>
-        requires { unsealed self.old.role self.old.one_way self.old.nonce (length payload.now) ≡ None → length payload.now + 24 ≤ length out.old }
+        requires { unsealed self.old.role self.old.one_way self.old.nonce (length payload.now) ≡ None
+            → length payload.now + 24 ≤ length out.old }
         ensures fault { MatchOption (unsealed self.old.role self.old.one_way self.old.nonce (length payload.now))
             (IsOk result) (λ fault. result ≡ Err fault) }
         ensures len { IfOk result (λ n. (n ≡ length payload.now + 24) × (n ≤ length out.new)) }
         ensures rest { IfOk result (λ n. drop n out.new ≡ drop n out.old) }
         ensures counted { OnOk result (self.new ≡ record self.old { nonce = self.old.nonce + 1 }) }
         ensures unchanged { OnErr result ((self.new ≡ self.old) × (out.new ≡ out.old)) }
-        ensures sealed { IfOk result (λ n. take n out.new ≡ to_be_bytes w64 self.old.nonce ++ ciphertext_under self.old.key self.old.nonce [] payload.now) }
+        ensures sealed { IfOk result (λ n. IsDatagram self.old payload.now (take n out.new)) }
         ensures seals { (v : DatagramView) → DatagramSenderStands self.old v → IfOk result (λ n.
-            (take n out.new ≡ datagram v.history v.role v.sent payload.now) × DatagramSenderStands self.new (record v { sent = v.sent + 1 })) }
+            (take n out.new ≡ datagram v.history v.role v.sent payload.now)
+            × DatagramSenderStands self.new (record v { sent = v.sent + 1 })) }
     {
         if let Some(fault) = self.refusal(payload.len()) {
             return Err(fault);
@@ -141,8 +133,8 @@ impl DatagramSender {
         self.seal_in_place(out, payload.len())
     }
 
-    /// Seals the payload that is in `payload_len` bytes of `buffer`, from the ninth byte on, in place: the datagram is in the first
-    /// bytes, 24 more, and it tells how many.
+    /// Seals the payload that is in `payload_len` bytes of `buffer`, from the ninth byte on, in place: the datagram is
+    /// in the first bytes, 24 more, and it tells how many.
     ///
     /// `buffer` holds them where the payload has at most 65519 bytes. The faults are those of `seal`.
     pub fn seal_in_place(
@@ -150,15 +142,16 @@ impl DatagramSender {
         buffer: &mut [u8],
         payload_len: usize,
     ) -> Result<usize, SendFault>
-        requires { unsealed self.old.role self.old.one_way self.old.nonce payload_len ≡ None → payload_len + 24 ≤ length buffer.old }
+        requires { unsealed self.old.role self.old.one_way self.old.nonce payload_len ≡ None
+            → payload_len + 24 ≤ length buffer.old }
         ensures fault { MatchOption (unsealed self.old.role self.old.one_way self.old.nonce payload_len)
             (IsOk result) (λ fault. result ≡ Err fault) }
         ensures len { IfOk result (λ n. (n ≡ payload_len + 24) × (n ≤ length buffer.new)) }
         ensures rest { IfOk result (λ n. drop n buffer.new ≡ drop n buffer.old) }
         ensures counted { OnOk result (self.new ≡ record self.old { nonce = self.old.nonce + 1 }) }
         ensures unchanged { OnErr result ((self.new ≡ self.old) × (buffer.new ≡ buffer.old)) }
-        ensures sealed { IfOk result (λ n.
-            take n buffer.new ≡ to_be_bytes w64 self.old.nonce ++ ciphertext_under self.old.key self.old.nonce [] (take payload_len (drop 8 buffer.old))) }
+        ensures sealed { IfOk result
+            (λ n. IsDatagram self.old (take payload_len (drop 8 buffer.old)) (take n buffer.new)) }
         ensures seals { (v : DatagramView) → DatagramSenderStands self.old v → IfOk result (λ n.
             (take n buffer.new ≡ datagram v.history v.role v.sent (take payload_len (drop 8 buffer.old)))
             × DatagramSenderStands self.new (record v { sent = v.sent + 1 })) }
@@ -173,14 +166,16 @@ impl DatagramSender {
     }
 }
 
-// Encrypts the payload in the first `payload_len` bytes of `message` in place, and returns how many bytes it has with its tag.
+// Encrypts the payload in the first `payload_len` bytes of `message` in place, and returns how many bytes it has with
+// its tag.
 fn encrypt(cipher: &mut CipherState, message: &mut [u8], payload_len: usize) -> usize
     requires keyed { IsSome (key_in cipher.old) }
     requires left { nonce_in cipher.old ≢ last_nonce }
     requires short { payload_len ≤ 65519 }
     requires room { payload_len + 16 ≤ length message.old }
     ensures len { (result ≡ payload_len + 16) × (result ≤ length message.new) }
-    ensures sealed { take result message.new ≡ ciphertext_under (key_in cipher.old) (nonce_in cipher.old) [] (take payload_len message.old) }
+    ensures sealed { take result message.new
+        ≡ ciphertext_under (key_in cipher.old) (nonce_in cipher.old) [] (take payload_len message.old) }
     ensures rest { drop result message.new ≡ drop result message.old }
     ensures key { key_in cipher.new ≡ key_in cipher.old }
     ensures counted { nonce_in cipher.new ≡ nonce_in cipher.old + 1 }

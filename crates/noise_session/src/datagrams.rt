@@ -1,10 +1,8 @@
 //! Datagrams of one party (Noise, 11.4).
 #![tactic(auto)]
 
-ghost use Rattle.std.specs.Prelude.{◌≡◌, ◌≤◌, ◌+◌, ◌++◌, [], length, take, drop, is_some, true};
+ghost use Rattle.std.specs.Prelude.{◌≡◌, ◌≤◌, ◌+◌, length, take, drop, is_some, true};
 ghost use Rattle.std.specs.Prelude.{None, Ok, Err, IsOk, IfOk, IfSome, OnOk, OnErr, MatchOption, MatchResult};
-ghost use Rattle.std.specs.Int.{w64, to_be_bytes};
-ghost use Rattle.noise_state.specs.History.{ciphertext_under};
 ghost use Rattle.noise_handshake.specs.View.{View};
 ghost use Rattle.noise_handshake.specs.Opening.{Opens as HandshakeOpens};
 ghost use Rattle.noise_session.specs.HeldTransport.{TransportView, TransportStands};
@@ -12,8 +10,9 @@ ghost use Rattle.noise_session.specs.EndDatagrams.{datagrams_after};
 ghost use Rattle.noise_session.specs.Windows.{is_ring};
 ghost use Rattle.noise_session.specs.Parts.{datagrams_in};
 ghost use Rattle.noise_session.specs.Datagrams.{DatagramView, DatagramsStand, Opens, datagram, datagrams_of, nonce_named, accepting, unsealed};
-ghost use Rattle.noise_session.specs.DatagramHalves.{DatagramSenderStands, DatagramReceiverStands, datagram_sending_half, datagram_receiving_half};
+ghost use Rattle.noise_session.specs.DatagramHalves.{DatagramSenderStands, DatagramReceiverStands, IsDatagram, datagram_sending_half, datagram_receiving_half};
 
+use crate::limits::NONCE_LEN;
 use crate::window::Ring;
 use crate::{
     DatagramFault, DatagramParts, DatagramReceiver, DatagramSender, SendFault, Transport, Window,
@@ -22,14 +21,11 @@ use noise_handshake::Opened;
 use noise_state::CipherState;
 use std::marker::Model;
 
-// The bytes of a nonce, which come first.
-const NONCE_LEN: usize = 8;
-
-/// The transport of one party over a network that loses, reorders and repeats: it seals this party's payloads as datagrams and
-/// opens those of the other, each nonce at most once.
+/// The transport of one party over a network that loses, reorders and repeats: it seals this party's payloads as
+/// datagrams and opens those of the other, each nonce at most once.
 ///
-/// A datagram is its nonce in 8 bytes, the highest first, and the transport message of that nonce, together at most 65543 bytes.
-/// The keys are never renewed. No call takes memory, and a fault changes nothing.
+/// A datagram is its nonce in 8 bytes, the highest first, and the transport message of that nonce, together at most
+/// 65543 bytes. The keys are never renewed. No call takes memory, and a fault changes nothing.
 #[derive(Drop)]
 pub struct Datagrams {
     sender: DatagramSender,
@@ -109,8 +105,8 @@ impl Datagrams {
         }
     }
 
-    /// The datagrams that hold these parts: they stand for what those stood for that were taken apart. None where no opened nonces
-    /// leave the window's words so: the greatest nonce has its bit, and none above it has one.
+    /// The datagrams that hold these parts: they stand for what those stood for that were taken apart. None where no
+    /// opened nonces leave the window's words so: the greatest nonce has its bit, and none above it has one.
     ///
     /// Datagrams that were taken apart are put together once: two of them would seal at the same nonce.
     pub fn from_parts(parts: DatagramParts) -> Option<Datagrams>
@@ -127,11 +123,13 @@ impl Datagrams {
         })
     }
 
-    /// The half that seals and the half that opens, as for two threads. Each does what these datagrams do in its direction.
+    /// The half that seals and the half that opens, as for two threads. Each does what these datagrams do in its
+    /// direction.
     pub fn split(self) -> (DatagramSender, DatagramReceiver)
         ensures sender { result.0 ≡ datagram_sending_half self }
         ensures receiver { result.1 ≡ datagram_receiving_half self }
-        ensures stands { (v : DatagramView) → DatagramsStand self v → DatagramSenderStands result.0 v × DatagramReceiverStands result.1 v }
+        ensures stands { (v : DatagramView) → DatagramsStand self v → DatagramSenderStands result.0 v
+            × DatagramReceiverStands result.1 v }
     {
         (self.sender, self.receiver)
     }
@@ -145,26 +143,27 @@ impl Datagrams {
 
     /// Seals a payload into the first bytes of `out`, 24 more than it has, and returns how many.
     ///
-    /// `out` holds them where the payload has at most 65519 bytes. The faults are OneWay, TooLong and Exhausted, looked for
-    /// in this order.
+    /// `out` holds them where the payload has at most 65519 bytes. The faults are OneWay, TooLong and Exhausted, looked
+    /// for in this order.
     pub fn seal(&mut self, payload: &[u8], out: &mut [u8]) -> Result<usize, SendFault>
-        requires { unsealed self.old.role self.old.one_way self.old.send_nonce (length payload.now) ≡ None → length payload.now + 24 ≤ length out.old }
+        requires { unsealed self.old.role self.old.one_way self.old.send_nonce (length payload.now) ≡ None
+            → length payload.now + 24 ≤ length out.old }
         ensures fault { MatchOption (unsealed self.old.role self.old.one_way self.old.send_nonce (length payload.now))
             (IsOk result) (λ fault. result ≡ Err fault) }
         ensures len { IfOk result (λ n. (n ≡ length payload.now + 24) × (n ≤ length out.new)) }
         ensures rest { IfOk result (λ n. drop n out.new ≡ drop n out.old) }
         ensures counted { OnOk result (self.new ≡ record self.old { send_nonce = self.old.send_nonce + 1 }) }
         ensures unchanged { OnErr result ((self.new ≡ self.old) × (out.new ≡ out.old)) }
-        ensures sealed { IfOk result (λ n.
-            take n out.new ≡ to_be_bytes w64 self.old.send_nonce ++ ciphertext_under self.old.send_key self.old.send_nonce [] payload.now) }
+        ensures sealed { IfOk result (λ n. IsDatagram (datagram_sending_half self.old) payload.now (take n out.new)) }
         ensures seals { (v : DatagramView) → DatagramsStand self.old v → IfOk result (λ n.
-            (take n out.new ≡ datagram v.history v.role v.sent payload.now) × DatagramsStand self.new (record v { sent = v.sent + 1 })) }
+            (take n out.new ≡ datagram v.history v.role v.sent payload.now)
+            × DatagramsStand self.new (record v { sent = v.sent + 1 })) }
     {
         self.sender.seal(payload, out)
     }
 
-    /// Seals the payload that is in `payload_len` bytes of `buffer`, from the ninth byte on, in place: the datagram is in the first
-    /// bytes, 24 more, and it tells how many.
+    /// Seals the payload that is in `payload_len` bytes of `buffer`, from the ninth byte on, in place: the datagram is
+    /// in the first bytes, 24 more, and it tells how many.
     ///
     /// `buffer` holds them where the payload has at most 65519 bytes. The faults are those of `seal`.
     pub fn seal_in_place(
@@ -172,7 +171,8 @@ impl Datagrams {
         buffer: &mut [u8],
         payload_len: usize,
     ) -> Result<usize, SendFault>
-        requires { unsealed self.old.role self.old.one_way self.old.send_nonce payload_len ≡ None → payload_len + 24 ≤ length buffer.old }
+        requires { unsealed self.old.role self.old.one_way self.old.send_nonce payload_len ≡ None
+            → payload_len + 24 ≤ length buffer.old }
         ensures fault { MatchOption (unsealed self.old.role self.old.one_way self.old.send_nonce payload_len)
             (IsOk result) (λ fault. result ≡ Err fault) }
         ensures len { IfOk result (λ n. (n ≡ payload_len + 24) × (n ≤ length buffer.new)) }
@@ -180,7 +180,7 @@ impl Datagrams {
         ensures counted { OnOk result (self.new ≡ record self.old { send_nonce = self.old.send_nonce + 1 }) }
         ensures unchanged { OnErr result ((self.new ≡ self.old) × (buffer.new ≡ buffer.old)) }
         ensures sealed { IfOk result (λ n.
-            take n buffer.new ≡ to_be_bytes w64 self.old.send_nonce ++ ciphertext_under self.old.send_key self.old.send_nonce [] (take payload_len (drop 8 buffer.old))) }
+            IsDatagram (datagram_sending_half self.old) (take payload_len (drop 8 buffer.old)) (take n buffer.new)) }
         ensures seals { (v : DatagramView) → DatagramsStand self.old v → IfOk result (λ n.
             (take n buffer.new ≡ datagram v.history v.role v.sent (take payload_len (drop 8 buffer.old)))
             × DatagramsStand self.new (record v { sent = v.sent + 1 })) }
@@ -188,13 +188,15 @@ impl Datagrams {
         self.sender.seal_in_place(buffer, payload_len)
     }
 
-    /// Opens a datagram in place, and returns how many of its bytes from the ninth on are then the payload. The 8 of the nonce in
-    /// front of them and the 16 of the tag after them stay as they are.
+    /// Opens a datagram in place, and returns how many of its bytes from the ninth on are then the payload. The 8 of
+    /// the nonce in front of them and the 16 of the tag after them stay as they are.
     ///
     /// At an `Err` its bytes are unchanged.
     pub fn open_within(&mut self, datagram: &mut [u8]) -> Result<usize, DatagramFault>
         ensures len { IfOk result (λ n. n + 24 ≡ length datagram.new) }
-        ensures beyond { IfOk result (λ n. (take 8 datagram.new ≡ take 8 datagram.old) × (drop (8 + n) datagram.new ≡ drop (8 + n) datagram.old)) }
+        ensures beyond { IfOk result
+            (λ n. (take 8 datagram.new ≡ take 8 datagram.old)
+            × (drop (8 + n) datagram.new ≡ drop (8 + n) datagram.old)) }
         ensures same { self.new ≡ record self.old { recent = self.new.recent } }
         ensures unchanged { OnErr result ((self.new ≡ self.old) × (datagram.new ≡ datagram.old)) }
         ensures opens { (v : DatagramView) → DatagramsStand self.old v → MatchResult result
@@ -210,7 +212,8 @@ impl Datagrams {
     /// At an `Err` its bytes are unchanged.
     pub fn open<'a>(&mut self, datagram: &'a mut [u8]) -> Result<&'a mut [u8], DatagramFault>
         ensures part { IfOk result (λ payload.
-            (payload.ref_ptr ≡ (datagram.entry.ref_ptr.0, datagram.entry.ref_ptr.1 + 8)) × (length payload.now + 24 ≡ length datagram.old)) }
+            (payload.ref_ptr ≡ (datagram.entry.ref_ptr.0, datagram.entry.ref_ptr.1 + 8))
+            × (length payload.now + 24 ≡ length datagram.old)) }
         ensures same { self.new ≡ record self.old { recent = self.new.recent } }
         ensures unchanged { OnErr result (self.new ≡ self.old) }
         ensures opens { (v : DatagramView) → DatagramsStand self.old v → MatchResult result

@@ -8,11 +8,13 @@ ghost use Rattle.noise_session.specs.Counting.{inner_of, failures_of, after_call
 use crate::Counted;
 use std::io::Write;
 
-// Writes all bytes; where a write fails, it tells how many were written before. It doesn't flush, and tries no write again.
+// Writes all bytes; where a write fails, it tells how many were written before. It doesn't flush, and tries no write
+// again.
 pub(crate) fn write_out<W: Write>(out: &mut Counted<W>, bytes: &[u8]) -> Result<(), usize>
     ensures written { MatchResult result
         (λ _. Appends (W.contents (inner_of out.old)) (W.contents (inner_of out.new)) bytes.now)
-        (λ n. (n < length bytes.now) × Appends (W.contents (inner_of out.old)) (W.contents (inner_of out.new)) (take n bytes.now)) }
+        (λ n. (n < length bytes.now)
+        × Appends (W.contents (inner_of out.old)) (W.contents (inner_of out.new)) (take n bytes.now)) }
     ensures failures { failures_of out.new ≡ after_call (failures_of out.old) result }
 {
     let mut at = 0;

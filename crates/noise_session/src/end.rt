@@ -13,11 +13,9 @@ ghost use Rattle.noise_session.specs.Counting.{inner_of, failures_of};
 ghost use Rattle.std.specs.Io.KnownBytes.{Appends, Consumes, IsAtEnd};
 
 use crate::draining::write_out;
-use crate::incoming::{Incoming, zeros};
+use crate::incoming::zeros;
 use crate::phase::Phase;
-use crate::receiving::receive_from;
-use crate::sending::send;
-use crate::taking::advance;
+use crate::state::State;
 use crate::{Counted, Datagrams, ReceiveFault, SendFault, Stage, Step, Transport, Window};
 use noise_handshake::{Handshake, Keys};
 use noise_names::Role;
@@ -31,26 +29,20 @@ use std::marker::Model;
 /// bytes. The end opens by itself once the last handshake message has passed; the handshake with its keys is gone then.
 #[derive(Drop)]
 pub struct End<K: Keys> {
-    phase: Phase<K>,
-    incoming: Incoming,
+    state: State<K>,
     outgoing: Vec<u8>, // for a frame on its way to a writer
 }
 
 impl<K: Keys> Model for End<K> {
-    ghost use Rattle.std.specs.Prelude.{◌≡◌, [], true, length, vec_capacity, IsTrue};
-    ghost use Rattle.noise_session.specs.Frames.{IsPartial};
-    ghost use Rattle.noise_session.specs.inner.Incoming.{bytes_of};
-    ghost use Rattle.noise_session.specs.Ends.{HeldEnd, is_over};
-    ghost use Rattle.noise_session.specs.inner.Phases.{is_due};
+    ghost use Rattle.std.specs.Prelude.{◌≡◌, length, vec_capacity};
+    ghost use Rattle.noise_session.specs.Ends.{HeldEnd};
+    ghost use Rattle.noise_session.specs.inner.States.{end_in};
 
     ghost Value = { HeldEnd K };
 
-    ghost view = { λ e. record { phase = e.phase; held = bytes_of e.incoming } };
+    ghost view = { λ e. end_in e.state };
 
     ghost invariant = { λ e. record {
-      due : IsTrue (is_due e.phase);
-      partial : IsPartial (bytes_of e.incoming);
-      closed : is_over e.phase ≡ true → bytes_of e.incoming ≡ [];
       room : length e.outgoing.items ≡ 65537;
       fixed : vec_capacity e.outgoing ≡ 65537;
     } };
@@ -70,13 +62,15 @@ impl<K: Keys> End<K> {
     ghost use Rattle.noise_session.specs.Datagrams.{DatagramsStand, datagrams_of};
     ghost use Rattle.noise_session.specs.EndDatagrams.{is_datagram_ready};
 
-    /// An end of a session that begins with this handshake, which hasn't ended; it is open at once where all its messages
-    /// have passed. In transport the key is renewed after each `interval` messages of a direction; 0 means never.
+    /// An end of a session that begins with this handshake, which hasn't ended; it is open at once where all its
+    /// messages have passed. In transport the key is renewed after each `interval` messages of a direction; 0 means
+    /// never.
     ///
     /// It reserves two buffers of 65537 bytes, which no later call grows. At Err the handshake is gone.
     pub fn new(alloc: Global, handshake: Handshake<K>, interval: u64) -> Result<End<K>, AllocError>
         requires { handshake.ended ≡ false }
-        ensures { (v : View) → Stands K.public_of K.agreement handshake v → IfOk result (λ end. EndStands K.public_of K.agreement end (end_of v interval)) }
+        ensures { (v : View) → Stands K.public_of K.agreement handshake v
+            → IfOk result (λ end. EndStands K.public_of K.agreement end (end_of v interval)) }
     {
         End::begin(alloc, Phase::after(handshake, interval))
     }
@@ -95,42 +89,38 @@ impl<K: Keys> End<K> {
         requires { IsTrue (is_due phase) }
         ensures { IfOk result (λ end. end ≡ record { phase = phase; held = [] }) }
     {
-        let incoming = Incoming::new(alloc)?;
+        let state = State::new(alloc, phase)?;
         let outgoing = zeros(alloc)?;
-        Ok(End {
-            phase,
-            incoming,
-            outgoing,
-        })
+        Ok(End { state, outgoing })
     }
 
     /// Which party of the handshake it is, also after the session's end.
     pub fn role(&self) -> Role
         ensures { result ≡ role_of (progress self.now) }
     {
-        self.phase.role()
+        self.state.phase.role()
     }
 
     /// Where the session stands.
     pub fn stage(&self) -> Stage
         ensures { result ≡ stage_of (progress self.now) }
     {
-        self.phase.stage()
+        self.state.phase.stage()
     }
 
     /// The hash of the whole handshake (Noise, 11.2), 32 bytes, once the session has opened, also after its end.
     pub fn hash(&self) -> Option<[u8; 32]>
         ensures { result ≡ hash_in self.now.phase }
     {
-        self.phase.hash()
+        self.state.phase.hash()
     }
 
-    /// The other party's static public key, 32 bytes, as far as its pre-message and the messages that passed tell it; none
-    /// after the session's end.
+    /// The other party's static public key, 32 bytes, as far as its pre-message and the messages that passed tell it;
+    /// none after the session's end.
     pub fn remote_static(&self) -> Option<[u8; 32]>
         ensures { result ≡ remote_static_in self.now.phase }
     {
-        self.phase.remote_static()
+        self.state.phase.remote_static()
     }
 
     /// How many bytes of an unfinished frame it holds: at most 65536, and none after the session's end.
@@ -140,24 +130,27 @@ impl<K: Keys> End<K> {
         ensures most { result ≤ 65536 }
         ensures over { is_over self.now.phase ≡ true → result ≡ 0 }
     {
-        self.incoming.held()
+        self.state.held()
     }
 
     /// Takes bytes of at most one frame, and returns how many and what they came to.
     ///
-    /// Only the bytes that it holds, with the piece after them, count: where a frame is cut into pieces makes no difference.
+    /// Only the bytes that it holds, with the piece after them, count: where a frame is cut into pieces makes no
+    /// difference.
     pub fn take<'a>(&'a mut self, piece: &[u8]) -> (usize, Step<'a>)
         ensures count { result.0 ≤ length piece.now }
-        ensures* takes { sem 𝓛 (follows_so (the_row K.row K.Keys) (the_row K.row K.Keys) self.entry.ghost_name none (λ _ _. ⊤)
+        ensures* takes { sem 𝓛 (follows_so (the_row K.row K.Keys) (the_row K.row K.Keys) self.entry.ghost_name none
+            (λ _ _. ⊤)
             (λ n. (v : EndView) → EndStands K.public_of K.agreement self.old v
-            → (next : EndView) × Takes v piece.now result.0 (told result.1) next × EndStands K.public_of K.agreement n next)) }
+            → (next : EndView) × Takes v piece.now result.0 (told result.1) next
+            × EndStands K.public_of K.agreement n next)) }
     {
-        let (count, outcome) = advance(&mut self.phase, &mut self.incoming, piece);
-        (count, outcome.step(self.incoming.message()))
+        let (count, outcome) = self.state.take(piece);
+        (count, outcome.step(self.state.message()))
     }
 
-    /// Reads the missing bytes of one frame from a reader, and no more, and returns what the frame came to. Where this end
-    /// doesn't listen it reads nothing; `Ok(None)` is an end of the input between frames.
+    /// Reads the missing bytes of one frame from a reader, and no more, and returns what the frame came to. Where this
+    /// end doesn't listen it reads nothing; `Ok(None)` is an end of the input between frames.
     ///
     /// At a fault the bytes that came are kept, and a later call goes on with them.
     pub fn receive<R: Read>(
@@ -167,14 +160,16 @@ impl<K: Keys> End<K> {
         ensures unread { IsSome (idle_step (progress self.old)) → from.new ≡ from.old }
         ensures end { is_end result ≡ true → IsAtEnd (R.remaining (inner_of from.new)) }
         ensures failures { failures_of from.new ≡ after_receiving (failures_of from.old) result }
-        ensures* receives { sem 𝓛 (follows_so (the_row K.row K.Keys) (the_row K.row K.Keys) self.entry.ghost_name none (λ _ _. ⊤)
+        ensures* receives { sem 𝓛 (follows_so (the_row K.row K.Keys) (the_row K.row K.Keys) self.entry.ghost_name none
+            (λ _ _. ⊤)
             (λ n. (v : EndView) → EndStands K.public_of K.agreement self.old v
             → (bytes : List ℕ) × (next : EndView) × Receives v bytes (told_of result) next
-            × Consumes (R.remaining (inner_of from.old)) (R.remaining (inner_of from.new)) bytes × EndStands K.public_of K.agreement n next)) }
+            × Consumes (R.remaining (inner_of from.old)) (R.remaining (inner_of from.new)) bytes
+            × EndStands K.public_of K.agreement n next)) }
     {
-        match receive_from(&mut self.phase, &mut self.incoming, from)? {
+        match self.state.receive(from)? {
             None => Ok(None),
-            Some(outcome) => Ok(Some(outcome.step(self.incoming.message()))),
+            Some(outcome) => Ok(Some(outcome.step(self.state.message()))),
         }
     }
 
@@ -183,7 +178,7 @@ impl<K: Keys> End<K> {
         ensures value { result ≡ frame_len_of (progress self.now) payload_len }
         ensures most { IfSome result (λ n. n ≤ 65537) }
     {
-        self.phase.frame_len(payload_len)
+        self.state.phase.frame_len(payload_len)
     }
 
     /// Writes a payload as a frame, into the first bytes of `out`, and returns how many.
@@ -192,68 +187,69 @@ impl<K: Keys> End<K> {
     /// leaves open what `out` holds; an exhausted nonce ends the session; the other faults change nothing.
     pub fn write_into(&mut self, payload: &[u8], out: &mut [u8]) -> Result<usize, SendFault>
         requires { ForSome (frame_len_of (progress self.old) (length payload.now)) (λ n. n ≤ length out.old) }
-        ensures len { IfOk result (λ n. (frame_len_of (progress self.old) (length payload.now) ≡ Some n) × (n ≤ length out.new)) }
+        ensures len { IfOk result
+            (λ n. (frame_len_of (progress self.old) (length payload.now) ≡ Some n) × (n ≤ length out.new)) }
         ensures rest { IfOk result (λ n. drop n out.new ≡ drop n out.old) }
-        ensures refused { MatchOption (refusal (progress self.old) (length payload.now)) ⊤ (λ fault. (result ≡ Err fault) × (out.new ≡ out.old)) }
+        ensures refused { MatchOption (refusal (progress self.old) (length payload.now)) ⊤
+            (λ fault. (result ≡ Err fault) × (out.new ≡ out.old)) }
         ensures ok { (v : EndView) → EndStands K.public_of K.agreement self.old v → IfOk result (λ n.
-            (next : EndView) × Sends v payload.now (Ok (take n out.new)) next × EndStands K.public_of K.agreement self.new next) }
+            (next : EndView) × Sends v payload.now (Ok (take n out.new)) next
+            × EndStands K.public_of K.agreement self.new next) }
         ensures err { (v : EndView) → EndStands K.public_of K.agreement self.old v → IfErr result (λ fault.
-            Sends v payload.now (Err fault) (after_fault v fault) × EndStands K.public_of K.agreement self.new (after_fault v fault)) }
+            Sends v payload.now (Err fault) (after_fault v fault)
+            × EndStands K.public_of K.agreement self.new (after_fault v fault)) }
     {
-        send(&mut self.phase, &mut self.incoming, payload, out)
+        self.state.send(payload, out)
     }
 
-    /// Writes a payload as a frame to a writer, by as many writes as it takes, and returns the frame's length. It doesn't flush.
+    /// Writes a payload as a frame to a writer, by as many writes as it takes, and returns the frame's length. It
+    /// doesn't flush.
     ///
-    /// Where a write fails, or takes none of the bytes that are left, the session has ended; so it has after a DH of the
-    /// handshake without an answer, and an exhausted nonce. The other faults change nothing.
+    /// Where a write fails, or takes none of the bytes that are left, the session has ended; so it has after a DH of
+    /// the handshake without an answer, and an exhausted nonce. The other faults change nothing.
     pub fn write_to<W: Write>(
         &mut self,
         payload: &[u8],
         out: &mut Counted<W>,
     ) -> Result<usize, SendFault>
         ensures failures { failures_of out.new ≡ after_output (failures_of out.old) result }
-        ensures puts { (v : EndView) → EndStands K.public_of K.agreement self.old v → (bytes : List ℕ) × (next : EndView) × Puts v payload.now result bytes next
-            × Appends (W.contents (inner_of out.old)) (W.contents (inner_of out.new)) bytes × EndStands K.public_of K.agreement self.new next }
+        ensures puts { (v : EndView) → EndStands K.public_of K.agreement self.old v → (bytes : List ℕ)
+            × (next : EndView) × Puts v payload.now result bytes next
+            × Appends (W.contents (inner_of out.old)) (W.contents (inner_of out.new)) bytes
+            × EndStands K.public_of K.agreement self.new next }
     {
-        let len = send(
-            &mut self.phase,
-            &mut self.incoming,
-            payload,
-            &mut self.outgoing,
-        )?;
+        let len = self.state.send(payload, &mut self.outgoing)?;
         match write_out(out, &self.outgoing[..len]) {
             Ok(()) => Ok(len),
             Err(written) => {
-                self.phase.end();
-                self.incoming.clear();
+                self.state.end();
                 Err(SendFault::Output { written })
             }
         }
     }
 
-    /// Whether it may go over to datagrams: the session is open, no transport message was written or taken, and no byte of a
-    /// frame has come.
+    /// Whether it may go over to datagrams: the session is open, no transport message was written or taken, and no byte
+    /// of a frame has come.
     pub fn datagram_ready(&self) -> bool
         ensures { result ≡ is_datagram_ready self.now }
     {
-        match &self.phase {
+        match &self.state.phase {
             Phase::Open(transport) => {
                 let untouched = transport.send_nonce() == 0 && transport.receive_nonce() == 0;
-                untouched && self.incoming.held() == 0
+                untouched && self.state.held() == 0
             }
             _ => false,
         }
     }
 
-    /// The datagrams of its party, with this window (Noise, 11.4), where `datagram_ready` holds. Their keys are never renewed,
-    /// whatever its interval is.
+    /// The datagrams of its party, with this window (Noise, 11.4), where `datagram_ready` holds. Their keys are never
+    /// renewed, whatever its interval is.
     pub fn into_datagrams(self, window: Window) -> Datagrams
         requires { is_datagram_ready self ≡ true }
-        ensures { (v : EndView) → EndStands K.public_of K.agreement self v → DatagramsStand result (datagrams_of v.party window) }
+        ensures { (v : EndView) → EndStands K.public_of K.agreement self v
+            → DatagramsStand result (datagrams_of v.party window) }
     {
-        let phase = self.phase;
-        match phase {
+        match self.state.into_phase() {
             Phase::Open(transport) => Datagrams::after(transport, window),
             _ => unreachable!(),
         }

@@ -1,7 +1,8 @@
 //! Why a payload isn't written, a transport message isn't opened, and nothing is received.
 #![tactic(auto)]
 
-/// Why a payload isn't written. Looked for in the order Ended, OneWay, NotYourTurn, TooLong, Exhausted, Agreement, Output.
+/// Why a payload isn't written. Looked for in the order Ended, OneWay, NotYourTurn, TooLong, Exhausted, Agreement,
+/// Output.
 #[derive(Clone, Copy, Debug, PartialEq, Eq)]
 pub enum SendFault {
     /// The other end writes the next handshake message.

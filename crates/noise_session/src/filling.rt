@@ -22,7 +22,8 @@ pub(crate) enum Filling {
 pub(crate) fn fill_from<R: Read>(from: &mut Counted<R>, buffer: &mut [u8]) -> (usize, Filling)
     ensures within { result.0 ≤ length buffer.new }
     ensures filled { (result.1 ≡ Filled) ↔ (result.0 ≡ length buffer.new) }
-    ensures bytes { Consumes (R.remaining (inner_of from.old)) (R.remaining (inner_of from.new)) (take result.0 buffer.new) }
+    ensures bytes { Consumes (R.remaining (inner_of from.old)) (R.remaining (inner_of from.new))
+        (take result.0 buffer.new) }
     ensures end { result.1 ≡ End → IsAtEnd (R.remaining (inner_of from.new)) }
     ensures failures { failures_of from.new ≡ after_filling (failures_of from.old) result.1 }
 {

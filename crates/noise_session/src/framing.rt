@@ -6,8 +6,8 @@ ghost use Rattle.noise_session.specs.Frames.{frame};
 
 use byteorder::{BigEndian, ByteOrder};
 
-/// Makes a frame of the message that stands in `out` behind the first two bytes: puts its length there, and returns how many
-/// bytes the frame has.
+/// Makes a frame of the message that stands in `out` behind the first two bytes: puts its length there, and returns how
+/// many bytes the frame has.
 ///
 /// The message has `len` bytes, at most 65535. A handshake message that is written to `out[2..]` becomes a frame so.
 pub fn frame_message(out: &mut [u8], len: usize) -> usize

@@ -11,14 +11,13 @@ ghost use Rattle.noise_session.specs.declared.filling.Filling.TheVariants.{Fille
 
 use crate::Counted;
 use crate::filling::{Filling, fill_from};
+use crate::limits::FRAME_MAX;
 use byteorder::{BigEndian, ByteOrder};
 use std::alloc::{AllocError, Global};
 use std::io::Read;
 
-/// The most bytes of a frame: a length of 2 bytes, and a message of 65535.
-pub(crate) const FRAME_MAX: usize = 65537;
-
-// Zeros for a whole frame, in memory that holds just them. `vec!` promises to take at least as much: where it took more, they are put one by one.
+// Zeros for a whole frame, in memory that holds just them. `vec!` promises to take at least as much: where it took
+// more, they are put one by one.
 pub(crate) fn zeros(alloc: Global) -> Result<Vec<u8>, AllocError>
     ensures { IfOk result (λ bytes. (length bytes.items ≡ 65537) × (vec_capacity bytes ≡ 65537)) }
 {
@@ -113,7 +112,8 @@ impl Incoming {
 
     // Reads the missing bytes of the frame's length, or of the frame once that is there.
     fn read_up<R: Read>(&mut self, from: &mut Counted<R>) -> Filling
-        ensures bytes { (piece : List ℕ) × Consumes (R.remaining (inner_of from.old)) (R.remaining (inner_of from.new)) piece
+        ensures bytes { (piece : List ℕ)
+            × Consumes (R.remaining (inner_of from.old)) (R.remaining (inner_of from.new)) piece
             × (bytes_of self.new ≡ bytes_of self.old ++ piece) }
         ensures filled { (result ≡ Filled) ↔ (length (bytes_of self.new) ≡ frame_length (bytes_of self.old)) }
         ensures within { length (bytes_of self.new) ≤ frame_length (bytes_of self.old) }
@@ -129,7 +129,8 @@ impl Incoming {
 
     // Reads the missing bytes of the frame, those of its length first.
     pub(crate) fn fill_from<R: Read>(&mut self, from: &mut Counted<R>) -> Filling
-        ensures bytes { (piece : List ℕ) × Consumes (R.remaining (inner_of from.old)) (R.remaining (inner_of from.new)) piece
+        ensures bytes { (piece : List ℕ)
+            × Consumes (R.remaining (inner_of from.old)) (R.remaining (inner_of from.new)) piece
             × (bytes_of self.new ≡ bytes_of self.old ++ piece) }
         ensures leaves { Leaves result (bytes_of self.new) }
         ensures end { result ≡ End → IsAtEnd (R.remaining (inner_of from.new)) }
@@ -141,11 +142,14 @@ impl Incoming {
         }
     }
 
-    // Takes bytes of a piece up to the frame's end, and returns how many; None where the frame isn't whole with all of them.
+    // Takes bytes of a piece up to the frame's end, and returns how many; None where the frame isn't whole with all of
+    // them.
     pub(crate) fn fill(&mut self, piece: &[u8]) -> Option<usize>
-        ensures part { IfNone result ((bytes_of self.new ≡ bytes_of self.old ++ piece.now) × IsPartial (bytes_of self.new)) }
+        ensures part { IfNone result ((bytes_of self.new ≡ bytes_of self.old ++ piece.now)
+            × IsPartial (bytes_of self.new)) }
         ensures whole { IfSome result
-            (λ n. (n ≤ length piece.now) × (bytes_of self.new ≡ bytes_of self.old ++ take n piece.now) × IsWhole (bytes_of self.new)) }
+            (λ n. (n ≤ length piece.now) × (bytes_of self.new ≡ bytes_of self.old ++ take n piece.now)
+            × IsWhole (bytes_of self.new)) }
     {
         let first = self.accept(piece);
         let count = first + self.accept(&piece[first..]);
@@ -169,8 +173,10 @@ fn read_into<R: Read>(
     ensures fixed { vec_capacity buffer.new ≡ vec_capacity buffer.old }
     ensures within { result.0 ≤ end - start }
     ensures filled { (result.1 ≡ Filled) ↔ (result.0 ≡ end - start) }
-    ensures bytes { (piece : List ℕ) × Consumes (R.remaining (inner_of from.old)) (R.remaining (inner_of from.new)) piece
-        × (length piece ≡ result.0) × (take (start + result.0) buffer.new.items ≡ take start buffer.old.items ++ piece) }
+    ensures bytes { (piece : List ℕ)
+        × Consumes (R.remaining (inner_of from.old)) (R.remaining (inner_of from.new)) piece
+        × (length piece ≡ result.0)
+        × (take (start + result.0) buffer.new.items ≡ take start buffer.old.items ++ piece) }
     ensures end { result.1 ≡ End → IsAtEnd (R.remaining (inner_of from.new)) }
     ensures failures { failures_of from.new ≡ after_filling (failures_of from.old) result.1 }
 {
@@ -190,7 +196,8 @@ fn put(buffer: &mut Vec<u8>, from: usize, bytes: &[u8])
 // How long a frame is of which so many bytes have come: what was known, but where its length is whole just now.
 fn whole_after(buffer: &[u8], known: usize, end: usize) -> usize
     requires { 2 ≤ length buffer.now }
-    ensures read { end ≡ 2 → (result ≡ frame_length (take 2 buffer.now)) × (result ≤ 65537) × (take 2 buffer.now ≡ big_bytes 2 (result - 2)) }
+    ensures read { end ≡ 2 → (result ≡ frame_length (take 2 buffer.now)) × (result ≤ 65537)
+        × (take 2 buffer.now ≡ big_bytes 2 (result - 2)) }
     ensures kept { end ≢ 2 → result ≡ known }
 {
     if end == 2 {

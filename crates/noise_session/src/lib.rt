@@ -3,7 +3,6 @@
 
 mod counted;
 mod datagram_fault;
-mod datagram_laws;
 mod datagram_receiver;
 mod datagram_sender;
 mod datagrams;
@@ -13,26 +12,23 @@ mod faults;
 mod filling;
 mod framing;
 mod incoming;
-mod laws;
+pub mod laws;
+mod limits;
+mod one_way;
 mod outcome;
-mod packets;
 mod parts;
 mod phase;
-mod reading;
 mod receiver;
-mod receiving;
 mod renewal;
 mod sender;
-mod sending;
 mod stage;
+mod state;
 mod step;
-mod taking;
 mod transport;
 mod window;
 
 pub use counted::Counted;
 pub use datagram_fault::DatagramFault;
-pub use datagram_laws::{opened_once, sealed_is_opened};
 pub use datagram_receiver::DatagramReceiver;
 pub use datagram_sender::DatagramSender;
 pub use datagrams::Datagrams;
@@ -40,10 +36,10 @@ pub use end::End;
 pub use faults::{OpenFault, ReceiveFault, SendFault};
 pub use framing::frame_message;
 pub use laws::{
-    accepted_exactly, cuts_alike, end_is_told, sent_once, taken_once, written_is_taken,
+    accepted_exactly, cuts_alike, end_is_told, opened_once, packet_is_due, packet_same,
+    sealed_is_opened, sent_once, taken_once, written_is_taken,
 };
 pub use noise_events::Window;
-pub use packets::{packet_is_due, packet_same};
 pub use parts::{
     DatagramParts, DatagramReceiverParts, DatagramSenderParts, HalfParts, TransportParts,
 };

@@ -1,18 +1,22 @@
 //! What an end goes through: its handshake, its transport, and the end of the session.
 #![tactic(auto)]
 
-ghost use Rattle.std.specs.Prelude.{◌≡◌, ◌+◌, ℕ, List, false, Some, None, IsTrue, IfSome, MatchOption};
+ghost use Rattle.std.specs.Prelude.{◌≡◌, ◌≤◌, ◌+◌, ℕ, List, [], ⊤, length, take, drop, false, Some, None, Ok, Err, IsTrue};
+ghost use Rattle.std.specs.Prelude.{IfOk, IfErr, IfSome, MatchOption};
+ghost use Rattle.std.specs.Option.{ForSome};
+ghost use Rattle.noise_session.specs.Faults.{ends};
+ghost use Rattle.noise_session.specs.Frames.{frame};
 ghost use Rattle.noise_session.specs.HeldTransport.{seal_fault};
 ghost use Rattle.noise_session.specs.Progress.{length_unless};
 
+use crate::framing::frame_message;
+use crate::limits::{LAST_NONCE, PAYLOAD_MAX};
+use crate::one_way::{hears_nothing, writes_nothing};
 use crate::outcome::Outcome;
-use crate::{Stage, Transport};
-use noise_handshake::{Handshake, Keys};
+use crate::{OpenFault, SendFault, Stage, Transport};
+use noise_handshake::{Cause, Handshake, Keys, ReadFault, WriteFault};
 use noise_names::Role;
 use std::mem;
-
-// The longest payload of a transport message, in bytes: the message has 16 more, and at most 65535 (Noise, 3).
-const PAYLOAD_MAX: usize = 65519;
 
 // What an end goes through. A handshake is one that hasn't ended, and of which messages are to come.
 #[derive(Drop)]
@@ -34,13 +38,18 @@ impl<K: Keys> Phase<K> {
     ghost use Rattle.noise_session.specs.Ends.{EndView, PhaseStands, progress_in, hash_in, remote_static_in, is_over};
     ghost use Rattle.noise_session.specs.inner.Phases.{IsHandshake, GoesOnAs, is_due, over_in};
     ghost use Rattle.noise_session.specs.inner.Outcomes.{tells, StandsIn};
+    ghost use Rattle.noise_session.specs.Outputs.{after_output};
+    ghost use Rattle.noise_session.specs.Progress.{refusal, message_length};
+    ghost use Rattle.noise_session.specs.Sending.{Sends, after_fault};
+    ghost use Rattle.noise_session.specs.Taking.{Judges};
 
     // The phase after messages of a handshake: its transport, once all of them have passed.
     pub(crate) fn after(handshake: Handshake<K>, interval: u64) -> Phase<K>
         requires { handshake.ended ≡ false }
         ensures due { IsTrue (is_due result) }
         ensures going { is_over result ≡ false }
-        ensures stands { (v : EndView) → Stands K.public_of K.agreement handshake v.party → interval ≡ v.interval → v.sent ≡ 0 → v.received ≡ 0
+        ensures stands { (v : EndView) → Stands K.public_of K.agreement handshake v.party → interval ≡ v.interval
+            → v.sent ≡ 0 → v.received ≡ 0
             → PhaseStands K.public_of K.agreement result v }
     {
         match handshake.finish() {
@@ -57,7 +66,8 @@ impl<K: Keys> Phase<K> {
         requires { IsHandshake self.old }
         ensures due { IsTrue (is_due self.new) }
         ensures going { is_over self.new ≡ false }
-        ensures stands { (v : EndView) → GoesOnAs K.public_of K.agreement self.old v → PhaseStands K.public_of K.agreement self.new v }
+        ensures stands { (v : EndView) → GoesOnAs K.public_of K.agreement self.old v
+            → PhaseStands K.public_of K.agreement self.new v }
     {
         let ended = self.over();
         match mem::replace(self, ended) {
@@ -143,8 +153,7 @@ impl<K: Keys> Phase<K> {
                 handshake.writes_next().then_some(Outcome::YourTurn)
             }
             Phase::Open(transport) => {
-                let silent = transport.one_way() && transport.role() == Role::Initiator;
-                silent.then_some(Outcome::Silent)
+                hears_nothing(transport.one_way(), transport.role()).then_some(Outcome::Silent)
             }
             Phase::Ended { .. } => Some(Outcome::Ended),
         }
@@ -161,14 +170,125 @@ impl<K: Keys> Phase<K> {
             Phase::Ended { .. } => None,
         }
     }
+
+    // Writes a payload as a message into the first bytes of `out`, and returns how many.
+    fn write(&mut self, payload: &[u8], out: &mut [u8]) -> Result<usize, SendFault>
+        requires due { IsTrue (is_due self.old) }
+        requires room { refusal (progress_in self.old) (length payload.now) ≡ None
+            → message_length (progress_in self.old) (length payload.now) ≤ length out.old }
+        ensures due { IsTrue (is_due self.new) }
+        ensures len { IfOk result (λ n. (refusal (progress_in self.old) (length payload.now) ≡ None)
+            × (n ≡ message_length (progress_in self.old) (length payload.now)) × (n ≤ length out.new) × (n ≤ 65535)) }
+        ensures rest { IfOk result (λ n. drop n out.new ≡ drop n out.old) }
+        ensures refused { MatchOption (refusal (progress_in self.old) (length payload.now)) ⊤
+            (λ fault. (result ≡ Err fault) × (out.new ≡ out.old)) }
+        ensures going { IfOk result (λ _. is_over self.new ≡ false) }
+        ensures kept { IfErr result (λ fault. ends fault ≡ false → self.new ≡ self.old) }
+        ensures inner { IfErr result (λ fault. (failures : ℕ) → after_output failures (Err fault) ≡ failures) }
+        ensures ok { (v : EndView) → PhaseStands K.public_of K.agreement self.old v → IfOk result (λ n.
+            (next : EndView) × Sends v payload.now (Ok (frame (take n out.new))) next
+            × PhaseStands K.public_of K.agreement self.new next × (next.held ≡ v.held)) }
+        ensures err { (v : EndView) → PhaseStands K.public_of K.agreement self.old v → IfErr result (λ fault.
+            Sends v payload.now (Err fault) (after_fault v fault)
+            × PhaseStands K.public_of K.agreement self.new (after_fault v fault)) }
+    {
+        match self {
+            Phase::Handshaking { handshake, .. } => match handshake.write(payload, out) {
+                Ok(len) => {
+                    self.settle();
+                    Ok(len)
+                }
+                Err(WriteFault::NotYourTurn) => Err(SendFault::NotYourTurn),
+                Err(WriteFault::TooLong) => Err(SendFault::TooLong),
+                Err(WriteFault::Agreement { token }) => {
+                    self.end();
+                    Err(SendFault::Agreement { token })
+                }
+                Err(_) => unreachable!(),
+            },
+            Phase::Open(transport) => match transport.seal(payload, out) {
+                Ok(len) => Ok(len),
+                Err(SendFault::Exhausted) => {
+                    self.end();
+                    Err(SendFault::Exhausted)
+                }
+                Err(SendFault::OneWay) => Err(SendFault::OneWay),
+                Err(SendFault::TooLong) => Err(SendFault::TooLong),
+                Err(_) => unreachable!(),
+            },
+            Phase::Ended { .. } => Err(SendFault::Ended),
+        }
+    }
+
+    // Writes a payload as a frame into the first bytes of `out`, and returns how many.
+    pub(crate) fn write_frame(&mut self, payload: &[u8], out: &mut [u8]) -> Result<usize, SendFault>
+        requires due { IsTrue (is_due self.old) }
+        requires room { ForSome (frame_len_of (progress_in self.old) (length payload.now)) (λ n. n ≤ length out.old) }
+        ensures due { IsTrue (is_due self.new) }
+        ensures len { IfOk result
+            (λ n. (frame_len_of (progress_in self.old) (length payload.now) ≡ Some n) × (n ≤ length out.new)) }
+        ensures rest { IfOk result (λ n. drop n out.new ≡ drop n out.old) }
+        ensures refused { MatchOption (refusal (progress_in self.old) (length payload.now)) ⊤
+            (λ fault. (result ≡ Err fault) × (out.new ≡ out.old)) }
+        ensures going { IfOk result (λ _. is_over self.new ≡ false) }
+        ensures kept { IfErr result (λ fault. ends fault ≡ false → self.new ≡ self.old) }
+        ensures inner { IfErr result (λ fault. (failures : ℕ) → after_output failures (Err fault) ≡ failures) }
+        ensures ok { (v : EndView) → PhaseStands K.public_of K.agreement self.old v → IfOk result (λ n.
+            (next : EndView) × Sends v payload.now (Ok (take n out.new)) next
+            × PhaseStands K.public_of K.agreement self.new next × (next.held ≡ v.held)) }
+        ensures err { (v : EndView) → PhaseStands K.public_of K.agreement self.old v → IfErr result (λ fault.
+            Sends v payload.now (Err fault) (after_fault v fault)
+            × PhaseStands K.public_of K.agreement self.new (after_fault v fault)) }
+    {
+        let start = out.len().min(2);
+        let len = self.write(payload, &mut out[start..])?;
+        Ok(frame_message(out, len))
+    }
+
+    // Reads a message in place, in a phase that listens.
+    pub(crate) fn read(&mut self, message: &mut [u8]) -> Outcome
+        requires due { IsTrue (is_due self.old) }
+        requires listens { idle_step (progress_in self.old) ≡ None }
+        requires short { length message.old ≤ 65535 }
+        ensures due { IsTrue (is_due self.new) }
+        ensures place { StandsIn message.new result }
+        ensures judges { (v : EndView) → PhaseStands K.public_of K.agreement self.old v
+            → (next : EndView) × Judges v message.old (tells message.new result) next
+            × PhaseStands K.public_of K.agreement self.new next × (next.held ≡ []) }
+    {
+        match self {
+            Phase::Handshaking { handshake, .. } => match handshake.read_within(message) {
+                Ok((from, to)) => {
+                    self.settle();
+                    Outcome::Payload { from, to }
+                }
+                Err(ReadFault::Refused { token, cause }) => {
+                    self.end();
+                    Outcome::Refused { token, cause }
+                }
+                Err(_) => unreachable!(),
+            },
+            Phase::Open(transport) => match transport.open_within(message) {
+                Ok(to) => Outcome::Payload { from: 0, to },
+                Err(OpenFault::Short) => Outcome::Dropped(Cause::Short),
+                Err(OpenFault::Tag) => Outcome::Dropped(Cause::Tag),
+                Err(OpenFault::Exhausted) => {
+                    self.end();
+                    Outcome::Exhausted
+                }
+                Err(OpenFault::OneWay) => unreachable!(),
+            },
+            Phase::Ended { .. } => unreachable!(),
+        }
+    }
 }
 
 // The length of the message that a transport would seal now.
 fn packet_len(transport: &Transport, payload_len: usize) -> Option<usize>
     ensures { result ≡ length_unless (seal_fault transport.now payload_len) (payload_len + 16) }
 {
-    let unheard = transport.one_way() && transport.role() == Role::Responder;
-    if unheard || payload_len > PAYLOAD_MAX || transport.send_nonce() == u64::MAX {
+    let refused = writes_nothing(transport.one_way(), transport.role());
+    if refused || payload_len > PAYLOAD_MAX || transport.send_nonce() == LAST_NONCE {
         return None;
     }
     Some(payload_len + 16)

@@ -1,14 +1,15 @@
 //! The receiving half of a transport (Noise, 5.2 and 11.3).
 #![tactic(auto)]
 
-ghost use Rattle.std.specs.Prelude.{◌≡◌, ◌≢◌, ◌≤◌, ◌+◌, ℕ, List, [], length, take, drop, None, Err, IsSome, IfOk, IfErr, OnOk, OnErr};
-ghost use Rattle.std.specs.Prelude.{MatchOption, MatchResult};
+ghost use Rattle.std.specs.Prelude.{◌≡◌, ◌≤◌, ◌+◌, [], length, take, drop, None, Err, IsSome, IfOk, OnOk, OnErr};
+ghost use Rattle.std.specs.Prelude.{MatchResult};
 ghost use Rattle.noise_state.specs.Cipher.{key_in, nonce_in};
-ghost use Rattle.noise_state.specs.History.{ciphertext_under};
 ghost use Rattle.noise_session.specs.Halves.{receiver_fault};
-ghost use Rattle.noise_session.specs.HeldTransport.{TransportView, ReceiverStands, due_packet, renewed_key, no_packet};
+ghost use Rattle.noise_session.specs.HeldTransport.{TransportView, ReceiverStands, due_packet};
+ghost use Rattle.noise_session.specs.HalfCalls.{OpensUnless, IsMessage, IsNoMessage, IsNoPacket, IsCounted, IsRenewed, one_received};
 ghost use Rattle.noise_session.specs.Parts.{half_in};
 
+use crate::one_way::hears_nothing;
 use crate::parts::key_and_nonce;
 use crate::renewal::renew;
 use crate::{HalfParts, OpenFault};
@@ -18,8 +19,8 @@ use std::marker::Model;
 
 /// The receiving half of a transport: it opens the messages of the other party, as the whole transport does.
 ///
-/// `Transport::split` makes it, for a thread of its own. That of the initiator of a one-way session answers OneWay to every
-/// message. No call takes memory, and a fault changes nothing.
+/// `Transport::split` makes it, for a thread of its own. That of the initiator of a one-way session answers OneWay to
+/// every message. No call takes memory, and a fault changes nothing.
 #[derive(Drop)]
 pub struct Receiver {
     role: Role,
@@ -50,7 +51,13 @@ impl Receiver {
     // The half that opens with this cipher state.
     pub(crate) fn new(role: Role, one_way: bool, interval: u64, cipher: CipherState) -> Receiver
         requires { IsSome (key_in cipher) }
-        ensures { result ≡ record { role = role; one_way = one_way; interval = interval; key = key_in cipher; nonce = nonce_in cipher } }
+        ensures { result ≡ record {
+          role = role;
+          one_way = one_way;
+          interval = interval;
+          key = key_in cipher;
+          nonce = nonce_in cipher;
+        } }
     {
         Receiver {
             role,
@@ -74,7 +81,8 @@ impl Receiver {
         }
     }
 
-    /// The receiving half that holds these parts. Any parts make one: a key and a nonce don't show of which half they are.
+    /// The receiving half that holds these parts. Any parts make one: a key and a nonce don't show of which half they
+    /// are.
     pub fn from_parts(parts: HalfParts) -> Receiver
         ensures { result ≡ half_in parts }
     {
@@ -121,26 +129,25 @@ impl Receiver {
         self.cipher.set_nonce(nonce);
     }
 
-    /// Opens a message in place, and returns how many first bytes of it are then the payload. The 16 of the tag after them stay
-    /// as they are.
+    /// Opens a message in place, and returns how many first bytes of it are then the payload. The 16 of the tag after
+    /// them stay as they are.
     ///
     /// The message has at most 65535 bytes. At an `Err` its bytes are unchanged.
     pub fn open_within(&mut self, message: &mut [u8]) -> Result<usize, OpenFault>
         requires { length message.old ≤ 65535 }
-        ensures fault { MatchOption (receiver_fault self.old) (IfErr result (λ fault. fault ≡ no_packet (length message.old))) (λ fault. result ≡ Err fault) }
+        ensures fault { OpensUnless (receiver_fault self.old) message.old result }
         ensures len { IfOk result (λ n. n + 16 ≡ length message.new) }
         ensures beyond { IfOk result (λ n. drop n message.new ≡ drop n message.old) }
-        ensures counted { OnOk result (self.new ≡ record self.old { key = self.new.key; nonce = self.old.nonce + 1 }) }
+        ensures counted { OnOk result (IsCounted self.old self.new) }
         ensures unchanged { OnErr result ((self.new ≡ self.old) × (message.new ≡ message.old)) }
-        ensures opened { MatchResult result
-            (λ n. message.old ≡ ciphertext_under self.old.key self.old.nonce [] (take n message.new))
-            (λ _. receiver_fault self.old ≡ None → (payload : List ℕ) → message.old ≢ ciphertext_under self.old.key self.old.nonce [] payload) }
-        ensures renewed { OnOk result (self.new.key ≡ renewed_key self.old.interval (self.old.nonce + 1) self.old.key) }
+        ensures opened { MatchResult result (λ n. IsMessage self.old (take n message.new) message.old)
+            (λ _. IsNoMessage self.old message.old) }
+        ensures renewed { OnOk result (IsRenewed self.old self.new) }
         ensures opens { (v : TransportView) → ReceiverStands self.old v → MatchResult result
-            (λ n. (message.old ≡ due_packet v (take n message.new)) × ReceiverStands self.new (record v { received = v.received + 1 }))
-            (λ _. receiver_fault self.old ≡ None → (payload : List ℕ) → message.old ≢ due_packet v payload) }
+            (λ n. (message.old ≡ due_packet v (take n message.new)) × ReceiverStands self.new (one_received v))
+            (λ _. receiver_fault self.old ≡ None → IsNoPacket v message.old) }
     {
-        if self.one_way && self.role == Role::Initiator {
+        if hears_nothing(self.one_way, self.role) {
             return Err(OpenFault::OneWay);
         }
         match self.cipher.decrypt(&[], message) {
@@ -160,17 +167,17 @@ impl Receiver {
     /// The message has at most 65535 bytes. At an `Err` its bytes are unchanged.
     pub fn open<'a>(&mut self, message: &'a mut [u8]) -> Result<&'a mut [u8], OpenFault>
         requires { length message.old ≤ 65535 }
-        ensures fault { MatchOption (receiver_fault self.old) (IfErr result (λ fault. fault ≡ no_packet (length message.old))) (λ fault. result ≡ Err fault) }
-        ensures part { IfOk result (λ payload. (payload.ref_ptr ≡ message.entry.ref_ptr) × (length payload.now + 16 ≡ length message.old)) }
-        ensures counted { OnOk result (self.new ≡ record self.old { key = self.new.key; nonce = self.old.nonce + 1 }) }
+        ensures fault { OpensUnless (receiver_fault self.old) message.old result }
+        ensures part { IfOk result
+            (λ payload. (payload.ref_ptr ≡ message.entry.ref_ptr) × (length payload.now + 16 ≡ length message.old)) }
+        ensures counted { OnOk result (IsCounted self.old self.new) }
         ensures unchanged { OnErr result (self.new ≡ self.old) }
-        ensures opened { MatchResult result
-            (λ payload. message.old ≡ ciphertext_under self.old.key self.old.nonce [] payload.now)
-            (λ _. receiver_fault self.old ≡ None → (payload : List ℕ) → message.old ≢ ciphertext_under self.old.key self.old.nonce [] payload) }
-        ensures renewed { OnOk result (self.new.key ≡ renewed_key self.old.interval (self.old.nonce + 1) self.old.key) }
+        ensures opened { MatchResult result (λ payload. IsMessage self.old payload.now message.old)
+            (λ _. IsNoMessage self.old message.old) }
+        ensures renewed { OnOk result (IsRenewed self.old self.new) }
         ensures opens { (v : TransportView) → ReceiverStands self.old v → MatchResult result
-            (λ payload. (message.old ≡ due_packet v payload.now) × ReceiverStands self.new (record v { received = v.received + 1 }))
-            (λ _. receiver_fault self.old ≡ None → (payload : List ℕ) → message.old ≢ due_packet v payload) }
+            (λ payload. (message.old ≡ due_packet v payload.now) × ReceiverStands self.new (one_received v))
+            (λ _. receiver_fault self.old ≡ None → IsNoPacket v message.old) }
     {
         let len = self.open_within(message)?;
         Ok(&mut message[..len])

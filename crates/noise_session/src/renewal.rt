@@ -15,7 +15,8 @@ pub(crate) fn renew(cipher: &mut CipherState, interval: u64)
     ensures nonce { nonce_in cipher.new ≡ nonce_in cipher.old }
     ensures keyed { IsSome (key_in cipher.new) }
     ensures renewed { key_in cipher.new ≡ renewed_key interval (nonce_in cipher.old) (key_in cipher.old) }
-    ensures key { (first : List ℕ) (n : ℕ) → nonce_in cipher.old ≡ n + 1 → key_in cipher.old ≡ Some (rekeyed_times (renewals interval n) first)
+    ensures key { (first : List ℕ) (n : ℕ) → nonce_in cipher.old ≡ n + 1
+        → key_in cipher.old ≡ Some (rekeyed_times (renewals interval n) first)
         → key_in cipher.new ≡ Some (rekeyed_times (renewals interval (n + 1)) first) }
 {
     if interval != 0 && cipher.nonce() % interval == 0 {

@@ -1,16 +1,19 @@
 //! The sending half of a transport (Noise, 5.2 and 11.3).
 #![tactic(auto)]
 
-ghost use Rattle.std.specs.Prelude.{◌≡◌, ◌≤◌, ◌<◌, ◌+◌, [], length, take, drop, None, Err, IsOk, IsSome, IfOk, OnOk, OnErr, MatchOption};
+ghost use Rattle.std.specs.Prelude.{◌≡◌, ◌≤◌, ◌<◌, ◌+◌, [], length, take, drop, None, Err, IsSome, IfOk, OnOk, OnErr};
 ghost use Rattle.noise_state.specs.Cipher.{key_in, nonce_in};
 ghost use Rattle.noise_state.specs.History.{ciphertext_under};
 ghost use Rattle.noise_session.specs.Frames.{frame};
 ghost use Rattle.noise_session.specs.Halves.{sender_fault};
-ghost use Rattle.noise_session.specs.HeldTransport.{TransportView, SenderStands, next_packet, renewed_key};
+ghost use Rattle.noise_session.specs.HeldTransport.{TransportView, SenderStands, next_packet};
+ghost use Rattle.noise_session.specs.HalfCalls.{SucceedsUnless, IsMessage, IsCounted, IsRenewed, one_sent};
 ghost use Rattle.noise_session.specs.Parts.{half_in};
 ghost use Rattle.noise_session.specs.Transport.{last_nonce};
 
 use crate::framing::frame_message;
+use crate::limits::{LAST_NONCE, PAYLOAD_MAX};
+use crate::one_way::writes_nothing;
 use crate::parts::key_and_nonce;
 use crate::renewal::renew;
 use crate::{HalfParts, SendFault};
@@ -18,16 +21,10 @@ use noise_names::Role;
 use noise_state::CipherState;
 use std::marker::Model;
 
-// The longest payload in bytes: its message has 16 more, and at most 65535 (Noise, 3).
-const PAYLOAD_MAX: usize = 65519;
-
-// The nonce that no message has (Noise, 5.1).
-const LAST_NONCE: u64 = u64::MAX;
-
 /// The sending half of a transport: it seals this party's payloads, as the whole transport does.
 ///
-/// `Transport::split` makes it, for a thread of its own. That of the responder of a one-way session answers OneWay to every
-/// payload. No call takes memory, and a fault changes nothing.
+/// `Transport::split` makes it, for a thread of its own. That of the responder of a one-way session answers OneWay to
+/// every payload. No call takes memory, and a fault changes nothing.
 #[derive(Drop)]
 pub struct Sender {
     role: Role,
@@ -58,7 +55,13 @@ impl Sender {
     // The half that seals with this cipher state.
     pub(crate) fn new(role: Role, one_way: bool, interval: u64, cipher: CipherState) -> Sender
         requires { IsSome (key_in cipher) }
-        ensures { result ≡ record { role = role; one_way = one_way; interval = interval; key = key_in cipher; nonce = nonce_in cipher } }
+        ensures { result ≡ record {
+          role = role;
+          one_way = one_way;
+          interval = interval;
+          key = key_in cipher;
+          nonce = nonce_in cipher;
+        } }
     {
         Sender {
             role,
@@ -82,7 +85,8 @@ impl Sender {
         }
     }
 
-    /// The sending half that holds these parts. Any parts make one: a key and a nonce don't show of which half they are.
+    /// The sending half that holds these parts. Any parts make one: a key and a nonce don't show of which half they
+    /// are.
     ///
     /// A half that was taken apart is put together once: two of them would seal at the same nonce.
     pub fn from_parts(parts: HalfParts) -> Sender
@@ -142,7 +146,7 @@ impl Sender {
         ensures fault { result ≡ sender_fault self.now payload_len }
         ensures below { result ≡ None → self.now.nonce < last_nonce }
     {
-        if self.one_way && self.role == Role::Responder {
+        if writes_nothing(self.one_way, self.role) {
             return Some(SendFault::OneWay);
         }
         if payload_len > PAYLOAD_MAX {
@@ -156,20 +160,20 @@ impl Sender {
 
     /// Seals a payload into the first bytes of `out`, 16 more than it has, and returns how many.
     ///
-    /// `out` holds them where the payload has at most 65519 bytes. The faults are OneWay, TooLong and Exhausted, looked for
-    /// in this order.
+    /// `out` holds them where the payload has at most 65519 bytes. The faults are OneWay, TooLong and Exhausted, looked
+    /// for in this order.
     pub fn seal(&mut self, payload: &[u8], out: &mut [u8]) -> Result<usize, SendFault>
         requires { sender_fault self.old (length payload.now) ≡ None → length payload.now + 16 ≤ length out.old }
-        ensures fault { MatchOption (sender_fault self.old (length payload.now)) (IsOk result) (λ fault. result ≡ Err fault) }
+        ensures fault { SucceedsUnless (sender_fault self.old (length payload.now)) result }
         ensures below { OnOk result (self.old.nonce < last_nonce) }
         ensures len { IfOk result (λ n. (n ≡ length payload.now + 16) × (n ≤ length out.new)) }
         ensures rest { IfOk result (λ n. drop n out.new ≡ drop n out.old) }
-        ensures counted { OnOk result (self.new ≡ record self.old { key = self.new.key; nonce = self.old.nonce + 1 }) }
+        ensures counted { OnOk result (IsCounted self.old self.new) }
         ensures unchanged { OnErr result ((self.new ≡ self.old) × (out.new ≡ out.old)) }
-        ensures sealed { IfOk result (λ n. take n out.new ≡ ciphertext_under self.old.key self.old.nonce [] payload.now) }
-        ensures renewed { OnOk result (self.new.key ≡ renewed_key self.old.interval (self.old.nonce + 1) self.old.key) }
-        ensures seals { (v : TransportView) → SenderStands self.old v → IfOk result (λ n.
-            (take n out.new ≡ next_packet v payload.now) × SenderStands self.new (record v { sent = v.sent + 1 })) }
+        ensures sealed { IfOk result (λ n. IsMessage self.old payload.now (take n out.new)) }
+        ensures renewed { OnOk result (IsRenewed self.old self.new) }
+        ensures seals { (v : TransportView) → SenderStands self.old v → IfOk result
+            (λ n. (take n out.new ≡ next_packet v payload.now) × SenderStands self.new (one_sent v)) }
     {
         if let Some(fault) = self.refusal(payload.len()) {
             return Err(fault);
@@ -178,8 +182,8 @@ impl Sender {
         self.seal_in_place(out, payload.len())
     }
 
-    /// Seals the payload in the first `payload_len` bytes of `buffer` in place: the message is in the first bytes, 16 more, and
-    /// it tells how many.
+    /// Seals the payload in the first `payload_len` bytes of `buffer` in place: the message is in the first bytes, 16
+    /// more, and it tells how many.
     ///
     /// `buffer` holds them where the payload has at most 65519 bytes. The faults are those of `seal`.
     pub fn seal_in_place(
@@ -188,16 +192,17 @@ impl Sender {
         payload_len: usize,
     ) -> Result<usize, SendFault>
         requires { sender_fault self.old payload_len ≡ None → payload_len + 16 ≤ length buffer.old }
-        ensures fault { MatchOption (sender_fault self.old payload_len) (IsOk result) (λ fault. result ≡ Err fault) }
+        ensures fault { SucceedsUnless (sender_fault self.old payload_len) result }
         ensures below { OnOk result (self.old.nonce < last_nonce) }
         ensures len { IfOk result (λ n. (n ≡ payload_len + 16) × (n ≤ length buffer.new)) }
         ensures rest { IfOk result (λ n. drop n buffer.new ≡ drop n buffer.old) }
-        ensures counted { OnOk result (self.new ≡ record self.old { key = self.new.key; nonce = self.old.nonce + 1 }) }
+        ensures counted { OnOk result (IsCounted self.old self.new) }
         ensures unchanged { OnErr result ((self.new ≡ self.old) × (buffer.new ≡ buffer.old)) }
-        ensures sealed { IfOk result (λ n. take n buffer.new ≡ ciphertext_under self.old.key self.old.nonce [] (take payload_len buffer.old)) }
-        ensures renewed { OnOk result (self.new.key ≡ renewed_key self.old.interval (self.old.nonce + 1) self.old.key) }
-        ensures seals { (v : TransportView) → SenderStands self.old v → IfOk result (λ n.
-            (take n buffer.new ≡ next_packet v (take payload_len buffer.old)) × SenderStands self.new (record v { sent = v.sent + 1 })) }
+        ensures sealed { IfOk result (λ n. IsMessage self.old (take payload_len buffer.old) (take n buffer.new)) }
+        ensures renewed { OnOk result (IsRenewed self.old self.new) }
+        ensures seals { (v : TransportView) → SenderStands self.old v → IfOk result
+            (λ n. (take n buffer.new ≡ next_packet v (take payload_len buffer.old))
+            × SenderStands self.new (one_sent v)) }
     {
         if let Some(fault) = self.refusal(payload_len) {
             return Err(fault);
@@ -211,22 +216,23 @@ impl Sender {
         }
     }
 
-    /// Seals a payload as a frame into the first bytes of `out`, 18 more than it has: the message after its length in 2 big-endian
-    /// bytes (Noise, 3 and 13). Returns how many.
+    /// Seals a payload as a frame into the first bytes of `out`, 18 more than it has: the message after its length in 2
+    /// big-endian bytes (Noise, 3 and 13). Returns how many.
     ///
     /// `out` holds them where the payload has at most 65519 bytes. The faults are those of `seal`.
     pub fn seal_frame(&mut self, payload: &[u8], out: &mut [u8]) -> Result<usize, SendFault>
         requires { sender_fault self.old (length payload.now) ≡ None → length payload.now + 18 ≤ length out.old }
-        ensures fault { MatchOption (sender_fault self.old (length payload.now)) (IsOk result) (λ fault. result ≡ Err fault) }
+        ensures fault { SucceedsUnless (sender_fault self.old (length payload.now)) result }
         ensures below { OnOk result (self.old.nonce < last_nonce) }
         ensures len { IfOk result (λ n. (n ≡ length payload.now + 18) × (n ≤ length out.new)) }
         ensures rest { IfOk result (λ n. drop n out.new ≡ drop n out.old) }
-        ensures counted { OnOk result (self.new ≡ record self.old { key = self.new.key; nonce = self.old.nonce + 1 }) }
+        ensures counted { OnOk result (IsCounted self.old self.new) }
         ensures unchanged { OnErr result ((self.new ≡ self.old) × (out.new ≡ out.old)) }
-        ensures sealed { IfOk result (λ n. take n out.new ≡ frame (ciphertext_under self.old.key self.old.nonce [] payload.now)) }
-        ensures renewed { OnOk result (self.new.key ≡ renewed_key self.old.interval (self.old.nonce + 1) self.old.key) }
-        ensures seals { (v : TransportView) → SenderStands self.old v → IfOk result (λ n.
-            (take n out.new ≡ frame (next_packet v payload.now)) × SenderStands self.new (record v { sent = v.sent + 1 })) }
+        ensures sealed { IfOk result
+            (λ n. take n out.new ≡ frame (ciphertext_under self.old.key self.old.nonce [] payload.now)) }
+        ensures renewed { OnOk result (IsRenewed self.old self.new) }
+        ensures seals { (v : TransportView) → SenderStands self.old v → IfOk result
+            (λ n. (take n out.new ≡ frame (next_packet v payload.now)) × SenderStands self.new (one_sent v)) }
     {
         if let Some(fault) = self.refusal(payload.len()) {
             return Err(fault);

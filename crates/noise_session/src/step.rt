@@ -21,7 +21,7 @@ pub enum Step<'a> {
     /// A handshake frame was refused, at this token, counted from 0, or at the payload after the last. The session has
     /// ended; the bytes up to the frame's end were taken.
     Refused { token: u8, cause: Cause },
-    /// A transport frame came at nonce 2^64 - 1, which no message has. The session has ended; the bytes up to the frame's
-    /// end were taken.
+    /// A transport frame came at nonce 2^64 - 1, which no message has. The session has ended; the bytes up to the
+    /// frame's end were taken.
     Exhausted,
 }

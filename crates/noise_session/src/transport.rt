@@ -1,15 +1,15 @@
 //! Transport messages of one party (Noise, 5.2 and 11.3).
 #![tactic(auto)]
 
-ghost use Rattle.std.specs.Prelude.{◌≡◌, ◌≢◌, ◌≤◌, ◌+◌, ℕ, List, [], length, take, drop, Option, Some, None, IsSome, IsOk, IfOk, IfErr, OnOk, OnErr};
-ghost use Rattle.std.specs.Prelude.{MatchOption, MatchResult};
+ghost use Rattle.std.specs.Prelude.{◌≡◌, ◌≤◌, ◌+◌, length, take, drop, Option, Some, None, IsSome, IfOk, OnOk, OnErr};
+ghost use Rattle.std.specs.Prelude.{MatchResult};
 ghost use Rattle.noise_state.specs.Cipher.{key_in, nonce_in};
-ghost use Rattle.noise_state.specs.History.{ciphertext_under};
 ghost use Rattle.noise_handshake.specs.View.{View};
 ghost use Rattle.noise_handshake.specs.Opening.{Opens};
+ghost use Rattle.noise_session.specs.HalfCalls.{SucceedsUnless, OpensUnless, IsMessage, IsNoMessage, IsNoPacket, IsRenewed, IsSent, IsReceived, one_sent, one_received};
 ghost use Rattle.noise_session.specs.Parts.{transport_in};
 ghost use Rattle.noise_session.specs.HeldTransport.{TransportView, TransportStands, SenderStands, ReceiverStands, transport_of, next_packet, due_packet};
-ghost use Rattle.noise_session.specs.HeldTransport.{sending_half, receiving_half, seal_fault, open_fault, no_packet, renewed_key};
+ghost use Rattle.noise_session.specs.HeldTransport.{sending_half, receiving_half, seal_fault, open_fault};
 
 use crate::{OpenFault, Receiver, SendFault, Sender, TransportParts};
 use noise_handshake::Opened;
@@ -19,8 +19,8 @@ use std::marker::Model;
 
 /// The transport of one party: it seals this party's payloads and opens the messages of the other.
 ///
-/// In transport the key of a direction is renewed after each `interval` messages; 0 means never. Its nonces go on then. No
-/// call takes memory, and a fault changes nothing.
+/// In transport the key of a direction is renewed after each `interval` messages; 0 means never. Its nonces go on then.
+/// No call takes memory, and a fault changes nothing.
 #[derive(Drop)]
 pub struct Transport {
     hash: [u8; 32],
@@ -59,7 +59,8 @@ impl Transport {
     /// The transport after a handshake, at nonces 0.
     pub fn new(opened: Opened, interval: u64) -> Transport
         ensures parts { (result.role ≡ opened.role) × (result.one_way ≡ opened.one_way) × (result.hash ≡ opened.hash)
-            × (result.remote_static ≡ opened.remote_static) × (result.interval ≡ interval) × (result.send_nonce ≡ 0) × (result.receive_nonce ≡ 0) }
+            × (result.remote_static ≡ opened.remote_static) × (result.interval ≡ interval) × (result.send_nonce ≡ 0)
+            × (result.receive_nonce ≡ 0) }
         ensures stands { (v : View) → Opens opened v → TransportStands result (transport_of v interval) }
     {
         let role = opened.role();
@@ -101,8 +102,8 @@ impl Transport {
         }
     }
 
-    /// The transport that holds these parts: it stands for what the transport stood for that was taken apart. Any parts make one: a
-    /// key and a nonce don't show of which handshake they are.
+    /// The transport that holds these parts: it stands for what the transport stood for that was taken apart. Any parts
+    /// make one: a key and a nonce don't show of which handshake they are.
     ///
     /// A transport that was taken apart is put together once: two of them would seal at the same nonce.
     pub fn from_parts(parts: TransportParts) -> Transport
@@ -119,12 +120,13 @@ impl Transport {
         }
     }
 
-    /// The half that seals and the half that opens, as for two threads. Each does what this transport does in its direction; the
-    /// hash and the other party's static key are reported by the transport alone.
+    /// The half that seals and the half that opens, as for two threads. Each does what this transport does in its
+    /// direction; the hash and the other party's static key are reported by the transport alone.
     pub fn split(self) -> (Sender, Receiver)
         ensures sender { result.0 ≡ sending_half self }
         ensures receiver { result.1 ≡ receiving_half self }
-        ensures stands { (v : TransportView) → TransportStands self v → SenderStands result.0 v × ReceiverStands result.1 v }
+        ensures stands { (v : TransportView) → TransportStands self v → SenderStands result.0 v
+            × ReceiverStands result.1 v }
     {
         (self.sender, self.receiver)
     }
@@ -166,8 +168,10 @@ impl Transport {
 
     // The cipher states of this party's messages and of the other's.
     pub(crate) fn into_ciphers(self) -> (CipherState, CipherState)
-        ensures sending { (key_in result.0 ≡ self.send_key) × (nonce_in result.0 ≡ self.send_nonce) × IsSome (key_in result.0) }
-        ensures receiving { (key_in result.1 ≡ self.receive_key) × (nonce_in result.1 ≡ self.receive_nonce) × IsSome (key_in result.1) }
+        ensures sending { (key_in result.0 ≡ self.send_key) × (nonce_in result.0 ≡ self.send_nonce)
+            × IsSome (key_in result.0) }
+        ensures receiving { (key_in result.1 ≡ self.receive_key) × (nonce_in result.1 ≡ self.receive_nonce)
+            × IsSome (key_in result.1) }
     {
         (self.sender.into_cipher(), self.receiver.into_cipher())
     }
@@ -192,7 +196,8 @@ impl Transport {
     pub fn set_nonces(&mut self, send: u64, receive: u64)
         requires { self.old.interval ≡ 0 }
         ensures alone { self.new ≡ record self.old { send_nonce = send; receive_nonce = receive } }
-        ensures stands { (v : TransportView) → TransportStands self.old v → TransportStands self.new (record v { sent = send; received = receive }) }
+        ensures stands { (v : TransportView) → TransportStands self.old v
+            → TransportStands self.new (record v { sent = send; received = receive }) }
     {
         self.sender.set_nonce(send);
         self.receiver.set_nonce(receive);
@@ -200,25 +205,25 @@ impl Transport {
 
     /// Seals a payload into the first bytes of `out`, 16 more than it has, and returns how many.
     ///
-    /// `out` holds them where the payload has at most 65519 bytes. The faults are OneWay, TooLong and Exhausted, looked for
-    /// in this order.
+    /// `out` holds them where the payload has at most 65519 bytes. The faults are OneWay, TooLong and Exhausted, looked
+    /// for in this order.
     pub fn seal(&mut self, payload: &[u8], out: &mut [u8]) -> Result<usize, SendFault>
         requires { seal_fault self.old (length payload.now) ≡ None → length payload.now + 16 ≤ length out.old }
-        ensures fault { MatchOption (seal_fault self.old (length payload.now)) (IsOk result) (λ fault. result ≡ Err fault) }
+        ensures fault { SucceedsUnless (seal_fault self.old (length payload.now)) result }
         ensures len { IfOk result (λ n. (n ≡ length payload.now + 16) × (n ≤ length out.new)) }
         ensures rest { IfOk result (λ n. drop n out.new ≡ drop n out.old) }
-        ensures counted { OnOk result (self.new ≡ record self.old { send_key = self.new.send_key; send_nonce = self.old.send_nonce + 1 }) }
+        ensures counted { OnOk result (IsSent self.old self.new) }
         ensures unchanged { OnErr result ((self.new ≡ self.old) × (out.new ≡ out.old)) }
-        ensures sealed { IfOk result (λ n. take n out.new ≡ ciphertext_under self.old.send_key self.old.send_nonce [] payload.now) }
-        ensures renewed { OnOk result (self.new.send_key ≡ renewed_key self.old.interval (self.old.send_nonce + 1) self.old.send_key) }
-        ensures seals { (v : TransportView) → TransportStands self.old v → IfOk result (λ n.
-            (take n out.new ≡ next_packet v payload.now) × TransportStands self.new (record v { sent = v.sent + 1 })) }
+        ensures sealed { IfOk result (λ n. IsMessage (sending_half self.old) payload.now (take n out.new)) }
+        ensures renewed { OnOk result (IsRenewed (sending_half self.old) (sending_half self.new)) }
+        ensures seals { (v : TransportView) → TransportStands self.old v → IfOk result
+            (λ n. (take n out.new ≡ next_packet v payload.now) × TransportStands self.new (one_sent v)) }
     {
         self.sender.seal(payload, out)
     }
 
-    /// Seals the payload in the first `payload_len` bytes of `buffer` in place: the message is in the first bytes, 16 more, and
-    /// it tells how many.
+    /// Seals the payload in the first `payload_len` bytes of `buffer` in place: the message is in the first bytes, 16
+    /// more, and it tells how many.
     ///
     /// `buffer` holds them where the payload has at most 65519 bytes. The faults are those of `seal`.
     pub fn seal_in_place(
@@ -227,37 +232,38 @@ impl Transport {
         payload_len: usize,
     ) -> Result<usize, SendFault>
         requires { seal_fault self.old payload_len ≡ None → payload_len + 16 ≤ length buffer.old }
-        ensures fault { MatchOption (seal_fault self.old payload_len) (IsOk result) (λ fault. result ≡ Err fault) }
+        ensures fault { SucceedsUnless (seal_fault self.old payload_len) result }
         ensures len { IfOk result (λ n. (n ≡ payload_len + 16) × (n ≤ length buffer.new)) }
         ensures rest { IfOk result (λ n. drop n buffer.new ≡ drop n buffer.old) }
-        ensures counted { OnOk result (self.new ≡ record self.old { send_key = self.new.send_key; send_nonce = self.old.send_nonce + 1 }) }
+        ensures counted { OnOk result (IsSent self.old self.new) }
         ensures unchanged { OnErr result ((self.new ≡ self.old) × (buffer.new ≡ buffer.old)) }
-        ensures sealed { IfOk result (λ n. take n buffer.new ≡ ciphertext_under self.old.send_key self.old.send_nonce [] (take payload_len buffer.old)) }
-        ensures renewed { OnOk result (self.new.send_key ≡ renewed_key self.old.interval (self.old.send_nonce + 1) self.old.send_key) }
-        ensures seals { (v : TransportView) → TransportStands self.old v → IfOk result (λ n.
-            (take n buffer.new ≡ next_packet v (take payload_len buffer.old)) × TransportStands self.new (record v { sent = v.sent + 1 })) }
+        ensures sealed { IfOk result
+            (λ n. IsMessage (sending_half self.old) (take payload_len buffer.old) (take n buffer.new)) }
+        ensures renewed { OnOk result (IsRenewed (sending_half self.old) (sending_half self.new)) }
+        ensures seals { (v : TransportView) → TransportStands self.old v → IfOk result
+            (λ n. (take n buffer.new ≡ next_packet v (take payload_len buffer.old))
+            × TransportStands self.new (one_sent v)) }
     {
         self.sender.seal_in_place(buffer, payload_len)
     }
 
-    /// Opens a message in place, and returns how many first bytes of it are then the payload. The 16 of the tag after them stay
-    /// as they are.
+    /// Opens a message in place, and returns how many first bytes of it are then the payload. The 16 of the tag after
+    /// them stay as they are.
     ///
     /// The message has at most 65535 bytes. At an `Err` its bytes are unchanged.
     pub fn open_within(&mut self, message: &mut [u8]) -> Result<usize, OpenFault>
         requires { length message.old ≤ 65535 }
-        ensures fault { MatchOption (open_fault self.old) (IfErr result (λ fault. fault ≡ no_packet (length message.old))) (λ fault. result ≡ Err fault) }
+        ensures fault { OpensUnless (open_fault self.old) message.old result }
         ensures len { IfOk result (λ n. n + 16 ≡ length message.new) }
         ensures beyond { IfOk result (λ n. drop n message.new ≡ drop n message.old) }
-        ensures counted { OnOk result (self.new ≡ record self.old { receive_key = self.new.receive_key; receive_nonce = self.old.receive_nonce + 1 }) }
+        ensures counted { OnOk result (IsReceived self.old self.new) }
         ensures unchanged { OnErr result ((self.new ≡ self.old) × (message.new ≡ message.old)) }
-        ensures opened { MatchResult result
-            (λ n. message.old ≡ ciphertext_under self.old.receive_key self.old.receive_nonce [] (take n message.new))
-            (λ _. open_fault self.old ≡ None → (payload : List ℕ) → message.old ≢ ciphertext_under self.old.receive_key self.old.receive_nonce [] payload) }
-        ensures renewed { OnOk result (self.new.receive_key ≡ renewed_key self.old.interval (self.old.receive_nonce + 1) self.old.receive_key) }
+        ensures opened { MatchResult result (λ n. IsMessage (receiving_half self.old) (take n message.new) message.old)
+            (λ _. IsNoMessage (receiving_half self.old) message.old) }
+        ensures renewed { OnOk result (IsRenewed (receiving_half self.old) (receiving_half self.new)) }
         ensures opens { (v : TransportView) → TransportStands self.old v → MatchResult result
-            (λ n. (message.old ≡ due_packet v (take n message.new)) × TransportStands self.new (record v { received = v.received + 1 }))
-            (λ _. open_fault self.old ≡ None → (payload : List ℕ) → message.old ≢ due_packet v payload) }
+            (λ n. (message.old ≡ due_packet v (take n message.new)) × TransportStands self.new (one_received v))
+            (λ _. open_fault self.old ≡ None → IsNoPacket v message.old) }
     {
         self.receiver.open_within(message)
     }
@@ -267,17 +273,17 @@ impl Transport {
     /// The message has at most 65535 bytes. At an `Err` its bytes are unchanged.
     pub fn open<'a>(&mut self, message: &'a mut [u8]) -> Result<&'a mut [u8], OpenFault>
         requires { length message.old ≤ 65535 }
-        ensures fault { MatchOption (open_fault self.old) (IfErr result (λ fault. fault ≡ no_packet (length message.old))) (λ fault. result ≡ Err fault) }
-        ensures part { IfOk result (λ payload. (payload.ref_ptr ≡ message.entry.ref_ptr) × (length payload.now + 16 ≡ length message.old)) }
-        ensures counted { OnOk result (self.new ≡ record self.old { receive_key = self.new.receive_key; receive_nonce = self.old.receive_nonce + 1 }) }
+        ensures fault { OpensUnless (open_fault self.old) message.old result }
+        ensures part { IfOk result
+            (λ payload. (payload.ref_ptr ≡ message.entry.ref_ptr) × (length payload.now + 16 ≡ length message.old)) }
+        ensures counted { OnOk result (IsReceived self.old self.new) }
         ensures unchanged { OnErr result (self.new ≡ self.old) }
-        ensures opened { MatchResult result
-            (λ payload. message.old ≡ ciphertext_under self.old.receive_key self.old.receive_nonce [] payload.now)
-            (λ _. open_fault self.old ≡ None → (payload : List ℕ) → message.old ≢ ciphertext_under self.old.receive_key self.old.receive_nonce [] payload) }
-        ensures renewed { OnOk result (self.new.receive_key ≡ renewed_key self.old.interval (self.old.receive_nonce + 1) self.old.receive_key) }
+        ensures opened { MatchResult result (λ payload. IsMessage (receiving_half self.old) payload.now message.old)
+            (λ _. IsNoMessage (receiving_half self.old) message.old) }
+        ensures renewed { OnOk result (IsRenewed (receiving_half self.old) (receiving_half self.new)) }
         ensures opens { (v : TransportView) → TransportStands self.old v → MatchResult result
-            (λ payload. (message.old ≡ due_packet v payload.now) × TransportStands self.new (record v { received = v.received + 1 }))
-            (λ _. open_fault self.old ≡ None → (payload : List ℕ) → message.old ≢ due_packet v payload) }
+            (λ payload. (message.old ≡ due_packet v payload.now) × TransportStands self.new (one_received v))
+            (λ _. open_fault self.old ≡ None → IsNoPacket v message.old) }
     {
         let len = self.open_within(message)?;
         Ok(&mut message[..len])

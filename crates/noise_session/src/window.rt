@@ -9,20 +9,19 @@ ghost use Rattle.noise_session.specs.Transport.{last_nonce};
 ghost use Rattle.noise_session.specs.Windows.{words_of, is_among, is_old, window_fault, Recalls, ends_at_greatest, begun_words, is_ring};
 
 use crate::DatagramFault;
+use crate::limits::LAST_NONCE;
 use noise_events::Window;
 
 const WORD_BITS: u64 = 64;
-
-// The nonce that no message has (Noise, 5.1).
-const LAST_NONCE: u64 = u64::MAX;
 
 // The words of the widest window: a word more than the width takes.
 const MOST_WORDS: usize = 17;
 
 // The accepted nonces of a window: the greatest, 0 where there is none, and a bit for each of the others.
 //
-// A word has the bits of a block of 64 nonces, from a multiple of 64 on. There is a word more than the width takes: so the
-// blocks that the window touches have a word each, and a word is cleared as a whole when its turn for a block comes.
+// A word has the bits of a block of 64 nonces, from a multiple of 64 on. There is a word more than the width takes: so
+// the blocks that the window touches have a word each, and a word is cleared as a whole when its turn for a block
+// comes.
 #[derive(Drop)]
 pub(crate) struct Ring {
     window: Window,
@@ -101,7 +100,8 @@ impl Ring {
     // Why no datagram of this nonce is opened.
     pub(crate) fn refusal(&self, nonce: u64) -> Option<DatagramFault>
         ensures young { IfNone result (self.now.greatest < nonce + width_of self.now.window) }
-        ensures told { (accepted : List ℕ) → Recalls self.now accepted → result ≡ window_fault (width_of self.now.window) accepted nonce }
+        ensures told { (accepted : List ℕ) → Recalls self.now accepted
+            → result ≡ window_fault (width_of self.now.window) accepted nonce }
     {
         if self.is_old(nonce) {
             Some(DatagramFault::Old)
@@ -115,14 +115,16 @@ impl Ring {
     // Whether some accepted nonce is at least the width above this one.
     fn is_old(&self, nonce: u64) -> bool
         ensures young { result ≡ false → self.now.greatest < nonce + width_of self.now.window }
-        ensures told { (accepted : List ℕ) → Recalls self.now accepted → result ≡ is_old (width_of self.now.window) accepted nonce }
+        ensures told { (accepted : List ℕ) → Recalls self.now accepted
+            → result ≡ is_old (width_of self.now.window) accepted nonce }
     {
         self.greatest.saturating_sub(nonce) >= self.window.width()
     }
 
     // Whether this nonce was accepted, which isn't old.
     fn contains(&self, nonce: u64) -> bool
-        ensures { (accepted : List ℕ) → Recalls self.now accepted → is_old (width_of self.now.window) accepted nonce ≡ false
+        ensures { (accepted : List ℕ) → Recalls self.now accepted
+            → is_old (width_of self.now.window) accepted nonce ≡ false
             → result ≡ is_among accepted nonce }
     {
         let word = self.words[place(self.window, nonce / WORD_BITS)];
@@ -132,9 +134,11 @@ impl Ring {
     // Accepts this nonce, which isn't old.
     pub(crate) fn insert(&mut self, nonce: u64)
         ensures window { self.new.window ≡ self.old.window }
-        ensures more { (accepted : List ℕ) → Recalls self.old accepted → is_old (width_of self.old.window) accepted nonce ≡ false
+        ensures more { (accepted : List ℕ) → Recalls self.old accepted
+            → is_old (width_of self.old.window) accepted nonce ≡ false
             → Recalls self.new (nonce ∷ accepted) }
-        ensures ring { is_ring self.old ≡ true → self.old.greatest < nonce + width_of self.old.window → nonce < last_nonce → is_ring self.new ≡ true }
+        ensures ring { is_ring self.old ≡ true → self.old.greatest < nonce + width_of self.old.window
+            → nonce < last_nonce → is_ring self.new ≡ true }
     {
         let block = nonce / WORD_BITS;
         if nonce > self.greatest {
@@ -175,9 +179,12 @@ fn place(window: Window, block: u64) -> usize
 // Clears the words of the blocks after `top` up to `block`: each word once at most.
 fn clear(window: Window, words: &mut [u64; MOST_WORDS], top: u64, block: u64)
     requires { top ≤ block }
-    ensures fresh { (b : ℕ) → top < b → b ≤ block → block < b + words_of window → slice_index words.new (b % words_of window) ≡ 0 }
-    ensures kept { (b : ℕ) → b ≤ top → block < b + words_of window → slice_index words.new (b % words_of window) ≡ slice_index words.old (b % words_of window) }
-    ensures beyond { drop (min (words_of window) (block + 1)) words.new ≡ drop (min (words_of window) (block + 1)) words.old }
+    ensures fresh { (b : ℕ) → top < b → b ≤ block → block < b + words_of window
+        → slice_index words.new (b % words_of window) ≡ 0 }
+    ensures kept { (b : ℕ) → b ≤ top → block < b + words_of window
+        → slice_index words.new (b % words_of window) ≡ slice_index words.old (b % words_of window) }
+    ensures beyond { drop (min (words_of window) (block + 1)) words.new
+        ≡ drop (min (words_of window) (block + 1)) words.old }
 {
     let count = (block - top).min(words_of(window));
     for back in 0..count {

@@ -24,5 +24,6 @@ IsHandshake _ = ⊥
 -- The handshake holds what the view says, whether messages are to come or not.
 module _ {K : Type 0} (public_of : K → Own → Option (List ℕ)) (agreement : K → Own → List ℕ → Option (List ℕ)) where
   abbrev pub GoesOnAs : Phase K → EndView → Type 0
-  GoesOnAs (phase.Handshaking h interval) v = Stands public_of agreement h v.party × (interval ≡ v.interval) × (v.sent ≡ 0) × (v.received ≡ 0)
+  GoesOnAs (phase.Handshaking h interval) v = Stands public_of agreement h v.party × (interval ≡ v.interval)
+      × (v.sent ≡ 0) × (v.received ≡ 0)
   GoesOnAs _ v = ⊥

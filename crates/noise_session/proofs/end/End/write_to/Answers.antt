@@ -1,9 +1,9 @@
-use Rattle.std.proofs.Common.{◌≡◌, ◌≤◌, ◌<◌, ℕ, List, [], ◌++◌, length, take, Ok, Err, Result, sym, ◌∙◌, ap, subst, arith}
+use Rattle.std.proofs.Common.{◌≡◌, ◌≤◌, ◌<◌, ℕ, List, [], ◌++◌, length, take, Ok, Err, Result, refl, sym, ◌∙◌, ap, subst, arith}
 use Rattle.std.proofs.lemmas.List.{length-take-le, take-take, take-append-le}
 use Rattle.std.proofs.lemmas.Result.{err_from_is_err_and}
 use Rattle.std.specs.Io.KnownBytes.{Appends}
 use Rattle.noise_session.specs.declared.faults.SendFault.{SendFault}
-use Rattle.noise_session.specs.Ends.{EndStands, PhaseStands, closed}
+use Rattle.noise_session.specs.Ends.{EndStands, closed}
 use Rattle.noise_session.specs.Sending.{after_fault}
 use Rattle.noise_session.specs.Outputs.{Puts}
 use Rattle.noise_session.specs.Outputs.Puts.{whole, broken, refused}
@@ -66,12 +66,12 @@ returns-in-Err-clause-puts g c v s =
     let handed : take len c.deref.result.now ≡ frame =
     ap (take len) c.deref.ensures.value ∙ front-of c.send.new.out _ len c.self.inside.outgoing.len (omega arith) fits in
     let less : written < length frame = subst (λ (xs : List ℕ). written < length xs) handed c.in-Err.ensures.written.0 in
-    let over : PhaseStands g.K.Keys.public_of g.K.Keys.agreement c.end.new.self (closed w.0) =
-    subst (λ p. PhaseStands g.K.Keys.public_of g.K.Keys.agreement p (closed w.0)) (sym c.end.ensures)
-    (phase-over g.K.Keys.public_of g.K.Keys.agreement c.send.new.phase w.0 w.2.phase) in (
+    let over : EndStands g.K.Keys.public_of g.K.Keys.agreement _ (closed w.0) =
+    subst (λ e. EndStands g.K.Keys.public_of g.K.Keys.agreement e (closed w.0)) (sym c.end.ensures)
+    (record { phase = phase-over g.K.Keys.public_of g.K.Keys.agreement c.send.new.self.phase w.0 w.2.phase; held = refl }) in (
       take written frame,
       closed w.0,
       broken v w.0 c.args.payload.now frame written w.1 less,
       subst (Appends _ _) (ap (take written) handed) c.in-Err.ensures.written.1,
-      record { phase = over; held = c.clear.ensures.empty },
+      over,
     )

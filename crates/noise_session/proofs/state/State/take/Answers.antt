@@ -7,24 +7,24 @@ use Rattle.noise_session.specs.Taking.Takes.{idles, waits, judges}
 use Rattle.noise_session.specs.inner.Incoming.{bytes_of}
 use Rattle.noise_session.specs.inner.Outcomes.{tells}
 use Rattle.noise_session.proofs.Views.{phase-progress, phase-held}
-use Rattle.noise_session.proofs.taking.advance.Goals as goal
+use Rattle.noise_session.proofs.state.State.take.Goals as goal
 
 pub returns-in-Some-clause-takes : goal.returns-in-Some-clause-takes
 returns-in-Some-clause-takes g c v s =
-    let step = c.in-Some.ensures.step (drop 2 c.args.incoming.now.buffer.items) in (
+    let step = c.in-Some.ensures.step (drop 2 c.args.self.now.incoming.buffer.items) in (
       v,
-      idles v c.args.piece.now (tells (drop 2 c.args.incoming.now.buffer.items) c.in-Some.outcome)
-          (ap idle_step (sym (phase-progress g.K.Keys.public_of g.K.Keys.agreement c.args.phase.now v s.phase)) ∙ step),
+      idles v c.args.piece.now (tells (drop 2 c.args.self.now.incoming.buffer.items) c.in-Some.outcome)
+          (ap idle_step (sym (phase-progress g.K.Keys.public_of g.K.Keys.agreement c.args.self.now.phase v s.phase)) ∙ step),
       s,
     )
 
 pub returns-in-Some-clause-place : goal.returns-in-Some-clause-place
-returns-in-Some-clause-place g c = c.in-Some.ensures.place (drop 2 c.args.incoming.now.buffer.items)
+returns-in-Some-clause-place g c = c.in-Some.ensures.place (drop 2 c.args.self.now.incoming.buffer.items)
 
 pub returns-in-None-clause-takes : goal.returns-in-None-clause-takes
 returns-in-None-clause-takes g c v s =
-    let idle : idle_step (progress_in c.args.phase.now) ≡ None = search rules in
-    let none : idle_step (progress_of v) ≡ None = ap idle_step (sym (phase-progress g.K.Keys.public_of g.K.Keys.agreement c.args.phase.now v s.phase)) ∙ idle in
+    let idle : idle_step (progress_in c.args.self.now.phase) ≡ None = search rules in
+    let none : idle_step (progress_of v) ≡ None = ap idle_step (sym (phase-progress g.K.Keys.public_of g.K.Keys.agreement c.args.self.now.phase v s.phase)) ∙ idle in
     let piece = c.args.piece.now in
     let part = c.in-None.ensures.part in
     let bytes : bytes_of c.fill.new.self ≡ v.held ++ piece = part.0 ∙ ap (λ (xs : List ℕ). xs ++ piece) s.held in
@@ -32,13 +32,13 @@ returns-in-None-clause-takes g c v s =
     let next : EndView = record v { held = v.held ++ piece } in (
       next,
       waits v piece none partial,
-      record { phase = phase-held g.K.Keys.public_of g.K.Keys.agreement c.args.phase.now v (v.held ++ piece) s.phase; held = bytes },
+      record { phase = phase-held g.K.Keys.public_of g.K.Keys.agreement c.args.self.now.phase v (v.held ++ piece) s.phase; held = bytes },
     )
 
 pub returns-in-Some-fill-clause-takes : goal.returns-in-Some-fill-clause-takes
 returns-in-Some-fill-clause-takes g c v s =
-    let idle : idle_step (progress_in c.args.phase.now) ≡ None = search rules in
-    let none : idle_step (progress_of v) ≡ None = ap idle_step (sym (phase-progress g.K.Keys.public_of g.K.Keys.agreement c.args.phase.now v s.phase)) ∙ idle in
+    let idle : idle_step (progress_in c.args.self.now.phase) ≡ None = search rules in
+    let none : idle_step (progress_of v) ≡ None = ap idle_step (sym (phase-progress g.K.Keys.public_of g.K.Keys.agreement c.args.self.now.phase v s.phase)) ∙ idle in
     let piece = c.args.piece.now in
     let count = c.in-Some-fill.count in
     let whole = c.in-Some-fill.ensures.whole in

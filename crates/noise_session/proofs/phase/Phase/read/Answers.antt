@@ -7,7 +7,7 @@ use Rattle.noise_session.specs.Ends.{EndView, PhaseStands, HandshakeStands, Open
 use Rattle.noise_session.specs.Taking.Judges.{accepted, refused}
 use Rattle.noise_session.proofs.Views.{no-hash}
 use Rattle.noise_session.proofs.Judging.{opened-as, dropped-short, dropped-tag, exhausted-as, over-open}
-use Rattle.noise_session.proofs.reading.read_message.Goals as goal
+use Rattle.noise_session.proofs.phase.Phase.read.Goals as goal
 
 pub returns-in-Ok-clause-judges : goal.returns-in-Ok-clause-judges
 returns-in-Ok-clause-judges g c v s =

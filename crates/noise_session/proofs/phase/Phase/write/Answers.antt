@@ -13,7 +13,7 @@ use Rattle.noise_session.specs.Sending.Sends.{refuses, lacks_answer, sends_hands
 use Rattle.noise_session.proofs.Views.{no-hash, is-open, phase-progress}
 use Rattle.noise_session.proofs.Judging.{over-open}
 use Rattle.noise_session.proofs.Making.{ok-due, not-turn, too-long, lack-due, seal-due, seal-refused}
-use Rattle.noise_session.proofs.sending.write_message.Goals as goal
+use Rattle.noise_session.proofs.phase.Phase.write.Goals as goal
 
 pub returns-in-Ok-clause-ok : goal.returns-in-Ok-clause-ok
 returns-in-Ok-clause-ok g c v s =
@@ -84,7 +84,7 @@ pub returns-in-Ended-clause-err : goal.returns-in-Ended-clause-err
 returns-in-Ended-clause-err g c v s =
     let n = length c.args.payload.now in
     let why : refusal (progress_of v) n ≡ Some fault.Ended =
-    ap (λ (p : Progress). refusal p n) (sym (phase-progress g.K.Keys.public_of g.K.Keys.agreement c.args.phase.now v s))
+    ap (λ (p : Progress). refusal p n) (sym (phase-progress g.K.Keys.public_of g.K.Keys.agreement c.args.self.now v s))
     ∙ ap (λ (p : Phase g.row.K.Denot). refusal (progress_in p) n) c.in-Ended.is in
     (refuses v c.args.payload.now fault.Ended why, s)
 

@@ -12,23 +12,23 @@ use Rattle.noise_session.specs.Steps.{Told}
 use Rattle.noise_session.proofs.Streaming.{consumed_none}
 use Rattle.noise_session.proofs.Cutting.{idles-not, judged-not}
 use Rattle.noise_session.proofs.Views.{phase-progress, phase-held}
-use Rattle.noise_session.proofs.receiving.receive_from.Goals as goal
+use Rattle.noise_session.proofs.state.State.receive.Goals as goal
 
 pub returns-in-Some-clause-place : goal.returns-in-Some-clause-place
-returns-in-Some-clause-place g c = c.in-Some.ensures.place (drop 2 c.args.incoming.now.buffer.items)
+returns-in-Some-clause-place g c = c.in-Some.ensures.place (drop 2 c.args.self.now.incoming.buffer.items)
 
 pub returns-in-Some-clause-receives : goal.returns-in-Some-clause-receives
 returns-in-Some-clause-receives g c v s =
-    let step = tells (drop 2 c.args.incoming.now.buffer.items) c.in-Some.outcome in
+    let step = tells (drop 2 c.args.self.now.incoming.buffer.items) c.in-Some.outcome in
     let idle : idle_step (progress_of v) ≡ Some step =
-    ap idle_step (sym (phase-progress g.K.Keys.public_of g.K.Keys.agreement c.args.phase.now v s.phase))
-    ∙ c.in-Some.ensures.step (drop 2 c.args.incoming.now.buffer.items) in
+    ap idle_step (sym (phase-progress g.K.Keys.public_of g.K.Keys.agreement c.args.self.now.phase v s.phase))
+    ∙ c.in-Some.ensures.step (drop 2 c.args.self.now.incoming.buffer.items) in
     ([], v, takes v v [] step (λ same. idles-not (progress_of v) (idle ∙ ap (λ (t : Told). Some t) same)) (idles v [] step idle), consumed_none _, s)
 
 pub returns-in-Filled-clause-receives : goal.returns-in-Filled-clause-receives
 returns-in-Filled-clause-receives g c v s =
-    let idle : idle_step (progress_in c.args.phase.now) ≡ None = c.in_default.ensures.step in
-    let none : idle_step (progress_of v) ≡ None = ap idle_step (sym (phase-progress g.K.Keys.public_of g.K.Keys.agreement c.args.phase.now v s.phase)) ∙ idle in
+    let idle : idle_step (progress_in c.args.self.now.phase) ≡ None = c.in_default.ensures.step in
+    let none : idle_step (progress_of v) ≡ None = ap idle_step (sym (phase-progress g.K.Keys.public_of g.K.Keys.agreement c.args.self.now.phase v s.phase)) ∙ idle in
     let r = c.in-Filled.ensures.bytes in
     let piece = r.0 in
     let judged = c.judge.ensures.judges v s.phase in
@@ -48,8 +48,8 @@ returns-in-Filled-clause-receives g c v s =
 
 pub returns-in-Failed-clause-receives : goal.returns-in-Failed-clause-receives
 returns-in-Failed-clause-receives g c v s =
-    let idle : idle_step (progress_in c.args.phase.now) ≡ None = c.in_default.ensures.step in
-    let none : idle_step (progress_of v) ≡ None = ap idle_step (sym (phase-progress g.K.Keys.public_of g.K.Keys.agreement c.args.phase.now v s.phase)) ∙ idle in
+    let idle : idle_step (progress_in c.args.self.now.phase) ≡ None = c.in_default.ensures.step in
+    let none : idle_step (progress_of v) ≡ None = ap idle_step (sym (phase-progress g.K.Keys.public_of g.K.Keys.agreement c.args.self.now.phase v s.phase)) ∙ idle in
     let r = c.in-Failed.ensures.bytes in
     let bytes : bytes_of c.fill_from.new.self ≡ v.held ++ r.0 = r.2 ∙ ap (λ (xs : List ℕ). xs ++ r.0) s.held in
     let partial : IsPartial (v.held ++ r.0) = subst (λ (xs : List ℕ). IsPartial xs) bytes c.in-Failed.ensures.leaves in
@@ -58,15 +58,15 @@ returns-in-Failed-clause-receives g c v s =
       next,
       fails v r.0 none partial,
       r.1,
-      record { phase = phase-held g.K.Keys.public_of g.K.Keys.agreement c.args.phase.now v (v.held ++ r.0) s.phase; held = bytes },
+      record { phase = phase-held g.K.Keys.public_of g.K.Keys.agreement c.args.self.now.phase v (v.held ++ r.0) s.phase; held = bytes },
     )
 
 pub returns-then-held-eq0-clause-receives : goal.returns-then-held-eq0-clause-receives
 returns-then-held-eq0-clause-receives g c v s =
-    let idle : idle_step (progress_in c.args.phase.now) ≡ None = c.in_default.ensures.step in
-    let none : idle_step (progress_of v) ≡ None = ap idle_step (sym (phase-progress g.K.Keys.public_of g.K.Keys.agreement c.args.phase.now v s.phase)) ∙ idle in
+    let idle : idle_step (progress_in c.args.self.now.phase) ≡ None = c.in_default.ensures.step in
+    let none : idle_step (progress_of v) ≡ None = ap idle_step (sym (phase-progress g.K.Keys.public_of g.K.Keys.agreement c.args.self.now.phase v s.phase)) ∙ idle in
     let r = c.in-End.ensures.bytes in
-    let old = bytes_of c.args.incoming.now in
+    let old = bytes_of c.args.self.now.incoming in
     let count = c.held.ensures.count in
     let zero = c.if-held-eq0.true in
     let sum : length (bytes_of c.fill_from.new.self) ≡ length old + length r.0 = ap (λ (xs : List ℕ). length xs) r.2 ∙ length-append old r.0 in
@@ -77,8 +77,8 @@ returns-then-held-eq0-clause-receives g c v s =
 
 pub returns-else-held-eq0-clause-receives : goal.returns-else-held-eq0-clause-receives
 returns-else-held-eq0-clause-receives g c v s =
-    let idle : idle_step (progress_in c.args.phase.now) ≡ None = c.in_default.ensures.step in
-    let none : idle_step (progress_of v) ≡ None = ap idle_step (sym (phase-progress g.K.Keys.public_of g.K.Keys.agreement c.args.phase.now v s.phase)) ∙ idle in
+    let idle : idle_step (progress_in c.args.self.now.phase) ≡ None = c.in_default.ensures.step in
+    let none : idle_step (progress_of v) ≡ None = ap idle_step (sym (phase-progress g.K.Keys.public_of g.K.Keys.agreement c.args.self.now.phase v s.phase)) ∙ idle in
     let r = c.in-End.ensures.bytes in
     let count = c.held.ensures.count in
     let some = c.if-held-eq0.false in
@@ -91,5 +91,5 @@ returns-else-held-eq0-clause-receives g c v s =
       next,
       is_cut v r.0 none partial begun,
       r.1,
-      record { phase = phase-held g.K.Keys.public_of g.K.Keys.agreement c.args.phase.now v (v.held ++ r.0) s.phase; held = bytes },
+      record { phase = phase-held g.K.Keys.public_of g.K.Keys.agreement c.args.self.now.phase v (v.held ++ r.0) s.phase; held = bytes },
     )
