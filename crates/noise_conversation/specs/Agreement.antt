@@ -17,11 +17,15 @@ use Rattle.noise_conversation.specs.Payloads.{IsTold}
 use Rattle.noise_conversation.specs.Setup.{Starts}
 
 module _ {K : Type 0} (public_of : K → Own → Option (List ℕ)) (agreement : K → Own → List ℕ → Option (List ℕ)) where
-  -- The report tells what the run of the events makes of two new ends, and the ends left are those after it. Where both tell one hash, they have one
-  -- history, and what each accepted is the first of what the other wrote, up to a forged message; or two texts that they hashed collide.
-  pub record AgreeOverNetwork (p : Plan) (s : Starts) (interval : ℕ) (events : List Event) (duel : HeldDuel K K) (report : Report) : Type 0 where
-    pub reports : Reports public_of agreement public_of agreement (facing p s.initiator s.responder interval interval) events duel report
-    -- what the report tells of each role as written and accepted is what it wrote and accepted in the run, whatever the hashes are
+  -- The report tells what the run of the events makes of two new ends, and the ends left are those after it. Where both
+  -- tell one hash, they have one history, and what each accepted is the first of what the other wrote, up to a forged
+  -- message; or two texts that they hashed collide.
+  pub record AgreeOverNetwork (p : Plan) (s : Starts) (interval : ℕ) (events : List Event) (duel : HeldDuel K K)
+      (report : Report) : Type 0 where
+    pub reports : Reports public_of agreement public_of agreement
+        (facing p s.initiator s.responder interval interval) events duel report
+    -- what the report tells of each role as written and accepted is what it wrote and accepted in the run, whatever the
+    -- hashes are
     pub initiator : IsTold Initiator events (notes_of report.entries.items) reports.last.initiator
     pub responder : IsTold Responder events (notes_of report.entries.items) reports.last.responder
     -- the psks are the same, and the keys answer one another alike
@@ -32,7 +36,8 @@ module _ {K : Type 0} (public_of : K → Own → Option (List ℕ)) (agreement :
         → PayloadsAgree interval reports.last ⊎ HistoriesCollide reports.last
     -- the same of the report's own entries and frames, and of the keys that the ends left hold
     pub entries : (hash : List ℕ) → hash_in duel.initiator.phase ≡ Some hash → hash_in duel.responder.phase ≡ Some hash
-        → EntriesAgree p interval events (notes_of report.entries.items) (bytes_of report.initiator.items) (bytes_of report.responder.items) reports.last
+        → EntriesAgree p interval events (notes_of report.entries.items) (bytes_of report.initiator.items)
+        (bytes_of report.responder.items) reports.last
         ⊎ HistoriesCollide reports.last
     pub keys : (hash : List ℕ) → hash_in duel.initiator.phase ≡ Some hash → hash_in duel.responder.phase ≡ Some hash
         → KeysMeet events (notes_of report.entries.items) duel ⊎ HistoriesCollide reports.last
@@ -41,5 +46,6 @@ module _ {K : Type 0} (public_of : K → Own → Option (List ℕ)) (agreement :
 module _ {A B : Type 0} (public_a : A → Own → Option (List ℕ)) (agreement_a : A → Own → List ℕ → Option (List ℕ))
     (public_b : B → Own → Option (List ℕ)) (agreement_b : B → Own → List ℕ → Option (List ℕ)) where
   abbrev pub HashIsTold : Type 0
-  HashIsTold = (duel : HeldDuel A B) (d : Sides) (hash : List ℕ) → DuelStands public_a agreement_a public_b agreement_b duel d
+  HashIsTold = (duel : HeldDuel A B) (d : Sides) (hash : List ℕ)
+      → DuelStands public_a agreement_a public_b agreement_b duel d
       → hash_in duel.initiator.phase ≡ Some hash → hash_in duel.responder.phase ≡ Some hash → HaveOneHash d

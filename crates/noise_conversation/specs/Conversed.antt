@@ -1,4 +1,4 @@
--- What comes of lines that two ends of equal setup say to each other: each field is a clause of `converse`.
+-- What comes of lines that two ends of equal setup say to each other.
 use Rattle.std.specs.Prelude.{◌≡◌, ℕ, List, [], Option}
 use Rattle.noise_names.specs.declared.token.Role.{Role}
 use Rattle.noise_names.specs.declared.token.Role.TheVariants.{Initiator, Responder}
@@ -16,11 +16,15 @@ use Rattle.noise_conversation.specs.Setup.{AreAfter, Starts, hash_of_lines, tran
 module _ {K : Type 0} (public_of : K → Own → Option (List ℕ)) (agreement : K → Own → List ℕ → Option (List ℕ)) where
   pub record HaveConversed (p : Plan) (s : Starts) (prologue : List ℕ) (interval : ℕ) (lines : List (Role × List ℕ))
       (duel : HeldDuel K K) (report : Report) : Type 0 where
-    pub initiator_frames : bytes_of report.initiator.items ≡ frames_by Initiator (transcript_of p s prologue interval lines)
-    pub responder_frames : bytes_of report.responder.items ≡ frames_by Responder (transcript_of p s prologue interval lines)
+    pub initiator_frames : bytes_of report.initiator.items
+        ≡ frames_by Initiator (transcript_of p s prologue interval lines)
+    pub responder_frames : bytes_of report.responder.items
+        ≡ frames_by Responder (transcript_of p s prologue interval lines)
     pub payloads : notes_of report.entries.items ≡ notes_of_lines 0 0 lines
-    pub taken : ((role : Role) → untaken role (notes_of report.entries.items) ≡ 0) × (duel.initiator.held ≡ []) × (duel.responder.held ≡ [])
+    pub taken : ((role : Role) → untaken role (notes_of report.entries.items) ≡ 0)
+        × (duel.initiator.held ≡ []) × (duel.responder.held ≡ [])
     pub ends : AreAfter public_of agreement p s prologue interval lines duel
-    pub hash : (hash_in duel.initiator.phase ≡ hash_of_lines p s prologue lines) × (hash_in duel.responder.phase ≡ hash_of_lines p s prologue lines)
+    pub hash : (hash_in duel.initiator.phase ≡ hash_of_lines p s prologue lines)
+        × (hash_in duel.responder.phase ≡ hash_of_lines p s prologue lines)
     pub keys_there : receive_key_in duel.responder.phase ≡ send_key_in duel.initiator.phase
     pub keys_back : receive_key_in duel.initiator.phase ≡ send_key_in duel.responder.phase

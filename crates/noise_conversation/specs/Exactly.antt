@@ -14,7 +14,8 @@ use Rattle.noise_session.specs.Ends.{EndView, progress_of}
 use Rattle.noise_session.specs.Taking.{Judges}
 use Rattle.noise_session.specs.Exactly.{Encodes}
 
--- An open end that has a nonce left drops the message: it is one of no payload, and the cause is reported by its length, since a tag has 16 bytes (Noise 12.3).
+-- An open end that has a nonce left drops the message: it is one of no payload, and the cause is reported by its
+-- length, since a tag has 16 bytes (Noise 12.3).
 pub record IsDropped (v : EndView) (message : List ℕ) (cause : Cause) : Type 0 where
   pub opens : IsTrue (is_open (progress_of v))
   pub nonce : v.received ≢ last_nonce
@@ -34,11 +35,14 @@ pub record AllToldExactly (v : EndView) (message : List ℕ) (told : Told) : Typ
   pub exhausted : told ≡ Exhausted ↔ IsExhausted v
 
 abbrev pub ToldExactly : Type 0
-ToldExactly = (v next : EndView) (message : List ℕ) (told : Told) → Judges v message told next → AllToldExactly v message told
+ToldExactly = (v next : EndView) (message : List ℕ) (told : Told) → Judges v message told next
+    → AllToldExactly v message told
 
 -- What reading answers: a payload that the party accepts, or why it doesn't accept the message.
 abbrev pub Answers : View → List ℕ → Result (List ℕ) ReadFault → Type 0
-Answers v message answer = MatchResult answer (λ payload. (xs : List (List ℕ)) × Accepts v message xs payload) (λ fault. DoesNotRead v message fault)
+Answers v message answer =
+    MatchResult answer (λ payload. (xs : List (List ℕ)) × Accepts v message xs payload)
+    (λ fault. DoesNotRead v message fault)
 
 -- The answer of a party to which a message is due.
 pub record IsReadExactly (v : View) (message : List ℕ) (answer : Result (List ℕ) ReadFault) : Type 0 where
@@ -46,4 +50,5 @@ pub record IsReadExactly (v : View) (message : List ℕ) (answer : Result (List 
   pub refused : (token : ℕ) (cause : Cause) → answer ≡ Err (read.Refused token cause) ↔ Refuses v message token cause
 
 abbrev pub ReadExactly : Type 0
-ReadExactly = (v : View) (message : List ℕ) (answer : Result (List ℕ) ReadFault) → Listens v → Answers v message answer → IsReadExactly v message answer
+ReadExactly = (v : View) (message : List ℕ) (answer : Result (List ℕ) ReadFault) → Listens v → Answers v message answer
+    → IsReadExactly v message answer

@@ -8,8 +8,9 @@ use Rattle.noise_names.specs.Overhead.{overhead_of}
 use Rattle.noise_session.specs.Transport.{last_nonce}
 use Rattle.noise_duel.specs.Notes.{Note, Wrote, WriteFault, Judged, Left, Missing, Held}
 
--- Whether a role's payload of this length fits as line n, counted from 0: a handshake message has at most 65535 bytes and is written in turn; a transport
--- payload has at most 65519, in a one-way pattern it is the initiator's, and there is a nonce for it (Noise 3, 5.1, 7.4).
+-- Whether a role's payload of this length fits as line n, counted from 0: a handshake message has at most 65535 bytes
+-- and is written in turn; a transport payload has at most 65519, in a one-way pattern it is the initiator's, and there
+-- is a nonce for it (Noise 3, 5.1, 7.4).
 abbrev pub line_fits : Plan → ℕ → Role → ℕ → Bool
 line_fits p n role len =
     if nat_lt n (length p.messages)

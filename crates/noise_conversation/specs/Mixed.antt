@@ -11,7 +11,8 @@ pub record HasMixed (r : History) (name : List ℕ) (texts : List (List ℕ)) : 
   pub named : r.name ≡ name
   pub mixed : hashed r ≡ reverse texts
 
--- The first position at which the texts that two histories hashed clash, and the two texts there: they differ with one digest.
+-- The first position at which the texts that two histories hashed clash, and the two texts there: they differ with one
+-- digest.
 pub record IsHashClash (r s : History) (c : HashClash) : Type 0 where
   pub position : clash_position r s ≡ Some c.position
   pub at_left : slice_get (hash_texts r) c.position ≡ Some c.left.items

@@ -49,13 +49,16 @@ done_of (payload ∷ payloads) (is_done ∷ done) = (if is_done then payload ∷
 abbrev pub written_by : Role → List Event → List (Role × Note) → List (List ℕ)
 written_by role events notes = done_of (flat_map (payload_given role) events) (flat_map was_written (about role notes))
 
--- the payloads of the handshake messages that a role wrote, from message n on (Noise 5.3: the initiator writes first, then they take turns)
+-- the payloads of the handshake messages that a role wrote, from message n on (Noise 5.3: the initiator writes first,
+-- then they take turns)
 abbrev pub own_payloads : Role → ℕ → List HandshakeMessage → List (List ℕ)
 own_payloads role n [] = []
-own_payloads role n (p ∷ ps) = (if same_role (turn_from Initiator n) role then p.payload ∷ [] else []) ++ own_payloads role (n + 1) ps
+own_payloads role n (p ∷ ps) =
+    (if same_role (turn_from Initiator n) role then p.payload ∷ [] else []) ++ own_payloads role (n + 1) ps
 
--- A role wrote the payloads of its handshake messages and then of the transport messages that agreement takes as sent; it received those of the other
--- role's handshake messages and then of the transport messages that agreement takes as received.
+-- A role wrote the payloads of its handshake messages and then of the transport messages that agreement takes as sent;
+-- it received those of the other role's handshake messages and then of the transport messages that agreement takes as
+-- received.
 pub record IsTold (role : Role) (events : List Event) (notes : List (Role × Note)) (s : Side) : Type 0 where
   pub written : written_by role events notes ≡ own_payloads role 0 s.passed ++ contents s.sent
   pub told : told_to role notes ≡ own_payloads (other role) 0 s.passed ++ contents s.received

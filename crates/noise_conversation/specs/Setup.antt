@@ -55,11 +55,14 @@ history_of p s prologue lines = history_in (material_of s.initiator s.responder)
 
 -- the handshake hash (Noise 11.2), if there is a line for each handshake message
 abbrev pub hash_of_lines : Plan → Starts → List ℕ → List (Role × List ℕ) → Option (List ℕ)
-hash_of_lines p s prologue lines = if nat_le (length p.messages) (length lines) then Some (hash (history_of p s prologue lines)) else None
+hash_of_lines p s prologue lines =
+    if nat_le (length p.messages) (length lines) then Some (hash (history_of p s prologue lines)) else None
 
 module _ {K : Type 0} (public_of : K → Own → Option (List ℕ)) (agreement : K → Own → List ℕ → Option (List ℕ)) where
-  -- The two ends are those after the lines: they hold the pattern, the roles, the keys and the psks to come, the counts, the interval and the history.
-  pub record AreAfter (p : Plan) (s : Starts) (prologue : List ℕ) (interval : ℕ) (lines : List (Role × List ℕ)) (duel : HeldDuel K K) : Type 0 where
+  -- The two ends are those after the lines: they hold the pattern, the roles, the keys and the psks to come, the
+  -- counts, the interval and the history.
+  pub record AreAfter (p : Plan) (s : Starts) (prologue : List ℕ) (interval : ℕ) (lines : List (Role × List ℕ))
+      (duel : HeldDuel K K) : Type 0 where
     pub initiator : EndStands public_of agreement duel.initiator
         (end_after p Initiator s.initiator s.responder interval (history_of p s prologue lines) lines)
     pub responder : EndStands public_of agreement duel.responder
@@ -72,7 +75,9 @@ or_next (Some why) next = Some why
 
 -- what is wrong with the setup of two parties, the initiator's fault first
 abbrev pub first_fault : Plan → Start → Start → Option SetupFault
-first_fault p a b = or_next (setup_fault p Initiator a.own a.remote (length a.secrets)) (setup_fault p Responder b.own b.remote (length b.secrets))
+first_fault p a b =
+    or_next (setup_fault p Initiator a.own a.remote (length a.secrets))
+    (setup_fault p Responder b.own b.remote (length b.secrets))
 
 abbrev pub fault_of : Plan → Starts → Option SetupFault
 fault_of p s = first_fault p s.initiator s.responder
@@ -84,5 +89,8 @@ IsFault found Memory = ⊤
 
 -- Two parties with both key pairs each, whose DH is the xor of bytes, have an answer at each DH of every pattern.
 abbrev pub XorKeysAnswer : Type 0
-XorKeysAnswer = (p : Plan) (prologue : List ℕ) (psks : List (List ℕ)) (a b : XorKeys) → IsSome a.e → IsSome a.s → IsSome b.e → IsSome b.s
-    → HaveAnswers p (starts (λ keys own. key_of own keys.e keys.s) (λ keys own remote. xor_answer (key_of own keys.e keys.s) remote) p prologue psks a b)
+XorKeysAnswer = (p : Plan) (prologue : List ℕ) (psks : List (List ℕ)) (a b : XorKeys) → IsSome a.e → IsSome a.s
+    → IsSome b.e → IsSome b.s
+    → HaveAnswers p
+    (starts (λ keys own. key_of own keys.e keys.s)
+    (λ keys own remote. xor_answer (key_of own keys.e keys.s) remote) p prologue psks a b)

@@ -31,10 +31,11 @@ fn is_clash(left: &[u8], right: &[u8]) -> bool
     left != right && Sha256::digest(left) == Sha256::digest(right)
 }
 
-/// The first position, counted from 0, at which two lists have different texts with one SHA-256 digest. None where there is none.
+/// The first position, counted from 0, at which two lists have different texts with one SHA-256 digest. None where
+/// there is none.
 ///
-/// It is the position that `run_apart` speaks of, where the lists are those of the texts whose digests were the handshake hash of each party, the first one
-/// first (MixHash; Noise, 5.2).
+/// It is the position that `run_apart` speaks of, where the lists are those of the texts whose digests were the
+/// handshake hash of each party, the first one first (MixHash; Noise, 5.2).
 pub fn find_clash(left: &[Vec<u8>], right: &[Vec<u8>]) -> Option<usize>
     ensures { result ≡ first_clash 0 (bytes_of left.now) (bytes_of right.now) }
 {
@@ -47,11 +48,11 @@ pub fn find_clash(left: &[Vec<u8>], right: &[Vec<u8>]) -> Option<usize>
     None
 }
 
-/// Two parties of one protocol name mixed these texts into their hashes, each the first one first: the first two of the texts that they hashed so which
-/// differ with one SHA-256 digest. None where there are none.
+/// Two parties of one protocol name mixed these texts into their hashes, each the first one first: the first two of the
+/// texts that they hashed so which differ with one SHA-256 digest. None where there are none.
 ///
-/// What a party mixes is what MixHash, EncryptAndHash and DecryptAndHash add to `h`: the prologue, public keys and payloads as they travel; and of each psk
-/// the second output of HKDF, a secret (Noise, 5.2).
+/// What a party mixes is what MixHash, EncryptAndHash and DecryptAndHash add to `h`: the prologue, public keys and
+/// payloads as they travel; and of each psk the second output of HKDF, a secret (Noise, 5.2).
 pub fn find_mix_hash_clash(
     alloc: Global,
     name: &[u8],
@@ -74,9 +75,11 @@ pub fn find_mix_hash_clash(
     }
 }
 
-// The texts that a party of this protocol name hashes as it mixes these, the first one first: each is the hash before it and what is mixed.
+// The texts that a party of this protocol name hashes as it mixes these, the first one first: each is the hash before
+// it and what is mixed.
 fn texts_hashed(alloc: Global, name: &[u8], mixed: &[Vec<u8>]) -> Result<Vec<Vec<u8>>, AllocError>
-    ensures { (r : History) → HasMixed r name.now (bytes_of mixed.now) → IfOk result (λ texts. bytes_of texts.items ≡ hash_texts r) }
+    ensures { (r : History) → HasMixed r name.now (bytes_of mixed.now)
+        → IfOk result (λ texts. bytes_of texts.items ≡ hash_texts r) }
 {
     let mut state = SymmetricState::new(name);
     let mut texts = Vec::new(alloc);

@@ -2,7 +2,6 @@
 #![tactic(auto)]
 
 ghost use Rattle.std.specs.Prelude.{◌≡◌, ◌≤◌, ℕ, List, length, IfOk, MatchResult, Some, None};
-ghost use Rattle.noise_names.specs.declared.token.Role.TheVariants.{Initiator, Responder};
 ghost use Rattle.noise_names.specs.Limits.{IsPattern};
 ghost use Rattle.noise_names.specs.Validity.{IsValid};
 ghost use Rattle.noise_handshake.specs.Counterparts.{shown_before};
@@ -12,7 +11,7 @@ ghost use Rattle.noise_session.specs.Progress.{role_of};
 ghost use Rattle.noise_duel.specs.Conversation.{facing};
 ghost use Rattle.noise_duel.specs.HeldDuel.{DuelStands};
 ghost use Rattle.noise_duel.specs.SetUpAlike.{AreSetUpAlike, HasLongKeys};
-ghost use Rattle.noise_conversation.specs.Setup.{start_by, first_fault, IsFault};
+ghost use Rattle.noise_conversation.specs.Setup.{IsFault, fault_of, starts};
 
 use crate::ConversationFault;
 use noise_duel::Duel;
@@ -21,7 +20,8 @@ use noise_names::{Role, Token, ValidPattern};
 use noise_session::{End, end_is_told};
 use std::alloc::{AllocError, Global};
 
-// Both ends of this pattern, with equal prologue, psks and interval, each of which knows the keys of the other's pre-message.
+// Both ends of this pattern, with equal prologue, psks and interval, each of which knows the keys of the other's
+// pre-message.
 pub(crate) fn make_ends<K: Agreeing>(
     alloc: Global,
     pattern: ValidPattern,
@@ -32,15 +32,14 @@ pub(crate) fn make_ends<K: Agreeing>(
     interval: u64,
 ) -> Result<Duel<K, K>, ConversationFault>
     requires { length prologue.now ≤ 65535 }
-    ensures setup { let a = start_by K.public_of K.agreement pattern Initiator prologue.now psks.now initiator responder in
-        let b = start_by K.public_of K.agreement pattern Responder prologue.now psks.now responder initiator in
-        MatchResult result (λ _. first_fault pattern a b ≡ None) (λ fault. IsFault (first_fault pattern a b) fault) }
-    ensures stands { let a = start_by K.public_of K.agreement pattern Initiator prologue.now psks.now initiator responder in
-        let b = start_by K.public_of K.agreement pattern Responder prologue.now psks.now responder initiator in
-        IfOk result (λ duel. DuelStands K.public_of K.agreement K.public_of K.agreement duel (facing pattern a b interval interval)) }
-    ensures alike { let a = start_by K.public_of K.agreement pattern Initiator prologue.now psks.now initiator responder in
-        let b = start_by K.public_of K.agreement pattern Responder prologue.now psks.now responder initiator in
-        IfOk result (λ _. AreSetUpAlike pattern prologue.now a b × HasLongKeys a × HasLongKeys b × IsPattern pattern × IsValid pattern) }
+    ensures setup { let s = starts K.public_of K.agreement pattern prologue.now psks.now initiator responder in
+        MatchResult result (λ _. fault_of pattern s ≡ None) (λ fault. IsFault (fault_of pattern s) fault) }
+    ensures stands { let s = starts K.public_of K.agreement pattern prologue.now psks.now initiator responder in
+        IfOk result (λ duel. DuelStands K.public_of K.agreement K.public_of K.agreement duel
+        (facing pattern s.initiator s.responder interval interval)) }
+    ensures alike { let s = starts K.public_of K.agreement pattern prologue.now psks.now initiator responder in
+        IfOk result (λ _. AreSetUpAlike pattern prologue.now s.initiator s.responder
+        × HasLongKeys s.initiator × HasLongKeys s.responder × IsPattern pattern × IsValid pattern) }
 {
     let of_initiator = shown(&pattern, Role::Initiator, &initiator);
     let of_responder = shown(&pattern, Role::Responder, &responder);

@@ -16,8 +16,8 @@ const MESSAGE_MAX: usize = 65535;
 
 const PAYLOAD_MAX: usize = 65519;
 
-/// Whether lines, a role and a payload each, fit: the roles of the handshake's messages take turns, each message has at most 65535 bytes, in a
-/// one-way pattern the initiator alone writes what follows, and there is a nonce for each line.
+/// Whether lines, a role and a payload each, fit: the roles of the handshake's messages take turns, each message has at
+/// most 65535 bytes, in a one-way pattern the initiator alone writes what follows, and there is a nonce for each line.
 pub fn lines_fit(pattern: &ValidPattern, lines: &[(Role, Vec<u8>, Cuts)]) -> bool
     ensures { result ≡ lines_fit_from pattern.now 0 (lines_of lines.now) }
 {

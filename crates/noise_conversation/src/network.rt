@@ -15,14 +15,16 @@ use noise_names::ValidPattern;
 use noise_session::end_is_told;
 use std::alloc::Global;
 
-/// Two new ends of one pattern, with equal prologue, psks and interval and with keys that agree, and any events between them: frames get lost, come twice
-/// or in another order, or were written by nobody.
+/// Two new ends of one pattern, with equal prologue, psks and interval and with keys that agree, and any events between
+/// them: frames get lost, come twice or in another order, or were written by nobody.
 ///
-/// Where both ends then tell one hash, they had all of the conversation in common, and what each accepted is the first of what the other wrote, up to a
-/// forged message; or two texts that they hashed collide. So the payloads that the report tells of a role as accepted are the first of those that it tells
-/// of the other as written, or the number of a forged frame is named; and where all of them came, open ends have equal keys for the next message.
+/// Where both ends then tell one hash, they had all of the conversation in common, and what each accepted is the first
+/// of what the other wrote, up to a forged message; or two texts that they hashed collide. So the payloads that the
+/// report tells of a role as accepted are the first of those that it tells of the other as written, or the number of a
+/// forged frame is named; and where all of them came, open ends have equal keys for the next message.
 ///
-/// Whatever the hashes are, the payloads that the report tells of each role are those of the messages that it wrote and accepted.
+/// Whatever the hashes are, the payloads that the report tells of each role are those of the messages that it wrote and
+/// accepted.
 ///
 /// A setup with a fault, or lack of memory, is reported instead.
 pub fn run_events<K: Agreeing>(
@@ -36,7 +38,8 @@ pub fn run_events<K: Agreeing>(
     events: &[Event],
 ) -> Result<(Duel<K, K>, Report), ConversationFault>
     requires { length prologue.now ≤ 65535 }
-    ensures setup { let found = fault_of pattern (starts K.public_of K.agreement pattern prologue.now psks.now initiator responder) in
+    ensures setup { let found = fault_of pattern
+        (starts K.public_of K.agreement pattern prologue.now psks.now initiator responder) in
         MatchResult result (λ _. found ≡ None) (λ fault. IsFault found fault) }
     ensures agrees { let s = starts K.public_of K.agreement pattern prologue.now psks.now initiator responder in
         IfOk result (λ r. AgreeOverNetwork K.public_of K.agreement pattern s interval (events_of events.now) r.0 r.1) }

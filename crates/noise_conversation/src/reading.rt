@@ -11,8 +11,8 @@ use noise_handshake::{Handshake, Keys};
 
 /// Reads a message in place, of at most 65535 bytes, and returns whether it comes as this payload.
 ///
-/// Where the other party's message is due, that is so exactly if the party accepts the message as one of the payload. The handshake is left as
-/// `Handshake::read` leaves it.
+/// Where the other party's message is due, that is so exactly if the party accepts the message as one of the payload.
+/// The handshake is left as `Handshake::read` leaves it.
 pub fn reads_as<K: Keys>(handshake: &mut Handshake<K>, message: &mut [u8], payload: &[u8]) -> bool
     requires { length message.old ≤ 65535 }
     ensures exactly { (v : View) → Stands K.public_of K.agreement handshake.old v → Listens v
