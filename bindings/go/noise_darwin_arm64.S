@@ -4854,9 +4854,9 @@ Lnoise_BB10_140:
 	str	x3, [sp, #16]
 	mov	x20, x1
 Lnoise_loh18:
-	adrp	x2, lnoise__static.1@PAGE
+	adrp	x2, lnoise__static.2@PAGE
 Lnoise_loh19:
-	add	x2, x2, lnoise__static.1@PAGEOFF
+	add	x2, x2, lnoise__static.2@PAGEOFF
 	ldp	x1, x0, [sp, #48]
 	bl	"_core::slice::reads::slice+T::contains::<i8,31'core::cmp::numbers::U8PartialEq{}>"
 	cbz	w0, Lnoise_BB10_146
@@ -6951,9 +6951,9 @@ Lnoise_BB15_7:
 	cmp	w8, #1
 	b.ne	Lnoise_BB15_10
 Lnoise_loh66:
-	adrp	x2, lnoise__static.1@PAGE
+	adrp	x2, lnoise__static.2@PAGE
 Lnoise_loh67:
-	add	x2, x2, lnoise__static.1@PAGEOFF
+	add	x2, x2, lnoise__static.2@PAGEOFF
 	mov	x0, x21
 	mov	x1, x22
 	bl	"_core::slice::reads::slice+T::contains::<i8,31'core::cmp::numbers::U8PartialEq{}>"
@@ -9876,9 +9876,9 @@ Lnoise_BB24_10:
 	stp	q1, q2, [x22, #32]
 	ldur	q1, [x24, #94]
 Lnoise_loh92:
-	adrp	x8, lnoise__static.2@PAGE
+	adrp	x8, lnoise__static.1@PAGE
 Lnoise_loh93:
-	add	x8, x8, lnoise__static.2@PAGEOFF
+	add	x8, x8, lnoise__static.1@PAGEOFF
 	stp	q1, q0, [x22, #64]
 	str	x8, [sp, #2096]
 	str	xzr, [sp, #2104]
@@ -11784,57 +11784,51 @@ Lnoise_BB31_2:
 	stp	x20, x19, [sp, #32]
 	stp	x29, x30, [sp, #48]
 	add	x29, sp, #48
-	ldrb	w8, [x1, #1]
-	cmp	w8, #1
-	b.ne	Lnoise_BB32_3
-	ldrb	w9, [x1]
-	cmp	w9, #1
-	b.ne	Lnoise_BB32_3
-	mov	w8, #4
-	b	Lnoise_BB32_15
-Lnoise_BB32_3:
-	lsr	x9, x3, #4
-	cmp	x9, #4094
-	b.ls	Lnoise_BB32_5
-	mov	w8, #1
-	b	Lnoise_BB32_15
-Lnoise_BB32_5:
-	ldr	x9, [x1, #56]
-	cmn	x9, #1
-	b.eq	Lnoise_BB32_14
-	cbz	w8, Lnoise_BB32_8
 	ldrb	w8, [x1]
 	cmp	w8, #1
-	b.eq	Lnoise_BB32_34
-Lnoise_BB32_8:
+	b.ne	Lnoise_BB32_3
+	ldrb	w8, [x1, #1]
+	tbz	w8, #0, Lnoise_BB32_3
+	mov	w8, #4
+	b	Lnoise_BB32_13
+Lnoise_BB32_3:
+	lsr	x8, x3, #4
+	cmp	x8, #4094
+	b.ls	Lnoise_BB32_5
+	mov	w8, #1
+	b	Lnoise_BB32_13
+Lnoise_BB32_5:
+	ldr	x8, [x1, #56]
+	cmn	x8, #1
+	b.eq	Lnoise_BB32_12
 	add	x8, x4, #2
 	sub	x8, x8, x2
 	cmp	x8, x3
 	mov	x19, x3
-	b.hs	Lnoise_BB32_16
+	b.hs	Lnoise_BB32_14
 	cmp	x3, #7
-	b.ls	Lnoise_BB32_11
+	b.ls	Lnoise_BB32_9
 	sub	x8, x4, x2
 	add	x8, x8, #2
 	cmp	x8, #32
-	b.hs	Lnoise_BB32_25
-Lnoise_BB32_11:
+	b.hs	Lnoise_BB32_23
+Lnoise_BB32_9:
 	mov	x20, x0
 	mov	x8, #0
-Lnoise_BB32_12:
+Lnoise_BB32_10:
 	sub	x9, x3, x8
 	add	x10, x2, x8
 	add	x8, x8, x4
 	add	x8, x8, #2
-Lnoise_BB32_13:
+Lnoise_BB32_11:
 	ldrb	w11, [x10], #1
 	strb	w11, [x8], #1
 	subs	x9, x9, #1
-	b.ne	Lnoise_BB32_13
-	b	Lnoise_BB32_17
-Lnoise_BB32_14:
+	b.ne	Lnoise_BB32_11
+	b	Lnoise_BB32_15
+Lnoise_BB32_12:
 	mov	w8, #5
-Lnoise_BB32_15:
+Lnoise_BB32_13:
 	mov	w9, #1
 	stp	x9, x8, [x0]
 	str	xzr, [x0, #16]
@@ -11843,7 +11837,7 @@ Lnoise_BB32_15:
 	ldp	x22, x21, [sp, #16]
 	add	sp, sp, #64
 	ret
-Lnoise_BB32_16:
+Lnoise_BB32_14:
 	mov	x20, x0
 	add	x0, x4, #2
 	mov	x21, x1
@@ -11853,22 +11847,21 @@ Lnoise_BB32_16:
 	bl	_memmove
 	mov	x1, x21
 	mov	x4, x22
-Lnoise_BB32_17:
+Lnoise_BB32_15:
 	stp	xzr, xzr, [sp]
-	ldrb	w8, [x1, #1]
-	cmp	w8, #1
-	b.ne	Lnoise_BB32_19
 	ldrb	w8, [x1]
 	cmp	w8, #1
-	b.eq	Lnoise_BB32_34
-Lnoise_BB32_19:
+	b.ne	Lnoise_BB32_17
+	ldrb	w8, [x1, #1]
+	tbnz	w8, #0, Lnoise_BB32_32
+Lnoise_BB32_17:
 	ldr	x8, [x1, #56]
 	cmn	x8, #1
-	b.eq	Lnoise_BB32_34
+	b.eq	Lnoise_BB32_32
 Lnoise_loh116:
-	adrp	x2, lnoise__static.2@PAGE
+	adrp	x2, lnoise__static.1@PAGE
 Lnoise_loh117:
-	add	x2, x2, lnoise__static.2@PAGEOFF
+	add	x2, x2, lnoise__static.1@PAGEOFF
 	mov	x0, sp
 	mov	x22, x1
 	add	x1, x1, #16
@@ -11878,17 +11871,17 @@ Lnoise_loh117:
 	mov	x5, x19
 	bl	"_noise_state::cipher::CipherState::encrypt"
 	ldrb	w8, [sp]
-	cbnz	w8, Lnoise_BB32_34
+	cbnz	w8, Lnoise_BB32_32
 	ldr	x19, [sp, #8]
 	ldr	x8, [x22, #8]
-	cbz	x8, Lnoise_BB32_24
+	cbz	x8, Lnoise_BB32_22
 	ldr	x9, [x22, #56]
 	udiv	x10, x9, x8
 	msub	x8, x10, x8, x9
-	cbnz	x8, Lnoise_BB32_24
+	cbnz	x8, Lnoise_BB32_22
 	add	x0, x22, #16
 	bl	"_noise_state::cipher::CipherState::rekey"
-Lnoise_BB32_24:
+Lnoise_BB32_22:
 	rev	w8, w19
 	lsr	w8, w8, #16
 	strh	w8, [x21]
@@ -11900,45 +11893,45 @@ Lnoise_BB32_24:
 	ldp	x22, x21, [sp, #16]
 	add	sp, sp, #64
 	ret
-Lnoise_BB32_25:
+Lnoise_BB32_23:
 	cmp	x3, #32
-	b.hs	Lnoise_BB32_27
+	b.hs	Lnoise_BB32_25
 	mov	x20, x0
 	mov	x8, #0
-	b	Lnoise_BB32_31
-Lnoise_BB32_27:
+	b	Lnoise_BB32_29
+Lnoise_BB32_25:
 	and	x9, x3, #0x18
 	and	x8, x3, #0xffe0
 	add	x10, x2, #16
 	add	x11, x4, #18
 	and	x12, x3, #0xffe0
-Lnoise_BB32_28:
+Lnoise_BB32_26:
 	ldp	q0, q1, [x10, #-16]
 	stp	q0, q1, [x11, #-16]
 	add	x10, x10, #32
 	add	x11, x11, #32
 	subs	x12, x12, #32
-	b.ne	Lnoise_BB32_28
+	b.ne	Lnoise_BB32_26
 	mov	x20, x0
 	cmp	x3, x8
-	b.eq	Lnoise_BB32_17
-	cbz	x9, Lnoise_BB32_12
-Lnoise_BB32_31:
+	b.eq	Lnoise_BB32_15
+	cbz	x9, Lnoise_BB32_10
+Lnoise_BB32_29:
 	mov	x11, x8
 	and	x8, x3, #0xfff8
 	sub	x9, x11, x8
 	add	x10, x2, x11
 	add	x11, x11, x4
 	add	x11, x11, #2
-Lnoise_BB32_32:
+Lnoise_BB32_30:
 	ldr	d0, [x10], #8
 	str	d0, [x11], #8
 	adds	x9, x9, #8
-	b.ne	Lnoise_BB32_32
+	b.ne	Lnoise_BB32_30
 	cmp	x3, x8
-	b.ne	Lnoise_BB32_12
-	b	Lnoise_BB32_17
-Lnoise_BB32_34:
+	b.ne	Lnoise_BB32_10
+	b	Lnoise_BB32_15
+Lnoise_BB32_32:
 	brk	#0x1
 	.loh AdrpAdd	Lnoise_loh116, Lnoise_loh117
 
@@ -13434,9 +13427,9 @@ Lnoise_BB57_10:
 	mov	x22, x0
 	mov	x20, sp
 Lnoise_loh140:
-	adrp	x2, lnoise__static.2@PAGE
+	adrp	x2, lnoise__static.1@PAGE
 Lnoise_loh141:
-	add	x2, x2, lnoise__static.2@PAGEOFF
+	add	x2, x2, lnoise__static.1@PAGEOFF
 	add	x0, sp, #64
 	mov	x9, x1
 	add	x1, x20, #16
@@ -13673,9 +13666,9 @@ Lnoise_BB59_22:
 	str	x8, [x24]
 	stp	xzr, xzr, [sp, #64]
 Lnoise_loh142:
-	adrp	x8, lnoise__static.2@PAGE
+	adrp	x8, lnoise__static.1@PAGE
 Lnoise_loh143:
-	add	x8, x8, lnoise__static.2@PAGEOFF
+	add	x8, x8, lnoise__static.1@PAGEOFF
 	add	x0, sp, #64
 	add	x1, x22, #8
 	mov	x5, x2
@@ -13855,9 +13848,9 @@ Lnoise_BB60_14:
 	add	x20, sp, #8
 	stp	xzr, xzr, [x29, #-48]
 Lnoise_loh144:
-	adrp	x2, lnoise__static.2@PAGE
+	adrp	x2, lnoise__static.1@PAGE
 Lnoise_loh145:
-	add	x2, x2, lnoise__static.2@PAGEOFF
+	add	x2, x2, lnoise__static.1@PAGEOFF
 	sub	x0, x29, #48
 	add	x1, x20, #8
 	mov	x3, #0
@@ -14026,9 +14019,9 @@ Lnoise_BB61_21:
 Lnoise_BB61_22:
 	stp	xzr, xzr, [sp, #64]
 Lnoise_loh146:
-	adrp	x8, lnoise__static.2@PAGE
+	adrp	x8, lnoise__static.1@PAGE
 Lnoise_loh147:
-	add	x8, x8, lnoise__static.2@PAGEOFF
+	add	x8, x8, lnoise__static.1@PAGEOFF
 	add	x0, sp, #64
 	add	x1, x22, #16
 	mov	x5, x2
@@ -14198,9 +14191,9 @@ Lnoise_BB62_13:
 	mov	x22, x0
 	mov	x20, sp
 Lnoise_loh148:
-	adrp	x2, lnoise__static.2@PAGE
+	adrp	x2, lnoise__static.1@PAGE
 Lnoise_loh149:
-	add	x2, x2, lnoise__static.2@PAGEOFF
+	add	x2, x2, lnoise__static.1@PAGEOFF
 	add	x0, sp, #64
 	mov	x8, x1
 	add	x1, x20, #16
@@ -16419,9 +16412,9 @@ Lnoise_BB74_20:
 	mov	x23, x3
 	mov	x22, x0
 Lnoise_loh162:
-	adrp	x2, lnoise__static.2@PAGE
+	adrp	x2, lnoise__static.1@PAGE
 Lnoise_loh163:
-	add	x2, x2, lnoise__static.2@PAGEOFF
+	add	x2, x2, lnoise__static.1@PAGEOFF
 	sub	x0, x29, #64
 	add	x1, x20, #16
 	add	x4, x8, #2
@@ -16636,9 +16629,9 @@ Lnoise_BB75_16:
 	mov	x21, x3
 	mov	x20, x0
 Lnoise_loh164:
-	adrp	x2, lnoise__static.2@PAGE
+	adrp	x2, lnoise__static.1@PAGE
 Lnoise_loh165:
-	add	x2, x2, lnoise__static.2@PAGEOFF
+	add	x2, x2, lnoise__static.1@PAGEOFF
 	sub	x0, x29, #56
 	mov	x8, x1
 	mov	x1, sp
@@ -18192,9 +18185,9 @@ Lnoise_BB79_27:
 	str	x21, [sp, #56]
 	sub	x5, x2, #8
 Lnoise_loh182:
-	adrp	x2, lnoise__static.2@PAGE
+	adrp	x2, lnoise__static.1@PAGE
 Lnoise_loh183:
-	add	x2, x2, lnoise__static.2@PAGEOFF
+	add	x2, x2, lnoise__static.1@PAGEOFF
 	add	x0, sp, #216
 	add	x1, x20, #8
 	add	x4, x10, #8
@@ -19133,14 +19126,14 @@ Lnoise_BB81_64:
 lnoise__static.0:
 	.space	15
 
-	.section	__TEXT,__cstring,cstring_literals
 lnoise__static.1:
+	.byte	0
+
+	.section	__TEXT,__cstring,cstring_literals
+lnoise__static.2:
 	.space	1
 
 	.section	__TEXT,__const
-lnoise__static.2:
-	.byte	0
-
 lnoise__static.7:
 	.ascii	"psk"
 

@@ -4840,8 +4840,8 @@
 	mov	x20, x1
 	ldp	x0, x1, [sp, #56]
 	str	w2, [sp, #24]
-	adrp	x2, .Lnoise_static.1
-	add	x2, x2, :lo12:.Lnoise_static.1
+	adrp	x2, .Lnoise_static.2
+	add	x2, x2, :lo12:.Lnoise_static.2
 	bl	"core::slice::reads::slice+T::contains::<i8,31'core::cmp::numbers::U8PartialEq{}>"
 	cbz	w0, .Lnoise_BB10_145
 	ldr	x0, [sp, #48]
@@ -6815,8 +6815,8 @@
 	cmp	w8, #1
 	stp	xzr, xzr, [x29, #-40]
 	b.ne	.Lnoise_BB15_10
-	adrp	x2, .Lnoise_static.1
-	add	x2, x2, :lo12:.Lnoise_static.1
+	adrp	x2, .Lnoise_static.2
+	add	x2, x2, :lo12:.Lnoise_static.2
 	mov	x0, x21
 	mov	x1, x22
 	bl	"core::slice::reads::slice+T::contains::<i8,31'core::cmp::numbers::U8PartialEq{}>"
@@ -9735,8 +9735,8 @@
 .Lnoise_BB24_10:
 	ldur	q0, [x23, #126]
 	ldur	q1, [x23, #142]
-	adrp	x8, .Lnoise_static.2
-	add	x8, x8, :lo12:.Lnoise_static.2
+	adrp	x8, .Lnoise_static.1
+	add	x8, x8, :lo12:.Lnoise_static.1
 	ldur	q2, [x23, #158]
 	str	w0, [sp, #12]
 	stp	q0, q1, [x22, #96]
@@ -11630,61 +11630,55 @@
 	.type	"noise_session::sender::Sender::seal_frame",@function
 "noise_session::sender::Sender::seal_frame":
 	sub	sp, sp, #64
-	ldrb	w8, [x1, #1]
+	ldrb	w8, [x1]
 	stp	x29, x30, [sp, #16]
 	add	x29, sp, #16
 	stp	x22, x21, [sp, #32]
 	cmp	w8, #1
 	stp	x20, x19, [sp, #48]
 	b.ne	.Lnoise_BB32_3
-	ldrb	w9, [x1]
-	cmp	w9, #1
-	b.ne	.Lnoise_BB32_3
+	ldrb	w8, [x1, #1]
+	tbz	w8, #0, .Lnoise_BB32_3
 	mov	w8, #4
-	b	.Lnoise_BB32_15
+	b	.Lnoise_BB32_13
 .Lnoise_BB32_3:
-	lsr	x9, x3, #4
-	cmp	x9, #4094
+	lsr	x8, x3, #4
+	cmp	x8, #4094
 	b.ls	.Lnoise_BB32_5
 	mov	w8, #1
-	b	.Lnoise_BB32_15
+	b	.Lnoise_BB32_13
 .Lnoise_BB32_5:
-	ldr	x9, [x1, #56]
-	cmn	x9, #1
-	b.eq	.Lnoise_BB32_14
-	cbz	w8, .Lnoise_BB32_8
-	ldrb	w8, [x1]
-	cmp	w8, #1
-	b.eq	.Lnoise_BB32_34
-.Lnoise_BB32_8:
+	ldr	x8, [x1, #56]
+	cmn	x8, #1
+	b.eq	.Lnoise_BB32_12
 	add	x8, x4, #2
 	mov	x19, x3
 	sub	x8, x8, x2
 	cmp	x8, x3
-	b.hs	.Lnoise_BB32_16
+	b.hs	.Lnoise_BB32_14
 	cmp	x3, #8
-	b.lo	.Lnoise_BB32_11
+	b.lo	.Lnoise_BB32_9
 	sub	x8, x4, x2
 	add	x8, x8, #2
 	cmp	x8, #32
-	b.hs	.Lnoise_BB32_25
-.Lnoise_BB32_11:
+	b.hs	.Lnoise_BB32_23
+.Lnoise_BB32_9:
 	mov	x20, x0
 	mov	x8, xzr
-.Lnoise_BB32_12:
+.Lnoise_BB32_10:
 	add	x10, x8, x4
 	sub	x9, x3, x8
 	add	x8, x2, x8
 	add	x10, x10, #2
-.Lnoise_BB32_13:
+.Lnoise_BB32_11:
 	ldrb	w11, [x8], #1
 	subs	x9, x9, #1
 	strb	w11, [x10], #1
-	b.ne	.Lnoise_BB32_13
-	b	.Lnoise_BB32_17
-.Lnoise_BB32_14:
+	b.ne	.Lnoise_BB32_11
+	b	.Lnoise_BB32_15
+.Lnoise_BB32_12:
 	mov	w8, #5
-.Lnoise_BB32_15:
+.Lnoise_BB32_13:
 	mov	w9, #1
 	str	xzr, [x0, #16]
 	stp	x9, x8, [x0]
@@ -11693,7 +11687,7 @@
 	ldp	x29, x30, [sp, #16]
 	add	sp, sp, #64
 	ret
-.Lnoise_BB32_16:
+.Lnoise_BB32_14:
 	mov	x20, x0
 	add	x0, x4, #2
 	mov	x21, x1
@@ -11703,20 +11697,19 @@
 	bl	memmove
 	mov	x1, x21
 	mov	x4, x22
-.Lnoise_BB32_17:
-	ldrb	w8, [x1, #1]
+.Lnoise_BB32_15:
+	ldrb	w8, [x1]
 	stp	xzr, xzr, [sp]
 	cmp	w8, #1
-	b.ne	.Lnoise_BB32_19
-	ldrb	w8, [x1]
-	cmp	w8, #1
-	b.eq	.Lnoise_BB32_34
-.Lnoise_BB32_19:
+	b.ne	.Lnoise_BB32_17
+	ldrb	w8, [x1, #1]
+	tbnz	w8, #0, .Lnoise_BB32_32
+.Lnoise_BB32_17:
 	ldr	x8, [x1, #56]
 	cmn	x8, #1
-	b.eq	.Lnoise_BB32_34
-	adrp	x2, .Lnoise_static.2
-	add	x2, x2, :lo12:.Lnoise_static.2
+	b.eq	.Lnoise_BB32_32
+	adrp	x2, .Lnoise_static.1
+	add	x2, x2, :lo12:.Lnoise_static.1
 	mov	x0, sp
 	mov	x22, x1
 	add	x1, x1, #16
@@ -11726,17 +11719,17 @@
 	mov	x5, x19
 	bl	"noise_state::cipher::CipherState::encrypt"
 	ldrb	w8, [sp]
-	cbnz	w8, .Lnoise_BB32_34
+	cbnz	w8, .Lnoise_BB32_32
 	ldr	x8, [x22, #8]
 	ldr	x19, [sp, #8]
-	cbz	x8, .Lnoise_BB32_24
+	cbz	x8, .Lnoise_BB32_22
 	ldr	x9, [x22, #56]
 	udiv	x10, x9, x8
 	msub	x8, x10, x8, x9
-	cbnz	x8, .Lnoise_BB32_24
+	cbnz	x8, .Lnoise_BB32_22
 	add	x0, x22, #16
 	bl	"noise_state::cipher::CipherState::rekey"
-.Lnoise_BB32_24:
+.Lnoise_BB32_22:
 	rev	w8, w19
 	lsr	w8, w8, #16
 	strh	w8, [x21]
@@ -11748,45 +11741,45 @@
 	ldp	x29, x30, [sp, #16]
 	add	sp, sp, #64
 	ret
-.Lnoise_BB32_25:
+.Lnoise_BB32_23:
 	cmp	x3, #32
-	b.hs	.Lnoise_BB32_27
+	b.hs	.Lnoise_BB32_25
 	mov	x20, x0
 	mov	x8, xzr
-	b	.Lnoise_BB32_31
-.Lnoise_BB32_27:
+	b	.Lnoise_BB32_29
+.Lnoise_BB32_25:
 	and	x9, x3, #0x18
 	and	x8, x3, #0xffe0
 	add	x10, x2, #16
 	add	x11, x4, #18
 	and	x12, x3, #0xffe0
-.Lnoise_BB32_28:
+.Lnoise_BB32_26:
 	ldp	q0, q1, [x10, #-16]
 	subs	x12, x12, #32
 	add	x10, x10, #32
 	stp	q0, q1, [x11, #-16]
 	add	x11, x11, #32
-	b.ne	.Lnoise_BB32_28
+	b.ne	.Lnoise_BB32_26
 	mov	x20, x0
 	cmp	x3, x8
-	b.eq	.Lnoise_BB32_17
-	cbz	x9, .Lnoise_BB32_12
-.Lnoise_BB32_31:
+	b.eq	.Lnoise_BB32_15
+	cbz	x9, .Lnoise_BB32_10
+.Lnoise_BB32_29:
 	mov	x10, x8
 	and	x8, x3, #0xfff8
 	add	x11, x10, x4
 	sub	x9, x10, x8
 	add	x10, x2, x10
 	add	x11, x11, #2
-.Lnoise_BB32_32:
+.Lnoise_BB32_30:
 	ldr	d0, [x10], #8
 	adds	x9, x9, #8
 	str	d0, [x11], #8
-	b.ne	.Lnoise_BB32_32
+	b.ne	.Lnoise_BB32_30
 	cmp	x3, x8
-	b.ne	.Lnoise_BB32_12
-	b	.Lnoise_BB32_17
-.Lnoise_BB32_34:
+	b.ne	.Lnoise_BB32_10
+	b	.Lnoise_BB32_15
+.Lnoise_BB32_32:
 	brk	#0x1
 .Lnoise_func_end32:
 	.size	"noise_session::sender::Sender::seal_frame", .Lnoise_func_end32-"noise_session::sender::Sender::seal_frame"
@@ -13347,8 +13340,8 @@ noise_open:
 	mov	x9, x1
 	mov	x21, x3
 	mov	x22, x0
-	adrp	x2, .Lnoise_static.2
-	add	x2, x2, :lo12:.Lnoise_static.2
+	adrp	x2, .Lnoise_static.1
+	add	x2, x2, :lo12:.Lnoise_static.1
 	sub	x0, x29, #16
 	add	x1, x20, #16
 	add	x4, x9, x8
@@ -13591,8 +13584,8 @@ noise_datagram_seal:
 	sub	x0, x29, #16
 	add	x1, x22, #8
 	str	x8, [x26]
-	adrp	x8, .Lnoise_static.2
-	add	x8, x8, :lo12:.Lnoise_static.2
+	adrp	x8, .Lnoise_static.1
+	add	x8, x8, :lo12:.Lnoise_static.1
 	mov	x5, x2
 	mov	x2, x8
 	mov	x3, xzr
@@ -13771,8 +13764,8 @@ noise_datagram_seal_in_place:
 	mov	x21, x0
 	add	x4, x1, x9
 	rev	x8, x12
-	adrp	x2, .Lnoise_static.2
-	add	x2, x2, :lo12:.Lnoise_static.2
+	adrp	x2, .Lnoise_static.1
+	add	x2, x2, :lo12:.Lnoise_static.1
 	sub	x0, x29, #16
 	add	x1, x20, #8
 	mov	x3, xzr
@@ -13944,8 +13937,8 @@ noise_seal:
 	bl	memmove
 	mov	x2, x20
 .Lnoise_BB61_22:
-	adrp	x8, .Lnoise_static.2
-	add	x8, x8, :lo12:.Lnoise_static.2
+	adrp	x8, .Lnoise_static.1
+	add	x8, x8, :lo12:.Lnoise_static.1
 	sub	x0, x29, #16
 	add	x1, x22, #16
 	mov	x5, x2
@@ -14119,8 +14112,8 @@ noise_seal_in_place:
 	mov	x8, x1
 	mov	x23, x4
 	mov	x22, x0
-	adrp	x2, .Lnoise_static.2
-	add	x2, x2, :lo12:.Lnoise_static.2
+	adrp	x2, .Lnoise_static.1
+	add	x2, x2, :lo12:.Lnoise_static.1
 	sub	x0, x29, #16
 	add	x1, x20, #16
 	add	x4, x8, x9
@@ -16351,8 +16344,8 @@ noise_stream_read:
 .Lnoise_BB74_20:
 	mov	x23, x3
 	mov	x22, x0
-	adrp	x2, .Lnoise_static.2
-	add	x2, x2, :lo12:.Lnoise_static.2
+	adrp	x2, .Lnoise_static.1
+	add	x2, x2, :lo12:.Lnoise_static.1
 	sub	x0, x29, #16
 	add	x1, x20, #16
 	add	x4, x8, #2
@@ -16569,8 +16562,8 @@ noise_stream_end:
 	mov	x8, x1
 	mov	x21, x3
 	mov	x20, x0
-	adrp	x2, .Lnoise_static.2
-	add	x2, x2, :lo12:.Lnoise_static.2
+	adrp	x2, .Lnoise_static.1
+	add	x2, x2, :lo12:.Lnoise_static.1
 	sub	x0, x29, #24
 	mov	x1, sp
 	add	x4, x8, x9
@@ -18092,8 +18085,8 @@ noise_datagram_open:
 	mov	x23, x3
 	mov	x24, x0
 	sub	x5, x2, #8
-	adrp	x2, .Lnoise_static.2
-	add	x2, x2, :lo12:.Lnoise_static.2
+	adrp	x2, .Lnoise_static.1
+	add	x2, x2, :lo12:.Lnoise_static.1
 	sub	x0, x29, #152
 	add	x1, x20, #8
 	add	x4, x10, #8
@@ -19038,15 +19031,15 @@ noise_write:
 	.size	.Lnoise_static.0, 15
 
 	.type	.Lnoise_static.1,@object
-	.section	.rodata.str1.1,"aMS",@progbits,1
+	.section	.rodata..Lnoise_static.1,"a",@progbits
 .Lnoise_static.1:
-	.zero	1
-	.size	.Lnoise_static.1, 1
+	.size	.Lnoise_static.1, 0
 
 	.type	.Lnoise_static.2,@object
-	.section	.rodata..Lnoise_static.2,"a",@progbits
+	.section	.rodata.str1.1,"aMS",@progbits,1
 .Lnoise_static.2:
-	.size	.Lnoise_static.2, 0
+	.zero	1
+	.size	.Lnoise_static.2, 1
 
 	.type	.Lnoise_static.7,@object
 	.section	.rodata..Lnoise_static.7,"a",@progbits

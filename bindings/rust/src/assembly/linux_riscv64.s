@@ -8251,52 +8251,52 @@
 	sd	s1, 40(sp)
 	sd	s2, 32(sp)
 	sd	s3, 24(sp)
-	lbu	a5, 1(a1)
-	beqz	a5, .Lnoise_BB8_3
-	lbu	a5, 0(a1)
-	li	s1, 1
-	bne	a5, s1, .Lnoise_BB8_3
-	li	a1, 4
-	j	.Lnoise_BB8_11
+	sd	s4, 16(sp)
+	lbu	s1, 0(a1)
+	li	a5, 1
+	bne	s1, a5, .Lnoise_BB8_3
+	lbu	s1, 1(a1)
+	andi	s1, s1, 1
+	beqz	s1, .Lnoise_BB8_3
+	li	a5, 4
+	j	.Lnoise_BB8_10
 .Lnoise_BB8_3:
-	lui	a5, 16
-	addi	a5, a5, -17
-	bgeu	a5, a3, .Lnoise_BB8_5
-	li	a1, 1
-	j	.Lnoise_BB8_11
-.Lnoise_BB8_5:
+	lui	s1, 16
+	addi	s1, s1, -17
+	bltu	s1, a3, .Lnoise_BB8_10
 	ld	a5, 56(a1)
 	li	s1, -1
-	beq	a5, s1, .Lnoise_BB8_10
+	beq	a5, s1, .Lnoise_BB8_9
 	sub	a5, a4, a2
 	bgeu	a5, a3, .Lnoise_BB8_12
-	mv	s3, a3
+	mv	s4, a3
 	add	a3, a3, a2
 	mv	a5, a4
-.Lnoise_BB8_8:
+.Lnoise_BB8_7:
 	lbu	s1, 0(a2)
 	addi	a2, a2, 1
 	sb	s1, 0(a5)
 	addi	a5, a5, 1
-	bne	a2, a3, .Lnoise_BB8_8
-	lbu	a2, 1(a1)
+	bne	a2, a3, .Lnoise_BB8_7
+	lbu	a3, 0(a1)
+	li	a2, 1
+	sd	zero, 0(sp)
 	sd	zero, 8(sp)
-	sd	zero, 16(sp)
-	bnez	a2, .Lnoise_BB8_13
+	beq	a3, a2, .Lnoise_BB8_13
 	j	.Lnoise_BB8_15
+.Lnoise_BB8_9:
+	li	a5, 5
 .Lnoise_BB8_10:
-	li	a1, 5
-.Lnoise_BB8_11:
 	sb	zero, 4(a0)
 	sb	zero, 5(a0)
 	sb	zero, 6(a0)
 	sb	zero, 7(a0)
-	li	a2, 1
+	li	a1, 1
 	sb	zero, 12(a0)
 	sb	zero, 13(a0)
 	sb	zero, 14(a0)
 	sb	zero, 15(a0)
-	sb	a1, 8(a0)
+	sb	a5, 8(a0)
 	sb	zero, 9(a0)
 	sb	zero, 10(a0)
 	sb	zero, 11(a0)
@@ -8304,59 +8304,71 @@
 	sb	zero, 21(a0)
 	sb	zero, 22(a0)
 	sb	zero, 23(a0)
-	sb	a2, 0(a0)
+	sb	a1, 0(a0)
 	sb	zero, 1(a0)
 	sb	zero, 2(a0)
 	sb	zero, 3(a0)
-	j	.Lnoise_BB8_23
+.Lnoise_BB8_11:
+	sb	zero, 16(a0)
+	sb	zero, 17(a0)
+	sb	zero, 18(a0)
+	sb	zero, 19(a0)
+	ld	ra, 56(sp)
+	ld	s0, 48(sp)
+	ld	s1, 40(sp)
+	ld	s2, 32(sp)
+	ld	s3, 24(sp)
+	ld	s4, 16(sp)
+	addi	sp, sp, 64
+	ret
 .Lnoise_BB8_12:
 	mv	s2, a0
 	mv	a0, a4
-	mv	s1, a1
+	mv	s0, a1
 	mv	a1, a2
-	mv	s3, a3
+	mv	s4, a3
 	mv	a2, a3
-	mv	s0, a4
+	mv	s1, a4
 	call	memmove
-	mv	a4, s0
-	mv	a1, s1
+	mv	a4, s1
+	mv	a1, s0
 	mv	a0, s2
-	lbu	a2, 1(s1)
-	sd	zero, 8(sp)
-	sd	zero, 16(sp)
-	beqz	a2, .Lnoise_BB8_15
-.Lnoise_BB8_13:
-	lbu	a3, 0(a1)
+	lbu	a3, 0(s0)
 	li	a2, 1
+	sd	zero, 0(sp)
+	sd	zero, 8(sp)
 	bne	a3, a2, .Lnoise_BB8_15
+.Lnoise_BB8_13:
+	lbu	a3, 1(a1)
+	andi	a3, a3, 1
+	beqz	a3, .Lnoise_BB8_15
 	li	s0, 4
 	j	.Lnoise_BB8_22
 .Lnoise_BB8_15:
-	ld	a2, 56(a1)
-	li	a3, -1
-	beq	a2, a3, .Lnoise_BB8_21
+	ld	a3, 56(a1)
+	li	a5, -1
+	beq	a3, a5, .Lnoise_BB8_21
 	mv	s2, a0
-	mv	s0, a1
-	addi	s1, a1, 16
+	mv	s1, a1
+	addi	s3, a1, 16
 .Lnoise_pcrel_hi1:
-	auipc	a2, %pcrel_hi(.Lnoise_static.2)
+	auipc	a2, %pcrel_hi(.Lnoise_static.1)
 	addi	a2, a2, %pcrel_lo(.Lnoise_pcrel_hi1)
-	addi	a0, sp, 8
-	mv	a1, s1
+	mv	a0, sp
+	mv	a1, s3
 	li	a3, 0
-	mv	a5, s3
+	mv	a5, s4
 	call	"noise_state::cipher::CipherState::encrypt"
-	lbu	a0, 8(sp)
-	bnez	a0, .Lnoise_BB8_24
-	mv	a2, s0
-	ld	a1, 8(s0)
-	ld	s0, 16(sp)
+	lbu	a0, 0(sp)
+	bnez	a0, .Lnoise_BB8_23
+	ld	a1, 8(s1)
+	ld	s0, 8(sp)
 	mv	a0, s2
 	beqz	a1, .Lnoise_BB8_20
-	ld	a2, 56(a2)
+	ld	a2, 56(s1)
 	remu	a1, a2, a1
 	bnez	a1, .Lnoise_BB8_20
-	mv	a0, s1
+	mv	a0, s3
 	call	"noise_state::cipher::CipherState::rekey"
 	mv	a0, s2
 .Lnoise_BB8_20:
@@ -8364,7 +8376,6 @@
 	j	.Lnoise_BB8_22
 .Lnoise_BB8_21:
 	li	s0, 5
-	li	a2, 1
 .Lnoise_BB8_22:
 	sb	zero, 4(a0)
 	sb	zero, 5(a0)
@@ -8393,19 +8404,8 @@
 	sb	a1, 9(a0)
 	sb	s1, 10(a0)
 	sb	a5, 11(a0)
+	j	.Lnoise_BB8_11
 .Lnoise_BB8_23:
-	sb	zero, 16(a0)
-	sb	zero, 17(a0)
-	sb	zero, 18(a0)
-	sb	zero, 19(a0)
-	ld	ra, 56(sp)
-	ld	s0, 48(sp)
-	ld	s1, 40(sp)
-	ld	s2, 32(sp)
-	ld	s3, 24(sp)
-	addi	sp, sp, 64
-	ret
-.Lnoise_BB8_24:
 	unimp
 .Lnoise_func_end8:
 	.size	"noise_session::sender::Sender::seal", .Lnoise_func_end8-"noise_session::sender::Sender::seal"
@@ -9736,7 +9736,7 @@
 	mv	s4, s5
 	mv	s5, t1
 .Lnoise_pcrel_hi5:
-	auipc	a2, %pcrel_hi(.Lnoise_static.1)
+	auipc	a2, %pcrel_hi(.Lnoise_static.2)
 	addi	a2, a2, %pcrel_lo(.Lnoise_pcrel_hi5)
 	addi	a0, sp, 2047
 	addi	a0, a0, 193
@@ -11627,7 +11627,7 @@
 	addi	s7, sp, 536
 	bne	a0, s10, .Lnoise_BB15_10
 .Lnoise_pcrel_hi7:
-	auipc	a2, %pcrel_hi(.Lnoise_static.1)
+	auipc	a2, %pcrel_hi(.Lnoise_static.2)
 	addi	a2, a2, %pcrel_lo(.Lnoise_pcrel_hi7)
 	mv	a0, s4
 	mv	a1, s5
@@ -18128,7 +18128,7 @@
 	li	a1, 0
 	call	memset
 .Lnoise_pcrel_hi17:
-	auipc	a0, %pcrel_hi(.Lnoise_static.2)
+	auipc	a0, %pcrel_hi(.Lnoise_static.1)
 	addi	a0, a0, %pcrel_lo(.Lnoise_pcrel_hi17)
 	sd	a0, 112(s9)
 	sd	zero, 120(s9)
@@ -26271,7 +26271,7 @@ noise_open:
 	add	a4, s3, a0
 	addi	s3, sp, 16
 .Lnoise_pcrel_hi42:
-	auipc	a2, %pcrel_hi(.Lnoise_static.2)
+	auipc	a2, %pcrel_hi(.Lnoise_static.1)
 	addi	a2, a2, %pcrel_lo(.Lnoise_pcrel_hi42)
 	addi	a0, sp, 64
 	mv	a1, s3
@@ -26548,7 +26548,7 @@ noise_datagram_seal:
 	sd	zero, 56(sp)
 	sd	zero, 64(sp)
 .Lnoise_pcrel_hi43:
-	auipc	a2, %pcrel_hi(.Lnoise_static.2)
+	auipc	a2, %pcrel_hi(.Lnoise_static.1)
 	addi	a2, a2, %pcrel_lo(.Lnoise_pcrel_hi43)
 	addi	a0, sp, 56
 	mv	a1, s3
@@ -26733,7 +26733,7 @@ noise_datagram_seal_in_place:
 	sd	zero, 56(sp)
 	sd	zero, 64(sp)
 .Lnoise_pcrel_hi44:
-	auipc	a2, %pcrel_hi(.Lnoise_static.2)
+	auipc	a2, %pcrel_hi(.Lnoise_static.1)
 	addi	a2, a2, %pcrel_lo(.Lnoise_pcrel_hi44)
 	addi	a0, sp, 56
 	li	a3, 0
@@ -27073,7 +27073,7 @@ noise_seal_in_place:
 	add	a4, s7, a0
 	addi	s2, sp, 16
 .Lnoise_pcrel_hi46:
-	auipc	a2, %pcrel_hi(.Lnoise_static.2)
+	auipc	a2, %pcrel_hi(.Lnoise_static.1)
 	addi	a2, a2, %pcrel_lo(.Lnoise_pcrel_hi46)
 	addi	a0, sp, 64
 	mv	a1, s2
@@ -31822,7 +31822,7 @@ noise_stream_read:
 	addi	s2, sp, 24
 	addi	a4, a4, 2
 .Lnoise_pcrel_hi54:
-	auipc	a2, %pcrel_hi(.Lnoise_static.2)
+	auipc	a2, %pcrel_hi(.Lnoise_static.1)
 	addi	a2, a2, %pcrel_lo(.Lnoise_pcrel_hi54)
 	addi	a0, sp, 80
 	mv	a1, s2
@@ -32024,56 +32024,56 @@ noise_stream_end:
 	lui	a0, 321265
 	addi	a5, a0, -1535
 	li	a0, 23
-	bne	a4, a5, .Lnoise_BB75_22
+	bne	a4, a5, .Lnoise_BB75_21
 	lbu	a4, 4(s0)
 	li	a5, 1
 	beq	a4, a5, .Lnoise_BB75_6
 	li	a5, 2
-	bne	a4, a5, .Lnoise_BB75_22
-	li	s6, 1
-	li	a7, 1
-	lbu	s7, 5(s0)
+	bne	a4, a5, .Lnoise_BB75_21
+	li	s2, 1
+	li	a5, 1
+	lbu	a4, 5(s0)
 	ld	a6, 40(s0)
 	lbu	s1, 56(s0)
-	ld	s8, 48(s0)
-	snez	a4, s7
+	ld	s7, 48(s0)
+	snez	s8, a4
 	beqz	s1, .Lnoise_BB75_7
 .Lnoise_BB75_4:
-	and	a5, s6, a4
-	bnez	a5, .Lnoise_BB75_22
-	bnez	s8, .Lnoise_BB75_8
-	j	.Lnoise_BB75_22
+	and	a4, s2, s8
+	bnez	a4, .Lnoise_BB75_21
+	bnez	s7, .Lnoise_BB75_8
+	j	.Lnoise_BB75_21
 .Lnoise_BB75_6:
-	li	s6, 0
-	li	a7, 0
-	lbu	s7, 5(s0)
+	li	s2, 0
+	li	a5, 0
+	lbu	a4, 5(s0)
 	ld	a6, 40(s0)
 	lbu	s1, 56(s0)
-	ld	s8, 48(s0)
-	snez	a4, s7
+	ld	s7, 48(s0)
+	snez	s8, a4
 	bnez	s1, .Lnoise_BB75_4
 .Lnoise_BB75_7:
-	li	a5, -1
-	beq	s8, a5, .Lnoise_BB75_22
+	li	a4, -1
+	beq	s7, a4, .Lnoise_BB75_21
 .Lnoise_BB75_8:
 	mv	s9, a1
 	mv	s5, a3
-	mv	s4, s0
-	addi	s2, s0, 6
+	mv	s6, s0
+	addi	s3, s0, 6
 	snez	s10, s1
-	sb	a7, 8(sp)
-	sb	a4, 9(sp)
+	sb	a5, 8(sp)
+	sb	s8, 9(sp)
 	sh	zero, 10(sp)
 	sh	zero, 12(sp)
 	li	a0, 1
 	sh	zero, 14(sp)
 	sd	a6, 16(sp)
 	sb	a0, 24(sp)
-	addi	s3, sp, 25
+	addi	s4, sp, 25
 	mv	s0, a2
 	li	a2, 32
-	mv	a0, s3
-	mv	a1, s2
+	mv	a0, s4
+	mv	a1, s3
 	call	memcpy
 	mv	a1, s0
 	sb	zero, 57(sp)
@@ -32083,7 +32083,7 @@ noise_stream_end:
 	sb	zero, 61(sp)
 	sb	zero, 62(sp)
 	sb	zero, 63(sp)
-	sd	s8, 64(sp)
+	sd	s7, 64(sp)
 	sb	s10, 72(sp)
 	sb	zero, 73(sp)
 	sb	zero, 74(sp)
@@ -32097,115 +32097,115 @@ noise_stream_end:
 	bltu	s0, a2, .Lnoise_BB75_10
 	li	a0, 43
 .Lnoise_BB75_10:
-	bltu	a1, a2, .Lnoise_BB75_22
-	bnez	s1, .Lnoise_BB75_22
-	beqz	s7, .Lnoise_BB75_15
-	beqz	s6, .Lnoise_BB75_15
+	bltu	a1, a2, .Lnoise_BB75_21
+	bnez	s1, .Lnoise_BB75_21
+	and	a0, s2, s8
+	beqz	a0, .Lnoise_BB75_14
 	li	a0, 22
-	j	.Lnoise_BB75_22
-.Lnoise_BB75_15:
+	j	.Lnoise_BB75_21
+.Lnoise_BB75_14:
 	li	a0, -1
-	beq	s8, a0, .Lnoise_BB75_23
-	sd	zero, 80(sp)
-	sd	zero, 88(sp)
+	beq	s7, a0, .Lnoise_BB75_22
 	seqz	a0, s9
+	addi	s2, sp, 24
 	slli	a0, a0, 12
 	add	s8, s9, a0
-	addi	s6, sp, 24
 	addi	a4, s8, 2
+	sd	zero, 80(sp)
+	sd	zero, 88(sp)
 .Lnoise_pcrel_hi56:
-	auipc	a2, %pcrel_hi(.Lnoise_static.2)
+	auipc	a2, %pcrel_hi(.Lnoise_static.1)
 	addi	a2, a2, %pcrel_lo(.Lnoise_pcrel_hi56)
 	addi	a0, sp, 80
-	mv	a1, s6
+	mv	a1, s2
 	li	a3, 0
 	li	a5, 0
 	call	"noise_state::cipher::CipherState::encrypt"
 	lbu	a0, 80(sp)
-	bnez	a0, .Lnoise_BB75_23
+	bnez	a0, .Lnoise_BB75_22
 	ld	s9, 88(sp)
-	ld	s0, 16(sp)
+	ld	s1, 16(sp)
 	ld	s7, 64(sp)
-	mv	s1, s4
+	mv	s0, s6
 	mv	a0, s5
-	beqz	s0, .Lnoise_BB75_20
-	remu	a1, s7, s0
-	bnez	a1, .Lnoise_BB75_20
-	mv	a0, s6
+	beqz	s1, .Lnoise_BB75_19
+	remu	a1, s7, s1
+	bnez	a1, .Lnoise_BB75_19
+	mv	a0, s2
 	call	"noise_state::cipher::CipherState::rekey"
 	mv	a0, s5
-	mv	s1, s4
-	ld	s0, 16(sp)
+	mv	s0, s6
+	ld	s1, 16(sp)
 	ld	s7, 64(sp)
-.Lnoise_BB75_20:
+.Lnoise_BB75_19:
 	srli	a1, s9, 8
 	lbu	a2, 24(sp)
 	sb	a1, 0(s8)
 	sb	s9, 1(s8)
 	addi	s9, s9, 2
-	li	s4, 1
+	li	s2, 1
 	sd	s9, 8(a0)
-	bne	a2, s4, .Lnoise_BB75_23
+	bne	a2, s2, .Lnoise_BB75_22
 	lbu	a0, 8(sp)
 	lbu	a1, 9(sp)
 	li	a2, 78
 	li	a3, 111
 	li	a4, 10
-	sb	s4, 0(s1)
-	sb	a4, 1(s1)
-	sb	a3, 2(s1)
-	sb	a2, 3(s1)
+	sb	s2, 0(s0)
+	sb	a4, 1(s0)
+	sb	a3, 2(s0)
+	sb	a2, 3(s0)
 	andi	a1, a1, 1
 	snez	a0, a0
 	addi	a0, a0, 1
-	sb	a0, 4(s1)
-	sb	a1, 5(s1)
+	sb	a0, 4(s0)
+	sb	a1, 5(s0)
 	li	a2, 32
-	mv	a0, s2
-	mv	a1, s3
+	mv	a0, s3
+	mv	a1, s4
 	call	memcpy
 	li	a0, 0
-	srli	a6, s0, 56
-	srli	a7, s0, 48
-	srli	t0, s0, 40
-	srli	a4, s0, 32
-	srli	a5, s0, 24
-	srli	a1, s0, 16
-	srli	t1, s0, 8
+	srli	a6, s1, 56
+	srli	a7, s1, 48
+	srli	t0, s1, 40
+	srli	a4, s1, 32
+	srli	a5, s1, 24
+	srli	a1, s1, 16
+	srli	t1, s1, 8
 	srli	a3, s7, 40
 	srli	a2, s7, 32
-	sb	a1, 42(s1)
-	sb	a5, 43(s1)
-	sb	a4, 44(s1)
-	sb	t0, 45(s1)
+	sb	a1, 42(s0)
+	sb	a5, 43(s0)
+	sb	a4, 44(s0)
+	sb	t0, 45(s0)
 	srli	a1, s7, 24
-	sb	zero, 38(s1)
-	sb	zero, 39(s1)
-	sb	s0, 40(s1)
-	sb	t1, 41(s1)
+	sb	zero, 38(s0)
+	sb	zero, 39(s0)
+	sb	s1, 40(s0)
+	sb	t1, 41(s0)
 	srli	a4, s7, 16
-	sb	a4, 50(s1)
-	sb	a1, 51(s1)
-	sb	a2, 52(s1)
-	sb	a3, 53(s1)
+	sb	a4, 50(s0)
+	sb	a1, 51(s0)
+	sb	a2, 52(s0)
+	sb	a3, 53(s0)
 	srli	a1, s7, 8
-	sb	a7, 46(s1)
-	sb	a6, 47(s1)
-	sb	s7, 48(s1)
-	sb	a1, 49(s1)
+	sb	a7, 46(s0)
+	sb	a6, 47(s0)
+	sb	s7, 48(s0)
+	sb	a1, 49(s0)
 	srli	a1, s7, 56
 	srli	a2, s7, 48
-	sb	zero, 58(s1)
-	sb	zero, 59(s1)
-	sb	zero, 60(s1)
-	sb	zero, 61(s1)
-	sb	a2, 54(s1)
-	sb	a1, 55(s1)
-	sb	s4, 56(s1)
-	sb	zero, 57(s1)
-	sb	zero, 62(s1)
-	sb	zero, 63(s1)
-.Lnoise_BB75_22:
+	sb	zero, 58(s0)
+	sb	zero, 59(s0)
+	sb	zero, 60(s0)
+	sb	zero, 61(s0)
+	sb	a2, 54(s0)
+	sb	a1, 55(s0)
+	sb	s2, 56(s0)
+	sb	zero, 57(s0)
+	sb	zero, 62(s0)
+	sb	zero, 63(s0)
+.Lnoise_BB75_21:
 	ld	ra, 184(sp)
 	ld	s0, 176(sp)
 	ld	s1, 168(sp)
@@ -32220,7 +32220,7 @@ noise_stream_end:
 	ld	s10, 96(sp)
 	addi	sp, sp, 192
 	ret
-.Lnoise_BB75_23:
+.Lnoise_BB75_22:
 	unimp
 .Lnoise_func_end75:
 	.size	noise_stream_end, .Lnoise_func_end75-noise_stream_end
@@ -32249,52 +32249,52 @@ noise_stream_write:
 	lui	a0, 321265
 	addi	s0, a0, -1535
 	li	a0, 23
-	bne	s1, s0, .Lnoise_BB76_26
+	bne	s1, s0, .Lnoise_BB76_25
 	lbu	s1, 4(s2)
 	li	s0, 1
 	beq	s1, s0, .Lnoise_BB76_6
 	li	s0, 2
-	bne	s1, s0, .Lnoise_BB76_26
-	li	s9, 1
-	li	s6, 1
+	bne	s1, s0, .Lnoise_BB76_25
+	li	s10, 1
+	li	s5, 1
 	lbu	s8, 5(s2)
-	ld	s10, 40(s2)
+	ld	s4, 40(s2)
 	lbu	s1, 56(s2)
 	ld	s11, 48(s2)
 	beqz	s1, .Lnoise_BB76_7
 .Lnoise_BB76_4:
 	snez	s0, s8
-	and	s0, s9, s0
-	bnez	s0, .Lnoise_BB76_26
+	and	s0, s10, s0
+	bnez	s0, .Lnoise_BB76_25
 	bnez	s11, .Lnoise_BB76_8
-	j	.Lnoise_BB76_26
+	j	.Lnoise_BB76_25
 .Lnoise_BB76_6:
-	li	s9, 0
-	li	s6, 0
+	li	s10, 0
+	li	s5, 0
 	lbu	s8, 5(s2)
-	ld	s10, 40(s2)
+	ld	s4, 40(s2)
 	lbu	s1, 56(s2)
 	ld	s11, 48(s2)
 	bnez	s1, .Lnoise_BB76_4
 .Lnoise_BB76_7:
 	li	s0, -1
-	beq	s11, s0, .Lnoise_BB76_26
+	beq	s11, s0, .Lnoise_BB76_25
 .Lnoise_BB76_8:
 	mv	s7, a4
 	mv	s3, a1
-	mv	s5, a3
+	mv	s6, a3
 	sd	a5, 8(sp)
 	sd	s2, 16(sp)
 	addi	a1, s2, 6
 	snez	s2, s8
-	snez	s4, s1
+	snez	s9, s1
 	li	a0, 1
-	sb	s6, 24(sp)
+	sb	s5, 24(sp)
 	sb	s2, 25(sp)
 	sh	zero, 26(sp)
 	sh	zero, 28(sp)
 	sh	zero, 30(sp)
-	sd	s10, 32(sp)
+	sd	s4, 32(sp)
 	sb	a0, 40(sp)
 	addi	a0, sp, 41
 	mv	s0, a2
@@ -32310,7 +32310,7 @@ noise_stream_write:
 	sb	zero, 78(sp)
 	sb	zero, 79(sp)
 	sd	s11, 80(sp)
-	sb	s4, 88(sp)
+	sb	s9, 88(sp)
 	sb	zero, 89(sp)
 	sb	zero, 90(sp)
 	sb	zero, 91(sp)
@@ -32321,11 +32321,11 @@ noise_stream_write:
 	lui	a1, 16
 	addi	a1, a1, -17
 	snez	a0, s0
-	mv	s4, s0
+	mv	s9, s0
 	bltu	s0, a1, .Lnoise_BB76_10
-	mv	s4, a1
+	mv	s9, a1
 .Lnoise_BB76_10:
-	addi	a1, s4, 18
+	addi	a1, s9, 18
 	sltu	a4, s7, a1
 	and	a4, a4, a0
 	bnez	a4, .Lnoise_BB76_12
@@ -32333,69 +32333,70 @@ noise_stream_write:
 	ld	a1, 16(sp)
 	ld	a3, 8(sp)
 	beqz	a4, .Lnoise_BB76_13
-	j	.Lnoise_BB76_26
+	j	.Lnoise_BB76_25
 .Lnoise_BB76_12:
 	li	a0, 18
 	ld	a1, 16(sp)
 	ld	a3, 8(sp)
-	bnez	a4, .Lnoise_BB76_26
+	bnez	a4, .Lnoise_BB76_25
 .Lnoise_BB76_13:
-	bnez	s1, .Lnoise_BB76_26
-	beqz	a2, .Lnoise_BB76_20
-	beqz	s8, .Lnoise_BB76_18
-	beqz	s9, .Lnoise_BB76_18
+	bnez	s1, .Lnoise_BB76_25
+	beqz	a2, .Lnoise_BB76_17
+	snez	a0, s8
+	and	a0, s10, a0
+	beqz	a0, .Lnoise_BB76_18
 	li	a0, 22
-	j	.Lnoise_BB76_26
-.Lnoise_BB76_18:
-	li	a0, -2
-	bne	s11, a0, .Lnoise_BB76_21
-	li	a0, 17
-	j	.Lnoise_BB76_26
-.Lnoise_BB76_20:
-	li	s4, 0
+	j	.Lnoise_BB76_25
+.Lnoise_BB76_17:
+	li	s3, 0
 	sd	zero, 8(a3)
 	sd	zero, 16(a3)
+	j	.Lnoise_BB76_24
+.Lnoise_BB76_18:
+	li	a0, -2
+	bne	s11, a0, .Lnoise_BB76_20
+	li	a0, 17
 	j	.Lnoise_BB76_25
-.Lnoise_BB76_21:
+.Lnoise_BB76_20:
+	li	a0, -1
 	sd	zero, 96(sp)
 	sd	zero, 104(sp)
 	sd	zero, 112(sp)
-	li	a0, -1
-	beq	s11, a0, .Lnoise_BB76_27
+	beq	s11, a0, .Lnoise_BB76_26
 	seqz	a0, s3
-	seqz	a1, s5
+	seqz	a1, s6
 	slli	a0, a0, 12
 	slli	a1, a1, 12
 	add	a2, s3, a0
-	add	s5, s5, a1
-	addi	a4, s5, 2
+	add	s6, s6, a1
+	addi	a4, s6, 2
 	addi	a0, sp, 96
 	addi	a1, sp, 24
-	mv	a3, s4
+	mv	a3, s9
 	call	"noise_session::sender::Sender::seal"
 	lbu	a0, 96(sp)
-	bnez	a0, .Lnoise_BB76_27
-	ld	a1, 104(sp)
-	lbu	s6, 24(sp)
+	bnez	a0, .Lnoise_BB76_26
+	ld	a0, 104(sp)
+	lbu	s5, 24(sp)
 	lbu	s2, 25(sp)
-	ld	s10, 32(sp)
+	ld	s4, 32(sp)
 	lbu	a2, 40(sp)
 	ld	s11, 80(sp)
-	lbu	a0, 88(sp)
-	srli	a3, a1, 8
-	sb	a3, 0(s5)
-	sb	a1, 1(s5)
+	lbu	s0, 88(sp)
+	srli	a1, a0, 8
+	sb	a1, 0(s6)
+	sb	a0, 1(s6)
 	li	a3, 1
-	addi	a1, a1, 2
-	ld	a4, 8(sp)
-	sd	a1, 8(a4)
-	sd	s4, 16(a4)
+	addi	a0, a0, 2
+	ld	a1, 8(sp)
+	sd	a0, 8(a1)
+	sd	s9, 16(a1)
 	ld	a1, 16(sp)
-	bne	a2, a3, .Lnoise_BB76_27
-	andi	s4, a0, 1
-.Lnoise_BB76_25:
+	bne	a2, a3, .Lnoise_BB76_26
+	andi	s3, s0, 1
+.Lnoise_BB76_24:
 	andi	a0, s2, 1
-	snez	a2, s6
+	snez	a2, s5
 	li	a3, 78
 	li	a4, 111
 	li	a5, 10
@@ -32408,52 +32409,52 @@ noise_stream_write:
 	sb	a2, 4(a1)
 	sb	a0, 5(a1)
 	li	a2, 32
-	mv	s0, a1
+	mv	s1, a1
 	ld	a0, 0(sp)
 	addi	a1, sp, 41
 	call	memcpy
 	li	a0, 0
-	srli	a6, s10, 56
-	srli	a7, s10, 48
-	srli	t0, s10, 40
-	srli	a4, s10, 32
-	srli	a5, s10, 24
-	srli	s1, s10, 16
-	srli	a1, s10, 8
+	srli	a6, s4, 56
+	srli	a7, s4, 48
+	srli	t0, s4, 40
+	srli	a4, s4, 32
+	srli	a5, s4, 24
+	srli	s0, s4, 16
+	srli	a1, s4, 8
 	srli	a2, s11, 40
 	srli	a3, s11, 32
-	sb	s1, 42(s0)
-	sb	a5, 43(s0)
-	sb	a4, 44(s0)
-	sb	t0, 45(s0)
+	sb	s0, 42(s1)
+	sb	a5, 43(s1)
+	sb	a4, 44(s1)
+	sb	t0, 45(s1)
 	srli	a4, s11, 24
-	sb	zero, 38(s0)
-	sb	zero, 39(s0)
-	sb	s10, 40(s0)
-	sb	a1, 41(s0)
+	sb	zero, 38(s1)
+	sb	zero, 39(s1)
+	sb	s4, 40(s1)
+	sb	a1, 41(s1)
 	srli	a1, s11, 16
-	sb	a1, 50(s0)
-	sb	a4, 51(s0)
-	sb	a3, 52(s0)
-	sb	a2, 53(s0)
+	sb	a1, 50(s1)
+	sb	a4, 51(s1)
+	sb	a3, 52(s1)
+	sb	a2, 53(s1)
 	srli	a1, s11, 8
-	sb	a7, 46(s0)
-	sb	a6, 47(s0)
-	sb	s11, 48(s0)
-	sb	a1, 49(s0)
+	sb	a7, 46(s1)
+	sb	a6, 47(s1)
+	sb	s11, 48(s1)
+	sb	a1, 49(s1)
 	srli	a1, s11, 56
 	srli	a2, s11, 48
-	sb	zero, 58(s0)
-	sb	zero, 59(s0)
-	sb	zero, 60(s0)
-	sb	zero, 61(s0)
-	sb	a2, 54(s0)
-	sb	a1, 55(s0)
-	sb	s4, 56(s0)
-	sb	zero, 57(s0)
-	sb	zero, 62(s0)
-	sb	zero, 63(s0)
-.Lnoise_BB76_26:
+	sb	zero, 58(s1)
+	sb	zero, 59(s1)
+	sb	zero, 60(s1)
+	sb	zero, 61(s1)
+	sb	a2, 54(s1)
+	sb	a1, 55(s1)
+	sb	s3, 56(s1)
+	sb	zero, 57(s1)
+	sb	zero, 62(s1)
+	sb	zero, 63(s1)
+.Lnoise_BB76_25:
 	ld	ra, 216(sp)
 	ld	s0, 208(sp)
 	ld	s1, 200(sp)
@@ -32469,7 +32470,7 @@ noise_stream_write:
 	ld	s11, 120(sp)
 	addi	sp, sp, 224
 	ret
-.Lnoise_BB76_27:
+.Lnoise_BB76_26:
 	unimp
 .Lnoise_func_end76:
 	.size	noise_stream_write, .Lnoise_func_end76-noise_stream_write
@@ -34770,7 +34771,7 @@ noise_datagram_open:
 	addi	a4, s3, 8
 	addi	a5, a5, -8
 .Lnoise_pcrel_hi60:
-	auipc	a2, %pcrel_hi(.Lnoise_static.2)
+	auipc	a2, %pcrel_hi(.Lnoise_static.1)
 	addi	a2, a2, %pcrel_lo(.Lnoise_pcrel_hi60)
 	addi	a0, sp, 208
 	li	a3, 0
@@ -36572,15 +36573,15 @@ noise_write:
 	.size	.Lnoise_static.0, 15
 
 	.type	.Lnoise_static.1,@object
-	.section	.rodata.str1.1,"aMS",@progbits,1
+	.section	.rodata..Lnoise_static.1,"a",@progbits
 .Lnoise_static.1:
-	.zero	1
-	.size	.Lnoise_static.1, 1
+	.size	.Lnoise_static.1, 0
 
 	.type	.Lnoise_static.2,@object
-	.section	.rodata..Lnoise_static.2,"a",@progbits
+	.section	.rodata.str1.1,"aMS",@progbits,1
 .Lnoise_static.2:
-	.size	.Lnoise_static.2, 0
+	.zero	1
+	.size	.Lnoise_static.2, 1
 
 	.type	.Lnoise_static.7,@object
 	.section	.rodata..Lnoise_static.7,"a",@progbits

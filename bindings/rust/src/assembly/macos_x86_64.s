@@ -5660,7 +5660,7 @@ Lnoise_BB10_133:
 	jmp	Lnoise_BB10_147
 Lnoise_BB10_139:
 	movq	%r11, %r14
-	leaq	Lnoise__static.1(%rip), %rdx
+	leaq	Lnoise__static.2(%rip), %rdx
 	leaq	1872(%rsp), %rdi
 	movq	120(%rsp), %rsi
 	callq	"_core::slice::reads::slice+T::contains::<i8,31'core::cmp::numbers::U8PartialEq{}>"
@@ -7768,7 +7768,7 @@ Lnoise_BB15_7:
 	movq	%rsp, %rbp
 	cmpb	$1, %r14b
 	jne	Lnoise_BB15_11
-	leaq	Lnoise__static.1(%rip), %rdx
+	leaq	Lnoise__static.2(%rip), %rdx
 	movq	%r15, %rdi
 	movq	48(%rsp), %rsi
 	callq	"_core::slice::reads::slice+T::contains::<i8,31'core::cmp::numbers::U8PartialEq{}>"
@@ -11735,7 +11735,7 @@ Lnoise_BB24_7:
 	movaps	%xmm0, 1344(%rsp)
 	movaps	%xmm0, 1360(%rsp)
 	movaps	%xmm0, 1376(%rsp)
-	leaq	lnoise__static.2(%rip), %rax
+	leaq	lnoise__static.1(%rip), %rax
 	movq	%rax, 112(%rsp)
 	movq	$0, 120(%rsp)
 	movaps	%xmm0, 224(%rsp)
@@ -14384,132 +14384,72 @@ Lnoise_BB31_2:
 	pushq	%r12
 	pushq	%rbx
 	subq	$24, %rsp
-	movq	%r8, %rbx
-	movzbl	1(%rsi), %eax
-	cmpb	$1, %al
-	jne	Lnoise_BB32_2
-	movl	$4, %r8d
 	cmpb	$1, (%rsi)
-	je	Lnoise_BB32_5
+	jne	Lnoise_BB32_2
+	movl	$4, %eax
+	cmpb	$0, 1(%rsi)
+	jne	Lnoise_BB32_5
 Lnoise_BB32_2:
-	movl	$1, %r8d
+	movl	$1, %eax
 	cmpq	$65519, %rcx
 	ja	Lnoise_BB32_5
 	cmpq	$-1, 56(%rsi)
 	je	Lnoise_BB32_4
-	testb	%al, %al
-	je	Lnoise_BB32_8
-	cmpb	$1, (%rsi)
-	je	Lnoise_BB32_38
-Lnoise_BB32_8:
-	leaq	2(%rbx), %r14
-	movq	%r14, %rax
+	leaq	2(%r8), %rbx
+	movq	%rbx, %rax
 	subq	%rdx, %rax
 	cmpq	%rcx, %rax
-	movq	%rcx, %r15
-	jae	Lnoise_BB32_39
+	movq	%r8, %r12
+	movq	%rcx, %r14
+	jae	Lnoise_BB32_37
 	cmpq	$4, %rcx
-	jb	Lnoise_BB32_10
-	movq	%rbx, %rax
+	jb	Lnoise_BB32_8
+	movq	%r8, %rax
 	subq	%rdx, %rax
 	addq	$2, %rax
 	cmpq	$32, %rax
-	jae	Lnoise_BB32_12
-Lnoise_BB32_10:
+	jae	Lnoise_BB32_10
+Lnoise_BB32_8:
 	movq	%rdi, %r13
 	xorl	%eax, %eax
-Lnoise_BB32_21:
-	movq	%rcx, %r8
+Lnoise_BB32_19:
+	movq	%rcx, %r9
 	movq	%rax, %rdi
-	andq	$3, %r8
-	je	Lnoise_BB32_24
+	andq	$3, %r9
+	je	Lnoise_BB32_22
 	movq	%rax, %rdi
 	.p2align	4
-Lnoise_BB32_23:
-	movzbl	(%rdx,%rdi), %r9d
-	movb	%r9b, (%r14,%rdi)
+Lnoise_BB32_21:
+	movzbl	(%rdx,%rdi), %r10d
+	movb	%r10b, (%rbx,%rdi)
 	incq	%rdi
-	decq	%r8
-	jne	Lnoise_BB32_23
-Lnoise_BB32_24:
+	decq	%r9
+	jne	Lnoise_BB32_21
+Lnoise_BB32_22:
 	subq	%rcx, %rax
 	cmpq	$-4, %rax
-	ja	Lnoise_BB32_26
+	ja	Lnoise_BB32_24
 	.p2align	4
-Lnoise_BB32_25:
+Lnoise_BB32_23:
 	movzbl	(%rdx,%rdi), %eax
-	movb	%al, 2(%rbx,%rdi)
+	movb	%al, 2(%r8,%rdi)
 	movzbl	1(%rdx,%rdi), %eax
-	movb	%al, 3(%rbx,%rdi)
+	movb	%al, 3(%r8,%rdi)
 	movzbl	2(%rdx,%rdi), %eax
-	movb	%al, 4(%rbx,%rdi)
+	movb	%al, 4(%r8,%rdi)
 	movzbl	3(%rdx,%rdi), %eax
-	movb	%al, 5(%rbx,%rdi)
+	movb	%al, 5(%r8,%rdi)
 	addq	$4, %rdi
 	cmpq	%rdi, %rcx
-	jne	Lnoise_BB32_25
-	jmp	Lnoise_BB32_26
+	jne	Lnoise_BB32_23
+	jmp	Lnoise_BB32_24
 Lnoise_BB32_4:
-	movl	$5, %r8d
+	movl	$5, %eax
 Lnoise_BB32_5:
 	movq	$1, (%rdi)
-	movq	%r8, 8(%rdi)
+	movq	%rax, 8(%rdi)
 	movq	$0, 16(%rdi)
-	jmp	Lnoise_BB32_37
-Lnoise_BB32_39:
-	movq	%rdi, %r13
-	movq	%r14, %rdi
-	movq	%rsi, %r12
-	movq	%rdx, %rsi
-	movq	%rcx, %rdx
-	callq	_memmove
-	movq	%r12, %rsi
-Lnoise_BB32_26:
-	xorps	%xmm0, %xmm0
-	movaps	%xmm0, (%rsp)
-	cmpb	$1, 1(%rsi)
-	jne	Lnoise_BB32_28
-	cmpb	$1, (%rsi)
-	je	Lnoise_BB32_38
-Lnoise_BB32_28:
-	cmpq	$-1, 56(%rsi)
-	je	Lnoise_BB32_38
-	movq	%rsi, %rbp
-	leaq	16(%rsi), %r12
-	leaq	lnoise__static.2(%rip), %rdx
-	movq	%rsp, %rdi
-	movq	%r12, %rsi
-	xorl	%ecx, %ecx
-	movq	%r14, %r8
-	movq	%r15, %r9
-	callq	"_noise_state::cipher::CipherState::encrypt"
-	cmpb	$0, (%rsp)
-	jne	Lnoise_BB32_38
-	movq	8(%rsp), %r14
-	movq	8(%rbp), %rcx
-	testq	%rcx, %rcx
-	je	Lnoise_BB32_36
-	movq	56(%rbp), %rax
-	movq	%rax, %rdx
-	orq	%rcx, %rdx
-	shrq	$32, %rdx
-	je	Lnoise_BB32_32
-	xorl	%edx, %edx
-	divq	%rcx
-	testq	%rdx, %rdx
-	jne	Lnoise_BB32_36
 Lnoise_BB32_35:
-	movq	%r12, %rdi
-	callq	"_noise_state::cipher::CipherState::rekey"
-Lnoise_BB32_36:
-	movl	%r14d, %eax
-	rolw	$8, %ax
-	movw	%ax, (%rbx)
-	addq	$2, %r14
-	movq	$0, (%r13)
-	movq	%r14, 8(%r13)
-	movq	$0, 16(%r13)
-Lnoise_BB32_37:
 	addq	$24, %rsp
 	popq	%rbx
 	popq	%r12
@@ -14518,51 +14458,107 @@ Lnoise_BB32_37:
 	popq	%r15
 	popq	%rbp
 	retq
-Lnoise_BB32_32:
-	xorl	%edx, %edx
-	divl	%ecx
-	testq	%rdx, %rdx
+Lnoise_BB32_37:
+	movq	%rdi, %r13
+	movq	%rbx, %rdi
+	movq	%rsi, %r15
+	movq	%rdx, %rsi
+	movq	%rcx, %rdx
+	callq	_memmove
+	movq	%r15, %rsi
+Lnoise_BB32_24:
+	xorps	%xmm0, %xmm0
+	movaps	%xmm0, (%rsp)
+	cmpb	$1, (%rsi)
+	jne	Lnoise_BB32_26
+	cmpb	$0, 1(%rsi)
 	jne	Lnoise_BB32_36
+Lnoise_BB32_26:
+	cmpq	$-1, 56(%rsi)
+	je	Lnoise_BB32_36
+	movq	%rsi, %rbp
+	leaq	16(%rsi), %r15
+	leaq	lnoise__static.1(%rip), %rdx
+	movq	%rsp, %rdi
+	movq	%r15, %rsi
+	xorl	%ecx, %ecx
+	movq	%rbx, %r8
+	movq	%r14, %r9
+	callq	"_noise_state::cipher::CipherState::encrypt"
+	cmpb	$0, (%rsp)
+	jne	Lnoise_BB32_36
+	movq	8(%rsp), %rbx
+	movq	8(%rbp), %rsi
+	testq	%rsi, %rsi
+	movq	%r12, %rcx
+	je	Lnoise_BB32_34
+	movq	56(%rbp), %rax
+	movq	%rax, %rdx
+	orq	%rsi, %rdx
+	shrq	$32, %rdx
+	je	Lnoise_BB32_30
+	xorl	%edx, %edx
+	divq	%rsi
+	testq	%rdx, %rdx
+	jne	Lnoise_BB32_34
+Lnoise_BB32_33:
+	movq	%r15, %rdi
+	callq	"_noise_state::cipher::CipherState::rekey"
+	movq	%r12, %rcx
+Lnoise_BB32_34:
+	movl	%ebx, %eax
+	rolw	$8, %ax
+	movw	%ax, (%rcx)
+	addq	$2, %rbx
+	movq	$0, (%r13)
+	movq	%rbx, 8(%r13)
+	movq	$0, 16(%r13)
 	jmp	Lnoise_BB32_35
-Lnoise_BB32_12:
+Lnoise_BB32_30:
+	xorl	%edx, %edx
+	divl	%esi
+	testq	%rdx, %rdx
+	jne	Lnoise_BB32_34
+	jmp	Lnoise_BB32_33
+Lnoise_BB32_10:
 	cmpq	$32, %rcx
-	jae	Lnoise_BB32_14
+	jae	Lnoise_BB32_12
 	movq	%rdi, %r13
 	xorl	%eax, %eax
-	jmp	Lnoise_BB32_18
-Lnoise_BB32_14:
+	jmp	Lnoise_BB32_16
+Lnoise_BB32_12:
 	movl	%ecx, %eax
 	andl	$65504, %eax
-	xorl	%r8d, %r8d
+	xorl	%r9d, %r9d
 	.p2align	4
-Lnoise_BB32_15:
-	movups	(%rdx,%r8), %xmm0
-	movups	16(%rdx,%r8), %xmm1
-	movups	%xmm0, 2(%rbx,%r8)
-	movups	%xmm1, 18(%rbx,%r8)
-	addq	$32, %r8
-	cmpq	%r8, %rax
-	jne	Lnoise_BB32_15
+Lnoise_BB32_13:
+	movups	(%rdx,%r9), %xmm0
+	movups	16(%rdx,%r9), %xmm1
+	movups	%xmm0, 2(%r8,%r9)
+	movups	%xmm1, 18(%r8,%r9)
+	addq	$32, %r9
+	cmpq	%r9, %rax
+	jne	Lnoise_BB32_13
 	movq	%rdi, %r13
 	cmpq	%rax, %rcx
-	je	Lnoise_BB32_26
+	je	Lnoise_BB32_24
 	testb	$28, %cl
-	je	Lnoise_BB32_21
-Lnoise_BB32_18:
+	je	Lnoise_BB32_19
+Lnoise_BB32_16:
 	movq	%rax, %rdi
 	movl	%ecx, %eax
 	andl	$65532, %eax
 	.p2align	4
-Lnoise_BB32_19:
-	movl	(%rdx,%rdi), %r8d
-	movl	%r8d, (%r14,%rdi)
+Lnoise_BB32_17:
+	movl	(%rdx,%rdi), %r9d
+	movl	%r9d, (%rbx,%rdi)
 	addq	$4, %rdi
 	cmpq	%rdi, %rax
-	jne	Lnoise_BB32_19
+	jne	Lnoise_BB32_17
 	cmpq	%rax, %rcx
-	jne	Lnoise_BB32_21
-	jmp	Lnoise_BB32_26
-Lnoise_BB32_38:
+	jne	Lnoise_BB32_19
+	jmp	Lnoise_BB32_24
+Lnoise_BB32_36:
 	ud2
 
 	.p2align	4
@@ -16196,7 +16192,7 @@ Lnoise_BB57_7:
 	shll	$12, %edx
 	addq	%rdx, %r8
 	leaq	40(%rsp), %rbx
-	leaq	lnoise__static.2(%rip), %rdx
+	leaq	lnoise__static.1(%rip), %rdx
 	movq	%rsp, %rdi
 	movq	%rbx, %rsi
 	xorl	%ecx, %ecx
@@ -16447,7 +16443,7 @@ Lnoise_BB59_29:
 	movq	%r12, (%rbp)
 	xorps	%xmm0, %xmm0
 	movaps	%xmm0, 64(%rsp)
-	leaq	lnoise__static.2(%rip), %rax
+	leaq	lnoise__static.1(%rip), %rax
 	leaq	64(%rsp), %rdi
 	movq	%r13, %rsi
 	movq	%rdx, %r9
@@ -16602,7 +16598,7 @@ Lnoise_BB60_5:
 	addq	$8, %rsi
 	xorps	%xmm0, %xmm0
 	movaps	%xmm0, 64(%rsp)
-	leaq	lnoise__static.2(%rip), %rdx
+	leaq	lnoise__static.1(%rip), %rdx
 	leaq	64(%rsp), %rdi
 	movq	%rsi, %r8
 	movq	%rax, %rsi
@@ -16778,7 +16774,7 @@ Lnoise_BB61_40:
 Lnoise_BB61_29:
 	xorps	%xmm0, %xmm0
 	movaps	%xmm0, 64(%rsp)
-	leaq	lnoise__static.2(%rip), %rax
+	leaq	lnoise__static.1(%rip), %rax
 	leaq	64(%rsp), %rdi
 	movq	%rbx, %rsi
 	movq	%rdx, %r9
@@ -16964,7 +16960,7 @@ Lnoise_BB62_9:
 	shll	$12, %ecx
 	addq	%rcx, %rsi
 	leaq	16(%rsp), %rbx
-	leaq	lnoise__static.2(%rip), %rdx
+	leaq	lnoise__static.1(%rip), %rdx
 	leaq	64(%rsp), %rdi
 	movq	%rsi, %r8
 	movq	%rbx, %rsi
@@ -19406,7 +19402,7 @@ Lnoise_BB74_11:
 	movq	%rdi, %r13
 	leaq	24(%rsp), %rbx
 	addq	$2, %r8
-	leaq	lnoise__static.2(%rip), %rdx
+	leaq	lnoise__static.1(%rip), %rdx
 	leaq	80(%rsp), %rdi
 	movq	%rbx, %rsi
 	xorl	%ecx, %ecx
@@ -19651,7 +19647,7 @@ Lnoise_BB75_12:
 	movb	%sil, %dl
 	shll	$12, %edx
 	addq	%rdx, %r8
-	leaq	lnoise__static.2(%rip), %rdx
+	leaq	lnoise__static.1(%rip), %rdx
 	leaq	80(%rsp), %rdi
 	leaq	8(%rsp), %rsi
 	xorl	%ecx, %ecx
@@ -21109,7 +21105,7 @@ Lnoise_BB79_34:
 	movq	%rbp, 112(%rsp)
 	addq	$8, %r8
 	addq	$-8, %r9
-	leaq	lnoise__static.2(%rip), %rdx
+	leaq	lnoise__static.1(%rip), %rdx
 	leaq	272(%rsp), %rdi
 	xorl	%ecx, %ecx
 	callq	"_noise_state::cipher::CipherState::decrypt"
@@ -22051,14 +22047,14 @@ Lnoise_BB81_67:
 lnoise__static.0:
 	.space	15
 
+lnoise__static.1:
+	.byte	0
+
 	.section	__TEXT,__cstring,cstring_literals
-Lnoise__static.1:
+Lnoise__static.2:
 	.space	1
 
 	.section	__TEXT,__const
-lnoise__static.2:
-	.byte	0
-
 lnoise__static.7:
 	.ascii	"psk"
 

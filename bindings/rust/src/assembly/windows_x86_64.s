@@ -5723,7 +5723,7 @@
 	movaps	%xmm0, 2176(%rsp)
 	testb	%al, %al
 	jne	.Lnoise_BB10_139
-	leaq	.Lnoise_static.1(%rip), %r8
+	leaq	.Lnoise_static.2(%rip), %r8
 	leaq	1904(%rsp), %rcx
 	movq	160(%rsp), %rdx
 	callq	"core::slice::reads::slice+T::contains::<i8,31'core::cmp::numbers::U8PartialEq{}>"
@@ -7838,7 +7838,7 @@
 	leaq	32(%rsp), %r12
 	cmpb	$1, %sil
 	jne	.Lnoise_BB15_11
-	leaq	.Lnoise_static.1(%rip), %r8
+	leaq	.Lnoise_static.2(%rip), %r8
 	movq	%rbx, %rcx
 	movq	%r14, %rdx
 	callq	"core::slice::reads::slice+T::contains::<i8,31'core::cmp::numbers::U8PartialEq{}>"
@@ -11810,7 +11810,7 @@
 	movaps	%xmm6, 1360(%rsp)
 	movaps	%xmm6, 1376(%rsp)
 	movaps	%xmm6, 1392(%rsp)
-	leaq	.Lnoise_static.2(%rip), %rax
+	leaq	.Lnoise_static.1(%rip), %rax
 	movq	%rax, 144(%rsp)
 	movq	$0, 152(%rsp)
 	movaps	%xmm6, 256(%rsp)
@@ -14500,58 +14500,52 @@
 	pushq	%rdi
 	pushq	%rbx
 	subq	$64, %rsp
-	movzbl	1(%rdx), %eax
-	cmpb	$1, %al
-	jne	.Lnoise_BB32_2
-	movl	$4, %r10d
 	cmpb	$1, (%rdx)
-	je	.Lnoise_BB32_5
+	jne	.Lnoise_BB32_2
+	movl	$4, %eax
+	cmpb	$0, 1(%rdx)
+	jne	.Lnoise_BB32_5
 .Lnoise_BB32_2:
-	movl	$1, %r10d
+	movl	$1, %eax
 	cmpq	$65519, %r9
 	ja	.Lnoise_BB32_5
 	cmpq	$-1, 56(%rdx)
 	je	.Lnoise_BB32_4
-	testb	%al, %al
-	je	.Lnoise_BB32_8
-	cmpb	$1, (%rdx)
-	je	.Lnoise_BB32_38
-.Lnoise_BB32_8:
 	movq	144(%rsp), %rbx
 	leaq	2(%rbx), %rsi
 	movq	%rsi, %rax
 	subq	%r8, %rax
 	cmpq	%r9, %rax
-	jae	.Lnoise_BB32_39
+	jae	.Lnoise_BB32_37
 	cmpq	$4, %r9
-	jb	.Lnoise_BB32_10
+	jb	.Lnoise_BB32_8
 	movq	%rbx, %rax
 	subq	%r8, %rax
 	addq	$2, %rax
 	cmpq	$32, %rax
-	jae	.Lnoise_BB32_12
-.Lnoise_BB32_10:
+	jae	.Lnoise_BB32_10
+.Lnoise_BB32_8:
 	movq	%rcx, %r14
 	xorl	%eax, %eax
-.Lnoise_BB32_21:
+.Lnoise_BB32_19:
 	movq	%r9, %r10
 	movq	%rax, %rcx
 	andq	$3, %r10
-	je	.Lnoise_BB32_24
+	je	.Lnoise_BB32_22
 	movq	%rax, %rcx
 	.p2align	4
-.Lnoise_BB32_23:
+.Lnoise_BB32_21:
 	movzbl	(%r8,%rcx), %r11d
 	movb	%r11b, (%rsi,%rcx)
 	incq	%rcx
 	decq	%r10
-	jne	.Lnoise_BB32_23
-.Lnoise_BB32_24:
+	jne	.Lnoise_BB32_21
+.Lnoise_BB32_22:
 	subq	%r9, %rax
 	cmpq	$-4, %rax
-	ja	.Lnoise_BB32_26
+	ja	.Lnoise_BB32_24
 	.p2align	4
-.Lnoise_BB32_25:
+.Lnoise_BB32_23:
 	movzbl	(%r8,%rcx), %eax
 	movb	%al, 2(%rbx,%rcx)
 	movzbl	1(%r8,%rcx), %eax
@@ -14562,16 +14556,23 @@
 	movb	%al, 5(%rbx,%rcx)
 	addq	$4, %rcx
 	cmpq	%rcx, %r9
-	jne	.Lnoise_BB32_25
-	jmp	.Lnoise_BB32_26
+	jne	.Lnoise_BB32_23
+	jmp	.Lnoise_BB32_24
 .Lnoise_BB32_4:
-	movl	$5, %r10d
+	movl	$5, %eax
 .Lnoise_BB32_5:
 	movq	$1, (%rcx)
-	movq	%r10, 8(%rcx)
+	movq	%rax, 8(%rcx)
 	movq	$0, 16(%rcx)
-	jmp	.Lnoise_BB32_37
-.Lnoise_BB32_39:
+.Lnoise_BB32_35:
+	addq	$64, %rsp
+	popq	%rbx
+	popq	%rdi
+	popq	%rsi
+	popq	%r14
+	popq	%r15
+	retq
+.Lnoise_BB32_37:
 	movq	%rcx, %r14
 	movq	%rsi, %rcx
 	movq	%rdx, %rdi
@@ -14581,44 +14582,44 @@
 	callq	memmove
 	movq	%r15, %r9
 	movq	%rdi, %rdx
-.Lnoise_BB32_26:
+.Lnoise_BB32_24:
 	xorps	%xmm0, %xmm0
 	movaps	%xmm0, 48(%rsp)
-	cmpb	$1, 1(%rdx)
-	jne	.Lnoise_BB32_28
 	cmpb	$1, (%rdx)
-	je	.Lnoise_BB32_38
-.Lnoise_BB32_28:
+	jne	.Lnoise_BB32_26
+	cmpb	$0, 1(%rdx)
+	jne	.Lnoise_BB32_36
+.Lnoise_BB32_26:
 	cmpq	$-1, 56(%rdx)
-	je	.Lnoise_BB32_38
+	je	.Lnoise_BB32_36
 	movq	%rdx, %r15
 	leaq	16(%rdx), %rdi
 	movq	%r9, 40(%rsp)
 	movq	%rsi, 32(%rsp)
-	leaq	.Lnoise_static.2(%rip), %r8
+	leaq	.Lnoise_static.1(%rip), %r8
 	leaq	48(%rsp), %rcx
 	movq	%rdi, %rdx
 	xorl	%r9d, %r9d
 	callq	"noise_state::cipher::CipherState::encrypt"
 	cmpb	$0, 48(%rsp)
-	jne	.Lnoise_BB32_38
+	jne	.Lnoise_BB32_36
 	movq	56(%rsp), %rsi
 	movq	8(%r15), %rcx
 	testq	%rcx, %rcx
-	je	.Lnoise_BB32_36
+	je	.Lnoise_BB32_34
 	movq	56(%r15), %rax
 	movq	%rax, %rdx
 	orq	%rcx, %rdx
 	shrq	$32, %rdx
-	je	.Lnoise_BB32_32
+	je	.Lnoise_BB32_30
 	xorl	%edx, %edx
 	divq	%rcx
 	testq	%rdx, %rdx
-	jne	.Lnoise_BB32_36
-.Lnoise_BB32_35:
+	jne	.Lnoise_BB32_34
+.Lnoise_BB32_33:
 	movq	%rdi, %rcx
 	callq	"noise_state::cipher::CipherState::rekey"
-.Lnoise_BB32_36:
+.Lnoise_BB32_34:
 	movl	%esi, %eax
 	rolw	$8, %ax
 	movw	%ax, (%rbx)
@@ -14626,59 +14627,52 @@
 	movq	$0, (%r14)
 	movq	%rsi, 8(%r14)
 	movq	$0, 16(%r14)
-.Lnoise_BB32_37:
-	addq	$64, %rsp
-	popq	%rbx
-	popq	%rdi
-	popq	%rsi
-	popq	%r14
-	popq	%r15
-	retq
-.Lnoise_BB32_32:
+	jmp	.Lnoise_BB32_35
+.Lnoise_BB32_30:
 	xorl	%edx, %edx
 	divl	%ecx
 	testq	%rdx, %rdx
-	jne	.Lnoise_BB32_36
-	jmp	.Lnoise_BB32_35
-.Lnoise_BB32_12:
+	jne	.Lnoise_BB32_34
+	jmp	.Lnoise_BB32_33
+.Lnoise_BB32_10:
 	cmpq	$32, %r9
-	jae	.Lnoise_BB32_14
+	jae	.Lnoise_BB32_12
 	movq	%rcx, %r14
 	xorl	%eax, %eax
-	jmp	.Lnoise_BB32_18
-.Lnoise_BB32_14:
+	jmp	.Lnoise_BB32_16
+.Lnoise_BB32_12:
 	movl	%r9d, %eax
 	andl	$65504, %eax
 	xorl	%r10d, %r10d
 	.p2align	4
-.Lnoise_BB32_15:
+.Lnoise_BB32_13:
 	movups	(%r8,%r10), %xmm0
 	movups	16(%r8,%r10), %xmm1
 	movups	%xmm0, 2(%rbx,%r10)
 	movups	%xmm1, 18(%rbx,%r10)
 	addq	$32, %r10
 	cmpq	%r10, %rax
-	jne	.Lnoise_BB32_15
+	jne	.Lnoise_BB32_13
 	movq	%rcx, %r14
 	cmpq	%rax, %r9
-	je	.Lnoise_BB32_26
+	je	.Lnoise_BB32_24
 	testb	$28, %r9b
-	je	.Lnoise_BB32_21
-.Lnoise_BB32_18:
+	je	.Lnoise_BB32_19
+.Lnoise_BB32_16:
 	movq	%rax, %rcx
 	movl	%r9d, %eax
 	andl	$65532, %eax
 	.p2align	4
-.Lnoise_BB32_19:
+.Lnoise_BB32_17:
 	movl	(%r8,%rcx), %r10d
 	movl	%r10d, (%rsi,%rcx)
 	addq	$4, %rcx
 	cmpq	%rcx, %rax
-	jne	.Lnoise_BB32_19
+	jne	.Lnoise_BB32_17
 	cmpq	%rax, %r9
-	jne	.Lnoise_BB32_21
-	jmp	.Lnoise_BB32_26
-.Lnoise_BB32_38:
+	jne	.Lnoise_BB32_19
+	jmp	.Lnoise_BB32_24
+.Lnoise_BB32_36:
 	ud2
 
 	.def	"noise_handshake::layout::psk_after";
@@ -16393,7 +16387,7 @@ noise_open:
 	leaq	88(%rsp), %rsi
 	movq	%r8, 40(%rsp)
 	movq	%rdx, 32(%rsp)
-	leaq	.Lnoise_static.2(%rip), %r8
+	leaq	.Lnoise_static.1(%rip), %r8
 	leaq	48(%rsp), %rcx
 	movq	%rsi, %rdx
 	xorl	%r9d, %r9d
@@ -16652,7 +16646,7 @@ noise_datagram_seal:
 	movaps	%xmm0, 112(%rsp)
 	movq	%r8, 40(%rsp)
 	movq	%rdi, 32(%rsp)
-	leaq	.Lnoise_static.2(%rip), %r8
+	leaq	.Lnoise_static.1(%rip), %r8
 	leaq	112(%rsp), %rcx
 	movq	%rsi, %rdx
 	xorl	%r9d, %r9d
@@ -16810,7 +16804,7 @@ noise_datagram_seal_in_place:
 	movaps	%xmm0, 112(%rsp)
 	movq	%r9, 40(%rsp)
 	movq	%rdx, 32(%rsp)
-	leaq	.Lnoise_static.2(%rip), %r8
+	leaq	.Lnoise_static.1(%rip), %r8
 	leaq	112(%rsp), %rcx
 	movq	%rax, %rdx
 	xorl	%r9d, %r9d
@@ -16992,7 +16986,7 @@ noise_seal:
 	movaps	%xmm0, 112(%rsp)
 	movq	%r8, 40(%rsp)
 	movq	%rdi, 32(%rsp)
-	leaq	.Lnoise_static.2(%rip), %r8
+	leaq	.Lnoise_static.1(%rip), %r8
 	leaq	112(%rsp), %rcx
 	movq	%rsi, %rdx
 	xorl	%r9d, %r9d
@@ -17179,7 +17173,7 @@ noise_seal_in_place:
 	leaq	64(%rsp), %rsi
 	movq	%r9, 40(%rsp)
 	movq	%rdx, 32(%rsp)
-	leaq	.Lnoise_static.2(%rip), %r8
+	leaq	.Lnoise_static.1(%rip), %r8
 	leaq	112(%rsp), %rcx
 	movq	%rsi, %rdx
 	xorl	%r9d, %r9d
@@ -19674,7 +19668,7 @@ noise_stream_read:
 	addq	$2, %rdx
 	movq	%r10, 40(%rsp)
 	movq	%rdx, 32(%rsp)
-	leaq	.Lnoise_static.2(%rip), %r8
+	leaq	.Lnoise_static.1(%rip), %r8
 	leaq	128(%rsp), %rcx
 	movq	%rsi, %rdx
 	xorl	%r9d, %r9d
@@ -19923,7 +19917,7 @@ noise_stream_end:
 	addq	%r10, %rdx
 	movq	%r8, 40(%rsp)
 	movq	%rdx, 32(%rsp)
-	leaq	.Lnoise_static.2(%rip), %r8
+	leaq	.Lnoise_static.1(%rip), %r8
 	leaq	128(%rsp), %rcx
 	leaq	56(%rsp), %rdx
 	xorl	%r9d, %r9d
@@ -21397,7 +21391,7 @@ noise_datagram_open:
 	addq	$-8, %r8
 	movq	%r8, 40(%rsp)
 	movq	%r14, 32(%rsp)
-	leaq	.Lnoise_static.2(%rip), %r8
+	leaq	.Lnoise_static.1(%rip), %r8
 	leaq	304(%rsp), %rcx
 	xorl	%r9d, %r9d
 	callq	"noise_state::cipher::CipherState::decrypt"
@@ -22357,9 +22351,9 @@ noise_write:
 	.zero	15
 
 .Lnoise_static.1:
-	.zero	1
 
 .Lnoise_static.2:
+	.zero	1
 
 .Lnoise_static.7:
 	.ascii	"psk"
