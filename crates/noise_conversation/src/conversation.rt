@@ -43,6 +43,36 @@ pub fn converse<K: Agreeing>(
         IfOk result (λ r. HaveConversed K.public_of K.agreement
         pattern s prologue.now interval (lines_of lines.now) r.0 r.1) }
 {
+    let made = hold(
+        alloc, pattern, prologue, initiator, responder, psks, interval, lines,
+    )?;
+    Ok(made)
+}
+
+// What `converse` does.
+fn hold<K: Agreeing>(
+    alloc: Global,
+    pattern: ValidPattern,
+    prologue: &[u8],
+    initiator: K,
+    responder: K,
+    psks: &[[u8; 32]],
+    interval: u64,
+    lines: &[(Role, Vec<u8>, Cuts)],
+) -> Result<(Duel<K, K>, Report), ConversationFault>
+    requires prologue { length prologue.now ≤ 65535 }
+    requires lines { lines_fit_from pattern 0 (lines_of lines.now) ≡ true }
+    requires answers { HaveAnswers pattern
+        (starts K.public_of K.agreement pattern prologue.now psks.now initiator responder) }
+    ensures setup { let s =
+        starts K.public_of K.agreement pattern prologue.now psks.now initiator responder in
+        MatchResult result (λ _. fault_of pattern s ≡ None)
+        (λ fault. IsFault (fault_of pattern s) fault) }
+    ensures conversed { let s =
+        starts K.public_of K.agreement pattern prologue.now psks.now initiator responder in
+        IfOk result (λ r. HaveConversed K.public_of K.agreement
+        pattern s prologue.now interval (lines_of lines.now) r.0 r.1) }
+{
     let duel = make_ends(
         alloc, pattern, prologue, initiator, responder, psks, interval,
     )?;
