@@ -76,7 +76,11 @@ export class Editor {
     };
     this.#mine.label = 'Your own';
     this.#pick.append(this.#mine, group('Fundamental (7.4, 7.5)', FUNDAMENTAL), group('Deferred (18.1)', DEFERRED));
-    this.#pick.addEventListener('focus', () => { if (!this.#isReplacing) this.#fillPick(); });
+    this.#pick.addEventListener('focus', () => {
+      if (this.#isReplacing) return;
+      this.#fillPick();
+      this.#pick.value = standardOf(this.text) || 'this';
+    });
     this.#pick.addEventListener('change', () => this.#choose(this.#pick.value));
     for (let place = 0; place <= 8; place += 1) {
       const box = element('input');
@@ -187,7 +191,7 @@ export class Editor {
     this.#pick.value = base || 'this';
     if (!base && text !== this.#chosen.text) this.#pick.value = `own ${own.nameOf(text)}`;
     if (this.#pick.selectedIndex >= 0) return this.#setPlaces(text);
-    this.#mine.prepend(new Option('this pattern', 'this'));
+    if (![...this.#mine.children].some(({ value }) => value === 'this')) this.#mine.prepend(new Option('this pattern', 'this'));
     this.#chosen.text = text;
     this.#pick.value = 'this';
     return this.#setPlaces(text);

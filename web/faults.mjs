@@ -7,7 +7,7 @@ export const RULES = Object.freeze({
   1: ['{token} needs the {owner}’s {key}, which is neither sent before this place nor named above “...”.', 'Let the {owner} send {key} earlier, or name it above “...”.'],
   2: ['The {sender} has sent {token} already.', 'Leave the second one out.'],
   3: ['{token} is mixed in already, and adds nothing the second time.', 'Leave the second one out.'],
-  4: ['The {sender} encrypts here, {after} is mixed in, and {missing} isn’t: what it encrypts could depend on no fresh key of its own.', 'Put {missing} before {after}.'],
+  4: ['The {sender} encrypts here, {after} is mixed in, and {missing} isn’t: what it encrypts could depend on no fresh key of its own.', '{mend}.'],
   5: ['The {sender} encrypts here after psk, and has sent no e: the same key and nonce could come again.', 'Let the {sender} send e before it.'],
 });
 /** The same for each kind of malformed line, by its code in include/noise.h. */
@@ -19,7 +19,7 @@ export const FORMS = Object.freeze({
   34: ['It is the other party’s turn.', 'Turn the arrow around: the initiator (->) begins, and then they alternate.'],
   35: ['The psk tokens aren’t where the heading says.', 'psk0 is before message 1, pskN at the end of message N: set the places by the boxes above the text.'],
   36: ['This name belongs to a fundamental pattern, and the text is another one.', 'Give it a name of its own.'],
-  37: ['Too much: a pattern has at most 8 messages, and each from 1 to 8 tokens besides psk.', 'Leave some out.'],
+  37: ['A pattern has at most 8 messages, and each has from 1 to 8 tokens besides psk.', 'Leave some out, or add one.'],
   38: ['There is no message.', 'Add a line such as “  -> e”.'],
 });
 /** What stands in the place of a sentence of FORMS where the line shows more. */
@@ -80,6 +80,25 @@ function placeOf(lines, { message, token }) {
   return token < line.tokens.length ? `message ${message}, token ${line.tokens[token].name}` : `the payload of message ${message}`;
 }
 
+/** Where a party's key is first known: the line and the place of its token, that of what is known before the first message, or undefined. */
+function keyPlace(lines, owner, key) {
+  const n = lines.findIndex(({ role, tokens }, at) => at > 0 && role === owner && tokens?.some(({ name }) => name === key));
+  if (n < 0) return undefined;
+  return n < firstOf(lines) ? { n: firstOf(lines), at: -1 } : { n, at: lines[n].tokens.findIndex(({ name }) => name === key) };
+}
+
+/** The place after which a DH can be mixed: that of the later one of its two keys. Or `lacks`, the party whose key of the two is nowhere. */
+export function mixPlace(lines, dh) {
+  const places = ['initiator', 'responder'].map((owner, i) => keyPlace(lines, owner, dh[i]) ?? { lacks: owner, key: dh[i] });
+  return places.find(({ lacks }) => lacks) ?? places.sort((a, b) => a.n - b.n || a.at - b.at)[1];
+}
+
+function mixWords(lines, dh) {
+  const { n, at, lacks, key } = mixPlace(lines, dh);
+  if (lacks) return `Let the ${lacks} send ${key}, and mix ${dh} after it`;
+  return `Mix ${dh} in message ${n - firstOf(lines) + 1}${at < 0 ? '' : `, after ${lines[n].tokens[at].name}`}`;
+}
+
 /** What a broken rule is about, by name: the words that are filled in. */
 export function brokenRule(lines, { rule, message, token }) {
   const line = lines[firstOf(lines) + message - 1];
@@ -96,7 +115,7 @@ export function brokenRule(lines, { rule, message, token }) {
   const names = lines.slice(firstOf(lines), firstOf(lines) + message).flatMap(({ tokens }, n) => tokens.slice(0, n === message - 1 ? token : undefined).map((it) => it.name));
   const needs = sender === 'initiator' ? [['se', 'ee'], ['ss', 'es']] : [['es', 'ee'], ['ss', 'se']];
   const [after, missing] = needs.find(([dh, first]) => names.includes(dh) && !names.includes(first)) ?? needs[0];
-  return { token: name, sender, after, missing };
+  return { token: name, sender, after, missing, mend: mixWords(lines, missing) };
 }
 
 const filled = (text, values) => text.replace(/\{(\w+)\}/g, (_, name) => values[name]);

@@ -3,7 +3,7 @@
 import { checkPattern } from '../bindings/js/check.mjs';
 import { linesOf } from '../bindings/js/layout.mjs';
 import { FUNDAMENTAL } from '../bindings/js/patterns.mjs';
-import { brokenRule, firstOf, forgottenDots } from './faults.mjs';
+import { brokenRule, firstOf, forgottenDots, mixPlace } from './faults.mjs';
 
 const textOf = (lines) => lines.map((line) => `${line}\n`).join('');
 const plain = (lines) => lines.map(({ line }) => line);
@@ -112,10 +112,18 @@ function sending(lines, n, token, owner, key) {
   return spliced(lines, earlier, key === 'e' ? 0 : lines[earlier].tokens.filter(({ name }) => name !== 'psk').length, 0, key);
 }
 
+/** The text with a DH mixed where both its keys are known first; if one is sent nowhere, it is sent in its party's last message up to line N. */
+function mixed(lines, dh, n) {
+  const { n: line, at, lacks, key } = mixPlace(lines, dh);
+  if (!lacks) return spliced(lines, line, at + 1, 0, dh);
+  const own = lines.findLastIndex(({ role }, place) => role === lacks && place >= firstOf(lines) && place <= n);
+  return own < 0 ? undefined : spliced(lines, own, 0, 0, key, dh);
+}
+
 function ruleMends(lines, verdict) {
   const { rule, message, token } = verdict;
   const n = firstOf(lines) + message - 1;
-  const { owner, key, sender, after, missing } = brokenRule(lines, verdict);
+  const { owner, key, sender, missing, mend } = brokenRule(lines, verdict);
   if (rule === 1) {
     return [[`Let the ${owner} send ${key} before`, sending(lines, n, token, owner, key)], [`Name the ${owner}’s ${key} above “...”`, named(lines, owner, key)]];
   }
@@ -125,8 +133,7 @@ function ruleMends(lines, verdict) {
     return n === lines.length - 1 ? [[`Leave message ${message} out`, textOf(plain(lines).slice(0, -1))]] : [];
   }
   if (rule === 5) return [[`Let the ${sender} send e before`, sending(lines, n, lines[n]?.tokens[0].name === 'psk' ? 1 : 0, sender, 'e')]];
-  const at = lines.findIndex((line, place) => place >= firstOf(lines) && line.tokens && namesOf(line).includes(after));
-  return at < 0 ? [] : [[`Put ${missing} before ${after}`, spliced(lines, at, namesOf(lines[at]).indexOf(after), 0, missing)]];
+  return [[mend, mixed(lines, missing, n)]];
 }
 
 /** How far a text is right, as a number for comparing. */

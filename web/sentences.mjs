@@ -31,7 +31,7 @@ function tokenName(run, { number, token }) {
 function leaves(run, { role, token, code, number }) {
   if (token !== undefined) return ' Its handshake has ended.';
   if (run[role].isBroken) return ' Its stream is broken: it reads nothing more, and sends nothing, no end either.';
-  return code === 13 && number !== undefined ? '' : ' It goes on as before.';
+  return code === 13 ? '' : ' It goes on as before.';
 }
 
 const WHAT = {

@@ -146,3 +146,22 @@ test('an offer is right, or its fault is further on', () => {
     for (const offer of mendsOf(text, verdict)) assert.ok(offer.label && offer.text !== text, JSON.stringify(text));
   }
 });
+
+test('a missing DH is mixed where both its keys are known', () => {
+  const mends = (text) => mendsOf(text, checkPattern(text)).map((it) => [it.label, it.text]);
+  const nk = 'MINE:\n  <- s\n  ...\n  -> e, es\n';
+  assert.deepEqual(mends(`${nk}  <- e\n`), [['Mix ee in message 2, after e', `${nk}  <- e, ee\n`]]);
+  assert.deepEqual(mends('MINE:\n  -> e\n  <- e, s, es\n  -> s, se\n'), [['Mix ee in message 2, after e', 'MINE:\n  -> e\n  <- e, ee, s, es\n  -> s, se\n']]);
+  assert.deepEqual(mends('MINEpsk2:\n  -> e\n  <- s, es, psk\n'), [['Let the responder send e, and mix ee after it', 'MINEpsk2:\n  -> e\n  <- e, ee, s, es, psk\n']]);
+});
+
+test('each pattern without one of its DHs has an offer that works', () => {
+  for (const name of [...FUNDAMENTAL, ...DEFERRED]) {
+    const whole = textOf(name).replace(/^[A-Z0-9]*/, 'MINE');
+    for (const [dh] of whole.matchAll(/, (?:ee|es|se|ss)\b/g)) {
+      const text = whole.replace(dh, '');
+      const verdict = checkPattern(text);
+      if (verdict.rule === 4) assert.ok(mendsOf(text, verdict).length > 0, `${name} without${dh}`);
+    }
+  }
+});
