@@ -145,7 +145,8 @@ async function act(work) {
     const entries = page.run.log.slice(page.run === run ? before : 0);
     if (entries.length) announce(entries.slice(-3));
   } catch (error) {
-    at('said').textContent = error instanceof late.NotNow ? error.message : `This can’t be done: ${isSecureContext ? error.message : 'keys need https, or a page of this computer'}`;
+    const why = isSecureContext ? error.message : 'keys need https, or a page of this computer';
+    at('said').textContent = error instanceof late.NotNow ? error.message : `This can’t be done: ${why}`;
     at('said').classList.add('bad');
     showRun();
   } finally {

@@ -28,7 +28,7 @@ function tokenName(run, { number, token }) {
 }
 
 /** What a refusal leaves. */
-function leaves(run, { role, token, code, number }) {
+function leaves(run, { role, token, code }) {
   if (token !== undefined) return ' Its handshake has ended.';
   if (run[role].isBroken) return ' Its stream is broken: it reads nothing more, and sends nothing, no end either.';
   return code === 13 ? '' : ' It goes on as before.';
