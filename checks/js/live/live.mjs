@@ -106,7 +106,8 @@ function reported(line) {
 function judge(mine, other, size, what) {
   assert.ok(mine.count <= size, what);
   assert.equal(mine.sum, sum(bytes(mine.count)), `${what}: other bytes`);
-  if (mine.otherEnded) assert.ok(other.ended && mine.count === size, `${what}: an end, and not all of it came`);
+  // An end may have left just before the other refused what came, which then reports that it couldn't end.
+  if (mine.otherEnded) assert.ok((other.ended || other.error) && mine.count === size, `${what}: an end, and not all of it came`);
 }
 
 /** Runs one connection, and gives both reports. */
