@@ -43,18 +43,22 @@ length-sealed key nonce ad text =
     ∙ ap (λ (n : ℕ). n + 16) (length-masked key nonce text)
 
 -- a ciphertext and a tag of 16 bytes that are what sealing gives for a text
-pub sealed-parts : (key nonce ad text ciphertext tag : List ℕ) → length tag ≡ 16 → ciphertext ++ tag ≡ sealed key nonce ad text
+pub sealed-parts : (key nonce ad text ciphertext tag : List ℕ) → length tag ≡ 16
+    → ciphertext ++ tag ≡ sealed key nonce ad text
     → (ciphertext ≡ masked key nonce text) × (tag ≡ seal_tag key nonce ad ciphertext)
 sealed-parts key nonce ad text ciphertext tag len e =
     let m : List ℕ = masked key nonce text in
     let t : List ℕ = seal_tag key nonce ad m in
-    let lengths : length m ≡ length ciphertext = omega (arith, length-append ciphertext tag, length-append m t, ap length e, length-seal_tag key nonce ad m) in
+    let tag_len : length t ≡ 16 = length-seal_tag key nonce ad m in
+    let lengths : length m ≡ length ciphertext =
+    omega (arith, length-append ciphertext tag, length-append m t, ap length e, tag_len) in
     let same : ciphertext ≡ m =
-    sym (take_at ciphertext tag (length ciphertext) refl) ∙ ap (take (length ciphertext)) e ∙ take_at m t (length ciphertext) lengths in
+    sym (take_at ciphertext tag (length ciphertext) refl) ∙ ap (take (length ciphertext)) e
+    ∙ take_at m t (length ciphertext) lengths in
     let tags : tag ≡ t = append_cancel_left m tag t (ap (λ (x : List ℕ). x ++ tag) (sym same) ∙ e) in
     (same, tags ∙ ap (seal_tag key nonce ad) (sym same))
 
--- what a ciphertext and its tag are the sealing of
+-- a ciphertext and its tag are the sealing of the ciphertext masked once more
 pub sealed-masked : (key nonce ad ciphertext tag : List ℕ) → tag ≡ seal_tag key nonce ad ciphertext
     → ciphertext ++ tag ≡ sealed key nonce ad (masked key nonce ciphertext)
 sealed-masked key nonce ad ciphertext tag e =
@@ -65,5 +69,6 @@ sealed-masked key nonce ad ciphertext tag e =
 pub sealed-same : (key nonce ad p q : List ℕ) → sealed key nonce ad p ≡ sealed key nonce ad q → p ≡ q
 sealed-same key nonce ad p q e =
     let a : List ℕ = masked key nonce p in
-    let same : a ≡ masked key nonce q = (sealed-parts key nonce ad q a (seal_tag key nonce ad a) (length-seal_tag key nonce ad a) e).0 in
+    let t : List ℕ = seal_tag key nonce ad a in
+    let same : a ≡ masked key nonce q = (sealed-parts key nonce ad q a t (length-seal_tag key nonce ad a) e).0 in
     sym (masked-twice key nonce p) ∙ ap (masked key nonce) same ∙ masked-twice key nonce q

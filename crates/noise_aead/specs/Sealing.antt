@@ -47,7 +47,8 @@ padding text = replicate ((16 - length text % 16) % 16) 0
 -- what the tag is computed over
 abbrev pub authenticated : List ℕ → List ℕ → List ℕ
 authenticated ad ciphertext =
-    ad ++ padding ad ++ ciphertext ++ padding ciphertext ++ to_le_bytes w64 (length ad) ++ to_le_bytes w64 (length ciphertext)
+    ad ++ padding ad ++ ciphertext ++ padding ciphertext
+    ++ to_le_bytes w64 (length ad) ++ to_le_bytes w64 (length ciphertext)
 
 -- the tag of a ciphertext: the one-time key is the first 32 bytes of block 0
 unfoldable pub seal_tag : List ℕ → List ℕ → List ℕ → List ℕ → List ℕ

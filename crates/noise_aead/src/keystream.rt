@@ -27,8 +27,9 @@ pub fn generator(key: &[u8; 32], nonce: &[u8; 12], word: u32) -> ChaCha20Rng
     words
 }
 
-/// The same generator, out of line, for a call at another word than the rest. If the compiler saw that no call asks for a word
-/// within a block, it would make the refill of four blocks a part of `next_word`, which would then be too long to be inlined.
+/// The same generator, out of line, for a call at another word than the rest. If the compiler saw that no call asks for
+/// a word within a block, it would make the refill of four blocks a part of `next_word`, which would then be too long
+/// to be inlined.
 #[inline(never)]
 pub fn generator_apart(key: &[u8; 32], nonce: &[u8; 12], word: u32) -> ChaCha20Rng
     ensures place { (b : ℕ) → word ≡ 16 * b → result ≡ generator_at key.now nonce.now b }

@@ -29,44 +29,63 @@ pub record LawsBelow : Type 0 where
   -- a message is accepted, refused and written in one way
   pub accepted_once : (v : View) (message : List ℕ) (xs ys : List (List ℕ)) (p q : List ℕ)
       → Accepts v message xs p → Accepts v message ys q → (xs ≡ ys) × (p ≡ q)
-  pub not_refused : (v : View) (message : List ℕ) (xs : List (List ℕ)) (p : List ℕ) (k : ℕ) (c : Cause) → Accepts v message xs p → Refuses v message k c → ⊥
-  pub refused_once : (v : View) (message : List ℕ) (k j : ℕ) (c d : Cause) → Refuses v message k c → Refuses v message j d → (k ≡ j) × (c ≡ d)
-  pub written_once : (v : View) (payload m n : List ℕ) (xs ys : List (List ℕ)) → Writes v payload xs m → Writes v payload ys n → (xs ≡ ys) × (m ≡ n)
-  pub not_lacking : (v : View) (payload m : List ℕ) (xs : List (List ℕ)) (k : ℕ) → Writes v payload xs m → LacksAnswer v k → ⊥
-  pub sent_once : (v x y : EndView) (payload : List ℕ) (r s : Result (List ℕ) SendFault) → Sends v payload r x → Sends v payload s y → (r ≡ s) × (x ≡ y)
+  pub not_refused : (v : View) (message : List ℕ) (xs : List (List ℕ)) (p : List ℕ) (k : ℕ) (c : Cause)
+      → Accepts v message xs p → Refuses v message k c → ⊥
+  pub refused_once : (v : View) (message : List ℕ) (k j : ℕ) (c d : Cause)
+      → Refuses v message k c → Refuses v message j d → (k ≡ j) × (c ≡ d)
+  pub written_once : (v : View) (payload m n : List ℕ) (xs ys : List (List ℕ))
+      → Writes v payload xs m → Writes v payload ys n → (xs ≡ ys) × (m ≡ n)
+  pub not_lacking : (v : View) (payload m : List ℕ) (xs : List (List ℕ)) (k : ℕ)
+      → Writes v payload xs m → LacksAnswer v k → ⊥
+  pub sent_once : (v x y : EndView) (payload : List ℕ) (r s : Result (List ℕ) SendFault)
+      → Sends v payload r x → Sends v payload s y → (r ≡ s) × (x ≡ y)
   -- where there is a key, and what a message carries
   pub keyed_first : (name prologue : List ℕ) (p : Plan) (initiator responder : Remote) → IsPattern p
       → is_some (cipher_key (start name p prologue initiator responder)) ≡ has_key p (passed_places p 0)
   pub keyed_next : (p : Plan) (n : ℕ) (r : History) (xs : List (List ℕ)) (payload : List ℕ)
-      → n < length p.messages → Carry (tokens_at p.messages n) xs → is_some (cipher_key r) ≡ has_key p (passed_places p n)
-      → is_some (cipher_key (after_payload (has_psk p) r (tokens_at p.messages n) xs payload)) ≡ has_key p (passed_places p (n + 1))
-  pub written_carries : (v : View) (payload message : List ℕ) (xs : List (List ℕ)) → Writes v payload xs message → Carry (tokens_now v) xs
-  pub accepted_carries : (v : View) (payload message : List ℕ) (xs : List (List ℕ)) → Accepts v message xs payload → Carry (tokens_now v) xs
+      → n < length p.messages → Carry (tokens_at p.messages n) xs
+      → is_some (cipher_key r) ≡ has_key p (passed_places p n)
+      → is_some (cipher_key (after_payload (has_psk p) r (tokens_at p.messages n) xs payload))
+      ≡ has_key p (passed_places p (n + 1))
+  pub written_carries : (v : View) (payload message : List ℕ) (xs : List (List ℕ))
+      → Writes v payload xs message → Carry (tokens_now v) xs
+  pub accepted_carries : (v : View) (payload message : List ℕ) (xs : List (List ℕ))
+      → Accepts v message xs payload → Carry (tokens_now v) xs
   -- which tokens are among the places of a pattern
-  pub before_is_among : (p : Plan) (party : Role) (t : Token) → has_before p party t ≡ true → is_among party t (places_of p) ≡ true
-  pub sent_is_among : (p : Plan) (n : ℕ) (t : Token) → has_token t (tokens_at p.messages n) ≡ true → is_among (turn_from Initiator n) t (places_of p) ≡ true
-  pub among_occurs : (party : Role) (t : Token) (places : List Place) → is_among party t places ≡ true → occurs t places ≡ true
-  pub dh_key_is_among : (p : Plan) (role : Role) (t : Token) → IsValid p → is_dh t ≡ true → occurs t (places_of p) ≡ true
+  pub before_is_among : (p : Plan) (party : Role) (t : Token)
+      → has_before p party t ≡ true → is_among party t (places_of p) ≡ true
+  pub sent_is_among : (p : Plan) (n : ℕ) (t : Token)
+      → has_token t (tokens_at p.messages n) ≡ true → is_among (turn_from Initiator n) t (places_of p) ≡ true
+  pub among_occurs : (party : Role) (t : Token) (places : List Place)
+      → is_among party t places ≡ true → occurs t places ≡ true
+  pub dh_key_is_among : (p : Plan) (role : Role) (t : Token)
+      → IsValid p → is_dh t ≡ true → occurs t (places_of p) ≡ true
       → is_among role (token_of (own_at role t)) (places_of p) ≡ true
   -- what a setup without a fault has
-  pub set_own : (p : Plan) (role : Role) (own : Own → Option (List ℕ)) (known : Remote) (n : ℕ) → setup_fault p role own known n ≡ None
+  pub set_own : (p : Plan) (role : Role) (own : Own → Option (List ℕ)) (known : Remote) (n : ℕ)
+      → setup_fault p role own known n ≡ None
       → (x : Own) → is_among role (token_of x) (places_of p) ≡ true → is_some (own x) ≡ true
-  pub set_remote : (p : Plan) (role : Role) (own : Own → Option (List ℕ)) (known : Remote) (n : ℕ) → setup_fault p role own known n ≡ None
+  pub set_remote : (p : Plan) (role : Role) (own : Own → Option (List ℕ)) (known : Remote) (n : ℕ)
+      → setup_fault p role own known n ≡ None
       → (is_some known.e ≡ has_before p (other role) E) × (is_some known.s ≡ has_before p (other role) S)
   -- counterparts
   pub accepts : (v w : View) (payload message : List ℕ) (xs : List (List ℕ))
       → IsValid v.pattern → Counterparts v w → Writes v payload xs message → Accepts w message xs payload
   pub next : (v w : View) (payload message : List ℕ) (xs : List (List ℕ))
-      → IsValid v.pattern → Counterparts v w → Writes v payload xs message → Counterparts (after_own v xs payload) (after_message w xs payload)
+      → IsValid v.pattern → Counterparts v w → Writes v payload xs message
+      → Counterparts (after_own v xs payload) (after_message w xs payload)
   pub turned : (v w : View) → Counterparts v w → Counterparts w v
   pub known : (v w : View) → Counterparts v w → v.remote ≡ shown_after v.pattern (other v.role) v.passed w.own
-  pub answer : (agree : Own → List ℕ → Option (List ℕ)) (x : Own) (role : Role) (e s : Bool) (theirs : Own → Option (List ℕ)) (t : Token)
-      (answer : List ℕ)
-      → answered agree x (remote_at role (keys_if e s theirs) t) ≡ Some answer → answered agree x (remote_at role (public_keys theirs) t) ≡ Some answer
+  pub answer : (agree : Own → List ℕ → Option (List ℕ)) (x : Own) (role : Role) (e s : Bool)
+      (theirs : Own → Option (List ℕ)) (t : Token) (answer : List ℕ)
+      → answered agree x (remote_at role (keys_if e s theirs) t) ≡ Some answer
+      → answered agree x (remote_at role (public_keys theirs) t) ≡ Some answer
   pub starts : (p : Plan) (prologue : List ℕ) (secrets : List (List ℕ)) (own theirs : Own → Option (List ℕ))
       (agree their_agree : Own → List ℕ → Option (List ℕ)) (known their_known : Remote)
-      → known ≡ shown_before p Responder theirs → their_known ≡ shown_before p Initiator own → AnswersMeet p Initiator own agree theirs their_agree
-      → Counterparts (begun p Initiator prologue own agree known secrets) (begun p Responder prologue theirs their_agree their_known secrets)
+      → known ≡ shown_before p Responder theirs → their_known ≡ shown_before p Initiator own
+      → AnswersMeet p Initiator own agree theirs their_agree
+      → Counterparts (begun p Initiator prologue own agree known secrets)
+      (begun p Responder prologue theirs their_agree their_known secrets)
   pub due : (v w : View) (payload : List ℕ)
       → IsValid v.pattern → Counterparts v w → IsEquipped v.pattern v.role v.own v.agree w.own → Speaks v → IsKeyed v
       → overhead_of v.pattern (v.passed + 1) + length payload ≤ 65535

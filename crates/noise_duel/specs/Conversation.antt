@@ -1,5 +1,5 @@
--- A whole conversation, in which no party has a state: what all messages are, from both parties' public keys, the DH answers and the secrets
--- (Noise 5.3, 9.2 and 13).
+-- A whole conversation, in which no party has a state: what all messages are, from both parties' public keys, the DH
+-- answers and the secrets (Noise 5.3, 9.2 and 13).
 use Rattle.std.specs.Prelude.{◌≡◌, ℕ, ◌+◌, ◌≤◌, ◌<◌, List, [], ◌∷◌, ◌++◌, length, drop, take, count_by, map, Some, true, if◌then◌else◌, IsTrue, ⊤, None}
 use Rattle.std.specs.Prelude.{nat_lt, MatchBool, false, min}
 use Rattle.noise_names.specs.declared.token.Role.{Role}
@@ -45,24 +45,33 @@ carried_by w party secrets (S ∷ ts) = w.public party Static ∷ carried_by w p
 carried_by w party secrets (Psk ∷ ts) = first_secret secrets ∷ carried_by w party (other_secrets secrets) ts
 carried_by w party secrets (t ∷ ts) = w.answer t ∷ carried_by w party secrets ts
 
+-- what message n carries, the history after it, and the secrets for the messages after it
+abbrev pub carried_at : KeyMaterial → Plan → ℕ → List (List ℕ) → List (List ℕ)
+carried_at w p n secrets = carried_by w (turn_from Initiator n) secrets (tokens_at p.messages n)
+
+abbrev pub history_next : KeyMaterial → Plan → ℕ → List (List ℕ) → History → List ℕ → History
+history_next w p n secrets r payload =
+    after_payload (has_psk p) r (tokens_at p.messages n) (carried_at w p n secrets) payload
+
+abbrev pub secrets_next : Plan → ℕ → List (List ℕ) → List (List ℕ)
+secrets_next p n secrets = drop (count_by is_psk (tokens_at p.messages n)) secrets
+
 -- the handshake messages from number n on, counted from 0, with these payloads (Noise 5.3)
 abbrev pub conversation : KeyMaterial → Plan → ℕ → List (List ℕ) → History → List (List ℕ) → List HandshakeMessage
 conversation w p n secrets r [] = []
 conversation w p n secrets r (payload ∷ payloads) =
     record {
-      message = message_bytes (has_psk p) r (tokens_at p.messages n) (carried_by w (turn_from Initiator n) secrets (tokens_at p.messages n)) payload;
-      carried = carried_by w (turn_from Initiator n) secrets (tokens_at p.messages n);
+      message = message_bytes (has_psk p) r (tokens_at p.messages n) (carried_at w p n secrets) payload;
+      carried = carried_at w p n secrets;
       payload = payload;
     }
-    ∷ conversation w p (n + 1) (drop (count_by is_psk (tokens_at p.messages n)) secrets)
-    (after_payload (has_psk p) r (tokens_at p.messages n) (carried_by w (turn_from Initiator n) secrets (tokens_at p.messages n)) payload) payloads
+    ∷ conversation w p (n + 1) (secrets_next p n secrets) (history_next w p n secrets r payload) payloads
 
 -- the history after them (Noise 5.3)
 abbrev pub after_conversation : KeyMaterial → Plan → ℕ → List (List ℕ) → History → List (List ℕ) → History
 after_conversation w p n secrets r [] = r
 after_conversation w p n secrets r (payload ∷ payloads) =
-    after_conversation w p (n + 1) (drop (count_by is_psk (tokens_at p.messages n)) secrets)
-    (after_payload (has_psk p) r (tokens_at p.messages n) (carried_by w (turn_from Initiator n) secrets (tokens_at p.messages n)) payload) payloads
+    after_conversation w p (n + 1) (secrets_next p n secrets) (history_next w p n secrets r payload) payloads
 
 -- a party's public keys
 abbrev pub public_keys_in : KeyMaterial → Role → Remote
@@ -71,10 +80,11 @@ public_keys_in w party = record { e = Some (w.public party Ephemeral); s = Some 
 -- the history at the start (Noise 5.3)
 abbrev pub start_in : KeyMaterial → Plan → List ℕ → History
 start_in w p prologue =
-    start (name_bytes (record { base = p.base; places = p.places })) p prologue (public_keys_in w Initiator) (public_keys_in w Responder)
+    start (name_bytes (record { base = p.base; places = p.places })) p prologue
+    (public_keys_in w Initiator) (public_keys_in w Responder)
 
--- A party starts from its part of the key material: it has its own keys that the pattern asks for, the other party's of its pre-message, the answer
--- at each DH token, and the secrets.
+-- A party starts from its part of the key material: it has its own keys that the pattern asks for, the other party's of
+-- its pre-message, the answer at each DH token, and the secrets.
 pub record IsPart (w : KeyMaterial) (p : Plan) (role : Role) (prologue : List ℕ) (s : Start) : Type 0 where
   pub prologue_is : s.prologue ≡ prologue
   pub own : (k : Own) → is_among role (token_of k) (places_of p) ≡ true → s.own k ≡ Some (w.public role k)
@@ -84,8 +94,8 @@ pub record IsPart (w : KeyMaterial) (p : Plan) (role : Role) (prologue : List �
       → answered s.agree (own_at role t) (remote_at role (public_keys_in w (other role)) t) ≡ Some (w.answer t)
   pub secrets : s.secrets ≡ w.secrets
 
--- Lines, a role and a payload each, in turn and not too long, from message n on: the handshake messages, and then transport messages, which in a
--- one-way pattern the initiator alone writes (Noise 3, 7.4).
+-- Lines, a role and a payload each, in turn and not too long, from message n on: the handshake messages, and then
+-- transport messages, which in a one-way pattern the initiator alone writes (Noise 3, 7.4).
 abbrev pub InTurn : Plan → ℕ → List (Role × List ℕ) → Type 0
 InTurn p n [] = ⊤
 InTurn p n (l ∷ lines) =
@@ -130,30 +140,39 @@ frames_by role (m ∷ ms) = (if same_role m.0 role then frame m.1 ∷ [] else []
 abbrev pub payloads_in : ℕ → List (Role × List ℕ) → List (List ℕ)
 payloads_in k lines = map (λ l. l.1) (take k lines)
 
--- the history after those of lines that are handshake messages
+-- for the lines that are handshake messages: their payloads, their messages, and the history after them
+abbrev pub handshake_payloads : Plan → List (Role × List ℕ) → List (List ℕ)
+handshake_payloads p lines = payloads_in (length p.messages) lines
+
+abbrev pub handshake_in : KeyMaterial → Plan → List ℕ → List (Role × List ℕ) → List HandshakeMessage
+handshake_in w p prologue lines = conversation w p 0 w.secrets (start_in w p prologue) (handshake_payloads p lines)
+
 abbrev pub history_in : KeyMaterial → Plan → List ℕ → List (Role × List ℕ) → History
-history_in w p prologue lines = after_conversation w p 0 w.secrets (start_in w p prologue) (payloads_in (length p.messages) lines)
+history_in w p prologue lines = after_conversation w p 0 w.secrets (start_in w p prologue) (handshake_payloads p lines)
 
 -- all messages of lines with their writers, the handshake's and then the packets
 abbrev pub transcript : KeyMaterial → Plan → List ℕ → ℕ → List (Role × List ℕ) → List (Role × List ℕ)
 transcript w p prologue interval lines =
-    in_turn 0 (messages_of (conversation w p 0 w.secrets (start_in w p prologue) (payloads_in (length p.messages) lines)))
+    in_turn 0 (messages_of (handshake_in w p prologue lines))
     ++ packets_of (history_in w p prologue lines) interval 0 0 (drop (length p.messages) lines)
 
 -- two new ends of one pattern, with these intervals
 abbrev pub facing : Plan → Start → Start → ℕ → ℕ → Sides
-facing p a b i j =
-    record { initiator = new_side (end_of (begun_as p Initiator a) i); responder = new_side (end_of (begun_as p Responder b) j) }
+facing p a b i j = record {
+  initiator = new_side (end_of (begun_as p Initiator a) i);
+  responder = new_side (end_of (begun_as p Responder b) j);
+}
 
--- Each end has written the frames of the transcript that are its own, and what the one wrote the other has accepted. As many handshake messages have
--- passed as there were lines for, the history is that of their payloads, and the ends have come equally far: they have one history, and each knows the
--- keys that the other has sent.
-pub record ComeThrough (w : KeyMaterial) (p : Plan) (prologue : List ℕ) (interval : ℕ) (lines : List (Role × List ℕ)) (d : Sides) : Type 0 where
+-- Each end has written the frames of the transcript that are its own, and what the one wrote the other has accepted. As
+-- many handshake messages have passed as there were lines for, the history is that of their payloads, and the ends have
+-- come equally far: they have one history, and each knows the keys that the other has sent.
+pub record ComeThrough (w : KeyMaterial) (p : Plan) (prologue : List ℕ) (interval : ℕ) (lines : List (Role × List ℕ))
+    (d : Sides) : Type 0 where
   pub frames : (role : Role) → (side d role).frames ≡ frames_by role (transcript w p prologue interval lines)
-  pub initiator : d.initiator.passed ≡ conversation w p 0 w.secrets (start_in w p prologue) (payloads_in (length p.messages) lines)
+  pub initiator : d.initiator.passed ≡ handshake_in w p prologue lines
   pub responder : d.responder.passed ≡ d.initiator.passed
   pub history : d.initiator.view.party.history ≡ history_in w p prologue lines
-  pub count : d.initiator.view.party.passed ≡ length (payloads_in (length p.messages) lines)
+  pub count : d.initiator.view.party.passed ≡ length (handshake_payloads p lines)
   pub ends : EndCounterparts d.initiator.view d.responder.view
   pub there : d.responder.received ≡ d.initiator.sent
   pub back : d.initiator.received ≡ d.responder.sent
@@ -162,8 +181,9 @@ pub record ComeThrough (w : KeyMaterial) (p : Plan) (prologue : List ℕ) (inter
 abbrev pub lines_by : Role → List (Role × List ℕ) → ℕ
 lines_by role lines = count_by (λ l. same_role l.0 role) lines
 
--- The end of a role that starts from this, and faces a party that starts from that, once lines have come through and this is the history: so many messages
--- of the handshake have passed, the psks after theirs are to come, and the other lines were transport messages.
+-- The end of a role that starts from this, and faces a party that starts from that, once lines have come through and
+-- this is the history: so many messages of the handshake have passed, the psks after theirs are to come, and the other
+-- lines were transport messages.
 abbrev pub end_after : Plan → Role → Start → Start → ℕ → History → List (Role × List ℕ) → EndView
 end_after p role s theirs interval r lines =
     let passed : ℕ = min (length p.messages) (length lines) in
@@ -196,15 +216,17 @@ pub record HaveParts (w : KeyMaterial) (p : Plan) (prologue : List ℕ) (a b : S
 
 -- Lines in turn between two such parties come through.
 abbrev pub LinesComeThrough : Type 0
-LinesComeThrough = (w : KeyMaterial) (p : Plan) (prologue : List ℕ) (a b : Start) (interval : ℕ) (lines : List (Role × List ℕ))
-    (notes : List (Role × Note)) (d : Sides) → HaveParts w p prologue a b → InTurn p 0 lines
+LinesComeThrough = (w : KeyMaterial) (p : Plan) (prologue : List ℕ) (a b : Start) (interval : ℕ)
+    (lines : List (Role × List ℕ)) (notes : List (Role × Note)) (d : Sides)
+    → HaveParts w p prologue a b → InTurn p 0 lines
     → Run (facing p a b interval interval) (say_events lines) notes d
     → (notes ≡ notes_of_lines 0 0 lines) × ComeThrough w p prologue interval lines d
 
 -- The two ends left are those after the lines.
 abbrev pub LinesLeave : Type 0
-LinesLeave = (w : KeyMaterial) (p : Plan) (prologue : List ℕ) (a b : Start) (interval : ℕ) (lines : List (Role × List ℕ))
-    (notes : List (Role × Note)) (d : Sides) → HaveParts w p prologue a b → InTurn p 0 lines
+LinesLeave = (w : KeyMaterial) (p : Plan) (prologue : List ℕ) (a b : Start) (interval : ℕ)
+    (lines : List (Role × List ℕ)) (notes : List (Role × Note)) (d : Sides)
+    → HaveParts w p prologue a b → InTurn p 0 lines
     → Run (facing p a b interval interval) (say_events lines) notes d
     → (d.initiator.view ≡ end_after p Initiator a b interval (history_in w p prologue lines) lines)
     × (d.responder.view ≡ end_after p Responder b a interval (history_in w p prologue lines) lines)

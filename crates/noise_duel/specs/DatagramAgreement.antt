@@ -34,15 +34,17 @@ pub record HaveOneBeginning (v w : DatagramView) : Type 0 where
 -- these are a writer's messages, from nonce n on (Noise 5.1, 5.2)
 abbrev pub AreCounted : History → Role → ℕ → List NonceMessage → Type 0
 AreCounted r writer n [] = ⊤
-AreCounted r writer n (m ∷ ms) = (m.nonce ≡ n) × (m.message.message ≡ packet r writer 0 n m.message.payload) × AreCounted r writer (n + 1) ms
+AreCounted r writer n (m ∷ ms) =
+    (m.nonce ≡ n) × (m.message.message ≡ packet r writer 0 n m.message.payload) × AreCounted r writer (n + 1) ms
 
 -- these are messages of a writer at their nonces, whoever made them
 abbrev pub AreAtNonces : History → Role → List NonceMessage → Type 0
 AreAtNonces r writer [] = ⊤
-AreAtNonces r writer (m ∷ ms) = (m.message.message ≡ packet r writer 0 m.nonce m.message.payload) × AreAtNonces r writer ms
+AreAtNonces r writer (m ∷ ms) =
+    (m.message.message ≡ packet r writer 0 m.nonce m.message.payload) × AreAtNonces r writer ms
 
--- A party is what it sealed and opened: its sending nonce is the number of datagrams that it sealed, at the nonces from 0 on, and its set of accepted
--- nonces has those of the datagrams that it opened.
+-- A party is what it sealed and opened: its sending nonce is the number of datagrams that it sealed, at the nonces from
+-- 0 on, and its set of accepted nonces has those of the datagrams that it opened.
 pub record ComesOfDatagrams (role : Role) (r : History) (s : DatagramSide) : Type 0 where
   pub role_is : s.view.role ≡ role
   pub history : s.view.history ≡ r
@@ -51,11 +53,13 @@ pub record ComesOfDatagrams (role : Role) (r : History) (s : DatagramSide) : Typ
   pub sealed : AreCounted r role 0 s.sealed
   pub opened : AreAtNonces r (other role) s.opened
 
--- In one direction no nonce is accepted twice, and the datagram that is accepted at nonce i is the one of number i, with its payload, or a forged one.
+-- In one direction no nonce is accepted twice, and the datagram that is accepted at nonce i is the one of number i,
+-- with its payload, or a forged one.
 pub record ArriveOnce (r : History) (writer : Role) (sealed opened : List NonceMessage) : Type 0 where
   pub once : AreOnce (nonces_of opened)
   pub own : (i : ℕ) (m : TransportMessage) → of_nonce opened i ≡ Some m
-      → (slice_get sealed i ≡ Some (record { nonce = i; message = m })) ⊎ ForgedAt r writer 0 (of_nonce sealed) (of_nonce opened) i
+      → (slice_get sealed i ≡ Some (record { nonce = i; message = m }))
+      ⊎ ForgedAt r writer 0 (of_nonce sealed) (of_nonce opened) i
 
 pub record DatagramsAgree (r : History) (last : DatagramSides) : Type 0 where
   pub initiator : ComesOfDatagrams Initiator r last.initiator
@@ -65,11 +69,12 @@ pub record DatagramsAgree (r : History) (last : DatagramSides) : Type 0 where
 
 -- So it is at the end of every run of two parties of one handshake.
 abbrev pub DatagramRunsAgree : Type 0
-DatagramRunsAgree = (v w : DatagramView) (events : List DatagramEvent) (notes : List (Role × DatagramNote)) (last : DatagramSides)
+DatagramRunsAgree = (v w : DatagramView) (events : List DatagramEvent) (notes : List (Role × DatagramNote))
+    (last : DatagramSides)
     → HaveOneBeginning v w → DatagramRun (meeting v w) events notes last → DatagramsAgree v.history last
 
 -- Two new ends of one pattern that a run over frames has brought to one history go over to such parties.
 abbrev pub RunsMakeOneBeginning : Type 0
-RunsMakeOneBeginning = (p : Plan) (a b : Start) (i j : ℕ) (events : List Event) (notes : List (Role × Note)) (d : Sides) (window : Window)
-    → Run (facing p a b i j) events notes d → HaveOneHistory d
+RunsMakeOneBeginning = (p : Plan) (a b : Start) (i j : ℕ) (events : List Event) (notes : List (Role × Note)) (d : Sides)
+    (window : Window) → Run (facing p a b i j) events notes d → HaveOneHistory d
     → HaveOneBeginning (datagrams_of d.initiator.view.party window) (datagrams_of d.responder.view.party window)

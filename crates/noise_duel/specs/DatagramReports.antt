@@ -1,7 +1,9 @@
 -- What a run of two parties' datagrams reports and leaves.
 use Rattle.std.specs.Prelude.{◌&&◌, List, Bool, map}
 use Rattle.noise_names.specs.declared.token.Role.{Role}
-use Rattle.noise_session.specs.Datagrams.{HeldDatagrams, DatagramsStand}
+use Rattle.noise_events.specs.declared.window.Window.{Window}
+use Rattle.noise_session.specs.Datagrams.{HeldDatagrams, DatagramsStand, datagrams_of}
+use Rattle.noise_session.specs.Ends.{EndView}
 use Rattle.noise_session.specs.EndDatagrams.{is_datagram_ready}
 use Rattle.noise_duel.specs.declared.datagram_report.DatagramEntry.{DatagramEntry}
 use Rattle.noise_duel.specs.declared.datagram_report.DatagramEntry.TheVariants as entry
@@ -9,7 +11,7 @@ use Rattle.noise_duel.specs.declared.datagram_report.DatagramReport.{DatagramRep
 use Rattle.noise_events.specs.DatagramEvents.{DatagramEvent}
 use Rattle.noise_duel.specs.DatagramNotes.{DatagramNote, Sealed, SealFault, Payload, Rejected, Missing}
 use Rattle.noise_duel.specs.DatagramRuns.{DatagramRun}
-use Rattle.noise_duel.specs.DatagramSides.{DatagramSides}
+use Rattle.noise_duel.specs.DatagramSides.{DatagramSides, meeting}
 use Rattle.noise_duel.specs.HeldDuel.{HeldDuel}
 
 -- the entries of code
@@ -32,13 +34,18 @@ pub record HeldDatagramDuel : Type 0 where
 abbrev pub are_datagram_ready : {A B : Type 0} → HeldDuel A B → Bool
 are_datagram_ready duel = is_datagram_ready duel.initiator && is_datagram_ready duel.responder
 
+-- the datagrams of two parties whose ends have these views, before a run
+abbrev pub meeting_as : EndView → EndView → Window → DatagramSides
+meeting_as v w window = meeting (datagrams_of v.party window) (datagrams_of w.party window)
+
 -- each holds what its view says
 pub record DatagramDuelStands (duel : HeldDatagramDuel) (d : DatagramSides) : Type 0 where
   pub initiator : DatagramsStand duel.initiator d.initiator.view
   pub responder : DatagramsStand duel.responder d.responder.view
 
 -- The report tells what a run makes of the two, and those left picture the views after it.
-pub record DatagramReports (d : DatagramSides) (events : List DatagramEvent) (duel : HeldDatagramDuel) (report : DatagramReport) : Type 0 where
+pub record DatagramReports (d : DatagramSides) (events : List DatagramEvent) (duel : HeldDatagramDuel)
+    (report : DatagramReport) : Type 0 where
   pub last : DatagramSides
   pub run : DatagramRun d events (datagram_notes_of report.entries.items) last
   pub pictures : DatagramDuelStands duel last

@@ -11,34 +11,42 @@ use Rattle.noise_duel.specs.DatagramSides.{DatagramSide, DatagramSides, datagram
 
 -- A party seals a payload at the count of its seals, or doesn't (Noise 5.1, 7.4 and 11.4).
 pub data PartySeals : DatagramSide → List ℕ → DatagramNote → DatagramSide → Type 0 where
-  seals : (s : DatagramSide) (payload : List ℕ) → unsealed s.view.role s.view.one_way s.view.sent (length payload) ≡ None
-      → PartySeals s payload (Sealed (length s.sealed) (datagram s.view.history s.view.role s.view.sent payload)) (sealing s payload)
+  seals : (s : DatagramSide) (payload : List ℕ)
+      → unsealed s.view.role s.view.one_way s.view.sent (length payload) ≡ None
+      → PartySeals s payload (Sealed (length s.sealed) (datagram s.view.history s.view.role s.view.sent payload))
+      (sealing s payload)
   seals_nothing : (s : DatagramSide) (payload : List ℕ) (why : SendFault)
-      → unsealed s.view.role s.view.one_way s.view.sent (length payload) ≡ Some why → PartySeals s payload (SealFault why) s
+      → unsealed s.view.role s.view.one_way s.view.sent (length payload) ≡ Some why
+      → PartySeals s payload (SealFault why) s
 
 -- A party opens bytes as one datagram, or doesn't (Noise 11.4).
 pub data PartyOpens : DatagramSide → List ℕ → DatagramNote → DatagramSide → Type 0 where
-  opens : (s : DatagramSide) (bytes payload : List ℕ) → Opens s.view bytes (Ok payload) (accepting s.view (nonce_named bytes))
+  opens : (s : DatagramSide) (bytes payload : List ℕ)
+      → Opens s.view bytes (Ok payload) (accepting s.view (nonce_named bytes))
       → PartyOpens s bytes (Payload payload) (opening s bytes payload)
-  rejects : (s : DatagramSide) (bytes : List ℕ) (why : DatagramFault) → Opens s.view bytes (Err why) s.view → PartyOpens s bytes (Rejected why) s
+  rejects : (s : DatagramSide) (bytes : List ℕ) (why : DatagramFault)
+      → Opens s.view bytes (Err why) s.view → PartyOpens s bytes (Rejected why) s
 
 -- One event, what is noted of it, and the two parties after it.
 pub data DatagramHappens : DatagramSides → DatagramEvent → Role × DatagramNote → DatagramSides → Type 0 where
   is_sealed : (d : DatagramSides) (role : Role) (payload : List ℕ) (note : DatagramNote) (next : DatagramSide)
-      → PartySeals (party d role) payload note next → DatagramHappens d (Seal role payload) (role, note) (with_party d role next)
+      → PartySeals (party d role) payload note next
+      → DatagramHappens d (Seal role payload) (role, note) (with_party d role next)
   is_delivered : (d : DatagramSides) (role : Role) (n : ℕ) (bytes : List ℕ) (note : DatagramNote) (next : DatagramSide)
       → slice_get (datagrams_in (party d (other role))) n ≡ Some bytes → PartyOpens (party d role) bytes note next
       → DatagramHappens d (Open role n) (role, note) (with_party d role next)
   is_missing : (d : DatagramSides) (role : Role) (n : ℕ) → slice_get (datagrams_in (party d (other role))) n ≡ None
       → DatagramHappens d (Open role n) (role, Missing n) d
   is_put_in : (d : DatagramSides) (role : Role) (bytes : List ℕ) (note : DatagramNote) (next : DatagramSide)
-      → PartyOpens (party d role) bytes note next → DatagramHappens d (Raw role bytes) (role, note) (with_party d role next)
+      → PartyOpens (party d role) bytes note next
+      → DatagramHappens d (Raw role bytes) (role, note) (with_party d role next)
 
 -- Events, one after another.
 pub data DatagramRun : DatagramSides → List DatagramEvent → List (Role × DatagramNote) → DatagramSides → Type 0 where
   ends : (d : DatagramSides) → DatagramRun d [] [] d
-  begins : (d next last : DatagramSides) (event : DatagramEvent) (events : List DatagramEvent) (note : Role × DatagramNote)
-      (notes : List (Role × DatagramNote)) → DatagramHappens d event note next → DatagramRun next events notes last
+  begins : (d next last : DatagramSides) (event : DatagramEvent) (events : List DatagramEvent)
+      (note : Role × DatagramNote) (notes : List (Role × DatagramNote))
+      → DatagramHappens d event note next → DatagramRun next events notes last
       → DatagramRun d (event ∷ events) (note ∷ notes) last
 
 -- A run is determined: of two parties and a list of events one list of notes and one pair of parties comes.

@@ -1,4 +1,5 @@
--- The datagrams of two parties with what each sealed and opened so far: what a run keeps beside each view. No code holds it.
+-- The datagrams of two parties with what each sealed and opened so far: what a run keeps beside each view. No code
+-- holds it.
 use Rattle.std.specs.Prelude.{ℕ, ◌+◌, ◌==◌, List, [], ◌∷◌, ◌++◌, drop, map, Option, Some, None, if◌then◌else◌}
 use Rattle.std.specs.Int.{w64, to_be_bytes}
 use Rattle.noise_names.specs.declared.token.Role.{Role}

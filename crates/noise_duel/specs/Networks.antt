@@ -5,7 +5,7 @@ use Rattle.noise_names.specs.declared.token.Role.TheVariants.{Initiator, Respond
 use Rattle.noise_names.specs.Plan.{Plan}
 use Rattle.noise_session.specs.Ends.{session_hash}
 use Rattle.noise_duel.specs.Collision.{Collision}
-use Rattle.noise_duel.specs.Messages.{Start, answers_from, keys_before, messages_of}
+use Rattle.noise_duel.specs.Messages.{Start, answers_from, HaveSameKeysBefore, messages_of}
 use Rattle.noise_duel.specs.Sides.{Sides}
 use Rattle.noise_events.specs.Events.{Event}
 use Rattle.noise_duel.specs.Notes.{Note}
@@ -36,7 +36,7 @@ pub record HaveSameSecrets (p : Plan) (a b : Start) : Type 0 where
   pub initiator : IsSetUp p Initiator a
   pub responder : IsSetUp p Responder b
 
--- one or the other
+-- The ends used the same psks and answers, or they started from the same psks with keys that agree.
 abbrev pub ShareSecrets : Plan → Start → Start → Sides → Type 0
 ShareSecrets p a b d = UsedSameSecrets p a b d ⊎ HaveSameSecrets p a b
 
@@ -46,19 +46,22 @@ HashesTell = (p : Plan) (a b : Start) (i j : ℕ) (events : List Event) (notes :
     → Run (facing p a b i j) events notes d → HaveOneHash d
     → VisiblyEqual p a b d.initiator.passed d.responder.passed ⊎ HistoriesCollide d
 
--- all of the conversation, what travelled encrypted too, and one history: one hash, one chaining key, the same transport keys
+-- all of the conversation, what travelled encrypted too, and one history: one hash, one chaining key, the same
+-- transport keys
 pub record HaveOneHistory (d : Sides) : Type 0 where
   pub passed : d.initiator.passed ≡ d.responder.passed
   pub history : d.initiator.view.party.history ≡ d.responder.view.party.history
 
--- The other way round: two opened ends whose conversations are the same as far as they can be seen, with the same psks and answers, have one hash.
+-- The other way round: two opened ends whose conversations are the same as far as they can be seen, with the same psks
+-- and answers, have one hash.
 abbrev pub VisiblyEqualGivesOne : Type 0
 VisiblyEqualGivesOne = (p : Plan) (a b : Start) (i j : ℕ) (events : List Event) (notes : List (Role × Note)) (d : Sides)
     → Run (facing p a b i j) events notes d
-    → a.prologue ≡ b.prologue → ((party : Role) → keys_before p Initiator a party ≡ keys_before p Responder b party)
+    → a.prologue ≡ b.prologue → HaveSameKeysBefore p a b
     → messages_of d.initiator.passed ≡ messages_of d.responder.passed → UsedSameSecrets p a b d → HaveOneHistory d
 
--- with equal hashes and the same secrets: all of it, or there is a collision
+-- With equal hashes and the same secrets the ends have the whole conversation and one history in common, or there is a
+-- collision.
 abbrev pub SecretsMakeOne : Type 0
 SecretsMakeOne = (p : Plan) (a b : Start) (i j : ℕ) (events : List Event) (notes : List (Role × Note)) (d : Sides)
     → Run (facing p a b i j) events notes d → HaveOneHash d
@@ -69,7 +72,8 @@ pub record PayloadsAgree (interval : ℕ) (d : Sides) : Type 0 where
   pub there : PrefixOrForged d.initiator.view.party.history Initiator interval d.initiator.sent d.responder.received
   pub back : PrefixOrForged d.responder.view.party.history Responder interval d.responder.sent d.initiator.received
 
--- with equal hashes, the same secrets and equal intervals: so it is, or there is a collision
+-- With equal hashes, the same secrets and equal intervals the accepted payloads agree with the written ones, or there
+-- is a collision.
 abbrev pub PayloadsCome : Type 0
 PayloadsCome = (p : Plan) (a b : Start) (interval : ℕ) (events : List Event) (notes : List (Role × Note)) (d : Sides)
     → Run (facing p a b interval interval) events notes d → HaveOneHash d

@@ -13,15 +13,17 @@ use Rattle.noise_duel.specs.DatagramRuns.{PartySeals, PartyOpens, DatagramHappen
 use Rattle.noise_duel.specs.DatagramSides.{DatagramSide, DatagramSides, datagrams_in}
 use Rattle.noise_duel.specs.Entries.{bytes_of}
 
--- After a seal the datagrams and those that were sealed are those of another side.
-pub record HasSealed (s : DatagramSide) (payload : List ℕ) (entry : DatagramEntry) (datagrams : HeldDatagrams) (sealed : List (Vec ℕ Global)) : Type 0 where
+-- A payload was sealed, or refused: the party's datagrams and those that it sealed are those after that.
+pub record HasSealed (s : DatagramSide) (payload : List ℕ) (entry : DatagramEntry) (datagrams : HeldDatagrams)
+    (sealed : List (Vec ℕ Global)) : Type 0 where
   pub next : DatagramSide
   pub seals : PartySeals s payload (datagram_note_of entry) next
   pub pictures : DatagramsStand datagrams next.view
   pub kept : bytes_of sealed ≡ datagrams_in next
 
--- After bytes that came the datagrams are those of another side.
-pub record HasOpened (s : DatagramSide) (bytes : List ℕ) (entry : DatagramEntry) (datagrams : HeldDatagrams) : Type 0 where
+-- Bytes came and were opened, or refused: the party's datagrams are those after that.
+pub record HasOpened (s : DatagramSide) (bytes : List ℕ) (entry : DatagramEntry)
+    (datagrams : HeldDatagrams) : Type 0 where
   pub next : DatagramSide
   pub opens : PartyOpens s bytes (datagram_note_of entry) next
   pub pictures : DatagramsStand datagrams next.view
@@ -37,17 +39,17 @@ pub record AreKept (sealed : SealedDatagrams) (d : DatagramSides) : Type 0 where
   pub initiator : bytes_of sealed.initiator.items ≡ datagrams_in d.initiator
   pub responder : bytes_of sealed.responder.items ≡ datagrams_in d.responder
 
--- After an event the two are others, and an entry is reported.
-pub record DatagramHappened (d : DatagramSides) (event : DatagramEvent) (told : Role × DatagramEntry) (duel : HeldDatagramDuel)
-    (sealed : SealedDatagrams) : Type 0 where
+-- An event happened: both parties' datagrams, those that were sealed, and the entry are those after it.
+pub record DatagramHappened (d : DatagramSides) (event : DatagramEvent) (told : Role × DatagramEntry)
+    (duel : HeldDatagramDuel) (sealed : SealedDatagrams) : Type 0 where
   pub next : DatagramSides
   pub happens : DatagramHappens d event (told.0, datagram_note_of told.1) next
   pub pictures : DatagramDuelStands duel next
   pub kept : AreKept sealed next
 
 -- So far: whatever comes of the events that are left comes, after the notes so far, of all events.
-pub record DatagramsHaveComeTo (d : DatagramSides) (events rest : List DatagramEvent) (duel : HeldDatagramDuel) (sealed : SealedDatagrams)
-    (report : DatagramReport) : Type 0 where
+pub record DatagramsHaveComeTo (d : DatagramSides) (events rest : List DatagramEvent) (duel : HeldDatagramDuel)
+    (sealed : SealedDatagrams) (report : DatagramReport) : Type 0 where
   pub now : DatagramSides
   pub goes_on : (notes : List (Role × DatagramNote)) (last : DatagramSides) → DatagramRun now rest notes last
       → DatagramRun d events (datagram_notes_of report.entries.items ++ notes) last

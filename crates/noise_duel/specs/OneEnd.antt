@@ -13,14 +13,16 @@ use Rattle.noise_duel.specs.Runs.{SideWrites, SideReceives}
 
 module _ {K : Type 0} (public_of : K → Own → Option (List ℕ)) (agreement : K → Own → List ℕ → Option (List ℕ)) where
   -- After a write at this side the end and the frames are those of another one.
-  pub record HasWritten (s : Side) (payload : List ℕ) (told : Result ℕ SendFault) (end : HeldEnd K) (frames : List (Vec ℕ Global)) : Type 0 where
+  pub record HasWritten (s : Side) (payload : List ℕ) (told : Result ℕ SendFault) (end : HeldEnd K)
+      (frames : List (Vec ℕ Global)) : Type 0 where
     pub next : Side
     pub writes : SideWrites s payload (written_note told) next
     pub stands : EndStands public_of agreement end next.view
     pub frames_are : bytes_of frames ≡ next.frames
 
   -- After bytes that came to this side the end is that of another one, and the entries report them.
-  pub record HasReceived (s : Side) (role : Role) (bytes : List ℕ) (end : HeldEnd K) (before after : List (Role × Entry)) : Type 0 where
+  pub record HasReceived (s : Side) (role : Role) (bytes : List ℕ) (end : HeldEnd K)
+      (before after : List (Role × Entry)) : Type 0 where
     pub next : Side
     pub notes : List Note
     pub receives : SideReceives s bytes notes next

@@ -22,7 +22,7 @@ step_note (Refused token cause) = Judged (Refused token cause) ∷ []
 step_note Exhausted = Judged Exhausted ∷ []
 step_note _ = []
 
--- so many bytes, and why an end takes none of them, if that is its answer
+-- why an end takes no bytes, and how many are left then; none where it takes some
 abbrev pub left_of : Told → ℕ → Option (Idle × ℕ)
 left_of Ended n = Some (idle.Ended, n)
 left_of YourTurn n = Some (idle.YourTurn, n)
@@ -37,12 +37,14 @@ note_of_left (Some left) = Left (step_of left.0) left.1 ∷ []
 -- No bytes are left, or so many and not 0, which the side doesn't listen to.
 abbrev pub AreLeft : Side → List ℕ → Option (Idle × ℕ) → Type 0
 AreLeft s rest None = rest ≡ []
-AreLeft s rest (Some left) = (idle_step (progress_of s.view) ≡ Some (step_of left.0)) × (0 < left.1) × (length rest ≡ left.1)
+AreLeft s rest (Some left) =
+    (idle_step (progress_of s.view) ≡ Some (step_of left.0)) × (0 < left.1) × (length rest ≡ left.1)
 
 module _ {K : Type 0} (public_of : K → Own → Option (List ℕ)) (agreement : K → Own → List ℕ → Option (List ℕ)) where
-  -- Of bytes that come to this side all but the rest were handed over, and the entries report them: whatever comes of the rest, with any
-  -- bytes after it, comes of all of them after the notes so far.
-  pub record HasReceivedSome (s : Side) (role : Role) (bytes rest : List ℕ) (end : HeldEnd K) (before after : List (Role × Entry)) : Type 0 where
+  -- Of bytes that come to this side all but the rest were handed over, and the entries report them: whatever comes of
+  -- the rest, with any bytes after it, comes of all of them after the notes so far.
+  pub record HasReceivedSome (s : Side) (role : Role) (bytes rest : List ℕ) (end : HeldEnd K)
+      (before after : List (Role × Entry)) : Type 0 where
     pub next : Side
     pub notes : List Note
     pub goes_on : (beyond : List ℕ) (more : List Note) (last : Side) → SideReceives next (rest ++ beyond) more last

@@ -19,15 +19,20 @@ use Rattle.noise_duel.specs.Notes.{Note, Wrote, WriteFault, Judged, Missing, lef
 
 -- An end writes a payload as a frame, or doesn't (Noise 5.3, 11.3 and 13).
 pub data SideWrites : Side → List ℕ → Note → Side → Type 0 where
-  writes_nothing : (s : Side) (payload : List ℕ) (why : SendFault) (next : EndView) → Sends s.view payload (Err why) next
+  writes_nothing : (s : Side) (payload : List ℕ) (why : SendFault) (next : EndView)
+      → Sends s.view payload (Err why) next
       → SideWrites s payload (WriteFault why) (with_view s next)
-  writes_handshake : (s : Side) (message payload : List ℕ) (xs : List (List ℕ)) → refusal (progress_of s.view) (length payload) ≡ None
+  writes_handshake : (s : Side) (message payload : List ℕ) (xs : List (List ℕ))
+      → refusal (progress_of s.view) (length payload) ≡ None
       → Writes s.view.party payload xs message
-      → SideWrites s payload (Wrote (length s.frames)) (wrote_handshake s (record { message = message; carried = xs; payload = payload }))
-  writes_transport : (s : Side) (message payload : List ℕ) → refusal (progress_of s.view) (length payload) ≡ None
+      → SideWrites s payload (Wrote (length s.frames))
+      (wrote_handshake s (record { message = message; carried = xs; payload = payload }))
+  writes_transport : (s : Side) (message payload : List ℕ)
+      → refusal (progress_of s.view) (length payload) ≡ None
       → IsTrue (is_open (progress_of s.view))
       → message ≡ packet s.view.party.history s.view.party.role s.view.interval s.view.sent payload
-      → SideWrites s payload (Wrote (length s.frames)) (wrote_transport s (record { message = message; payload = payload }))
+      → SideWrites s payload (Wrote (length s.frames))
+      (wrote_transport s (record { message = message; payload = payload }))
 
 -- a step that hands out no payload
 abbrev pub GivesNoPayload : Told → Type 0
@@ -36,49 +41,64 @@ GivesNoPayload _ = ⊤
 
 -- An end accepts a whole message, or doesn't (Noise 5.3 and 11.3).
 pub data SideReads : Side → List ℕ → Told → Side → Type 0 where
-  accepts_handshake : (s : Side) (message payload : List ℕ) (xs : List (List ℕ)) → Accepts s.view.party message xs payload
-      → SideReads s message (Payload payload) (accepted_handshake s (record { message = message; carried = xs; payload = payload }))
-  accepts_transport : (s : Side) (message payload : List ℕ) → IsTrue (is_open (progress_of s.view)) → s.view.received ≢ last_nonce
+  accepts_handshake : (s : Side) (message payload : List ℕ) (xs : List (List ℕ))
+      → Accepts s.view.party message xs payload
+      → SideReads s message (Payload payload)
+      (accepted_handshake s (record { message = message; carried = xs; payload = payload }))
+  accepts_transport : (s : Side) (message payload : List ℕ)
+      → IsTrue (is_open (progress_of s.view)) → s.view.received ≢ last_nonce
       → message ≡ packet s.view.party.history (other s.view.party.role) s.view.interval s.view.received payload
-      → SideReads s message (Payload payload) (accepted_transport s (record { message = message; payload = payload }))
-  refuses_message : (s : Side) (message : List ℕ) (step : Told) (next : EndView) → GivesNoPayload step → Judges s.view message step next
+      → SideReads s message (Payload payload)
+      (accepted_transport s (record { message = message; payload = payload }))
+  refuses_message : (s : Side) (message : List ℕ) (step : Told) (next : EndView)
+      → GivesNoPayload step → Judges s.view message step next
       → SideReads s message step (with_view s next)
 
--- Bytes come to an end: after those that it holds they are cut into frames, and each frame's message is read, until the bytes end or the
--- end doesn't listen (Noise 13).
+-- Bytes come to an end: after those that it holds they are cut into frames, and each frame's message is read, until the
+-- bytes end or the end doesn't listen (Noise 13).
 pub data SideReceives : Side → List ℕ → List Note → Side → Type 0 where
   is_idle : (s : Side) (bytes : List ℕ) (step : Told) → idle_step (progress_of s.view) ≡ Some step
       → SideReceives s bytes (left_note step (length bytes)) s
   waits : (s : Side) (bytes : List ℕ) → idle_step (progress_of s.view) ≡ None → IsPartial (s.view.held ++ bytes)
       → SideReceives s bytes [] (with_view s (record (s.view) { held = s.view.held ++ bytes }))
-  reads_frame : (s next last : Side) (bytes message rest : List ℕ) (step : Told) (notes : List Note) → idle_step (progress_of s.view) ≡ None
-      → s.view.held ++ bytes ≡ frame message ++ rest → length message ≤ 65535 → SideReads s message step next → SideReceives next rest notes last
+  reads_frame : (s next last : Side) (bytes message rest : List ℕ) (step : Told) (notes : List Note)
+      → idle_step (progress_of s.view) ≡ None
+      → s.view.held ++ bytes ≡ frame message ++ rest → length message ≤ 65535
+      → SideReads s message step next → SideReceives next rest notes last
       → SideReceives s bytes (Judged step ∷ notes) last
 
 -- One event, what is noted of it, and the two ends after it.
 pub data Happens : Sides → Event → List (Role × Note) → Sides → Type 0 where
-  writes : (d : Sides) (role : Role) (payload : List ℕ) (note : Note) (next : Side) → SideWrites (side d role) payload note next
+  writes : (d : Sides) (role : Role) (payload : List ℕ) (note : Note) (next : Side)
+      → SideWrites (side d role) payload note next
       → Happens d (Write role payload) ((role, note) ∷ []) (with_side d role next)
-  says_nothing : (d : Sides) (role : Role) (payload : List ℕ) (why : SendFault) (next : Side) → SideWrites (side d role) payload (WriteFault why) next
+  says_nothing : (d : Sides) (role : Role) (payload : List ℕ) (why : SendFault) (next : Side)
+      → SideWrites (side d role) payload (WriteFault why) next
       → Happens d (Say role payload) ((role, WriteFault why) ∷ []) (with_side d role next)
   says : (d : Sides) (role : Role) (payload bytes : List ℕ) (n : ℕ) (notes : List Note) (next reader : Side)
-      → SideWrites (side d role) payload (Wrote n) next → slice_get next.frames n ≡ Some bytes → SideReceives (side d (other role)) bytes notes reader
-      → Happens d (Say role payload) ((role, Wrote n) ∷ noted_by (other role) (notes ++ held_note (length reader.view.held)))
+      → SideWrites (side d role) payload (Wrote n) next → slice_get next.frames n ≡ Some bytes
+      → SideReceives (side d (other role)) bytes notes reader
+      → Happens d (Say role payload)
+      ((role, Wrote n) ∷ noted_by (other role) (notes ++ held_note (length reader.view.held)))
       (with_side (with_side d role next) (other role) reader)
   delivers : (d : Sides) (role : Role) (n : ℕ) (bytes : List ℕ) (notes : List Note) (reader : Side)
       → slice_get (side d (other role)).frames n ≡ Some bytes → SideReceives (side d role) bytes notes reader
-      → Happens d (Deliver role n) (noted_by role (notes ++ held_note (length reader.view.held))) (with_side d role reader)
+      → Happens d (Deliver role n)
+      (noted_by role (notes ++ held_note (length reader.view.held))) (with_side d role reader)
   misses : (d : Sides) (role : Role) (n : ℕ) → slice_get (side d (other role)).frames n ≡ None
       → Happens d (Deliver role n) ((role, Missing n) ∷ []) d
-  injects : (d : Sides) (role : Role) (bytes : List ℕ) (notes : List Note) (reader : Side) → SideReceives (side d role) bytes notes reader
-      → Happens d (Raw role bytes) (noted_by role (notes ++ held_note (length reader.view.held))) (with_side d role reader)
+  injects : (d : Sides) (role : Role) (bytes : List ℕ) (notes : List Note) (reader : Side)
+      → SideReceives (side d role) bytes notes reader
+      → Happens d (Raw role bytes)
+      (noted_by role (notes ++ held_note (length reader.view.held))) (with_side d role reader)
 
 -- Events, one after another.
 pub data Run : Sides → List Event → List (Role × Note) → Sides → Type 0 where
   ends : (d : Sides) → Run d [] [] d
-  begins : (d next last : Sides) (event : Event) (events : List Event) (notes more : List (Role × Note)) → Happens d event notes next
-      → Run next events more last → Run d (event ∷ events) (notes ++ more) last
+  begins : (d next last : Sides) (event : Event) (events : List Event) (notes more : List (Role × Note))
+      → Happens d event notes next → Run next events more last → Run d (event ∷ events) (notes ++ more) last
 
 -- A run is determined: of two ends and a list of events one list of notes and one pair of ends comes.
 abbrev pub RunOnce : Type 0
-RunOnce = (d x y : Sides) (events : List Event) (ms ns : List (Role × Note)) → Run d events ms x → Run d events ns y → (ms ≡ ns) × (x ≡ y)
+RunOnce = (d x y : Sides) (events : List Event) (ms ns : List (Role × Note))
+    → Run d events ms x → Run d events ns y → (ms ≡ ns) × (x ≡ y)

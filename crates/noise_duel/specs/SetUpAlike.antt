@@ -1,5 +1,5 @@
 -- When two parties are set up with the key material of one conversation.
-use Rattle.std.specs.Prelude.{◌≡◌, ℕ, List, [], ◌∷◌, length, Some, true, is_some, unwrap_or}
+use Rattle.std.specs.Prelude.{◌≡◌, ℕ, List, [], length, replicate, Some, true, is_some, unwrap_or}
 use Rattle.noise_names.specs.declared.token.Role.{Role}
 use Rattle.noise_names.specs.declared.token.Role.TheVariants.{Initiator, Responder}
 use Rattle.noise_names.specs.declared.token.Token.{Token}
@@ -13,8 +13,8 @@ use Rattle.noise_duel.specs.Messages.{Start}
 use Rattle.noise_duel.specs.Agreement.{KeysAgree, IsSetUp}
 use Rattle.noise_duel.specs.Conversation.{KeyMaterial, IsPart}
 
--- Two parties set up alike: without a fault, with one prologue and the same psks, each with the keys of the other's pre-message and no others;
--- and the keys agree.
+-- Two parties set up alike: without a fault, with one prologue and the same psks, each with the keys of the other's
+-- pre-message and no others; and the keys agree.
 pub record AreSetUpAlike (p : Plan) (prologue : List ℕ) (a b : Start) : Type 0 where
   pub initiator : IsSetUp p Initiator a
   pub responder : IsSetUp p Responder b
@@ -35,10 +35,11 @@ HasAnswers p a b = (t : Token) → is_dh t ≡ true → occurs t (places_of p) �
     → (is_some (answered a.agree (own_at Initiator t) (remote_at Initiator (public_keys b.own) t)) ≡ true)
     × (is_some (answered b.agree (own_at Responder t) (remote_at Responder (public_keys a.own) t)) ≡ true)
 
--- The key material of two parties: both parties' public keys, the initiator's answer at each DH token, and the psks. 32 zeros stand for a key that there
--- isn't, and no bytes for an answer: no message of a pattern that the parties are set up for has them.
+-- The key material of two parties: both parties' public keys, the initiator's answer at each DH token, and the psks. 32
+-- zeros stand for a key that there isn't, and no bytes for an answer: no message of a pattern that the parties are set
+-- up for has them.
 abbrev pub no_key : List ℕ
-no_key = 0 ∷ 0 ∷ 0 ∷ 0 ∷ 0 ∷ 0 ∷ 0 ∷ 0 ∷ 0 ∷ 0 ∷ 0 ∷ 0 ∷ 0 ∷ 0 ∷ 0 ∷ 0 ∷ 0 ∷ 0 ∷ 0 ∷ 0 ∷ 0 ∷ 0 ∷ 0 ∷ 0 ∷ 0 ∷ 0 ∷ 0 ∷ 0 ∷ 0 ∷ 0 ∷ 0 ∷ 0 ∷ []
+no_key = replicate 32 0
 
 abbrev pub public_in : Start → Start → Role → Own → List ℕ
 public_in a b Initiator x = unwrap_or (a.own x) no_key

@@ -66,11 +66,12 @@ impl DatagramDuel {
         &self.responder
     }
 
-    /// Runs events, one after another, and returns what came of each; datagrams are counted anew. Nothing stops the run but lack of memory, at which the
-    /// datagrams of both are gone. Beside the report it takes memory for a copy of each datagram that is sealed, and of the one that is opened.
+    /// Runs events, one after another, and returns what came of each; datagrams are counted anew. Nothing stops the run
+    /// but lack of memory, at which the datagrams of both are gone. Beside the report it takes memory for a copy of
+    /// each datagram that is sealed, and of the one that is opened.
     ///
-    /// Whatever the events are: between the parties of one handshake that have sealed and opened nothing no nonce is accepted twice, and the datagram
-    /// that is accepted at a nonce is the one of that number, or it is forged.
+    /// Whatever the events are: between the parties of one handshake that have sealed and opened nothing no nonce is
+    /// accepted twice, and the datagram that is accepted at a nonce is the one of that number, or it is forged.
     pub fn run(
         mut self,
         alloc: Global,

@@ -9,9 +9,9 @@ pub fn datagram_run_once()
     ensures { DatagramRunOnce }
 {}
 
-/// In every run of the two parties of one handshake each is what it sealed and opened; in each direction no nonce is accepted twice, and the datagram
-/// that is accepted at a nonce is the one of that number, with its payload, or a forged one (Noise 11.4). Two new ends that a run over frames has
-/// brought to one history go over to such parties.
+/// In every run of the two parties of one handshake each is what it sealed and opened. In each direction no nonce is
+/// accepted twice, and the datagram that is accepted at a nonce is the one of that number, with its payload, or a
+/// forged one (Noise 11.4). Two new ends that a run over frames has brought to one history go over to such parties.
 pub fn datagrams_agree()
     ensures agree { DatagramRunsAgree }
     ensures start { RunsMakeOneBeginning }

@@ -51,7 +51,8 @@ pub(crate) fn open(
     datagrams: &mut Datagrams,
     bytes: &[u8],
 ) -> Result<DatagramEntry, AllocError>
-    ensures { (s : DatagramSide) → DatagramsStand datagrams.old s.view → IfOk result (λ entry. HasOpened s bytes.now entry datagrams.new) }
+    ensures { (s : DatagramSide) → DatagramsStand datagrams.old s.view
+        → IfOk result (λ entry. HasOpened s bytes.now entry datagrams.new) }
 {
     let mut datagram = Vec::from_slice(alloc, bytes)?;
     match datagrams.open(datagram.as_mut_slice()) {

@@ -6,19 +6,17 @@ ghost use Rattle.noise_names.specs.declared.token.Role.TheVariants.{Initiator, R
 ghost use Rattle.noise_names.specs.Plan.{Plan};
 ghost use Rattle.noise_session.specs.Ends.{EndView, EndStands, progress};
 ghost use Rattle.noise_session.specs.Progress.{role_of};
-ghost use Rattle.noise_session.specs.Datagrams.{datagrams_of};
 ghost use Rattle.noise_session.specs.EndDatagrams.{is_datagram_ready};
 ghost use Rattle.noise_events.specs.Events.{event_of, events_of};
 ghost use Rattle.noise_duel.specs.Acts.{lines_of};
 ghost use Rattle.noise_duel.specs.Conversation.{KeyMaterial, HaveParts, InTurn, facing, say_events};
-ghost use Rattle.noise_duel.specs.DatagramReports.{DatagramDuelStands};
-ghost use Rattle.noise_duel.specs.DatagramSides.{meeting};
+ghost use Rattle.noise_duel.specs.DatagramReports.{DatagramDuelStands, meeting_as};
 ghost use Rattle.noise_duel.specs.Entries.{bytes_of};
 ghost use Rattle.noise_events.specs.Events.{Deliver, Raw, Say};
 ghost use Rattle.noise_duel.specs.HeldDuel.{DuelStands, HasFrames, facing_as};
 ghost use Rattle.noise_duel.specs.Messages.{Start};
-ghost use Rattle.noise_duel.specs.OneEvent.{HasHappened, HasTaken, RoleWrote};
-ghost use Rattle.noise_duel.specs.Reports.{EndsAgree, HaveComeThrough, Reports};
+ghost use Rattle.noise_duel.specs.OneEvent.{Applies, HasTaken, RoleWrote};
+ghost use Rattle.noise_duel.specs.Reports.{AgreesInRun, HaveComeThrough, ReportsRun};
 ghost use Rattle.noise_duel.specs.Sides.{Side, Sides};
 
 use crate::datagram_duel::DatagramDuel;
@@ -76,21 +74,20 @@ impl<A: Keys, B: Keys> Duel<A, B> {
         &self.responder
     }
 
-    /// Runs events, one after another, and returns what came of each; frames are counted anew. Nothing stops the run but lack of memory, at which the ends
-    /// are gone.
+    /// Runs events, one after another, and returns what came of each; frames are counted anew. Nothing stops the run
+    /// but lack of memory, at which the ends are gone.
     ///
-    /// Whatever the events are: where two new ends of one pattern have opened with one hash, they have had the same conversation (Noise, 11.2), or two
-    /// texts that they hashed collide.
+    /// Whatever the events are: where two new ends of one pattern have opened with one hash, they have had the same
+    /// conversation (Noise, 11.2), or two texts that they hashed collide.
     pub fn run(
         mut self,
         alloc: Global,
         events: &[Event],
     ) -> Result<(Duel<A, B>, Report), AllocError>
-        ensures reports { (v w : EndView) → DuelStands A.public_of A.agreement B.public_of B.agreement self (facing_as v w)
-            → IfOk result (λ r. Reports A.public_of A.agreement B.public_of B.agreement (facing_as v w) (events_of events.now) r.0 r.1) }
-        ensures agrees { (p : Plan) (a b : Start) (i j : ℕ) → DuelStands A.public_of A.agreement B.public_of B.agreement self (facing p a b i j)
-            → IfOk result (λ r. (left : Reports A.public_of A.agreement B.public_of B.agreement (facing p a b i j) (events_of events.now) r.0 r.1)
-            × EndsAgree p a b i j left.last) }
+        ensures reports { ReportsRun A.public_of A.agreement B.public_of B.agreement
+            (events_of events.now) self result }
+        ensures agrees { AgreesInRun A.public_of A.agreement B.public_of B.agreement
+            (events_of events.now) self result }
     {
         let mut report = Report::new(alloc);
         for event in events {
@@ -101,8 +98,8 @@ impl<A: Keys, B: Keys> Duel<A, B> {
         Ok((self, report))
     }
 
-    /// Runs a conversation: each line is a payload that its role writes, whose frame comes to the other end at once, in these pieces. A line that isn't
-    /// written, or isn't accepted, is reported, and the next one follows.
+    /// Runs a conversation: each line is a payload that its role writes, whose frame comes to the other end at once, in
+    /// these pieces. A line that isn't written, or isn't accepted, is reported, and the next one follows.
     ///
     /// Between two new ends with their parts of one key material, lines in turn that fit all come through.
     pub fn converse(
@@ -110,12 +107,13 @@ impl<A: Keys, B: Keys> Duel<A, B> {
         alloc: Global,
         lines: &[(Role, Vec<u8>, Cuts)],
     ) -> Result<(Duel<A, B>, Report), AllocError>
-        ensures reports { (v w : EndView) → DuelStands A.public_of A.agreement B.public_of B.agreement self (facing_as v w)
-            → IfOk result (λ r. Reports A.public_of A.agreement B.public_of B.agreement (facing_as v w) (say_events (lines_of lines.now)) r.0 r.1) }
+        ensures reports { ReportsRun A.public_of A.agreement B.public_of B.agreement
+            (say_events (lines_of lines.now)) self result }
         ensures comes_through { (w : KeyMaterial) (p : Plan) (prologue : List ℕ) (a b : Start) (interval : ℕ)
             → HaveParts w p prologue a b → InTurn p 0 (lines_of lines.now)
             → DuelStands A.public_of A.agreement B.public_of B.agreement self (facing p a b interval interval)
-            → IfOk result (λ r. HaveComeThrough A.public_of A.agreement B.public_of B.agreement w p prologue a b interval (lines_of lines.now) r.0 r.1) }
+            → IfOk result (λ r. HaveComeThrough A.public_of A.agreement B.public_of B.agreement
+            w p prologue a b interval (lines_of lines.now) r.0 r.1) }
     {
         let mut report = Report::new(alloc);
         for (role, payload, cuts) in lines {
@@ -128,11 +126,14 @@ impl<A: Keys, B: Keys> Duel<A, B> {
         Ok((self, report))
     }
 
-    /// The datagrams of both parties, with this window (Noise, 11.4), if both ends are ready for them (`End::datagram_ready`); else the duel as it was.
+    /// The datagrams of both parties, with this window (Noise, 11.4), if both ends are ready for them
+    /// (`End::datagram_ready`); else the duel as it was.
     pub fn into_datagrams(self, window: Window) -> Result<DatagramDuel, Duel<A, B>>
-        ensures when { IsOk result ↔ ((is_datagram_ready self.initiator ≡ true) × (is_datagram_ready self.responder ≡ true)) }
-        ensures begun { (v w : EndView) → DuelStands A.public_of A.agreement B.public_of B.agreement self (facing_as v w)
-            → IfOk result (λ duel. DatagramDuelStands duel (meeting (datagrams_of v.party window) (datagrams_of w.party window))) }
+        ensures when { IsOk result
+            ↔ ((is_datagram_ready self.initiator ≡ true) × (is_datagram_ready self.responder ≡ true)) }
+        ensures begun { (v w : EndView)
+            → DuelStands A.public_of A.agreement B.public_of B.agreement self (facing_as v w)
+            → IfOk result (λ duel. DatagramDuelStands duel (meeting_as v w window)) }
         ensures back { IfErr result (λ duel. duel ≡ self) }
     {
         if !(self.initiator.datagram_ready() && self.responder.datagram_ready()) {
@@ -143,16 +144,16 @@ impl<A: Keys, B: Keys> Duel<A, B> {
         Ok(DatagramDuel::new(initiator, responder))
     }
 
-    /// Runs one event, and adds what comes of it to the report of the events before it: frames that are written, and entries. Where memory runs out,
-    /// part of both may be there.
+    /// Runs one event, and adds what comes of it to the report of the events before it: frames that are written, and
+    /// entries. Where memory runs out, part of both may be there.
     pub fn apply(
         &mut self,
         alloc: Global,
         event: &Event,
         report: &mut Report,
     ) -> Result<(), AllocError>
-        ensures { (d : Sides) → DuelStands A.public_of A.agreement B.public_of B.agreement self.old d → HasFrames report.old d
-            → OnOk result (HasHappened A.public_of A.agreement B.public_of B.agreement d (event_of event.now) self.new report.old report.new) }
+        ensures { Applies A.public_of A.agreement B.public_of B.agreement
+            (event_of event.now) self.old self.new report.old report.new result }
     {
         match event {
             Event::Write(role, payload) => {
@@ -175,8 +176,10 @@ impl<A: Keys, B: Keys> Duel<A, B> {
         payload: &[u8],
         report: &mut Report,
     ) -> Result<Option<usize>, AllocError>
-        ensures { (d : Sides) → DuelStands A.public_of A.agreement B.public_of B.agreement self.old d → HasFrames report.old d → IfOk result (λ number.
-            RoleWrote A.public_of A.agreement B.public_of B.agreement d role payload.now number self.new report.old report.new) }
+        ensures { (d : Sides) → DuelStands A.public_of A.agreement B.public_of B.agreement self.old d
+            → HasFrames report.old d
+            → IfOk result (λ number. RoleWrote A.public_of A.agreement B.public_of B.agreement
+            d role payload.now number self.new report.old report.new) }
     {
         let told = match role {
             Role::Initiator => write(alloc, &mut self.initiator, payload, &mut report.initiator)?,
@@ -203,8 +206,8 @@ impl<A: Keys, B: Keys> Duel<A, B> {
         cuts: &Cuts,
         report: &mut Report,
     ) -> Result<(), AllocError>
-        ensures { (d : Sides) → DuelStands A.public_of A.agreement B.public_of B.agreement self.old d → HasFrames report.old d
-            → OnOk result (HasHappened A.public_of A.agreement B.public_of B.agreement d (Say role payload.now) self.new report.old report.new) }
+        ensures { Applies A.public_of A.agreement B.public_of B.agreement
+            (Say role payload.now) self.old self.new report.old report.new result }
     {
         match self.write(alloc, role, payload, report)? {
             Some(number) => self.deliver(alloc, role.other(), number, cuts, report),
@@ -221,8 +224,8 @@ impl<A: Keys, B: Keys> Duel<A, B> {
         cuts: &Cuts,
         report: &mut Report,
     ) -> Result<(), AllocError>
-        ensures { (d : Sides) → DuelStands A.public_of A.agreement B.public_of B.agreement self.old d → HasFrames report.old d
-            → OnOk result (HasHappened A.public_of A.agreement B.public_of B.agreement d (Deliver role number) self.new report.old report.new) }
+        ensures { Applies A.public_of A.agreement B.public_of B.agreement
+            (Deliver role number) self.old self.new report.old report.new result }
     {
         match role {
             Role::Initiator => {
@@ -258,8 +261,8 @@ impl<A: Keys, B: Keys> Duel<A, B> {
         bytes: &[u8],
         report: &mut Report,
     ) -> Result<(), AllocError>
-        ensures { (d : Sides) → DuelStands A.public_of A.agreement B.public_of B.agreement self.old d → HasFrames report.old d
-            → OnOk result (HasHappened A.public_of A.agreement B.public_of B.agreement d (Raw role bytes.now) self.new report.old report.new) }
+        ensures { Applies A.public_of A.agreement B.public_of B.agreement
+            (Raw role bytes.now) self.old self.new report.old report.new result }
     {
         let whole = Cuts::whole();
         match role {
@@ -294,7 +297,8 @@ fn take_frame<K: Keys>(
     entries: &mut Vec<(Role, Entry)>,
 ) -> Result<(), AllocError>
     ensures { (s : Side) → EndStands K.public_of K.agreement end.old s.view
-        → OnOk result (HasTaken K.public_of K.agreement s role number (slice_get (bytes_of frames.now) number) end.new entries.old.items entries.new.items) }
+        → OnOk result (HasTaken K.public_of K.agreement s role number
+        (slice_get (bytes_of frames.now) number) end.new entries.old.items entries.new.items) }
 {
     match frames.get(number) {
         Some(frame) => receive(alloc, role, end, frame.as_slice(), cuts, entries),

@@ -15,7 +15,8 @@ pub enum Entry {
     Payload(Vec<u8>),
     /// A transport frame came to this role and was refused; the session goes on as before it.
     Dropped(Cause),
-    /// A handshake frame came to this role and was refused, at this token, counted from 0, or at the payload after the last. The session has ended.
+    /// A handshake frame came to this role and was refused, at this token, counted from 0, or at the payload after the
+    /// last. The session has ended.
     Refused { token: u8, cause: Cause },
     /// A transport frame came to this role at nonce 2^64 - 1, which no message has. The session has ended.
     Exhausted,

@@ -35,9 +35,9 @@ fn laws_below()
     due_is_written();
 }
 
-/// Two parties of one pattern with one hash had the same conversation as far as it can be seen: prologue, public keys of pre-messages, messages, and
-/// public keys sent in clear; or two texts that they hashed collide. With the same secrets and DH answers, or with keys that agree, all of it is the
-/// same (Noise 11.2).
+/// Two parties of one pattern with one hash had the same conversation as far as it can be seen (prologue, public keys
+/// of pre-messages, messages, public keys sent in clear), or two texts that they hashed collide. With the same secrets
+/// and DH answers, or with keys that agree, all of it is the same (Noise 11.2).
 pub fn hash_tells()
     ensures seen { HashTells }
     ensures whole { SecretsTell }
@@ -55,15 +55,16 @@ pub fn run_once()
     laws_below();
 }
 
-/// In every run each of two new ends is what the messages made of it that it wrote and accepted, and its frames are those of its own messages.
+/// In every run of two new ends each is what the messages that it wrote and accepted made of it, and its frames are
+/// those of its own messages.
 pub fn ends_stand()
     ensures stand { EndsStand }
     ensures frame { EndsFrame }
 {}
 
-/// Where both ends of a run have opened with one hash, the conversation was the same as far as it can be seen, or there is a collision. With the same
-/// secrets they have all of it in common; with equal intervals too each end's accepted payloads are the first of those that the other wrote, in order,
-/// up to a forged message (Noise 11.2, 12.3).
+/// Where both ends of a run have opened with one hash, the conversation was the same as far as it can be seen, or there
+/// is a collision. With the same secrets they have all of it in common. With equal intervals too each end's accepted
+/// payloads are the first of those that the other wrote, in order, up to a forged message (Noise 11.2, 12.3).
 pub fn ends_agree()
     ensures seen { HashesTell }
     ensures back { VisiblyEqualGivesOne }
@@ -73,9 +74,10 @@ pub fn ends_agree()
     laws_below();
 }
 
-/// Lines in turn that fit, between two new ends with their parts of one key material, all come through: each frame is that of the transcript, each
-/// payload is accepted at once at the other end, and both ends have one history and the same packets. The two ends left are those after the lines, with
-/// the interval, the counts, the keys and the psks that they then have. For all such lines there is a run.
+/// Lines in turn that fit, between two new ends with their parts of one key material, all come through: each frame is
+/// that of the transcript, each payload is accepted at once at the other end, and both ends have one history and the
+/// same packets. The two ends left are those after the lines, with the interval, the counts, the keys and the psks that
+/// they then have. For all such lines there is a run.
 pub fn lines_come_through()
     ensures come { LinesComeThrough }
     ensures leave { LinesLeave }
@@ -85,15 +87,17 @@ pub fn lines_come_through()
     ends_stand();
 }
 
-/// Two parties of a valid pattern that are set up alike, with keys that agree and an answer at each DH token, have their parts of one key material.
+/// Two parties of a valid pattern that are set up alike, with keys that agree and an answer at each DH token, have
+/// their parts of one key material.
 pub fn alike_are_parts()
     ensures { AlikeAreParts }
 {
     laws_below();
 }
 
-/// The position of a collision, computed from the texts that two histories hashed (`clash_position`): at it two texts differ with one digest, it is there
-/// where any two collide, and so it is where two opened ends have one hash and different conversations.
+/// The position of a collision, computed from the texts that two histories hashed (`clash_position`): at it two texts
+/// differ with one digest. It is there where any two collide, and so where two opened ends have one hash and different
+/// conversations.
 pub fn clash_told()
     ensures stands { ClashStands }
     ensures found { ClashFound }

@@ -18,7 +18,8 @@ use noise_names::Role;
 use noise_session::{End, Step};
 use std::alloc::{AllocError, Global};
 
-/// Hands bytes over to an end in these pieces, until they have ended or the end takes none, and returns what they came to.
+/// Hands bytes over to an end in these pieces, until they have ended or the end takes none, and returns what they came
+/// to.
 pub(crate) fn receive<K: Keys>(
     alloc: Global,
     role: Role,
@@ -28,7 +29,8 @@ pub(crate) fn receive<K: Keys>(
     entries: &mut Vec<(Role, Entry)>,
 ) -> Result<(), AllocError>
     ensures { (s : Side) → EndStands K.public_of K.agreement end.old s.view
-        → OnOk result (HasReceived K.public_of K.agreement s role bytes.now end.new entries.old.items entries.new.items) }
+        → OnOk result
+        (HasReceived K.public_of K.agreement s role bytes.now end.new entries.old.items entries.new.items) }
 {
     let left = receive_pieces(alloc, role, end, bytes, cuts, entries)?;
     tell_left(role, left, entries)?;
@@ -112,7 +114,8 @@ fn tell(
     step: Step<'_>,
     entries: &mut Vec<(Role, Entry)>,
 ) -> Result<(), AllocError>
-    ensures { OnOk result (notes_of entries.new.items ≡ notes_of entries.old.items ++ noted_by role (step_note (told step.entry))) }
+    ensures { OnOk result (notes_of entries.new.items
+        ≡ notes_of entries.old.items ++ noted_by role (step_note (told step.entry))) }
 {
     let entry = match step {
         Step::Payload(payload) => Entry::Payload(Vec::from_slice(alloc, payload)?),
@@ -131,7 +134,8 @@ fn tell_left(
     left: Option<(Idle, usize)>,
     entries: &mut Vec<(Role, Entry)>,
 ) -> Result<(), AllocError>
-    ensures { OnOk result (notes_of entries.new.items ≡ notes_of entries.old.items ++ noted_by role (note_of_left left)) }
+    ensures { OnOk result
+        (notes_of entries.new.items ≡ notes_of entries.old.items ++ noted_by role (note_of_left left)) }
 {
     if let Some((why, count)) = left {
         entries.push((role, Entry::Left(why, count)))?;

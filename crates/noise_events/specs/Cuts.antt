@@ -5,6 +5,7 @@ use Rattle.std.specs.Prelude.{ℕ, ◌-◌, Bool, ◌&&◌, List, length, min, n
 abbrev pub are_cuts : List ℕ → Bool
 are_cuts ns = nat_le (length ns) 8 && nat_lt 0 (slice_index_or ns (length ns - 1) 1)
 
--- the length of the piece of this index: that of the list, after its end the last one, and without any all that is left, but never more than that
+-- The length of the piece of this index: that of the list, and after the list's end its last one; without any lengths
+-- all that is left. It is never more than what is left.
 abbrev pub piece_len_of : List ℕ → ℕ → ℕ → ℕ
 piece_len_of cuts index left = min left (slice_index_or cuts index (slice_index_or cuts (length cuts - 1) left))

@@ -7,8 +7,8 @@ ghost use Rattle.noise_events.specs.Cuts.{are_cuts, piece_len_of};
 use arrayvec::ArrayVec;
 use std::marker::Model;
 
-/// The lengths in bytes of the pieces that a frame is handed over in, one after another; the last one is repeated to the frame's end. No lengths mean
-/// one piece.
+/// The lengths in bytes of the pieces that a frame is handed over in, one after another; the last one is repeated to
+/// the frame's end. No lengths mean one piece.
 #[derive(Debug, Drop, PartialEq, Eq)]
 pub struct Cuts {
     lengths: ArrayVec<u16, 8>,
@@ -48,8 +48,8 @@ impl Cuts {
         }
     }
 
-    /// The length in bytes of the piece of this index, where so many bytes are left: at most that many; 0 where none are left, or for a length of 0
-    /// before the last.
+    /// The length in bytes of the piece of this index, where so many bytes are left: at most that many. It is 0 where
+    /// none are left, or for a length of 0 before the last.
     pub fn piece_len(&self, index: usize, left: usize) -> usize
         ensures value { result ≡ piece_len_of self.now index left }
         ensures bound { result ≤ left }

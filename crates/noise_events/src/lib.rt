@@ -1,4 +1,5 @@
-//! What may happen between two ends of a session, as a file or a test names it: events, cuts and windows, without the ends themselves.
+//! What may happen between two ends of a session, as a file or a test names it: events, cuts and windows, without the
+//! ends themselves.
 #![tactic(auto)]
 
 mod cuts;

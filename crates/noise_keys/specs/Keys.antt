@@ -29,10 +29,13 @@ xored-comm (x ∷ xs) (y ∷ ys) =
     ap (λ (b : ℕ). b ∷ xored xs ys) (xor_comm x y) ∙ ap (λ (bs : List ℕ). bit_xor y x ∷ bs) (xored-comm xs ys)
 
 -- two keys answer one another alike
-pub xor_answer-commutes : (k l : Option (List ℕ)) (p q : List ℕ) → k ≡ Some p → l ≡ Some q → xor_answer k q ≡ xor_answer l p
+pub xor_answer-commutes : (k l : Option (List ℕ)) (p q : List ℕ) → k ≡ Some p → l ≡ Some q
+    → xor_answer k q ≡ xor_answer l p
 xor_answer-commutes k l p q ek el =
-    ap (λ (o : Option (List ℕ)). xor_answer o q) ek ∙ ap Some (xored-comm p q) ∙ sym (ap (λ (o : Option (List ℕ)). xor_answer o p) el)
+    ap (λ (o : Option (List ℕ)). xor_answer o q) ek ∙ ap Some (xored-comm p q)
+    ∙ sym (ap (λ (o : Option (List ℕ)). xor_answer o p) el)
 
--- so the two answers are one
-pub xor_answer-same : (k l : Option (List ℕ)) (p q r s : List ℕ) → k ≡ Some p → l ≡ Some q → xor_answer k q ≡ Some r → xor_answer l p ≡ Some s → r ≡ s
+-- where both keys have an answer, the two answers are the same
+pub xor_answer-same : (k l : Option (List ℕ)) (p q r s : List ℕ) → k ≡ Some p → l ≡ Some q
+    → xor_answer k q ≡ Some r → xor_answer l p ≡ Some s → r ≡ s
 xor_answer-same k l p q r s ek el er es = same_Some r s (sym er ∙ xor_answer-commutes k l p q ek el ∙ es)

@@ -32,10 +32,12 @@ pub trait Keys: Drop {
         ensures { result ≡ agreement self.now own remote.now };
 }
 
-/// Keys whose two sides agree: where both ends have a result of DH between their own key and the other's public key, it is one (Noise, 4.1).
+/// Keys whose two sides agree (Noise, 4.1): where both ends have a result of DH between their own key and the other's
+/// public key, it is the same.
 ///
 /// Either end may have none, as keys in a device that fails, or that refuses the other's public key (Noise, 12.1).
 pub trait Agreeing: Keys {
-    ghost commutes: { (a b : Self) (x y : Own) (p q r s : List ℕ) → Self.public_of a x ≡ Some p → Self.public_of b y ≡ Some q
+    ghost commutes: { (a b : Self) (x y : Own) (p q r s : List ℕ)
+        → Self.public_of a x ≡ Some p → Self.public_of b y ≡ Some q
         → Self.agreement a x q ≡ Some r → Self.agreement b y p ≡ Some s → r ≡ s };
 }

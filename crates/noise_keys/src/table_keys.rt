@@ -79,7 +79,9 @@ impl TableKeys {
     /// A table with 8 entries is `TableFull`, and stays as it was.
     pub fn add(&mut self, own: Own, remote: [u8; 32], answer: [u8; 32]) -> Result<(), TableFull>
         ensures full { IsErr result ↔ (length self.old.entries ≡ 8) }
-        ensures ok { OnOk result (self.new ≡ record self.old { entries = self.old.entries ++ record { own = own; remote = remote; answer = answer } ∷ [] }) }
+        ensures ok { OnOk result (self.new ≡ record self.old {
+          entries = self.old.entries ++ record { own = own; remote = remote; answer = answer } ∷ [];
+        }) }
         ensures err { OnErr result (self.new ≡ self.old) }
     {
         match self.entries.try_push(Entry {

@@ -6,11 +6,11 @@ ghost use Rattle.noise_keys.specs.Keys.{xored};
 
 use crate::{Agreeing, Keys, Own};
 
-/// Keys for tests and examples, whose DH is the xor of bytes. **A toy, not secure at all:** the bytes that it stores are
-/// sent as the public key, and whoever reads them has every answer.
+/// Keys for tests and examples, whose DH is the xor of bytes. **A toy, not secure at all:** the bytes that it stores
+/// are sent as the public key, and whoever reads them has every answer.
 ///
-/// The public key of a key pair is the stored bytes, and the answer to a remote public key is the xor of the two, byte by
-/// byte. There is no answer only where there is no such key pair.
+/// The public key of a key pair is the stored bytes, and the answer to a remote public key is the xor of the two, byte
+/// by byte. There is no answer only where there is no such key pair.
 #[derive(Clone, Copy, Debug, Drop, PartialEq, Eq)]
 pub struct XorKeys {
     pub e: Option<[u8; 32]>,
@@ -42,7 +42,8 @@ impl Keys for XorKeys {
 impl Agreeing for XorKeys {
     ghost use Rattle.noise_keys.specs.Keys.{key_of, xor_answer-same};
 
-    ghost commutes = { λ a b x y p q r s ep eq er es. xor_answer-same (key_of x a.e a.s) (key_of y b.e b.s) p q r s ep eq er es };
+    ghost commutes = { λ a b x y p q r s ep eq er es.
+        xor_answer-same (key_of x a.e a.s) (key_of y b.e b.s) p q r s ep eq er es };
 }
 
 // The xor of two keys, byte by byte.

@@ -5,7 +5,8 @@ use Rattle.noise_vectors.specs.declared.faults.VectorFault.{VectorFault}
 use Rattle.noise_vectors.specs.declared.faults.VectorFault.TheVariants as vector
 use Rattle.noise_lines.specs.declared.faults.Fault.TheVariants.{Rule, Place, Setup, Unmet, Name, UnknownPattern, Text, Line, TooLong, Unreadable, Unwritable, Memory}
 
--- 1 for a pattern or ends that can't be made, or lines that aren't as expected, 2 for what a name or a file says, 3 for what is outside the program
+-- 1 for a pattern or ends that can't be made, or lines that aren't as expected; 2 for what a name or a file says; 3 for
+-- what is outside the program
 abbrev pub status_of : Fault → ℕ
 status_of (Rule fault) = 1
 status_of (Place fault) = 1

@@ -13,8 +13,10 @@ pub record IsNamed (name : Section) (pattern : Plan) : Type 0 where
   pub known : fundamental_of name.base ≡ Some plain
   pub placed : Placed plain name.places pattern
 
--- why a name is of no pattern: no fundamental one has its base, or a place is beyond the messages, the first of which is reported
+-- Why a name is of no pattern: no fundamental pattern has its base, or a place is beyond the messages. The first such
+-- place is reported.
 abbrev pub IsUnnamed : Section → Fault → Type 0
 IsUnnamed name UnknownPattern = fundamental_of name.base ≡ None
-IsUnnamed name (Place fault) = (plain : Plan) × (fundamental_of name.base ≡ Some plain) × (first_beyond plain name.places ≡ Some fault.place)
+IsUnnamed name (Place fault) =
+    (plain : Plan) × (fundamental_of name.base ≡ Some plain) × (first_beyond plain name.places ≡ Some fault.place)
 IsUnnamed name fault = ⊥

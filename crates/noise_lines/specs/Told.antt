@@ -55,7 +55,8 @@ line_word of_line.Expect = codes "expect"
 line_word of_line.Ending = codes "ending"
 
 abbrev pub fault_words : Fault → List (List ℕ)
-fault_words (Rule f) = codes "rule" ∷ decimal f.rule ∷ codes "message" ∷ decimal f.message ∷ codes "token" ∷ decimal f.token ∷ []
+fault_words (Rule f) =
+    codes "rule" ∷ decimal f.rule ∷ codes "message" ∷ decimal f.message ∷ codes "token" ∷ decimal f.token ∷ []
 fault_words (Place f) = codes "psk place" ∷ decimal f.place ∷ []
 fault_words (Setup role f) = codes "setup" ∷ role_word role ∷ setup_word f ∷ []
 fault_words (Unmet number) = codes "unmet" ∷ decimal number ∷ []
@@ -76,15 +77,16 @@ abbrev pub TellsRule : Fault → Option (List ℕ) → Option (List ℕ) → Typ
 TellsRule (Rule f) before after = Appends before after (fault_line (Rule f) ++ 10 ∷ [])
 TellsRule fault before after = ⊤
 
--- A broken rule is reported on the output and leaves the error output as it was; any other fault is reported on the error output and leaves the output as it
--- was. Both are given before and after.
+-- A broken rule is reported on the output and leaves the error output as it was; any other fault is reported on the
+-- error output and leaves the output as it was. Both are given before and after.
 abbrev pub LeavesOther : {O E : Type 0} → Fault → O → O → E → E → Type 0
 LeavesOther (Rule fault) out out_after err err_after = err_after ≡ err
 LeavesOther fault out out_after err err_after = out_after ≡ out
 
 -- A prefix of a broken rule's line comes to the output; any other fault leaves it as it was.
 abbrev pub LeavesOutput : {O : Type 0} → (O → Option (List ℕ)) → Fault → O → O → Type 0
-LeavesOutput contents (Rule f) out out_after = AppendsPrefix (contents out) (contents out_after) (fault_line (Rule f) ++ 10 ∷ [])
+LeavesOutput contents (Rule f) out out_after =
+    AppendsPrefix (contents out) (contents out_after) (fault_line (Rule f) ++ 10 ∷ [])
 LeavesOutput contents fault out out_after = out_after ≡ out
 
 -- what comes to the error output: the fault's line, and nothing of a broken rule, which is reported on the output

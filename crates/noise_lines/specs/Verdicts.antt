@@ -27,7 +27,8 @@ IsMet expected lines = (expected ≡ []) ⊎ (lines ≡ expected)
 
 -- lines are expected, and this tells the first one that the run's differ in
 abbrev pub TellsUnmet : List (List ℕ) → List (List ℕ) → Fault → Type 0
-TellsUnmet expected lines fault = (number : ℕ) × (fault ≡ Unmet number) × (expected ≢ []) × IsFirstUnmet lines expected number
+TellsUnmet expected lines fault =
+    (number : ℕ) × (fault ≡ Unmet number) × (expected ≢ []) × IsFirstUnmet lines expected number
 
 abbrev pub is_met : Verdict → Bool
 is_met Met = true

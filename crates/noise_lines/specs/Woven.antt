@@ -13,6 +13,7 @@ woven [] traces = []
 woven (line ∷ lines) [] = line ∷ lines
 woven (line ∷ lines) (trace ∷ traces) = line ∷ (trace ++ woven lines traces)
 
--- the front of lines with those that follow each: up to the line of this number, from 1 on, and those that follow it; all where there are fewer lines
+-- The front of lines with those that follow each: up to the line of this number, from 1 on, and those that follow it.
+-- Where there are fewer lines it is all.
 abbrev pub woven_to : ℕ → List (List ℕ) → List (List (List ℕ)) → List (List ℕ)
 woven_to number lines traces = woven (take number lines) (take number traces)

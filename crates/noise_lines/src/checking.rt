@@ -12,8 +12,8 @@ use crate::overheads::push_overheads;
 use noise_names::{Pattern, ValidPattern};
 use std::alloc::{AllocError, Global};
 
-/// The pattern section of the pattern that the text spells, if it is valid, and the overhead of each message. Of a wrong text the first fault is reported,
-/// and of a pattern that isn't valid the first place that breaks a rule.
+/// The pattern section of the pattern that the text spells, if it is valid, and the overhead of each message. Of a
+/// wrong text the first fault is reported, and of a pattern that isn't valid the first place that breaks a rule.
 pub fn check(alloc: Global, text: &[u8]) -> Result<Vec<u8>, Fault>
     ensures valid { IfOk result (λ told. (p : Plan) × Spells text.now p × IsValid p × (told.items ≡ check_text p)) }
     ensures fault { IfErr result (λ fault. IsCheckFault text.now fault) }
@@ -42,7 +42,8 @@ fn valid_pattern(text: &[u8]) -> Result<ValidPattern, Fault>
 
 // Appends the line that says that the pattern is valid.
 fn push_section(pattern: &Pattern, told: &mut Vec<u8>) -> Result<(), AllocError>
-    ensures { OnOk result (told.new.items ≡ told.old.items ++ line (codes "valid " ++ section_bytes pattern.now.base pattern.now.places)) }
+    ensures { OnOk result (told.new.items
+        ≡ told.old.items ++ line (codes "valid " ++ section_bytes pattern.now.base pattern.now.places)) }
 {
     let name = pattern.name().write();
     told.extend_from_slice(b"valid ")?;

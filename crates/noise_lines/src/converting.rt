@@ -12,14 +12,15 @@ use crate::faults::Fault;
 use crate::input::LIMIT;
 use std::alloc::{AllocError, Global};
 
-/// The text of a version 1 file with the header of version 2 and, after it, what is expected: these lines. It has at most 4194304 bytes, or it is too
-/// long.
+/// The text of a version 1 file with the header of version 2 and, after it, lines that expect these. `TooLong` is for a
+/// result of more than 4194304 bytes.
 pub fn convert(alloc: Global, text: &[u8], lines: &[Vec<u8>]) -> Result<Vec<u8>, Fault>
     requires { (file : VectorFile) × (file.version ≡ One) × (text.now ≡ text_of file) }
     ensures converted { (file : VectorFile) → file.version ≡ One → text.now ≡ text_of file
         → IfOk result (λ converted. converted.items ≡ converted_text file (bytes_of lines.now)) }
     ensures short { IfOk result (λ converted. length converted.items ≤ 4194304) }
-    ensures fault { IfErr result (λ fault. (fault ≡ Memory) ⊎ ((fault ≡ TooLong) × ((file : VectorFile) → file.version ≡ One → text.now ≡ text_of file
+    ensures fault { IfErr result (λ fault. (fault ≡ Memory)
+        ⊎ ((fault ≡ TooLong) × ((file : VectorFile) → file.version ≡ One → text.now ≡ text_of file
         → 4194304 < length (converted_text file (bytes_of lines.now))))) }
 {
     let mut converted = Vec::new(alloc);

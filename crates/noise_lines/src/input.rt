@@ -20,11 +20,13 @@ const PIECE: usize = 65536;
 pub fn read_file<R: Read>(alloc: Global, file: &mut R) -> Result<Vec<u8>, Fault>
     // Of a file whose bytes are known.
     ensures bytes { IfOk result (λ text. IfSome (R.remaining file.old) (λ bytes. text.items ≡ bytes)) }
-    ensures fault { IfErr result (λ fault. (status_of fault ≡ 3) ⊎ ((fault ≡ TooLong) × IfSome (R.remaining file.old) (λ bytes. 4194304 < length bytes))) }
+    ensures fault { IfErr result (λ fault. (status_of fault ≡ 3)
+        ⊎ ((fault ≡ TooLong) × IfSome (R.remaining file.old) (λ bytes. 4194304 < length bytes))) }
     ensures bound { IfOk result (λ text. vec_len text ≤ 4194304) }
 
     // However it ends, the bytes that it took of the file are no more than one beyond the limit.
-    ensures taken { (taken : List ℕ) × Consumes (R.remaining file.old) (R.remaining file.new) taken × (length taken ≤ 4194305) }
+    ensures taken { (taken : List ℕ) × Consumes (R.remaining file.old) (R.remaining file.new) taken
+        × (length taken ≤ 4194305) }
 {
     let mut text = Vec::new(alloc);
     let mut piece = vec![in alloc; 0; PIECE]?;

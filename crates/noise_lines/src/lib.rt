@@ -1,5 +1,5 @@
-//! What the command `noise` reads and writes: a file, lines, the text of each fault; and the commands that run no ends: `list`, `show`, `check` and the
-//! text of `convert`.
+//! What the command `noise` reads and writes, a file, lines and the text of each fault; and the commands that run no
+//! ends: `list`, `show`, `check` and the text of `convert`.
 #![tactic(auto)]
 
 mod checking;

@@ -73,7 +73,8 @@ impl Line {
         self.text
     }
 
-    /// Writes the line, with an LF after it. Where a write is refused, a prefix of that was written; without memory, nothing.
+    /// Writes the line, with an LF after it. Where a write is refused, a prefix of that was written; where memory is
+    /// refused, nothing.
     pub fn write<W: Write>(self, out: &mut W) -> Result<(), Fault>
         ensures written { OnOk result (Appends (W.contents out.old) (W.contents out.new) (self.text.items ++ 10 ∷ [])) }
         ensures prefix { AppendsPrefix (W.contents out.old) (W.contents out.new) (self.text.items ++ 10 ∷ []) }

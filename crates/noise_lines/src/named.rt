@@ -6,7 +6,8 @@ ghost use Rattle.noise_lines.specs.Named.{IsNamed, IsUnnamed};
 use crate::faults::Fault;
 use noise_names::{Pattern, ProtocolName, fundamental};
 
-/// The fundamental pattern of the name's base, with psk tokens at the name's places (Noise, 7.4, 7.5 and 9.4). It need not be valid.
+/// The fundamental pattern of the name's base, with psk tokens at the name's places (Noise, 7.4, 7.5 and 9.4). It need
+/// not be valid.
 pub fn named_pattern(name: &ProtocolName) -> Result<Pattern, Fault>
     ensures named { IfOk result (λ pattern. IsNamed name.now pattern) }
     ensures fault { IfErr result (λ fault. IsUnnamed name.now fault) }

@@ -11,7 +11,8 @@ ghost use Rattle.noise_lines.specs.declared.faults.Fault.TheVariants.{Unwritable
 use crate::faults::Fault;
 use std::io::{ErrorKind, Write};
 
-/// Writes a text. A buffer in front of the output may hold it back. Where a write is refused, a prefix of the text was written.
+/// Writes a text. A buffer in front of the output may hold it back. Where a write is refused, a prefix of the text was
+/// written.
 pub fn write<O: Write>(text: &[u8], out: &mut O) -> Result<(), Fault>
     ensures written { OnOk result (Appends (O.contents out.old) (O.contents out.new) text.now) }
     ensures prefix { AppendsPrefix (O.contents out.old) (O.contents out.new) text.now }
@@ -57,7 +58,8 @@ pub fn flush<O: Write>(out: &mut O) -> Result<(), Fault>
 
 /// Writes lines, with an LF after each. Where a write is refused, a prefix of their text was written.
 pub fn write_lines<O: Write>(lines: &[Vec<u8>], out: &mut O) -> Result<(), Fault>
-    ensures written { OnOk result (Appends (O.contents out.old) (O.contents out.new) (lines_text (bytes_of lines.now))) }
+    ensures written { OnOk result
+        (Appends (O.contents out.old) (O.contents out.new) (lines_text (bytes_of lines.now))) }
     ensures prefix { AppendsPrefix (O.contents out.old) (O.contents out.new) (lines_text (bytes_of lines.now)) }
     ensures fault { IfErr result (λ fault. fault ≡ Unwritable) }
 {

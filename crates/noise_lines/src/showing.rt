@@ -10,8 +10,9 @@ use crate::overheads::push_overheads;
 use noise_names::{ProtocolName, ValidPattern};
 use std::alloc::Global;
 
-/// The text of the pattern that has this protocol name, and after it the overhead of each message. The faults are looked for in this
-/// order: those of the name, a base that isn't of a fundamental pattern, a psk place beyond the messages.
+/// The text of the pattern that has this protocol name, and after it the overhead of each message. The faults are
+/// looked for in this order: those of the name, a base that isn't of a fundamental pattern, a psk place beyond the
+/// messages.
 pub fn show(alloc: Global, name: &[u8]) -> Result<Vec<u8>, Fault>
     ensures shown { IfOk result (λ text. (p : Plan) × NamesPattern name.now p × (text.items ≡ show_text p)) }
     ensures fault { IfErr result (λ fault. IsShowFault name.now fault) }

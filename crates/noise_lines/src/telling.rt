@@ -18,9 +18,9 @@ use noise_vectors::LineKind;
 use std::alloc::{AllocError, Global};
 use std::io::Write;
 
-/// Writes what the fault is, a broken rule to `out` and any other to `err`, and gives the exit status. Where memory for the text or a
-/// write to `out` is refused, that is the fault, and it is written to `err`. A refused write to `err` leaves the status; a prefix of the line was
-/// written.
+/// Writes what the fault is, a broken rule to `out` and any other to `err`, and gives the exit status. Where memory for
+/// the text or a write to `out` is refused, that is the fault, and it is written to `err`. A refused write to `err`
+/// leaves the status; a prefix of the line was written.
 pub fn tell<O: Write, E: Write>(alloc: Global, fault: Fault, out: &mut O, err: &mut E) -> u8
     ensures status { (result ≡ status_of fault) ⊎ (result ≡ 3) }
     ensures other { (result ≡ 3) ⊎ LeavesOther fault out.old out.new err.old err.new }
@@ -107,7 +107,8 @@ fn counted_line(alloc: Global, word: &str, number: u64) -> Result<Line, AllocErr
 
 fn line_fault(alloc: Global, number: usize, word: &str) -> Result<Line, AllocError>
     requires { IsTrue (is_printed word.now) }
-    ensures { IfOk result (λ line. line.text.items ≡ join_with_byte 32 (codes "line" ∷ decimal number ∷ word.now ∷ [])) }
+    ensures { IfOk result
+        (λ line. line.text.items ≡ join_with_byte 32 (codes "line" ∷ decimal number ∷ word.now ∷ [])) }
 {
     Line::new(alloc, "line")?.number(number as u64)?.word(word)
 }

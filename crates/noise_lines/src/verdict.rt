@@ -67,7 +67,8 @@ pub fn judge(lines: &[Vec<u8>], expected: &[Vec<u8>]) -> Result<Verdict, AllocEr
     }
 }
 
-/// Whether the lines of a run are those that its file expects, where it expects any. The fault tells the number of the first line that differs.
+/// Whether the lines of a run are those that its file expects, where it expects any. The fault tells the number of the
+/// first line that differs.
 pub fn compare(lines: &[Vec<u8>], expected: &[Vec<u8>]) -> Result<(), Fault>
     ensures met { OnOk result (IsMet (bytes_of expected.now) (bytes_of lines.now)) }
     ensures unmet { IfErr result (TellsUnmet (bytes_of expected.now) (bytes_of lines.now)) }

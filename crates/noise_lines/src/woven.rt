@@ -12,7 +12,8 @@ use crate::faults::Fault;
 use crate::output::{write, write_lines};
 use std::io::Write;
 
-/// Writes the lines of a start, and then each of these lines and those that follow it. Where a write is refused, a prefix of their text was written.
+/// Writes the lines of a start, and then each of these lines and those that follow it. Where a write is refused, a
+/// prefix of their text was written.
 pub fn write_traced<O: Write>(
     start: &[Vec<u8>],
     lines: &[Vec<u8>],
@@ -29,7 +30,8 @@ pub fn write_traced<O: Write>(
     write_woven(lines, traces, out)
 }
 
-/// Writes the front of that: up to the line of this number, from 1 on, and those that follow that one; all where there are fewer lines.
+/// Writes the front of that: up to the line of this number, from 1 on, and those that follow that line. Where there are
+/// fewer lines it is all.
 pub fn write_traced_to<O: Write>(
     number: usize,
     start: &[Vec<u8>],
@@ -60,8 +62,10 @@ fn write_woven<O: Write>(
     traces: &[Vec<Vec<u8>>],
     out: &mut O,
 ) -> Result<(), Fault>
-    ensures written { OnOk result (Appends (O.contents out.old) (O.contents out.new) (lines_text (woven (bytes_of lines.now) (traces_of traces.now)))) }
-    ensures prefix { AppendsPrefix (O.contents out.old) (O.contents out.new) (lines_text (woven (bytes_of lines.now) (traces_of traces.now))) }
+    ensures written { OnOk result (Appends (O.contents out.old) (O.contents out.new)
+        (lines_text (woven (bytes_of lines.now) (traces_of traces.now)))) }
+    ensures prefix { AppendsPrefix (O.contents out.old) (O.contents out.new)
+        (lines_text (woven (bytes_of lines.now) (traces_of traces.now))) }
     ensures fault { IfErr result (λ fault. fault ≡ Unwritable) }
 {
     for (index, line) in lines.iter().enumerate() {
@@ -72,8 +76,10 @@ fn write_woven<O: Write>(
 
 // Writes a line, and those that follow it.
 fn write_one<O: Write>(line: &[u8], trace: &[Vec<u8>], out: &mut O) -> Result<(), Fault>
-    ensures written { OnOk result (Appends (O.contents out.old) (O.contents out.new) (lines_text (line.now ∷ bytes_of trace.now))) }
-    ensures prefix { AppendsPrefix (O.contents out.old) (O.contents out.new) (lines_text (line.now ∷ bytes_of trace.now)) }
+    ensures written { OnOk result (Appends (O.contents out.old) (O.contents out.new)
+        (lines_text (line.now ∷ bytes_of trace.now))) }
+    ensures prefix { AppendsPrefix (O.contents out.old) (O.contents out.new)
+        (lines_text (line.now ∷ bytes_of trace.now)) }
     ensures fault { IfErr result (λ fault. fault ≡ Unwritable) }
 {
     write(line, out)?;

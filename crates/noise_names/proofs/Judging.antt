@@ -1,7 +1,7 @@
 -- What is judged of one more line.
 use Rattle.std.proofs.Common.{◌≡◌, ◌≢◌, ◌⊎◌, ℕ, suc, zero, ◌+◌, ◌<◌, ◌%◌, Bool, true, false, ◌&&◌, leb, List, [], ◌∷◌, ◌++◌, refl, ap, sym, ◌∙◌, cond}
 use Rattle.std.proofs.Common.{append_assoc, append-nil, length, length-append, arith, inl, inr, subst, Result}
-use Rattle.std.specs.Prelude.{codes, MatchResult}
+use Rattle.std.specs.Prelude.{MatchResult}
 use Rattle.std.specs.List.{list_all}
 use Rattle.std.proofs.lemmas.List.Folds.{list_all-append}
 use Rattle.noise_names.specs.declared.text.fault.Judged.{Judged}
@@ -12,7 +12,7 @@ use Rattle.noise_names.specs.declared.token.Role.TheVariants.{Initiator, Respond
 use Rattle.noise_names.specs.declared.token.Token.{Token}
 use Rattle.noise_names.specs.Judging.{IsNextOf, IsPassed, IsWrong, Passed, Stands, is_some, passed_lines}
 use Rattle.noise_names.specs.Limits.{has_few_tokens, is_pre_message, with_psk_tokens}
-use Rattle.noise_names.specs.Text.{arrow_of, line, message_lines, pre_line, pre_lines, token_line, words}
+use Rattle.noise_names.specs.Text.{line, message_lines, pre_line, pre_lines, token_line, words}
 use Rattle.noise_names.specs.Tokens.{other, own_tokens, turn_from}
 use Rattle.noise_names.specs.WrongText.{IsEnded, has_dots, line_feeds, arrow_then, dots}
 use Rattle.noise_names.proofs.RightTexts.{have_psks-append, message_lines-append}
@@ -219,12 +219,9 @@ wrong-psks places s tokens role j ahead turn less some few psks st =
     )
 
 -- the line with its arrow and its list
-pub arrow-line : (bytes list : List ℕ) (role : Role) (tokens : List Token) → bytes ≡ codes "  " ++ (arrow_of role ++ (codes " " ++ list)) → list ≡ words tokens
+pub arrow-line : (bytes list : List ℕ) (role : Role) (tokens : List Token) → bytes ≡ arrow_then role list → list ≡ words tokens
     → arrow_then role (words tokens) ≡ bytes
-arrow-line bytes list role tokens e f = at role ∙ ap (λ (x : List ℕ). codes "  " ++ (arrow_of role ++ (codes " " ++ x))) (sym f) ∙ sym e where
-  at : (role : Role) → arrow_then role (words tokens) ≡ codes "  " ++ (arrow_of role ++ (codes " " ++ words tokens))
-  at Initiator = refl
-  at Responder = refl
+arrow-line bytes list role tokens e f = ap (arrow_then role) (sym f) ∙ sym e
 
 pub judged-line : (places : List ℕ) (dotted : Bool) (s : Passed) (r : Result Judged TextFaultKind) (a b : List ℕ) → a ≡ b
     → MatchResult r (λ j. IsNextOf places dotted s a j) (λ kind. IsWrong places s a kind)

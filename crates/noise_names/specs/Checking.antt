@@ -1,4 +1,5 @@
--- What the check keeps of the places that it passed, and what that tells of the next one. No public contract cites this file.
+-- What the check keeps of the places that it passed, and what that tells of the next one. No public contract cites this
+-- file.
 use Rattle.std.specs.Prelude.{◌≡◌, ℕ, ◌+◌, if◌then◌else◌, Bool, not, ◌&&◌, ◌||◌, List, [], ◌∷◌, ◌++◌, Option, Some, None, Result, MatchResult}
 use Rattle.noise_names.specs.declared.token.Role.{Role}
 use Rattle.noise_names.specs.declared.token.Role.TheVariants.{Initiator, Responder}
@@ -54,7 +55,8 @@ is_fresh seen Initiator = comes_with seen.se seen.ee && comes_with seen.ss seen.
 is_fresh seen Responder = comes_with seen.es seen.ee && comes_with seen.ss seen.se
 
 abbrev pub encrypting_rules : Seen → Role → List ℕ
-encrypting_rules seen party = unless_kept 4 (is_fresh seen party) ++ unless_kept 5 (comes_with seen.psk (e_of seen party))
+encrypting_rules seen party =
+    unless_kept 4 (is_fresh seen party) ++ unless_kept 5 (comes_with seen.psk (e_of seen party))
 
 abbrev pub rules_by : Seen → Role → Step → List ℕ
 rules_by seen party (does E) = unless_kept 2 (not (e_of seen party))
@@ -72,19 +74,22 @@ abbrev pub lowest_of : List ℕ → Option ℕ
 lowest_of [] = None
 lowest_of (rule ∷ _) = Some rule
 
--- from what was kept of the earlier places, these were passed, and what is kept is now old with them; or the first fault is among them
+-- From what was kept of the earlier places, these were passed, and what is kept is now that of the earlier places and
+-- these; or the first fault is among them.
 abbrev pub Walks : Seen → Seen → List Place → Result (Unit {0}) RuleFault → Type 0
 Walks old new places result =
     (earlier later : List Place) → old ≡ seen_of earlier →
     MatchResult result
-    (λ _. (new ≡ seen_of (earlier ++ places)) × (first_fault_from earlier (places ++ later) ≡ first_fault_from (earlier ++ places) later))
+    (λ _. (new ≡ seen_of (earlier ++ places))
+    × (first_fault_from earlier (places ++ later) ≡ first_fault_from (earlier ++ places) later))
     (λ fault. first_fault_from earlier (places ++ later) ≡ Some fault)
 
 -- whether there is a key, from what is kept of the earlier places and whether the pattern has a psk token
 abbrev pub key_by : Seen → Bool → Bool
-key_by seen psk = seen.ee || seen.es || seen.se || seen.ss || seen.psk || (psk && (seen.initiator_e || seen.responder_e))
+key_by seen psk =
+    seen.ee || seen.es || seen.se || seen.ss || seen.psk || (psk && (seen.initiator_e || seen.responder_e))
 
--- what a place adds to its message, from the same
+-- what a place adds to its message, from what is kept of the earlier places
 abbrev pub tag_by : Seen → Bool → ℕ
 tag_by seen psk = if key_by seen psk then 16 else 0
 

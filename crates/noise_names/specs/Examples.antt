@@ -1,5 +1,5 @@
 -- What the definitions give at known patterns, names and texts, by computing.
-use Rattle.std.specs.Prelude.{◌≡◌, ℕ, List, [], ◌∷◌, ◌++◌, Option, Some, None, map, find, codes, refl}
+use Rattle.std.specs.Prelude.{◌≡◌, ℕ, List, [], ◌∷◌, ◌++◌, Option, Some, None, map, find, replicate, codes, refl}
 use Rattle.noise_names.specs.declared.token.Token.{Token}
 use Rattle.noise_names.specs.declared.token.Token.TheVariants.{E, S, Ee, Es, Se, Ss, Psk}
 use Rattle.noise_names.specs.declared.faults.RuleFault.{RuleFault}
@@ -55,7 +55,7 @@ unfolding first_fault_from
 two_keys = refl
 
 -- the fundamental patterns have no fault
-pub fifteen : map first_fault fundamentals ≡ None ∷ None ∷ None ∷ None ∷ None ∷ None ∷ None ∷ None ∷ None ∷ None ∷ None ∷ None ∷ None ∷ None ∷ None ∷ []
+pub fifteen : map first_fault fundamentals ≡ replicate 15 None
 unfolding fundamentals first_fault_from
 fifteen = refl
 
@@ -102,18 +102,21 @@ pub NNpsk0-overheads : overheads (NN (Psk ∷ E ∷ [])) one_two ≡ 48 ∷ 48 �
 NNpsk0-overheads = refl
 
 -- -> s of the responder before the messages, -> e | <- e, ee, es
-pub NK1-overheads : overheads (of (codes "NK1") [] [] (S ∷ []) ((E ∷ []) ∷ (E ∷ Ee ∷ Es ∷ []) ∷ [])) one_two ≡ 32 ∷ 48 ∷ []
+pub NK1-overheads :
+    overheads (of (codes "NK1") [] [] (S ∷ []) ((E ∷ []) ∷ (E ∷ Ee ∷ Es ∷ []) ∷ [])) one_two ≡ 32 ∷ 48 ∷ []
 NK1-overheads = refl
 
 -- the text of IKpsk2
 pub IKpsk2-text :
     text_of (of (codes "IK") (2 ∷ []) [] (S ∷ []) ((E ∷ Es ∷ S ∷ Ss ∷ []) ∷ (E ∷ Ee ∷ Se ∷ Psk ∷ []) ∷ []))
-    ≡ line (codes "IKpsk2:") ++ line (codes "  <- s") ++ line (codes "  ...") ++ line (codes "  -> e, es, s, ss") ++ line (codes "  <- e, ee, se, psk")
+    ≡ line (codes "IKpsk2:") ++ line (codes "  <- s") ++ line (codes "  ...")
+    ++ line (codes "  -> e, es, s, ss") ++ line (codes "  <- e, ee, se, psk")
 IKpsk2-text = refl
 
 pub XXpsk0-psk3-text :
     text_of (of (codes "XX") (0 ∷ 3 ∷ []) [] [] ((Psk ∷ E ∷ []) ∷ (E ∷ Ee ∷ S ∷ Es ∷ []) ∷ (S ∷ Se ∷ Psk ∷ []) ∷ []))
-    ≡ line (codes "XXpsk0+psk3:") ++ line (codes "  -> psk, e") ++ line (codes "  <- e, ee, s, es") ++ line (codes "  -> s, se, psk")
+    ≡ line (codes "XXpsk0+psk3:") ++ line (codes "  -> psk, e")
+    ++ line (codes "  <- e, ee, s, es") ++ line (codes "  -> s, se, psk")
 XXpsk0-psk3-text = refl
 
 -- the messages of XXpsk0+psk3 are those of XX with psk tokens there
@@ -142,10 +145,10 @@ in_name section = prefix ++ section ++ suffix
 
 pub name_faults :
     map (λ section. first_name_fault (in_name section))
-    (codes "XXpsk3+psk0" ∷ codes "XXpsk0+psk0" ∷ codes "XXfallback" ∷ codes "XX+psk0" ∷ codes "XXpsk9" ∷ codes "XXpsk0+" ∷ codes "xx" ∷ codes "8X" ∷ [] ∷
-    codes "ABCDEFGHI" ∷ [])
-    ≡ Some ModifierOrder ∷ Some ModifierOrder ∷ Some Modifier ∷ Some Modifier ∷ Some Modifier ∷ Some Modifier ∷ Some Base ∷ Some Base ∷ Some Base ∷ Some
-    Base ∷ []
+    (codes "XXpsk3+psk0" ∷ codes "XXpsk0+psk0" ∷ codes "XXfallback" ∷ codes "XX+psk0" ∷ codes "XXpsk9"
+    ∷ codes "XXpsk0+" ∷ codes "xx" ∷ codes "8X" ∷ [] ∷ codes "ABCDEFGHI" ∷ [])
+    ≡ Some ModifierOrder ∷ Some ModifierOrder ∷ Some Modifier ∷ Some Modifier ∷ Some Modifier
+    ∷ Some Modifier ∷ Some Base ∷ Some Base ∷ Some Base ∷ Some Base ∷ []
 name_faults = refl
 
 pub AESGCM-fault : first_name_fault (codes "Noise_XX_25519_AESGCM_SHA256") ≡ Some Algorithm
@@ -158,7 +161,8 @@ pub no_suffix : first_name_fault (codes "Noise_XX") ≡ Some Algorithm
 no_suffix = refl
 
 pub XXpsk4-named : map first_name_fault
-    (in_name (codes "XXpsk4") ∷ in_name (codes "NN") ∷ in_name (codes "A1B2C3D4psk0+psk1+psk2+psk3+psk4+psk5+psk6+psk7+psk8") ∷ []) ≡ None ∷ None ∷ None ∷ []
+    (in_name (codes "XXpsk4") ∷ in_name (codes "NN")
+    ∷ in_name (codes "A1B2C3D4psk0+psk1+psk2+psk3+psk4+psk5+psk6+psk7+psk8") ∷ []) ≡ None ∷ None ∷ None ∷ []
 XXpsk4-named = refl
 
 pub XXpsk3-psk8-name :

@@ -25,7 +25,8 @@ wrong-line w = let more = more-feeds w.it in omega (arith, w.counted, more)
 first-line : (number feeds : ℕ) → number ≡ 1 → number ≤ feeds + 1
 first-line number feeds one = omega (arith, one)
 
-line-at : (text : List ℕ) (number : ℕ) (kind : TextFaultKind) → IsTextFaultAt text number kind → number ≤ line_feeds text + 1
+line-at : (text : List ℕ) (number : ℕ) (kind : TextFaultKind)
+    → IsTextFaultAt text number kind → number ≤ line_feeds text + 1
 line-at text number kinds.Heading h = first-line number (line_feeds text) h.0
 line-at text number kinds.Arrow h = wrong-line h.0
 line-at text number kinds.Token h = wrong-line h.0

@@ -1,5 +1,7 @@
--- What is judged of the lines of a text, for the parts of the search for its first fault. No public contract cites this file.
+-- What is judged of the lines of a text, for the parts of the search for its first fault. No public contract cites this
+-- file.
 use Rattle.std.specs.Prelude.{◌≡◌, ◌≢◌, ◌⊎◌, ◌↔◌, ℕ, ◌+◌, ◌≤◌, Bool, List, [], ◌∷◌, ◌++◌, length, IsTrue, IsFalse, take, true, false, if◌then◌else◌}
+use Rattle.std.specs.Prelude.{Result, MatchResult}
 use Rattle.std.specs.List.{list_all}
 use Rattle.noise_names.specs.declared.text.fault.Judged.{Judged}
 use Rattle.noise_names.specs.declared.text.fault.Words.{Words}
@@ -24,7 +26,8 @@ abbrev pub IsFirstLine : List ℕ → List ℕ → Bool → List ℕ → Type 0
 IsFirstLine text bytes true after = text ≡ line bytes ++ after
 IsFirstLine text bytes false after = (text ≡ bytes) × (after ≡ [])
 
--- the right lines so far: the tokens of the pre-messages and messages, and whether the line after the pre-messages is still ahead
+-- The right lines so far: the tokens of the pre-messages and messages, and whether the line after the pre-messages is
+-- still ahead.
 pub record Passed : Type 0 where
   pub ahead : Bool
   pub initiator : List Token
@@ -36,7 +39,7 @@ passed_lines s =
     if s.ahead then pre_line Initiator s.initiator ++ pre_line Responder s.responder
     else pre_lines s.initiator s.responder ++ message_lines Initiator s.messages
 
--- they are right, in a text that has the line after the pre-messages or hasn't
+-- The lines so far are right, in a text that has the line after the pre-messages (`dotted`) or in one that hasn't.
 pub record IsPassed (places : List ℕ) (dotted : Bool) (s : Passed) : Type 0 where
   pub initiator : IsTrue (is_pre_message s.initiator)
   pub responder : IsTrue (is_pre_message s.responder)
@@ -50,29 +53,35 @@ pub record IsPassed (places : List ℕ) (dotted : Bool) (s : Passed) : Type 0 wh
 abbrev pub IsBarred : Role → Passed → Type 0
 IsBarred party s = (s.responder ≢ []) ⊎ ((party ≡ Initiator) × (s.initiator ≢ []))
 
--- what is wrong in a line, without its line feed, after those
+-- what is wrong in a line, without its line feed, after the right lines so far
 abbrev pub IsWrong : List ℕ → Passed → List ℕ → TextFaultKind → Type 0
 IsWrong places s line kinds.Arrow = (line ≢ dots) × ((party : Role) (list : List ℕ) → line ≢ arrow_then party list)
 IsWrong places s line kinds.Token =
-    (party : Role) × (list : List ℕ) × (line ≡ arrow_then party list) × ((tokens : List Token) → tokens ≢ [] → list ≢ words tokens)
+    (party : Role) × (list : List ℕ) × (line ≡ arrow_then party list)
+    × ((tokens : List Token) → tokens ≢ [] → list ≢ words tokens)
 IsWrong places s line kinds.PreMessage =
     ((line ≡ dots) × (IsFalse s.ahead ⊎ ((s.initiator ≡ []) × (s.responder ≡ []))))
-    ⊎ (IsTrue s.ahead × ((party : Role) × (tokens : List Token) × IsTokens party tokens line × (IsFalse (is_pre_message tokens) ⊎ IsBarred party s)))
-IsWrong places s line kinds.Turn = IsFalse s.ahead × ((tokens : List Token) × IsTokens (turn_from Initiator (length s.messages + 1)) tokens line)
+    ⊎ (IsTrue s.ahead × ((party : Role) × (tokens : List Token) × IsTokens party tokens line
+    × (IsFalse (is_pre_message tokens) ⊎ IsBarred party s)))
+IsWrong places s line kinds.Turn =
+    IsFalse s.ahead × ((tokens : List Token) × IsTokens (turn_from Initiator (length s.messages + 1)) tokens line)
 IsWrong places s line kinds.Limit =
-    IsFalse s.ahead × ((tokens : List Token) × IsTokens (turn_from Initiator (length s.messages)) tokens line × IsFalse (is_within s.messages tokens))
+    IsFalse s.ahead × ((tokens : List Token) × IsTokens (turn_from Initiator (length s.messages)) tokens line
+    × IsFalse (is_within s.messages tokens))
 IsWrong places s line kinds.PskPlace =
-    IsFalse s.ahead × ((tokens : List Token) × IsTokens (turn_from Initiator (length s.messages)) tokens line × IsTrue (is_within s.messages tokens)
+    IsFalse s.ahead × ((tokens : List Token) × IsTokens (turn_from Initiator (length s.messages)) tokens line
+    × IsTrue (is_within s.messages tokens)
     × (tokens ≢ with_psk_tokens places (length s.messages + 1) (own_tokens tokens)))
 IsWrong places s line kinds.Heading = ⊥
 IsWrong places s line kinds.NameTaken = ⊥
 IsWrong places s line kinds.Ending = ⊥
 
--- what was judged stands for the lines passed
+-- whether a list has an element
 abbrev pub is_some : {A : Type 0} → List A → Bool
 is_some [] = false
 is_some (x ∷ xs) = true
 
+-- what was judged is that of the lines so far
 pub record Stands (j : Judged) (s : Passed) : Type 0 where
   pub ahead : j.dots_ahead ≡ s.ahead
   pub initiator : j.initiator ≡ is_some s.initiator
@@ -85,3 +94,8 @@ pub record IsNextOf (places : List ℕ) (dotted : Bool) (s : Passed) (bytes : Li
   pub stands : Stands j passed
   pub are_right : IsPassed places dotted passed
   pub lines : passed_lines passed ≡ passed_lines s ++ line bytes
+
+-- a line after those is right, and this is what was judged then; or it is wrong, and this is what is wrong in it
+abbrev pub IsJudged : List ℕ → Bool → Passed → List ℕ → Result Judged TextFaultKind → Type 0
+IsJudged places dotted s bytes result =
+    MatchResult result (λ j. IsNextOf places dotted s bytes j) (λ kind. IsWrong places s bytes kind)

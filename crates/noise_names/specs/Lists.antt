@@ -19,7 +19,8 @@ split-apart a b p q n e = (
 )
 
 -- an item stays at its place where the list grows
-pub get-front : {X : Type 0} (xs ys : List X) (n : ℕ) (x : X) → slice_get xs n ≡ Some x → slice_get (xs ++ ys) n ≡ Some x
+pub get-front : {X : Type 0} (xs ys : List X) (n : ℕ) (x : X)
+    → slice_get xs n ≡ Some x → slice_get (xs ++ ys) n ≡ Some x
 get-front [] ys n x e = absurd (cc)
 get-front (y ∷ xs) ys zero x e = e
 get-front (y ∷ xs) ys (suc n) x e = get-front xs ys n x e

@@ -20,11 +20,13 @@ is_upper b = nat_le 65 b && nat_le b 90
 abbrev pub is_base_byte : ℕ → Bool
 is_base_byte b = is_upper b || is_digit b
 
--- the bytes of a pattern section: those of a base, + (43), and the letters of psk, which lie between k (107) and s (115)
+-- the bytes of a pattern section: those of a base, + (43), and the letters of psk, which lie between k (107) and s
+-- (115)
 abbrev pub is_section_byte : ℕ → Bool
 is_section_byte b = is_base_byte b || (b == 43 || (nat_le 107 b && nat_le b 115))
 
--- whether these bytes are a base: 1 to 8 upper-case letters and digits, the first a letter (8.1; the limit is this library's)
+-- whether these bytes are a base: 1 to 8 upper-case letters and digits, the first a letter (8.1; the limit is this
+-- library's)
 abbrev pub is_base : List ℕ → Bool
 is_base [] = false
 is_base (b ∷ bs) = is_upper b && list_all is_base_byte bs && nat_lt (length bs) 8
@@ -39,7 +41,7 @@ rises (m ∷ n ∷ more) = nat_lt m n && rises (n ∷ more)
 abbrev pub are_places : List ℕ → Bool
 are_places ns = rises ns && list_all (λ n. nat_le n 8) ns
 
--- what has a name
+-- the base and the places are those of a name
 pub record IsSection (s : Section) : Type 0 where
   pub base : IsTrue (is_base s.base)
   pub places : IsTrue (are_places s.places)
@@ -98,7 +100,8 @@ digit_of piece = slice_index piece 3
 -- whether a piece is a modifier
 abbrev pub is_modifier : List ℕ → Bool
 is_modifier piece =
-    starts_with nat_eq piece (codes "psk") && (length piece == 4) && nat_le 48 (digit_of piece) && nat_le (digit_of piece) 56
+    starts_with nat_eq piece (codes "psk") && (length piece == 4)
+    && nat_le 48 (digit_of piece) && nat_le (digit_of piece) 56
 
 -- what is after the pattern section
 abbrev pub algorithm_part : List ℕ → List ℕ

@@ -11,8 +11,8 @@ use Rattle.noise_names.specs.Plan.{Plan, plain_of}
 use Rattle.noise_names.specs.Tokens.{own_tokens}
 
 -- messages with psk tokens at the same places are those of their other tokens
-messages-once : (places : List ℕ) (n : ℕ) (xs ys : List (List Token)) → map own_tokens xs ≡ map own_tokens ys → HavePsksAt places n xs
-    → HavePsksAt places n ys → xs ≡ ys
+messages-once : (places : List ℕ) (n : ℕ) (xs ys : List (List Token)) → map own_tokens xs ≡ map own_tokens ys
+    → HavePsksAt places n xs → HavePsksAt places n ys → xs ≡ ys
 messages-once places n [] [] e h k = refl
 messages-once places n [] (y ∷ ys) e h k = absurd (cc)
 messages-once places n (x ∷ xs) [] e h k = absurd (cc)
@@ -39,15 +39,19 @@ none-some n e = cc
 not-lower : (k m : ℕ) → nat_le m k ≡ true → nat_lt k m ≡ false
 not-lower k m a = grind (arith, nat_tests)
 
-not-beyond : (k : ℕ) (ms : List ℕ) (n : ℕ) → list_all (λ m. nat_le m k) ms ≡ true → find (λ m. nat_lt k m) ms ≡ Some n → ⊥
+not-beyond : (k : ℕ) (ms : List ℕ) (n : ℕ) → list_all (λ m. nat_le m k) ms ≡ true
+    → find (λ m. nat_lt k m) ms ≡ Some n → ⊥
 not-beyond k [] n h e = none-some n e
 not-beyond k (m ∷ ms) n h e =
     let parts = and_parts (nat_le m k) (list_all (λ z. nat_le z k) ms) h in
-    not-beyond k ms n parts.1 (sym (ap (λ (c : Bool). cond c (Some m) (find (λ z. nat_lt k z) ms)) (not-lower k m parts.0)) ∙ e)
+    let same = ap (λ (c : Bool). cond c (Some m) (find (λ z. nat_lt k z) ms)) (not-lower k m parts.0) in
+    not-beyond k ms n parts.1 (sym same ∙ e)
 
 -- no place is beyond the messages
-pub none-beyond : (plain : Plan) (places : List ℕ) (p : Plan) (n : ℕ) → Placed plain places p → first_beyond plain places ≡ Some n → ⊥
+pub none-beyond : (plain : Plan) (places : List ℕ) (p : Plan) (n : ℕ) → Placed plain places p
+    → first_beyond plain places ≡ Some n → ⊥
 none-beyond plain places p n h beyond =
     let count : length plain.messages ≡ length p.messages =
     ap (λ (z : Plan). length z.messages) (sym h.without) ∙ length-map p.messages own_tokens in
-    not-beyond (length p.messages) places n h.psks.in_range (ap (λ (k : ℕ). find (λ m. nat_lt k m) places) (sym count) ∙ beyond)
+    not-beyond (length p.messages) places n h.psks.in_range
+    (ap (λ (k : ℕ). find (λ m. nat_lt k m) places) (sym count) ∙ beyond)

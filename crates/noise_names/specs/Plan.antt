@@ -6,13 +6,24 @@ use Rattle.noise_names.specs.declared.token.Role.TheVariants.{Initiator, Respond
 use Rattle.noise_names.specs.declared.token.Token.{Token}
 use Rattle.noise_names.specs.Tokens.{other, is_psk, own_tokens, turn_from}
 
--- a pattern: the base of its name, its psk places, what each party's pre-message has, and the tokens of each message (7.1, 9.4)
+-- A pattern: the base of its name, its psk places, what each party's pre-message has, and the tokens of each message
+-- (7.1, 9.4).
 pub record Plan : Type 0 where
   pub base : List ℕ
   pub places : List ℕ
   pub initiator : List Token
   pub responder : List Token
   pub messages : List (List Token)
+
+-- the pattern of these parts
+abbrev pub plan_of : List ℕ → List ℕ → List Token → List Token → List (List Token) → Plan
+plan_of base places initiator responder messages = record {
+  base = base;
+  places = places;
+  initiator = initiator;
+  responder = responder;
+  messages = messages;
+}
 
 -- the pre-message of a party (7.1)
 abbrev pub pre_of : Role → Plan → List Token
@@ -76,7 +87,12 @@ first_places p n =
     token_places Initiator 0 0 p.initiator ++ token_places Responder 0 0 p.responder
     ++ message_places Initiator 1 (take n p.messages)
 
--- the places before a token: those of the pre-messages, of the messages before its own, and of the tokens in front of it
+-- the place of a token after these messages and the tokens of its own message in front of it
+abbrev pub place_after : List (List Token) → List Token → Token → Place
+place_after before front token =
+    place (turn_from Initiator (length before)) (does token) (length before + 1) (length front)
+
+-- the places before that: those of the pre-messages, of the messages before its own, and of the tokens in front of it
 abbrev pub places_before : Plan → List (List Token) → List Token → List Place
 places_before p before front =
     token_places Initiator 0 0 p.initiator ++ token_places Responder 0 0 p.responder

@@ -1,4 +1,5 @@
--- What is read of a pattern section and of a name, as functions, for the parts of the reading. No public contract cites this file.
+-- What is read of a pattern section and of a name, as functions, for the parts of the reading. No public contract cites
+-- this file.
 use Rattle.std.specs.Prelude.{ℕ, ◌-◌, nat_lt, not, List, length, map, take, bytes_eq, Result, Ok, Err, if◌then◌else◌}
 use Rattle.std.specs.List.{list_all}
 use Rattle.noise_names.specs.declared.faults.NameFault.{NameFault}

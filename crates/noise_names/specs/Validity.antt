@@ -1,13 +1,14 @@
--- When a pattern is valid: five rules on what comes before a place (Noise, 7.3 and 9.3; the choice of the five is this library's).
-use Rattle.std.specs.Prelude.{◌≡◌, ℕ, ◌+◌, Bool, true, false, not, ◌&&◌, ◌||◌, List, [], ◌∷◌, ◌++◌, length, if◌then◌else◌, IsTrue, Option, Some, None}
+-- When a pattern is valid: five rules on what comes before a place (Noise, 7.3 and 9.3; the choice of the five is this
+-- library's).
+use Rattle.std.specs.Prelude.{◌≡◌, ℕ, ◌+◌, Bool, true, false, not, ◌&&◌, ◌||◌, List, [], ◌∷◌, ◌++◌, if◌then◌else◌, IsTrue, Option, Some, None}
 use Rattle.std.specs.List.{list_any}
 use Rattle.noise_names.specs.declared.token.Role.{Role}
 use Rattle.noise_names.specs.declared.token.Role.TheVariants.{Initiator, Responder}
 use Rattle.noise_names.specs.declared.token.Token.{Token}
 use Rattle.noise_names.specs.declared.token.Token.TheVariants.{E, S, Ee, Es, Se, Ss, Psk}
 use Rattle.noise_names.specs.declared.faults.RuleFault.{RuleFault}
-use Rattle.noise_names.specs.Tokens.{same_role, same_token, turn_from}
-use Rattle.noise_names.specs.Plan.{Plan, Step, does, payload, transport, Place, place, places_of, places_before}
+use Rattle.noise_names.specs.Tokens.{same_role, same_token}
+use Rattle.noise_names.specs.Plan.{Plan, Step, does, payload, transport, Place, place_after, places_of, places_before}
 
 -- whether a place is that of token t
 abbrev pub is_at : Token → Step → Bool
@@ -49,14 +50,15 @@ dh_is_first earlier (does Se) = not (occurs Se earlier)
 dh_is_first earlier (does Ss) = not (occurs Ss earlier)
 dh_is_first earlier _ = true
 
--- whether a party may encrypt after these places, as far as its DHs go: one of its static key comes with one of its ephemeral key (7.3, fourth rule)
+-- whether a party may encrypt after these places, as far as its DHs go: one of its static key comes with one of its
+-- ephemeral key (7.3, fourth rule)
 abbrev pub dh_is_fresh : List Place → Role → Bool
 dh_is_fresh earlier Initiator =
     comes_with (occurs Se earlier) (occurs Ee earlier) && comes_with (occurs Ss earlier) (occurs Es earlier)
 dh_is_fresh earlier Responder =
     comes_with (occurs Es earlier) (occurs Ee earlier) && comes_with (occurs Ss earlier) (occurs Se earlier)
 
--- the same as far as psks go: one comes with an ephemeral key of the party (9.3)
+-- whether a party may encrypt after these places, as far as psks go: one comes with an ephemeral key of the party (9.3)
 abbrev pub psk_is_fresh : List Place → Role → Bool
 psk_is_fresh earlier party = comes_with (occurs Psk earlier) (is_among party E earlier)
 
@@ -83,7 +85,8 @@ broken_rules earlier p =
 -- no place of these breaks a rule after those before it (7.3, 9.3)
 abbrev pub AllKeepRules : List Place → Type 0
 AllKeepRules places =
-    (earlier : List Place) (p : Place) (later : List Place) → places ≡ earlier ++ p ∷ later → broken_rules earlier p ≡ []
+    (earlier : List Place) (p : Place) (later : List Place)
+    → places ≡ earlier ++ p ∷ later → broken_rules earlier p ≡ []
 
 abbrev pub IsValid : Plan → Type 0
 IsValid plan = AllKeepRules (places_of plan)
@@ -101,7 +104,7 @@ abbrev pub TokensKeepRules : Plan → Type 0
 TokensKeepRules plan =
     (before : List (List Token)) (front : List Token) (token : Token) (back : List Token) (after : List (List Token)) →
     plan.messages ≡ before ++ (front ++ token ∷ back) ∷ after →
-    KeepsRules (places_before plan before front) (place (turn_from Initiator (length before)) (does token) (length before + 1) (length front))
+    KeepsRules (places_before plan before front) (place_after before front token)
 
 -- the fault of a place that breaks these rules, or else the next fault
 abbrev pub fault_or : List ℕ → Place → Option RuleFault → Option RuleFault
@@ -111,7 +114,8 @@ fault_or (rule ∷ _) p next = Some (record { rule = rule; message = p.message; 
 -- the first fault of the places after the earlier ones, where broken gives the rules that a place breaks after others
 abbrev pub first_fault_by : (List Place → Place → List ℕ) → List Place → List Place → Option RuleFault
 first_fault_by broken earlier [] = None
-first_fault_by broken earlier (p ∷ later) = fault_or (broken earlier p) p (first_fault_by broken (earlier ++ p ∷ []) later)
+first_fault_by broken earlier (p ∷ later) =
+    fault_or (broken earlier p) p (first_fault_by broken (earlier ++ p ∷ []) later)
 
 unfoldable pub first_fault_from : List Place → List Place → Option RuleFault
 first_fault_from earlier places = first_fault_by broken_rules earlier places

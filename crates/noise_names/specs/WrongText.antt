@@ -54,8 +54,8 @@ body_of p = pre_lines p.initiator p.responder ++ message_lines Initiator p.messa
 
 -- ---- the patterns with which a text is compared
 
--- A pattern of any name that isn't that of a fundamental one, with these psk places. It has pre-messages exactly if the line after them is among the
--- lines of this text.
+-- A pattern of any name that isn't that of a fundamental one, with these psk places. It has pre-messages exactly if the
+-- line after them is among the lines of this text.
 pub record IsLike (places : List ℕ) (body : List ℕ) (p : Plan) : Type 0 where
   pub is_pattern : IsPattern p
   pub own_name : fundamental_of p.base ≡ None
@@ -79,9 +79,10 @@ pub record IsWrongLine (text : List ℕ) (number : ℕ) : Type 0 where
   pub some : left ≢ []
   pub it : BeginsRight text front left
   pub counted : number ≡ line_feeds front + 2
-  pub wrong : (q : Plan) (rest : List ℕ) → IsLike it.heading.places (front ++ left) q → ¬ (body_of q ≡ front ++ (line (first_line left) ++ rest))
+  pub wrong : (q : Plan) (rest : List ℕ) → IsLike it.heading.places (front ++ left) q
+      → ¬ (body_of q ≡ front ++ (line (first_line left) ++ rest))
 
--- it
+-- the wrong line, without its line feed
 abbrev pub told : {text : List ℕ} → {number : ℕ} → IsWrongLine text number → List ℕ
 told w = first_line w.left
 
@@ -89,7 +90,8 @@ told w = first_line w.left
 
 -- no heading, neither with its line feed nor without
 abbrev pub HasNoHeading : List ℕ → Type 0
-HasNoHeading text = (s : Section) → IsSection s → (text ≢ heading_of s) × ((rest : List ℕ) → text ≢ line (heading_of s) ++ rest)
+HasNoHeading text = (s : Section) → IsSection s
+    → (text ≢ heading_of s) × ((rest : List ℕ) → text ≢ line (heading_of s) ++ rest)
 
 -- the lines are those of the pre-messages and of these messages
 abbrev pub IsAfter : Plan → List (List Token) → List ℕ → Type 0
@@ -99,7 +101,7 @@ IsAfter p messages front = front ≡ pre_lines p.initiator p.responder ++ messag
 abbrev pub IsAtMessage : {text : List ℕ} → {number : ℕ} → IsWrongLine text number → List (List Token) → Type 0
 IsAtMessage w before = IsAfter w.it.p before w.front
 
--- it stands before the line after the pre-messages
+-- the wrong line stands before the line after the pre-messages
 abbrev pub IsInPreMessages : {text : List ℕ} → {number : ℕ} → IsWrongLine text number → Type 0
 IsInPreMessages w = IsFalse (has_dots w.front) × IsTrue (has_dots w.left)
 
@@ -108,10 +110,12 @@ IsArrowFault w = (told w ≢ dots) × ((party : Role) (list : List ℕ) → told
 
 abbrev pub IsTokenFault : {text : List ℕ} → {number : ℕ} → IsWrongLine text number → Type 0
 IsTokenFault w =
-    (party : Role) × (list : List ℕ) × (told w ≡ arrow_then party list) × ((tokens : List Token) → tokens ≢ [] → list ≢ words tokens)
+    (party : Role) × (list : List ℕ) × (told w ≡ arrow_then party list)
+    × ((tokens : List Token) → tokens ≢ [] → list ≢ words tokens)
 
 abbrev pub IsPreMessageFault : {text : List ℕ} → {number : ℕ} → IsWrongLine text number → Type 0
-IsPreMessageFault w = (told w ≡ dots) ⊎ (IsInPreMessages w × ((party : Role) × (tokens : List Token) × IsTokens party tokens (told w)))
+IsPreMessageFault w = (told w ≡ dots)
+    ⊎ (IsInPreMessages w × ((party : Role) × (tokens : List Token) × IsTokens party tokens (told w)))
 
 -- a line of the party whose turn it isn't
 abbrev pub IsTurnFault : {text : List ℕ} → {number : ℕ} → IsWrongLine text number → Type 0
@@ -119,19 +123,22 @@ IsTurnFault w = (before : List (List Token)) × (tokens : List Token) × IsAtMes
     × IsTokens (turn_from Initiator (length before + 1)) tokens (told w)
 
 -- a line of the other party, with these tokens
-abbrev pub IsMessage : {text : List ℕ} → {number : ℕ} → IsWrongLine text number → List (List Token) → List Token → Type 0
+abbrev pub IsMessage : {text : List ℕ} → {number : ℕ} → IsWrongLine text number → List (List Token) → List Token
+    → Type 0
 IsMessage w before tokens = IsAtMessage w before × IsTokens (turn_from Initiator (length before)) tokens (told w)
 
--- whether it is the ninth, or has no token but psk, or too many others
+-- whether the message is no more than the eighth, and has from one to eight tokens other than psk
 abbrev pub is_within : List (List Token) → List Token → Bool
 is_within before tokens = nat_le (length before + 1) 8 && has_few_tokens tokens
 
 abbrev pub IsLimitFault : {text : List ℕ} → {number : ℕ} → IsWrongLine text number → Type 0
-IsLimitFault w = (before : List (List Token)) × (tokens : List Token) × IsMessage w before tokens × IsFalse (is_within before tokens)
+IsLimitFault w =
+    (before : List (List Token)) × (tokens : List Token) × IsMessage w before tokens × IsFalse (is_within before tokens)
 
--- so what is wrong in it are its psk tokens
+-- The message is within the limits, so what is wrong in it are its psk tokens.
 abbrev pub IsPskFault : {text : List ℕ} → {number : ℕ} → IsWrongLine text number → Type 0
-IsPskFault w = (before : List (List Token)) × (tokens : List Token) × IsMessage w before tokens × IsTrue (is_within before tokens)
+IsPskFault w =
+    (before : List (List Token)) × (tokens : List Token) × IsMessage w before tokens × IsTrue (is_within before tokens)
 
 -- all lines are right, of these messages, and a psk place is beyond them
 pub record HasPlaceBeyond (text : List ℕ) : Type 0 where
@@ -154,7 +161,8 @@ pub record IsCutShort (text : List ℕ) (number : ℕ) : Type 0 where
   pub it : BeginsRight text front left
   pub last : left ≡ first_line left
   pub counted : number ≡ line_feeds front + 2
-  pub next : ((rest : List ℕ) × (left ≢ []) × (body_of it.p ≡ front ++ (line left ++ rest))) ⊎ ((left ≡ []) × IsAfter it.p [] front)
+  pub next : ((rest : List ℕ) × (left ≢ []) × (body_of it.p ≡ front ++ (line left ++ rest)))
+      ⊎ ((left ≡ []) × IsAfter it.p [] front)
 
 abbrev pub EndsInHeading : List ℕ → Type 0
 EndsInHeading text = (s : Section) × IsSection s × (text ≡ heading_of s)
@@ -166,7 +174,8 @@ IsTextFaultAt text number kinds.Arrow = (w : IsWrongLine text number) × IsArrow
 IsTextFaultAt text number kinds.Token = (w : IsWrongLine text number) × IsTokenFault w
 IsTextFaultAt text number kinds.PreMessage = (w : IsWrongLine text number) × IsPreMessageFault w
 IsTextFaultAt text number kinds.Turn = (w : IsWrongLine text number) × IsTurnFault w
-IsTextFaultAt text number kinds.PskPlace = ((w : IsWrongLine text number) × IsPskFault w) ⊎ ((number ≡ 1) × HasPlaceBeyond text)
+IsTextFaultAt text number kinds.PskPlace =
+    ((w : IsWrongLine text number) × IsPskFault w) ⊎ ((number ≡ 1) × HasPlaceBeyond text)
 IsTextFaultAt text number kinds.NameTaken = (number ≡ 1) × HasTakenName text
 IsTextFaultAt text number kinds.Limit = (w : IsWrongLine text number) × IsLimitFault w
 IsTextFaultAt text number kinds.Ending = ((number ≡ 1) × EndsInHeading text) ⊎ IsCutShort text number

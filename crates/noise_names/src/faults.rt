@@ -68,16 +68,16 @@ pub struct TextFault {
 
 /// The first place of a pattern that breaks a rule of validity (Noise, 7.3 and 9.3).
 ///
-/// The rules are: 1, both public keys of a DH token come earlier; 2, a party has one `e` and one `s`; 3, a DH token stands
-/// once; 4, a party encrypts after a DH of its static key only if the DH of its ephemeral key with the same key of the other
-/// party comes earlier; 5, a party encrypts after a psk only if an `e` of its own comes earlier.
+/// The rules are: 1, both public keys of a DH token come earlier; 2, a party has one `e` and one `s`; 3, a DH token
+/// stands once; 4, a party encrypts after a DH of its static key only if the DH of its ephemeral key with the same key
+/// of the other party comes earlier; 5, a party encrypts after a psk only if an `e` of its own comes earlier.
 #[derive(Clone, Copy, Debug, PartialEq, Eq)]
 pub struct RuleFault {
     /// The lowest rule that is broken there, 1 to 5.
     pub rule: u8,
     /// The message, counted from 1. The transport after the last message counts as one message more.
     pub message: u8,
-    /// The token of the message, counted from 0. Its payload counts as the token after the last. The initiator's transport
-    /// is token 0, the responder's 1.
+    /// The token of the message, counted from 0. Its payload counts as the token after the last. The initiator's
+    /// transport is token 0, the responder's 1.
     pub token: u8,
 }

@@ -1,5 +1,5 @@
-//! Protocol names and handshake patterns of the Noise Protocol Framework (revision 34, sections 7 to 9): which names and
-//! patterns there are within the limits of this library, and which patterns are valid.
+//! Protocol names and handshake patterns of the Noise Protocol Framework (revision 34, sections 7 to 9): which names
+//! and patterns there are within the limits of this library, and which patterns are valid.
 #![tactic(auto)]
 
 mod faults;

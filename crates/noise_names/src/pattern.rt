@@ -67,9 +67,9 @@ impl Message {
     }
 }
 
-/// A handshake pattern (Noise, 7.1) within the limits of this library: a base of 1 to 8 bytes, pre-messages that are empty,
-/// `e`, `s` or `e, s`, 1 to 8 messages of 1 to 8 tokens other than psk, and psk tokens exactly where its places say. One
-/// whose base is that of a fundamental pattern is that pattern, psk tokens aside. It need not be valid: see
+/// A handshake pattern (Noise, 7.1) within the limits of this library: a base of 1 to 8 bytes, pre-messages that are
+/// empty, `e`, `s` or `e, s`, 1 to 8 messages of 1 to 8 tokens other than psk, and psk tokens exactly where its places
+/// say. One whose base is that of a fundamental pattern is that pattern, psk tokens aside. It need not be valid: see
 /// [`Pattern::check`].
 #[derive(Clone, Debug, Drop, PartialEq, Eq)]
 pub struct Pattern {
@@ -81,7 +81,7 @@ pub struct Pattern {
 }
 
 impl Model for Pattern {
-    ghost use Rattle.noise_names.specs.Plan.{Plan};
+    ghost use Rattle.noise_names.specs.Plan.{Plan, plan_of};
     ghost use Rattle.noise_names.specs.Limits.{IsPattern};
 
     ghost Value = { Plan };
@@ -95,7 +95,7 @@ impl Model for Pattern {
     } };
 
     ghost invariant = { λ p. IsPattern
-        (record { base = p.base.items; places = p.places; initiator = p.initiator.items; responder = p.responder.items; messages = p.messages.items }) };
+        (plan_of p.base.items p.places p.initiator.items p.responder.items p.messages.items) };
 
     ghost inverse = { λ p. record {
       base = record { items = p.base };
@@ -107,7 +107,7 @@ impl Model for Pattern {
 }
 
 impl Pattern {
-    ghost use Rattle.noise_names.specs.Plan.{Plan, has_psk, pre_of};
+    ghost use Rattle.noise_names.specs.Plan.{Plan, has_psk, plan_of, pre_of};
     ghost use Rattle.noise_names.specs.Limits.{IsPattern, is_pre_message};
 
     // The pattern of these parts.
@@ -118,8 +118,8 @@ impl Pattern {
         responder: &[Token],
         messages: ArrayVec<Message, 8>,
     ) -> Pattern
-        requires { IsPattern (record { base = base.now; places = places; initiator = initiator.now; responder = responder.now; messages = messages.items }) }
-        ensures { result ≡ record { base = base.now; places = places; initiator = initiator.now; responder = responder.now; messages = messages.items } }
+        requires { IsPattern (plan_of base.now places initiator.now responder.now messages.items) }
+        ensures { result ≡ plan_of base.now places initiator.now responder.now messages.items }
     {
         let mut kept = ArrayVec::new();
         kept.try_extend_from_slice(base).unwrap();

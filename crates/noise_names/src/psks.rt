@@ -10,8 +10,9 @@ impl Pattern {
     ghost use Rattle.noise_names.specs.Plan.{has_psk};
     ghost use Rattle.noise_names.specs.Limits.{Placed, first_beyond};
 
-    /// The pattern with psk tokens at these places (Noise, 9.4): place 0 is in front of the first message, and place n at
-    /// the end of message n. A place greater than the number of messages is refused, and the first such place is reported.
+    /// The pattern with psk tokens at these places (Noise, 9.4): place 0 is in front of the first message, and place n
+    /// at the end of message n. A place greater than the number of messages is refused, and the first such place is
+    /// reported.
     pub fn with_psks(base: &Pattern, places: &PskPlaces) -> Result<Pattern, PlaceFault>
         requires { IsFalse (has_psk base.now) }
         ensures placed { IfOk result (λ pattern. Placed base.now places.now pattern) }

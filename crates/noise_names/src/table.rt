@@ -18,7 +18,8 @@ pub fn fundamental(base: &[u8]) -> Option<Pattern>
 // The place of the base in the list.
 #[tactic(auto, unfolding(crate::specs::Fundamental::fundamentals, crate::specs::Fundamental::fundamental_of))]
 pub(crate) fn place_of(base: &[u8]) -> Option<u8>
-    ensures { MatchOption result (fundamental_of base.now ≡ None) (λ place. slice_get fundamentals place ≡ fundamental_of base.now) }
+    ensures { MatchOption result (fundamental_of base.now ≡ None)
+        (λ place. slice_get fundamentals place ≡ fundamental_of base.now) }
 {
     match base {
         b"N" => Some(0),
@@ -76,7 +77,8 @@ pub(crate) fn row(place: u8) -> Pattern
 
 // The fundamental pattern that has these parts.
 fn plain(base: &[u8], initiator: &[Token], responder: &[Token], messages: &[&[Token]]) -> Pattern
-    requires { fundamental_of base.now ≡ Some (plain base.now initiator.now responder.now (map (λ m. m.now) messages.now)) }
+    requires { fundamental_of base.now
+        ≡ Some (plain base.now initiator.now responder.now (map (λ m. m.now) messages.now)) }
     ensures { result ≡ plain base.now initiator.now responder.now (map (λ m. m.now) messages.now) }
 {
     let mut kept = ArrayVec::new();

@@ -14,8 +14,8 @@ impl Pattern {
     ghost use Rattle.noise_names.specs.Text.{text_of, Spells};
     ghost use Rattle.noise_names.specs.WrongText.{IsTextFault};
 
-    /// The pattern that the text spells, within the limits of [`Pattern`]. A pattern has exactly one text. Else the first line
-    /// with a fault is reported, counted from 1, and what is wrong in it.
+    /// The pattern that the text spells, within the limits of [`Pattern`]. A pattern has exactly one text. Else the
+    /// first line with a fault is reported, counted from 1, and what is wrong in it.
     pub fn parse_text(text: &[u8]) -> Result<Pattern, TextFault>
         ensures spelled { IfOk result (λ pattern. Spells text.now pattern) }
         ensures every { (pattern : Plan) → Spells text.now pattern → result ≡ Ok pattern }

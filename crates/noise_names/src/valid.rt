@@ -33,8 +33,8 @@ impl ValidPattern {
     ghost use Rattle.noise_names.specs.Limits.{Placed};
     ghost use Rattle.noise_names.specs.Fundamental.{fundamental_of};
 
-    /// The fundamental pattern of this base, such as `XX` (Noise, 7.4 and 7.5), which is valid. None if the base is none of
-    /// the fifteen. It has no psk tokens.
+    /// The fundamental pattern of this base, such as `XX` (Noise, 7.4 and 7.5), which is valid. None if the base is
+    /// none of the fifteen. It has no psk tokens.
     pub fn fundamental(base: &[u8]) -> Option<ValidPattern>
         ensures same { result ≡ fundamental_of base.now }
         ensures valid { IfSome result (λ pattern. IsValid pattern) }
@@ -58,8 +58,8 @@ impl ValidPattern {
         &self.pattern
     }
 
-    /// That each token of a valid pattern's messages keeps the five rules after the places before it. It does nothing: its
-    /// contract is the law.
+    /// That each token of a valid pattern's messages keeps the five rules after the places before it. It does nothing:
+    /// its contract is the law.
     pub fn keeps_rules(&self)
         ensures { TokensKeepRules self.now }
     {
@@ -105,8 +105,8 @@ impl ValidPattern {
 impl Pattern {
     ghost use Rattle.noise_names.specs.Validity.{IsValid, IsFirstFault, first_fault};
 
-    /// The pattern as a valid one, or the first place that breaks a rule, with the lowest rule that it breaks. At a fault
-    /// the pattern is gone: keep a clone where it is needed again.
+    /// The pattern as a valid one, or the first place that breaks a rule, with the lowest rule that it breaks. At a
+    /// fault the pattern is gone: keep a clone where it is needed again.
     pub fn check(self) -> Result<ValidPattern, RuleFault>
         ensures first { MatchResult result (λ _. first_fault self ≡ None) (λ fault. first_fault self ≡ Some fault) }
         ensures same { IfOk result (λ checked. checked ≡ self) }

@@ -6,8 +6,11 @@ use Rattle.noise_aead.specs.Sealing.{sealed, nonce_of, rekeyed}
 
 -- one step of a handshake's key schedule, by the name that the standard gives it (Noise 5.2)
 pub data Entry : Type 0 where
-  MixHash : (text : List ℕ) → Entry  -- of a text that travels in the clear, or isn't sent
-  Ciphertext : (ciphertext : List ℕ) → Entry  -- EncryptAndHash, DecryptAndHash: of what they make or take; a plain text without a key
+  -- of a text that travels in the clear, or isn't sent
+  MixHash : (text : List ℕ) → Entry
+  -- by EncryptAndHash or DecryptAndHash: of the ciphertext that they make or take, which without a key is the plain
+  -- text
+  Ciphertext : (ciphertext : List ℕ) → Entry
   MixKey : (input : List ℕ) → Entry
   MixKeyAndHash : (input : List ℕ) → Entry
 
@@ -31,7 +34,8 @@ hash_of name [] = start_value name
 hash_of name (MixHash text ∷ older) = sha256 (hash_of name older ++ text)
 hash_of name (Ciphertext bytes ∷ older) = sha256 (hash_of name older ++ bytes)
 hash_of name (MixKey input ∷ older) = hash_of name older
-hash_of name (MixKeyAndHash input ∷ older) = sha256 (hash_of name older ++ second_output (chaining_key_of name older) input)
+hash_of name (MixKeyAndHash input ∷ older) =
+    sha256 (hash_of name older ++ second_output (chaining_key_of name older) input)
 
 abbrev pub cipher_key_of : List ℕ → List Entry → Option (List ℕ)
 cipher_key_of name [] = None

@@ -33,7 +33,7 @@ pub record StateStands (s : SymmetricState) (r : History) : Type 0 where
   pub key_is : s.cipher.key ≡ cipher_key r
   pub nonce_is : s.cipher.nonce ≡ nonce r
 
--- its key and nonce are the history's
+-- the state's key and nonce are those of the history
 pub keyed-is : (s : SymmetricState) (r : History) → StateStands s r → keyed s ≡ is_some (cipher_key r)
 keyed-is s r h = ap (λ (k : Option (List ℕ)). is_some k) h.key_is
 

@@ -1,5 +1,5 @@
-//! Tests of sessions and of two ends, through public calls alone. A crate with tests of its own is proved twice, so they stand above the crates that they
-//! test.
+//! Tests of sessions and of two ends, through public calls alone. They stand above the crates that they test, since a
+//! crate with tests of its own is proved twice.
 #![tactic(auto)]
 
 #[cfg(test)]

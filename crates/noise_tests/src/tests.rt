@@ -1,4 +1,5 @@
-//! What no contract says: worked frames and packets, what readers and writers that fail come to, and that each call can succeed.
+//! What no contract says: worked frames and packets, the results with readers and writers that fail, and that each call
+//! can succeed.
 
 mod channel;
 mod conversations;

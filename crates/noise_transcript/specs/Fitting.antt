@@ -19,8 +19,8 @@ abbrev pub IsXor : FileKeys → Type 0
 IsXor (Xor keys) = ⊤
 IsXor (Table keys) = ⊥
 
--- A right vector file with `xor` keys of both parties, whose pattern is this valid one, and nothing is wrong with either setup. Its events say these lines
--- and nothing else, no datagrams follow, and the lines fit.
+-- A right vector file with `xor` keys of both parties, whose pattern is this valid one, and nothing is wrong with
+-- either setup. Its events say these lines and nothing else, no datagrams follow, and the lines fit.
 pub record HasFittingLines (file : VectorFile) (p : Plan) (lines : List (Role × List ℕ)) : Type 0 where
   pub right : IsVectorFile file
   pub initiator : IsXor file.initiator

@@ -25,8 +25,8 @@ wrote_line role n bytes = line_of (codes "wrote" ∷ role_word role ∷ decimal 
 abbrev pub payload_line : Role → List ℕ → List ℕ
 payload_line role bytes = line_of (codes "payload" ∷ role_word role ∷ hex_of bytes ∷ [])
 
--- For each line: its role wrote its message as a frame, and the other role accepted its payload. The initiator's frames are counted from i on, the
--- responder's from j on.
+-- For each line: its role wrote its message as a frame, and the other role accepted its payload. The initiator's frames
+-- are counted from i on, the responder's from j on.
 abbrev pub exchange_lines : ℕ → ℕ → List (Role × List ℕ) → List (Role × List ℕ) → List (List ℕ)
 exchange_lines i j ((Initiator, payload) ∷ lines) ((writer, message) ∷ messages) =
     wrote_line Initiator i (frame message) ∷ payload_line Responder payload ∷ exchange_lines (i + 1) j lines messages
@@ -34,8 +34,8 @@ exchange_lines i j ((Responder, payload) ∷ lines) ((writer, message) ∷ messa
     wrote_line Responder j (frame message) ∷ payload_line Initiator payload ∷ exchange_lines i (j + 1) lines messages
 exchange_lines i j lines messages = []
 
--- How far a role's end has come after all lines: so many messages of the handshake have passed; or all of them have, it has sent and received so many
--- transport messages, and this is the handshake's hash (Noise 11.2).
+-- How far a role's end has come after all lines: so many messages of the handshake have passed; or all of them have, it
+-- has sent and received so many transport messages, and this is the handshake's hash (Noise 11.2).
 abbrev pub reached_words : Plan → List (Role × List ℕ) → List ℕ → Role → List (List ℕ)
 reached_words p lines h role =
     if nat_lt (length lines) (length p.messages)
@@ -57,7 +57,8 @@ material_in file p = material_of (start_of file p Initiator) (start_of file p Re
 abbrev pub hash_after : KeyMaterial → Plan → List ℕ → List (Role × List ℕ) → List ℕ
 hash_after w p prologue lines = hash (history_in w p prologue lines)
 
--- all lines that are printed of a file's lines: each message of the transcript, with its payload at the other end, and then one for each end
+-- All lines that are printed of a file's lines: each message of the transcript, with its payload at the other end, and
+-- then one for each end.
 abbrev pub talked_lines : VectorFile → Plan → List (Role × List ℕ) → List (List ℕ)
 talked_lines file p lines =
     exchange_lines 0 0 lines (transcript_of p (starts_in file p) file.prologue.items file.interval lines)
@@ -66,4 +67,5 @@ talked_lines file p lines =
 
 -- So it is of every file whose lines fit.
 abbrev pub FittingLinesRun : Type 0
-FittingLinesRun = (file : VectorFile) (p : Plan) (lines : List (Role × List ℕ)) → HasFittingLines file p lines → IsRunOf file (talked_lines file p lines)
+FittingLinesRun = (file : VectorFile) (p : Plan) (lines : List (Role × List ℕ))
+    → HasFittingLines file p lines → IsRunOf file (talked_lines file p lines)

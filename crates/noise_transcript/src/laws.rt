@@ -7,8 +7,9 @@ use noise_conversation::fitting_lines_take_turns;
 use noise_duel::{alike_are_parts, lines_come_through};
 use noise_handshake::{setup_is_whole, tokens_stand};
 
-/// The lines of a file's run, where the lines that it says fit: each message of the transcript as a frame, with its payload at the other end, and then how
-/// far each end has come. So all frames are accepted, none is refused or dropped, and no byte is left over.
+/// The lines of a file's run, where the lines that it says fit: each message of the transcript as a frame, with its
+/// payload at the other end, and then how far each end has come. So all frames are accepted, none is refused or
+/// dropped, and no byte is left over.
 pub fn fitting_lines_run()
     ensures { FittingLinesRun }
 {

@@ -1,4 +1,5 @@
-//! What `noise talk` prints of a file whose lines fit: the transcript of the conversation and its payloads, all accepted. No program calls this crate.
+//! What `noise talk` prints of a file whose lines fit: the transcript of the conversation and its payloads, all
+//! accepted. No program calls this crate.
 #![tactic(auto)]
 
 mod laws;

@@ -22,10 +22,11 @@ use std::io::{Read, Write};
 
 /// Does what `noise talk` does with the vector file of this name, by `perform_command`, and gives the exit status.
 ///
-/// Of a vector file whose lines fit, at status 0 or 1 the output grew by exactly this: for each line the frame
-/// of its message in the transcript, and its payload as the other end accepted it; and then a line for each end. The status is 0 where these are the lines
-/// that the file expects, or it expects none, and else 1. It is 2 only for a text of more than 4194304 bytes, and 3 where the file can't be read, the
-/// output can't be written, or memory runs out. At each status the output is as it was, or grew by a prefix of these lines.
+/// Of a vector file whose lines fit, at status 0 or 1 the output grew by exactly this: for each line the frame of its
+/// message in the transcript, and its payload as the other end accepted it; and then a line for each end. The status is
+/// 0 where these are the lines that the file expects, or it expects none, and else 1. It is 2 only for a text of more
+/// than 4194304 bytes, and 3 where the file can't be read, the output can't be written, or memory runs out. At each
+/// status the output is as it was, or grew by a prefix of these lines.
 ///
 /// Such a file has `xor` keys, a valid pattern, setups without a fault, and the event `say` alone.
 pub fn talk<R: Read, O: Write, E: Write>(
@@ -36,14 +37,17 @@ pub fn talk<R: Read, O: Write, E: Write>(
     err: &mut E,
 ) -> u8
     ensures status { result ≤ 3 }
-    ensures printed { (f : VectorFile) (p : Plan) (lines : List (Role × List ℕ)) → HasFittingLines f p lines → R.remaining file.old ≡ Some (text_of f)
-        → result ≤ 1 → Appends (O.contents out.old) (O.contents out.new) (lines_text (talked_lines f p lines)) }
-    ensures met { (f : VectorFile) (p : Plan) (lines : List (Role × List ℕ)) → HasFittingLines f p lines → R.remaining file.old ≡ Some (text_of f)
-        → result ≤ 1 → (result ≡ 0 ↔ IsMet (expected_in f.version) (talked_lines f p lines)) }
-    ensures taken { (f : VectorFile) (p : Plan) (lines : List (Role × List ℕ)) → HasFittingLines f p lines → R.remaining file.old ≡ Some (text_of f)
-        → result ≡ 2 → 4194304 < length (text_of f) }
-    ensures prefix { (f : VectorFile) (p : Plan) (lines : List (Role × List ℕ)) → HasFittingLines f p lines → R.remaining file.old ≡ Some (text_of f)
-        → (out.new ≡ out.old) ⊎ AppendsPrefix (O.contents out.old) (O.contents out.new) (lines_text (talked_lines f p lines)) }
+    ensures printed { (f : VectorFile) (p : Plan) (lines : List (Role × List ℕ)) → HasFittingLines f p lines
+        → R.remaining file.old ≡ Some (text_of f) → result ≤ 1
+        → Appends (O.contents out.old) (O.contents out.new) (lines_text (talked_lines f p lines)) }
+    ensures met { (f : VectorFile) (p : Plan) (lines : List (Role × List ℕ)) → HasFittingLines f p lines
+        → R.remaining file.old ≡ Some (text_of f) → result ≤ 1
+        → (result ≡ 0 ↔ IsMet (expected_in f.version) (talked_lines f p lines)) }
+    ensures taken { (f : VectorFile) (p : Plan) (lines : List (Role × List ℕ)) → HasFittingLines f p lines
+        → R.remaining file.old ≡ Some (text_of f) → result ≡ 2 → 4194304 < length (text_of f) }
+    ensures prefix { (f : VectorFile) (p : Plan) (lines : List (Role × List ℕ)) → HasFittingLines f p lines
+        → R.remaining file.old ≡ Some (text_of f) → (out.new ≡ out.old)
+        ⊎ AppendsPrefix (O.contents out.old) (O.contents out.new) (lines_text (talked_lines f p lines)) }
 {
     fitting_lines_run();
     file_run_once();

@@ -27,14 +27,21 @@ use std::process::Abort;
 
 // The first message of NN, in the clear, with the payload `hi`.
 const FIRST_MESSAGE: &str =
-    "vector 1\nprotocol Noise_NN_25519_ChaChaPoly_SHA256\nprologue -\ninterval 0\ninitiator xor 1111111111111111111111111111111111111111111111111111111111111111 -\nresponder xor 2222222222222222222222222222222222222222222222222222222222222222 -\nsay initiator 6869 1\n";
+    "vector 1\nprotocol Noise_NN_25519_ChaChaPoly_SHA256\nprologue -\ninterval 0\n\
+initiator xor 1111111111111111111111111111111111111111111111111111111111111111 -\n\
+responder xor 2222222222222222222222222222222222222222222222222222222222222222 -\nsay initiator 6869 1\n";
 
 const FIRST_LINES: &str =
-    "wrote initiator 0 002211111111111111111111111111111111111111111111111111111111111111116869\npayload responder 6869\nstate initiator handshake 1\nstate responder handshake 1\n";
+    "wrote initiator 0 002211111111111111111111111111111111111111111111111111111111111111116869\n\
+payload responder 6869\nstate initiator handshake 1\nstate responder handshake 1\n";
 
 // All messages of N with a psk, and one transport message more than that, whose key is a new one.
 const RENEWED: &str =
-    "vector 1\nprotocol Noise_Npsk0_25519_ChaChaPoly_SHA256\nprologue 00\ninterval 1\npsk 3333333333333333333333333333333333333333333333333333333333333333\ninitiator xor 1111111111111111111111111111111111111111111111111111111111111111 -\nresponder xor - 2222222222222222222222222222222222222222222222222222222222222222\nsay initiator - -\nsay initiator 6869 -\nsay initiator 6869 2,2\n";
+    "vector 1\nprotocol Noise_Npsk0_25519_ChaChaPoly_SHA256\nprologue 00\ninterval 1\n\
+psk 3333333333333333333333333333333333333333333333333333333333333333\n\
+initiator xor 1111111111111111111111111111111111111111111111111111111111111111 -\n\
+responder xor - 2222222222222222222222222222222222222222222222222222222222222222\n\
+say initiator - -\nsay initiator 6869 -\nsay initiator 6869 2,2\n";
 
 // The keys, which have to be `xor`.
 fn xor_keys(rt: &impl Abort, keys: FileKeys) -> XorKeys
@@ -110,7 +117,8 @@ fn fits(rt: &impl Abort, alloc: Global, file: VectorFile)
 
 // What `talk` prints of this text, which has to be that of a file whose lines fit.
 fn printed(rt: &impl Abort, alloc: Global, text: &[u8]) -> Vec<u8>
-    ensures { (f : VectorFile) × (p : Plan) × (lines : List (Role × List ℕ)) × (text.now ≡ text_of f) × (result.items ≡ lines_text (talked_lines f p lines)) }
+    ensures { (f : VectorFile) × (p : Plan) × (lines : List (Role × List ℕ))
+        × (text.now ≡ text_of f) × (result.items ≡ lines_text (talked_lines f p lines)) }
 {
     let read = read(rt, alloc, text);
     fits(rt, alloc, read);

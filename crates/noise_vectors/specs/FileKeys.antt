@@ -11,7 +11,8 @@ abbrev pub public_of : FileKeys → Own → Option (List ℕ)
 public_of (Xor keys) own = key_of own keys.e keys.s
 public_of (Table keys) own = key_of own keys.e keys.s
 
--- the answer of a key pair to a remote public key, if there is one: the xor of the two keys, or what the table has for them
+-- The answer of a key pair to a remote public key, if there is one: the xor of the two keys, or what the table has for
+-- them.
 abbrev pub agreement_of : FileKeys → Own → List ℕ → Option (List ℕ)
 agreement_of (Xor keys) own remote = xor_answer (key_of own keys.e keys.s) remote
 agreement_of (Table keys) own remote = answer_in keys.entries own remote

@@ -29,7 +29,8 @@ use Rattle.noise_vectors.specs.declared.vector.AllowedEvents.{AllowedEvents}
 use Rattle.noise_vectors.specs.declared.vector.AllowedEvents.TheVariants.{SayOnly, VersionOne}
 use Rattle.noise_vectors.specs.declared.vector.FileDatagrams.{FileDatagrams}
 
--- In all of these `total` is how many line feeds the whole text has: as many as lines were read, and those that are left.
+-- In all of these `total` is the number of line feeds in the whole text: that of the lines that were read, and of those
+-- that are left.
 
 -- the text's first line is the one of this number, and wrong, so that the fault is of this kind
 pub record IsWrongFirst (left : List ℕ) (total : ℕ) (kind : LineKind) (fault : VectorFault) : Type 0 where
@@ -175,7 +176,10 @@ IsCutParty role from = (from ≡ []) ⊎ ((keys : FileKeys) × AreKeys keys × (
 
 abbrev pub TellsParty : Role → List ℕ → ℕ → VectorFault → Type 0
 TellsParty role from total fault =
-    (fault ≡ Memory) ⊎ ((fault ≡ Line (total + 1) kinds.Ending) × IsCutParty role from) ⊎ IsWrongParty role from total fault ⊎ IsWrongAnswer role from total fault
+    (fault ≡ Memory)
+    ⊎ ((fault ≡ Line (total + 1) kinds.Ending) × IsCutParty role from)
+    ⊎ IsWrongParty role from total fault
+    ⊎ IsWrongAnswer role from total fault
 
 -- ---- what only version 2 has
 
@@ -247,4 +251,5 @@ pub record IsWrongBlock (name : Section) (from : List ℕ) (total : ℕ) (fault 
   pub fault_is : fault ≡ Line number kinds.Pattern
 
 abbrev pub TellsBlock : Section → List ℕ → ℕ → VectorFault → Type 0
-TellsBlock name from total fault = TellsOpen from total fault ⊎ IsCutBlock name from total fault ⊎ IsWrongBlock name from total fault
+TellsBlock name from total fault =
+    TellsOpen from total fault ⊎ IsCutBlock name from total fault ⊎ IsWrongBlock name from total fault

@@ -1,5 +1,5 @@
--- Vector files that say the same. A file of the program holds vectors too, with their place in memory and their room, of which a text says nothing.
--- So what is the same is what the vectors hold: all that a text is made of, and all that both ends start from and go through.
+-- Vector files that say the same. The program's file also has the place and the room of its vectors in memory, of which
+-- the text says nothing: two files say the same where the elements of their vectors are the same.
 use Rattle.std.specs.Prelude.{◌≡◌, ℕ, List, [], map, Option, Some, None}
 use Rattle.noise_events.specs.declared.window.Window.{Window}
 use Rattle.noise_events.specs.Events.{events_of}

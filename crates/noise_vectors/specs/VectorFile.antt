@@ -26,9 +26,11 @@ use Rattle.noise_vectors.specs.declared.vector.AllowedEvents.TheVariants.{SayOnl
 use Rattle.noise_vectors.specs.declared.vector.Version.{Version}
 use Rattle.noise_vectors.specs.declared.vector.Version.TheVariants.{One, Two}
 
--- a pattern of its own is there exactly where the base is of no fundamental one, and is within the limits and of the protocol's name
+-- A file has a pattern of its own exactly where the protocol's base is of no fundamental one. That pattern is within
+-- the limits, and of the protocol's name.
 abbrev pub IsOwn : Section → Option Plan → Type 0
-IsOwn name block = (IsSome block ↔ (fundamental_of name.base ≡ None)) × IfSome block (λ pattern. IsPattern pattern × HasName pattern name)
+IsOwn name block = (IsSome block ↔ (fundamental_of name.base ≡ None))
+    × IfSome block (λ pattern. IsPattern pattern × HasName pattern name)
 
 -- at most so many bytes
 abbrev pub AreBytes : ℕ → List ℕ → Type 0
@@ -68,7 +70,7 @@ IsDatagramEvent (datagram.Raw role bytes) = AreBytes 131072 bytes.items
 abbrev pub IsExpected : List ℕ → Type 0
 IsExpected words = (0 < length words) × All (λ b. (32 ≤ b) × (b ≤ 126)) words
 
--- what only the version has
+-- The events over datagrams are right, where a file of version 2 has some.
 abbrev pub IsVersion : Version → Type 0
 IsVersion One = ⊤
 IsVersion (Two additions) = IfSome additions.datagrams (λ over. All IsDatagramEvent over.events.items)

@@ -85,9 +85,11 @@ party_text role (Table keys) rest =
     line (role_word role ++ (codes " table " ++ key_words keys.e keys.s)) (lines_of answer_words keys.entries rest)
 
 abbrev pub event_words : Event → List ℕ
-event_words (Say role payload cuts) = codes "say " ++ (role_word role ++ 32 ∷ (hex_of payload.items ++ 32 ∷ lengths_word cuts))
+event_words (Say role payload cuts) =
+    codes "say " ++ (role_word role ++ 32 ∷ (hex_of payload.items ++ 32 ∷ lengths_word cuts))
 event_words (Write role payload) = codes "write " ++ (role_word role ++ 32 ∷ hex_of payload.items)
-event_words (Deliver role number cuts) = codes "deliver " ++ (role_word role ++ 32 ∷ (decimal number ++ 32 ∷ lengths_word cuts))
+event_words (Deliver role number cuts) =
+    codes "deliver " ++ (role_word role ++ 32 ∷ (decimal number ++ 32 ∷ lengths_word cuts))
 event_words (Raw role bytes) = codes "raw " ++ (role_word role ++ 32 ∷ hex_of bytes.items)
 
 abbrev pub datagram_kind_word : DatagramKind → List ℕ
@@ -125,7 +127,7 @@ is_second (Two additions) = true
 abbrev pub header_words : Bool → List ℕ
 header_words second = if second then codes "vector 2" else codes "vector 1"
 
--- what only the version has, after the events
+-- the lines after the events, which only a file of version 2 has: its datagrams, and what it expects
 abbrev pub version_text : Version → List ℕ
 version_text One = []
 version_text (Two additions) = datagrams_text additions.datagrams (lines_of expect_words additions.expected.items [])
@@ -147,7 +149,8 @@ text_of file = line (header_words (is_second file.version)) (text_body file (ver
 
 -- what may stand after the lines of the events: nothing, the datagrams, or what is expected
 abbrev pub AfterEvents : List ℕ → Type 0
-AfterEvents rest = (rest ≡ []) ⊎ IsTrue (starts_with nat_eq rest (codes "datagrams ")) ⊎ IsTrue (starts_with nat_eq rest (codes "expect "))
+AfterEvents rest = (rest ≡ []) ⊎ IsTrue (starts_with nat_eq rest (codes "datagrams "))
+    ⊎ IsTrue (starts_with nat_eq rest (codes "expect "))
 
 -- what may stand after the lines of the datagrams
 abbrev pub AfterDatagrams : List ℕ → Type 0

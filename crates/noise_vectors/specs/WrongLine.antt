@@ -27,7 +27,8 @@ line_feeds text = count_by (λ b. b == 10) text
 
 -- the text's first line: a line feed or the text's end follows it, and before the text's end there is at least one byte
 abbrev pub IsFirstLine : List ℕ → List ℕ → Type 0
-IsFirstLine words text = IsTrue (lacks 10 words) × (((text ≡ words) × ¬ (words ≡ [])) ⊎ ((rest : List ℕ) × (text ≡ line words rest)))
+IsFirstLine words text = IsTrue (lacks 10 words)
+    × (((text ≡ words) × ¬ (words ≡ [])) ⊎ ((rest : List ℕ) × (text ≡ line words rest)))
 
 -- each line of the text has its line feed
 abbrev pub IsEnded : List ℕ → Type 0
@@ -41,7 +42,8 @@ up_to_protocol file rest = line (header_words (is_second file.version)) rest
 
 -- those before its prologue
 abbrev pub up_to_prologue : VectorFile → List ℕ → List ℕ
-up_to_prologue file rest = up_to_protocol file (line (codes "protocol " ++ name_bytes file.protocol) (block_text file.block rest))
+up_to_prologue file rest =
+    up_to_protocol file (line (codes "protocol " ++ name_bytes file.protocol) (block_text file.block rest))
 
 -- those before its interval
 abbrev pub up_to_interval : VectorFile → List ℕ → List ℕ
@@ -49,7 +51,8 @@ up_to_interval file rest = up_to_prologue file (line (codes "prologue " ++ hex_o
 
 -- those before its initiator's keys, where a psk line too may stand
 abbrev pub up_to_initiator : VectorFile → List ℕ → List ℕ
-up_to_initiator file rest = up_to_interval file (line (codes "interval " ++ decimal file.interval) (lines_of psk_words file.psks.items rest))
+up_to_initiator file rest =
+    up_to_interval file (line (codes "interval " ++ decimal file.interval) (lines_of psk_words file.psks.items rest))
 
 -- those before its responder's keys, where an answer of the initiator's table too may stand
 abbrev pub up_to_responder : VectorFile → List ℕ → List ℕ
@@ -74,9 +77,10 @@ is_answer_line (Table keys) words = starts_with nat_eq words (codes "answer ")
 
 -- ---- the line that is told
 
--- Some right file begins with the lines before the line of this number, up to where the line of the fault's kind has to stand. With that line too
--- no right file begins.
-pub record IsToldLine (allowed : AllowedEvents) (text : List ℕ) (number : ℕ) (up_to : VectorFile → List ℕ → List ℕ) : Type 0 where
+-- Some right file begins with the lines before the line of this number, up to where the line of the fault's kind has to
+-- stand. With that line too no right file begins.
+pub record IsToldLine (allowed : AllowedEvents) (text : List ℕ) (number : ℕ)
+    (up_to : VectorFile → List ℕ → List ℕ) : Type 0 where
   pub file : VectorFile
   pub is_file : IsVectorFile file
   pub is_allowed : IsAllowedFile allowed file
@@ -86,7 +90,8 @@ pub record IsToldLine (allowed : AllowedEvents) (text : List ℕ) (number : ℕ)
   pub text_is : text ≡ up_to file left
   pub is_first : IsFirstLine told left
   pub counted : number ≡ line_feeds (up_to file []) + 1
-  pub wrong : (other : VectorFile) (rest : List ℕ) → IsVectorFile other → IsAllowedFile allowed other → ¬ (text_of other ≡ up_to file (line told rest))
+  pub wrong : (other : VectorFile) (rest : List ℕ) → IsVectorFile other → IsAllowedFile allowed other
+      → ¬ (text_of other ≡ up_to file (line told rest))
 
 -- the keys of a party, where neither a psk nor an answer begins
 abbrev pub IsToldKeys : AllowedEvents → List ℕ → ℕ → Type 0
@@ -110,8 +115,8 @@ pub record IsToldEvent (allowed : AllowedEvents) (text : List ℕ) (number : ℕ
 abbrev pub IsToldExpect : AllowedEvents → List ℕ → ℕ → Type 0
 IsToldExpect allowed text number = (it : IsToldLine allowed text number up_to_end) × (expected_of it.file.version ≢ [])
 
--- The text ends too early: some right file begins with it and goes on, with the line feed of the text's last line or with a further line. The number
--- is that of this line.
+-- The text ends too early: some right file begins with it and goes on, with the line feed of the text's last line or
+-- with a further line. The number is that of this line.
 pub record IsCutShort (allowed : AllowedEvents) (text : List ℕ) (number : ℕ) : Type 0 where
   pub file : VectorFile
   pub is_file : IsVectorFile file
@@ -140,8 +145,8 @@ pub record Block (left : List ℕ) : Type 0 where
   pub ends : IsFirstLine (codes "end") after
   pub left_is : left ≡ lines_of itself lines after
 
--- The text ends before that pattern does: no line `end` is left, neither with its line feed nor without. The number is that of the text's last line, if
--- it has no line feed, or of a further one.
+-- The text ends before that pattern does: no line `end` is left, neither with its line feed nor without. The number is
+-- that of the text's last line, if it has no line feed, or of a further one.
 pub record IsOpenBlock (allowed : AllowedEvents) (text : List ℕ) (number : ℕ) : Type 0 where
   pub whole : List ℕ
   pub whole_is : (whole ≡ text) ⊎ (whole ≡ text ++ codes "\n")
@@ -153,10 +158,12 @@ pub record IsOpenBlock (allowed : AllowedEvents) (text : List ℕ) (number : ℕ
 abbrev pub HasHeading : Section → List ℕ → Type 0
 HasHeading name block = (rest : List ℕ) × (block ≡ line (heading_of name) rest)
 
--- Which of them is wrong, counted from 1: the first, if it isn't that heading; else the one that is reported of them as the text of a pattern.
+-- Which of those lines is wrong, counted from 1: the first, if it isn't that heading; else the one that is reported of
+-- them as the text of a pattern.
 abbrev pub IsWrongIn : Section → List ℕ → ℕ → Type 0
 IsWrongIn name block number =
-    (¬ HasHeading name block × (number ≡ 1)) ⊎ (HasHeading name block × ((fault : TextFault) × IsTextFault block fault × (number ≡ fault.line)))
+    (¬ HasHeading name block × (number ≡ 1))
+    ⊎ (HasHeading name block × ((fault : TextFault) × IsTextFault block fault × (number ≡ fault.line)))
 
 -- A line of that pattern is wrong. The header and the line of the protocol stand before its lines.
 pub record IsToldPattern (allowed : AllowedEvents) (text : List ℕ) (number : ℕ) : Type 0 where
@@ -173,7 +180,8 @@ IsTold allowed text (Line number kinds.Protocol) = IsToldLine allowed text numbe
 IsTold allowed text (Line number kinds.Pattern) = IsToldPattern allowed text number
 IsTold allowed text (Line number kinds.Prologue) = IsToldLine allowed text number up_to_prologue
 IsTold allowed text (Line number kinds.Interval) = IsToldLine allowed text number up_to_interval
-IsTold allowed text (Line number kinds.Psk) = (it : IsToldLine allowed text number up_to_initiator) × IsTrue (is_psk_line it.told)
+IsTold allowed text (Line number kinds.Psk) =
+    (it : IsToldLine allowed text number up_to_initiator) × IsTrue (is_psk_line it.told)
 IsTold allowed text (Line number kinds.Keys) = IsToldKeys allowed text number
 IsTold allowed text (Line number kinds.Answer) = IsToldAnswer allowed text number
 IsTold allowed text (Line number kinds.Event) = IsToldEvent allowed text number

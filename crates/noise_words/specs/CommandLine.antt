@@ -24,7 +24,8 @@ use Rattle.clap.specs.Faults.{fault_of}
 abbrev pub Choice : Type 0
 Choice = Text × List Text
 
--- the values that a command wants, by this name: none, one, at least one beside these flags, or one beside these options
+-- The values that the command of this name wants: none, one, at least one beside these flags, or one beside these
+-- options.
 pub data Wants : Type 0 where
   Nothing : Wants
   One : Text → Wants
@@ -97,7 +98,8 @@ noise = record {
   subs = map subcommand commands;
 }
 
--- what an order names, as texts: a command, its values, and for each of its options the value, if it is given; that of a flag is `true`
+-- What an order names, as texts: a command, its values, and for each of its options the value, if it is given. The
+-- value of a flag is `true`.
 abbrev pub Named : Type 0
 Named = Text × List Text × List (Option Text)
 
@@ -110,7 +112,11 @@ role_text Initiator = codes "initiator"
 role_text Responder = codes "responder"
 
 abbrev pub named_trace : Traced → Named
-named_trace traced = (codes "trace", string_bytes traced.file ∷ [], option_map part_text traced.only ∷ option_map role_text traced.role ∷ [])
+named_trace traced = (
+  codes "trace",
+  string_bytes traced.file ∷ [],
+  option_map part_text traced.only ∷ option_map role_text traced.role ∷ [],
+)
 
 abbrev pub words_of : Chosen → Named
 words_of chosen.List = (codes "list", [], [])
@@ -141,10 +147,11 @@ chosen_of names (Some text) = if list_any (λ name. bytes_eq name text) names th
 abbrev pub choice_in : List Row → Choice → Option (Option Text)
 choice_in rows choice = chosen_of choice.1 (first_of choice.0 rows)
 
--- the same for each of several options
+-- what the matches have for each of several options, where all of that is right
 abbrev pub choices_in : List Row → List Choice → Option (List (Option Text))
 choices_in rows [] = Some []
-choices_in rows (choice ∷ rest) = option_and_then (λ first. option_map (λ more. first ∷ more) (choices_in rows rest)) (choice_in rows choice)
+choices_in rows (choice ∷ rest) =
+    option_and_then (λ first. option_map (λ more. first ∷ more) (choices_in rows rest)) (choice_in rows choice)
 
 -- what the matches have for a flag
 abbrev pub flag_of : Option Text → Option Text
@@ -158,9 +165,11 @@ flag_in rows name = flag_of (first_of name rows)
 abbrev pub order_with : List Row → Text × Wants → Option Named
 order_with rows (name, Nothing) = Some (name, [], [])
 order_with rows (name, One value) = option_map (λ text. (name, text ∷ [], [])) (first_of value rows)
-order_with rows (name, Several value flags) = option_map (λ texts. (name, texts, map (flag_in rows) flags)) (all_of value rows)
+order_with rows (name, Several value flags) =
+    option_map (λ texts. (name, texts, map (flag_in rows) flags)) (all_of value rows)
 order_with rows (name, OneWith value choices) =
-    option_and_then (λ chosen. option_map (λ text. (name, text ∷ [], chosen)) (first_of value rows)) (choices_in rows choices)
+    option_and_then (λ chosen. option_map (λ text. (name, text ∷ [], chosen)) (first_of value rows))
+    (choices_in rows choices)
 
 -- the order that a subcommand with these matches is
 abbrev pub stated_by : Text → List Row → Option Named

@@ -31,7 +31,8 @@ fn stated<'a>(
 ) -> Result<Order, LineFault>
     requires { app_of whole.old ≡ noise }
     ensures ok { IfOk result (λ c. asked (map string_bytes words.entry.now) ≡ Some (order_of c)) }
-    ensures line { IfErr result (λ fault. (fault ≡ LineFault.Memory) ⊎ (asked (map string_bytes words.entry.now) ≡ None)) }
+    ensures line { IfErr result
+        (λ fault. (fault ≡ LineFault.Memory) ⊎ (asked (map string_bytes words.entry.now) ≡ None)) }
 {
     match whole.try_get_matches_from_mut(words) {
         Ok(matches) => match order(alloc, &matches)? {
@@ -143,8 +144,9 @@ fn adding<'a>(
     whole: Command<'a>,
     subcommands: &[Subcommand<'a>],
 ) -> Result<Command<'a>, AllocError>
-    ensures { IfOk result (λ c. app_of c
-        ≡ fold (λ app sub. with_subcommand app (subcommand (sub.name.now, wanted_by sub))) (app_of whole.entry) subcommands.now) }
+    ensures { IfOk result (λ c. app_of c ≡ fold
+        (λ app sub. with_subcommand app (subcommand (sub.name.now, wanted_by sub)))
+        (app_of whole.entry) subcommands.now) }
 {
     let mut whole = whole;
     for named in subcommands {
@@ -201,7 +203,8 @@ fn command_order(
     name: &str,
     found: &ArgMatches<'_>,
 ) -> Result<Option<Chosen>, AllocError>
-    ensures { (name.now ≡ codes "test" → ⊥) → IfOk result (λ c. option_map words_of c ≡ stated_by name.now (rows_of (found_of found.now))) }
+    ensures { (name.now ≡ codes "test" → ⊥)
+        → IfOk result (λ c. option_map words_of c ≡ stated_by name.now (rows_of (found_of found.now))) }
 {
     match name {
         "list" => Ok(Some(Chosen::List)),
@@ -235,7 +238,8 @@ pub(crate) fn values(
     matches: &ArgMatches<'_>,
     id: &str,
 ) -> Result<Option<Vec<String>>, AllocError>
-    ensures { IfOk result (λ found. option_map (λ texts. map string_bytes texts.items) found ≡ all_of id.now (rows_of (found_of matches.now))) }
+    ensures { IfOk result (λ found.
+        option_map (λ texts. map string_bytes texts.items) found ≡ all_of id.now (rows_of (found_of matches.now))) }
 {
     match matches.get_strs(id) {
         Some(texts) => Ok(Some(strings(alloc, texts)?)),
@@ -256,7 +260,8 @@ fn strings(alloc: Global, texts: &[&str]) -> Result<Vec<String>, AllocError>
 
 // Lack of memory is reported as such, whoever met it.
 fn line_fault(error: clap::Error) -> LineFault
-    ensures { (kind_of error ≡ ErrorKind.OutOfMemory → result ≡ LineFault.Memory) × (kind_of error ≢ ErrorKind.OutOfMemory → result ≡ LineFault.Line error) }
+    ensures { (kind_of error ≡ ErrorKind.OutOfMemory → result ≡ LineFault.Memory)
+        × (kind_of error ≢ ErrorKind.OutOfMemory → result ≡ LineFault.Line error) }
 {
     if error.kind() == ErrorKind::OutOfMemory {
         LineFault::Memory

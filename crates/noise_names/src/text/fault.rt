@@ -1,6 +1,6 @@
 #![tactic(auto)]
 
-ghost use Rattle.std.specs.Prelude.{◌≡◌, ◌≢◌, ◌⊎◌, ◌↔◌, ◌≤◌, ◌+◌, ◌++◌, ◌∷◌, ◌==◌, ℕ, List, [], Bool, IsTrue, IsFalse, IfNone, IfSome, MatchResult};
+ghost use Rattle.std.specs.Prelude.{◌≡◌, ◌≢◌, ◌⊎◌, ◌↔◌, ◌≤◌, ◌+◌, ◌++◌, ◌∷◌, ◌==◌, ℕ, List, [], Bool, IsTrue, IsFalse, IfNone, IfSome};
 ghost use Rattle.std.specs.Prelude.{false, length, take, bytes_eq, nat_le, if◌then◌else◌};
 ghost use Rattle.std.specs.List.{list_all};
 ghost use Rattle.arrayvec.specs.ArrayVec.{array_vec_len};
@@ -12,15 +12,15 @@ ghost use Rattle.noise_names.specs.Names.{Section, IsSection, are_places};
 ghost use Rattle.noise_names.specs.Text.{line, words};
 ghost use Rattle.noise_names.specs.Tokens.{is_psk, own_tokens, turn_from};
 ghost use Rattle.noise_names.specs.WrongText.{IsTextFault, arrow_then, dots, first_line, has_dots, heading_of};
-ghost use Rattle.noise_names.specs.Judging.{HasTokens, IsFirstLine, IsNextOf, IsPassed, IsWrong, Passed, Stands};
+ghost use Rattle.noise_names.specs.Judging.{HasTokens, IsFirstLine, IsJudged, IsPassed, Passed, Stands};
 
 use super::read::{first_word, is_pre_message, read_arrow, read_heading};
 use crate::psks::message_with_psks;
 use crate::{Role, TextFault, TextFaultKind, Token};
 use arrayvec::ArrayVec;
 
-// The first fault of a text that spells no pattern: its lines are judged in order, and after them the whole. Where each line
-// is right, and the modifiers too, only the base is left to be wrong: it is that of another fundamental pattern.
+// The first fault of a text that spells no pattern: its lines are judged in order, and after them the whole. Where each
+// line is right, and the modifiers too, only the base is left to be wrong: it is that of another fundamental pattern.
 pub(crate) fn first_fault(text: &[u8]) -> TextFault
     ensures { IsTextFault text.now result }
 {
@@ -48,7 +48,8 @@ fn fault(line: usize, kind: TextFaultKind) -> TextFault
 // The first fault of the lines after a heading with these psk places.
 fn fault_of_lines(places: &[u8], lines: &[u8]) -> TextFault
     requires { IsTrue (are_places places.now) }
-    ensures { (s : Section) → IsSection s → s.places ≡ places.now → IsTextFault (line (heading_of s) ++ lines.now) result }
+    ensures { (s : Section) → IsSection s → s.places ≡ places.now
+        → IsTextFault (line (heading_of s) ++ lines.now) result }
 {
     let mut judged = Judged::new(lines);
     let mut rest = lines;
@@ -123,8 +124,8 @@ fn has_dots(text: &[u8]) -> bool
     false
 }
 
-// What was judged so far: whether a line that ends the pre-messages is still to come, which pre-messages stood before, and
-// how many messages.
+// What was judged so far: whether a line that ends the pre-messages is still to come, which pre-messages stood before,
+// and how many messages.
 #[derive(Clone, Copy)]
 struct Judged {
     dots_ahead: bool,
@@ -135,7 +136,8 @@ struct Judged {
 
 impl Judged {
     fn new(lines: &[u8]) -> Judged
-        ensures { result ≡ record { dots_ahead = has_dots lines.now; initiator = false; responder = false; messages = 0 } }
+        ensures { result
+            ≡ record { dots_ahead = has_dots lines.now; initiator = false; responder = false; messages = 0 } }
     {
         Judged {
             dots_ahead: has_dots(lines),
@@ -148,7 +150,7 @@ impl Judged {
     // What was judged after one more line, or what is wrong in it.
     fn judge(self, places: &[u8], bytes: &[u8]) -> Result<Judged, TextFaultKind>
         ensures { (s : Passed) (dotted : Bool) → Stands self s → IsPassed places.now dotted s
-            → MatchResult result (λ j. IsNextOf places.now dotted s bytes.now j) (λ kind. IsWrong places.now s bytes.now kind) }
+            → IsJudged places.now dotted s bytes.now result }
     {
         if is_dots(bytes) {
             return self.judge_dots();
@@ -168,7 +170,7 @@ impl Judged {
 
     fn judge_dots(self) -> Result<Judged, TextFaultKind>
         ensures { (places : List ℕ) (s : Passed) (dotted : Bool) → Stands self s → IsPassed places dotted s
-            → MatchResult result (λ j. IsNextOf places dotted s dots j) (λ kind. IsWrong places s dots kind) }
+            → IsJudged places dotted s dots result }
     {
         if self.dots_ahead && self.has_begun() {
             Ok(Judged {
@@ -189,9 +191,9 @@ impl Judged {
 
     fn judge_pre_message(self, role: Role, list: &Words) -> Result<Judged, TextFaultKind>
         requires { IsTrue self.dots_ahead }
-        ensures { (places : List ℕ) (s : Passed) (dotted : Bool) (tokens : List Token) → Stands self s → IsPassed places dotted s → HasTokens list.now tokens
-            → MatchResult result (λ j. IsNextOf places dotted s (arrow_then role (words tokens)) j)
-            (λ kind. IsWrong places s (arrow_then role (words tokens)) kind) }
+        ensures { (places : List ℕ) (s : Passed) (dotted : Bool) (tokens : List Token) → Stands self s
+            → IsPassed places dotted s → HasTokens list.now tokens
+            → IsJudged places dotted s (arrow_then role (words tokens)) result }
     {
         if self.is_barred(role) || !is_pre_message(&list.first) {
             return Err(TextFaultKind::PreMessage);
@@ -220,9 +222,9 @@ impl Judged {
 
     fn judge_message(self, places: &[u8], role: Role, list: &Words) -> Result<Judged, TextFaultKind>
         requires { IsFalse self.dots_ahead }
-        ensures { (s : Passed) (dotted : Bool) (tokens : List Token) → Stands self s → IsPassed places.now dotted s → HasTokens list.now tokens
-            → MatchResult result (λ j. IsNextOf places.now dotted s (arrow_then role (words tokens)) j)
-            (λ kind. IsWrong places.now s (arrow_then role (words tokens)) kind) }
+        ensures { (s : Passed) (dotted : Bool) (tokens : List Token) → Stands self s
+            → IsPassed places.now dotted s → HasTokens list.now tokens
+            → IsJudged places.now dotted s (arrow_then role (words tokens)) result }
     {
         if !self.is_turn(role) {
             return Err(TextFaultKind::Turn);
@@ -272,8 +274,8 @@ fn are_within(places: &[u8], messages: u8) -> bool
     places.iter().all(|n| *n <= messages)
 }
 
-// The tokens of a list: the first eleven, and the first nine that are no psk. A message has at most ten, and at most eight
-// that are no psk.
+// The tokens of a list: the first eleven, and the first nine that are no psk. A message has at most ten, and at most
+// eight that are no psk.
 #[derive(Drop)]
 struct Words {
     first: ArrayVec<Token, 11>,
@@ -303,7 +305,8 @@ impl Words {
 
     fn add(&mut self, token: Token)
         ensures first { self.new.first.items ≡ take 11 (self.old.first.items ++ token ∷ []) }
-        ensures own { self.new.own.items ≡ (if is_psk token then self.old.own.items else take 9 (self.old.own.items ++ token ∷ [])) }
+        ensures own { self.new.own.items
+            ≡ (if is_psk token then self.old.own.items else take 9 (self.old.own.items ++ token ∷ [])) }
     {
         push_if_room(&mut self.first, token);
         if let Token::Psk = token {
@@ -323,7 +326,8 @@ impl Words {
     // Whether these have the psk tokens of the message of this number, and no others.
     fn have_psks(&self, number: u8, places: &[u8]) -> bool
         requires { array_vec_len self.now.own ≤ 8 }
-        ensures { (tokens : List Token) → HasTokens self.now tokens → IsTrue result ↔ (tokens ≡ with_psk_tokens places.now number (own_tokens tokens)) }
+        ensures { (tokens : List Token) → HasTokens self.now tokens
+            → IsTrue result ↔ (tokens ≡ with_psk_tokens places.now number (own_tokens tokens)) }
     {
         are_same(
             message_with_psks(&self.own, number, places).tokens(),

@@ -9,9 +9,10 @@ ghost use Rattle.noise_names.specs.declared.token.Role.{Role};
 ghost use Rattle.noise_names.specs.declared.token.Role.TheVariants.{Initiator};
 ghost use Rattle.noise_names.specs.Tokens.{is_psk, own_tokens};
 ghost use Rattle.noise_names.specs.Plan.{Plan, plain_of, has_psk};
-ghost use Rattle.noise_names.specs.Names.{Section, IsSection, section_bytes, is_base};
+ghost use Rattle.noise_names.specs.Names.{Section, IsSection, is_base};
 ghost use Rattle.noise_names.specs.Limits.{IsPattern, has_few_tokens, is_pre_message};
 ghost use Rattle.noise_names.specs.Fundamental.{fundamental_of};
+ghost use Rattle.noise_names.specs.WrongText.{arrow_then, body_of, heading_of};
 ghost use Rattle.noise_names.specs.Text.{arrow_of, line, message_lines, pre_lines, Spells, token_line, word_of, words};
 ghost use Rattle.noise_names.specs.Reading.{is_lower, token_named};
 
@@ -20,8 +21,8 @@ use crate::text::write;
 use crate::{Message, Pattern, ProtocolName, PskPlaces, Role, Token, fundamental};
 use arrayvec::ArrayVec;
 
-// The pattern that the text spells, if it spells one. Its parts are read without a look at what is wrong in the text, and
-// then the pattern's text is compared with it.
+// The pattern that the text spells, if it spells one. Its parts are read without a look at what is wrong in the text,
+// and then the pattern's text is compared with it.
 pub(crate) fn read(text: &[u8]) -> Option<Pattern>
     ensures spelled { IfSome result (λ pattern. Spells text.now pattern) }
     ensures every { (pattern : Plan) → Spells text.now pattern → result ≡ Some pattern }
@@ -44,8 +45,8 @@ pub(crate) fn read(text: &[u8]) -> Option<Pattern>
 // The name that a heading gives, and what follows its colon.
 pub(super) fn read_heading(text: &[u8]) -> Option<(ProtocolName, &[u8])>
     ensures section { IfSome result (λ r. IsSection r.0) }
-    ensures some { IfSome result (λ r. text.now ≡ (section_bytes r.0.base r.0.places ++ codes ":") ++ r.1.now) }
-    ensures every { (s : Section) (after : List ℕ) → IsSection s → text.now ≡ (section_bytes s.base s.places ++ codes ":") ++ after
+    ensures some { IfSome result (λ r. text.now ≡ heading_of r.0 ++ r.1.now) }
+    ensures every { (s : Section) (after : List ℕ) → IsSection s → text.now ≡ heading_of s ++ after
         → MatchOption result (Unit {0} → ⊥) (λ r. (r.0 ≡ s) × (r.1.now ≡ after)) }
 {
     let (section, colon) = text.split_at(section_len(text));
@@ -67,7 +68,7 @@ fn section_len(text: &[u8]) -> usize
 fn read_plain(base: &[u8], lines: &[u8]) -> Option<Pattern>
     requires { IsTrue (is_base base.now) }
     ensures plain { IfSome result (λ q. has_psk q ≡ false) }
-    ensures every { (p : Plan) → IsPattern p → p.base ≡ base.now → lines.now ≡ pre_lines p.initiator p.responder ++ message_lines Initiator p.messages
+    ensures every { (p : Plan) → IsPattern p → p.base ≡ base.now → lines.now ≡ body_of p
         → result ≡ Some (plain_of p) }
 {
     match fundamental(base) {
@@ -81,7 +82,7 @@ fn read_lines(base: &[u8], lines: &[u8]) -> Option<Pattern>
     requires base { IsTrue (is_base base.now) }
     requires unknown { fundamental_of base.now ≡ None }
     ensures plain { IfSome result (λ q. has_psk q ≡ false) }
-    ensures every { (p : Plan) → IsPattern p → p.base ≡ base.now → lines.now ≡ pre_lines p.initiator p.responder ++ message_lines Initiator p.messages
+    ensures every { (p : Plan) → IsPattern p → p.base ≡ base.now → lines.now ≡ body_of p
         → result ≡ Some (plain_of p) }
 {
     let (initiator, responder, lines) = read_pre_messages(lines);
@@ -108,7 +109,7 @@ pub(super) fn is_pre_message(tokens: &[Token]) -> bool
 
 // The pre-messages, empty where no line ends them, and the lines after them.
 fn read_pre_messages(lines: &[u8]) -> (ArrayVec<Token, 8>, ArrayVec<Token, 8>, &[u8])
-    ensures { (i : List Token) (r : List Token) (ms : List (List Token)) → IsTrue (is_pre_message i) → IsTrue (is_pre_message r)
+    ensures { (i r : List Token) (ms : List (List Token)) → IsTrue (is_pre_message i) → IsTrue (is_pre_message r)
         → IsTrue (list_all has_few_tokens ms) → lines.now ≡ pre_lines i r ++ message_lines Initiator ms
         → (result.0.items ≡ i) × (result.1.items ≡ r) × (result.2.now ≡ message_lines Initiator ms) }
 {
@@ -122,9 +123,11 @@ fn read_pre_messages(lines: &[u8]) -> (ArrayVec<Token, 8>, ArrayVec<Token, 8>, &
 
 // The tokens of the party's line, none if this is no such line, and the lines after it.
 fn read_pre_message(role: Role, lines: &[u8]) -> (ArrayVec<Token, 8>, &[u8])
-    ensures there { (t : Token) (ts : List Token) (more : List ℕ) → length (own_tokens (t ∷ ts)) ≤ 8 → lines.now ≡ token_line role (t ∷ ts) ++ more
+    ensures there { (t : Token) (ts : List Token) (more : List ℕ) → length (own_tokens (t ∷ ts)) ≤ 8
+        → lines.now ≡ token_line role (t ∷ ts) ++ more
         → (result.0.items ≡ own_tokens (t ∷ ts)) × (result.1.now ≡ more) }
-    ensures absent { ((rest : List ℕ) → lines.now ≡ codes "  " ++ (arrow_of role ++ rest) → ⊥) → (result.0.items ≡ []) × (result.1.now ≡ lines.now) }
+    ensures absent { ((rest : List ℕ) → lines.now ≡ codes "  " ++ (arrow_of role ++ rest) → ⊥)
+        → (result.0.items ≡ []) × (result.1.now ≡ lines.now) }
 {
     match read_line(role, lines) {
         Some(read) => read,
@@ -137,8 +140,8 @@ fn read_messages(lines: &[u8]) -> ArrayVec<Message, 8>
     ensures plain { list_any (λ tokens. list_any is_psk tokens) result.items ≡ false }
     ensures sizes { IsTrue (list_all has_few_tokens result.items) }
     ensures few { array_vec_len result ≤ 8 }
-    ensures every { (ms : List (List Token)) → length ms ≤ 8 → IsTrue (list_all has_few_tokens ms) → lines.now ≡ message_lines Initiator ms
-        → result.items ≡ map own_tokens ms }
+    ensures every { (ms : List (List Token)) → length ms ≤ 8 → IsTrue (list_all has_few_tokens ms)
+        → lines.now ≡ message_lines Initiator ms → result.items ≡ map own_tokens ms }
 {
     let mut messages = ArrayVec::new();
     let mut role = Role::Initiator;
@@ -159,7 +162,8 @@ fn read_line(role: Role, lines: &[u8]) -> Option<(ArrayVec<Token, 8>, &[u8])>
     ensures plain { IfSome result (λ r. list_any is_psk r.0.items ≡ false) }
     ensures shorter { IfSome result (λ r. length r.1.now < length lines.now) }
     ensures starts { IfSome result (λ r. (rest : List ℕ) × (lines.now ≡ codes "  " ++ (arrow_of role ++ rest))) }
-    ensures every { (t : Token) (ts : List Token) (more : List ℕ) → length (own_tokens (t ∷ ts)) ≤ 8 → lines.now ≡ token_line role (t ∷ ts) ++ more
+    ensures every { (t : Token) (ts : List Token) (more : List ℕ) → length (own_tokens (t ∷ ts)) ≤ 8
+        → lines.now ≡ token_line role (t ∷ ts) ++ more
         → MatchOption result (Unit {0} → ⊥) (λ r. (r.0.items ≡ own_tokens (t ∷ ts)) × (r.1.now ≡ more)) }
 {
     let (party, list) = read_arrow(lines)?;
@@ -172,9 +176,9 @@ fn read_line(role: Role, lines: &[u8]) -> Option<(ArrayVec<Token, 8>, &[u8])>
 
 // The party whose arrow is at the front of a line, and the list after the arrow.
 pub(super) fn read_arrow(line: &[u8]) -> Option<(Role, &[u8])>
-    ensures front { IfSome result (λ r. line.now ≡ codes "  " ++ (arrow_of r.0 ++ (codes " " ++ r.1.now))) }
+    ensures front { IfSome result (λ r. line.now ≡ arrow_then r.0 r.1.now) }
     ensures shorter { IfSome result (λ r. length r.1.now < length line.now) }
-    ensures none { IfNone result ((role : Role) (list : List ℕ) → line.now ≡ codes "  " ++ (arrow_of role ++ (codes " " ++ list)) → ⊥) }
+    ensures none { IfNone result ((role : Role) (list : List ℕ) → line.now ≡ arrow_then role list → ⊥) }
 {
     if let Some(list) = line.strip_prefix(b"  -> ") {
         return Some((Role::Initiator, list));
@@ -187,7 +191,8 @@ pub(super) fn read_arrow(line: &[u8]) -> Option<(Role, &[u8])>
 fn read_words(list: &[u8]) -> (ArrayVec<Token, 8>, &[u8])
     ensures plain { list_any is_psk result.0.items ≡ false }
     ensures shorter { length result.1.now ≤ length list.now }
-    ensures every { (t : Token) (ts : List Token) (more : List ℕ) → length (own_tokens (t ∷ ts)) ≤ 8 → list.now ≡ words (t ∷ ts) ++ 10 ∷ more
+    ensures every { (t : Token) (ts : List Token) (more : List ℕ) → length (own_tokens (t ∷ ts)) ≤ 8
+        → list.now ≡ words (t ∷ ts) ++ 10 ∷ more
         → (result.0.items ≡ own_tokens (t ∷ ts)) × (result.1.now ≡ 10 ∷ more) }
 {
     let mut tokens = ArrayVec::new();
@@ -205,7 +210,8 @@ fn read_words(list: &[u8]) -> (ArrayVec<Token, 8>, &[u8])
 // Keeps the token, unless it is psk or there is no room.
 fn keep(tokens: &mut ArrayVec<Token, 8>, token: Token)
     ensures plain { list_any is_psk tokens.old.items ≡ false → list_any is_psk tokens.new.items ≡ false }
-    ensures kept { array_vec_len tokens.old + length (own_tokens (token ∷ [])) ≤ 8 → tokens.new.items ≡ tokens.old.items ++ own_tokens (token ∷ []) }
+    ensures kept { array_vec_len tokens.old + length (own_tokens (token ∷ [])) ≤ 8
+        → tokens.new.items ≡ tokens.old.items ++ own_tokens (token ∷ []) }
 {
     if let Token::Psk = token {
         return;
@@ -220,7 +226,8 @@ pub(super) fn first_word(list: &[u8]) -> Option<(Token, &[u8])>
     ensures shorter { IfSome result (λ r. length r.1.now ≤ length list.now) }
     ensures every { (t : Token) (b : ℕ) (more : List ℕ) → is_lower b ≡ false → list.now ≡ word_of t ++ b ∷ more
         → MatchOption result (Unit {0} → ⊥) (λ r. (r.0 ≡ t) × (r.1.now ≡ b ∷ more)) }
-    ensures last { (t : Token) → list.now ≡ word_of t → MatchOption result (Unit {0} → ⊥) (λ r. (r.0 ≡ t) × (r.1.now ≡ [])) }
+    ensures last { (t : Token) → list.now ≡ word_of t
+        → MatchOption result (Unit {0} → ⊥) (λ r. (r.0 ≡ t) × (r.1.now ≡ [])) }
     ensures some { IfSome result (λ r. list.now ≡ word_of r.0 ++ r.1.now) }
 {
     let (word, after) = list.split_at(word_len(list));

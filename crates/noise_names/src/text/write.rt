@@ -10,8 +10,8 @@ use crate::name::push_modifiers;
 use crate::{Message, Pattern, PskPlaces, Role, Token};
 use arrayvec::ArrayVec;
 
-// Room for a text: a heading of at most 55 bytes, pre-messages of at most 38, and 8 messages of at most 56 each. The longest
-// text has 413.
+// Room for a text: a heading of at most 55 bytes, pre-messages of at most 38, and 8 messages of at most 56 each. The
+// longest text has 413.
 const TEXT_LEN: usize = 541;
 
 type Text = ArrayVec<u8, TEXT_LEN>;

@@ -46,7 +46,8 @@ pub fn both_keys(ephemeral: u8, fixed: u8) -> XorKeys
     }
 }
 
-// Two parties with both key pairs each, whose transport key is renewed after each message, say these lines, which have to fit.
+// Two parties with both key pairs each, whose transport key is renewed after each message, say these lines. The lines
+// have to fit.
 fn conversed(
     rt: &impl Abort,
     alloc: Global,
@@ -126,7 +127,8 @@ fn framed(message: [u8; 18]) -> [u8; 20] {
     frame
 }
 
-// The ends of a conversation that is the handshake alone renew their keys as they were told to: here before each message but the first.
+// The ends of a conversation that is the handshake alone renew their keys at their interval: here before each message
+// but the first.
 #[test]
 fn renews_after_the_handshake(rt: HostRuntime) {
     let alloc = rt.alloc();
@@ -139,7 +141,8 @@ fn renews_after_the_handshake(rt: HostRuntime) {
     let entries = format!(in alloc; "{:?}", report.entries).expect(&rt, "memory");
     assert!(rt;
         entries.as_str()
-            == "[(Initiator, Wrote(0)), (Responder, Payload([104, 105])), (Initiator, Wrote(1)), (Responder, Payload([104, 105]))]"
+            == "[(Initiator, Wrote(0)), (Responder, Payload([104, 105])), \
+(Initiator, Wrote(1)), (Responder, Payload([104, 105]))]"
     );
     let frames = format!(in alloc; "{:?}", report.initiator).expect(&rt, "memory");
     let wanted = [framed(sealed(&KEY, 0)), framed(sealed(&rekey(&KEY), 1))];

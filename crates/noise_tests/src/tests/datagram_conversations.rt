@@ -1,4 +1,5 @@
-//! Datagrams after a session that opened over frames: the caller has no condition, so what the law on datagrams asks of two ends can be met.
+//! Datagrams after a session that opened over frames. The caller has no `requires`, so two ends can be as the law on
+//! datagrams wants them.
 
 ghost use Rattle.std.specs.Prelude.{◌≡◌, ◌⊎◌, IfSome, Some, true};
 ghost use Rattle.noise_events.specs.DatagramEvents.{datagram_events_of};
@@ -24,7 +25,8 @@ fn over_datagrams(
     events: &[Event],
     datagrams: &[DatagramEvent],
 ) -> Option<(DatagramDuel, DatagramReport)>
-    ensures { IfSome result (λ r. (d : Sides) × (DatagramsOverNetwork (datagrams_of d.initiator.view.party W64) (datagrams_of d.responder.view.party W64)
+    ensures { IfSome result (λ r. (d : Sides)
+        × (DatagramsOverNetwork (datagrams_of d.initiator.view.party W64) (datagrams_of d.responder.view.party W64)
         (datagram_events_of datagrams.now) r.0 r.1 ⊎ HistoriesClash d)) }
 {
     let initiator = both_keys(0x11, 0x22);
@@ -55,7 +57,8 @@ fn over_datagrams(
 fn common_hash(duel: &Duel<XorKeys, XorKeys>) -> Option<[u8; 32]>
     ensures first { IfSome result (λ hash. hash_in duel.now.initiator.phase ≡ Some hash) }
     ensures second { IfSome result (λ hash. hash_in duel.now.responder.phase ≡ Some hash) }
-    ensures ready { IfSome result (λ _. (is_datagram_ready duel.now.initiator ≡ true) × (is_datagram_ready duel.now.responder ≡ true)) }
+    ensures ready { IfSome result
+        (λ _. (is_datagram_ready duel.now.initiator ≡ true) × (is_datagram_ready duel.now.responder ≡ true)) }
 {
     let first = duel.initiator().hash()?;
     let second = duel.responder().hash()?;

@@ -26,8 +26,8 @@ fn say(rt: &impl Abort, alloc: Global, role: Role) -> Event {
     Event::Say(role, vec![in alloc; 7u8; 1].expect(rt, "memory"), cuts)
 }
 
-const TOLD: &str =
-    "[(Initiator, Wrote(0)), (Responder, Payload([7])), (Responder, Wrote(0)), (Initiator, Refused { token: 2, cause: Tag })]";
+const TOLD: &str = "[(Initiator, Wrote(0)), (Responder, Payload([7])), (Responder, Wrote(0)), \
+(Initiator, Refused { token: 2, cause: Tag })]";
 
 #[test]
 fn refuses_another_prologue(rt: HostRuntime) {

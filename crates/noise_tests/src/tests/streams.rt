@@ -35,7 +35,8 @@ impl Read for Reader {
     }
 }
 
-// Takes a byte a write. After so many bytes it fails once and then goes on, or it takes none. A flush fails in place of that write.
+// Takes a byte a write. After so many bytes it fails once and then goes on, or it takes none. A flush fails in place of
+// that write.
 #[derive(Drop)]
 struct Writer {
     taken: [u8; 36],

@@ -1,4 +1,5 @@
-//! A frame and a message that come as a payload. In the first message of NN, whose payload is in clear, both are worked out by hand.
+//! A frame and a message that come as a payload. In the first message of NN, whose payload is in clear, both are worked
+//! out by hand.
 
 use super::support::{end, first_frame, party};
 use noise_conversation::{comes_as, reads_as};

@@ -5,8 +5,8 @@ use noise_aead::{nonce, rekey, seal_in_place};
 use noise_session::{OpenFault, Transport};
 use std::process::Abort;
 
-/// The key of the initiator's messages in NN: the first output of HKDF of the chaining key, with no input. That is the first
-/// output of HKDF of the protocol's name, which has 32 bytes, and 32 bytes `33`, the xor of the ephemeral keys.
+/// The key of the initiator's messages in NN: the first output of HKDF of the chaining key, with no input. That is the
+/// first output of HKDF of the protocol's name, which has 32 bytes, and 32 bytes `33`, the xor of the ephemeral keys.
 pub const KEY: [u8; 32] = [
     0x39, 0x03, 0x14, 0x6d, 0x7b, 0x4e, 0x86, 0xa4, 0xa6, 0x4c, 0x1b, 0xbe, 0x19, 0xeb, 0xe4, 0xa4,
     0xa1, 0x71, 0xae, 0x0c, 0x8f, 0x03, 0xdf, 0x47, 0x14, 0x79, 0x41, 0xa8, 0x12, 0x25, 0x6c, 0x83,

@@ -1,4 +1,5 @@
-//! The listings of `docs/RATTLE.md` and of the README, each called once. `checks/listings` compares the marked parts with those pages.
+//! The listings of `docs/RATTLE.md` and of the README, each called once. `checks/listings` compares the marked parts
+//! with those pages.
 
 use super::support::opened;
 use std::test::Fail;
@@ -136,7 +137,8 @@ pub fn open_session<K: Keys, R: Read, W: Write>(
     Err(Failure::Refused)
 }
 
-/// Takes bytes as they come, and appends the payloads of the frames that are whole with them. It gives the bytes that weren't taken.
+/// Takes bytes as they come, and appends the payloads of the frames that are whole with them. It gives the bytes that
+/// weren't taken.
 pub fn take_bytes<'a, K: Keys>(
     end: &mut End<K>,
     bytes: &'a [u8],
@@ -178,7 +180,8 @@ pub fn seal_hello(transport: &mut Transport, message: &mut [u8; 21]) -> Result<u
     transport.seal(b"hello", message)
 }
 
-/// The payload of a datagram that has come, or none where it is refused: such a datagram is dropped, and the next one is waited for.
+/// The payload of a datagram that has come, or none where it is refused: such a datagram is dropped, and the next one
+/// is waited for.
 pub fn datagram_payload<'a>(
     datagrams: &mut Datagrams,
     bytes: &'a mut [u8],
