@@ -60,8 +60,7 @@
 #define NOISE_VERSION_MAJOR 1
 #define NOISE_VERSION_MINOR 0
 #define NOISE_VERSION_PATCH 0
-#define NOISE_VERSION \
-    (65536u * NOISE_VERSION_MAJOR + 256u * NOISE_VERSION_MINOR + NOISE_VERSION_PATCH)
+#define NOISE_VERSION (65536u*NOISE_VERSION_MAJOR + 256u*NOISE_VERSION_MINOR + NOISE_VERSION_PATCH)
 
 #ifdef __cplusplus
 #define NOISE_ALIGNED alignas(8)
@@ -71,7 +70,7 @@ extern "C" {
 #endif
 
 /* What a call returns; noise_text, below, says what each code means. A call's comment ends with its
-   codes but OK: if several apply, the call returns the first. After any code but OK everything
+   codes but OK. If several apply, the call returns the first. After any code but OK everything
    except `told` is as it was, but:
    - SHORT and TAG of noise_read end the handshake.
    - END of noise_stream_read, and its refusals, end the stream.
@@ -184,15 +183,14 @@ size_t noise_datagram_sender_size(void), noise_datagram_receiver_size(void);
    "NK1:\n  <- s\n  ...\n  -> e\n  <- e, ee, es\n". prologue is what the parties have agreed on
    before, the same bytes at both (Noise, 6).
    Codes: NAME · PATTERN · LENGTH (prologue_len is above 65535) · PSK_COUNT (psk_count is above 9) ·
-   EPHEMERAL_MISSING · STATIC_MISSING · REMOTE_MISSING · REMOTE_UNEXPECTED · PSK_COUNT (psk_count is
-   above the number of psk tokens). */
+   EPHEMERAL_MISSING · STATIC_MISSING · REMOTE_MISSING · REMOTE_UNEXPECTED · PSK_COUNT. */
 uint32_t noise_start(noise_handshake *h, const uint8_t *pattern, size_t pattern_len,
     const uint8_t *prologue, size_t prologue_len, const noise_setup *setup);
 
 /* Supplies the result of X25519 (Noise, 12.1) on one of this party's secret keys and a public key
    of the other party: after WANTED those of told. of_static is 0 for the ephemeral key, else the
    static one. A struct without a valid state gives OK or FULL too, and STRUCT at the next call.
-   Codes: FULL (it would be the ninth). */
+   Codes: FULL. */
 uint32_t noise_answer(noise_handshake *h, uint8_t of_static, const uint8_t remote[32],
     const uint8_t answer[32]);
 
@@ -287,15 +285,15 @@ uint32_t noise_stream_end(noise_stream_sender *s, uint8_t *out, size_t out_len,
 uint32_t noise_stream_read(noise_stream_receiver *r, uint8_t *buffer, size_t buffer_len,
     noise_stream_told *told);
 
-/* Says, when the connection has ended with `left` unused bytes in the buffer, whether that cuts the
-   stream. OK, which is 0: the other party had ended it, and nothing is left.
+/* Says whether the connection's end cuts the stream; `left` bytes of the buffer are unused. OK,
+   which is 0: the other party had ended it, and nothing is left.
    Codes: STRUCT · CUT. */
 uint32_t noise_stream_is_cut(const noise_stream_receiver *r, size_t left);
 
 /* MESSAGES IN ORDER, for frames of your own over a stream. A message is 16 bytes longer than its
    payload. */
 
-/* Makes the two structs, as noise_finish_stream; `interval` counts messages.
+/* Makes the two structs for messages, as noise_finish_stream does; `interval` counts messages.
    Codes: STRUCT · NOT_DONE · ENDED. */
 uint32_t noise_finish(const noise_handshake *h, uint64_t interval, noise_sender *sender,
     noise_receiver *receiver);
@@ -324,8 +322,9 @@ uint32_t noise_receiver_nonce(const noise_receiver *r, uint64_t *nonce);
    needs its messages in order, each once. A datagram begins with its nonce, in 8 bytes, the highest
    first, and is 24 bytes longer than its payload. */
 
-/* Makes the two structs, as noise_finish_stream, but with keys that are never renewed. `window` is
-   64, 256 or 1024: a datagram may come after others whose nonces are less than `window` greater.
+/* Makes the two structs for datagrams, as noise_finish_stream does, but their keys are never
+   renewed. `window` is 64, 256 or 1024: a datagram may come after others whose nonces are less than
+   `window` greater.
    Codes: WINDOW · STRUCT · NOT_DONE · ENDED. */
 uint32_t noise_finish_datagrams(const noise_handshake *h, uint32_t window,
     noise_datagram_sender *sender, noise_datagram_receiver *receiver);
