@@ -25,6 +25,14 @@ def outcome(kind, data):
     return [*JUNK, data] if kind == "junk" else [data]
 
 
+def pass_on(far, data):
+    """Sends a datagram to the server. Where an earlier one found no server yet, the first call tells that instead."""
+    try:
+        far.send(data)
+    except ConnectionRefusedError:
+        far.send(data)
+
+
 def relay(near, far, asking, direction, kind, number):
     """Passes datagrams until the client has ended; does something to the one of this number in one direction."""
     client, counts, until = None, [0, 0], time.monotonic() + 15
@@ -41,7 +49,7 @@ def relay(near, far, asking, direction, kind, number):
             counts[way] += 1
             for out in outcome(what, data):
                 if way == 0:
-                    far.send(out)
+                    pass_on(far, out)
                 else:
                     near.sendto(out, client)
 
