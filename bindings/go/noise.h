@@ -1,47 +1,56 @@
-/* The Noise Protocol Framework, revision 34, with 25519, ChaChaPoly and SHA256. For C (C11), C++ (C++11) and any
-   language that calls C. docs/C.md, the page noise_c(3), explains it with listings; examples/programs/c has programs.
+/* The Noise Protocol Framework, revision 34, with 25519, ChaChaPoly and SHA256. For C (C11), C++
+   (C++11) and any language that calls C. docs/C.md, the page noise_c(3), explains it with listings;
+   examples/programs/c has programs; each call has a page of its own, as noise_write(3).
 
-   The library runs a handshake pattern message by message, and then encrypts and decrypts. It has no X25519, draws no
-   random bytes, opens no socket and allocates no memory. The caller supplies public keys, computes X25519 where a call
-   asks for it, and keeps the state in structs, the kept structs. All lengths are in bytes.
+   The library runs a handshake pattern message by message, and then encrypts and decrypts. It has
+   no X25519, draws no random bytes, opens no socket and allocates no memory. The caller supplies
+   public keys, computes X25519 where a call asks for it, and keeps the state in structs, the kept
+   structs. All lengths are in bytes. "Noise, 5.3" is section 5.3 of the standard.
 
    THE ORDER OF CALLS
 
-       noise_start                 once, by each party
-       noise_write, noise_read     in turn; the initiator writes first. At NOISE_WANTED call noise_answer, at
-                                   NOISE_WANTED_PSK call noise_set_psk; then repeat the call
-       noise_remote_static         the other party's static key: compare it with the one that you expect
-       noise_finish_stream         for bytes with an end, over TCP: noise_stream_write, _end, _read, _is_cut
-       noise_finish                or for messages in order, in frames of your own: noise_seal, noise_open
-       noise_finish_datagrams      or for datagrams, over UDP: noise_datagram_seal, noise_datagram_open
-       noise_finish_ciphers        or for packets of your own: noise_cipher_encrypt, noise_cipher_decrypt
-       noise_wipe                  the handshake, and each other struct once it is no longer used
+       noise_start                once, by each party
+       noise_write, noise_read    in turn; the initiator writes first. At NOISE_WANTED call
+                                  noise_answer, at NOISE_WANTED_PSK noise_set_psk; then call again
+       noise_remote_static        the other party's static key: compare it with the one you expect
+       noise_finish_stream        for bytes with an end, over TCP: noise_stream_write, _end, _read,
+                                  _is_cut
+       noise_finish               or for messages in order, in frames of your own: noise_seal, _open
+       noise_finish_datagrams     or for datagrams, over UDP: noise_datagram_seal, _open
+       noise_finish_ciphers       or for packets of your own: noise_cipher_encrypt, _decrypt
+       noise_wipe                 the handshake, and each other struct once it is no longer used
 
-   Of the four noise_finish calls make one, once. It gives two structs, one to send and one to receive; a thread may
-   have either. In a one-way pattern (N, K, X) the responder can't send, and the initiator can't receive: NOISE_ONE_WAY.
+   Of the four noise_finish calls make one, once. It gives two structs, one to send and one to
+   receive; a thread may have either. In a one-way pattern (N, K, X) the responder can't send, and
+   the initiator can't receive: NOISE_ONE_WAY (Noise, 7.4).
 
-   A call returns a code for each wrong value. No length and no content of a kept struct makes a call stop the process
-   or access memory that it wasn't given. A kept struct begins with a mark of its type and of its layout's version: one
-   of zeros, of another type, or of a build with another layout gives NOISE_STRUCT, but of noise_answer.
+   A call returns a code for each wrong value. No length and no content of a kept struct makes a
+   call stop the process or access memory that it wasn't given. A kept struct begins with a mark of
+   its type and of its layout's version. So a call refuses one of zeros, of another type, or of a
+   build with another layout by NOISE_STRUCT; noise_answer alone doesn't look.
 
    WHAT THE CALLER MUST ENSURE, since no call can check it
-   - A pointer that has a count may be NULL if the count is 0: see the end of this header. No other pointer may be NULL.
-     Each leads to as many bytes as its count or its type says. A kept struct's address is a multiple of 8.
-   - The bytes at a pointer that isn't const overlap those of no other pointer of the call: only the calls that have one
-     buffer, as noise_read, work in place.
-   - A key never encrypts two texts at one nonce: whoever sees both messages learns the xor of the texts, and can forge
-     messages of that nonce. So never use a copy of a struct that writes or encrypts beside the original, also not one
-     that was saved to a file or that a forked process has; make no second pair of structs from a handshake; and don't
-     set the nonce of a cipher state for sending back. A struct may be moved.
-   - Each handshake has a new ephemeral key pair. A pair that was used before makes the same keys again.
-   - Calls that take a kept struct as const may run at once, on any number of threads; any other call has the struct for
-     itself. Different structs need no lock: the library has no other state.
-   - X25519 may give all zeros; OpenSSL returns an error then. To refuse such a key (Noise, 12.1) don't pass the result
-     to noise_answer, and end the handshake.
+   - A pointer that has a count may be NULL if the count is 0: see the end of this header. No other
+     pointer may be NULL. Each leads to as many bytes as its count or its type says. A kept struct's
+     address is a multiple of 8.
+   - The bytes at a pointer that isn't const overlap those of no other pointer of the call. Only the
+     calls that have one buffer, as noise_read, work in place.
+   - A key never encrypts two texts at one nonce: whoever sees both messages learns the xor of the
+     texts, and can forge messages of that nonce. So never use a copy of a struct that writes or
+     encrypts beside the original: not one from a file, and not a forked process's. Make no second
+     pair of structs from a handshake. Don't set the nonce of a cipher state for sending back. A
+     struct may be moved.
+   - Each handshake has a new ephemeral key pair. A pair that was used before makes the same keys
+     again.
+   - Calls that take a kept struct as const may run at once, on any number of threads; any other
+     call has the struct for itself. Different structs need no lock: the library has no other state.
+   - X25519 may give all zeros; OpenSSL returns an error then. To refuse such a key (Noise, 12.1)
+     don't pass the result to noise_answer, and end the handshake.
 
-   WIPING. Kept structs hold psks, results of X25519 and keys until the caller overwrites them with noise_wipe; so do
-   the setup, a psk, a result, and the ephemeral secret key. No call keeps a pointer. noise_wipe_stack overwrites what
-   calls leave on the stack: at most 14 KB, as checks/c-library/stack.c measures on x86-64. */
+   WIPING. Kept structs hold psks, results of X25519 and keys until the caller overwrites them with
+   noise_wipe; so do the setup, a psk, a result, and the ephemeral secret key. No call keeps a
+   pointer. noise_wipe_stack overwrites what calls leave on the stack: at most 14 KB, as
+   checks/c-library/stack.c measures on x86-64. */
 #ifndef NOISE_H
 #define NOISE_H
 
@@ -51,7 +60,7 @@
 #define NOISE_VERSION_MAJOR 1
 #define NOISE_VERSION_MINOR 0
 #define NOISE_VERSION_PATCH 0
-#define NOISE_VERSION (65536u * NOISE_VERSION_MAJOR + 256u * NOISE_VERSION_MINOR + NOISE_VERSION_PATCH)
+#define NOISE_VERSION (65536u*NOISE_VERSION_MAJOR + 256u*NOISE_VERSION_MINOR + NOISE_VERSION_PATCH)
 
 #ifdef __cplusplus
 #define NOISE_ALIGNED alignas(8)
@@ -60,31 +69,38 @@ extern "C" {
 #define NOISE_ALIGNED _Alignas(8)
 #endif
 
-/* What a call returns; noise_text, below, says what each code means. After any code but OK everything except `told` is
-   as it was, but: SHORT and TAG of noise_read end the handshake; END of noise_stream_read, and its refusals, end the
-   stream; AGREEMENT, which only a struct gets that something else has changed, may come with other changes. */
+/* What a call returns; noise_text, below, says what each code means. A call's comment ends with its
+   codes but OK. If several apply, the call returns the first. After any code but OK everything
+   except `told` is as it was, but:
+   - SHORT and TAG of noise_read end the handshake.
+   - END of noise_stream_read, and its refusals, end the stream.
+   - AGREEMENT, which only a struct gets that something else has changed, may come with other
+     changes. */
 enum noise_code {
-    NOISE_OK = 0, NOISE_NAME = 1, NOISE_PATTERN = 2, NOISE_EPHEMERAL_MISSING = 4, NOISE_STATIC_MISSING = 5,
-    NOISE_REMOTE_MISSING = 6, NOISE_REMOTE_UNEXPECTED = 7, NOISE_PSK_COUNT = 8, NOISE_NOT_YOUR_TURN = 10,
-    NOISE_TOO_LONG = 11, NOISE_DONE = 12, NOISE_ENDED = 13, NOISE_AGREEMENT = 14, NOISE_SHORT = 15, NOISE_TAG = 16,
-    NOISE_EXHAUSTED = 17, NOISE_ROOM = 18, NOISE_NOT_DONE = 19, NOISE_WANTED = 20, NOISE_FULL = 21,
-    NOISE_ONE_WAY = 22, NOISE_STRUCT = 23, NOISE_LENGTH = 24, NOISE_WINDOW = 25, NOISE_RESERVED = 26, NOISE_OLD = 27,
+    NOISE_OK = 0, NOISE_NAME = 1, NOISE_PATTERN = 2, NOISE_EPHEMERAL_MISSING = 4,
+    NOISE_STATIC_MISSING = 5, NOISE_REMOTE_MISSING = 6, NOISE_REMOTE_UNEXPECTED = 7,
+    NOISE_PSK_COUNT = 8, NOISE_NOT_YOUR_TURN = 10, NOISE_TOO_LONG = 11, NOISE_DONE = 12,
+    NOISE_ENDED = 13, NOISE_AGREEMENT = 14, NOISE_SHORT = 15, NOISE_TAG = 16, NOISE_EXHAUSTED = 17,
+    NOISE_ROOM = 18, NOISE_NOT_DONE = 19, NOISE_WANTED = 20, NOISE_FULL = 21, NOISE_ONE_WAY = 22,
+    NOISE_STRUCT = 23, NOISE_LENGTH = 24, NOISE_WINDOW = 25, NOISE_RESERVED = 26, NOISE_OLD = 27,
     NOISE_REPEATED = 28, NOISE_NOT_DUE = 29, NOISE_HEADING = 30, NOISE_ARROW = 31, NOISE_TOKEN = 32,
-    NOISE_PRE_MESSAGE = 33, NOISE_TURN = 34, NOISE_PSK_PLACE = 35, NOISE_NAME_TAKEN = 36, NOISE_LIMIT = 37,
-    NOISE_ENDING = 38, NOISE_RULE = 39, NOISE_WANTED_PSK = 40, NOISE_END = 41, NOISE_MORE = 42, NOISE_CLOSED = 43,
-    NOISE_CUT = 44
+    NOISE_PRE_MESSAGE = 33, NOISE_TURN = 34, NOISE_PSK_PLACE = 35, NOISE_NAME_TAKEN = 36,
+    NOISE_LIMIT = 37, NOISE_ENDING = 38, NOISE_RULE = 39, NOISE_WANTED_PSK = 40, NOISE_END = 41,
+    NOISE_MORE = 42, NOISE_CLOSED = 43, NOISE_CUT = 44
 };
 
 enum {
-    NOISE_KEY_LEN = 32,            /* a public key, a result of X25519, a psk, a handshake hash */
-    NOISE_TAG_LEN = 16,            /* a message has so many bytes more than its payload, */
-    NOISE_STREAM_OVERHEAD = 18,    /* a frame of a stream: 2 of its length, 16 of the tag, */
-    NOISE_DATAGRAM_OVERHEAD = 24,  /* and a datagram: 8 of the nonce, 16 of the tag. Each payload has at most 65519 */
+    NOISE_KEY_LEN = 32,           /* a public key, a result of X25519, a psk, a handshake hash */
+    NOISE_TAG_LEN = 16,           /* a message has so many bytes more than its payload, */
+    NOISE_STREAM_OVERHEAD = 18,   /* a frame of a stream: 2 of its length, 16 of the tag, */
+    NOISE_DATAGRAM_OVERHEAD = 24, /* and a datagram: 8 of the nonce, 16 of the tag. A message has at
+                                     most 65535 (Noise, 3), so a payload at most 65519 */
     NOISE_MAX_MESSAGE = 65535, NOISE_MAX_FRAME = 65537, NOISE_MAX_DATAGRAM = 65543,
     NOISE_MAX_PROLOGUE = 65535, NOISE_MAX_PSKS = 9
 };
 
-/* The kept structs: the caller provides the memory, and only the library reads and changes the content. */
+/* The kept structs: the caller provides the memory, and only the library reads and changes the
+   content. */
 typedef struct { NOISE_ALIGNED unsigned char kept[1472]; } noise_handshake;
 typedef struct { NOISE_ALIGNED unsigned char kept[64]; } noise_stream_sender;
 typedef struct { NOISE_ALIGNED unsigned char kept[64]; } noise_stream_receiver;
@@ -97,194 +113,272 @@ typedef struct { NOISE_ALIGNED unsigned char kept[48]; } noise_cipher;
 /* A public key, or none if present is 0. */
 typedef struct { uint8_t present; uint8_t bytes[32]; } noise_key;
 
-/* What a party starts a handshake with. noise_setup setup = {0} is the initiator, without keys or psks. */
+/* What a party starts a handshake with. noise_setup setup = {0} is the initiator, without keys or
+   psks. */
 typedef struct {
-    uint8_t responder;             /* 0: the initiator; any other value: the responder */
-    noise_key e, s;                /* this party's public keys: each for which the pattern has a token of this party */
-    noise_key remote_e, remote_s;  /* the other party's: those of its pre-message, as the responder's s in IK */
-    uint8_t psk_count;             /* how many psks there are, at most 9: those of the first psk tokens, in order. The
-                                      calls ask for the others when their tokens come: NOISE_WANTED_PSK */
+    uint8_t responder;            /* 0: the initiator; any other value: the responder */
+    noise_key e, s;               /* this party's public keys: each for which the pattern has a
+                                     token of this party */
+    noise_key remote_e, remote_s; /* the other party's: those of its pre-message, as the responder's
+                                     s in IK */
+    uint8_t psk_count;            /* how many psks there are, at most 9: those of the first psk
+                                     tokens, in order. The calls ask for the others when their
+                                     tokens come: NOISE_WANTED_PSK */
     uint8_t psks[9][32];
 } noise_setup;
 
-/* What a call tells beside its code. The comments name the codes at which a field is set; at others it stays. */
+/* What a call tells beside its code. The comments name the codes at which a field is set; at others
+   it stays. */
 typedef struct {
-    size_t from;                   /* OK: where the payload begins that was read; 0 of calls that write */
-    size_t len;                    /* OK: the length of the payload that was read, or of the message that was written.
-                                      ROOM of noise_write: the length that the message would have */
-    uint8_t token;                 /* SHORT, TAG of noise_read: the token at which it was refused, counted from 0 */
-    uint8_t of_static;             /* WANTED: which key pair of this party is needed: 0 ephemeral, 1 static */
-    uint8_t remote[32];            /* WANTED: with this public key. WANTED_PSK: the other's static key, or zeros */
-    uint8_t remote_known;          /* WANTED_PSK: 1 if that key is known before the psk token, else 0 */
+    size_t from;          /* OK: where the payload begins that was read; 0 of calls that write */
+    size_t len;           /* OK: the length of the payload that was read, or of the message that was
+                             written. ROOM of noise_write: the length that the message would have */
+    uint8_t token;        /* SHORT, TAG of noise_read: at which token, counted from 0 */
+    uint8_t of_static;    /* WANTED: which key pair of this party: 0 ephemeral, 1 static */
+    uint8_t remote[32];   /* WANTED: with this public key. WANTED_PSK: the other's static key, or
+                             zeros */
+    uint8_t remote_known; /* WANTED_PSK: 1 if that key is known before the psk token, else 0 */
 } noise_told;
 
 typedef struct {
-    size_t from;                   /* OK of noise_stream_read, noise_frame_find: where payload or message begins */
-    size_t len;                    /* OK of these: its length. OK of noise_stream_write, _end: how many bytes to send */
-    size_t used;                   /* OK, END of these: how many first bytes of the buffer aren't needed any more. OK of
-                                      noise_stream_write: how many first bytes of the payload were written */
-    size_t wanted;                 /* MORE: so many bytes more are needed, exactly once the frame's first 2 are there */
+    size_t from;   /* OK of noise_stream_read, noise_frame_find: where payload or message begins */
+    size_t len;    /* OK of these: its length. OK of noise_stream_write, _end, noise_frame_message:
+                      how many bytes to send */
+    size_t used;   /* OK, END of noise_stream_read, noise_frame_find: how many first bytes of the
+                      buffer aren't needed any more. OK of noise_stream_write: how many first bytes
+                      of the payload were written */
+    size_t wanted; /* MORE: so many bytes are missing; exact once the frame's first 2 are there */
 } noise_stream_told;
 
 typedef struct {
-    uint8_t messages;              /* how many messages the pattern has, 1 to 8 */
-    uint8_t passed;                /* how many of them have been written or read */
-    uint8_t ended;                 /* 1 if a refused message has ended the handshake, else 0 */
-    uint8_t writes_next;           /* 1 if this party writes the next message, else 0; after the last it says nothing */
+    uint8_t messages;    /* how many messages the pattern has, 1 to 8 */
+    uint8_t passed;      /* how many of them have been written or read */
+    uint8_t ended;       /* 1 if a refused message has ended the handshake, else 0 */
+    uint8_t writes_next; /* 1 if this party writes the next message, else 0; after the last one it
+                            says nothing */
 } noise_stage_told;
 
 typedef struct {
-    size_t line;                   /* the codes 30 to 38: the line, counted from 1 */
-    uint8_t rule;                  /* RULE: the lowest rule, 1 to 5, that is broken at the first place where any is */
-    uint8_t message;               /* RULE: the message, counted from 1; the transport counts as one more message */
-    uint8_t token;                 /* RULE: the token, counted from 0; in the transport 0 initiator, 1 responder */
-    uint8_t messages;              /* OK: how many messages the pattern has */
+    size_t line;      /* the codes 30 to 38: the line, counted from 1 */
+    uint8_t rule;     /* RULE: the lowest rule, 1 to 5, broken at the first place where any is */
+    uint8_t message;  /* RULE: the message, counted from 1; the transport counts as one more */
+    uint8_t token;    /* RULE: the token, counted from 0; in the transport 0: initiator, 1:
+                         responder */
+    uint8_t messages; /* OK: how many messages the pattern has */
 } noise_pattern_told;
 
-/* The library's version (docs/VERSIONS.md) and its sizes of the kept structs: compare NOISE_VERSION and sizeof. */
+/* Tell the library's version (docs/VERSIONS.md) and its sizes of the kept structs: compare them
+   with NOISE_VERSION and sizeof. */
 uint32_t noise_version(void);
 size_t noise_handshake_size(void), noise_cipher_size(void);
 size_t noise_stream_sender_size(void), noise_stream_receiver_size(void);
 size_t noise_sender_size(void), noise_receiver_size(void);
 size_t noise_datagram_sender_size(void), noise_datagram_receiver_size(void);
 
-/* HANDSHAKES. Where a comment lists codes and several apply, the call returns the first.
+/* HANDSHAKES, by the HandshakeState of Noise, 5.3. */
 
-   Starts a handshake in *h, which may hold anything before. pattern: a protocol name, as
-   Noise_XXpsk3_25519_ChaChaPoly_SHA256, without a zero byte at the end; or the text of your own pattern, at most 413
-   bytes, in which each line ends with a line feed, as "NK1:\n  <- s\n  ...\n  -> e\n  <- e, ee, es\n". prologue: what
-   the parties have agreed on before; the same bytes at both, at most 65535. OK · NAME · PATTERN · LENGTH · PSK_COUNT:
-   above 9 · EPHEMERAL_MISSING, STATIC_MISSING, REMOTE_MISSING, REMOTE_UNEXPECTED, PSK_COUNT: more than psk tokens. */
-uint32_t noise_start(noise_handshake *h, const uint8_t *pattern, size_t pattern_len, const uint8_t *prologue,
-    size_t prologue_len, const noise_setup *setup);
+/* Starts a handshake in *h, which may hold anything before (Initialize). pattern is a protocol
+   name, as Noise_XXpsk3_25519_ChaChaPoly_SHA256, without a zero byte at the end. Or it is the text
+   of your own pattern, at most 413 bytes, in which each line ends with a line feed, as
+   "NK1:\n  <- s\n  ...\n  -> e\n  <- e, ee, es\n". prologue is what the parties have agreed on
+   before, the same bytes at both (Noise, 6).
+   Codes: NAME · PATTERN · LENGTH (prologue_len is above 65535) · PSK_COUNT (psk_count is above 9) ·
+   EPHEMERAL_MISSING · STATIC_MISSING · REMOTE_MISSING · REMOTE_UNEXPECTED · PSK_COUNT. */
+uint32_t noise_start(noise_handshake *h, const uint8_t *pattern, size_t pattern_len,
+    const uint8_t *prologue, size_t prologue_len, const noise_setup *setup);
 
-/* Supplies the result of X25519 on one of this party's secret keys (of_static 0: the ephemeral one; else the static
-   one) and a public key of the other party: after WANTED those of told. OK · FULL. A struct without a valid state gives
-   OK or FULL too, and STRUCT at the next call. */
-uint32_t noise_answer(noise_handshake *h, uint8_t of_static, const uint8_t remote[32], const uint8_t answer[32]);
+/* Supplies the result of X25519 (Noise, 12.1) on one of this party's secret keys and a public key
+   of the other party: after WANTED those of told. of_static is 0 for the ephemeral key, else the
+   static one. A struct without a valid state gives OK or FULL too, and STRUCT at the next call.
+   Codes: FULL. */
+uint32_t noise_answer(noise_handshake *h, uint8_t of_static, const uint8_t remote[32],
+    const uint8_t answer[32]);
 
-/* Supplies the psk of the first psk token that lacks one; then all is as if noise_start had been given it. OK · STRUCT
-   · PSK_COUNT. At WANTED_PSK the other party has proved neither its static key nor the psk: use told.remote to choose
-   the psk and for nothing else, until a message that was encrypted after the psk has been accepted. */
+/* Supplies the psk of the first psk token that lacks one (Noise, 9.2); then all is as if
+   noise_start had been given it. At WANTED_PSK the other party has proved neither its static key
+   nor the psk. Use told->remote to choose the psk, and for nothing else until a message that was
+   encrypted after the psk has been accepted.
+   Codes: STRUCT · PSK_COUNT (no psk token that is still to come lacks one). */
 uint32_t noise_set_psk(noise_handshake *h, const uint8_t psk[32]);
 
-/* Writes the next message, with this payload, to the start of out; the bytes after it are unchanged. Section 7.7 of the
-   standard says how well each payload is protected: at first not at all. OK · STRUCT · ENDED · DONE · NOT_YOUR_TURN ·
-   TOO_LONG · ROOM · WANTED · WANTED_PSK. */
-uint32_t noise_write(noise_handshake *h, const uint8_t *payload, size_t payload_len, uint8_t *out, size_t out_len,
-    noise_told *told);
+/* Writes the next message, with this payload, to the start of out (WriteMessage). The bytes after
+   it are unchanged. Noise, 7.7 says how well each payload is protected: at first not at all.
+   Codes: STRUCT · ENDED · DONE · NOT_YOUR_TURN · TOO_LONG (it would have more than 65535 bytes) ·
+   ROOM (out_len is below told->len) · WANTED · WANTED_PSK. */
+uint32_t noise_write(noise_handshake *h, const uint8_t *payload, size_t payload_len, uint8_t *out,
+    size_t out_len, noise_told *told);
 
-/* Reads the next message, in place. OK · STRUCT · LENGTH · ENDED · DONE · NOT_YOUR_TURN · WANTED, WANTED_PSK: call
-   again with the same message · SHORT, TAG: the handshake has ended; close the connection, and tell nobody why. */
+/* Reads the next message, in place (ReadMessage). After WANTED and WANTED_PSK call again with the
+   same message. After SHORT and TAG close the connection, and tell nobody why. These four are
+   looked for token by token.
+   Codes: STRUCT · LENGTH (message_len is above 65535) · ENDED · DONE · NOT_YOUR_TURN · WANTED ·
+   WANTED_PSK · SHORT · TAG. */
 uint32_t noise_read(noise_handshake *h, uint8_t *message, size_t message_len, noise_told *told);
 
-/* Tells the length of the next message with a payload of this length. OK · STRUCT · NOT_DUE. */
+/* Tells the length of the next message with a payload of this length.
+   Codes: STRUCT · NOT_DUE (noise_write would return ENDED, DONE, NOT_YOUR_TURN or TOO_LONG). */
 uint32_t noise_message_len(const noise_handshake *h, size_t payload_len, size_t *len);
 
-/* Tells the handshake hash so far. After the last message it is the same at both parties, and only if nobody has
-   changed anything: sign it to bind something to this session (Noise, 11.2). OK · STRUCT. */
+/* Tells the handshake hash so far. After the last message it is the same at both parties, and only
+   if nobody has changed anything: sign it to bind something to this session (Noise, 11.2).
+   Codes: STRUCT. */
 uint32_t noise_hash(const noise_handshake *h, uint8_t hash[32]);
 
-/* Tells the other party's static public key; key->present is 0 if it isn't known (yet). OK · STRUCT. No call compares
-   it: compare it with the one that you expect, or look it up, before you send anything that matters. */
+/* Tells the other party's static public key; key->present is 0 if it isn't known (yet). No call
+   compares it: compare it with the one that you expect, or look it up, before you send anything
+   that matters (Noise, 14).
+   Codes: STRUCT. */
 uint32_t noise_remote_static(const noise_handshake *h, noise_key *key);
 
-uint32_t noise_stage(const noise_handshake *h, noise_stage_told *told);                                /* OK · STRUCT */
+/* Tells how far the handshake is.
+   Codes: STRUCT. */
+uint32_t noise_stage(const noise_handshake *h, noise_stage_told *told);
 
-/* Checks the text of a pattern, as noise_start does. OK · HEADING to ENDING · RULE. The rules: 1, both public keys of a
-   DH token come earlier; 2, a party sends one e and one s; 3, a DH token occurs once; 4, a party encrypts after a DH of
-   its static key only if the DH of its ephemeral key with the same key of the other party came earlier; 5, a party
-   encrypts after a psk only after an e of its own. A valid pattern isn't necessarily a secure one. */
+/* Checks the text of a pattern, as noise_start does (Noise, 7.3, 9.3). Rule 1: both public keys of
+   a DH token come earlier. Rule 2: a party sends one e and one s. Rule 3: a DH token occurs once.
+   Rule 4: a party encrypts after a DH of its static key only if the DH of its ephemeral key with
+   the same key of the other party came earlier. Rule 5: a party encrypts after a psk only after an
+   e of its own. A valid pattern isn't necessarily a secure one.
+   Codes: HEADING to ENDING · RULE. */
 uint32_t noise_check_pattern(const uint8_t *text, size_t text_len, noise_pattern_told *told);
 
-/* Frames, for the messages of a handshake over a stream: the length in 2 bytes, the higher first, and the message
-   (Noise, 13). noise_frame_message puts the length in front of a message that noise_write has written to buffer + 2: OK
-   · LENGTH · ROOM. noise_frame_find looks for the message at the start of a buffer: OK · MORE. */
-uint32_t noise_frame_message(uint8_t *buffer, size_t buffer_len, size_t message_len, noise_stream_told *told);
+/* FRAMES, for the messages of a handshake over a stream: the length in 2 bytes, the higher first,
+   and the message (Noise, 13). */
+
+/* Puts the length in front of a message that noise_write has written to buffer + 2.
+   Codes: LENGTH (message_len is above 65535) · ROOM (buffer_len is below message_len + 2). */
+uint32_t noise_frame_message(uint8_t *buffer, size_t buffer_len, size_t message_len,
+    noise_stream_told *told);
+
+/* Looks for the message of the frame at the start of a buffer.
+   Codes: MORE. */
 uint32_t noise_frame_find(const uint8_t *buffer, size_t buffer_len, noise_stream_told *told);
 
-/* STREAMS: bytes in order, with an end, in frames. A stream that ends is whole: what a reader has got before END is
-   what the other party has written before noise_stream_end, whatever the network did, unless a message was forged.
+/* STREAMS: bytes in order, with an end, in frames. A stream that ends is whole: a reader that gets
+   END has got all that the other party wrote before noise_stream_end, unless a message was
+   forged. */
 
-   Makes the two structs of a handshake whose messages have all passed. Each direction renews its key after `interval`
-   of its frames (Noise, 11.3), the same number at both parties; 0 means never. OK · STRUCT · NOT_DONE · ENDED. */
-uint32_t noise_finish_stream(const noise_handshake *h, uint64_t interval, noise_stream_sender *sender,
-    noise_stream_receiver *receiver);
+/* Makes the two structs of a handshake whose messages have all passed (Noise, 5.2). Each direction
+   renews its key after `interval` of its frames (Noise, 11.3), the same number at both parties; 0
+   means never.
+   Codes: STRUCT · NOT_DONE · ENDED. */
+uint32_t noise_finish_stream(const noise_handshake *h, uint64_t interval,
+    noise_stream_sender *sender, noise_stream_receiver *receiver);
 
-/* Writes the frame of the first bytes of payload, of at most 65519, to the start of out: send it, and then write the
-   rest. Of no bytes it makes none. The end is a frame of its own: send it after the last write, and only if nothing
-   went wrong. OK · STRUCT · ROOM: out has fewer than those bytes and 18 · CLOSED · ONE_WAY · EXHAUSTED. */
-uint32_t noise_stream_write(noise_stream_sender *s, const uint8_t *payload, size_t payload_len, uint8_t *out,
-    size_t out_len, noise_stream_told *told);
-uint32_t noise_stream_end(noise_stream_sender *s, uint8_t *out, size_t out_len, noise_stream_told *told);
+/* Writes the frame of the first bytes of payload, of at most 65519, to the start of out: send it,
+   and then write the rest. Of no bytes it makes none.
+   Codes: STRUCT · ROOM (out_len is below those bytes + 18) · CLOSED · ONE_WAY · EXHAUSTED (only the
+   end can be written). */
+uint32_t noise_stream_write(noise_stream_sender *s, const uint8_t *payload, size_t payload_len,
+    uint8_t *out, size_t out_len, noise_stream_told *told);
 
-/* Opens the frame at the start of the buffer, in place. The buffer begins with the first byte that isn't used yet, and
-   can hold 65537 bytes. OK: a payload of 1 byte or more · MORE: receive more, at most told->wanted at a time if there
-   is no room for others, and call again · END · SHORT, TAG, EXHAUSTED, ONE_WAY: the stream is broken for good: close
-   the connection, and don't end your own stream · CLOSED · STRUCT. */
-uint32_t noise_stream_read(noise_stream_receiver *r, uint8_t *buffer, size_t buffer_len, noise_stream_told *told);
+/* Writes the end, a frame of 18 bytes: send it after the last, and only if nothing went wrong.
+   Codes: STRUCT · ROOM (out_len is below 18) · CLOSED · ONE_WAY. */
+uint32_t noise_stream_end(noise_stream_sender *s, uint8_t *out, size_t out_len,
+    noise_stream_told *told);
 
-/* Says, when the connection has ended with `left` unused bytes in the buffer, whether that cuts the stream. OK, which
-   is 0: the other party had ended it, and nothing is left · CUT · STRUCT. */
+/* Opens the frame at the start of the buffer, in place. The buffer begins with the first byte that
+   isn't used yet, and can hold 65537 bytes. OK gives a payload of 1 byte or more. At MORE receive
+   more, at most told->wanted at a time if there is no room for others, and call again. ONE_WAY,
+   EXHAUSTED, SHORT and TAG break the stream: close the connection, and don't end your own stream.
+   Codes: STRUCT · CLOSED · MORE · ONE_WAY · EXHAUSTED · SHORT · TAG · END. */
+uint32_t noise_stream_read(noise_stream_receiver *r, uint8_t *buffer, size_t buffer_len,
+    noise_stream_told *told);
+
+/* Says whether the connection's end cuts the stream; `left` bytes of the buffer are unused. OK,
+   which is 0: the other party had ended it, and nothing is left.
+   Codes: STRUCT · CUT. */
 uint32_t noise_stream_is_cut(const noise_stream_receiver *r, size_t left);
 
-/* MESSAGES IN ORDER, for frames of your own over a stream. A message is 16 bytes longer than its payload. */
-uint32_t noise_finish(const noise_handshake *h, uint64_t interval, noise_sender *sender, noise_receiver *receiver);
+/* MESSAGES IN ORDER, for frames of your own over a stream. A message is 16 bytes longer than its
+   payload. */
 
-/* Seals a payload as the next message, at the start of out; or in place: the payload is the first payload_len bytes of
-   buffer. The bytes after the message are unchanged. OK · STRUCT · ROOM · ONE_WAY · TOO_LONG · EXHAUSTED. */
-uint32_t noise_seal(noise_sender *s, const uint8_t *payload, size_t payload_len, uint8_t *out, size_t out_len,
-    noise_told *told);
-uint32_t noise_seal_in_place(noise_sender *s, uint8_t *buffer, size_t buffer_len, size_t payload_len, noise_told *told);
+/* Makes the two structs for messages, as noise_finish_stream does; `interval` counts messages.
+   Codes: STRUCT · NOT_DONE · ENDED. */
+uint32_t noise_finish(const noise_handshake *h, uint64_t interval, noise_sender *sender,
+    noise_receiver *receiver);
 
-/* Opens the next message of the other party, in place. OK · STRUCT · LENGTH · ONE_WAY · EXHAUSTED · SHORT · TAG. If a
-   message was lost or changed, all later ones give TAG: close the connection at the first. */
+/* Seals a payload as the next message, at the start of out; or in place: the payload is the first
+   payload_len bytes of buffer. The bytes after the message are unchanged.
+   Codes: STRUCT · ROOM (out_len or buffer_len is below payload_len + 16) · ONE_WAY · TOO_LONG
+   (payload_len is above 65519) · EXHAUSTED. */
+uint32_t noise_seal(noise_sender *s, const uint8_t *payload, size_t payload_len, uint8_t *out,
+    size_t out_len, noise_told *told);
+uint32_t noise_seal_in_place(noise_sender *s, uint8_t *buffer, size_t buffer_len,
+    size_t payload_len, noise_told *told);
+
+/* Opens the next message of the other party, in place. If a message was lost or changed, all later
+   ones give TAG: close the connection at the first.
+   Codes: STRUCT · LENGTH (message_len is above 65535) · ONE_WAY · EXHAUSTED · SHORT (below 16) ·
+   TAG. */
 uint32_t noise_open(noise_receiver *r, uint8_t *message, size_t message_len, noise_told *told);
 
-/* Tell the nonce of the next message: how many were sealed, or opened. OK · STRUCT. */
+/* Tell the nonce of the next message: how many were sealed, or opened.
+   Codes: STRUCT. */
 uint32_t noise_sender_nonce(const noise_sender *s, uint64_t *nonce);
 uint32_t noise_receiver_nonce(const noise_receiver *r, uint64_t *nonce);
 
-/* DATAGRAMS, for a network that loses, repeats and reorders. (The handshake itself needs its messages in order, each
-   once.) A datagram begins with its nonce, in 8 bytes, the highest first, and is 24 bytes longer than its payload.
+/* DATAGRAMS, for a network that loses, repeats and reorders (Noise, 11.4). The handshake itself
+   needs its messages in order, each once. A datagram begins with its nonce, in 8 bytes, the highest
+   first, and is 24 bytes longer than its payload. */
 
-   `window` is 64, 256 or 1024: a datagram may come after others whose nonces are less than `window` greater. Keys are
-   never renewed. OK · WINDOW · STRUCT · NOT_DONE · ENDED. */
-uint32_t noise_finish_datagrams(const noise_handshake *h, uint32_t window, noise_datagram_sender *sender,
-    noise_datagram_receiver *receiver);
+/* Makes the two structs for datagrams, as noise_finish_stream does, but their keys are never
+   renewed. `window` is 64, 256 or 1024: a datagram may come after others whose nonces are less than
+   `window` greater.
+   Codes: WINDOW · STRUCT · NOT_DONE · ENDED. */
+uint32_t noise_finish_datagrams(const noise_handshake *h, uint32_t window,
+    noise_datagram_sender *sender, noise_datagram_receiver *receiver);
 
-/* As noise_seal and noise_seal_in_place; in place the payload is the payload_len bytes of buffer from the ninth on. */
-uint32_t noise_datagram_seal(noise_datagram_sender *s, const uint8_t *payload, size_t payload_len, uint8_t *out,
-    size_t out_len, noise_told *told);
-uint32_t noise_datagram_seal_in_place(noise_datagram_sender *s, uint8_t *buffer, size_t buffer_len, size_t payload_len,
+/* Seals a payload as the next datagram, as noise_seal; in place the payload is the payload_len
+   bytes of buffer from the ninth on.
+   Codes: STRUCT · ROOM (out_len or buffer_len is below payload_len + 24) · ONE_WAY · TOO_LONG
+   (payload_len is above 65519) · EXHAUSTED. */
+uint32_t noise_datagram_seal(noise_datagram_sender *s, const uint8_t *payload, size_t payload_len,
+    uint8_t *out, size_t out_len, noise_told *told);
+uint32_t noise_datagram_seal_in_place(noise_datagram_sender *s, uint8_t *buffer, size_t buffer_len,
+    size_t payload_len, noise_told *told);
+
+/* Opens a datagram of the other party, in place: the payload begins at its ninth byte. No other
+   datagram of this nonce will be opened. At any code but OK drop the datagram, and go on.
+   Codes: STRUCT · ONE_WAY · SHORT (datagram_len is below 24) · TOO_LONG (above 65543) · RESERVED ·
+   OLD · REPEATED · TAG. */
+uint32_t noise_datagram_open(noise_datagram_receiver *r, uint8_t *datagram, size_t datagram_len,
     noise_told *told);
 
-/* Opens a datagram of the other party, in place: the payload begins at its ninth byte. OK: no other datagram of this
-   nonce will be opened · STRUCT · ONE_WAY · SHORT · TOO_LONG · RESERVED · OLD · REPEATED · TAG: drop it, and go on. */
-uint32_t noise_datagram_open(noise_datagram_receiver *r, uint8_t *datagram, size_t datagram_len, noise_told *told);
+/* Tells the nonce of the next datagram.
+   Codes: STRUCT. */
+uint32_t noise_datagram_sender_nonce(const noise_datagram_sender *s, uint64_t *nonce);
 
-uint32_t noise_datagram_sender_nonce(const noise_datagram_sender *s, uint64_t *nonce);                 /* OK · STRUCT */
+/* CIPHER STATES (Noise, 5.1), for a protocol whose packets have associated data, name their nonces
+   or have a form of their own. */
 
-/* CIPHER STATES (Noise, 5.1), for a protocol whose packets have associated data, name their nonces or have a form of
-   their own. Both are at nonce 0 (Split: Noise, 5.2). In a one-way pattern the one for the responder's messages has no
-   key, and each call with it returns ONE_WAY (Noise, 7.4). OK · STRUCT · NOT_DONE · ENDED. */
+/* Makes the two cipher states of a handshake whose messages have all passed, both at nonce 0
+   (Split: Noise, 5.2). In a one-way pattern the one for the responder's messages has no key, and
+   each call with it returns ONE_WAY (Noise, 7.4).
+   Codes: STRUCT · NOT_DONE · ENDED. */
 uint32_t noise_finish_ciphers(const noise_handshake *h, noise_cipher *send, noise_cipher *receive);
 
-/* Encrypts the first text_len bytes of buffer in place, with associated data (EncryptWithAd): the message is told->len
-   bytes, 16 more. Neither the data nor the nonce is in it. The next nonce is one greater. OK · STRUCT, also of the one
-   for receiving · ONE_WAY · LENGTH: of the data · ROOM · EXHAUSTED · TOO_LONG. */
-uint32_t noise_cipher_encrypt(noise_cipher *c, const uint8_t *ad, size_t ad_len, uint8_t *buffer, size_t buffer_len,
-    size_t text_len, noise_told *told);
+/* Encrypts the first text_len bytes of buffer in place, with associated data (EncryptWithAd). The
+   message is told->len bytes, 16 more; neither the data nor the nonce is in it. The next nonce is
+   one greater.
+   Codes: STRUCT (also of the one for receiving) · ONE_WAY · LENGTH (ad_len is above 65535) · ROOM
+   (buffer_len is below text_len + 16) · EXHAUSTED · TOO_LONG (text_len is above 65519). */
+uint32_t noise_cipher_encrypt(noise_cipher *c, const uint8_t *ad, size_t ad_len, uint8_t *buffer,
+    size_t buffer_len, size_t text_len, noise_told *told);
 
-/* Decrypts a message in place (DecryptWithAd). After any code but OK the nonce is as it was. OK · STRUCT, also of the
-   one for sending · ONE_WAY · LENGTH: of the data · EXHAUSTED · TOO_LONG · SHORT · TAG. */
-uint32_t noise_cipher_decrypt(noise_cipher *c, const uint8_t *ad, size_t ad_len, uint8_t *message, size_t message_len,
-    noise_told *told);
+/* Decrypts a message in place (DecryptWithAd).
+   Codes: STRUCT (also of the one for sending) · ONE_WAY · LENGTH (ad_len is above 65535) ·
+   EXHAUSTED · TOO_LONG (message_len is above 65535) · SHORT (below 16) · TAG. */
+uint32_t noise_cipher_decrypt(noise_cipher *c, const uint8_t *ad, size_t ad_len, uint8_t *message,
+    size_t message_len, noise_told *told);
 
-/* Replaces the key by the one that follows from it, and keeps the nonce (Rekey: Noise, 11.3). Tells the nonce of the
-   next message, and sets it (Noise, 11.4): a receiver that sets it refuses itself what it has received before. OK ·
-   STRUCT · ONE_WAY. */
+/* Replaces the key by the one that follows from it, and keeps the nonce (Rekey: Noise, 11.3).
+   Codes: STRUCT · ONE_WAY. */
 uint32_t noise_cipher_rekey(noise_cipher *c);
+
+/* Tells the nonce of the next message, or sets it (Noise, 11.4): a receiver that sets it refuses
+   itself what it has received before.
+   Codes: STRUCT · ONE_WAY. */
 uint32_t noise_cipher_nonce(const noise_cipher *c, uint64_t *nonce);
 uint32_t noise_cipher_set_nonce(noise_cipher *c, uint64_t nonce);
 
@@ -295,55 +389,56 @@ static inline void noise_wipe(void *at, size_t len) {
 }
 
 #ifdef __GNUC__
-/* Overwrites 16 KB of stack below the caller's frame: call it from the function that last called with a secret. */
+/* Overwrites 16 KB of stack below the caller's frame: call it from the function that last called
+   with a secret. */
 __attribute__((noinline, unused)) static void noise_wipe_stack(void) {
     unsigned char stack[16384];
     noise_wipe(stack, sizeof stack);
 }
 #endif
 
-/* Returns one sentence that says what a code means; for a number that is no code, that it is none. */
+/* Returns a sentence that says what a code means; of a number that is no code, that it is none. */
 static inline const char *noise_text(uint32_t code) {
     switch (code) {
     case NOISE_OK: return "The call succeeded.";
-    case NOISE_NAME: return "The protocol name is not that of a fundamental pattern with 25519, ChaChaPoly and SHA256.";
-    case NOISE_PATTERN: return "The pattern text has a fault, or isn't valid: noise_check_pattern says where.";
+    case NOISE_NAME: return "No fundamental pattern with 25519, ChaChaPoly, SHA256 has this name.";
+    case NOISE_PATTERN: return "The pattern text has a fault: noise_check_pattern says where.";
     case NOISE_EPHEMERAL_MISSING: return "The setup lacks this party's ephemeral public key.";
     case NOISE_STATIC_MISSING: return "The setup lacks this party's static public key.";
-    case NOISE_REMOTE_MISSING: return "The setup lacks a public key of the other party's pre-message.";
-    case NOISE_REMOTE_UNEXPECTED: return "The setup has a public key of the other party that isn't in its pre-message.";
+    case NOISE_REMOTE_MISSING: return "The setup lacks a key of the other party's pre-message.";
+    case NOISE_REMOTE_UNEXPECTED: return "The setup has a remote key that isn't in a pre-message.";
     case NOISE_PSK_COUNT: return "There are more secrets than psk tokens.";
     case NOISE_NOT_YOUR_TURN: return "It is the other party's turn.";
     case NOISE_TOO_LONG: return "The message would be or is too long.";
     case NOISE_DONE: return "All messages of the handshake have passed.";
     case NOISE_ENDED: return "The handshake has ended, since a message was refused.";
-    case NOISE_AGREEMENT: return "A result of X25519 is missing in a struct that something else has changed.";
+    case NOISE_AGREEMENT: return "A result of X25519 is missing in a struct that was changed.";
     case NOISE_SHORT: return "The message has too few bytes.";
-    case NOISE_TAG: return "A tag is wrong: the parties differ in a key, a psk or the prologue, or it was changed.";
-    case NOISE_EXHAUSTED: return "The nonce is 2^64 - 1: this key encrypts and decrypts no more messages.";
+    case NOISE_TAG: return "A tag is wrong: keys, psks or prologues differ, or bytes changed.";
+    case NOISE_EXHAUSTED: return "The nonce is 2^64 - 1: this key encrypts and decrypts no more.";
     case NOISE_ROOM: return "The buffer is too short for the message.";
     case NOISE_NOT_DONE: return "Messages of the handshake are still due.";
-    case NOISE_WANTED: return "The call needs a result of X25519: pass it to noise_answer, and repeat the call.";
-    case NOISE_FULL: return "The handshake holds eight results of X25519, more than any pattern needs.";
-    case NOISE_ONE_WAY: return "In a one-way pattern the responder sends nothing, and the initiator receives nothing.";
+    case NOISE_WANTED: return "A result of X25519 is needed: pass it to noise_answer; call again.";
+    case NOISE_FULL: return "The handshake holds eight results of X25519: no pattern needs more.";
+    case NOISE_ONE_WAY: return "In a one-way pattern only the initiator sends.";
     case NOISE_STRUCT: return "The struct holds no state that a call could have made.";
-    case NOISE_LENGTH: return "The prologue, the message or the associated data has more than 65535 bytes.";
+    case NOISE_LENGTH: return "The prologue, message or associated data has more than 65535 bytes.";
     case NOISE_WINDOW: return "The window is not 64, 256 or 1024.";
     case NOISE_RESERVED: return "The datagram has the nonce 2^64 - 1, which no datagram may have.";
     case NOISE_OLD: return "The datagram is older than the window.";
     case NOISE_REPEATED: return "A datagram with this nonce was opened before.";
     case NOISE_NOT_DUE: return "A payload of this length can not be written now.";
-    case NOISE_HEADING: return "Line 1 of the pattern text is not a base name, its modifiers in order, and a colon.";
+    case NOISE_HEADING: return "Line 1 isn't a base name, its modifiers in order, and a colon.";
     case NOISE_ARROW: return "The line does not begin with two spaces, an arrow and a space.";
     case NOISE_TOKEN: return "A word of the line is not a token.";
-    case NOISE_PRE_MESSAGE: return "A line of the pre-messages has other tokens than theirs, or is in the wrong place.";
+    case NOISE_PRE_MESSAGE: return "A pre-message has tokens other than e and s, or is misplaced.";
     case NOISE_TURN: return "The line is a message of the wrong party.";
     case NOISE_PSK_PLACE: return "The psk tokens are not where the heading says.";
     case NOISE_NAME_TAKEN: return "The base name is that of another pattern, a fundamental one.";
-    case NOISE_LIMIT: return "A ninth message, a message with no token but psk, or one with more than eight others.";
+    case NOISE_LIMIT: return "A ninth message, no token but psk, or more than eight others.";
     case NOISE_ENDING: return "The line has no line feed, or there is no message.";
     case NOISE_RULE: return "The pattern breaks a rule of validity.";
-    case NOISE_WANTED_PSK: return "The call needs a psk: pass it to noise_set_psk, and repeat the call.";
+    case NOISE_WANTED_PSK: return "A psk is needed: pass it to noise_set_psk; call again.";
     case NOISE_END: return "The other party has ended the stream, and all of it came.";
     case NOISE_MORE: return "The frame is not complete.";
     case NOISE_CLOSED: return "The stream was ended or refused before.";
@@ -352,9 +447,10 @@ static inline const char *noise_text(uint32_t code) {
     }
 }
 
-/* NULL WITH A COUNT OF 0. The functions of the library accept no NULL. So each that takes bytes and their count is also
-   a macro (C11, 7.1.4) for an inline function, which replaces NULL by the address of a byte that nobody reads or
-   writes. A call that doesn't use this header, as by dlsym or from another language, must not pass NULL. */
+/* NULL WITH A COUNT OF 0. The functions of the library accept no NULL. So each that takes bytes and
+   their count is also a macro (C11, 7.1.4) for an inline function. That replaces NULL by the
+   address of a byte that nobody reads or writes. A call that doesn't use this header, as by dlsym
+   or from another language, must not pass NULL. */
 static inline const uint8_t *noise_in(const uint8_t *at, size_t len) {
     return at || len ? at : (const uint8_t *)"";
 }
@@ -362,68 +458,74 @@ static inline uint8_t *noise_out(uint8_t *at, size_t len) {
     static uint8_t none;
     return at || len ? at : &none;
 }
-static inline uint32_t noise_start_inline(noise_handshake *h, const uint8_t *pattern, size_t pattern_len,
-    const uint8_t *prologue, size_t len, const noise_setup *setup) {
-    return noise_start(h, noise_in(pattern, pattern_len), pattern_len, noise_in(prologue, len), len, setup);
+static inline uint32_t noise_start_inline(noise_handshake *h, const uint8_t *pattern, size_t len,
+    const uint8_t *prologue, size_t count, const noise_setup *setup) {
+    return noise_start(h, noise_in(pattern, len), len, noise_in(prologue, count), count, setup);
 }
-static inline uint32_t noise_write_inline(noise_handshake *h, const uint8_t *payload, size_t payload_len, uint8_t *out,
-    size_t out_len, noise_told *told) {
-    return noise_write(h, noise_in(payload, payload_len), payload_len, noise_out(out, out_len), out_len, told);
+static inline uint32_t noise_write_inline(noise_handshake *h, const uint8_t *payload, size_t len,
+    uint8_t *out, size_t room, noise_told *told) {
+    return noise_write(h, noise_in(payload, len), len, noise_out(out, room), room, told);
 }
-static inline uint32_t noise_read_inline(noise_handshake *h, uint8_t *message, size_t message_len, noise_told *told) {
-    return noise_read(h, noise_out(message, message_len), message_len, told);
-}
-static inline uint32_t noise_check_pattern_inline(const uint8_t *text, size_t text_len, noise_pattern_told *told) {
-    return noise_check_pattern(noise_in(text, text_len), text_len, told);
-}
-static inline uint32_t noise_frame_message_inline(uint8_t *buffer, size_t buffer_len, size_t message_len,
-    noise_stream_told *told) {
-    return noise_frame_message(noise_out(buffer, buffer_len), buffer_len, message_len, told);
-}
-static inline uint32_t noise_frame_find_inline(const uint8_t *buffer, size_t buffer_len, noise_stream_told *told) {
-    return noise_frame_find(noise_in(buffer, buffer_len), buffer_len, told);
-}
-static inline uint32_t noise_stream_write_inline(noise_stream_sender *s, const uint8_t *payload, size_t payload_len,
-    uint8_t *out, size_t out_len, noise_stream_told *told) {
-    return noise_stream_write(s, noise_in(payload, payload_len), payload_len, noise_out(out, out_len), out_len, told);
-}
-static inline uint32_t noise_stream_end_inline(noise_stream_sender *s, uint8_t *out, size_t len, noise_stream_told *t) {
-    return noise_stream_end(s, noise_out(out, len), len, t);
-}
-static inline uint32_t noise_stream_read_inline(noise_stream_receiver *r, uint8_t *buffer, size_t buffer_len,
-    noise_stream_told *told) {
-    return noise_stream_read(r, noise_out(buffer, buffer_len), buffer_len, told);
-}
-static inline uint32_t noise_seal_inline(noise_sender *s, const uint8_t *payload, size_t payload_len, uint8_t *out,
-    size_t out_len, noise_told *told) {
-    return noise_seal(s, noise_in(payload, payload_len), payload_len, noise_out(out, out_len), out_len, told);
-}
-static inline uint32_t noise_seal_in_place_inline(noise_sender *s, uint8_t *buffer, size_t buffer_len,
-    size_t payload_len, noise_told *told) {
-    return noise_seal_in_place(s, noise_out(buffer, buffer_len), buffer_len, payload_len, told);
-}
-static inline uint32_t noise_open_inline(noise_receiver *r, uint8_t *message, size_t message_len, noise_told *told) {
-    return noise_open(r, noise_out(message, message_len), message_len, told);
-}
-static inline uint32_t noise_datagram_seal_inline(noise_datagram_sender *s, const uint8_t *payload, size_t payload_len,
-    uint8_t *out, size_t out_len, noise_told *told) {
-    return noise_datagram_seal(s, noise_in(payload, payload_len), payload_len, noise_out(out, out_len), out_len, told);
-}
-static inline uint32_t noise_datagram_seal_in_place_inline(noise_datagram_sender *s, uint8_t *buffer, size_t buffer_len,
-    size_t payload_len, noise_told *told) {
-    return noise_datagram_seal_in_place(s, noise_out(buffer, buffer_len), buffer_len, payload_len, told);
-}
-static inline uint32_t noise_datagram_open_inline(noise_datagram_receiver *r, uint8_t *datagram, size_t datagram_len,
+static inline uint32_t noise_read_inline(noise_handshake *h, uint8_t *message, size_t len,
     noise_told *told) {
-    return noise_datagram_open(r, noise_out(datagram, datagram_len), datagram_len, told);
+    return noise_read(h, noise_out(message, len), len, told);
 }
-static inline uint32_t noise_cipher_encrypt_inline(noise_cipher *c, const uint8_t *ad, size_t ad_len, uint8_t *buffer,
-    size_t len, size_t text_len, noise_told *told) {
-    return noise_cipher_encrypt(c, noise_in(ad, ad_len), ad_len, noise_out(buffer, len), len, text_len, told);
+static inline uint32_t noise_check_pattern_inline(const uint8_t *text, size_t len,
+    noise_pattern_told *told) {
+    return noise_check_pattern(noise_in(text, len), len, told);
 }
-static inline uint32_t noise_cipher_decrypt_inline(noise_cipher *c, const uint8_t *ad, size_t ad_len, uint8_t *message,
-    size_t message_len, noise_told *told) {
-    return noise_cipher_decrypt(c, noise_in(ad, ad_len), ad_len, noise_out(message, message_len), message_len, told);
+static inline uint32_t noise_frame_message_inline(uint8_t *buffer, size_t len, size_t message_len,
+    noise_stream_told *told) {
+    return noise_frame_message(noise_out(buffer, len), len, message_len, told);
+}
+static inline uint32_t noise_frame_find_inline(const uint8_t *buffer, size_t len,
+    noise_stream_told *told) {
+    return noise_frame_find(noise_in(buffer, len), len, told);
+}
+static inline uint32_t noise_stream_write_inline(noise_stream_sender *s, const uint8_t *payload,
+    size_t len, uint8_t *out, size_t room, noise_stream_told *told) {
+    return noise_stream_write(s, noise_in(payload, len), len, noise_out(out, room), room, told);
+}
+static inline uint32_t noise_stream_end_inline(noise_stream_sender *s, uint8_t *out, size_t len,
+    noise_stream_told *told) {
+    return noise_stream_end(s, noise_out(out, len), len, told);
+}
+static inline uint32_t noise_stream_read_inline(noise_stream_receiver *r, uint8_t *buffer,
+    size_t len, noise_stream_told *told) {
+    return noise_stream_read(r, noise_out(buffer, len), len, told);
+}
+static inline uint32_t noise_seal_inline(noise_sender *s, const uint8_t *payload, size_t len,
+    uint8_t *out, size_t room, noise_told *told) {
+    return noise_seal(s, noise_in(payload, len), len, noise_out(out, room), room, told);
+}
+static inline uint32_t noise_seal_in_place_inline(noise_sender *s, uint8_t *buffer, size_t len,
+    size_t payload_len, noise_told *told) {
+    return noise_seal_in_place(s, noise_out(buffer, len), len, payload_len, told);
+}
+static inline uint32_t noise_open_inline(noise_receiver *r, uint8_t *message, size_t len,
+    noise_told *told) {
+    return noise_open(r, noise_out(message, len), len, told);
+}
+static inline uint32_t noise_datagram_seal_inline(noise_datagram_sender *s, const uint8_t *payload,
+    size_t len, uint8_t *out, size_t room, noise_told *told) {
+    return noise_datagram_seal(s, noise_in(payload, len), len, noise_out(out, room), room, told);
+}
+static inline uint32_t noise_datagram_seal_in_place_inline(noise_datagram_sender *s,
+    uint8_t *buffer, size_t len, size_t payload_len, noise_told *told) {
+    return noise_datagram_seal_in_place(s, noise_out(buffer, len), len, payload_len, told);
+}
+static inline uint32_t noise_datagram_open_inline(noise_datagram_receiver *r, uint8_t *datagram,
+    size_t len, noise_told *told) {
+    return noise_datagram_open(r, noise_out(datagram, len), len, told);
+}
+static inline uint32_t noise_cipher_encrypt_inline(noise_cipher *c, const uint8_t *ad,
+    size_t count, uint8_t *buffer, size_t len, size_t text_len, noise_told *told) {
+    buffer = noise_out(buffer, len);
+    return noise_cipher_encrypt(c, noise_in(ad, count), count, buffer, len, text_len, told);
+}
+static inline uint32_t noise_cipher_decrypt_inline(noise_cipher *c, const uint8_t *ad,
+    size_t count, uint8_t *message, size_t len, noise_told *told) {
+    return noise_cipher_decrypt(c, noise_in(ad, count), count, noise_out(message, len), len, told);
 }
 #define noise_start noise_start_inline
 #define noise_write noise_write_inline

@@ -1,6 +1,6 @@
 // What the listings use of Node: Debian has no types of it.
 declare class Buffer extends Uint8Array {
-  static from(text: string, encoding: 'hex'): Buffer;
+  static from(text: string, encoding?: 'hex'): Buffer;
   static from(bytes: Uint8Array): Buffer;
   static concat(parts: readonly Uint8Array[]): Buffer;
   equals(other: Uint8Array): boolean;

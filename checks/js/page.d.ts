@@ -1,8 +1,9 @@
-// What the short listings of docs/JAVASCRIPT.md take as given.
+// What the short listings of docs/JAVASCRIPT.md and README.md take as given.
 declare const [message, payload, prologue, received, remoteStatic]: Uint8Array[];
 declare const psks: Uint8Array[];
 declare const secrets: Map<string, Uint8Array>;
 declare const [pattern, responder]: [string, boolean];
-declare const staticKey: import('yulimosar').KeyPair;
+declare const [staticKey, key]: import('yulimosar').KeyPair[];
+declare const other: Buffer;
 declare const judge: (remoteStatic: Uint8Array) => boolean;
 declare const socket: WebSocket;

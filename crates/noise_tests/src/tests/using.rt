@@ -1,5 +1,4 @@
-//! The listings of `docs/RATTLE.md` and of the README, each called once. `checks/listings` compares the marked parts
-//! with those pages.
+//! The listings of `docs/RATTLE.md`, each called once. `checks/listings` compares the marked part with that page.
 
 use super::support::opened;
 use std::test::Fail;
@@ -137,8 +136,7 @@ pub fn open_session<K: Keys, R: Read, W: Write>(
     Err(Failure::Refused)
 }
 
-/// Takes bytes as they come, and appends the payloads of the frames that are whole with them. It gives the bytes that
-/// weren't taken.
+/// Takes bytes as they come, and appends the payloads of the frames that are whole with them. It gives the bytes that weren't taken.
 pub fn take_bytes<'a, K: Keys>(
     end: &mut End<K>,
     bytes: &'a [u8],
@@ -180,8 +178,7 @@ pub fn seal_hello(transport: &mut Transport, message: &mut [u8; 21]) -> Result<u
     transport.seal(b"hello", message)
 }
 
-/// The payload of a datagram that has come, or none where it is refused: such a datagram is dropped, and the next one
-/// is waited for.
+/// The payload of a datagram that has come, or none where it is refused: such a datagram is dropped, and the next one is waited for.
 pub fn datagram_payload<'a>(
     datagrams: &mut Datagrams,
     bytes: &'a mut [u8],
@@ -247,21 +244,19 @@ fn a_datagram_is_a_message_after_its_nonce(rt: HostRuntime) {
     assert!(rt; &*payload == b"hello".as_slice());
 }
 
-// What the README's five lines write.
+// The shortest way from a pattern's name to a frame: the frame of the first message.
 fn first_frame(alloc: Global, keys: XorKeys) -> Result<(usize, Vec<u8>), Fail> {
     let mut out = Counted::new(Vec::new(alloc));
-    // The five lines begin.
     let pattern = fundamental(b"XX").ok_or("no pattern")?.check()?;
     let remote = Remote { e: None, s: None };
     let handshake = Handshake::new(pattern, Role::Initiator, b"my program 1", keys, remote, &[])?;
     let mut end = End::new(alloc, handshake, 0)?;
     let length = end.write_to(b"", &mut out)?;
-    // The five lines end.
     Ok((length, out.into_inner()))
 }
 
 #[test]
-fn five_lines_write_a_frame(rt: HostRuntime) -> Result<(), Fail> {
+fn the_first_message_is_a_frame(rt: HostRuntime) -> Result<(), Fail> {
     let (length, frame) = first_frame(rt.alloc(), FIRST)?;
     assert!(rt; length == 34);
     assert!(rt; frame.starts_with(&[0x00, 0x20, 0x11]));
