@@ -1,11 +1,16 @@
-//! What an export answers, by number. `include/noise.h` has the same numbers.
+//! What an export answers, by number, and the lengths that several exports test, in bytes. `include/noise.h` has the
+//! same numbers.
 #![tactic(auto)]
 
 ghost use Rattle.std.specs.Prelude.{◌≡◌};
-ghost use Rattle.noise_c.specs.Codes.{cause_code, read_code, write_code, setup_code, text_code, token_in};
+ghost use Rattle.noise_c.specs.Codes.{read_code, write_code, setup_code, text_code, token_in};
+ghost use Rattle.noise_c.specs.TransportCodes.{cipher_code, datagram_code, open_code, seal_code, stream_code};
 
+use noise_channel::StreamFault;
 use noise_handshake::{Cause, ReadFault, SetupFault, WriteFault};
 use noise_names::TextFaultKind;
+use noise_session::{DatagramFault, OpenFault, SendFault};
+use noise_state::CipherFault;
 
 pub(crate) const OK: u32 = 0;
 
@@ -37,15 +42,29 @@ pub(crate) const SHORT: u32 = 15;
 
 pub(crate) const TAG: u32 = 16;
 
+pub(crate) const EXHAUSTED: u32 = 17;
+
 pub(crate) const ROOM: u32 = 18;
+
+pub(crate) const NOT_DONE: u32 = 19;
 
 pub(crate) const WANTED: u32 = 20;
 
 pub(crate) const FULL: u32 = 21;
 
+pub(crate) const ONE_WAY: u32 = 22;
+
 pub(crate) const STRUCT: u32 = 23;
 
 pub(crate) const LENGTH: u32 = 24;
+
+pub(crate) const WINDOW: u32 = 25;
+
+pub(crate) const RESERVED: u32 = 26;
+
+pub(crate) const OLD: u32 = 27;
+
+pub(crate) const REPEATED: u32 = 28;
 
 pub(crate) const NOT_DUE: u32 = 29;
 
@@ -71,6 +90,49 @@ pub(crate) const RULE: u32 = 39;
 
 pub(crate) const WANTED_PSK: u32 = 40;
 
+pub(crate) const END: u32 = 41;
+
+pub(crate) const MORE: u32 = 42;
+
+pub(crate) const CLOSED: u32 = 43;
+
+pub(crate) const CUT: u32 = 44;
+
+// The longest message, and the most associated data (Noise, 3).
+pub(crate) const MESSAGE_MAX: usize = 65535;
+
+// A tag (Noise, 4.2).
+pub(crate) const TAG_LEN: usize = 16;
+
+// The value, or else a return of this code from the function around.
+macro_rules! some_or {
+    ($option:expr, $code:expr) => {
+        match $option {
+            Some(value) => value,
+            None => return $code,
+        }
+    };
+}
+
+// The value, or else a return of the fault's code from the function around.
+macro_rules! ok_or {
+    ($result:expr, $code_of:expr) => {
+        match $result {
+            Ok(value) => value,
+            Err(fault) => return $code_of(fault),
+        }
+    };
+    ($result:expr) => {
+        match $result {
+            Ok(value) => value,
+            Err(code) => return code,
+        }
+    };
+}
+
+pub(crate) use ok_or;
+pub(crate) use some_or;
+
 // The number of a fault of a setup.
 pub(crate) fn setup_code(fault: SetupFault) -> u32
     ensures { result ≡ setup_code fault }
@@ -84,16 +146,6 @@ pub(crate) fn setup_code(fault: SetupFault) -> u32
     }
 }
 
-fn cause_code(cause: Cause) -> u32
-    ensures { result ≡ cause_code cause }
-{
-    match cause {
-        Cause::Short => SHORT,
-        Cause::Tag => TAG,
-        Cause::Agreement => AGREEMENT,
-    }
-}
-
 // The number of a fault of reading, and the token of a refusal.
 pub(crate) fn read_code(fault: ReadFault) -> (u32, u8)
     ensures code { result.0 ≡ read_code fault }
@@ -103,7 +155,18 @@ pub(crate) fn read_code(fault: ReadFault) -> (u32, u8)
         ReadFault::NotYourTurn => (NOT_YOUR_TURN, 0),
         ReadFault::Done => (DONE, 0),
         ReadFault::Ended => (ENDED, 0),
-        ReadFault::Refused { token, cause } => (cause_code(cause), token),
+        ReadFault::Refused {
+            token,
+            cause: Cause::Short,
+        } => (SHORT, token),
+        ReadFault::Refused {
+            token,
+            cause: Cause::Tag,
+        } => (TAG, token),
+        ReadFault::Refused {
+            token,
+            cause: Cause::Agreement,
+        } => (AGREEMENT, token),
     }
 }
 
@@ -134,5 +197,67 @@ pub(crate) fn text_code(kind: TextFaultKind) -> u32
         TextFaultKind::NameTaken => NAME_TAKEN,
         TextFaultKind::Limit => LIMIT,
         TextFaultKind::Ending => ENDING,
+    }
+}
+
+// The number of a fault of sealing: that of AGREEMENT where only a session has it.
+pub(crate) fn seal_code(fault: SendFault) -> u32
+    ensures { result ≡ seal_code fault }
+{
+    match fault {
+        SendFault::TooLong => TOO_LONG,
+        SendFault::Exhausted => EXHAUSTED,
+        SendFault::OneWay => ONE_WAY,
+        _ => AGREEMENT,
+    }
+}
+
+// The number of a fault of opening a message.
+pub(crate) fn open_code(fault: OpenFault) -> u32
+    ensures { result ≡ open_code fault }
+{
+    match fault {
+        OpenFault::Short => SHORT,
+        OpenFault::Tag => TAG,
+        OpenFault::Exhausted => EXHAUSTED,
+        OpenFault::OneWay => ONE_WAY,
+    }
+}
+
+// The number of a fault of opening a datagram.
+pub(crate) fn datagram_code(fault: DatagramFault) -> u32
+    ensures { result ≡ datagram_code fault }
+{
+    match fault {
+        DatagramFault::TooLong => TOO_LONG,
+        DatagramFault::Short => SHORT,
+        DatagramFault::Tag => TAG,
+        DatagramFault::OneWay => ONE_WAY,
+        DatagramFault::Reserved => RESERVED,
+        DatagramFault::Old => OLD,
+        DatagramFault::Repeated => REPEATED,
+    }
+}
+
+// The number of a fault of a cipher state.
+pub(crate) fn cipher_code(fault: CipherFault) -> u32
+    ensures { result ≡ cipher_code fault }
+{
+    match fault {
+        CipherFault::TooLong => TOO_LONG,
+        CipherFault::Short => SHORT,
+        CipherFault::Tag => TAG,
+        CipherFault::Exhausted => EXHAUSTED,
+    }
+}
+
+// The number of a fault of writing a stream.
+pub(crate) fn stream_code(fault: StreamFault) -> u32
+    ensures { result ≡ stream_code fault }
+{
+    match fault {
+        StreamFault::Ended => CLOSED,
+        StreamFault::OneWay => ONE_WAY,
+        StreamFault::Exhausted => EXHAUSTED,
     }
 }
