@@ -16,7 +16,7 @@ use Rattle.noise_handshake.specs.Party.{Stands, after_message, after_own, after_
 use Rattle.noise_handshake.specs.Writing.{Writes}
 use Rattle.noise_c.specs.declared.kept.NoiseHandshake.{NoiseHandshake}
 use Rattle.noise_c.specs.Kept.{public_in, agreement_in, text_in, handshake_from_c, IsPatternOf, IsUsable, KeepsView, WasRead, WasWritten, WasDeclined}
-use Rattle.noise_c.specs.declared.kept.TheConstants.{HANDSHAKE}
+use Rattle.noise_c.specs.declared.codes.numbers.TheConstants.{HANDSHAKE}
 use Rattle.noise_c.specs.Codes.{read_code, token_in}
 use Rattle.noise_c.proofs.Numbers.{IsPlain}
 

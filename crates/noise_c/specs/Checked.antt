@@ -7,7 +7,7 @@ use Rattle.noise_names.specs.Validity.{IsValid, first_fault}
 use Rattle.noise_names.specs.WrongText.{IsTextFaultAt}
 use Rattle.noise_c.specs.Codes.{text_code}
 use Rattle.noise_c.specs.declared.kept.NoisePatternTold.{NoisePatternTold}
-use Rattle.noise_c.specs.declared.codes.TheConstants.{ENDING, HEADING}
+use Rattle.noise_c.specs.declared.codes.numbers.TheConstants.{ENDING, HEADING}
 
 -- the text of a valid pattern
 pub record IsValidText (text : List ℕ) : Type 0 where

@@ -12,7 +12,7 @@ use Rattle.noise_c.specs.declared.kept.NoiseDatagramReceiver.{NoiseDatagramRecei
 use Rattle.noise_c.specs.Kept.{handshake_from_c, IsUsable}
 use Rattle.noise_c.specs.KeptHalves.{half_from_c}
 use Rattle.noise_c.specs.KeptDatagramHalves.{datagram_sender_from_c, datagram_receiver_from_c}
-use Rattle.noise_c.specs.declared.codes.TheConstants.{ENDED, NOT_DONE, OK, STRUCT}
+use Rattle.noise_c.specs.declared.codes.numbers.TheConstants.{ENDED, NOT_DONE, OK, STRUCT}
 
 -- its number: ENDED, OK where all messages have passed, else NOT_DONE
 abbrev pub finish_code : Held Table → ℕ

@@ -1,5 +1,5 @@
 -- What the memory that C keeps stands for.
-use Rattle.std.specs.Prelude.{◌≡◌, ◌⊎◌, ℕ, ◌≤◌, ◌==◌, nat_eq, nat_lt, Bool, true, false, not, List, [], ◌∷◌, ◌++◌, length, take, map, Option, Some, None, if◌then◌else◌, replicate, drop, ◌-◌}
+use Rattle.std.specs.Prelude.{◌≡◌, ◌⊎◌, ◌↔◌, ◌<◌, ℕ, ◌≤◌, ◌==◌, nat_eq, nat_lt, Bool, true, false, not, List, [], ◌∷◌, ◌++◌, length, take, map, Option, Some, None, if◌then◌else◌, replicate, drop, ◌-◌}
 use Rattle.std.specs.List.{ends_with}
 use Rattle.noise_names.specs.declared.token.Role.{Role}
 use Rattle.noise_names.specs.declared.token.Role.TheVariants.{Initiator, Responder}
@@ -32,11 +32,10 @@ use Rattle.noise_c.specs.declared.kept.NoiseKey.{NoiseKey}
 use Rattle.noise_c.specs.declared.kept.NoiseAnswer.{NoiseAnswer}
 use Rattle.noise_c.specs.declared.kept.NoiseHandshake.{NoiseHandshake}
 use Rattle.noise_c.specs.declared.kept.NoiseSetup.{NoiseSetup}
-use Rattle.noise_c.specs.declared.kept.TheConstants.{HANDSHAKE}
+use Rattle.noise_c.specs.declared.codes.numbers.TheConstants.{EPHEMERAL_MISSING, HANDSHAKE, LENGTH, NAME, OK, PATTERN, PSK_COUNT, STRUCT, WANTED, WANTED_PSK}
 use Rattle.noise_c.specs.declared.kept.NoiseStageTold.{NoiseStageTold}
 use Rattle.noise_c.specs.declared.kept.NoiseTold.{NoiseTold}
 use Rattle.noise_c.specs.Codes.{read_code, token_in, write_code, setup_code}
-use Rattle.noise_c.specs.declared.codes.TheConstants.{EPHEMERAL_MISSING, LENGTH, NAME, OK, PATTERN, PSK_COUNT, WANTED, WANTED_PSK}
 
 -- a key, if there is one
 abbrev pub key_in : NoiseKey → Option (List ℕ)
@@ -265,3 +264,9 @@ pub record ReportsStage (h : Held Table) (told : NoiseStageTold) : Type 0 where
   pub passed : told.passed ≡ h.passed
   pub ended : told.ended ≡ (if h.ended then 1 else 0)
   pub writes_next : told.writes_next ≡ (if is_turn h.role h.passed then 1 else 0)
+
+-- What is asked is answered: by STRUCT exactly where no call has left the struct, and then this is unchanged, else OK.
+pub record IsAnswered (usable : Type 0) (code : ℕ) (unchanged : Type 0) : Type 0 where
+  pub unusable : code ≡ STRUCT ↔ (usable → ⊥)
+  pub unchanged_is : OK < code → unchanged
+  pub codes : (code ≡ OK) ⊎ (code ≡ STRUCT)

@@ -9,8 +9,7 @@ use Rattle.noise_aead.specs.Sealing.{sealed, nonce_of}
 use Rattle.noise_handshake.specs.View.{View}
 use Rattle.noise_session.specs.Transport.{split_key, last_nonce}
 use Rattle.noise_c.specs.declared.kept.NoiseCipher.{NoiseCipher}
-use Rattle.noise_c.specs.declared.kept.TheConstants.{SENDING_CIPHER, RECEIVING_CIPHER}
-use Rattle.noise_c.specs.declared.codes.TheConstants.{EXHAUSTED, LENGTH, OK, ONE_WAY, ROOM, SHORT, STRUCT, TAG, TOO_LONG}
+use Rattle.noise_c.specs.declared.codes.numbers.TheConstants.{EXHAUSTED, LENGTH, OK, ONE_WAY, RECEIVING_CIPHER, ROOM, SENDING_CIPHER, SHORT, STRUCT, TAG, TOO_LONG}
 
 -- the cipher state
 abbrev pub cipher_from_c : NoiseCipher → CipherState

@@ -9,10 +9,9 @@ use Rattle.noise_session.specs.Windows.{is_ring}
 use Rattle.noise_c.specs.declared.kept.NoiseDatagramSender.{NoiseDatagramSender}
 use Rattle.noise_c.specs.declared.kept.NoiseDatagramReceiver.{NoiseDatagramReceiver}
 use Rattle.noise_c.specs.declared.kept.NoiseTold.{NoiseTold}
-use Rattle.noise_c.specs.declared.kept.TheConstants.{DATAGRAM_SENDER, DATAGRAM_RECEIVER}
+use Rattle.noise_c.specs.declared.codes.numbers.TheConstants.{DATAGRAM_RECEIVER, DATAGRAM_SENDER, OK, OLD, ONE_WAY, REPEATED, RESERVED, ROOM, SHORT, STRUCT, TAG, TOO_LONG}
 use Rattle.noise_c.specs.KeptHalves.{is_party, party_in, IsSealCode}
 use Rattle.noise_c.specs.TransportCodes.{datagram_code, sealing_code}
-use Rattle.noise_c.specs.declared.codes.TheConstants.{OK, OLD, ONE_WAY, REPEATED, RESERVED, ROOM, SHORT, STRUCT, TAG, TOO_LONG}
 
 -- the number of nonces of a window
 abbrev pub is_window : ℕ → Bool

@@ -1,14 +1,23 @@
 -- What the memory that C keeps of a half of a transport stands for.
-use Rattle.std.specs.Prelude.{◌≡◌, ◌≢◌, ◌↔◌, ◌⊎◌, ◌<◌, ℕ, List, length, take, drop, true, ◌==◌, ◌+◌, nat_lt, not, ◌&&◌, ◌||◌, Bool, false, Option, Some, option_map, if◌then◌else◌}
+use Rattle.std.specs.Prelude.{◌≡◌, ◌≢◌, ◌↔◌, ◌⊎◌, ◌<◌, ℕ, List, length, take, drop, true, ◌==◌, ◌+◌, nat_lt, not, ◌&&◌, ◌||◌, Bool, false, Option, IfSome, is_some, Some, option_map, if◌then◌else◌}
 use Rattle.noise_names.specs.declared.token.Role.{Role}
 use Rattle.noise_names.specs.declared.token.Role.TheVariants.{Initiator, Responder}
 use Rattle.noise_session.specs.HeldTransport.{TransportView, SenderStands, ReceiverStands, next_packet, due_packet}
 use Rattle.noise_session.specs.Halves.{HeldHalf, sender_fault, receiver_fault}
 use Rattle.noise_c.specs.declared.kept.NoiseHalf.{NoiseHalf}
 use Rattle.noise_c.specs.declared.kept.NoiseTold.{NoiseTold}
-use Rattle.noise_c.specs.declared.kept.TheConstants.{SENDER, RECEIVER}
+use Rattle.noise_c.specs.declared.codes.numbers.TheConstants.{EXHAUSTED, LENGTH, OK, ONE_WAY, RECEIVER, ROOM, SENDER, SHORT, STRUCT, TAG, TOO_LONG}
 use Rattle.noise_c.specs.TransportCodes.{sealing_code, open_code}
-use Rattle.noise_c.specs.declared.codes.TheConstants.{EXHAUSTED, LENGTH, OK, ONE_WAY, ROOM, SHORT, STRUCT, TAG, TOO_LONG}
+
+-- what C keeps holds this value where it is known, and nothing else
+pub record IsFromC {A : Type 0} (o : Option A) (is_known : Bool) (value : A) : Type 0 where
+  pub known : is_some o ≡ is_known
+  pub same : IfSome o (λ x. x ≡ value)
+
+-- what C keeps is known, and holds this value
+pub record IsToC {A : Type 0} (is_known : Bool) (kept value : A) : Type 0 where
+  pub known : is_known ≡ true
+  pub same : kept ≡ value
 
 -- A number for each role: memory of zeros has neither.
 abbrev pub is_party : ℕ → Bool
@@ -73,8 +82,8 @@ abbrev pub IsOpenCode : ℕ → Type 0
 IsOpenCode n = (n ≡ OK) ⊎ (n ≡ SHORT) ⊎ (n ≡ TAG) ⊎ (n ≡ EXHAUSTED) ⊎ (n ≡ ONE_WAY) ⊎ (n ≡ STRUCT) ⊎ (n ≡ LENGTH)
 
 -- A payload of n bytes is sealed into the first bytes of a buffer, or what is wrong is the number.
-pub record Seals (n : ℕ) (payload : List ℕ) (old new : NoiseHalf) (out after : List ℕ) (told next : NoiseTold) (code : ℕ)
-    : Type 0 where
+pub record Seals (n : ℕ) (payload : List ℕ) (old new : NoiseHalf) (out after : List ℕ)
+    (told next : NoiseTold) (code : ℕ) : Type 0 where
   pub code_is : code ≡ sender_seal_code old n (length out)
   pub place : code ≡ OK → next ≡ record told { from = 0; len = n + 16 }
   pub seals : code ≡ OK → SealsNext old new payload (take (n + 16) after)

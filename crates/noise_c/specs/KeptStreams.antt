@@ -15,10 +15,9 @@ use Rattle.noise_channel.specs.Reading.Given.{Wants, Payload, End, Refused, Clos
 use Rattle.noise_c.specs.declared.kept.NoiseStreamSender.{NoiseStreamSender}
 use Rattle.noise_c.specs.declared.kept.NoiseStreamReceiver.{NoiseStreamReceiver}
 use Rattle.noise_c.specs.declared.kept.NoiseStreamTold.{NoiseStreamTold}
-use Rattle.noise_c.specs.declared.kept.TheConstants.{STREAM_SENDER, STREAM_RECEIVER}
+use Rattle.noise_c.specs.declared.codes.numbers.TheConstants.{CLOSED, END, EXHAUSTED, LENGTH, MORE, OK, ONE_WAY, ROOM, SHORT, STREAM_RECEIVER, STREAM_SENDER, STRUCT, TAG}
 use Rattle.noise_c.specs.KeptHalves.{is_half, half_from_c}
 use Rattle.noise_c.specs.TransportCodes.{open_code, stream_code}
-use Rattle.noise_c.specs.declared.codes.TheConstants.{CLOSED, END, EXHAUSTED, LENGTH, MORE, OK, ONE_WAY, ROOM, SHORT, STRUCT, TAG}
 
 -- the writer, and the reader
 abbrev pub stream_sender_from_c : NoiseStreamSender → HeldWriter

@@ -5,7 +5,7 @@ use Rattle.noise_handshake.specs.Held.{message_len_of}
 use Rattle.noise_handshake.specs.Late.{WantsSecretToRead, WantsSecretToWrite}
 use Rattle.noise_handshake.specs.View.{View}
 use Rattle.noise_handshake.specs.Wanting.{WantsToRead, WantsToWrite}
-use Rattle.noise_c.specs.declared.codes.TheConstants.{AGREEMENT, DONE, ENDED, LENGTH, NOT_YOUR_TURN, OK, ROOM, STRUCT, TAG, WANTED, WANTED_PSK}
+use Rattle.noise_c.specs.declared.codes.numbers.TheConstants.{AGREEMENT, DONE, ENDED, LENGTH, NOT_YOUR_TURN, OK, ROOM, STRUCT, TAG, WANTED, WANTED_PSK}
 use Rattle.noise_c.specs.declared.kept.NoiseHandshake.{NoiseHandshake}
 use Rattle.noise_c.specs.declared.kept.NoiseTold.{NoiseTold}
 use Rattle.noise_c.specs.Kept.{handshake_from_c, own_in, remote_reported, text_in, ForView, HasMessageLen, IsPatternOf, IsUsable, KeepsView, ReportsAnswer, ReportsRemote, WasDeclined, WasRead, WasWithheld, WasWritten}

@@ -1,12 +1,11 @@
 //! Exports: what a handshake reports of itself.
-#![tactic(auto)]
 
 ghost use Rattle.std.specs.Prelude.{◌≡◌, ◌<◌, ◌⊎◌, ◌↔◌, Some, None};
 ghost use Rattle.noise_state.specs.History.{hash};
-ghost use Rattle.noise_c.specs.Kept.{key_in, key_to_c, handshake_from_c, ForPattern, ForView, HasMessageLen, IsUsable, ReportsStage};
-ghost use Rattle.noise_c.specs.declared.codes.TheConstants.{NOT_DUE, OK, STRUCT};
+ghost use Rattle.noise_c.specs.Kept.{key_in, key_to_c, handshake_from_c, ForPattern, ForView, HasMessageLen, IsAnswered, IsUsable, ReportsStage};
 
-use crate::codes::{NOT_DUE, OK, STRUCT, some_or};
+use crate::codes::numbers::{NOT_DUE, OK, STRUCT};
+use crate::codes::some_or;
 use crate::from_c::handshake_from_c;
 use crate::kept::{NoiseHandshake, NoiseKey, NoiseStageTold};
 use crate::keys::key_to_c;
@@ -35,10 +34,8 @@ pub extern "C" fn noise_message_len(
 /// handshake has ended.
 #[unsafe(no_mangle)]
 pub extern "C" fn noise_hash(kept: &NoiseHandshake, out: &mut [u8; 32]) -> u32
-    ensures unusable { result ≡ STRUCT ↔ (IsUsable kept.now → ⊥) }
+    ensures code { IsAnswered (IsUsable kept.now) result (out.new ≡ out.old) }
     ensures hash { result ≡ OK → ForView kept.now (λ _ v. out.new ≡ hash v.history) }
-    ensures unchanged { OK < result → out.new ≡ out.old }
-    ensures codes { (result ≡ OK) ⊎ (result ≡ STRUCT) }
 {
     let handshake = some_or!(handshake_from_c(kept), STRUCT);
     *out = handshake.hash();
@@ -49,11 +46,9 @@ pub extern "C" fn noise_hash(kept: &NoiseHandshake, out: &mut [u8; 32]) -> u32
 /// also after the handshake has ended; else none.
 #[unsafe(no_mangle)]
 pub extern "C" fn noise_remote_static(kept: &NoiseHandshake, key: &mut NoiseKey) -> u32
-    ensures unusable { result ≡ STRUCT ↔ (IsUsable kept.now → ⊥) }
+    ensures code { IsAnswered (IsUsable kept.now) result (key.new ≡ key.old) }
     ensures same { result ≡ OK → key.new ≡ key_to_c (key_in kept.now.remote_s) }
     ensures key { result ≡ OK → ForView kept.now (λ _ v. key.new ≡ key_to_c v.remote.s) }
-    ensures unchanged { OK < result → key.new ≡ key.old }
-    ensures codes { (result ≡ OK) ⊎ (result ≡ STRUCT) }
 {
     let handshake = some_or!(handshake_from_c(kept), STRUCT);
     *key = key_to_c(handshake.remote_static());
@@ -64,10 +59,8 @@ pub extern "C" fn noise_remote_static(kept: &NoiseHandshake, key: &mut NoiseKey)
 /// ended, and whether this party writes the next message, if there is one.
 #[unsafe(no_mangle)]
 pub extern "C" fn noise_stage(kept: &NoiseHandshake, told: &mut NoiseStageTold) -> u32
-    ensures unusable { result ≡ STRUCT ↔ (IsUsable kept.now → ⊥) }
+    ensures code { IsAnswered (IsUsable kept.now) result (told.new ≡ told.old) }
     ensures reported { result ≡ OK → ForPattern kept.now (λ p. ReportsStage (handshake_from_c p kept.now) told.new) }
-    ensures unchanged { OK < result → told.new ≡ told.old }
-    ensures codes { (result ≡ OK) ⊎ (result ≡ STRUCT) }
 {
     let handshake = some_or!(handshake_from_c(kept), STRUCT);
     told.messages = handshake.pattern().pattern().messages().len() as u8;

@@ -1,14 +1,16 @@
 //! Exports: the cipher states of a session, for transports of the caller's own (Noise, 5.1, 11.3 and 11.4).
-#![tactic(auto)]
 
 ghost use Rattle.std.specs.Prelude.{◌≡◌, ◌<◌, ◌+◌, ◌⊎◌, length, take, drop, MatchOption};
 ghost use Rattle.noise_aead.specs.Sealing.{rekeyed};
 ghost use Rattle.noise_c.specs.KeptCipher.{encrypted, encrypt_code, decrypt_refusal, is_cipher, struct_code, IsDecryptCode, IsEncryptCode, IsNoneOf};
-ghost use Rattle.noise_c.specs.declared.codes.TheConstants.{OK, TAG};
+ghost use Rattle.noise_c.specs.declared.codes.numbers.TheConstants.{OK, TAG};
 
-use crate::codes::{LENGTH, MESSAGE_MAX, OK, ROOM, TAG_LEN, cipher_code, ok_or};
+use crate::codes::numbers::{
+    LENGTH, MESSAGE_MAX, OK, RECEIVING_CIPHER, ROOM, SENDING_CIPHER, TAG_LEN,
+};
+use crate::codes::{cipher_code, ok_or};
 use crate::halves_from_c::{cipher_from_c, is_cipher};
-use crate::kept::{NoiseCipher, NoiseTold, RECEIVING_CIPHER, SENDING_CIPHER};
+use crate::kept::{NoiseCipher, NoiseTold};
 
 /// Encrypts the text in the first `text_len` bytes of `buffer` in place, with associated data (EncryptWithAd), and
 /// reports how many bytes the message has: the first of `buffer`, 16 more than the text. The nonce isn't in the

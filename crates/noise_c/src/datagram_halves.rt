@@ -1,5 +1,4 @@
 //! Exports: the two halves of a session whose messages are datagrams.
-#![tactic(auto)]
 
 ghost use Rattle.std.specs.Prelude.{◌≡◌, ◌≢◌, ◌↔◌, ◌<◌, ◌+◌, ◌⊎◌, length, take, drop, slice_range, true, false};
 ghost use Rattle.noise_session.specs.declared.datagram_fault.DatagramFault.{DatagramFault};
@@ -7,9 +6,10 @@ ghost use Rattle.noise_c.specs.TransportCodes.{datagram_code};
 ghost use Rattle.noise_c.specs.KeptHalves.{ReportsNonce};
 ghost use Rattle.noise_c.specs.KeptDatagramHalves.{is_datagram_sender, is_datagram_receiver, datagram_receiver_from_c, DeclinesDatagram, IsDatagramCode, OpensDatagram, SealsInto};
 ghost use Rattle.noise_c.specs.Outcomes.{IsAround};
-ghost use Rattle.noise_c.specs.declared.codes.TheConstants.{OK, STRUCT};
+ghost use Rattle.noise_c.specs.declared.codes.numbers.TheConstants.{OK, STRUCT};
 
-use crate::codes::{OK, ROOM, STRUCT, datagram_code, ok_or, seal_code, some_or};
+use crate::codes::numbers::{OK, ROOM, STRUCT};
+use crate::codes::{datagram_code, ok_or, seal_code, some_or};
 use crate::halves::report_nonce;
 use crate::halves_from_c::{
     datagram_receiver_from_c, datagram_receiver_to_c, datagram_sender_from_c, datagram_sender_to_c,

@@ -1,7 +1,6 @@
 //! Exports: the end of a handshake whose messages have all passed (Split: Noise, 5.2), as two halves or two cipher
 //! states, at nonces 0. The handshake is only read: of one handshake make one pair, of whatever kind, since a second
 //! one would encrypt at the nonces of the first.
-#![tactic(auto)]
 
 ghost use Rattle.std.specs.Prelude.{◌≡◌, ◌↔◌, ◌<◌, IfOk, IfErr, MatchResult, true, false};
 ghost use Rattle.noise_handshake.specs.View.{View};
@@ -14,19 +13,16 @@ ghost use Rattle.noise_c.specs.KeptHalves.{is_half};
 ghost use Rattle.noise_c.specs.KeptDatagramHalves.{is_window, window_in, is_datagram_sender, is_datagram_receiver};
 ghost use Rattle.noise_c.specs.KeptStreams.{is_stream_sender, is_stream_receiver, BeginsToRead, BeginsToWrite};
 ghost use Rattle.noise_c.specs.KeptCipher.{sending_cipher, receiving_cipher};
-ghost use Rattle.noise_c.specs.declared.kept.TheConstants.{RECEIVER, SENDER, RECEIVING_CIPHER, SENDING_CIPHER};
-ghost use Rattle.noise_c.specs.declared.codes.TheConstants.{OK, WINDOW};
+ghost use Rattle.noise_c.specs.declared.codes.numbers.TheConstants.{OK, RECEIVER, RECEIVING_CIPHER, SENDER, SENDING_CIPHER, WINDOW};
 
-use crate::codes::{ENDED, NOT_DONE, OK, STRUCT, WINDOW, ok_or, some_or};
+use crate::codes::numbers::*;
+use crate::codes::{ok_or, some_or};
 use crate::from_c::handshake_from_c;
 use crate::halves_from_c::{
     cipher_to_c, datagram_receiver_to_c, datagram_sender_to_c, half_to_c, stream_receiver_to_c,
     stream_sender_to_c, window_from_c,
 };
-use crate::kept::{
-    NoiseCipher, NoiseDatagramReceiver, NoiseDatagramSender, NoiseHalf, NoiseHandshake,
-    NoiseStreamReceiver, NoiseStreamSender, RECEIVER, RECEIVING_CIPHER, SENDER, SENDING_CIPHER,
-};
+use crate::kept::*;
 use noise_channel::{StreamReceiver, StreamSender};
 use noise_handshake::Opened;
 use noise_names::Role;

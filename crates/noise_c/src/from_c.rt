@@ -1,5 +1,4 @@
 //! From what C keeps to a handshake, and back.
-#![tactic(auto)]
 
 ghost use Rattle.std.specs.Prelude.{◌≡◌, ◌≤◌, ◌-◌, ◌↔◌, length, drop, IfSome, IsSome};
 ghost use Rattle.noise_handshake.specs.Parts.{held_of};
@@ -7,7 +6,8 @@ ghost use Rattle.noise_handshake.specs.Late.{IsLateWhole};
 ghost use Rattle.noise_names.specs.Plan.{Plan};
 ghost use Rattle.noise_c.specs.Kept.{public_in, role_in, text_in, handshake_from_c, IsPatternOf, IsUsable, KeepsProgress};
 
-use crate::kept::{HANDSHAKE, NoiseHandshake};
+use crate::codes::numbers::HANDSHAKE;
+use crate::kept::NoiseHandshake;
 use crate::keys::{KeptKeys, key_of, key_to_c};
 use crate::patterns::pattern_of;
 use noise_handshake::{LateHandshake, Parts, Progress, Remote};

@@ -1,18 +1,15 @@
 //! Exports: the two halves of a session whose messages come in order.
-#![tactic(auto)]
 
 ghost use Rattle.std.specs.Prelude.{◌≡◌, ◌<◌, ◌+◌, ◌⊎◌, length, take, drop, slice_range, true, MatchOption};
 ghost use Rattle.noise_session.specs.HeldTransport.{no_packet};
 ghost use Rattle.noise_c.specs.TransportCodes.{open_code};
 ghost use Rattle.noise_c.specs.KeptHalves.{is_half, receiver_open_refusal, Counts, IsForged, IsOpenCode, OpensNext, ReportsNonce, Seals};
-ghost use Rattle.noise_c.specs.declared.kept.TheConstants.{RECEIVER, SENDER};
-ghost use Rattle.noise_c.specs.declared.codes.TheConstants.{OK, SHORT, STRUCT, TAG};
+ghost use Rattle.noise_c.specs.declared.codes.numbers.TheConstants.{OK, RECEIVER, SENDER, SHORT, STRUCT, TAG};
 
-use crate::codes::{
-    LENGTH, MESSAGE_MAX, OK, ROOM, STRUCT, TAG_LEN, ok_or, open_code, seal_code, some_or,
-};
+use crate::codes::numbers::{LENGTH, MESSAGE_MAX, OK, RECEIVER, ROOM, SENDER, STRUCT, TAG_LEN};
+use crate::codes::{ok_or, open_code, seal_code, some_or};
 use crate::halves_from_c::{half_from_c, half_to_c};
-use crate::kept::{NoiseHalf, NoiseTold, RECEIVER, SENDER};
+use crate::kept::{NoiseHalf, NoiseTold};
 use noise_session::{Receiver, Sender};
 
 /// Seals a payload of at most 65519 bytes into the first bytes of `out`, 16 more than it has, and reports how many

@@ -1,21 +1,16 @@
 //! From what C keeps of halves, streams and cipher states to those, where a call has left it, and back.
-#![tactic(auto)]
 
 ghost use Rattle.std.specs.Prelude.{◌≡◌, ◌⊎◌, ℕ, List, Some, IfSome, IfOk, IfErr, MatchResult, is_some, true};
 ghost use Rattle.noise_state.specs.Cipher.{key_in, nonce_in};
 ghost use Rattle.noise_session.specs.Parts.{half_in};
-ghost use Rattle.noise_c.specs.KeptHalves.{is_party, party_in, is_half, half_from_c};
+ghost use Rattle.noise_c.specs.KeptHalves.{is_party, party_in, is_half, half_from_c, IsFromC, IsToC};
 ghost use Rattle.noise_c.specs.KeptDatagramHalves.{is_window, window_in, is_datagram_sender, datagram_sender_from_c, is_datagram_receiver, datagram_receiver_from_c};
 ghost use Rattle.noise_c.specs.KeptStreams.{is_state, state_in, is_stream_sender, stream_sender_from_c, is_stream_receiver, stream_receiver_from_c};
 ghost use Rattle.noise_c.specs.KeptCipher.{begun_cipher, cipher_from_c, is_cipher, struct_code};
-ghost use Rattle.noise_c.specs.declared.codes.TheConstants.{OK, ONE_WAY, STRUCT};
+ghost use Rattle.noise_c.specs.declared.codes.numbers.TheConstants.{OK, ONE_WAY, STRUCT};
 
-use crate::codes::{ONE_WAY, STRUCT};
-use crate::kept::{
-    DATAGRAM_RECEIVER, DATAGRAM_SENDER, NoiseCipher, NoiseDatagramReceiver, NoiseDatagramSender,
-    NoiseHalf, NoiseStreamReceiver, NoiseStreamSender, RECEIVING_CIPHER, SENDING_CIPHER,
-    STREAM_RECEIVER, STREAM_SENDER,
-};
+use crate::codes::numbers::*;
+use crate::kept::*;
 use noise_channel::{StreamReceiver, StreamSender, StreamState};
 use noise_names::Role;
 use noise_session::{
@@ -25,8 +20,7 @@ use noise_session::{
 use noise_state::CipherState;
 
 fn role_from_c(party: u8) -> Option<Role>
-    ensures known { is_some result ≡ is_party party }
-    ensures same { IfSome result (λ role. role ≡ party_in party) }
+    ensures { IsFromC result (is_party party) (party_in party) }
 {
     match party {
         1 => Some(Role::Initiator),
@@ -36,8 +30,7 @@ fn role_from_c(party: u8) -> Option<Role>
 }
 
 fn role_to_c(role: Role) -> u8
-    ensures known { is_party result ≡ true }
-    ensures same { party_in result ≡ role }
+    ensures { IsToC (is_party result) (party_in result) role }
 {
     match role {
         Role::Initiator => 1,
@@ -46,8 +39,7 @@ fn role_to_c(role: Role) -> u8
 }
 
 pub(crate) fn window_from_c(width: u32) -> Option<Window>
-    ensures known { is_some result ≡ is_window width }
-    ensures same { IfSome result (λ window. window ≡ window_in width) }
+    ensures { IsFromC result (is_window width) (window_in width) }
 {
     match width {
         64 => Some(Window::W64),
@@ -58,8 +50,7 @@ pub(crate) fn window_from_c(width: u32) -> Option<Window>
 }
 
 fn window_to_c(window: Window) -> u32
-    ensures known { is_window result ≡ true }
-    ensures same { window_in result ≡ window }
+    ensures { IsToC (is_window result) (window_in result) window }
 {
     match window {
         Window::W64 => 64,
@@ -69,8 +60,7 @@ fn window_to_c(window: Window) -> u32
 }
 
 fn state_from_c(state: u8) -> Option<StreamState>
-    ensures known { is_some result ≡ is_state state }
-    ensures same { IfSome result (λ s. s ≡ state_in state) }
+    ensures { IsFromC result (is_state state) (state_in state) }
 {
     match state {
         0 => Some(StreamState::Open),
@@ -81,8 +71,7 @@ fn state_from_c(state: u8) -> Option<StreamState>
 }
 
 fn state_to_c(state: StreamState) -> u8
-    ensures known { is_state result ≡ true }
-    ensures same { state_in result ≡ state }
+    ensures { IsToC (is_state result) (state_in result) state }
 {
     match state {
         StreamState::Open => 0,
@@ -109,8 +98,7 @@ pub(crate) fn half_from_c(kept: &NoiseHalf, mark: u32) -> Option<HalfParts>
 }
 
 pub(crate) fn half_to_c(parts: HalfParts, mark: u32) -> NoiseHalf
-    ensures known { is_half mark result ≡ true }
-    ensures same { half_from_c result ≡ half_in parts }
+    ensures { IsToC (is_half mark result) (half_from_c result) (half_in parts) }
 {
     let key = parts.key;
     NoiseHalf {
@@ -124,8 +112,7 @@ pub(crate) fn half_to_c(parts: HalfParts, mark: u32) -> NoiseHalf
 }
 
 pub(crate) fn datagram_sender_from_c(kept: &NoiseDatagramSender) -> Option<DatagramSender>
-    ensures known { is_some result ≡ is_datagram_sender kept.now }
-    ensures same { IfSome result (λ sender. sender ≡ datagram_sender_from_c kept.now) }
+    ensures { IsFromC result (is_datagram_sender kept.now) (datagram_sender_from_c kept.now) }
 {
     if kept.mark != DATAGRAM_SENDER {
         return None;
@@ -139,8 +126,7 @@ pub(crate) fn datagram_sender_from_c(kept: &NoiseDatagramSender) -> Option<Datag
 }
 
 pub(crate) fn datagram_sender_to_c(sender: DatagramSender) -> NoiseDatagramSender
-    ensures known { is_datagram_sender result ≡ true }
-    ensures same { datagram_sender_from_c result ≡ sender }
+    ensures { IsToC (is_datagram_sender result) (datagram_sender_from_c result) sender }
 {
     let parts = sender.into_parts();
     let key = parts.key;
@@ -154,8 +140,7 @@ pub(crate) fn datagram_sender_to_c(sender: DatagramSender) -> NoiseDatagramSende
 }
 
 pub(crate) fn datagram_receiver_from_c(kept: &NoiseDatagramReceiver) -> Option<DatagramReceiver>
-    ensures known { is_some result ≡ is_datagram_receiver kept.now }
-    ensures same { IfSome result (λ receiver. receiver ≡ datagram_receiver_from_c kept.now) }
+    ensures { IsFromC result (is_datagram_receiver kept.now) (datagram_receiver_from_c kept.now) }
 {
     if kept.mark != DATAGRAM_RECEIVER {
         return None;
@@ -171,8 +156,7 @@ pub(crate) fn datagram_receiver_from_c(kept: &NoiseDatagramReceiver) -> Option<D
 }
 
 pub(crate) fn datagram_receiver_to_c(receiver: DatagramReceiver) -> NoiseDatagramReceiver
-    ensures known { is_datagram_receiver result ≡ true }
-    ensures same { datagram_receiver_from_c result ≡ receiver }
+    ensures { IsToC (is_datagram_receiver result) (datagram_receiver_from_c result) receiver }
 {
     let parts = receiver.into_parts();
     let (key, words) = (parts.key, parts.words);
@@ -188,16 +172,14 @@ pub(crate) fn datagram_receiver_to_c(receiver: DatagramReceiver) -> NoiseDatagra
 }
 
 pub(crate) fn stream_sender_from_c(kept: &NoiseStreamSender) -> Option<StreamSender>
-    ensures known { is_some result ≡ is_stream_sender kept.now }
-    ensures same { IfSome result (λ sender. sender ≡ stream_sender_from_c kept.now) }
+    ensures { IsFromC result (is_stream_sender kept.now) (stream_sender_from_c kept.now) }
 {
     let parts = half_from_c(&kept.half, STREAM_SENDER)?;
     StreamSender::from_parts(Sender::from_parts(parts), kept.ended != 0)
 }
 
 pub(crate) fn stream_sender_to_c(sender: StreamSender) -> NoiseStreamSender
-    ensures known { is_stream_sender result ≡ true }
-    ensures same { stream_sender_from_c result ≡ sender }
+    ensures { IsToC (is_stream_sender result) (stream_sender_from_c result) sender }
 {
     let (half, ended) = sender.into_parts();
     NoiseStreamSender {
@@ -207,8 +189,7 @@ pub(crate) fn stream_sender_to_c(sender: StreamSender) -> NoiseStreamSender
 }
 
 pub(crate) fn stream_receiver_from_c(kept: &NoiseStreamReceiver) -> Option<StreamReceiver>
-    ensures known { is_some result ≡ is_stream_receiver kept.now }
-    ensures same { IfSome result (λ receiver. receiver ≡ stream_receiver_from_c kept.now) }
+    ensures { IsFromC result (is_stream_receiver kept.now) (stream_receiver_from_c kept.now) }
 {
     let parts = half_from_c(&kept.half, STREAM_RECEIVER)?;
     let state = state_from_c(kept.state)?;
@@ -216,8 +197,7 @@ pub(crate) fn stream_receiver_from_c(kept: &NoiseStreamReceiver) -> Option<Strea
 }
 
 pub(crate) fn stream_receiver_to_c(receiver: StreamReceiver) -> NoiseStreamReceiver
-    ensures known { is_stream_receiver result ≡ true }
-    ensures same { stream_receiver_from_c result ≡ receiver }
+    ensures { IsToC (is_stream_receiver result) (stream_receiver_from_c result) receiver }
 {
     let (half, state) = receiver.into_parts();
     NoiseStreamReceiver {

@@ -1,25 +1,4 @@
 //! The structs that C keeps, which `include/noise.h` declares as aligned bytes, and those in which a call reports.
-#![tactic(auto)]
-
-// The marks. Each kept struct begins with one: which kind of struct it is, in the second byte, and which version of its
-// layout, in the first. A change of a layout gives its mark another version.
-pub(crate) const HANDSHAKE: u32 = 0x4e6f_0101;
-
-pub(crate) const SENDER: u32 = 0x4e6f_0301;
-
-pub(crate) const RECEIVER: u32 = 0x4e6f_0401;
-
-pub(crate) const DATAGRAM_SENDER: u32 = 0x4e6f_0601;
-
-pub(crate) const DATAGRAM_RECEIVER: u32 = 0x4e6f_0701;
-
-pub(crate) const SENDING_CIPHER: u32 = 0x4e6f_0801;
-
-pub(crate) const RECEIVING_CIPHER: u32 = 0x4e6f_0901;
-
-pub(crate) const STREAM_SENDER: u32 = 0x4e6f_0a01;
-
-pub(crate) const STREAM_RECEIVER: u32 = 0x4e6f_0b01;
 
 /// A key of 32 bytes; none where `present` is 0.
 #[repr(C)]

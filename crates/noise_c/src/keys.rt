@@ -1,8 +1,8 @@
 //! The keys of a handshake that C keeps, where they stand, and the numbers for key pairs.
-#![tactic(auto)]
 
 ghost use Rattle.std.specs.Prelude.{◌≡◌, ◌≤◌, map};
-ghost use Rattle.noise_keys.specs.Table.{answer_in, is_for};
+ghost use Rattle.noise_keys.specs.Keys.{key_of};
+ghost use Rattle.noise_keys.specs.Table.{Table, answer_in, is_for};
 ghost use Rattle.noise_c.specs.Kept.{entry_in, key_in, key_to_c, own_in};
 
 use crate::kept::{NoiseAnswer, NoiseKey};
@@ -18,10 +18,6 @@ pub(crate) struct KeptKeys<'a> {
 }
 
 impl<'a> Model for KeptKeys<'a> {
-    ghost use Rattle.std.specs.Prelude.{map};
-    ghost use Rattle.noise_keys.specs.Table.{Table};
-    ghost use Rattle.noise_c.specs.Kept.{entry_in, key_in};
-
     ghost Value = { Table };
 
     ghost view = { λ keys. record {
@@ -32,9 +28,6 @@ impl<'a> Model for KeptKeys<'a> {
 }
 
 impl<'a> Keys for KeptKeys<'a> {
-    ghost use Rattle.noise_keys.specs.Keys.{key_of};
-    ghost use Rattle.noise_keys.specs.Table.{answer_in};
-
     ghost public_of = { λ keys own. key_of own keys.e keys.s };
 
     ghost agreement = { λ keys own remote. answer_in keys.entries own remote };

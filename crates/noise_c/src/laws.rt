@@ -1,12 +1,10 @@
 //! The numbers of the answers and of the marks, and what a run of the exports is: a run of the library.
-#![tactic(auto)]
 
 ghost use Rattle.std.specs.Prelude.{◌≡◌, ◌∷◌, [], nat_eq};
 ghost use Rattle.std.specs.List.{IsDistinct};
 ghost use Rattle.noise_c.specs.Answered.{ReadsAsLibrary, WritesAsLibrary};
 ghost use Rattle.noise_c.specs.Answers.{AnsweredIsWhole, AskedIsLacking, FourSuffice, FourSufficeToWrite};
-ghost use Rattle.noise_c.specs.declared.kept.TheConstants.{HANDSHAKE, SENDER, RECEIVER, DATAGRAM_SENDER, DATAGRAM_RECEIVER, SENDING_CIPHER, RECEIVING_CIPHER, STREAM_SENDER, STREAM_RECEIVER};
-ghost use Rattle.noise_c.specs.declared.codes.TheConstants.{AGREEMENT, ARROW, CLOSED, CUT, DONE, END, ENDED, ENDING, EPHEMERAL_MISSING, EXHAUSTED, FULL, HEADING, LENGTH, LIMIT, MORE, NAME, NAME_TAKEN, NOT_DONE, NOT_DUE, NOT_YOUR_TURN, OK, OLD, ONE_WAY, PATTERN, PRE_MESSAGE, PSK_COUNT, PSK_PLACE, REMOTE_MISSING, REMOTE_UNEXPECTED, REPEATED, RESERVED, ROOM, RULE, SHORT, STATIC_MISSING, STRUCT, TAG, TOKEN, TOO_LONG, TURN, WANTED, WANTED_PSK, WINDOW};
+ghost use Rattle.noise_c.specs.declared.codes.numbers.TheConstants.{AGREEMENT, ARROW, CLOSED, CUT, DATAGRAM_RECEIVER, DATAGRAM_SENDER, DONE, END, ENDED, ENDING, EPHEMERAL_MISSING, EXHAUSTED, FULL, HANDSHAKE, HEADING, LENGTH, LIMIT, MORE, NAME, NAME_TAKEN, NOT_DONE, NOT_DUE, NOT_YOUR_TURN, OK, OLD, ONE_WAY, PATTERN, PRE_MESSAGE, PSK_COUNT, PSK_PLACE, RECEIVER, RECEIVING_CIPHER, REMOTE_MISSING, REMOTE_UNEXPECTED, REPEATED, RESERVED, ROOM, RULE, SENDER, SENDING_CIPHER, SHORT, STATIC_MISSING, STREAM_RECEIVER, STREAM_SENDER, STRUCT, TAG, TOKEN, TOO_LONG, TURN, WANTED, WANTED_PSK, WINDOW};
 
 /// The answers have the numbers of `include/noise.h`.
 pub fn answers_are_numbered()

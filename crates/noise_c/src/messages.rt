@@ -1,14 +1,12 @@
 //! Exports: writing and reading the messages of a handshake.
-#![tactic(auto)]
 
 ghost use Rattle.std.specs.Prelude.{◌≡◌, ◌<◌, ◌↔◌, length};
 ghost use Rattle.noise_c.specs.Kept.{IsUsable, ReportsAnswer, ReportsRemote, ReportsWant};
 ghost use Rattle.noise_c.specs.Outcomes.{AsksToRead, AsksToWrite, ReadOutcome, RefusesRoom, WriteOutcome};
-ghost use Rattle.noise_c.specs.declared.codes.TheConstants.{LENGTH, STRUCT, WANTED, WANTED_PSK};
+ghost use Rattle.noise_c.specs.declared.codes.numbers.TheConstants.{LENGTH, STRUCT, WANTED, WANTED_PSK};
 
-use crate::codes::{
-    LENGTH, MESSAGE_MAX, OK, ROOM, STRUCT, WANTED, WANTED_PSK, read_code, some_or, write_code,
-};
+use crate::codes::numbers::{LENGTH, MESSAGE_MAX, OK, ROOM, STRUCT, WANTED, WANTED_PSK};
+use crate::codes::{read_code, some_or, write_code};
 use crate::from_c::{handshake_from_c, keep};
 use crate::kept::{NoiseHandshake, NoiseTold};
 use crate::keys::{key_to_c, own_to_c};

@@ -1,15 +1,15 @@
 //! Patterns by their texts and protocol names, and an export: whether a text is that of a valid pattern.
-#![tactic(auto)]
 
 ghost use Rattle.std.specs.Prelude.{◌≡◌, ◌≤◌, ◌⊎◌, ◌↔◌, length, IfOk, IfErr, IsOk};
 ghost use Rattle.noise_names.specs.Plan.{Plan};
 ghost use Rattle.noise_names.specs.Text.{Spells};
 ghost use Rattle.noise_names.specs.Validity.{IsValid};
-ghost use Rattle.noise_c.specs.Kept.{IsNamed, IsPatternOf, IsPatternFault, is_text};
+ghost use Rattle.noise_c.specs.Kept.{IsNamed, IsPatternOf, IsPatternFault};
 ghost use Rattle.noise_c.specs.Checked.{IsValidText, IsBrokenText, IsTextCode, ReportsMessages, ReportsRule, ReportsText};
-ghost use Rattle.noise_c.specs.declared.codes.TheConstants.{NAME, OK, PATTERN, RULE};
+ghost use Rattle.noise_c.specs.declared.codes.numbers.TheConstants.{NAME, OK, PATTERN, RULE};
 
-use crate::codes::{NAME, OK, PATTERN, RULE, text_code};
+use crate::codes::numbers::{NAME, OK, PATTERN, RULE};
+use crate::codes::text_code;
 use crate::kept::NoisePatternTold;
 use noise_names::{Pattern, ProtocolName, ValidPattern, fundamental};
 
@@ -66,14 +66,8 @@ fn spelled(text: &[u8]) -> Result<ValidPattern, u32>
     }
 }
 
-// Whether these bytes are a pattern text: the last one is a line feed.
-fn is_text(bytes: &[u8]) -> bool
-    ensures { result ≡ is_text bytes.now }
-{
-    bytes.ends_with(b"\n")
-}
-
-// The pattern of a pattern text or of a protocol name, if it is valid. Else the number of the fault: NAME or PATTERN.
+// The pattern of a pattern text, whose last byte is a line feed, or of a protocol name, if it is valid. Else the number
+// of the fault: NAME or PATTERN.
 pub(crate) fn pattern_of(bytes: &[u8]) -> Result<ValidPattern, u32>
     ensures named { IfOk result (λ p. IsPatternOf bytes.now p) }
     ensures valid { IfOk result (λ p. IsValid p) }
@@ -82,7 +76,7 @@ pub(crate) fn pattern_of(bytes: &[u8]) -> Result<ValidPattern, u32>
     ensures short { IfOk result (λ _. length bytes.now ≤ 413) }
     ensures fault { IfErr result (λ code. IsPatternFault bytes.now code) }
 {
-    if is_text(bytes) {
+    if bytes.ends_with(b"\n") {
         spelled(bytes)
     } else {
         named(bytes)

@@ -1,5 +1,4 @@
 //! Exports: the start of a handshake.
-#![tactic(auto)]
 
 ghost use Rattle.std.specs.Prelude.{◌≡◌, ◌≤◌, ◌<◌, ◌-◌, ◌↔◌, ◌⊎◌, ℕ, List, length, drop, MatchOption, IsOk, IfOk, Err};
 ghost use Rattle.noise_names.specs.Plan.{Plan};
@@ -8,12 +7,12 @@ ghost use Rattle.noise_handshake.specs.Party.{Stands};
 ghost use Rattle.noise_handshake.specs.Late.{with_later};
 ghost use Rattle.noise_c.specs.Kept.{role_in, public_in, agreement_in, table_in, table_of, text_in, psks_in, begun_in, fault_in, start_code};
 ghost use Rattle.noise_c.specs.Kept.{IsPatternOf, IsNoName, IsNoText, IsNotValid, IsUsable, IsStartCode, KeepsView};
-ghost use Rattle.noise_c.specs.declared.kept.TheConstants.{HANDSHAKE};
-ghost use Rattle.noise_c.specs.declared.codes.TheConstants.{EPHEMERAL_MISSING, LENGTH, NAME, OK, PATTERN, PSK_COUNT};
+ghost use Rattle.noise_c.specs.declared.codes.numbers.TheConstants.{EPHEMERAL_MISSING, HANDSHAKE, LENGTH, NAME, OK, PATTERN, PSK_COUNT};
 
-use crate::codes::{LENGTH, OK, PSK_COUNT, ok_or, setup_code};
+use crate::codes::numbers::{HANDSHAKE, LENGTH, OK, PSK_COUNT};
+use crate::codes::{ok_or, setup_code};
 use crate::from_c::{keep, role_of};
-use crate::kept::{HANDSHAKE, NoiseHandshake, NoiseSetup};
+use crate::kept::{NoiseHandshake, NoiseSetup};
 use crate::keys::{KeptKeys, key_of};
 use crate::patterns::pattern_of;
 use noise_handshake::{LateHandshake, Remote, SetupFault};

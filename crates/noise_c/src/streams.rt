@@ -1,6 +1,5 @@
 //! Exports: the two halves of a stream of bytes that has an end, and frames, for the messages of a handshake over a
 //! stream.
-#![tactic(auto)]
 
 ghost use Rattle.std.specs.Prelude.{◌≡◌, ◌≢◌, ◌↔◌, ◌≤◌, ◌<◌, ◌+◌, ◌-◌, ◌⊎◌, length, take, drop, slice_range, true, false};
 ghost use Rattle.noise_session.specs.Frames.{frame, frame_length, IsPartial};
@@ -10,12 +9,10 @@ ghost use Rattle.noise_channel.specs.Writing.Asked.{ToWrite, ToEnd};
 ghost use Rattle.noise_c.specs.KeptStreams.{is_stream_sender, stream_sender_from_c, is_stream_receiver, stream_receiver_from_c, frame_code, frame_of, part_of, stream_end_code, stream_write_code};
 ghost use Rattle.noise_c.specs.KeptStreams.{CountsFrame, IsStreamCode, IsStreamReadCode, LeavesReader, ReadsNext, ReportsPlace, WritesNext};
 ghost use Rattle.noise_c.specs.Outcomes.{IsAround};
-ghost use Rattle.noise_c.specs.declared.codes.TheConstants.{CLOSED, CUT, MORE, OK, ONE_WAY, ROOM, STRUCT};
+ghost use Rattle.noise_c.specs.declared.codes.numbers.TheConstants.{CLOSED, CUT, MORE, OK, ONE_WAY, ROOM, STRUCT};
 
-use crate::codes::{
-    CLOSED, CUT, END, LENGTH, MESSAGE_MAX, MORE, OK, ROOM, STRUCT, ok_or, open_code, some_or,
-    stream_code,
-};
+use crate::codes::numbers::{CLOSED, CUT, END, LENGTH, MESSAGE_MAX, MORE, OK, ROOM, STRUCT};
+use crate::codes::{ok_or, open_code, some_or, stream_code};
 use crate::halves_from_c::{
     stream_receiver_from_c, stream_receiver_to_c, stream_sender_from_c, stream_sender_to_c,
 };

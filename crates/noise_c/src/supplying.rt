@@ -1,14 +1,14 @@
 //! Exports: the DH answers and the secrets that a handshake wasn't started with.
-#![tactic(auto)]
 
 ghost use Rattle.std.specs.Prelude.{◌≡◌, ◌≤◌, ◌<◌, ◌⊎◌, ◌↔◌, ◌∷◌, ◌++◌, [], ℕ, List, drop};
 ghost use Rattle.noise_names.specs.Plan.{Plan};
 ghost use Rattle.noise_handshake.specs.View.{View};
 ghost use Rattle.noise_handshake.specs.Setup.{secrets_of};
 ghost use Rattle.noise_c.specs.Kept.{handshake_from_c, own_in, IsAdded, IsGiven, IsUsable, KeepsView};
-ghost use Rattle.noise_c.specs.declared.codes.TheConstants.{FULL, OK, PSK_COUNT, STRUCT};
+ghost use Rattle.noise_c.specs.declared.codes.numbers.TheConstants.{FULL, OK, PSK_COUNT, STRUCT};
 
-use crate::codes::{FULL, OK, PSK_COUNT, STRUCT, some_or};
+use crate::codes::numbers::{FULL, OK, PSK_COUNT, STRUCT};
+use crate::codes::some_or;
 use crate::from_c::handshake_from_c;
 use crate::kept::{NoiseAnswer, NoiseHandshake};
 

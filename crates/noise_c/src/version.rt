@@ -1,12 +1,8 @@
 //! Exports: the version of the library, and how many bytes each kept struct takes in the caller's memory.
-#![tactic(auto)]
 
 ghost use Rattle.std.specs.Prelude.{◌≡◌, ◌+◌, ◌*◌};
 
-use crate::kept::{
-    NoiseCipher, NoiseDatagramReceiver, NoiseDatagramSender, NoiseHalf, NoiseHandshake,
-    NoiseStreamReceiver, NoiseStreamSender,
-};
+use crate::kept::*;
 use std::mem::size_of;
 
 // The numbers of `packaging/version`.
