@@ -1,5 +1,5 @@
 use Rattle.std.specs.Prelude.{Result, Ok, Err, drop, ◌+◌, ◌-◌}
-use Rattle.std.proofs.Common.{◌≡◌, ◌≤◌, ◌⊎◌, ℕ, List, inl, inr, ⊎_elim, length, refl, ap, sym, subst, ◌∙◌, arith}
+use Rattle.std.proofs.Common.{◌≡◌, ◌≤◌, ◌⊎◌, ℕ, List, inl, inr, length, refl, ap, sym, subst, ◌∙◌, arith}
 use Rattle.std.proofs.lemmas.Bool.{false≢true}
 use Rattle.noise_keys.specs.Table.{Table}
 use Rattle.noise_handshake.specs.declared.faults.Cause.TheVariants.{Short, Tag, Agreement}
@@ -13,11 +13,10 @@ use Rattle.noise_handshake.specs.Held.{Held, ended_as}
 use Rattle.noise_handshake.specs.Late.{with_later, LeavesLateUnread, after_late_declined, WantsSecretToRead}
 use Rattle.noise_handshake.specs.Party.{Stands, DoesNotRead}
 use Rattle.noise_handshake.specs.View.{View, Refuses}
-use Rattle.noise_names.specs.Plan.{Plan}
 use Rattle.noise_c.specs.Codes.{read_code, token_in}
 use Rattle.noise_c.specs.Outcomes.{IsAround}
 use Rattle.noise_c.specs.Outcomes.ReadOutcome.{accepted, declined, too_long, unusable}
-use Rattle.noise_c.specs.Kept.{public_in, agreement_in, handshake_from_c, IsUsable, KeepsView, ReportsWant}
+use Rattle.noise_c.specs.Kept.{public_in, agreement_in, handshake_from_c, IsUsable, ReportsWant}
 use Rattle.noise_c.proofs.Keeps.{secrets-left, ended-kept, plain-leaves, refused-leaves, usable-after, usable-ended, was-declined, opened, was-read, stands-for}
 use Rattle.noise_c.proofs.Numbers.{IsPlain, other, not-after, too-long, wants-other, plain-among, plain-within, plain-sort, refused-within, refused-between, refused-among}
 use Rattle.noise_c.proofs.Wanting.{reads-outcome}

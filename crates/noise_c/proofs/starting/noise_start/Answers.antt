@@ -1,4 +1,4 @@
-use Rattle.std.proofs.Common.{◌≡◌, ◌≤◌, ◌∙◌, List, ℕ, inl, inr, sym, ap, subst, refl, Ok, Err, arith}
+use Rattle.std.proofs.Common.{◌≡◌, ◌∙◌, List, ℕ, inl, inr, sym, ap, subst, refl, Ok, Err, arith}
 use Rattle.noise_names.specs.Plan.{Plan}
 use Rattle.noise_c.specs.Kept.{IsPatternOf, KeepsView, begun_in, handshake_from_c, role_in, start_code}
 use Rattle.noise_c.proofs.Keeps.{usable-kept}
