@@ -211,7 +211,7 @@ past w next known secrets r ts m own key x s handed = record {
   on =
       let w2 : Reader = record w { agree = next } in
       let l : BeginsAs w2 known secrets r s.before s.stops.carried m s.stops.rest =
-      record { fit = fit-all w.role w.psks w.agree next handed.kept known secrets s.before s.stops.carried here.fit; spelled = here.spelled } in
+      record { fit = fit-all w.role w.psks w.agree next handed.stays known secrets s.before s.stops.carried here.fit; spelled = here.spelled } in
       leads-on w2 known secrets r s.before s.token s.stops.carried x m s.stops.rest l
       (dh-fits w2 (learned known s.before s.stops.carried) (secrets_left secrets s.before) s.token x d answer)
       (λ (h : History). dh-nothing s.token d h x)

@@ -114,7 +114,7 @@ past w next known secrets ts own key x keys s handed = record {
   on =
       let w2 : Writer = record w { agree = next } in
       given-on w2 known secrets s.before s.token s.lacks.before x
-      (given-all w.role w.psks w.agree next handed.kept w.own known secrets s.before s.lacks.before here)
+      (given-all w.role w.psks w.agree next handed.stays w.own known secrets s.before s.lacks.before here)
       (dh-gives w2 known (secrets_left secrets s.before) s.token x d answer)
 
 -- an answer that is asked for isn't there

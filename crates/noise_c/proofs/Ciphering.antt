@@ -5,8 +5,8 @@ use Rattle.noise_state.specs.declared.cipher.CipherFault.{CipherFault}
 use Rattle.noise_state.specs.declared.cipher.CipherFault.TheVariants as cipher
 use Rattle.noise_state.specs.Cipher.{key_in, keyed_in, nonce_in, HasNonce, DecryptRefused}
 use Rattle.noise_state.specs.History.{ciphertext_under}
-use Rattle.noise_c.specs.declared.kept_cipher.NoiseCipher.{NoiseCipher}
-use Rattle.noise_c.specs.KeptCipher.{cipher_kept_in, encrypted}
+use Rattle.noise_c.specs.declared.kept.NoiseCipher.{NoiseCipher}
+use Rattle.noise_c.specs.KeptCipher.{cipher_from_c, encrypted}
 use Rattle.noise_c.specs.TransportCodes.{cipher_code}
 use Rattle.noise_c.proofs.Numbers.{other}
 use Rattle.noise_c.proofs.Finished.{contrary}
@@ -24,7 +24,7 @@ refused c ad message cipher.Short e r never text same = other 15 16 refl e
 refused c ad message cipher.Exhausted e r never text same = other 17 16 refl e
 refused c ad message cipher.Tag e r never text same = contrary (never (r.0, r.1, (text, same)))
 
-pub forged : (k : NoiseCipher) (c : CipherState) (ad message : List ℕ) (fault : CipherFault) (code : ℕ) → c ≡ cipher_kept_in k → code ≡ cipher_code fault
+pub forged : (k : NoiseCipher) (c : CipherState) (ad message : List ℕ) (fault : CipherFault) (code : ℕ) → c ≡ cipher_from_c k → code ≡ cipher_code fault
     → DecryptRefused (keyed_in c) (nonce_in c) (length message) fault → (Accepted c ad message → false ≡ true)
     → code ≡ 16 → (text : List ℕ) → message ≡ encrypted k ad text → ⊥
 forged k c ad message fault code kept is r never e text same =

@@ -5,7 +5,7 @@ use Rattle.noise_names.specs.Plan.{Plan}
 use Rattle.noise_handshake.specs.Held.{Held}
 use Rattle.noise_keys.specs.Table.{Table}
 use Rattle.noise_c.specs.declared.kept.NoiseHandshake.{NoiseHandshake}
-use Rattle.noise_c.specs.Kept.{held_in}
+use Rattle.noise_c.specs.Kept.{handshake_from_c}
 use Rattle.noise_c.specs.Finishing.{finish_code}
 
 pub finish-done : (h : Held Table) → h.ended ≡ false → h.passed ≡ length h.pattern.messages → finish_code h ≡ 0
@@ -21,5 +21,5 @@ pub contrary : false ≡ true → ⊥
 contrary e = cc
 
 -- the handshake that was opened is what is kept, by its pattern
-pub kept-by : (k : NoiseHandshake) (h : Held Table) (p : Plan) → p ≡ h.pattern → h ≡ held_in h.pattern k → held_in p k ≡ h
-kept-by k h p one same = ap (λ (q : Plan). held_in q k) one ∙ sym same
+pub kept-by : (k : NoiseHandshake) (h : Held Table) (p : Plan) → p ≡ h.pattern → h ≡ handshake_from_c h.pattern k → handshake_from_c p k ≡ h
+kept-by k h p one same = ap (λ (q : Plan). handshake_from_c q k) one ∙ sym same

@@ -15,23 +15,23 @@ use Rattle.noise_handshake.specs.View.{View, Accepts}
 use Rattle.noise_handshake.specs.Party.{Stands, after_message, after_own, after_not_read, DoesNotRead}
 use Rattle.noise_handshake.specs.Writing.{Writes}
 use Rattle.noise_c.specs.declared.kept.NoiseHandshake.{NoiseHandshake}
-use Rattle.noise_c.specs.Kept.{public_in, agreement_in, text_in, held_in, IsPatternOf, IsUsable, KeepsView, WasRead, WasWritten, WasDeclined}
-use Rattle.noise_c.specs.declared.marks.TheConstants.{HANDSHAKE}
+use Rattle.noise_c.specs.Kept.{public_in, agreement_in, text_in, handshake_from_c, IsPatternOf, IsUsable, KeepsView, WasRead, WasWritten, WasDeclined}
+use Rattle.noise_c.specs.declared.codes.numbers.TheConstants.{HANDSHAKE}
 use Rattle.noise_c.specs.Codes.{read_code, token_in}
 use Rattle.noise_c.proofs.Numbers.{IsPlain}
 
-module _ (old new : NoiseHandshake) (h h2 : Held Table) (p : Plan) (v : View) (one : (q : Plan) → IsPatternOf (text_in old) q → q ≡ h.pattern) (same : h ≡ held_in h.pattern old)
-    (stays : h2.pattern ≡ h.pattern) (name : text_in new ≡ text_in old) (kept : held_in h2.pattern new ≡ h2) (k : KeepsView old p v) where
+module _ (old new : NoiseHandshake) (h h2 : Held Table) (p : Plan) (v : View) (one : (q : Plan) → IsPatternOf (text_in old) q → q ≡ h.pattern) (same : h ≡ handshake_from_c h.pattern old)
+    (stays : h2.pattern ≡ h.pattern) (name : text_in new ≡ text_in old) (kept : handshake_from_c h2.pattern new ≡ h2) (k : KeepsView old p v) where
   -- the handshake that was opened stands for the view
   pub opened : Stands public_in agreement_in (with_later h k.later) v
-  opened = subst (λ (z : Held Table). Stands public_in agreement_in (with_later z k.later) v) (ap (λ (q : Plan). held_in q old) (one p k.pattern) ∙ sym same) k.stands
+  opened = subst (λ (z : Held Table). Stands public_in agreement_in (with_later z k.later) v) (ap (λ (q : Plan). handshake_from_c q old) (one p k.pattern) ∙ sym same) k.stands
 
   -- and what it became is kept
   pub keeps : (w : View) → Stands public_in agreement_in (with_later h2 k.later) w → KeepsView new p w
   keeps w s = record {
     pattern = subst (λ (z : List ℕ). IsPatternOf z p) (sym name) k.pattern;
     later = k.later;
-    stands = subst (λ (z : Held Table). Stands public_in agreement_in (with_later z k.later) w) (sym (ap (λ (q : Plan). held_in q new) (one p k.pattern ∙ sym stays) ∙ kept)) s;
+    stands = subst (λ (z : Held Table). Stands public_in agreement_in (with_later z k.later) w) (sym (ap (λ (q : Plan). handshake_from_c q new) (one p k.pattern ∙ sym stays) ∙ kept)) s;
   }
 
   pub was-read : (message new_message : List ℕ) (start end : ℕ) → start ≤ end
@@ -50,19 +50,19 @@ module _ (old new : NoiseHandshake) (h h2 : Held Table) (p : Plan) (v : View) (o
   was-written payload message xs w s = record { carried = xs; writes = w; keeps = keeps (after_own v xs payload) s }
 
 -- a handshake that was opened stands for what is kept
-pub stands-for : (old : NoiseHandshake) (h : Held Table) (p : Plan) (v : View) → ((q : Plan) → IsPatternOf (text_in old) q → q ≡ h.pattern) → h ≡ held_in h.pattern old → (k : KeepsView old p v)
+pub stands-for : (old : NoiseHandshake) (h : Held Table) (p : Plan) (v : View) → ((q : Plan) → IsPatternOf (text_in old) q → q ≡ h.pattern) → h ≡ handshake_from_c h.pattern old → (k : KeepsView old p v)
     → Stands public_in agreement_in (with_later h k.later) v
-stands-for old h p v one same k = subst (λ (z : Held Table). Stands public_in agreement_in (with_later z k.later) v) (ap (λ (q : Plan). held_in q old) (one p k.pattern) ∙ sym same) k.stands
+stands-for old h p v one same k = subst (λ (z : Held Table). Stands public_in agreement_in (with_later z k.later) v) (ap (λ (q : Plan). handshake_from_c q old) (one p k.pattern) ∙ sym same) k.stands
 
 -- how long its message is, if one is due
-pub length-for : (old : NoiseHandshake) (h : Held Table) (p : Plan) (payload : ℕ) → ((q : Plan) → IsPatternOf (text_in old) q → q ≡ h.pattern) → h ≡ held_in h.pattern old
-    → IsPatternOf (text_in old) p → message_len_of (held_in p old) payload ≡ message_len_of h payload
+pub length-for : (old : NoiseHandshake) (h : Held Table) (p : Plan) (payload : ℕ) → ((q : Plan) → IsPatternOf (text_in old) q → q ≡ h.pattern) → h ≡ handshake_from_c h.pattern old
+    → IsPatternOf (text_in old) p → message_len_of (handshake_from_c p old) payload ≡ message_len_of h payload
 length-for old h p payload one same named =
-    ap (λ (z : Held Table). message_len_of z payload) (ap (λ (q : Plan). held_in q old) (one p named) ∙ sym same)
+    ap (λ (z : Held Table). message_len_of z payload) (ap (λ (q : Plan). handshake_from_c q old) (one p named) ∙ sym same)
 
 -- what keeps a handshake is usable
 pub usable-kept : (new : NoiseHandshake) (h : Held Table) → new.mark ≡ HANDSHAKE → new.text_len ≤ 416 → new.answer_count ≤ 8 → new.secret_count ≤ 9
-    → IsPatternOf (text_in new) h.pattern → IsValid h.pattern → held_in h.pattern new ≡ h → IsLateWhole public_in h → IsUsable new
+    → IsPatternOf (text_in new) h.pattern → IsValid h.pattern → handshake_from_c h.pattern new ≡ h → IsLateWhole public_in h → IsUsable new
 usable-kept new h m t a n named valid same whole = record {
   mark = m;
   text = t;
@@ -77,16 +77,16 @@ usable-kept new h m t a n named valid same whole = record {
 -- the same of what a usable one becomes
 pub usable-after : (old new : NoiseHandshake) (h h2 : Held Table) → IsUsable old → new.mark ≡ old.mark → new.text_len ≡ old.text_len → new.answer_count ≡ old.answer_count
     → new.secret_count ≤ 9 → text_in new ≡ text_in old → IsPatternOf (text_in old) h.pattern → h2.pattern ≡ h.pattern → IsValid h2.pattern
-    → held_in h2.pattern new ≡ h2 → IsLateWhole public_in h2 → IsUsable new
+    → handshake_from_c h2.pattern new ≡ h2 → IsLateWhole public_in h2 → IsUsable new
 usable-after old new h h2 u m t a n name named stays valid same whole =
     usable-kept new h2 (m ∙ u.mark) (omega (arith, t, u.text)) (omega (arith, a, u.answers)) n
     (subst (λ (z : List ℕ). IsPatternOf z h2.pattern) (sym name) (subst (λ (q : Plan). IsPatternOf (text_in old) q) (sym stays) named)) valid same whole
 
 -- a handshake that has ended
-pub ended-kept : (old new : NoiseHandshake) (h h2 : Held Table) → new ≡ record old { ended = 1 } → h ≡ held_in h.pattern old → h2 ≡ ended_as h
-    → held_in h2.pattern new ≡ h2
+pub ended-kept : (old new : NoiseHandshake) (h h2 : Held Table) → new ≡ record old { ended = 1 } → h ≡ handshake_from_c h.pattern old → h2 ≡ ended_as h
+    → handshake_from_c h2.pattern new ≡ h2
 ended-kept old new h h2 n same e =
-    ap (λ (q : Plan). held_in q new) (ap (λ (z : Held Table). z.pattern) e) ∙ ap (held_in h.pattern) n ∙ sym (e ∙ ap (λ (z : Held Table). ended_as z) same)
+    ap (λ (q : Plan). handshake_from_c q new) (ap (λ (z : Held Table). z.pattern) e) ∙ ap (handshake_from_c h.pattern) n ∙ sym (e ∙ ap (λ (z : Held Table). ended_as z) same)
 
 -- and keeps what a call has left
 pub usable-ended : (old : NoiseHandshake) → IsUsable old → IsUsable (record old { ended = 1 })
@@ -127,7 +127,7 @@ plain-leaves h h2 u (read.Refused token cause) plain e f = absurd (plain token c
 
 -- the secrets that are left after a message stand at the same end
 secrets-after : (old : NoiseHandshake) (h h2 : Held Table) (taken : List (List ℕ)) → old.secret_count ≤ 9 → length h.secrets ≡ old.secret_count
-    → h ≡ held_in h.pattern old → h.secrets ≡ taken ++ h2.secrets → h2.secrets ≡ drop (9 - length h2.secrets) old.secrets
+    → h ≡ handshake_from_c h.pattern old → h.secrets ≡ taken ++ h2.secrets → h2.secrets ≡ drop (9 - length h2.secrets) old.secrets
 secrets-after old h h2 taken few count same after =
     let c : ℕ = old.secret_count in
     let n : length h.secrets ≡ length taken + length h2.secrets = ap length after ∙ length-append taken h2.secrets in
@@ -137,6 +137,6 @@ secrets-after old h h2 taken few count same after =
 
 -- the same by the slice that lends them
 pub secrets-left : (old : NoiseHandshake) (h h2 : Held Table) (taken left : List (List ℕ)) → old.secret_count ≤ 9 → length h.secrets ≡ old.secret_count
-    → h ≡ held_in h.pattern old → h.secrets ≡ taken ++ h2.secrets → left ≡ h2.secrets → h2.secrets ≡ drop (9 - length left) old.secrets
+    → h ≡ handshake_from_c h.pattern old → h.secrets ≡ taken ++ h2.secrets → left ≡ h2.secrets → h2.secrets ≡ drop (9 - length left) old.secrets
 secrets-left old h h2 taken left few count same after e =
     secrets-after old h h2 taken few count same after ∙ ap (λ (z : List (List ℕ)). drop (9 - length z) old.secrets) (sym e)

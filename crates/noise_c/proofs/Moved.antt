@@ -13,7 +13,7 @@ use Rattle.noise_handshake.specs.Parts.{IsWhole}
 use Rattle.noise_handshake.specs.Setup.{secrets_of}
 use Rattle.noise_handshake.specs.Party.{Stands}
 use Rattle.noise_names.specs.Validity.{IsValid}
-use Rattle.noise_c.specs.Kept.{public_in, agreement_in, text_in, held_in, IsGiven, IsPatternOf, IsUsable, KeepsView}
+use Rattle.noise_c.specs.Kept.{public_in, agreement_in, text_in, handshake_from_c, IsGiven, IsPatternOf, IsUsable, KeepsView}
 
 set-first : (ws : List (List ℕ)) (y : List ℕ) → length ws ≡ 1 → slice_set ws 0 y ≡ y ∷ []
 set-first [] y e = absurd (omega (arith, e))
@@ -48,13 +48,13 @@ append-same (x ∷ xs) ys zs e = append-same xs ys zs (cons-same x (xs ++ ys) (x
 
 -- a view whose secrets go on with the one that is kept is stood for as before
 pub stands-later : (old new : NoiseHandshake) (secret : List ℕ) (p : Plan) (v : View) (later : List (List ℕ)) → IsGiven old new secret
-    → v.secrets ≡ (held_in p old).secrets ++ secret ∷ later → KeepsView old p v → KeepsView new p v
+    → v.secrets ≡ (handshake_from_c p old).secrets ++ secret ∷ later → KeepsView old p v → KeepsView new p v
 stands-later old new secret p v later g e k =
-    let rest : k.later ≡ secret ∷ later = append-same (held_in p old).secrets k.later (secret ∷ later) (k.stands.secrets ∙ e) in
-    let same : with_later (held_in p old) k.later ≡ with_later (held_in p new) later =
-    ap (λ (z : List (List ℕ)). with_later (held_in p old) z) rest
-    ∙ ap (λ (z : List (List ℕ)). record (held_in p old) { secrets = z }) (sym (append-assoc (held_in p old).secrets secret later))
-    ∙ ap (λ (z : Held Table). with_later z later) (sym (g.held p)) in
+    let rest : k.later ≡ secret ∷ later = append-same (handshake_from_c p old).secrets k.later (secret ∷ later) (k.stands.secrets ∙ e) in
+    let same : with_later (handshake_from_c p old) k.later ≡ with_later (handshake_from_c p new) later =
+    ap (λ (z : List (List ℕ)). with_later (handshake_from_c p old) z) rest
+    ∙ ap (λ (z : List (List ℕ)). record (handshake_from_c p old) { secrets = z }) (sym (append-assoc (handshake_from_c p old).secrets secret later))
+    ∙ ap (λ (z : Held Table). with_later z later) (sym (g.handshake p)) in
     record {
       pattern = subst (λ (z : List ℕ). IsPatternOf z p) (sym g.text) k.pattern;
       later = later;
@@ -81,10 +81,10 @@ whole-put h secret (y ∷ later) low w = (
 
 -- a secret that was lacked leaves what a handshake may hold
 pub usable-given : (old new : NoiseHandshake) (secret : List ℕ) (h : Held Table) → IsUsable old → new.mark ≡ old.mark → new.text_len ≡ old.text_len
-    → new.answer_count ≡ old.answer_count → new.secret_count ≤ 9 → IsGiven old new secret → h ≡ held_in h.pattern old → IsPatternOf (text_in old) h.pattern
+    → new.answer_count ≡ old.answer_count → new.secret_count ≤ 9 → IsGiven old new secret → h ≡ handshake_from_c h.pattern old → IsPatternOf (text_in old) h.pattern
     → ((q : Plan) → IsPatternOf (text_in old) q → q ≡ h.pattern) → length h.secrets < secrets_of (drop h.passed h.pattern.messages) → IsUsable new
 usable-given old new secret h u m t a n g same named one low =
-    let q : held_in u.pattern old ≡ h = ap (λ (z : Plan). held_in z old) (one u.pattern u.named) ∙ sym same in
+    let q : handshake_from_c u.pattern old ≡ h = ap (λ (z : Plan). handshake_from_c z old) (one u.pattern u.named) ∙ sym same in
     let w : IsLateWhole public_in h = subst (λ (z : Held Table). IsLateWhole public_in z) q u.whole in
     let whole : IsLateWhole public_in (with_later h (secret ∷ [])) = whole-put h secret w.0 low w.1 in
     record {
@@ -95,5 +95,5 @@ usable-given old new secret h u m t a n g same named one low =
       pattern = h.pattern;
       named = subst (λ (z : List ℕ). IsPatternOf z h.pattern) (sym g.text) named;
       valid = subst (λ (z : Plan). IsValid z) (one u.pattern u.named) u.valid;
-      whole = subst (λ (z : Held Table). IsLateWhole public_in z) (ap (λ (z : Held Table). with_later z (secret ∷ [])) same ∙ sym (g.held h.pattern)) whole;
+      whole = subst (λ (z : Held Table). IsLateWhole public_in z) (ap (λ (z : Held Table). with_later z (secret ∷ [])) same ∙ sym (g.handshake h.pattern)) whole;
     }

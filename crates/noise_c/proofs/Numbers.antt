@@ -12,7 +12,7 @@ use Rattle.noise_handshake.specs.declared.late_faults.Want.{Want}
 use Rattle.noise_handshake.specs.Held.{IsAgreement}
 use Rattle.noise_c.specs.declared.kept.NoiseTold.{NoiseTold}
 use Rattle.noise_c.specs.Codes.{cause_code, read_code, write_code}
-use Rattle.noise_c.specs.Kept.{TellsWant}
+use Rattle.noise_c.specs.Kept.{ReportsWant}
 use Rattle.noise_c.proofs.Wants.{want-code}
 
 -- it is another one
@@ -45,13 +45,13 @@ too-long n limit more less = absurd (omega (arith, more, less))
 
 -- ---- the numbers of a want: WANTED and WANTED_PSK
 
-pub wants-either : (want : Want) (told : NoiseTold) (code : ℕ) → TellsWant want told code → (code ≡ 20) ⊎ (code ≡ 40)
+pub wants-either : (want : Want) (told : NoiseTold) (code : ℕ) → ReportsWant want told code → (code ≡ 20) ⊎ (code ≡ 40)
 wants-either want told code t = want-code want told code (λ (n : ℕ). (n ≡ 20) ⊎ (n ≡ 40)) t (inl refl) (inr refl)
 
-pub wants-from : (want : Want) (told : NoiseTold) (code : ℕ) → TellsWant want told code → 20 ≤ code
+pub wants-from : (want : Want) (told : NoiseTold) (code : ℕ) → ReportsWant want told code → 20 ≤ code
 wants-from want told code t = want-code want told code (λ (n : ℕ). 20 ≤ n) t (omega arith) (omega arith)
 
-pub wants-other : {A : Type 0} (want : Want) (told : NoiseTold) (code wanted : ℕ) → TellsWant want told code → eqb 20 wanted ≡ false → eqb 40 wanted ≡ false
+pub wants-other : {A : Type 0} (want : Want) (told : NoiseTold) (code wanted : ℕ) → ReportsWant want told code → eqb 20 wanted ≡ false → eqb 40 wanted ≡ false
     → code ≡ wanted → A
 wants-other {A} want told code wanted t answer secret =
     want-code want told code (λ (n : ℕ). n ≡ wanted → A) t (other 20 wanted answer) (other 40 wanted secret)
@@ -114,6 +114,6 @@ pub plain-within : (code : ℕ) → (code ≡ 10) ⊎ ((12 ≤ code) × (code �
 plain-within code (inl e) = (omega (arith, e), omega (arith, e))
 plain-within code (inr w) = (omega (arith, w), w.1)
 
-pub plain-sort : {A B : Type 0} (code : ℕ) → (code ≡ 10) ⊎ ((12 ≤ code) × (code ≤ 13)) → A ⊎ ((code ≡ 10) ⊎ (((12 ≤ code) × (code ≤ 16)) ⊎ B))
-plain-sort code (inl e) = inr (inl e)
-plain-sort code (inr w) = inr (inr (inl (w.0, omega (arith, w.1))))
+pub plain-sort : (code : ℕ) → (code ≡ 10) ⊎ ((12 ≤ code) × (code ≤ 13)) → (code ≡ 10) ⊎ ((12 ≤ code) × (code ≤ 16))
+plain-sort code (inl e) = inl e
+plain-sort code (inr w) = inr (w.0, omega (arith, w.1))

@@ -1,9 +1,10 @@
 -- What opening a datagram answers by number.
-use Rattle.std.proofs.Common.{◌≡◌, ◌≤◌, ◌⊎◌, inl, inr, ℕ, ◌+◌, List, drop, take, ap, sym, subst, ◌∙◌, refl, arith}
+use Rattle.std.proofs.Common.{◌≡◌, ◌≤◌, inl, inr, ℕ, ◌+◌, List, drop, take, ap, sym, subst, ◌∙◌, refl, arith}
 use Rattle.std.specs.Prelude.{slice_range}
 use Rattle.noise_session.specs.declared.datagram_fault.DatagramFault.{DatagramFault}
 use Rattle.noise_session.specs.declared.datagram_fault.DatagramFault.TheVariants as declined
 use Rattle.noise_c.specs.TransportCodes.{datagram_code}
+use Rattle.noise_c.specs.KeptDatagramHalves.{IsDatagramCode}
 use Rattle.noise_c.proofs.Numbers.{other}
 
 datagram-codes : (fault : DatagramFault) → (11 ≤ datagram_code fault)
@@ -31,10 +32,7 @@ not-struct declined.Repeated e = other 28 23 refl e
 pub declined-not-struct : {A : Type 0} (fault : DatagramFault) (code : ℕ) → code ≡ datagram_code fault → code ≡ 23 → A
 declined-not-struct fault code is e = not-struct fault (sym is ∙ e)
 
-abbrev IsCode : ℕ → Type 0
-IsCode n = (n ≡ 0) ⊎ (n ≡ 11) ⊎ (n ≡ 15) ⊎ (n ≡ 16) ⊎ (n ≡ 22) ⊎ (n ≡ 23) ⊎ (n ≡ 26) ⊎ (n ≡ 27) ⊎ (n ≡ 28)
-
-declined-sort : (fault : DatagramFault) → IsCode (datagram_code fault)
+declined-sort : (fault : DatagramFault) → IsDatagramCode (datagram_code fault)
 declined-sort declined.TooLong = inr (inl refl)
 declined-sort declined.Short = inr (inr (inl refl))
 declined-sort declined.Tag = inr (inr (inr (inl refl)))
@@ -43,9 +41,8 @@ declined-sort declined.Reserved = inr (inr (inr (inr (inr (inr (inl refl))))))
 declined-sort declined.Old = inr (inr (inr (inr (inr (inr (inr (inl refl)))))))
 declined-sort declined.Repeated = inr (inr (inr (inr (inr (inr (inr (inr refl)))))))
 
-pub declined-among : (fault : DatagramFault) (code : ℕ) → code ≡ datagram_code fault
-    → (code ≡ 0) ⊎ (code ≡ 11) ⊎ (code ≡ 15) ⊎ (code ≡ 16) ⊎ (code ≡ 22) ⊎ (code ≡ 23) ⊎ (code ≡ 26) ⊎ (code ≡ 27) ⊎ (code ≡ 28)
-declined-among fault code is = subst (λ (n : ℕ). IsCode n) (sym is) (declined-sort fault)
+pub declined-among : (fault : DatagramFault) (code : ℕ) → code ≡ datagram_code fault → IsDatagramCode code
+declined-among fault code is = subst (λ (n : ℕ). IsDatagramCode n) (sym is) (declined-sort fault)
 
 -- the payload, from the ninth byte on
 pub from-ninth : (bytes : List ℕ) (n : ℕ) → take n (drop 8 bytes) ≡ slice_range bytes 8 (8 + n)

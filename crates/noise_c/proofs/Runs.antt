@@ -73,7 +73,7 @@ module _ (own : Own) (key x : List ℕ) where
   handed : (es : List TableEntry) → answer_in es own key ≡ None → IsHandedIn (answer_in es) (answer_in (es ++ entry ∷ [])) own key x
   handed es none = record {
     there = either es entry own key ∙ ap (λ (o : Option (List ℕ)). option_or o (answer_in (entry ∷ []) own key)) none ∙ alone;
-    kept = λ (o : Own) (k y : List ℕ) (e : answer_in es o k ≡ Some y).
+    stays = λ (o : Own) (k y : List ℕ) (e : answer_in es o k ≡ Some y).
         either es entry o k ∙ ap (λ (z : Option (List ℕ)). option_or z (answer_in (entry ∷ []) o k)) e;
     only = λ (o : Own) (k y : List ℕ) (e : answer_in (es ++ entry ∷ []) o k ≡ Some y).
         which o k y (answer_in es o k) refl (sym (either es entry o k) ∙ e);
@@ -92,7 +92,7 @@ module _ (p : Plan) (v : View) where
 
   module _ (k next : NoiseHandshake) (own : Own) (key x : List ℕ) (added : IsAdded k next (record { own = own; remote = key; answer = x })) where
     table : table_in next ≡ record (table_in k) { entries = (table_in k).entries ++ record { own = own; remote = key; answer = x } ∷ [] }
-    table = ap (λ (h : Held Table). h.keys) (added.held p)
+    table = ap (λ (h : Held Table). h.keys) (added.handshake p)
 
     pub answers-next : answers_in k own key ≡ None → IsHandedIn (answers_in k) (answers_in next) own key x
     answers-next none =
@@ -102,7 +102,7 @@ module _ (p : Plan) (v : View) where
     keeps-next c = record {
       pattern = subst (λ (bytes : List ℕ). IsPatternOf bytes p) (sym added.text) c.pattern;
       later = c.later;
-      stands = subst (λ (h : Held Table). Stands public_in agreement_in (with_later h c.later) (with_answers v (answers_in next))) (sym (added.held p)) (record {
+      stands = subst (λ (h : Held Table). Stands public_in agreement_in (with_later h c.later) (with_answers v (answers_in next))) (sym (added.handshake p)) (record {
         pattern = c.stands.pattern;
         role = c.stands.role;
         secrets = c.stands.secrets;

@@ -10,13 +10,14 @@ use Rattle.noise_handshake.specs.View.{View}
 use Rattle.noise_handshake.specs.Party.{Stands}
 use Rattle.noise_handshake.specs.Late.{with_later}
 use Rattle.noise_c.specs.declared.kept.NoiseHandshake.{NoiseHandshake}
-use Rattle.noise_c.specs.Kept.{public_in, agreement_in, text_in, held_in, KeepsView, IsPatternOf, IsPatternFault, IsNoName, IsNoText, IsNotValid, is_text, IsStartCode, fault_in, code_of, start_code}
+use Rattle.noise_c.specs.Kept.{public_in, agreement_in, text_in, handshake_from_c, KeepsView, IsPatternOf, IsPatternFault, IsNoName, IsNoText, IsNotValid, is_text, IsStartCode, fault_in, code_of, start_code}
 use Rattle.noise_handshake.specs.declared.remote.Remote.{Remote}
 use Rattle.noise_handshake.specs.Setup.{begun, setup_fault}
 use Rattle.noise_names.specs.declared.token.Role.{Role}
 use Rattle.noise_c.specs.Codes.{setup_code}
 use Rattle.noise_c.specs.declared.kept.NoiseSetup.{NoiseSetup}
 use Rattle.noise_keys.specs.declared.faults.SetupFault.{SetupFault}
+use Rattle.noise_keys.specs.declared.faults.SetupFault.TheVariants as setup
 
 kinds : (bytes : List ℕ) → is_text bytes ≡ true → is_text bytes ≡ false → ⊥
 kinds bytes a b = cc
@@ -45,15 +46,16 @@ pub fault-not-zero : (code : ℕ) → (code ≡ 1) ⊎ (code ≡ 2) → code ≡
 fault-not-zero code (inl a) e = omega (arith, a, e)
 fault-not-zero code (inr a) e = omega (arith, a, e)
 
-pub start-known : (n : ℕ) → (n ≡ 0) ⊎ ((4 ≤ n) × (n ≤ 8)) ⊎ (n ≡ 24) → IsStartCode n
-start-known n (inl a) = inl a
-start-known n (inr (inl a)) = inr (inr (inr (inl a)))
-start-known n (inr (inr a)) = inr (inr (inr (inr a)))
+setup-codes : (fault : SetupFault) → (4 ≤ setup_code fault) × (setup_code fault ≤ 8)
+setup-codes setup.EphemeralMissing = (omega arith, omega arith)
+setup-codes setup.StaticMissing = (omega arith, omega arith)
+setup-codes setup.RemoteMissing = (omega arith, omega arith)
+setup-codes setup.RemoteUnexpected = (omega arith, omega arith)
+setup-codes setup.PskCount = (omega arith, omega arith)
 
-pub start-not : (n k : ℕ) → (n ≡ 0) ⊎ ((4 ≤ n) × (n ≤ 8)) ⊎ (n ≡ 24) → 1 ≤ k → k ≤ 2 → n ≡ k → ⊥
-start-not n k (inl a) l h e = omega (arith, a, l, e)
-start-not n k (inr (inl a)) l h e = omega (arith, a.0, h, e)
-start-not n k (inr (inr a)) l h e = omega (arith, a, h, e)
+-- the numbers of the faults of a setup
+pub setup-within : (fault : SetupFault) (code : ℕ) → code ≡ setup_code fault → (4 ≤ code) × (code ≤ 8)
+setup-within fault code is = subst (λ (n : ℕ). (4 ≤ n) × (n ≤ 8)) (sym is) (setup-codes fault)
 
 pub valid-name : (bytes : List ℕ) (p : Plan) (n : ℕ) → IsPatternOf bytes p → (n ≡ 1 → ⊥) → (n ≡ 1) ↔ IsNoName bytes
 valid-name bytes p n h none = (λ e. absurd (none e), λ i. absurd (i.none p h))
@@ -66,11 +68,11 @@ valid-pattern bytes p n h v one none = (λ e. absurd (none e), λ i. absurd (not
   not-both (inr t) = t.broken (subst (λ (z : Plan). IsValid z) (sym (one t.pattern t.named)) v)
 
 pub keeps-start : (new : NoiseHandshake) (h : Held Table) (p : Plan) (text : List ℕ) (later : List (List ℕ)) (v : View)
-    → text_in new ≡ text → IsPatternOf text p → h.pattern ≡ p → held_in h.pattern new ≡ h → Stands public_in agreement_in (with_later h later) v → KeepsView new p v
+    → text_in new ≡ text → IsPatternOf text p → h.pattern ≡ p → handshake_from_c h.pattern new ≡ h → Stands public_in agreement_in (with_later h later) v → KeepsView new p v
 keeps-start new h p text later v t named q same s = record {
   pattern = subst (λ (z : List ℕ). IsPatternOf z p) (sym t) named;
   later = later;
-  stands = subst (λ (z : Held Table). Stands public_in agreement_in (with_later z later) v) (sym (ap (λ (z : Plan). held_in z new) (sym q) ∙ same)) s;
+  stands = subst (λ (z : Held Table). Stands public_in agreement_in (with_later z later) v) (sym (ap (λ (z : Plan). handshake_from_c z new) (sym q) ∙ same)) s;
 }
 
 ok-err : (h : Held Table) (f : SetupFault) → ◌≡◌ {A = Result (Held Table) SetupFault} (Ok h) (Err f) → ⊥

@@ -10,7 +10,7 @@ use Rattle.noise_handshake.specs.Wanting.{WantsToRead, WantsToWrite}
 use Rattle.noise_handshake.specs.Late.{LeavesLateUnread, WantsLate, WantsSecretToRead, WantsSecretToWrite}
 use Rattle.noise_c.specs.declared.kept.NoiseHandshake.{NoiseHandshake}
 use Rattle.noise_c.specs.declared.kept.NoiseTold.{NoiseTold}
-use Rattle.noise_c.specs.Kept.{own_in, remote_told, TellsWant}
+use Rattle.noise_c.specs.Kept.{own_in, remote_reported, KeepsView, ReportsAnswer, ReportsRemote, ReportsWant}
 use Rattle.noise_c.specs.Outcomes.{ReadOutcome, WriteOutcome}
 use Rattle.noise_c.specs.Outcomes.ReadOutcome.{wants_answer as read_wants_answer, wants_secret as read_wants_secret}
 use Rattle.noise_c.specs.Outcomes.WriteOutcome.{wants_answer as write_wants_answer, wants_secret as write_wants_secret}
@@ -26,24 +26,29 @@ writes-answer : (v : View) (own : Own) (key : List ℕ) (told : NoiseTold) → o
 writes-answer v own key told o k r =
     subst (λ (z : List ℕ). WantsToWrite v (own_in told.of_static) z) (sym k) (subst (λ (x : Own). WantsToWrite v x key) (sym o) r)
 
-module _ (p : Plan) (v : View) (old new : NoiseHandshake) (payload : List ℕ) (room : ℕ) (out : List ℕ) (n : ℕ) where
-  pub writes-outcome : (want : Want) (told : NoiseTold) (code : ℕ) → TellsWant want told code → n ≡ old.secret_count → WantsLate v n want
-      → WriteOutcome p v old payload room new out told code
-  writes-outcome (Answer own key) told code t count r =
-      subst (λ (c : ℕ). WriteOutcome p v old payload room new out told c) (sym t.0)
-      (write_wants_answer (writes-answer v own key told t.1 t.2 r))
-  writes-outcome (Secret remote) told code t count r =
-      let s = writes-secret v n (Secret remote) told code t t.0 r in
-      subst (λ (c : ℕ). WriteOutcome p v old payload room new out told c) (sym t.0)
-      (write_wants_secret (subst (λ (i : ℕ). WantsSecretToWrite v i) count s.0) s.1)
+module _ (old new : NoiseHandshake) (payload out after : List ℕ) (told : NoiseTold) (n : ℕ) where
+  pub writes-outcome : (want : Want) (next : NoiseTold) (code : ℕ) → ReportsWant want next code
+      → (code ≡ 20 → ReportsAnswer told next) → (code ≡ 40 → ReportsRemote told next) → n ≡ old.secret_count → new ≡ old → after ≡ out
+      → ((p : Plan) (v : View) → KeepsView old p v → WantsLate v n want) → WriteOutcome old payload out told new after next code
+  writes-outcome (Answer own key) next code t answer static count same bytes leaves =
+      subst (λ (c : ℕ). WriteOutcome old payload out told new after next c) (sym t.0)
+      (write_wants_answer (answer t.0) same bytes (λ p v k. writes-answer v own key next t.1 t.2 (leaves p v k)))
+  writes-outcome (Secret remote) next code t answer static count same bytes leaves =
+      subst (λ (c : ℕ). WriteOutcome old payload out told new after next c) (sym t.0)
+      (write_wants_secret (static t.0) same bytes (λ p v k.
+      let s = writes-secret v n (Secret remote) next code t t.0 (leaves p v k) in
+      (subst (λ (i : ℕ). WantsSecretToWrite v i) count s.0, s.1)))
 
-module _ (p : Plan) (v : View) (old new : NoiseHandshake) (message after : List ℕ) (n : ℕ) where
-  pub reads-outcome : (want : Want) (told : NoiseTold) (code : ℕ) → TellsWant want told code → n ≡ old.secret_count
-      → LeavesLateUnread v n message (unread.Wants want) → ReadOutcome p v old message new after told code
-  reads-outcome (Answer own key) told code t count r =
-      subst (λ (c : ℕ). ReadOutcome p v old message new after told c) (sym t.0)
-      (read_wants_answer (reads-answer v message own key told t.1 t.2 r))
-  reads-outcome (Secret remote) told code t count r =
-      let s = reads-secret v n message (Secret remote) told code t t.0 r in
-      subst (λ (c : ℕ). ReadOutcome p v old message new after told c) (sym t.0)
-      (read_wants_secret (subst (λ (i : ℕ). WantsSecretToRead v i message (remote_told told)) count s))
+module _ (old new : NoiseHandshake) (message after : List ℕ) (told : NoiseTold) (n : ℕ) where
+  pub reads-outcome : (want : Want) (next : NoiseTold) (code : ℕ) → ReportsWant want next code
+      → (code ≡ 20 → ReportsAnswer told next) → (code ≡ 40 → ReportsRemote told next) → n ≡ old.secret_count → new ≡ old → after ≡ message
+      → ((p : Plan) (v : View) → KeepsView old p v → LeavesLateUnread v n message (unread.Wants want))
+      → ReadOutcome old message told new after next code
+  reads-outcome (Answer own key) next code t answer static count same bytes leaves =
+      subst (λ (c : ℕ). ReadOutcome old message told new after next c) (sym t.0)
+      (read_wants_answer (answer t.0) same bytes (λ p v k. reads-answer v message own key next t.1 t.2 (leaves p v k)))
+  reads-outcome (Secret remote) next code t answer static count same bytes leaves =
+      subst (λ (c : ℕ). ReadOutcome old message told new after next c) (sym t.0)
+      (read_wants_secret (static t.0) same bytes (λ p v k.
+      subst (λ (i : ℕ). WantsSecretToRead v i message (remote_reported next)) count
+      (reads-secret v n message (Secret remote) next code t t.0 (leaves p v k))))

@@ -14,8 +14,8 @@ use Rattle.noise_c.specs.Kept.{IsAdded, KeepsView, agreement_in, table_in}
 abbrev pub answers_in : NoiseHandshake → Answers
 answers_in k = agreement_in (table_in k)
 
--- A message is read by so many calls that ask for an answer (`wants_answer` of `ReadOutcome`), each of which is handed in
--- as the keys have it (`noise_answer`); this is kept at last, when the next call reads.
+-- A message is read by so many calls that ask for an answer (`wants_answer` of `ReadOutcome`), each of which is handed
+-- in as the keys have it (`noise_answer`); this is kept at last, when the next call reads.
 pub data ReadsByAnswers (p : Plan) (all : Answers) (message : List ℕ) : NoiseHandshake → ℕ → NoiseHandshake
     → Type 0 where
   ready : (k : NoiseHandshake) → ReadsByAnswers p all message k 0 k

@@ -28,7 +28,7 @@ with_answers v answers = record v { agree = answers }
 -- this answer is there and so are the earlier ones, and no others
 pub record IsHandedIn (before after : Answers) (own : Own) (key x : List ℕ) : Type 0 where
   pub there : after own key ≡ Some x
-  pub kept : AreAmong before after
+  pub stays : AreAmong before after
   pub only : (o : Own) (k y : List ℕ) → after o k ≡ Some y → (before o k ≡ Some y) ⊎ ((o ≡ own) × (k ≡ key) × (y ≡ x))
 
 -- So many answers are handed in, each when a message that comes lacks it, and each as the keys have it: with the first

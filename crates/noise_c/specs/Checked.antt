@@ -1,5 +1,5 @@
--- What a check of a pattern text tells.
-use Rattle.std.specs.Prelude.{◌≡◌, ℕ, List, Some}
+-- What a check of a pattern text reports.
+use Rattle.std.specs.Prelude.{◌≡◌, ◌≤◌, ℕ, List, Some, length}
 use Rattle.noise_names.specs.declared.faults.TextFaultKind.{TextFaultKind}
 use Rattle.noise_names.specs.Plan.{Plan}
 use Rattle.noise_names.specs.Text.{Spells}
@@ -7,6 +7,7 @@ use Rattle.noise_names.specs.Validity.{IsValid, first_fault}
 use Rattle.noise_names.specs.WrongText.{IsTextFaultAt}
 use Rattle.noise_c.specs.Codes.{text_code}
 use Rattle.noise_c.specs.declared.kept.NoisePatternTold.{NoisePatternTold}
+use Rattle.noise_c.specs.declared.codes.numbers.TheConstants.{ENDING, HEADING}
 
 -- the text of a valid pattern
 pub record IsValidText (text : List ℕ) : Type 0 where
@@ -20,11 +21,19 @@ pub record IsBrokenText (text : List ℕ) : Type 0 where
   pub spelled : Spells text pattern
   pub broken : IsValid pattern → ⊥
 
+-- a number of a text that no pattern has
+abbrev pub IsTextCode : ℕ → Type 0
+IsTextCode n = (HEADING ≤ n) × (n ≤ ENDING)
+
 -- The code and the line are those that are reported of a text that no pattern has.
-abbrev pub TellsText : List ℕ → ℕ → ℕ → Type 0
-TellsText text code number = (kind : TextFaultKind) × (code ≡ text_code kind) × IsTextFaultAt text number kind
+abbrev pub ReportsText : List ℕ → ℕ → ℕ → Type 0
+ReportsText text code number = (kind : TextFaultKind) × (code ≡ text_code kind) × IsTextFaultAt text number kind
+
+-- The number of messages was reported, and nothing else.
+abbrev pub ReportsMessages : Plan → NoisePatternTold → NoisePatternTold → Type 0
+ReportsMessages p old new = new ≡ record old { messages = length p.messages }
 
 -- The pattern's first fault was reported, and nothing else.
-pub record TellsRule (p : Plan) (old new : NoisePatternTold) : Type 0 where
+pub record ReportsRule (p : Plan) (old new : NoisePatternTold) : Type 0 where
   pub fault : first_fault p ≡ Some (record { rule = new.rule; message = new.message; token = new.token })
   pub rest : new ≡ record old { rule = new.rule; message = new.message; token = new.token }

@@ -1,5 +1,5 @@
 -- What the memory that C keeps stands for.
-use Rattle.std.specs.Prelude.{◌≡◌, ◌⊎◌, ℕ, ◌≤◌, ◌==◌, nat_eq, nat_lt, Bool, true, false, not, List, [], ◌∷◌, ◌++◌, length, take, map, Option, Some, None, if◌then◌else◌, replicate, drop, ◌-◌}
+use Rattle.std.specs.Prelude.{◌≡◌, ◌⊎◌, ◌↔◌, ◌<◌, ℕ, ◌≤◌, ◌==◌, nat_eq, nat_lt, Bool, true, false, not, List, [], ◌∷◌, ◌++◌, length, take, map, Option, Some, None, if◌then◌else◌, replicate, drop, ◌-◌}
 use Rattle.std.specs.List.{ends_with}
 use Rattle.noise_names.specs.declared.token.Role.{Role}
 use Rattle.noise_names.specs.declared.token.Role.TheVariants.{Initiator, Responder}
@@ -20,7 +20,9 @@ use Rattle.noise_handshake.specs.declared.late_faults.Want.{Want}
 use Rattle.noise_handshake.specs.declared.late_faults.Want.TheVariants.{Answer, Secret}
 use Rattle.noise_keys.specs.Keys.{key_of}
 use Rattle.noise_keys.specs.Table.{Table, TableEntry, answer_in}
-use Rattle.noise_handshake.specs.Held.{Held, is_turn}
+use Rattle.noise_handshake.specs.Held.{Held, is_turn, message_len_of}
+use Rattle.noise_handshake.specs.Parts.{HasProgress}
+use Rattle.noise_handshake.specs.declared.parts.Progress.{Progress}
 use Rattle.noise_handshake.specs.Late.{with_later, late_fault, IsLateWhole}
 use Rattle.noise_handshake.specs.Setup.{begun}
 use Rattle.noise_handshake.specs.View.{View, Accepts}
@@ -30,11 +32,10 @@ use Rattle.noise_c.specs.declared.kept.NoiseKey.{NoiseKey}
 use Rattle.noise_c.specs.declared.kept.NoiseAnswer.{NoiseAnswer}
 use Rattle.noise_c.specs.declared.kept.NoiseHandshake.{NoiseHandshake}
 use Rattle.noise_c.specs.declared.kept.NoiseSetup.{NoiseSetup}
-use Rattle.noise_c.specs.declared.marks.TheConstants.{HANDSHAKE}
+use Rattle.noise_c.specs.declared.codes.numbers.TheConstants.{EPHEMERAL_MISSING, HANDSHAKE, LENGTH, NAME, OK, PATTERN, PSK_COUNT, STRUCT, WANTED, WANTED_PSK}
 use Rattle.noise_c.specs.declared.kept.NoiseStageTold.{NoiseStageTold}
 use Rattle.noise_c.specs.declared.kept.NoiseTold.{NoiseTold}
 use Rattle.noise_c.specs.Codes.{read_code, token_in, write_code, setup_code}
-use Rattle.noise_c.specs.declared.codes.TheConstants.{EPHEMERAL_MISSING, LENGTH, NAME, OK, PATTERN, PSK_COUNT, WANTED, WANTED_PSK}
 
 -- a key, if there is one
 abbrev pub key_in : NoiseKey → Option (List ℕ)
@@ -44,10 +45,10 @@ key_in k = if k.present == 0 then None else Some k.bytes
 abbrev pub no_key : NoiseKey
 no_key = record { present = 0; bytes = replicate 32 0 }
 
--- how a key is kept and told
-abbrev pub kept_key : Option (List ℕ) → NoiseKey
-kept_key None = no_key
-kept_key (Some bytes) = record { present = 1; bytes = bytes }
+-- how C has a key
+abbrev pub key_to_c : Option (List ℕ) → NoiseKey
+key_to_c None = no_key
+key_to_c (Some bytes) = record { present = 1; bytes = bytes }
 
 abbrev pub own_in : ℕ → Own
 own_in of_static = if of_static == 0 then Ephemeral else Static
@@ -112,8 +113,8 @@ abbrev pub IsPatternFault : List ℕ → ℕ → Type 0
 IsPatternFault bytes code = ((code ≡ NAME) × IsNoName bytes) ⊎ ((code ≡ PATTERN) × (IsNoText bytes ⊎ IsNotValid bytes))
 
 -- the handshake
-abbrev pub held_in : Plan → NoiseHandshake → Held Table
-held_in p k = record {
+abbrev pub handshake_from_c : Plan → NoiseHandshake → Held Table
+handshake_from_c p k = record {
   pattern = p;
   role = role_in k.responder;
   keys = table_in k;
@@ -124,7 +125,8 @@ held_in p k = record {
   state = state_of (record { chaining_key = k.chaining_key; hash = k.hash; key = key_in k.cipher; nonce = k.nonce });
 }
 
--- A call has left this: its mark is that of a handshake of this layout; no more text, answers and secrets than there is room for, and what a handshake of the named pattern may hold.
+-- A call has left this: its mark is that of a handshake of this layout; no more text, answers and secrets than there is
+-- room for, and what a handshake of the named pattern may hold.
 pub record IsUsable (k : NoiseHandshake) : Type 0 where
   pub mark : k.mark ≡ HANDSHAKE
   pub text : k.text_len ≤ 416
@@ -133,13 +135,31 @@ pub record IsUsable (k : NoiseHandshake) : Type 0 where
   pub pattern : Plan
   pub named : IsPatternOf (text_in k) pattern
   pub valid : IsValid pattern
-  pub whole : IsLateWhole public_in (held_in pattern k)
+  pub whole : IsLateWhole public_in (handshake_from_c pattern k)
 
 -- What C keeps stands for the view, by a pattern of its name: with the view's later secrets, which it may lack.
 pub record KeepsView (k : NoiseHandshake) (p : Plan) (v : View) : Type 0 where
   pub pattern : IsPatternOf (text_in k) p
   pub later : List (List ℕ)
-  pub stands : Stands public_in agreement_in (with_later (held_in p k) later) v
+  pub stands : Stands public_in agreement_in (with_later (handshake_from_c p k) later) v
+
+-- for each view that it stands for, and the pattern by which it does
+abbrev pub ForView : NoiseHandshake → (Plan → View → Type 0) → Type 0
+ForView k P = (p : Plan) (v : View) → KeepsView k p v → P p v
+
+-- for the pattern of its name
+abbrev pub ForPattern : NoiseHandshake → (Plan → Type 0) → Type 0
+ForPattern k P = (p : Plan) → IsPatternOf (text_in k) p → P p
+
+-- the length of its next message with a payload of this length, if one is due
+abbrev pub HasMessageLen : NoiseHandshake → ℕ → Option ℕ → Type 0
+HasMessageLen k payload len = ForPattern k (λ p. message_len_of (handshake_from_c p k) payload ≡ len)
+
+-- a handshake with this progress is what C keeps afterwards, with the keys, the role and so many of the secrets that it
+-- kept before
+abbrev pub KeepsProgress : Progress → ℕ → NoiseHandshake → NoiseHandshake → Type 0
+KeepsProgress progress left old new = (h : Held Table) → HasProgress h progress → h.keys ≡ table_in old
+    → h.role ≡ role_in old.responder → h.secrets ≡ drop (9 - left) old.secrets → handshake_from_c h.pattern new ≡ h
 
 -- The payload was accepted, and what is kept stands for the view after the message.
 pub record WasRead (p : Plan) (v : View) (message payload : List ℕ) (k : NoiseHandshake) : Type 0 where
@@ -167,33 +187,35 @@ pub record WasWritten (p : Plan) (v : View) (payload message : List ℕ) (k : No
   pub writes : Writes v payload carried message
   pub keeps : KeepsView k p (after_own v carried payload)
 
--- what is kept has this answer after the others, and is otherwise as it was
+-- what is kept has this answer after the others, and is otherwise unchanged
 pub record IsAdded (old new : NoiseHandshake) (entry : TableEntry) : Type 0 where
   pub text : text_in new ≡ text_in old
-  pub held : (p : Plan) → held_in p new
-      ≡ record (held_in p old) { keys = record (table_in old) { entries = (table_in old).entries ++ entry ∷ [] } }
+  pub handshake : (p : Plan) → handshake_from_c p new
+      ≡ record (handshake_from_c p old) {
+        keys = record (table_in old) { entries = (table_in old).entries ++ entry ∷ [] };
+      }
 
--- what is kept has this secret after the others, and is otherwise as it was
+-- what is kept has this secret after the others, and is otherwise unchanged
 pub record IsGiven (old new : NoiseHandshake) (secret : List ℕ) : Type 0 where
   pub text : text_in new ≡ text_in old
-  pub held : (p : Plan) → held_in p new ≡ with_later (held_in p old) (secret ∷ [])
+  pub handshake : (p : Plan) → handshake_from_c p new ≡ with_later (handshake_from_c p old) (secret ∷ [])
 
--- the other party's static key that is told, if it is known
-abbrev pub remote_told : NoiseTold → Option (List ℕ)
-remote_told told = if told.remote_known == 0 then None else Some told.remote
+-- the other party's static key that is reported, if it is known
+abbrev pub remote_reported : NoiseTold → Option (List ℕ)
+remote_reported told = if told.remote_known == 0 then None else Some told.remote
 
--- What is wanted is told, with this number.
-abbrev pub TellsWant : Want → NoiseTold → ℕ → Type 0
-TellsWant (Answer own key) told code = (code ≡ WANTED) × (own_in told.of_static ≡ own) × (told.remote ≡ key)
-TellsWant (Secret remote) told code = (code ≡ WANTED_PSK) × (remote_told told ≡ remote)
+-- What is wanted is reported, with this number.
+abbrev pub ReportsWant : Want → NoiseTold → ℕ → Type 0
+ReportsWant (Answer own key) told code = (code ≡ WANTED) × (own_in told.of_static ≡ own) × (told.remote ≡ key)
+ReportsWant (Secret remote) told code = (code ≡ WANTED_PSK) × (remote_reported told ≡ remote)
 
--- Of a DH answer that is wanted, 0 or 1 is told for the key pair, and the other party's key; all else is as it was.
-pub record TellsAnswer (old new : NoiseTold) : Type 0 where
+-- Of a DH answer that is wanted, 0 or 1 is reported for the key pair, and the other party's key; all else is unchanged.
+pub record ReportsAnswer (old new : NoiseTold) : Type 0 where
   pub flag : new.of_static ≤ 1
   pub rest : new ≡ record old { of_static = new.of_static; remote = new.remote }
 
--- Of a secret that is wanted, the other party's static key is told with 1, or zeros with 0; all else is as it was.
-pub record TellsRemote (old new : NoiseTold) : Type 0 where
+-- Of a secret that is wanted, the other party's static key is reported with 1, or zeros with 0; all else is unchanged.
+pub record ReportsRemote (old new : NoiseTold) : Type 0 where
   pub flag : new.remote_known ≤ 1
   pub zeros : new.remote_known ≡ 0 → new.remote ≡ replicate 32 0
   pub rest : new ≡ record old { remote = new.remote; remote_known = new.remote_known }
@@ -212,18 +234,20 @@ psks_in setup = take setup.psk_count setup.psks
 -- the view at the start, whose secrets are those that are handed in, and these
 abbrev pub begun_in : Plan → List ℕ → NoiseSetup → List (List ℕ) → View
 begun_in p prologue setup later =
-    begun p (role_in setup.responder) prologue (public_in (table_of setup)) (agreement_in (table_of setup)) (remote_of setup)
-    (psks_in setup ++ later)
+    begun p (role_in setup.responder) prologue (public_in (table_of setup)) (agreement_in (table_of setup))
+    (remote_of setup) (psks_in setup ++ later)
 
 -- what is wrong with what is handed in, which may have fewer secrets than the pattern has psk tokens
 abbrev pub fault_in : Plan → NoiseSetup → Option SetupFault
-fault_in p setup = late_fault p (role_in setup.responder) (public_in (table_of setup)) (remote_of setup) (length (psks_in setup))
+fault_in p setup =
+    late_fault p (role_in setup.responder) (public_in (table_of setup)) (remote_of setup) (length (psks_in setup))
 
 abbrev pub code_of : Option SetupFault → ℕ
 code_of None = 0
 code_of (Some fault) = setup_code fault
 
--- the number that a start with a valid pattern answers: LENGTH, PSK_COUNT for more than there is room for, the fault of the setup, or OK
+-- the number that a start with a valid pattern answers: LENGTH, PSK_COUNT for more than there is room for, the fault of
+-- the setup, or OK
 abbrev pub start_code : Plan → List ℕ → NoiseSetup → ℕ
 start_code p prologue setup =
     if nat_lt 65535 (length prologue) then LENGTH
@@ -235,8 +259,14 @@ abbrev pub IsStartCode : ℕ → Type 0
 IsStartCode n = (n ≡ OK) ⊎ (n ≡ NAME) ⊎ (n ≡ PATTERN) ⊎ ((EPHEMERAL_MISSING ≤ n) × (n ≤ PSK_COUNT)) ⊎ (n ≡ LENGTH)
 
 -- where the handshake stands
-pub record TellsStage (h : Held Table) (told : NoiseStageTold) : Type 0 where
+pub record ReportsStage (h : Held Table) (told : NoiseStageTold) : Type 0 where
   pub messages : told.messages ≡ length h.pattern.messages
   pub passed : told.passed ≡ h.passed
   pub ended : told.ended ≡ (if h.ended then 1 else 0)
   pub writes_next : told.writes_next ≡ (if is_turn h.role h.passed then 1 else 0)
+
+-- What is asked is answered: by STRUCT exactly where no call has left the struct, and then this is unchanged, else OK.
+pub record IsAnswered (usable : Type 0) (code : ℕ) (unchanged : Type 0) : Type 0 where
+  pub unusable : code ≡ STRUCT ↔ (usable → ⊥)
+  pub unchanged_is : OK < code → unchanged
+  pub codes : (code ≡ OK) ⊎ (code ≡ STRUCT)

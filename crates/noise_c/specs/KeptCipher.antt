@@ -1,5 +1,5 @@
 -- What the memory that C keeps of a cipher state stands for (Noise 5.1, 5.2 and 7.4).
-use Rattle.std.specs.Prelude.{ℕ, ◌==◌, ◌+◌, nat_lt, not, ◌&&◌, ◌||◌, Bool, Option, Some, None, List, replicate, if◌then◌else◌}
+use Rattle.std.specs.Prelude.{◌≡◌, ◌≢◌, ◌⊎◌, ℕ, ◌==◌, ◌+◌, nat_lt, not, ◌&&◌, ◌||◌, Bool, Option, Some, None, List, replicate, if◌then◌else◌}
 use Rattle.noise_names.specs.declared.token.Role.TheVariants.{Initiator, Responder}
 use Rattle.noise_names.specs.Tokens.{other, same_role}
 use Rattle.noise_names.specs.Plan.{is_one_way}
@@ -8,14 +8,12 @@ use Rattle.noise_state.specs.Cipher.{cipher_of}
 use Rattle.noise_aead.specs.Sealing.{sealed, nonce_of}
 use Rattle.noise_handshake.specs.View.{View}
 use Rattle.noise_session.specs.Transport.{split_key, last_nonce}
-use Rattle.noise_c.specs.declared.kept_cipher.NoiseCipher.{NoiseCipher}
-use Rattle.noise_c.specs.declared.marks.TheConstants.{SENDING_CIPHER, RECEIVING_CIPHER}
-use Rattle.noise_c.specs.declared.codes.TheConstants.{LENGTH, OK, ROOM, STRUCT, TOO_LONG}
-use Rattle.noise_c.specs.declared.transport_codes.TheConstants.{EXHAUSTED, ONE_WAY}
+use Rattle.noise_c.specs.declared.kept.NoiseCipher.{NoiseCipher}
+use Rattle.noise_c.specs.declared.codes.numbers.TheConstants.{EXHAUSTED, LENGTH, OK, ONE_WAY, RECEIVING_CIPHER, ROOM, SENDING_CIPHER, SHORT, STRUCT, TAG, TOO_LONG}
 
 -- the cipher state
-abbrev pub cipher_kept_in : NoiseCipher → CipherState
-cipher_kept_in k = cipher_of (Some k.key) k.nonce
+abbrev pub cipher_from_c : NoiseCipher → CipherState
+cipher_from_c k = cipher_of (Some k.key) k.nonce
 
 -- what a text becomes under its key and nonce, with this associated data (5.1)
 abbrev pub encrypted : NoiseCipher → List ℕ → List ℕ → List ℕ
@@ -26,8 +24,8 @@ abbrev pub is_cipher : NoiseCipher → Bool
 is_cipher k = (k.mark == SENDING_CIPHER) || (k.mark == RECEIVING_CIPHER)
 
 -- the number of a struct that holds no cipher state: it is no such struct, or was discarded (7.4)
-abbrev pub held_code : Bool → NoiseCipher → ℕ
-held_code known k = if not known then STRUCT else if not (k.one_way == 0) then ONE_WAY else OK
+abbrev pub struct_code : Bool → NoiseCipher → ℕ
+struct_code known k = if not known then STRUCT else if not (k.one_way == 0) then ONE_WAY else OK
 
 -- a cipher state with this key at nonce 0; none where it is discarded
 abbrev pub begun_cipher : ℕ → Bool → List ℕ → NoiseCipher
@@ -38,12 +36,14 @@ begun_cipher mark discarded key =
 -- those of Split (5.2) for the messages that a party writes and for those that it reads; a one-way pattern discards the
 -- responder's (7.4)
 abbrev pub sending_cipher : View → NoiseCipher
-sending_cipher v = begun_cipher SENDING_CIPHER (is_one_way v.pattern && same_role v.role Responder) (split_key v.history v.role)
+sending_cipher v = begun_cipher SENDING_CIPHER (is_one_way v.pattern && same_role v.role Responder)
+    (split_key v.history v.role)
 
 abbrev pub receiving_cipher : View → NoiseCipher
-receiving_cipher v = begun_cipher RECEIVING_CIPHER (is_one_way v.pattern && same_role v.role Initiator) (split_key v.history (other v.role))
+receiving_cipher v = begun_cipher RECEIVING_CIPHER (is_one_way v.pattern && same_role v.role Initiator)
+    (split_key v.history (other v.role))
 
--- the number that encryption tells, by the lengths of the associated data, of the text and of what there is room for
+-- the number of encryption, by the lengths of the associated data, of the text and of what there is room for
 abbrev pub encrypt_code : NoiseCipher → ℕ → ℕ → ℕ → ℕ
 encrypt_code k ad text room =
     if not (k.mark == SENDING_CIPHER) then STRUCT
@@ -64,3 +64,15 @@ decrypt_refusal k ad message =
     else if nat_lt 65535 message then Some 11
     else if nat_lt message 16 then Some 15
     else None
+
+-- it is no text's, with this associated data
+abbrev pub IsNoneOf : NoiseCipher → List ℕ → List ℕ → Type 0
+IsNoneOf k ad message = (text : List ℕ) → message ≢ encrypted k ad text
+
+-- the numbers of encryption and of decryption
+abbrev pub IsEncryptCode : ℕ → Type 0
+IsEncryptCode n = (n ≡ OK) ⊎ (n ≡ TOO_LONG) ⊎ (n ≡ EXHAUSTED) ⊎ (n ≡ ROOM) ⊎ (n ≡ ONE_WAY) ⊎ (n ≡ STRUCT) ⊎ (n ≡ LENGTH)
+
+abbrev pub IsDecryptCode : ℕ → Type 0
+IsDecryptCode n = (n ≡ OK) ⊎ (n ≡ TOO_LONG) ⊎ (n ≡ SHORT) ⊎ (n ≡ TAG) ⊎ (n ≡ EXHAUSTED) ⊎ (n ≡ ONE_WAY) ⊎ (n ≡ STRUCT)
+    ⊎ (n ≡ LENGTH)

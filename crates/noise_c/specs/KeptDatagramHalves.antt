@@ -1,16 +1,17 @@
 -- What the memory that C keeps of a half of datagrams stands for.
-use Rattle.std.specs.Prelude.{ℕ, ◌==◌, ◌+◌, nat_lt, not, ◌||◌, ◌&&◌, Bool, Some, if◌then◌else◌}
+use Rattle.std.specs.Prelude.{◌≡◌, ◌⊎◌, ◌<◌, ℕ, List, length, take, drop, true, ◌==◌, ◌+◌, nat_lt, not, ◌||◌, ◌&&◌, Bool, Some, Ok, Err, if◌then◌else◌}
 use Rattle.noise_events.specs.declared.window.Window.{Window}
 use Rattle.noise_events.specs.declared.window.Window.TheVariants.{W64, W256, W1024}
-use Rattle.noise_session.specs.Datagrams.{unsealed}
-use Rattle.noise_session.specs.DatagramHalves.{HeldDatagramSender, HeldDatagramReceiver}
+use Rattle.noise_session.specs.declared.datagram_fault.DatagramFault.{DatagramFault}
+use Rattle.noise_session.specs.Datagrams.{DatagramView, Opens, accepting, datagram, nonce_named, unsealed}
+use Rattle.noise_session.specs.DatagramHalves.{HeldDatagramSender, HeldDatagramReceiver, DatagramSenderStands, DatagramReceiverStands}
 use Rattle.noise_session.specs.Windows.{is_ring}
-use Rattle.noise_c.specs.declared.kept_datagram_halves.NoiseDatagramSender.{NoiseDatagramSender}
-use Rattle.noise_c.specs.declared.kept_datagram_halves.NoiseDatagramReceiver.{NoiseDatagramReceiver}
-use Rattle.noise_c.specs.declared.marks.TheConstants.{DATAGRAM_SENDER, DATAGRAM_RECEIVER}
-use Rattle.noise_c.specs.Parties.{is_party, party_in}
-use Rattle.noise_c.specs.TransportCodes.{sealing_code}
-use Rattle.noise_c.specs.declared.codes.TheConstants.{ROOM, STRUCT}
+use Rattle.noise_c.specs.declared.kept.NoiseDatagramSender.{NoiseDatagramSender}
+use Rattle.noise_c.specs.declared.kept.NoiseDatagramReceiver.{NoiseDatagramReceiver}
+use Rattle.noise_c.specs.declared.kept.NoiseTold.{NoiseTold}
+use Rattle.noise_c.specs.declared.codes.numbers.TheConstants.{DATAGRAM_RECEIVER, DATAGRAM_SENDER, OK, OLD, ONE_WAY, REPEATED, RESERVED, ROOM, SHORT, STRUCT, TAG, TOO_LONG}
+use Rattle.noise_c.specs.KeptHalves.{is_party, party_in, IsSealCode}
+use Rattle.noise_c.specs.TransportCodes.{datagram_code, sealing_code}
 
 -- the number of nonces of a window
 abbrev pub is_window : ℕ → Bool
@@ -25,12 +26,13 @@ abbrev pub is_datagram_sender : NoiseDatagramSender → Bool
 is_datagram_sender k = (k.mark == DATAGRAM_SENDER) && is_party k.party
 
 -- the half that seals
-abbrev pub datagram_sender_kept_in : NoiseDatagramSender → HeldDatagramSender
-datagram_sender_kept_in k = record { role = party_in k.party; one_way = not (k.one_way == 0); key = Some k.key; nonce = k.nonce }
+abbrev pub datagram_sender_from_c : NoiseDatagramSender → HeldDatagramSender
+datagram_sender_from_c k =
+    record { role = party_in k.party; one_way = not (k.one_way == 0); key = Some k.key; nonce = k.nonce }
 
 -- the half that opens
-abbrev pub datagram_receiver_kept_in : NoiseDatagramReceiver → HeldDatagramReceiver
-datagram_receiver_kept_in k = record {
+abbrev pub datagram_receiver_from_c : NoiseDatagramReceiver → HeldDatagramReceiver
+datagram_receiver_from_c k = record {
   role = party_in k.party;
   one_way = not (k.one_way == 0);
   key = Some k.key;
@@ -41,11 +43,46 @@ datagram_receiver_kept_in k = record {
 abbrev pub is_datagram_receiver : NoiseDatagramReceiver → Bool
 is_datagram_receiver k =
     (k.mark == DATAGRAM_RECEIVER) && is_party k.party && is_window k.window
-    && is_ring (datagram_receiver_kept_in k).recent
+    && is_ring (datagram_receiver_from_c k).recent
 
--- the number that sealing tells, by the lengths of the payload and of what there is room for
+-- the number of sealing, by the lengths of the payload and of what there is room for
 abbrev pub datagram_sender_seal_code : NoiseDatagramSender → ℕ → ℕ → ℕ
 datagram_sender_seal_code k payload room =
     if not (is_datagram_sender k) then STRUCT
     else if nat_lt room (payload + 24) then ROOM
     else sealing_code (unsealed (party_in k.party) (not (k.one_way == 0)) k.nonce payload)
+
+-- the datagram is the next one that is sealed, of this payload
+abbrev pub SealsDatagram : NoiseDatagramSender → NoiseDatagramSender → List ℕ → List ℕ → Type 0
+SealsDatagram old new payload bytes = (v : DatagramView) → DatagramSenderStands (datagram_sender_from_c old) v
+    → (bytes ≡ datagram v.history v.role v.sent payload)
+    × DatagramSenderStands (datagram_sender_from_c new) (record v { sent = v.sent + 1 })
+
+-- A payload of n bytes is sealed into the first bytes of a buffer, or what is wrong is the number.
+pub record SealsInto (n : ℕ) (payload : List ℕ) (old new : NoiseDatagramSender) (out after : List ℕ)
+    (told next : NoiseTold) (code : ℕ) : Type 0 where
+  pub code_is : code ≡ datagram_sender_seal_code old n (length out)
+  pub place : code ≡ OK → next ≡ record told { from = 0; len = n + 24 }
+  pub seals : code ≡ OK → SealsDatagram old new payload (take (n + 24) after)
+  pub rest : drop (n + 24) after ≡ drop (n + 24) out
+  pub counted : code ≡ OK
+      → datagram_sender_from_c new ≡ record (datagram_sender_from_c old) { nonce = old.nonce + 1 }
+  pub known : code ≡ OK → is_datagram_sender new ≡ true
+  pub unchanged : OK < code → (new ≡ old) × (after ≡ out) × (next ≡ told)
+  pub codes : IsSealCode code
+
+-- the datagram is opened, and has this payload
+abbrev pub OpensDatagram : NoiseDatagramReceiver → NoiseDatagramReceiver → List ℕ → List ℕ → Type 0
+OpensDatagram old new bytes payload = (v : DatagramView) → DatagramReceiverStands (datagram_receiver_from_c old) v
+    → Opens v bytes (Ok payload) (accepting v (nonce_named bytes))
+    × DatagramReceiverStands (datagram_receiver_from_c new) (accepting v (nonce_named bytes))
+
+-- the datagram is declined for a fault of this number
+abbrev pub DeclinesDatagram : NoiseDatagramReceiver → List ℕ → ℕ → Type 0
+DeclinesDatagram old bytes code = (fault : DatagramFault) × (code ≡ datagram_code fault)
+    × ((v : DatagramView) → DatagramReceiverStands (datagram_receiver_from_c old) v → Opens v bytes (Err fault) v)
+
+-- the numbers of opening
+abbrev pub IsDatagramCode : ℕ → Type 0
+IsDatagramCode n = (n ≡ OK) ⊎ (n ≡ TOO_LONG) ⊎ (n ≡ SHORT) ⊎ (n ≡ TAG) ⊎ (n ≡ ONE_WAY) ⊎ (n ≡ STRUCT) ⊎ (n ≡ RESERVED)
+    ⊎ (n ≡ OLD) ⊎ (n ≡ REPEATED)

@@ -4,7 +4,6 @@ pub mod Checked
 pub mod Codes
 pub mod Kept
 pub mod TransportCodes
-pub mod Parties
 pub mod Finishing
 pub mod KeptHalves
 pub mod KeptDatagramHalves

@@ -1,7 +1,9 @@
--- The numbers of the faults of transports, datagrams and cipher states.
+-- The numbers of the faults of transports, datagrams, streams and cipher states.
 use Rattle.std.specs.Prelude.{ℕ, Option, Some, None}
 use Rattle.noise_state.specs.declared.cipher.CipherFault.{CipherFault}
 use Rattle.noise_state.specs.declared.cipher.CipherFault.TheVariants as cipher
+use Rattle.noise_channel.specs.declared.fault.StreamFault.{StreamFault}
+use Rattle.noise_channel.specs.declared.fault.StreamFault.TheVariants as unwritten
 use Rattle.noise_session.specs.declared.faults.SendFault.{SendFault}
 use Rattle.noise_session.specs.declared.faults.SendFault.TheVariants as unsealed
 use Rattle.noise_session.specs.declared.faults.OpenFault.{OpenFault}
@@ -9,7 +11,7 @@ use Rattle.noise_session.specs.declared.faults.OpenFault.TheVariants as unopened
 use Rattle.noise_session.specs.declared.datagram_fault.DatagramFault.{DatagramFault}
 use Rattle.noise_session.specs.declared.datagram_fault.DatagramFault.TheVariants as declined
 
--- 14 for the faults that only a session has: no sealing here tells them
+-- 14 for the faults that only a session has: no sealing here has them
 abbrev pub seal_code : SendFault → ℕ
 seal_code unsealed.TooLong = 11
 seal_code unsealed.Exhausted = 17
@@ -41,3 +43,8 @@ cipher_code cipher.TooLong = 11
 cipher_code cipher.Short = 15
 cipher_code cipher.Tag = 16
 cipher_code cipher.Exhausted = 17
+
+abbrev pub stream_code : StreamFault → ℕ
+stream_code unwritten.OneWay = 22
+stream_code unwritten.Exhausted = 17
+stream_code unwritten.Ended = 43

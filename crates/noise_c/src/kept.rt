@@ -1,5 +1,4 @@
-//! What C keeps of a handshake. `include/noise.h` declares the same as aligned bytes.
-#![tactic(auto)]
+//! The structs that C keeps, which `include/noise.h` declares as aligned bytes, and those in which a call reports.
 
 /// A key of 32 bytes; none where `present` is 0.
 #[repr(C)]
@@ -43,11 +42,9 @@ pub struct NoiseHandshake {
     pub nonce: u64,
 }
 
-/// What a handshake of one party starts from, beside its pattern and its prologue: the role, the initiator's where
-/// `responder` is 0; the public keys of its own, and those of the other party's pre-message; and the secrets of the
-/// first psk tokens, in their order.
+/// What a handshake starts from, beside its pattern and its prologue: the role, the public keys of its own and of the
+/// other party's pre-message, and the secrets of the first psk tokens, in their order.
 #[repr(C)]
-#[derive(Clone, Copy)]
 pub struct NoiseSetup {
     pub responder: u8,
     pub e: NoiseKey,
@@ -58,11 +55,75 @@ pub struct NoiseSetup {
     pub psks: [[u8; 32]; 9],
 }
 
-/// What a call tells beside its number: where a payload stands in a message that was read, or how long a message is
+/// A half of a transport, the sending or the receiving one by its mark: of the initiator where `party` is 1, of the
+/// responder where it is 2. At any other numbers there is none.
+#[repr(C)]
+#[derive(Clone, Copy)]
+pub struct NoiseHalf {
+    pub mark: u32,
+    pub party: u8,
+    pub one_way: u8,
+    pub key: [u8; 32],
+    pub interval: u64,
+    pub nonce: u64,
+}
+
+/// The sending half of datagrams, as above.
+#[repr(C)]
+#[derive(Clone, Copy)]
+pub struct NoiseDatagramSender {
+    pub mark: u32,
+    pub party: u8,
+    pub one_way: u8,
+    pub key: [u8; 32],
+    pub nonce: u64,
+}
+
+/// The receiving half of datagrams. The window has 64, 256 or 1024 nonces.
+#[repr(C)]
+#[derive(Clone, Copy)]
+pub struct NoiseDatagramReceiver {
+    pub mark: u32,
+    pub party: u8,
+    pub one_way: u8,
+    pub window: u32,
+    pub key: [u8; 32],
+    pub greatest: u64,
+    pub words: [u64; 17],
+}
+
+/// The half that writes a stream: a sending half with a mark of its own, and whether the stream was ended.
+#[repr(C)]
+#[derive(Clone, Copy)]
+pub struct NoiseStreamSender {
+    pub half: NoiseHalf,
+    pub ended: u8,
+}
+
+/// The half that reads a stream: a receiving half with a mark of its own, and how far the stream has come: 0 open, 1
+/// ended, 2 broken.
+#[repr(C)]
+#[derive(Clone, Copy)]
+pub struct NoiseStreamReceiver {
+    pub half: NoiseHalf,
+    pub state: u8,
+}
+
+/// A cipher state of one party, for the messages that it writes or for those that it reads, by its mark. One that a
+/// one-way pattern discards has a flag and no key.
+#[repr(C)]
+#[derive(Clone, Copy)]
+pub struct NoiseCipher {
+    pub mark: u32,
+    pub one_way: u8,
+    pub key: [u8; 32],
+    pub nonce: u64,
+}
+
+/// What a call reports beside its number: where a payload stands in a message that was read, or how long a message is
 /// that was written; the token of a refusal; the answer that is wanted, or the other party's static key where a secret
 /// is, which is known unless `remote_known` is 0.
 #[repr(C)]
-#[derive(Clone, Copy)]
 pub struct NoiseTold {
     pub from: usize,
     pub len: usize,
@@ -74,7 +135,6 @@ pub struct NoiseTold {
 
 /// Where a handshake stands: how many messages its pattern has and how many have passed, and two flags, 0 or 1.
 #[repr(C)]
-#[derive(Clone, Copy)]
 pub struct NoiseStageTold {
     pub messages: u8,
     pub passed: u8,
@@ -82,14 +142,23 @@ pub struct NoiseStageTold {
     pub writes_next: u8,
 }
 
-/// What a check of a pattern text tells beside its number: the line of a fault, counted from 1; the rule of validity
-/// that is broken, and where; how many messages the pattern has.
+/// What a check of a pattern text reports: the line of a fault, the rule of validity that is broken, and where, and how
+/// many messages the pattern has.
 #[repr(C)]
-#[derive(Clone, Copy)]
 pub struct NoisePatternTold {
     pub line: usize,
     pub rule: u8,
     pub message: u8,
     pub token: u8,
     pub messages: u8,
+}
+
+/// What a call of a stream reports: where a payload, or a message, stands in the buffer, or how many bytes were
+/// written; how many first bytes are used; how many more are wanted.
+#[repr(C)]
+pub struct NoiseStreamTold {
+    pub from: usize,
+    pub len: usize,
+    pub used: usize,
+    pub wanted: usize,
 }

@@ -1,5 +1,4 @@
 //! Exports: the start of a handshake.
-#![tactic(auto)]
 
 ghost use Rattle.std.specs.Prelude.{◌≡◌, ◌≤◌, ◌<◌, ◌-◌, ◌↔◌, ◌⊎◌, ℕ, List, length, drop, MatchOption, IsOk, IfOk, Err};
 ghost use Rattle.noise_names.specs.Plan.{Plan};
@@ -8,14 +7,14 @@ ghost use Rattle.noise_handshake.specs.Party.{Stands};
 ghost use Rattle.noise_handshake.specs.Late.{with_later};
 ghost use Rattle.noise_c.specs.Kept.{role_in, public_in, agreement_in, table_in, table_of, text_in, psks_in, begun_in, fault_in, start_code};
 ghost use Rattle.noise_c.specs.Kept.{IsPatternOf, IsNoName, IsNoText, IsNotValid, IsUsable, IsStartCode, KeepsView};
-ghost use Rattle.noise_c.specs.declared.marks.TheConstants.{HANDSHAKE};
-ghost use Rattle.noise_c.specs.declared.codes.TheConstants.{EPHEMERAL_MISSING, LENGTH, NAME, OK, PATTERN, PSK_COUNT};
+ghost use Rattle.noise_c.specs.declared.codes.numbers.TheConstants.{EPHEMERAL_MISSING, HANDSHAKE, LENGTH, NAME, OK, PATTERN, PSK_COUNT};
 
-use crate::codes::{LENGTH, OK, PSK_COUNT, setup_code};
-use crate::held::{keep, pattern_of, role_of};
+use crate::codes::numbers::{HANDSHAKE, LENGTH, OK, PSK_COUNT};
+use crate::codes::{ok_or, setup_code};
+use crate::from_c::{keep, role_of};
 use crate::kept::{NoiseHandshake, NoiseSetup};
-use crate::kept_keys::{KeptKeys, key_of};
-use crate::marks::HANDSHAKE;
+use crate::keys::{KeptKeys, key_of};
+use crate::patterns::pattern_of;
 use noise_handshake::{LateHandshake, Remote, SetupFault};
 use noise_names::ValidPattern;
 
@@ -75,46 +74,10 @@ fn keep_start(kept: &mut NoiseHandshake, text: &[u8], setup: &NoiseSetup)
     kept.answer_count = 0;
 }
 
-// Starts with a valid pattern.
-fn start_with(
-    kept: &mut NoiseHandshake,
-    pattern: ValidPattern,
-    text: &[u8],
-    prologue: &[u8],
-    setup: &NoiseSetup,
-) -> u32
-    requires short { length text.now ≤ 413 }
-    requires named { IsPatternOf text.now pattern }
-    ensures code { result ≡ start_code pattern prologue.now setup.now }
-    ensures begun { result ≡ OK → (later : List (List ℕ))
-        → KeepsView kept.new pattern (begun_in pattern prologue.now setup.now later) }
-    ensures usable { result ≡ OK → IsUsable kept.new }
-    ensures text { result ≡ OK → text_in kept.new ≡ text.now }
-    ensures unchanged { OK < result → kept.new ≡ kept.old }
-    ensures codes { (result ≡ OK) ⊎ ((EPHEMERAL_MISSING ≤ result) × (result ≤ PSK_COUNT)) ⊎ (result ≡ LENGTH) }
-{
-    if prologue.len() > PROLOGUE_MAX {
-        return LENGTH;
-    }
-    if setup.psk_count > 9 {
-        return PSK_COUNT;
-    }
-    match begin(pattern, prologue, setup) {
-        Ok(handshake) => {
-            keep_start(kept, text, setup);
-            keep(&handshake.progress(), setup.psk_count, kept);
-            OK
-        }
-        Err(fault) => setup_code(fault),
-    }
-}
-
 /// Starts the handshake of one party. The pattern is a protocol name, or a pattern text, whose last byte is a line
-/// feed. What the struct holds before may be anything; at any answer but OK it is left as it was.
-///
-/// NAME is no protocol name of a pattern, PATTERN a text that spells none, or a pattern that isn't valid. LENGTH is a
-/// prologue of more than 65535 bytes. PSK_COUNT is more secrets than the pattern has psk tokens: where there are fewer,
-/// reading and writing ask for the others when their tokens come.
+/// feed. What the struct holds before may be anything. LENGTH is a prologue of more than 65535 bytes, PSK_COUNT more
+/// secrets than the pattern has psk tokens: where there are fewer, reading and writing ask for the others when their
+/// tokens come.
 #[unsafe(no_mangle)]
 pub extern "C" fn noise_start(
     kept: &mut NoiseHandshake,
@@ -132,8 +95,15 @@ pub extern "C" fn noise_start(
     ensures unchanged { OK < result → kept.new ≡ kept.old }
     ensures codes { IsStartCode result }
 {
-    match pattern_of(pattern) {
-        Ok(valid) => start_with(kept, valid, pattern, prologue, setup),
-        Err(code) => code,
+    let valid = ok_or!(pattern_of(pattern));
+    if prologue.len() > PROLOGUE_MAX {
+        return LENGTH;
     }
+    if setup.psk_count > 9 {
+        return PSK_COUNT;
+    }
+    let handshake = ok_or!(begin(valid, prologue, setup), setup_code);
+    keep_start(kept, pattern, setup);
+    keep(&handshake.progress(), setup.psk_count, kept);
+    OK
 }

@@ -1,7 +1,9 @@
-//! Export: the version of the library.
-#![tactic(auto)]
+//! Exports: the version of the library, and how many bytes each kept struct takes in the caller's memory.
 
 ghost use Rattle.std.specs.Prelude.{◌≡◌, ◌+◌, ◌*◌};
+
+use crate::kept::*;
+use std::mem::size_of;
 
 // The numbers of `packaging/version`.
 const MAJOR: u32 = 1;
@@ -17,4 +19,44 @@ pub extern "C" fn noise_version() -> u32
     ensures { result ≡ 65536 * MAJOR + 256 * MINOR + PATCH }
 {
     MAJOR * 65536 + MINOR * 256 + PATCH
+}
+
+#[unsafe(no_mangle)]
+pub extern "C" fn noise_handshake_size() -> usize {
+    size_of::<NoiseHandshake>()
+}
+
+#[unsafe(no_mangle)]
+pub extern "C" fn noise_sender_size() -> usize {
+    size_of::<NoiseHalf>()
+}
+
+#[unsafe(no_mangle)]
+pub extern "C" fn noise_receiver_size() -> usize {
+    size_of::<NoiseHalf>()
+}
+
+#[unsafe(no_mangle)]
+pub extern "C" fn noise_datagram_sender_size() -> usize {
+    size_of::<NoiseDatagramSender>()
+}
+
+#[unsafe(no_mangle)]
+pub extern "C" fn noise_datagram_receiver_size() -> usize {
+    size_of::<NoiseDatagramReceiver>()
+}
+
+#[unsafe(no_mangle)]
+pub extern "C" fn noise_stream_sender_size() -> usize {
+    size_of::<NoiseStreamSender>()
+}
+
+#[unsafe(no_mangle)]
+pub extern "C" fn noise_stream_receiver_size() -> usize {
+    size_of::<NoiseStreamReceiver>()
+}
+
+#[unsafe(no_mangle)]
+pub extern "C" fn noise_cipher_size() -> usize {
+    size_of::<NoiseCipher>()
 }

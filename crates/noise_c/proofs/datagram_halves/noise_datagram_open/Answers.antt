@@ -3,14 +3,14 @@ use Rattle.std.specs.Prelude.{Ok}
 use Rattle.std.proofs.lemmas.Bool.{false≢true}
 use Rattle.noise_session.specs.Datagrams.{Opens, accepting, nonce_named}
 use Rattle.noise_session.specs.DatagramHalves.{HeldDatagramReceiver, DatagramReceiverStands}
-use Rattle.noise_c.specs.KeptDatagramHalves.{datagram_receiver_kept_in}
+use Rattle.noise_c.specs.KeptDatagramHalves.{datagram_receiver_from_c}
 use Rattle.noise_c.proofs.Numbers.{other, above, not-before}
 use Rattle.noise_c.proofs.Opening.{declined-from, declined-not-struct, declined-among, from-ninth}
 use Rattle.noise_c.proofs.datagram_halves.noise_datagram_open.Goals as goal
 
-pub returns-in_default : goal.returns-in_default
-returns-in_default c = record {
-  unusable = (λ _. sym c.in_default.ensures.known, λ _. refl);
+pub returns-in-None : goal.returns-in-None
+returns-in-None c = record {
+  unusable = (λ _. sym c.in-None.ensures.known, λ _. refl);
   place = other 23 0 refl;
   opens = other 23 0 refl;
   declined = λ _ differs. absurd (differs refl);
@@ -27,25 +27,25 @@ recent-alone : (new left h old : HeldDatagramReceiver) → new ≡ left → left
 recent-alone new left h old e f g =
     e ∙ f ∙ ap (λ (z : HeldDatagramReceiver). record z { recent = left.recent }) g ∙ ap (λ (z : HeldDatagramReceiver). record old { recent = z.recent }) (sym e)
 
-pub returns-in-Ok : goal.returns-in-Ok
-returns-in-Ok c =
+pub returns : goal.returns
+returns c =
     let old = c.args.kept.now in
     let bytes = c.args.datagram.now in
     let left = c.open_within.new.self in
-    let new = c.kept_datagram_receiver.result in
+    let new = c.datagram_receiver_to_c.result in
     record {
       unusable = (other 0 23 refl, λ none. absurd (false≢true (sym none ∙ sym c.in-Some.ensures.known)));
       place = λ _. (refl, c.in-Ok.ensures.len);
       opens = λ _ v s.
           let r = c.in-Ok.ensures.opens v (subst (λ (z : HeldDatagramReceiver). DatagramReceiverStands z v) (sym c.in-Some.ensures.same) s) in (
-            subst (λ (payload : List ℕ). Opens v bytes (Ok payload) (accepting v (nonce_named bytes))) (from-ninth c.open_within.new.datagram c.in-Ok.len) r.0,
-            subst (λ (z : HeldDatagramReceiver). DatagramReceiverStands z (accepting v (nonce_named bytes))) (sym c.kept_datagram_receiver.ensures.same) r.1,
+            subst (λ (payload : List ℕ). Opens v bytes (Ok payload) (accepting v (nonce_named bytes))) (from-ninth c.open_within.new.datagram c.in-Ok.value) r.0,
+            subst (λ (z : HeldDatagramReceiver). DatagramReceiverStands z (accepting v (nonce_named bytes))) (sym c.datagram_receiver_to_c.ensures.same) r.1,
           );
       declined = above 1 0 refl;
       beyond = λ _. c.in-Ok.ensures.beyond;
-      same = λ _. recent-alone (datagram_receiver_kept_in new) left c.in-Some.receiver (datagram_receiver_kept_in old)
-          c.kept_datagram_receiver.ensures.same c.in-Ok.ensures.same c.in-Some.ensures.same;
-      known = λ _. c.kept_datagram_receiver.ensures.known;
+      same = λ _. recent-alone (datagram_receiver_from_c new) left c.in-Some.value (datagram_receiver_from_c old)
+          c.datagram_receiver_to_c.ensures.same c.in-Ok.ensures.same c.in-Some.ensures.same;
+      known = λ _. c.datagram_receiver_to_c.ensures.known;
       unchanged = above 1 0 refl;
       codes = inl refl;
     }
