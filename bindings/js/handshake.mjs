@@ -3,7 +3,7 @@ import { NoiseError, code, must } from './codes.mjs';
 import { freeLater, letGo, library } from './module.mjs';
 import { bytesOf, copyOf } from './bytes.mjs';
 import { Ciphers } from './ciphers.mjs';
-import { KeyPair } from './keys.mjs';
+import { Agreements, KeyPair } from './keys.mjs';
 import { OWN } from './own.mjs';
 import { intervalOf, patternBytes, setupOf } from './setup.mjs';
 import { Stream } from './stream.mjs';
@@ -27,6 +27,7 @@ export class Handshake {
   #options;
   #ephemeral;
   #static;
+  #agreements = new Agreements();
   #started = false;
   #busy = false;
 
@@ -136,7 +137,7 @@ export class Handshake {
   async #agree(ofStatic, remote) {
     let answer;
     try {
-      answer = await (ofStatic ? this.#static : this.#ephemeral).agree(remote);
+      answer = await (ofStatic ? this.#agreements.of(this.#static, remote) : this.#agreements.of(this.#ephemeral, remote, this.#static));
     } catch (cause) {
       throw new NoiseError(code.KEY, { cause });
     }
@@ -286,6 +287,7 @@ export class Handshake {
     this.#place = undefined;
     for (const psk of this.#options.psks) psk.fill(0);
     this.#ephemeral = undefined;
+    this.#agreements = undefined;
   }
 }
 if (Symbol.dispose) Handshake.prototype[Symbol.dispose] = Handshake.prototype.dispose;

@@ -1,4 +1,13 @@
 /**
+ * What a handshake asks of its key pairs. Of those that are made here it imports each public key once, since that takes half as long as X25519, and
+ * begins with the static pair's result for an ephemeral key, which most patterns need too, beside the ephemeral pair's.
+ */
+export class Agreements {
+    /** The result for a pair and a public key; `next` is a pair that is asked for the same key next, or undefined. */
+    of(pair: any, remote: any, next: any): any;
+    #private;
+}
+/**
  * Whatever answers for a key pair of X25519.
  * @typedef {object} DH
  * @property {Uint8Array} publicKey 32 bytes.
@@ -12,6 +21,11 @@ export class KeyPair {
      * @returns {Promise<KeyPair>}
      */
     static generate(): Promise<KeyPair>;
+    /**
+     * The same of a pair and a promise of a public key as WebCrypto has it.
+     * @private
+     */
+    private static agreed;
     /**
      * The pair of a secret key of 32 bytes, from a file for example. The bytes stay the caller's to overwrite.
      * @param {Uint8Array} bytes
