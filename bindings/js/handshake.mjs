@@ -1,7 +1,7 @@
 // A handshake of one party.
 import { NoiseError, code, must } from './codes.mjs';
 import { freeLater, letGo, library } from './module.mjs';
-import { bytesOf, copyOf } from './bytes.mjs';
+import { bytesOf, copyOf, same } from './bytes.mjs';
 import { Ciphers } from './ciphers.mjs';
 import { Agreements, KeyPair } from './keys.mjs';
 import { OWN } from './own.mjs';
@@ -28,6 +28,7 @@ export class Handshake {
   #ephemeral;
   #static;
   #agreements = new Agreements();
+  #opening;    // the first 32 bytes of the first message that was read: the other party's ephemeral key, where it has one
   #started = false;
   #busy = false;
 
@@ -135,9 +136,11 @@ export class Handshake {
   }
 
   async #agree(ofStatic, remote) {
+    // With the other party's ephemeral key each static key of a pattern agrees, too, in this message or a later one.
+    const next = !ofStatic && this.#opening && same(this.#opening, remote) ? this.#static : undefined;
     let answer;
     try {
-      answer = await (ofStatic ? this.#agreements.of(this.#static, remote) : this.#agreements.of(this.#ephemeral, remote, this.#static));
+      answer = await this.#agreements.of(ofStatic ? this.#static : this.#ephemeral, remote, next);
     } catch (cause) {
       throw new NoiseError(code.KEY, { cause });
     }
@@ -173,6 +176,7 @@ export class Handshake {
     const own = copyOf(message, 'message');
     return this.#alone(async () => {
       const lib = library();
+      this.#opening ??= own.slice(0, 32);
       const told = await this.#answered((place) => lib.x.noise_read(place, ...lib.put('message', own), lib.at.told));
       const payload = lib.view(lib.at.message + BigInt(told.from), told.len).slice();
       lib.wipe('message', own.length);

@@ -1,7 +1,7 @@
 // Key pairs. A handshake asks an object with `publicKey`, 32 bytes, and `agree(remote)`, which gives the answer of X25519 or a promise of it.
 // Those that are made here are WebCrypto's: the private key stays inside the browser.
 
-import { bytesOf } from './bytes.mjs';
+import { bytesOf, same } from './bytes.mjs';
 import { OWN, mustBeOwn } from './own.mjs';
 
 const NAME = 'X25519';
@@ -13,12 +13,7 @@ const BASE_POINT = new Uint8Array(32).fill(9, 0, 1);
 const imported = (remote) => crypto.subtle.importKey('raw', remote, { name: NAME }, true, []);
 const agreed = async (secret, key) => new Uint8Array(await crypto.subtle.deriveBits({ name: NAME, public: key }, secret, 256));
 
-const same = (one, other) => one.every((byte, n) => byte === other[n]);
-
-/**
- * What a handshake asks of its key pairs. Of those that are made here it imports each public key once, since that takes half as long as X25519, and
- * begins with the static pair's result for an ephemeral key, which most patterns need too, beside the ephemeral pair's.
- */
+/** What a handshake asks of its key pairs. Of those that are made here it imports each public key once, and has each result computed once. */
 export class Agreements {
   #imports = [];
   #begun = [];
@@ -40,7 +35,7 @@ export class Agreements {
     return result;
   }
 
-  /** The result for a pair and a public key; `next` is a pair that is asked for the same key next, or undefined. */
+  /** The result for a pair and a public key; that of `next`, a pair that is asked for the same key later, or undefined, is begun beside it. */
   of(pair, remote, next) {
     if (!(pair instanceof KeyPair)) return pair.agree(remote);
     const result = this.#begin(pair, remote);

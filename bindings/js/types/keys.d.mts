@@ -1,9 +1,6 @@
-/**
- * What a handshake asks of its key pairs. Of those that are made here it imports each public key once, since that takes half as long as X25519, and
- * begins with the static pair's result for an ephemeral key, which most patterns need too, beside the ephemeral pair's.
- */
+/** What a handshake asks of its key pairs. Of those that are made here it imports each public key once, and has each result computed once. */
 export class Agreements {
-    /** The result for a pair and a public key; `next` is a pair that is asked for the same key next, or undefined. */
+    /** The result for a pair and a public key; that of `next`, a pair that is asked for the same key later, or undefined, is begun beside it. */
     of(pair: any, remote: any, next: any): any;
     #private;
 }
