@@ -45,9 +45,10 @@ export class Handshake {
     this.#place = library().take('handshake');
     freeLater(this, [['handshake', this.#place]]);
     try {
-      this.#start(PLACEHOLDER);
-      if (this.#lacksPsk() !== (rest.pskFor !== undefined)) throw new NoiseError(code.PSK_COUNT);
-      if (ephemeralKey) this.#start(ephemeralKey.publicKey);
+      this.#start(ephemeralKey?.publicKey ?? PLACEHOLDER);
+      const lacksPsk = this.#lacksPsk();
+      if (lacksPsk !== (rest.pskFor !== undefined)) throw new NoiseError(code.PSK_COUNT);
+      if (lacksPsk && ephemeralKey) this.#start(ephemeralKey.publicKey);    // it was passed one
     } catch (error) {
       this.dispose();
       throw error;
@@ -74,7 +75,7 @@ export class Handshake {
     must(answer);
   }
 
-  /** Whether a psk token lacks its secret. This passes one: so it is called before the handshake is started with its ephemeral key. */
+  /** Whether a psk token lacks its secret. If so this passes one, and the handshake has to be started again. */
   #lacksPsk() {
     const lib = library();
     return lib.x.noise_set_psk(this.#place, lib.put('answer', PLACEHOLDER)[0]) === code.OK;
