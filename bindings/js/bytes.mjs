@@ -17,3 +17,6 @@ export function bytesOf(value, what, length) {
 export function copyOf(value, what, length) {
   return new Uint8Array(bytesOf(value, what, length));
 }
+
+/** Whether public bytes are the same: of secret ones the time would tell where they differ. */
+export const same = (one, other) => one.length === other.length && one.every((byte, n) => byte === other[n]);

@@ -18,6 +18,7 @@ import { pause } from './waiting.mjs';
  *   readonly connecting?: boolean,
  *   readonly destroyed?: boolean,
  *   readonly errored?: Error | null,
+ *   allowHalfOpen?: boolean,
  *   on: (event: 'error', listener: (error: Error) => void) => unknown,
  *   write: (bytes: Uint8Array, done: (error?: Error | null) => void) => boolean,
  *   end: (done: () => void) => unknown,
@@ -209,6 +210,7 @@ function ofStreams({ readable, writable }) {
 
 /** By Duplex.toWeb of Node 20 an error after the close would end the program. */
 function ofNode(stream) {
+  if (stream.allowHalfOpen === false) stream.allowHalfOpen = true;    // the other party may have ended its half, and still take what is sent
   // The iterator of a plain loop destroys a stream of which all was read: what is written may not be sent yet.
   const chunks = stream.iterator?.({ destroyOnReturn: false }) ?? stream[Symbol.asyncIterator]();
   let first = stream.errored ?? undefined;    // later ones only say that the stream was destroyed

@@ -1,9 +1,9 @@
 // A handshake of one party.
 import { NoiseError, code, must } from './codes.mjs';
 import { freeLater, letGo, library } from './module.mjs';
-import { bytesOf, copyOf } from './bytes.mjs';
+import { bytesOf, copyOf, same } from './bytes.mjs';
 import { Ciphers } from './ciphers.mjs';
-import { KeyPair } from './keys.mjs';
+import { Agreements, KeyPair } from './keys.mjs';
 import { OWN } from './own.mjs';
 import { intervalOf, patternBytes, setupOf } from './setup.mjs';
 import { Stream } from './stream.mjs';
@@ -27,6 +27,8 @@ export class Handshake {
   #options;
   #ephemeral;
   #static;
+  #agreements = new Agreements();
+  #opening;    // the first 32 bytes of the first message that was read: the other party's ephemeral key, where it has one
   #started = false;
   #busy = false;
 
@@ -43,9 +45,10 @@ export class Handshake {
     this.#place = library().take('handshake');
     freeLater(this, [['handshake', this.#place]]);
     try {
-      this.#start(PLACEHOLDER);
-      if (this.#lacksPsk() !== (rest.pskFor !== undefined)) throw new NoiseError(code.PSK_COUNT);
-      if (ephemeralKey) this.#start(ephemeralKey.publicKey);
+      this.#start(ephemeralKey?.publicKey ?? PLACEHOLDER);
+      const lacksPsk = this.#lacksPsk();
+      if (lacksPsk !== (rest.pskFor !== undefined)) throw new NoiseError(code.PSK_COUNT);
+      if (lacksPsk && ephemeralKey) this.#start(ephemeralKey.publicKey);    // it was passed one
     } catch (error) {
       this.dispose();
       throw error;
@@ -72,7 +75,7 @@ export class Handshake {
     must(answer);
   }
 
-  /** Whether a psk token lacks its secret. This passes one: so it is called before the handshake is started with its ephemeral key. */
+  /** Whether a psk token lacks its secret. If so this passes one, and the handshake has to be started again. */
   #lacksPsk() {
     const lib = library();
     return lib.x.noise_set_psk(this.#place, lib.put('answer', PLACEHOLDER)[0]) === code.OK;
@@ -134,9 +137,11 @@ export class Handshake {
   }
 
   async #agree(ofStatic, remote) {
+    // With the other party's ephemeral key each static key of a pattern agrees, too, in this message or a later one.
+    const next = !ofStatic && this.#opening && same(this.#opening, remote) ? this.#static : undefined;
     let answer;
     try {
-      answer = await (ofStatic ? this.#static : this.#ephemeral).agree(remote);
+      answer = await this.#agreements.of(ofStatic ? this.#static : this.#ephemeral, remote, next);
     } catch (cause) {
       throw new NoiseError(code.KEY, { cause });
     }
@@ -172,6 +177,7 @@ export class Handshake {
     const own = copyOf(message, 'message');
     return this.#alone(async () => {
       const lib = library();
+      this.#opening ??= own.slice(0, 32);
       const told = await this.#answered((place) => lib.x.noise_read(place, ...lib.put('message', own), lib.at.told));
       const payload = lib.view(lib.at.message + BigInt(told.from), told.len).slice();
       lib.wipe('message', own.length);
@@ -286,6 +292,7 @@ export class Handshake {
     this.#place = undefined;
     for (const psk of this.#options.psks) psk.fill(0);
     this.#ephemeral = undefined;
+    this.#agreements = undefined;
   }
 }
 if (Symbol.dispose) Handshake.prototype[Symbol.dispose] = Handshake.prototype.dispose;

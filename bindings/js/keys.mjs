@@ -1,7 +1,7 @@
 // Key pairs. A handshake asks an object with `publicKey`, 32 bytes, and `agree(remote)`, which gives the answer of X25519 or a promise of it.
 // Those that are made here are WebCrypto's: the private key stays inside the browser.
 
-import { bytesOf } from './bytes.mjs';
+import { bytesOf, same } from './bytes.mjs';
 import { OWN, mustBeOwn } from './own.mjs';
 
 const NAME = 'X25519';
@@ -10,9 +10,38 @@ const PKCS8 = Uint8Array.of(48, 46, 2, 1, 0, 48, 5, 6, 3, 43, 101, 110, 4, 34, 4
 /** X25519 of a secret key and this point is the public key (RFC 7748, 6.1). */
 const BASE_POINT = new Uint8Array(32).fill(9, 0, 1);
 
-async function agreed(secret, remote) {
-  const key = await crypto.subtle.importKey('raw', remote, { name: NAME }, true, []);
-  return new Uint8Array(await crypto.subtle.deriveBits({ name: NAME, public: key }, secret, 256));
+const imported = (remote) => crypto.subtle.importKey('raw', remote, { name: NAME }, true, []);
+const agreed = async (secret, key) => new Uint8Array(await crypto.subtle.deriveBits({ name: NAME, public: key }, secret, 256));
+
+/** What a handshake asks of its key pairs. Of those that are made here it imports each public key once, and has each result computed once. */
+export class Agreements {
+  #imports = [];
+  #begun = [];
+
+  #imported(remote) {
+    const met = this.#imports.find(({ bytes }) => same(bytes, remote));
+    if (met) return met.key;
+    const key = imported(remote);
+    this.#imports.push({ bytes: remote, key });
+    return key;
+  }
+
+  #begin(pair, remote) {
+    const met = this.#begun.find((it) => it.pair === pair && same(it.bytes, remote));
+    if (met) return met.result;
+    const result = KeyPair.agreed(OWN, pair, this.#imported(remote));
+    result.catch(() => {});    // nobody may ask for it
+    this.#begun.push({ pair, bytes: remote, result });
+    return result;
+  }
+
+  /** The result for a pair and a public key; that of `next`, a pair that is asked for the same key later, or undefined, is begun beside it. */
+  of(pair, remote, next) {
+    if (!(pair instanceof KeyPair)) return pair.agree(remote);
+    const result = this.#begin(pair, remote);
+    if (next instanceof KeyPair) this.#begin(next, remote);
+    return result;
+  }
 }
 
 /**
@@ -55,7 +84,16 @@ export class KeyPair {
    * @returns {Promise<Uint8Array>}
    */
   async agree(remote) {
-    return agreed(this.#secret, bytesOf(remote, 'a public key', 32));
+    return agreed(this.#secret, await imported(bytesOf(remote, 'a public key', 32)));
+  }
+
+  /**
+   * The same of a pair and a promise of a public key as WebCrypto has it.
+   * @private
+   */
+  static async agreed(mark, pair, remote) {
+    mustBeOwn(mark);
+    return agreed(pair.#secret, await remote);
   }
 
   /**
@@ -70,7 +108,7 @@ export class KeyPair {
     encoded.set(bytes, 16);
     try {
       const secret = await crypto.subtle.importKey('pkcs8', encoded, { name: NAME }, false, ['deriveBits']);
-      return new KeyPair(OWN, secret, await agreed(secret, BASE_POINT));
+      return new KeyPair(OWN, secret, await agreed(secret, await imported(BASE_POINT)));
     } finally {
       encoded.fill(0);
     }

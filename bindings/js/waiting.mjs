@@ -41,10 +41,13 @@ export class Waiting {
   }
 }
 
+/** The longest time of a timer: a longer one would run out at once. */
+const LONGEST = 2 ** 31 - 1;
+
 /** Waits until a promise settles, at most so many milliseconds. */
 export function within(milliseconds, promise) {
   return new Promise((resolve) => {
-    const timer = setTimeout(resolve, milliseconds);
+    const timer = setTimeout(resolve, Math.min(milliseconds, LONGEST));
     const done = () => { clearTimeout(timer); resolve(); };
     promise.then(done, done);
   });

@@ -9,8 +9,34 @@ HEADER = Path(__file__).resolve().parent / "src" / "noise.h"
 INLINE = """
 #define NOISE_VERSION ...
 void noise_wipe(void *at, size_t len);
-void noise_wipe_stack(void);
+void wipe_stack(void);
 const char *noise_text(uint32_t code);
+uint32_t open_copy(noise_receiver *r, const uint8_t *message, size_t len, uint8_t *room, noise_told *told);
+uint32_t datagram_open_copy(noise_datagram_receiver *r, const uint8_t *datagram, size_t len, uint8_t *room,
+    noise_told *told);
+"""
+# What reads in place, on a copy of bytes that Python mustn't see changed: one call from Python in place of two. And
+# what noise_wipe_stack does, in less time than byte by byte.
+SOURCE = """
+#include <string.h>
+#include "noise.h"
+
+__attribute__((noinline)) static void wipe_stack(void) {
+    unsigned char stack[16384];
+    memset(stack, 0, sizeof stack);
+    __asm__ volatile("" : : "r"(stack) : "memory");
+}
+
+static uint32_t open_copy(noise_receiver *r, const uint8_t *message, size_t len, uint8_t *room, noise_told *told) {
+    memcpy(room, message, len);
+    return noise_open(r, room, len, told);
+}
+
+static uint32_t datagram_open_copy(noise_datagram_receiver *r, const uint8_t *datagram, size_t len, uint8_t *room,
+    noise_told *told) {
+    memcpy(room, datagram, len);
+    return noise_datagram_open(r, room, len, told);
+}
 """
 
 
@@ -29,7 +55,7 @@ ffi = cffi.FFI()
 ffi.cdef(declarations(HEADER.read_text(encoding="utf-8")))
 ffi.set_source(
     "yulimosar._noise",
-    '#include "noise.h"',
+    SOURCE,
     include_dirs=["src"],
     sources=["src/assembly.S"],
     depends=["src/noise.h", *sorted(str(path) for path in Path("src/assembly").glob("*.s"))],

@@ -187,6 +187,33 @@ test('ends', { timeout: 300000 }, async (t) => {
     await Promise.all([closed, b.close()]);
   });
 
+  await t.test('a party that has ended its half of the connection gets all that is sent, also before a close', async () => {
+    const [near, far] = await overTcp();
+    const [a, b] = await channels([near, far]);
+    for (let n = 0; n < 100; n += 1) a.send(MEGABYTES);
+    await b.end();
+    assert.equal(await a.receive(), undefined);
+    far.end();    // as AsyncStream of Rust does
+    await new Promise((resolve) => { setTimeout(resolve, 50); });
+    a.send(text('late'));
+    const closed = a.close();
+    let size = 0;
+    for await (const { length } of b) size += length;
+    assert.equal(size, 100 * MEGABYTES.length + 4);
+    await Promise.all([closed, b.close()]);
+  });
+
+  await t.test('close waits as long as it is told, also for ever', async () => {
+    const [a, b] = await channels(await overTcp());
+    for (let n = 0; n < 100; n += 1) a.send(MEGABYTES);
+    const closed = a.close({ timeout: Infinity });
+    await new Promise((resolve) => { setTimeout(resolve, 50); });
+    let size = 0;
+    for await (const { length } of b) size += length;
+    assert.equal(size, 100 * MEGABYTES.length);
+    await Promise.all([closed, b.close()]);
+  });
+
   // In a program of its own: the test runner follows each promise, and takes longer than the channel.
   await t.test('64,000 frames of 19 bytes in one chunk are read in a second of processor time', () => {
     const { stdout, stderr } = apart('frames.mjs');

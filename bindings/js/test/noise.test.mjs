@@ -54,6 +54,13 @@ test('with the module loaded', async (t) => {
     });
   }
 
+  await t.test('both ends of XX ask WebCrypto for six results, and import four public keys', async (st) => {
+    const it = await parties(protocolName('XX'));
+    const calls = ['importKey', 'deriveBits'].map((name) => st.mock.method(crypto.subtle, name).mock);
+    await pass(it);
+    assert.deepEqual(calls.map((mock) => mock.callCount()), [4, 6]);
+  });
+
   await t.test("the tables have the library's patterns: another under a fundamental name is refused", () => {
     for (const base of [...FUNDAMENTAL, ...DEFERRED]) {
       assert.deepEqual(checkPattern(textOf(base)), { valid: true, messages: layout(base).messages.length });

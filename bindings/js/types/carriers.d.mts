@@ -27,6 +27,7 @@ export type NodeStream = AsyncIterable<Uint8Array> & {
     readonly connecting?: boolean | undefined;
     readonly destroyed?: boolean | undefined;
     readonly errored?: Error | null | undefined;
+    allowHalfOpen?: boolean | undefined;
     on: (event: 'error', listener: (error: Error) => void) => unknown;
     write: (bytes: Uint8Array, done: (error?: Error | null) => void) => boolean;
     end: (done: () => void) => unknown;

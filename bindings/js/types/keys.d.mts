@@ -1,3 +1,9 @@
+/** What a handshake asks of its key pairs. Of those that are made here it imports each public key once, and has each result computed once. */
+export class Agreements {
+    /** The result for a pair and a public key; that of `next`, a pair that is asked for the same key later, or undefined, is begun beside it. */
+    of(pair: any, remote: any, next: any): any;
+    #private;
+}
 /**
  * Whatever answers for a key pair of X25519.
  * @typedef {object} DH
@@ -12,6 +18,11 @@ export class KeyPair {
      * @returns {Promise<KeyPair>}
      */
     static generate(): Promise<KeyPair>;
+    /**
+     * The same of a pair and a promise of a public key as WebCrypto has it.
+     * @private
+     */
+    private static agreed;
     /**
      * The pair of a secret key of 32 bytes, from a file for example. The bytes stay the caller's to overwrite.
      * @param {Uint8Array} bytes

@@ -1,6 +1,8 @@
 """python3 -m yulimosar connect, listen and keygen."""
 import concurrent.futures
+import contextlib
 import os
+import socket
 import stat
 import subprocess
 import sys
@@ -90,12 +92,21 @@ def test_a_conversation(keys, pattern, tmp_path):
     assert served()[:2] == (0, data)
 
 
-def test_a_client_that_is_not_accepted(keys):
-    server, port = listen("--key", keys["server"][0], "--peer", keys["server"][1])
-    client = command("connect", f"127.0.0.1:{port}", "--key", keys["client"][0], "--any", input=b"hello")
-    status, out, err = finish(server)()
-    assert status == 1 and out == b"" and "another static key" in err
-    assert client.returncode == 1 and client.stderr.startswith(b"yulimosar: ")
+def test_a_listener_goes_on_after_those_that_fail(keys):
+    """Some say nothing, one sends what is no handshake, and one has a key that isn't accepted."""
+    server, port = listen("--key", keys["server"][0], "--peer", keys["client"][1])
+    served, address = finish(server, b"from the server"), f"127.0.0.1:{port}"
+    with contextlib.ExitStack() as stack:
+        for _ in range(20):
+            stack.enter_context(socket.create_connection(("127.0.0.1", int(port))))
+        noisy = stack.enter_context(socket.create_connection(("127.0.0.1", int(port))))
+        noisy.sendall(b"GET / HTTP/1.0\r\n\r\n")
+        other = command("connect", address, "--key", keys["server"][0], "--any", input=b"hello")
+        client = command("connect", address, "--key", keys["client"][0], "--peer", keys["server"][1], input=b"hello")
+    status, out, err = served()
+    assert (status, out, client.returncode, client.stdout) == (0, b"hello", 0, b"from the server")
+    assert "another static key" in err and "too long" in err
+    assert other.returncode == 1 and other.stderr.startswith(b"yulimosar: ")
 
 
 def test_a_full_disk(keys):

@@ -1,6 +1,7 @@
 """Channels over blocking sockets: ends, cuts and refusals, timeouts, threads, and what is left."""
 import io
 import os
+import signal
 import socket
 import threading
 import time
@@ -322,6 +323,97 @@ def test_close_under_a_call_that_waits(end):
     with server, pytest.raises(ChannelCut):    # a send was running, so there is no end
         while server.recv(65519):
             pass
+
+
+def full(channel):
+    """Sends until the connection takes no more: a frame is on its way."""
+    channel.settimeout(0.05)
+    with pytest.raises(TimeoutError):
+        while True:
+            channel.send(bytes(65519))
+    channel.settimeout(None)
+
+
+def test_abort_ends_a_close_that_waits():
+    client, server, _, _ = pair("NN", tcp=True)
+    full(client)
+    closing = in_thread(client.close)
+    time.sleep(0.1)
+    started = time.monotonic()
+    client.abort()
+    closing()
+    assert time.monotonic() - started < 5
+    server.abort()
+
+
+class Slow:
+    """A socket that takes a byte at a time."""
+
+    def __init__(self, sock):
+        self.sock = sock
+
+    def send(self, data):
+        time.sleep(0.02)
+        return self.sock.send(data[:1])
+
+    def __getattr__(self, name):
+        return getattr(self.sock, name)
+
+
+def test_close_has_a_limit_though_the_peer_takes_a_little(monkeypatch):
+    monkeypatch.setattr(sockets, "CLOSE_TIMEOUT", 0.3)
+    client, server, a, _ = pair("NN")
+    client._sock = Slow(a)
+    client._channel.write(bytes(1000))
+    client._pending = memoryview(client._channel.data_to_send())
+    started = time.monotonic()
+    client.close()
+    assert time.monotonic() - started < 5
+    with server, pytest.raises(ChannelCut):
+        server.recv(1)
+
+
+@pytest.mark.parametrize("end", ["close", "abort"])
+@pytest.mark.parametrize("call", ["recv", "send"])
+def test_close_in_a_handler_of_a_signal(call, end):
+    client, server, _, _ = pair("NN", tcp=True)
+    before = signal.signal(signal.SIGALRM, lambda *_: getattr(client, end)())
+    signal.setitimer(signal.ITIMER_REAL, 0.2)
+    try:
+        with pytest.raises((CallError, OSError)):
+            client.recv(1) if call == "recv" else client.sendall(bytes(50_000_000))
+    finally:
+        signal.signal(signal.SIGALRM, before)
+    assert client.fileno() == -1
+    with server:
+        if call == "recv" and end == "close":
+            assert server.recv(1) == b""
+        else:
+            with pytest.raises(ChannelCut):    # a send was running, so there is no end
+                while server.recv(65519):
+                    pass
+
+
+def test_a_handler_of_a_signal_makes_no_call_inside_another():
+    client, server, _, _ = pair("NN")
+    raised = []
+
+    def handler(*_):
+        for again in (lambda: client.recv(1), lambda: client.send(b"inside")):
+            try:
+                again()
+            except RuntimeError as error:
+                raised.append(error)
+        server.sendall(b"x")
+
+    before = signal.signal(signal.SIGALRM, handler)
+    signal.setitimer(signal.ITIMER_REAL, 0.1)
+    try:
+        with client, server:
+            assert client.recv(1) == b"x" and len(raised) == 1
+            assert server.recv(10) == b"inside"
+    finally:
+        signal.signal(signal.SIGALRM, before)
 
 
 def test_one_way():

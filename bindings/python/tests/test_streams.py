@@ -1,5 +1,6 @@
 """The reader and the writer of asyncio: ends, cuts and refusals, time, cancellation, and what is left."""
 import asyncio
+import contextlib
 import os
 import random
 import socket
@@ -121,6 +122,30 @@ def test_a_cut_is_told_after_what_came(how):
             assert not reader.at_eof() and isinstance(reader.exception(), ChannelCut)
             assert await reader.read(0) == b""
     run(main, faults=1 if how == "raise" else 0)
+
+
+@pytest.mark.parametrize("end", ["close", "abort"])
+def test_a_close_of_this_party_is_no_end_of_the_other(end):
+    """A read that waits, and a later one, raise: the other party has more to send."""
+    async def main(_told):
+        async def handler(reader, writer):
+            writer.write(b"some")
+            with contextlib.suppress(ChannelCut):
+                await reader.read()
+            writer.abort()
+
+        async with connected("NN", handler) as (reader, writer):
+            assert await reader.read(2) == b"so"
+            waiting = asyncio.create_task(reader.readexactly(10))
+            await asyncio.sleep(0)
+            getattr(writer, end)()
+            with pytest.raises(CallError):
+                await waiting
+            for read in (reader.read, reader.readline, lambda: reader.readexactly(1), lambda: anext(reader)):
+                with pytest.raises(CallError):
+                    await read()
+            assert not reader.at_eof()
+    run(main)
 
 
 def test_readexactly_and_readuntil_at_a_cut():
@@ -315,11 +340,8 @@ def test_who_the_client_is(answer):
             if answer in (True, "awaited"):
                 assert await reader.readexactly(5) == b"hello" and not told.lines
             else:
-                if answer == "goes away":
-                    assert await reader.read() == b""
-                else:
-                    with pytest.raises(ChannelCut):
-                        await reader.read()
+                with pytest.raises(CallError if answer == "goes away" else ChannelCut):
+                    await reader.read()
                 await until(lambda: len(told.lines) == 1)
             assert asked == [client.key.public]
             writer.close()

@@ -5,6 +5,7 @@ import (
 	"errors"
 	"fmt"
 	"io"
+	"math"
 	"net"
 	"os"
 	"strings"
@@ -149,11 +150,27 @@ func (o *options) carry(c *noise.Conn, below *net.TCPConn) error {
 	return c.Close()
 }
 
-// send sends standard input, unless more connections come, and ends the stream.
-func (o *options) send(c *noise.Conn) (err error) {
-	if !o.keep {
-		_, err = io.CopyBuffer(struct{ io.Writer }{c}, struct{ io.Reader }{os.Stdin}, make([]byte, noise.MaxMessage-noise.TagLen))
+// setInput sets what is read for a connection: with -keep all that is left of a file, for each anew, or nothing of a terminal.
+func (o *options) setInput(in *os.File) error {
+	info, err := in.Stat()
+	switch {
+	case !o.keep:
+		o.input = func() io.Reader { return in }
+		return nil
+	case err != nil || info.Mode()&os.ModeCharDevice != 0: // it is closed, a terminal, or /dev/null
+		o.input = func() io.Reader { return strings.NewReader("") }
+		return nil
+	case !info.Mode().IsRegular():
+		return wrong{errors.New("-keep: standard input can be sent to one connection alone: redirect it from a file, or from /dev/null")}
 	}
+	start, err := in.Seek(0, io.SeekCurrent)
+	o.input = func() io.Reader { return io.NewSectionReader(in, start, math.MaxInt64-start) }
+	return err
+}
+
+// send sends the input, and ends the stream.
+func (o *options) send(c *noise.Conn) error {
+	_, err := io.CopyBuffer(struct{ io.Writer }{c}, struct{ io.Reader }{o.input()}, make([]byte, noise.MaxMessage-noise.TagLen))
 	if err == nil {
 		err = c.CloseWrite()
 	}

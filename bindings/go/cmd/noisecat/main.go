@@ -5,8 +5,9 @@
 //	noisecat -listen :9000 -key server.key -allow KEY,..
 //	noisecat -connect host:9000 -key client.key -peer KEY
 //
-// A listener takes the first connection whose handshake succeeds, and tells the failures on standard error; with -keep it writes
-// what one after another sends, and doesn't read standard input. With port 0 it listens at a free port, and prints the address on standard error.
+// A listener takes the first connection whose handshake succeeds, and tells the failures on standard error; with -keep it takes one
+// after another, and sends each the file that standard input is. Of a terminal, or /dev/null, it sends nothing then, and a pipe, of which
+// only one could get what comes, is refused. With port 0 it listens at a free port, and prints the address on standard error.
 //
 // The status is 0 if both parties have ended their streams, 1 after a fault, and 2 if the words of the command are wrong, each with a sentence on standard
 // error. After a fault of one party, as a full disk at its output, the connection is reset, and the other party's status is 1 too.
@@ -39,6 +40,7 @@ type options struct {
 	interval                                                  uint64
 	timeout                                                   time.Duration
 	any, keep, verbose, version                               bool
+	input                                                     func() io.Reader // what is read for a connection
 }
 
 // wrong is what is wrong with the words of the command.
@@ -81,6 +83,9 @@ func run(words []string) error {
 	case o.timeout <= 0:
 		return wrong{errors.New("-timeout: not more than 0")}
 	}
+	if err := o.setInput(os.Stdin); err != nil {
+		return err
+	}
 	return join(&o)
 }
 
@@ -98,7 +103,7 @@ func (o *options) flags() *flag.FlagSet {
 	flags.StringVar(&o.prologue, "prologue", "", "the `text` that both ends have agreed on")
 	flags.Uint64Var(&o.interval, "interval", 0, "renew keys after this `number` of messages, the same at both ends; 0: never")
 	flags.DurationVar(&o.timeout, "timeout", 30*time.Second, "the `time` that connecting and a handshake may take")
-	flags.BoolVar(&o.keep, "keep", false, "with -listen: write what one connection after another sends; standard input isn't read")
+	flags.BoolVar(&o.keep, "keep", false, "with -listen: take one connection after another, and send each the file that standard input is")
 	flags.BoolVar(&o.verbose, "v", false, "show what goes over the connection, and the handshake hash, on standard error")
 	flags.BoolVar(&o.version, "version", false, "print the version")
 	return flags

@@ -271,11 +271,34 @@ func TestSilentStrangers(t *testing.T) {
 	}
 }
 
-// TestKeep has one client after another, of which one is cut off.
+// fileFrom opens a file with this text, and reads its first bytes.
+func fileFrom(t *testing.T, text string, first int) *os.File {
+	t.Helper()
+	name := filepath.Join(t.TempDir(), "input")
+	if err := os.WriteFile(name, []byte(text), 0o600); err != nil {
+		t.Fatal(err)
+	}
+	file, err := os.Open(name)
+	if err != nil {
+		t.Fatal(err)
+	}
+	t.Cleanup(func() { file.Close() })
+	if _, err := io.ReadFull(file, make([]byte, first)); err != nil {
+		t.Fatal(err)
+	}
+	return file
+}
+
+// TestKeep has one client after another, of which one is cut off: each other gets the file from where it was, and of no file nothing.
 func TestKeep(t *testing.T) {
+	t.Run("file", func(t *testing.T) { testKeep(t, fileFrom(t, "head\nto each\n", 5), "to each\n") })
+	t.Run("none", func(t *testing.T) { testKeep(t, nil, "") })
+}
+
+func testKeep(t *testing.T, in io.Reader, want string) {
 	cat, server, own, to := pair(t)
 	var listening side
-	listening.in = strings.NewReader("isn't sent")
+	listening.in = in
 	read, written, err := os.Pipe()
 	if err != nil {
 		t.Fatal(err)
@@ -290,12 +313,30 @@ func TestKeep(t *testing.T) {
 		var came strings.Builder
 		end.in, end.out = strings.NewReader(text), &came
 		client(to(server)(l.address), &end)
-		if got, _ := out.ReadString('\n'); got != text || end.status != 0 || came.Len() != 0 {
-			t.Errorf("%q in the place of %q, status %d: %s", got, text, end.status, end.said.String())
+		if got, _ := out.ReadString('\n'); got != text || end.status != 0 || came.String() != want {
+			t.Errorf("%q in the place of %q, back %q, status %d: %s", got, text, came.String(), end.status, end.said.String())
 		}
 		if text == "two\n" {
 			cut(t, to(server)(l.address))
 			l.says(t, "the connection was cut")
+		}
+	}
+}
+
+// TestKeepOnce has inputs of which only one connection could get what comes.
+func TestKeepOnce(t *testing.T) {
+	cat, _, own, _ := pair(t)
+	folder, err := os.Open(".")
+	if err != nil {
+		t.Fatal(err)
+	}
+	defer folder.Close()
+	for _, in := range []io.Reader{strings.NewReader("once"), folder} {
+		end := side{in: in}
+		client(cat("-listen", "127.0.0.1:0", "-key", "s", "-allow", own, "-keep"), &end)
+		want := "noisecat: -keep: standard input can be sent to one connection alone: redirect it from a file, or from /dev/null\n"
+		if end.status != 2 || end.said.String() != want {
+			t.Errorf("status %d: %s", end.status, end.said.String())
 		}
 	}
 }

@@ -8,6 +8,7 @@ from __future__ import annotations
 import argparse
 import contextlib
 import os
+import queue
 import socket
 import sys
 import threading
@@ -19,6 +20,9 @@ from .config import Config
 from .errors import CallError, ConfigError, NoiseError
 from .keys import KeyPair, key_of_digits
 from .sockets import NoiseSocket, accept, connect
+
+SECONDS = 30.0    # that connecting and a handshake may take
+AT_ONCE = 64      # how many handshakes of a listener run at once, so that silent strangers take little
 
 EXAMPLES = """
   python3 -m yulimosar keygen -o server.key        prints the public key
@@ -51,7 +55,8 @@ def _parser() -> argparse.ArgumentParser:
     kinds = parser.add_subparsers(dest="what", required=True)
     keygen = kinds.add_parser("keygen", help="make a static key; the public key goes to standard error")
     keygen.add_argument("-o", dest="output", metavar="FILE", help="write it to this new file")
-    for name, text in (("connect", "connect to HOST:PORT"), ("listen", "accept a connection at [HOST]:PORT")):
+    for name, text in (("connect", "connect to HOST:PORT"),
+                       ("listen", "take the first connection at [HOST]:PORT whose handshake succeeds")):
         kind = kinds.add_parser(name, help=text)
         kind.add_argument("address", metavar="[HOST]:PORT", type=_address)
         kind.add_argument("--key", metavar="FILE", help="the static key that keygen wrote")
@@ -104,7 +109,7 @@ def _config(options: argparse.Namespace) -> Config:
         accept_any_key=options.any,
         psks=[key_of_digits(Path(name).read_text(encoding="ascii")) for name in options.psk],
         interval=options.interval,
-        handshake_timeout=30.0,
+        handshake_timeout=SECONDS,
     )
 
 
@@ -112,7 +117,8 @@ def _join(options: argparse.Namespace) -> None:
     config = _config(options)
     config.check(options.what == "connect")
     if options.what == "connect":
-        sock = socket.create_connection(options.address)
+        sock = socket.create_connection(options.address, SECONDS)
+        sock.settimeout(None)
         channel = connect(sock, config)
     else:
         family = socket.AF_INET6 if ":" in options.address[0] else socket.AF_INET
@@ -120,8 +126,7 @@ def _join(options: argparse.Namespace) -> None:
             host, port = listener.getsockname()[:2]
             if options.verbose or not options.address[1]:
                 print(f"listening on {host}:{port}", file=sys.stderr)
-            sock, _ = listener.accept()
-        channel = accept(sock, config)
+            channel = _Handshakes(listener, config).first()
     if options.verbose:
         key = channel.noise.peer_key
         print(f"{channel.noise.protocol}\nhandshake hash: {channel.noise.hash.hex()}\n"
@@ -129,12 +134,52 @@ def _join(options: argparse.Namespace) -> None:
     channel._resets = True    # after a fault, so that the other end's status isn't 0
     try:
         _carry(channel)
-        _part(sock)
+        _part(channel._sock)
     except BaseException:
         channel._shut()
         raise
     channel._resets = False
     channel.close()
+
+
+class _Handshakes:
+    """The handshakes of those who connect to a listener, side by side. Those that fail are told on standard error."""
+
+    def __init__(self, listener: socket.socket, config: Config) -> None:
+        self._listener, self._config = listener, config
+        self._places = threading.Semaphore(AT_ONCE)
+        self._made: queue.SimpleQueue[NoiseSocket] = queue.SimpleQueue()
+        self._over, self._lock = False, threading.Lock()
+
+    def first(self) -> NoiseSocket:
+        """The first channel whose handshake succeeds."""
+        self._listener.settimeout(0.1)
+        while True:
+            with contextlib.suppress(queue.Empty):
+                return self._made.get_nowait()
+            if self._places.acquire(timeout=0.1):
+                try:
+                    sock, peer = self._listener.accept()
+                except TimeoutError:
+                    self._places.release()
+                else:
+                    threading.Thread(target=self._shake, args=(sock, peer), daemon=True).start()
+
+    def _shake(self, sock: socket.socket, peer: tuple[str, int]) -> None:
+        try:
+            channel = accept(sock, self._config)
+        except Exception as fault:
+            if not self._over:
+                print(f"yulimosar: {peer[0]}:{peer[1]}: {fault}", file=sys.stderr)
+        else:
+            with self._lock:
+                if self._over:
+                    channel.abort()
+                else:
+                    self._over = True
+                    self._made.put(channel)
+        finally:
+            self._places.release()
 
 
 def _carry(channel: NoiseSocket) -> None:

@@ -15,8 +15,10 @@ Buffer: TypeAlias = bytes | bytearray | memoryview
 SMALL = 2048    # how many bytes of a buffer are kept from call to call
 
 _size_of = ffi.sizeof
+_CHARS = ffi.typeof("char[]")
+_new = ffi.new_allocator(should_clear_after_alloc=False)    # what isn't written isn't read
 _wipe = lib.noise_wipe
-_wipe_stack = lib.noise_wipe_stack
+_wipe_stack = lib.wipe_stack
 _all: weakref.WeakSet[Kept] = weakref.WeakSet()
 
 
@@ -31,7 +33,7 @@ def pointer(data: Buffer) -> tuple[Any, int]:
 def copied(data: Buffer) -> tuple[Any, int]:
     """A copy in which a call of the library works in place, and how many bytes it has."""
     there, size = pointer(data)
-    copy = ffi.new("char[]", size)
+    copy = _new(_CHARS, size)
     ffi.memmove(copy, there, size)
     return copy, size
 
@@ -51,9 +53,9 @@ class Kept:
     def _room(self, size: int) -> Any:
         """A buffer of at least so many bytes."""
         if size > SMALL:
-            return ffi.new("char[]", size)
+            return _new(_CHARS, size)
         if self._spare is None:
-            self._spare = ffi.new("char[]", SMALL)
+            self._spare = _new(_CHARS, SMALL)
         return self._spare
 
     def close(self) -> None:

@@ -16,7 +16,7 @@ from .errors import CallError, ChannelCut, HandshakeTimeout
 from .memory import Buffer
 
 CHUNK = 1 << 16
-CLOSE_TIMEOUT = 30.0    # in seconds: how long `close` waits for a peer that takes nothing
+CLOSE_TIMEOUT = 30.0    # in seconds: how long `close` waits for a peer that takes nothing, or too little
 
 
 def connect(sock: socket.socket, config: Config) -> NoiseSocket:
@@ -40,6 +40,30 @@ def _shaken(sock: socket.socket, config: Config, initiator: bool) -> NoiseSocket
     return made
 
 
+class _Turns:
+    """Calls of one direction, one at a time. A handler of a signal runs inside a call of its thread: it can close the
+    channel then, and not make another such call."""
+
+    def __init__(self) -> None:
+        self.lock = threading.RLock()
+        self._is_taken = False
+
+    def try_lock(self) -> bool:
+        """Takes the lock, if no call is running."""
+        return not self._is_taken and self.lock.acquire(blocking=False)
+
+    def __enter__(self) -> None:
+        self.lock.acquire()
+        if self._is_taken:
+            self.lock.release()
+            raise RuntimeError("a call of this thread on the same direction is running")
+        self._is_taken = True
+
+    def __exit__(self, *_error: object) -> None:
+        self._is_taken = False
+        self.lock.release()
+
+
 class NoiseSocket:
     """A channel over a socket. One thread may receive while another sends.
 
@@ -50,8 +74,8 @@ class NoiseSocket:
     def __init__(self, sock: socket.socket, channel: Channel) -> None:
         self._sock = sock
         self._channel = channel
-        self._receiving, self._sending = threading.Lock(), threading.Lock()
-        self._closing = threading.Lock()
+        self._receiving, self._sending = _Turns(), _Turns()
+        self._closing = threading.RLock()
         self._rest = memoryview(b"")    # came, and wasn't received yet
         self._ended = False             # the other party has ended its stream
         self._pending = memoryview(b"")    # sealed, and not sent yet
@@ -184,13 +208,13 @@ class NoiseSocket:
             self._flush()
             self._whole = True
 
-    def _flush(self) -> None:
-        """Sends what is sealed, and isn't sent yet."""
+    def _flush(self, end: float | None = None) -> None:
+        """Sends what is sealed, and isn't sent yet; before `end`, if that is said."""
         while self._pending:
             if self._channel.fault is not None:
                 raise self._channel.fault
             try:
-                count = self._sock.send(self._pending)
+                count = self._within(end, self._sock.send, self._pending)
             except (TimeoutError, BlockingIOError):
                 raise
             except OSError:
@@ -207,14 +231,14 @@ class NoiseSocket:
             self._open()
             self._end()
 
-    def _end(self) -> None:
+    def _end(self, end: float | None = None) -> None:
         try:
             self._channel.write_eof()
         except CallError as error:
             if error.code != Code.CLOSED:    # else it was ended before
                 raise
         self._pending = memoryview(self._channel.data_to_send())
-        self._flush()
+        self._flush(end)
 
     def close(self) -> None:
         """Sends the end of the stream, unless something went wrong, closes the connection, and overwrites the keys."""
@@ -222,28 +246,28 @@ class NoiseSocket:
             if self._closed:
                 return
             self._closed = True
-            if self._sending.acquire(blocking=False):    # else a send is running, which the end can't follow
+            if self._sending.try_lock():    # else a send is running, which the end can't follow
                 try:
                     self._say_end()
                 finally:
-                    self._sending.release()
+                    self._sending.lock.release()
             self._close()
 
     def _say_end(self) -> None:
         if not self._whole or self._channel.fault is not None:
             return
+        end = time.monotonic() + CLOSE_TIMEOUT
         try:
-            if self._sock.gettimeout() is None:
-                self._sock.settimeout(CLOSE_TIMEOUT)
-            self._flush()
-            self._end()
+            self._flush(end)
+            self._end(end)
         except (OSError, CallError):
             pass    # the other party gets ChannelCut
 
     def abort(self) -> None:
         """Closes the connection without the end of the stream: the other party gets ChannelCut."""
+        self._closed = True
+        self._shut()    # a `close` that waits ends, too
         with self._closing:
-            self._closed = True
             self._close()
 
     def _shut(self) -> None:
@@ -259,7 +283,7 @@ class NoiseSocket:
 
     def _close(self) -> None:
         self._shut()
-        with self._receiving, self._sending:
+        with self._receiving.lock, self._sending.lock:
             self._channel.close()
             self._sock.close()
 

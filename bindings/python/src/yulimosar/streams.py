@@ -22,11 +22,17 @@ logger = logging.getLogger("yulimosar")
 
 class Reader(asyncio.StreamReader):
     """A StreamReader. It gives out all that came before a fault; then each call raises the fault, and `at_eof` stays
-    False. b"" is the end that the other party has sent."""
+    False. b"" is the end that the other party has sent; where this party has closed before, CallError is raised."""
 
     def __init__(self, limit: int, loop: asyncio.AbstractEventLoop) -> None:
         super().__init__(limit=limit, loop=loop)
         self._fault: Exception | None = None
+        self._below: _Below | None = None
+
+    def feed_eof(self) -> None:
+        if self._fault is None and (self._below is None or not self._below.ended):
+            self._fault = CallError(None)    # this party has closed: for asyncio that is an end, too
+        super().feed_eof()
 
     def set_exception(self, exc: Exception) -> None:
         self._fault = exc
@@ -171,6 +177,7 @@ class _Below(asyncio.Protocol):
         self.above = above
         self.transport: asyncio.Transport
         self.over = False       # closed, broken or lost
+        self.ended = False      # whether the other party has ended its stream
         self.paused = False     # whether the protocol above wants no more
         self._fault: Exception | None = None
         self._timeout, self._failed = timeout, failed
@@ -215,8 +222,10 @@ class _Below(asyncio.Protocol):
         elif isinstance(event, Pending):
             self.transport.pause_reading()
             self._asking = self.loop.create_task(self._ask(event.awaitable))
-        elif not self.above.eof_received():
-            self.close()
+        else:
+            self.ended = True
+            if not self.above.eof_received():
+                self.close()
 
     def _begin(self) -> None:
         self._stop_timer()
@@ -321,7 +330,7 @@ class _Below(asyncio.Protocol):
             self.paused = False
             self.channel.receive_eof()
             self.pump()
-        self.over = True
+        self.over, self._ready = True, None
         self._stop_timer()
         if self._asking is not None:
             self._asking.cancel()
@@ -354,7 +363,7 @@ async def open_connection(
             ready.set_exception(fault)
             ready.exception()    # nobody may wait for it
 
-    below = _Below(Channel(config, True), above, config.handshake_timeout, done, failed)
+    below = reader._below = _Below(Channel(config, True), above, config.handshake_timeout, done, failed)
     connect: Any = loop.create_connection    # host and port are None where `words` have a socket
     await connect(lambda: below, host, port, **words)
     try:
@@ -395,7 +404,7 @@ async def start_server(
         def failed(fault: Exception) -> None:
             logger.info("handshake with %s: %s", below.transport.get_extra_info("peername"), fault)
 
-        below = _Below(Channel(config, False), above, config.handshake_timeout, ready, failed)
+        below = reader._below = _Below(Channel(config, False), above, config.handshake_timeout, ready, failed)
         return below
 
     listen: Any = loop.create_server

@@ -6,7 +6,7 @@ from typing import Any
 from ._noise import ffi, lib
 from .codes import DATAGRAM_OVERHEAD, TAG_LEN, Code
 from .errors import CallError, MessageRefused
-from .memory import Buffer, Kept, pointer
+from .memory import SMALL, Buffer, Kept, pointer
 
 _REFUSALS = {Code.SHORT, Code.TAG, Code.TOO_LONG, Code.LENGTH, Code.RESERVED, Code.OLD, Code.REPEATED}
 
@@ -14,8 +14,9 @@ _unpack = ffi.unpack
 _seal = lib.noise_seal
 _seal_in_place = lib.noise_seal_in_place
 _open = lib.noise_open
+_open_copy = lib.open_copy
 _datagram_seal = lib.noise_datagram_seal
-_datagram_open = lib.noise_datagram_open
+_datagram_open_copy = lib.datagram_open_copy
 _encrypt = lib.noise_cipher_encrypt
 _decrypt = lib.noise_cipher_decrypt
 
@@ -41,15 +42,16 @@ class Sender(Kept):
 
     def seal(self, payload: Buffer) -> bytes:
         """The next message: 16 bytes longer than the payload, which has at most 65519."""
-        data, size = pointer(payload)
+        data, size = (payload, len(payload)) if type(payload) is bytes else pointer(payload)
+        length = size + TAG_LEN
         with self._lock:
-            if self._at is None:
+            at = self._at
+            if at is None:
                 raise CallError(None)
-            room = self._room(size + TAG_LEN)
-            code = _seal(self._at[0], data, size, room, size + TAG_LEN, self._told)
-            if code:
+            room = self._spare if self._spare and length <= SMALL else self._room(length)
+            if code := _seal(at[0], data, size, room, length, self._told):
                 raise _unsealed(code)
-            return _unpack(room, self._told.len)    # type: ignore[no-any-return]
+            return _unpack(room, length)    # type: ignore[no-any-return]
 
     def seal_in_place(self, buffer: bytearray | memoryview, size: int) -> int:
         """Seals the first `size` bytes of a buffer where they are, without a copy. The message is 16 bytes longer."""
@@ -80,16 +82,15 @@ class Receiver(Kept):
 
     def open(self, message: Buffer) -> bytes:
         """The payload of the next message. MessageRefused changes nothing; over a stream close at the first."""
-        data, size = pointer(message)
+        data, size = (message, len(message)) if type(message) is bytes else pointer(message)
         with self._lock:
-            if self._at is None:
+            at = self._at
+            if at is None:
                 raise CallError(None)
-            room = self._room(size)
-            ffi.memmove(room, data, size)
-            code = _open(self._at[0], room, size, self._told)
-            if code:
+            room = self._spare if self._spare and size <= SMALL else self._room(size)
+            if code := _open_copy(at[0], data, size, room, self._told):
                 raise _unopened(code)
-            return _unpack(room + getattr(self._told, "from"), self._told.len)    # type: ignore[no-any-return]
+            return _unpack(room, size - TAG_LEN)    # type: ignore[no-any-return]
 
     def open_in_place(self, message: bytearray | memoryview) -> memoryview:
         """Opens a message where it is, without a copy: the payload is a view of it."""
@@ -129,28 +130,28 @@ class Datagrams(Kept):
 
     def seal(self, payload: Buffer) -> bytes:
         """A datagram: 24 bytes longer than the payload, which has at most 65519."""
-        data, size = pointer(payload)
+        data, size = (payload, len(payload)) if type(payload) is bytes else pointer(payload)
+        length = size + DATAGRAM_OVERHEAD
         with self._lock:
-            if self._at is None:
+            at = self._at
+            if at is None:
                 raise CallError(None)
-            room = self._room(size + DATAGRAM_OVERHEAD)
-            code = _datagram_seal(self._at[0], data, size, room, size + DATAGRAM_OVERHEAD, self._told)
-            if code:
+            room = self._spare if self._spare and length <= SMALL else self._room(length)
+            if code := _datagram_seal(at[0], data, size, room, length, self._told):
                 raise _unsealed(code)
-            return _unpack(room, self._told.len)    # type: ignore[no-any-return]
+            return _unpack(room, length)    # type: ignore[no-any-return]
 
     def open(self, datagram: Buffer) -> bytes:
         """The payload of a datagram. MessageRefused changes nothing: drop the datagram, and wait for the next."""
-        data, size = pointer(datagram)
+        data, size = (datagram, len(datagram)) if type(datagram) is bytes else pointer(datagram)
         with self._lock:
-            if self._at is None:
+            at = self._at
+            if at is None:
                 raise CallError(None)
-            room = self._room(size)
-            ffi.memmove(room, data, size)
-            code = _datagram_open(self._at[1], room, size, self._told)
-            if code:
+            room = self._spare if self._spare and size <= SMALL else self._room(size)
+            if code := _datagram_open_copy(at[1], data, size, room, self._told):
                 raise _unopened(code)
-            return _unpack(room + getattr(self._told, "from"), self._told.len)    # type: ignore[no-any-return]
+            return _unpack(room + 8, size - DATAGRAM_OVERHEAD)    # type: ignore[no-any-return]
 
     @property
     def nonce(self) -> int:

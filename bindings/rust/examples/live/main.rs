@@ -1,8 +1,10 @@
-// One end over TCP, for tests/live/run.py: live PATTERN OWN_SECRET PEER_KEY PSK ADDRESS ORDER SIZE [async]. It connects as the initiator; where ADDRESS begins
-// with '@' it listens there, as the responder, and prints the address. Both ends send SIZE bytes at once. ORDER is "first": it ends its stream after its
+// One end over TCP, for tests/live/run.py: live PATTERN OWN_SECRET PEER_KEY PSK ADDRESS ORDER SIZE [async|websocket]. It connects as the initiator; where ADDRESS
+// begins with '@' it listens there, as the responder, and prints the address. Both ends send SIZE bytes at once. ORDER is "first": it ends its stream after its
 // last byte; or "last": only once the other's has ended. PSK is '-' if there is none. The last line is "wrote COUNT ended|open, read COUNT end|cut|refused|lost".
 mod asynchronous;
 mod blocking;
+mod websocket;
+mod without_io;
 
 use std::io::{self, ErrorKind};
 use yulimosar::{Builder, Handshake, KeyPair};
@@ -81,9 +83,11 @@ impl Told {
 
 fn main() -> io::Result<()> {
     let words: Vec<String> = std::env::args().collect();
-    let is_async = words.last().map_or(false, |word| word == "async");
-    let run = Run::new(words);
-    let told = if is_async { asynchronous::run(run) } else { blocking::run(run) };
+    let told = match words.last().map(String::as_str) {
+        Some("async") => asynchronous::run(Run::new(words)),
+        Some("websocket") => without_io::run(Run::new(words)),
+        _ => blocking::run(Run::new(words)),
+    };
     told.unwrap_or_else(|end| Told { wrote: 0, has_ended: false, read: 0, end: Err(end) }).print();
     Ok(())
 }

@@ -1,9 +1,12 @@
-// One end over TCP, as examples/live/main.rs says: node peer.mjs PATTERN OWN_SECRET PEER_KEY PSK ADDRESS ORDER SIZE, by the package for JavaScript.
+// One end over TCP, or over a WebSocket, as examples/live/main.rs says: node peer.mjs PATTERN OWN_SECRET PEER_KEY PSK ADDRESS ORDER SIZE [websocket], by the
+// package for JavaScript.
 import { once } from 'node:events';
+import { createServer as createHttpServer } from 'node:http';
 import { connect, createServer } from 'node:net';
 import { KeyPair, NoiseSocket, code, load, protocolName } from '../../../js/noise.mjs';
+import { takeWebSockets } from '../../../../checks/web/websocket.mjs';
 
-const [name, secret, peer, psk, address, order, digits] = process.argv.slice(2);
+const [name, secret, peer, psk, address, order, digits, mode] = process.argv.slice(2);
 const size = Number(digits);
 const bytes = (text) => new Uint8Array(Buffer.from(text, 'hex'));
 const isInitiator = !address.startsWith('@');
@@ -11,17 +14,36 @@ const isInitiator = !address.startsWith('@');
 /** Byte i of what a party sends. */
 const byteOf = (initiator, i) => (i * 7 + Number(initiator)) % 251;
 
+async function listen(server, host, port) {
+  server.listen(Number(port), host);
+  await once(server, 'listening');
+  console.log(`${host}:${server.address().port}`);
+}
+
+async function webSocket(host, port) {
+  if (isInitiator) return new WebSocket(`ws://${host}:${port}/`);
+  const server = createHttpServer();
+  const taken = new Promise((resolve, reject) => {
+    takeWebSockets(server, resolve);
+    server.on('connection', (it) => {
+      it.on('end', () => it.end());    // sockets of this server may be half open
+      it.on('close', () => reject(new Error('no WebSocket was asked for')));
+    });
+  });
+  await listen(server, host, port);
+  return taken;
+}
+
 async function connection() {
   const [host, port] = address.replace('@', '').split(':');
+  if (mode === 'websocket') return webSocket(host, port);
   if (isInitiator) {
     const socket = connect({ port: Number(port), host, allowHalfOpen: true });
     await once(socket, 'connect');
     return socket;
   }
   const server = createServer({ allowHalfOpen: true });
-  server.listen(Number(port), host);
-  await once(server, 'listening');
-  console.log(`${host}:${server.address().port}`);
+  await listen(server, host, port);
   const [socket] = await once(server, 'connection');
   server.close();
   return socket;
@@ -75,17 +97,18 @@ async function run(channel) {
 await load();
 const letters = name.split('psk')[0];
 const knows = letters[isInitiator ? 1 : 0] === 'K';
+const options = {
+  pattern: protocolName(name),
+  responder: !isInitiator,
+  prologue: new TextEncoder().encode('live'),
+  staticKey: letters === 'NN' ? undefined : await KeyPair.fromSecret(bytes(secret)),
+  remoteStatic: knows ? bytes(peer) : undefined,
+  psks: psk === '-' ? [] : [bytes(psk)],
+  judge: letters === 'NN' ? undefined : (key) => Buffer.from(key).toString('hex') === peer,
+  acceptAnyKey: letters === 'NN',
+};
 try {
-  await run(await NoiseSocket.open(await connection(), {
-    pattern: protocolName(name),
-    responder: !isInitiator,
-    prologue: new TextEncoder().encode('live'),
-    staticKey: letters === 'NN' ? undefined : await KeyPair.fromSecret(bytes(secret)),
-    remoteStatic: knows ? bytes(peer) : undefined,
-    psks: psk === '-' ? [] : [bytes(psk)],
-    judge: letters === 'NN' ? undefined : (key) => Buffer.from(key).toString('hex') === peer,
-    acceptAnyKey: letters === 'NN',
-  }));
+  await run(await NoiseSocket.open(await connection(), options));    // at once: what a WebSocket gets before isn't seen
 } catch (error) {
   console.log(`wrote 0 open, read 0 ${told(error)}`);
 }

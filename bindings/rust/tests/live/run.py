@@ -1,6 +1,6 @@
 #!/usr/bin/env python3
 """Runs the ends of one package against each other and against other implementations, over TCP on 127.0.0.1: run.py WORD=PROGRAM.. -- WORD=PROGRAM.., the
-package's own first. WORD is a name, and PROGRAM a command that takes the words of examples/live/main.rs; its last word may be "async".
+package's own first. WORD is a name, and PROGRAM a command that takes the words of examples/live/main.rs; its last word may be "async" or "websocket".
 
 Each pattern, in both roles, with 1 MB each way at once and both ends closing in each order. Then again with less bytes
 behind a relay that flips, cuts, repeats or drops one byte. What each side reports is compared with the law: it has read the first of what the other has
@@ -28,6 +28,7 @@ SIZE, SMALL = 1_000_000, 700
 PATTERNS = ["XX", "IK", "NNpsk0", "XXpsk3", "IKpsk2", "KK"]
 ORDERS = [("first", "last"), ("last", "first"), ("first", "first")]
 FAULTS = ["flip", "cut", "repeat", "drop"]
+MODES = {"async", "websocket"}
 RAW = (serialization.Encoding.Raw, serialization.PublicFormat.Raw)
 
 
@@ -128,8 +129,8 @@ def pass_session(programs, pattern, orders, size, directions):
     """Passes a session of an initiator and a responder, and returns what each has told."""
     pairs, psk = [key(), key()], secrets.token_hex(32) if "psk" in pattern else "-"
     words = [[*shlex.split(program)] for program in programs]
-    tail = [[order, str(size)] + (["async"] if word[-1] == "async" else []) for order, word in zip(orders, words)]
-    words = [word[:-1] if word[-1] == "async" else word for word in words]
+    tail = [[order, str(size)] + [it for it in word[-1:] if it in MODES] for order, word in zip(orders, words)]
+    words = [word[:-1] if word[-1] in MODES else word for word in words]
     server = [*words[1], pattern, pairs[1][0], pairs[0][1], psk, "@127.0.0.1:0", *tail[1]]
     with subprocess.Popen(server, stdout=subprocess.PIPE, text=True) as responder:
         relay = Relay(responder.stdout.readline().strip(), directions)
@@ -145,14 +146,14 @@ def pass_session(programs, pattern, orders, size, directions):
     return Told(initiator.stdout.strip()), Told(said.strip())
 
 
-def compare(told, orders, size, directions):
-    """Compares what the ends tell with the law."""
+def compare(told, orders, size, directions, is_framed):
+    """Compares what the ends tell with the law. A WebSocket has bytes that aren't the channel's: a fault there may damage nothing."""
     is_damaged = any(direction.is_struck for direction in directions)  # a byte after the end may reset the connection
     for index, own in enumerate(told):
         other, came = told[1 - index], directions[1 - index]
         assert own.read <= other.wrote, "it has read what wasn't written"
         if own.end == "end":
-            assert other.wrote == size and own.read == size and came.is_whole, "an end that isn't one"
+            assert other.wrote == size and own.read == size and (came.is_whole or is_framed), "an end that isn't one"
         else:
             assert is_damaged, "no end, and nothing was damaged"
             assert orders[index] == "first" or not own.has_ended, "it has ended its stream after a refusal"
@@ -167,7 +168,7 @@ def session(names, programs, pattern, orders, size, faults=(None, None)):
     except Exception as error:
         raise AssertionError(f"{what}: {error}") from error
     try:
-        compare(told, orders, size, directions)
+        compare(told, orders, size, directions, all(program.endswith("websocket") for program in programs))
     except AssertionError as error:
         raise AssertionError(f"{what}: {error}: {told[0]}; {told[1]}") from error
     return [direction.sent for direction in directions]
