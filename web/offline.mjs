@@ -21,12 +21,20 @@ async function keepAll() {
 }
 
 self.addEventListener('install', (event) => event.waitUntil(keepAll().then(() => self.skipWaiting())));
-self.addEventListener('activate', (event) => event.waitUntil(self.clients.claim()));
+self.addEventListener('activate', (event) => event.waitUntil(Promise.all([self.clients.claim(), self.registration.navigationPreload?.enable()])));
 
-async function answerFor(request) {
+/** Keeps an answer, once the page that asked for it has had time to load. */
+async function keepLater(request, answer) {
+  await new Promise((done) => { setTimeout(done, 2000); });
+  await (await caches.open(KEPT)).put(request, answer);
+}
+
+/** What the server answers: a page has been asked for while this worker was started. */
+async function answerFor(event) {
+  const { request } = event;
   try {
-    const answer = await fetch(request);
-    if (answer.ok) (await caches.open(KEPT)).put(request, answer.clone());
+    const answer = await event.preloadResponse ?? await fetch(request);
+    if (answer.ok) event.waitUntil(keepLater(request, answer.clone()));
     return answer;
   } catch (error) {
     const kept = await caches.match(request, { ignoreSearch: true });
@@ -36,5 +44,5 @@ async function answerFor(request) {
 }
 
 self.addEventListener('fetch', (event) => {
-  if (event.request.method === 'GET' && new URL(event.request.url).origin === location.origin) event.respondWith(answerFor(event.request));
+  if (event.request.method === 'GET' && new URL(event.request.url).origin === location.origin) event.respondWith(answerFor(event));
 });
