@@ -86,7 +86,10 @@ export class Editor {
       const box = element('input');
       Object.assign(box, { type: 'checkbox', value: place });
       box.setAttribute('aria-label', place === 0 ? 'psk before message 1' : `psk at the end of message ${place}`);
-      box.addEventListener('change', () => this.replace(togglePsk(this.text, place)));
+      box.addEventListener('change', () => {
+        this.replace(togglePsk(this.text, place));
+        this.#setPlaces(this.text);    // where the text has no such place the box is as it was
+      });
       this.#places.append(element('label', '', box, String(place)));
     }
     this.#text.addEventListener('input', () => this.judge());

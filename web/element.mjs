@@ -14,9 +14,22 @@ export function button(label, act, cls = '') {
   return made;
 }
 
-/** Switches a button off or on. It keeps the focus where it has it. */
-export function enable(it, isEnabled) {
-  it.setAttribute('aria-disabled', String(!isEnabled));
+/** Switches a button on, or off with the reason as its description. It keeps the focus where it has it. */
+export function enable(it, isEnabled, why = '') {
+  const [isOff, title] = [String(!isEnabled), isEnabled ? '' : why];
+  if (it.getAttribute('aria-disabled') !== isOff) it.setAttribute('aria-disabled', isOff);
+  if (it.title !== title) it.title = title;
+}
+
+/** Gives the focus to another element, if the one that had it isn't shown any more. */
+export function refocus(had, other) {
+  if (!had || had === document.body || (had.isConnected && had.getClientRects().length > 0)) return;
+  other.focus({ preventScroll: true });
+}
+
+/** Says something to those who don't see a button change. */
+function tell(text) {
+  document.getElementById('told').textContent = text;
 }
 
 /** A button that copies a text. `what` says of what, for those who don't see where it is. */
@@ -25,7 +38,11 @@ export function copier(what, textOf, label = 'Copy') {
     let isCopied = true;
     try { await navigator.clipboard.writeText(textOf()); } catch { isCopied = false; }
     made.textContent = isCopied ? 'Copied' : 'Not allowed';
-    setTimeout(() => { made.textContent = label; }, 1500);
+    tell(isCopied ? `Copied: ${what}.` : 'This browser doesn’t let the page copy.');
+    setTimeout(() => {
+      made.textContent = label;
+      tell('');
+    }, 1500);
   }, 'copy');
   made.setAttribute('aria-label', `${label}: ${what}`);
   return made;

@@ -1,7 +1,10 @@
 // The facts about a pattern's tokens, and two patterns beside each other, as they are shown.
+import { checkPattern } from '../bindings/js/check.mjs';
 import { layout, linesOf } from '../bindings/js/layout.mjs';
+import { DEFERRED, FUNDAMENTAL, textOf } from '../bindings/js/patterns.mjs';
 import { element } from './element.mjs';
 import { UNJUDGED, judge, mixedIn, sentence, warns } from './facts.mjs';
+import * as own from './own.mjs';
 
 const nameOf = ({ message }) => (message ? `Message ${message}` : 'Transport');
 const says = (fact) => (warns(fact) ? [element('strong', '', 'Warning: '), sentence(fact)] : [sentence(fact)]);
@@ -44,14 +47,21 @@ function rowsOf(text) {
   plan.messages.forEach(({ from, tokens, length }, n) => rows.push([`Message ${n + 1}`, `${from === 'initiator' ? '→' : '←'} ${tokens.join(', ')} (${length} bytes)`]));
   moments.forEach((moment) => rows.push([`Keys of ${nameOf(moment).toLowerCase()}`, `${mixedIn(moment)}. ${sentence(moment.fact)}`]));
   for (const role of ['initiator', 'responder']) {
-    const own = facts.filter((fact) => fact.role === role).map(sentence);
-    rows.push([`The ${role}`, own.length ? own.join(' ') : 'nothing to say']);
+    const found = facts.filter((fact) => fact.role === role).map(sentence);
+    rows.push([`The ${role}`, found.length ? found.join(' ') : 'nothing to say']);
   }
   return rows;
 }
 
+/** A text, with the words in bold that another one hasn't. */
+function marked(text, other) {
+  const bare = (word) => word.replace(/[(),.;]/g, '');
+  const others = new Set(other.split(' ').map(bare));
+  return text.split(' ').flatMap((word, n) => [n ? ' ' : '', others.has(bare(word)) ? word : element('strong', '', word)]);
+}
+
 /** Two patterns beside each other, with a mark where they differ. */
-export function showBeside(box, [nameA, textA], [nameB, textB]) {
+function showBeside(box, [nameA, textA], [nameB, textB]) {
   const [a, b] = [rowsOf(textA), rowsOf(textB)].map((rows) => new Map(rows));
   const order = ['Known before', ...[...new Set([...a.keys(), ...b.keys()])].filter((name) => name !== 'Known before')];
   const rank = (name) => (name.startsWith('Message') ? 1 : name.startsWith('Keys') ? 2 : name.startsWith('The ') ? 3 : 0);
@@ -63,10 +73,65 @@ export function showBeside(box, [nameA, textA], [nameB, textB]) {
     const isOther = left !== right;
     if (isOther) count += 1;
     const mark = isOther ? [' ', element('span', 'differs', 'differs')] : [];
-    return element('tr', isOther ? 'other' : '', element('th', '', name, ...mark), cell('td', left), cell('td', right));
+    const isMarked = isOther && name.startsWith('Message') && a.has(name) && b.has(name);
+    const cells = isMarked ? [marked(left, right), marked(right, left)] : [[left], [right]];
+    return element('tr', isOther ? 'other' : '', element('th', '', name, ...mark), ...cells.map((parts) => cell('td', ...parts)));
   });
   for (const row of rows) row.firstChild.scope = 'row';
   const table = element('table', 'beside', headed('What', nameA, nameB), element('tbody', '', ...rows));
   const differs = count === 1 ? '1 row differs' : `${count} rows differ`;
   box.replaceChildren(element('p', '', count ? `${nameA} and ${nameB}: ${differs}.` : `${nameA} and ${nameB} are alike in all of these.`), table);
+}
+
+const headingOf = (text) => text.split('\n')[0].replace(/:$/, '');
+
+/** Another pattern beside the one in the editor: one of the standard, or one's own. */
+export class Beside {
+  #list;
+  #box;
+  #shown = ['', undefined];
+
+  /** `changed(name)` is called with the name of the pattern of the standard that was chosen, or ''. */
+  constructor(list, box, changed) {
+    this.#list = list;
+    this.#box = box;
+    this.#fill();
+    list.addEventListener('focus', () => this.#fill());
+    list.addEventListener('change', () => {
+      this.show(...this.#shown);
+      changed(list.value.startsWith('own ') ? '' : list.value);
+    });
+  }
+
+  /** What can be chosen: one's own patterns that are valid, then those of the standard. */
+  #fill() {
+    const { value } = this.#list;
+    const mine = own.all().filter((text) => checkPattern(text).valid).map((text) => new Option(`your ${own.nameOf(text)}`, `own ${own.nameOf(text)}`));
+    this.#list.replaceChildren(new Option('nothing', ''), ...mine, ...[...FUNDAMENTAL, ...DEFERRED].map((base) => new Option(base)));
+    this.#list.value = value;
+  }
+
+  choose(name) {
+    this.#list.value = name;
+    if (this.#list.selectedIndex < 0) this.#list.value = '';
+  }
+
+  #other() {
+    const { value } = this.#list;
+    if (!value.startsWith('own ')) return value && textOf(value);
+    return own.all().find((text) => own.nameOf(text) === value.slice(4));
+  }
+
+  /** Shows it beside this text. While that isn't valid, what was shown stays, greyed. */
+  show(text, isValid) {
+    this.#shown = [text, isValid];
+    const other = this.#other();
+    this.#box.classList.toggle('old', !isValid);
+    if (other && !isValid) return;
+    const isShown = other && checkPattern(other).valid;
+    if (isShown) showBeside(this.#box, [headingOf(text), text], [headingOf(other), other]);
+    else this.#box.replaceChildren();
+    if (isShown) this.#box.tabIndex = 0;
+    else this.#box.removeAttribute('tabindex');
+  }
 }

@@ -35,6 +35,14 @@ export function pieceName({ kind, sealed, length }) {
 const arrowOf = (from) => (from === 'initiator' ? '→' : '←');
 const isKey = (item) => item.includes('’s ') || item.includes("'s ");
 const coveredBy = (n) => ['message 1', 'messages 1 and 2'][n] ?? `messages 1 to ${n + 1}`;
+/** How many characters of the picture's smaller text fit a width. */
+const fitting = (width) => Math.floor(width / 6.7);
+
+/** What the hash covers after message N besides the messages: keys known before it, and the psk tokens so far (9.2). */
+function coveredBefore({ before, messages }, n) {
+  const psks = messages.slice(0, n + 1).flatMap(({ tokens }) => tokens).filter((token) => token === 'psk').length;
+  return { hasKeys: before.initiator.length + before.responder.length > 0, psks: psks > 1 ? `${psks} psks` : ['', 'psk'][psks] };
+}
 
 /** What a party knows of the other's keys, and what it has mixed in. */
 function knowledge(known, role) {
@@ -48,12 +56,15 @@ function knownWords(known, role) {
 }
 
 /** The same as the picture, in words, a line for each message. */
-export function words({ section, before, messages }) {
+export function words(plan) {
+  const { section, before, messages } = plan;
   const lines = [`Pattern ${section}, ${messages.length} ${messages.length === 1 ? 'message' : 'messages'}.`];
   for (const role of ['initiator', 'responder']) if (before[role].length) lines.push(`Known before: the ${role}’s ${before[role].join(' and ')}.`);
   messages.forEach(({ from, pieces, length, known }, n) => {
+    const { hasKeys, psks } = coveredBefore(plan, n);
+    const covered = ['the protocol name', 'the prologue', hasKeys && 'the keys known before', psks && (psks === 'psk' ? 'the psk' : psks)];
     lines.push(`Message ${n + 1}, from the ${from}, ${length} bytes and the payload: ${pieces.map(pieceName).join('; ')}. `
-      + `The hash then covers the protocol name, the prologue, keys known before, and all bytes of ${coveredBy(n)}. `
+      + `The hash then covers ${covered.filter(Boolean).join(', ')}, and all bytes of ${coveredBy(n)}. `
       + `${knownWords(known.initiator, 'initiator')} ${knownWords(known.responder, 'responder')}`);
   });
   return lines;
@@ -125,19 +136,20 @@ export function picture(plan, given) {
   let y = 56 + height;
   plan.messages.forEach(({ from, pieces, length, known }, n) => {
     const [x1, x2] = from === 'initiator' ? [left + 4, right - 6] : [right - 4, left + 6];
-    const keys = plan.before.initiator.length + plan.before.responder.length ? `${isNarrow ? '' : 'known '}keys, ` : '';
-    const whole = [`${isNarrow ? 'hash' : 'the hash covers'}: name, prologue, ${keys}`, coveredBy(n)];
-    const covered = width < 340 ? whole.map((line) => line.trimEnd()) : [whole.join('')];
+    const { hasKeys, psks } = coveredBefore(plan, n);
+    const names = ['name', 'prologue', hasKeys && (isNarrow ? 'keys' : 'known keys'), psks].filter(Boolean).join(', ');
+    const whole = [`${isNarrow ? 'hash' : 'the hash covers'}: ${names},`, coveredBy(n)];
+    const covered = whole.join(' ').length > fitting(isNarrow ? width - 12 : right - left - 12) ? whole : [whole.join(' ')];
+    const more = 15 * (covered.length - 1);
     body += [
       text(middle, y + 10, 'ink', `${arrowOf(from)} message ${n + 1}: ${length} bytes + payload`, 'middle'),
       `<path class="line" marker-end="url(#head)" d="M${x1} ${y + 20}H${x2}"/>`,
       bar(pieces, middle - widthOf(pieces, scale, sizes) / 2, y + 30, scale, sizes),
       ...covered.map((line, row) => text(middle, y + 74 + 15 * row, 'dim small', line, 'middle')),
     ].join('');
-    y += 15 * (covered.length - 1);
-    const [columns, deep] = knows(known, isNarrow ? y + 92 : y + 40);
+    const [columns, deep] = knows(known, isNarrow ? y + more + 92 : y + 40);
     body += columns;
-    y += isNarrow ? 92 + deep + 12 : Math.max(92, 40 + deep + 10);
+    y += isNarrow ? more + 92 + deep + 12 : Math.max(more + 92, 40 + deep + 10);
   });
   const lives = isNarrow ? '' : [left, right].map((x) => `<path class="life" d="M${x} 12V${y - 4}"/>`).join('');
   return [

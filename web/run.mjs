@@ -11,30 +11,41 @@ export const WORDS = { 10: 'not-your-turn', 11: 'too-long', 13: 'ended', 15: 'sh
 export class NotNow extends Error {}
 
 export class Run {
-  /** Draws keys, and makes both parties. `setup` has text, prologue (bytes), interval, mode ('transport', 'stream' or 'datagrams') and window. */
+  /**
+   * Draws keys, and makes both parties. `setup` has text, prologue (bytes), interval, mode ('transport', 'stream' or 'datagrams'), window, and whether the
+   * responder gets psks of its own.
+   */
   static async start(setup) {
     const plan = layout(setup.text);
     const run = Object.assign(new Run(), { setup, plan, events: [], lines: [], log: [], steps: [], isClosed: false });
-    run.psks = Array.from({ length: plan.psks }, () => crypto.getRandomValues(new Uint8Array(32)));
+    run.hasOwnPsks = plan.psks > 0 && Boolean(setup.ownPsks);
+    const secrets = () => Array.from({ length: plan.psks }, () => crypto.getRandomValues(new Uint8Array(32)));
+    run.psks = secrets();
+    const psks = { initiator: run.psks, responder: run.hasOwnPsks ? secrets() : run.psks };
     const keys = {};
     const draw = async (own) => new Asked(await KeyPair.generate(), own);
     await Promise.all(ROLES.map(async (role) => {
       const [e, s] = await Promise.all([draw('e'), plan.static[role] ? draw('s') : undefined]);
       keys[role] = { e, s };
     }));
-    for (const role of ROLES) run[role] = run.#party(role, keys);
+    for (const role of ROLES) run[role] = run.#party(role, keys, psks[role]);
     return run;
   }
 
-  #party(role, keys) {
+  #party(role, keys, psks) {
     const { text, prologue, mode } = this.setup;
     const known = (own) => (this.plan.before[OTHER[role]].includes(own) ? keys[OTHER[role]][own].publicKey : undefined);
-    const party = new Party(role, keys[role], mode);
+    const party = new Party(role, keys[role], psks, mode);
     party.handshake = new Handshake({
-      pattern: text, responder: role === 'responder', prologue, psks: this.psks,
+      pattern: text, responder: role === 'responder', prologue, psks,
       ephemeralKey: keys[role].e, staticKey: keys[role].s, remoteStatic: known('s'), remoteEphemeral: known('e'),
     });
     return party;
+  }
+
+  /** The run with a party's own psks, and with what it has done alone. */
+  asSeenBy(role) {
+    return Object.create(this, { psks: { value: this[role].psks }, log: { value: this.log.filter((entry) => entry.role === role) } });
   }
 
   get isOpen() {
@@ -119,10 +130,12 @@ export class Run {
   async deliver(role, n, flips = []) {
     const item = this.#written(role, n);
     const bytes = item.message.slice();
+    if (flips.some((at) => at >= bytes.length)) throw new NotNow('The message has no such byte.');
     for (const at of flips) bytes[at] ^= 1;
     if (this.isClosed) throw new NotNow('The connection is closed.');
     this.steps.push({ step: 'deliver', role, n, flips: [...flips] });
-    const about = { n, item, number: item.number, transport: item.transport, isDatagram: item.isDatagram, isEnd: item.isEnd, flips: [...flips], bytes };
+    const due = this[role].sealer && !item.isDatagram ? this[role].taken + 1 : undefined;
+    const about = { n, item, number: item.number, transport: item.transport, due, isDatagram: item.isDatagram, isEnd: item.isEnd, flips: [...flips], bytes };
     return this[role].isIn('stream') ? this.#take(role, frame(bytes), about) : this.#read(role, bytes, about);
   }
 

@@ -3,7 +3,7 @@ import { hex, shown } from './bytes.mjs';
 import { bytesView } from './bytesview.mjs';
 import { button, copier, element, enable } from './element.mjs';
 import { OTHER, ROLES } from './party.mjs';
-import { scheduleOf } from './schedule.mjs';
+import { schedulesOf } from './schedules.mjs';
 import { CHIPS, fateOf, messageName, named, sentenceOf } from './sentences.mjs';
 
 /** How many of the newest entries are open, and how many are shown unless more are asked for. */
@@ -29,18 +29,17 @@ function scheduleTable(lines) {
   return box;
 }
 
-/** The key schedule of an entry: worked out when it is opened. */
-function scheduleDetails(run, entry, name) {
-  const made = element('details', 'keys', element('summary', '', 'Key schedule'));
+/** A key schedule, worked out when it is opened: `linesOf` gives its lines of all, and `what` says of what it is. */
+function scheduleDetails(run, linesOf, what, title) {
+  const made = element('details', 'keys', element('summary', '', title));
   made.addEventListener('toggle', async () => {
     if (!made.open || made.childElementCount > 1) return;
     try {
-      const { entries } = await scheduleOf(run);
-      const lines = entries.get(entry);
+      const lines = linesOf(await schedulesOf(run));
       if (made.childElementCount > 1) return;
       if (!lines.length) return made.append(element('p', '', 'No step of the key schedule belongs to it.'));
-      made.append(scheduleTable(lines), copier(`the key schedule of ${name}`, () => lines.map((line) => `${line}\n`).join(''), 'Copy as log'),
-        element('p', 'hint', 'Secrets of this run, as noise trace prints them: h is the library’s, ck and k are worked out by this page.'));
+      made.append(scheduleTable(lines), copier(`the key schedule of ${what}`, () => lines.map((line) => `${line}\n`).join(''), 'Copy as log'),
+        element('p', 'hint', 'Secrets of this run, as noise trace prints them. This page works them out, and compares h with the library’s after each message.'));
     } catch (error) {
       made.append(element('p', 'bad', `This page can’t work it out: ${error.message}.`));
     }
@@ -93,7 +92,7 @@ function inside(run, entry, act) {
     if (entry.payload?.length > 48) parts.push(element('p', 'payload', `payload: ${shown(entry.payload)} `, copier(`the payload of ${name} in hex`, () => hex(entry.payload))));
   }
   if (entry.number !== undefined) parts.push(hashLine(entry.hash));
-  if (entry.item && !entry.isDatagram) parts.push(scheduleDetails(run, entry, name));
+  if (entry.item && !entry.isDatagram) parts.push(scheduleDetails(run, ({ entries }) => entries.get(entry), name, 'Key schedule'));
   return parts.filter(Boolean);
 }
 
@@ -132,19 +131,21 @@ export class Log {
     more.addEventListener('click', () => {
       this.isWhole = true;
       this.#limit();
-      this.#list.children[SHOWN]?.querySelector('summary, p')?.focus();
+      const next = this.#list.children[SHOWN]?.querySelector('summary, p');
+      if (next?.localName === 'p') next.tabIndex = -1;
+      next?.focus();
     });
   }
 
   show(run, act) {
+    if (run && run === this.#run && run.log.length === this.#shown.length) return undefined;
     if (run !== this.#run) {
       this.#list.replaceChildren();
       Object.assign(this, { isWhole: false });
       this.#shown = [];
       this.#run = run;
     }
-    if (!run) return this.#limit();
-    for (const entry of run.log.slice(this.#shown.length)) {
+    for (const entry of run?.log.slice(this.#shown.length) ?? []) {
       const made = entryItem(run, entry, act);
       this.#shown.push(made);
       this.#list.prepend(made.li);
@@ -172,11 +173,15 @@ export class Log {
   }
 }
 
-/** The keys of a run: public ones, and the pre-shared secrets. */
+/** The keys of a run: public ones, and the pre-shared secrets; and the start of its key schedule. */
 export function showKeys(box, run) {
   const row = (name, bytes) => element('p', 'key', element('span', '', `${name} `), element('code', '', hex(bytes)), ' ', copier(name, () => hex(bytes)));
-  const of = (role) => ['e', 's'].filter((own) => run[role].keys[own]).map((own) => row(`${named(role)}’s ${own}, public`, run[role].keys[own].publicKey));
-  box.replaceChildren(...(run ? [...ROLES.flatMap(of), ...run.psks.map((psk, n) => row(`psk ${n + 1}, a secret of this run`, psk))] : []));
+  const publicOf = (role) => ['e', 's'].filter((own) => run[role].keys[own]).map((own) => row(`${named(role)}’s ${own}, public`, run[role].keys[own].publicKey));
+  const secretsOf = (role, name) => run[role].psks.map((psk, n) => row(`${name} ${n + 1}, a secret of this run`, psk));
+  const secrets = run.hasOwnPsks ? ROLES.flatMap((role) => secretsOf(role, `${named(role)}’s psk`)) : secretsOf('initiator', 'psk');
+  const linesOf = ({ start }) => start.filter((line) => line.startsWith('trace initiator '));
+  const schedule = scheduleDetails(run, linesOf, 'the start', 'Key schedule before message 1, the same at both parties');
+  box.replaceChildren(...ROLES.flatMap(publicOf), ...secrets, schedule);
 }
 
 /** Draws the window of datagrams that a party keeps: the nonces up to the greatest one that it has opened. This is the page's own account. */
@@ -202,5 +207,5 @@ export function showWindows(box, run) {
 /** Greys a run whose set-up isn't the one above any more: nothing more happens in it. */
 export function showStale(section, isStale) {
   section.classList.toggle('stale', isStale);
-  for (const it of section.querySelectorAll('#log .deliver button:not(.copy)')) enable(it, !isStale);
+  for (const it of section.querySelectorAll('#log .deliver button:not(.copy)')) enable(it, !isStale, 'This run belongs to another set-up.');
 }

@@ -27,6 +27,18 @@ function tokenName(run, { number, token }) {
   return name ? `, token ${name}` : ', payload';
 }
 
+/** Said where another transport message than the next one came. */
+const dueWords = ({ transport, due }) => (transport !== undefined && due !== undefined && transport !== due ? ` Transport message ${due} was due.` : '');
+
+/** Whether a psk is mixed in before this place of a message. */
+function isPskMixed({ plan }, { number, token }) {
+  const before = plan.messages.slice(0, number).flatMap(({ tokens }) => tokens);
+  return [...before, ...plan.messages[number].tokens.slice(0, token)].includes('psk');
+}
+
+/** Said of a refused message of parties with different psks. */
+const psksWords = (run, entry) => (run.hasOwnPsks && entry.token !== undefined && isPskMixed(run, entry) ? ' The parties’ psks differ.' : '');
+
 /** What a refusal leaves. */
 function leaves(run, { role, token, code }) {
   if (token !== undefined) return ' Its handshake has ended.';
@@ -42,7 +54,7 @@ const WHAT = {
   unwritten: (run, { role, code }) => `${named(role)} wrote nothing: ${CAUSES[code] ?? `code ${code}`}. It goes on as before.`,
   accepted: (run, entry) => `${named(entry.role)} accepted ${messageName(entry)}: payload ${shown(entry.payload)}.${changedWords(entry.flips)}`,
   refused: (run, entry) => `${named(entry.role)} refused ${messageName(entry)}${tokenName(run, entry)}: ${CAUSES[entry.code] ?? `code ${entry.code}`}.`
-    + `${changedWords(entry.flips)}${leaves(run, entry)}`,
+    + `${changedWords(entry.flips)}${dueWords(entry)}${psksWords(run, entry)}${leaves(run, entry)}`,
   ended: (run, entry) => `${named(entry.role)} accepted ${messageName(entry)}: all of it has come.`,
   waits: (run, entry) => `${named(entry.role)} has ${entry.wanted} bytes of ${messageName(entry)}, and waits for the rest.`,
   unread: (run, entry) => `${named(entry.role)} didn’t read ${messageName(entry)}: ${run[entry.role].isBroken ? 'its stream is broken' : 'the stream had ended'}.`,

@@ -4,7 +4,7 @@ import { button, copier, element, enable } from './element.mjs';
 import { highlighted } from './highlight.mjs';
 import * as link from './link.mjs';
 import { pictureFile } from './picture.mjs';
-import { scheduleOf } from './schedule.mjs';
+import { schedulesOf } from './schedules.mjs';
 import { vectorFile } from './vectorfile.mjs';
 
 const at = (id) => document.getElementById(id);
@@ -17,11 +17,11 @@ function save(name, type, text) {
   setTimeout(() => URL.revokeObjectURL(url), 1000);
 }
 
-/** Copies a text, and says so beside the button; where the browser doesn't let it, the text is shown to be copied by hand. */
-async function copy(text, what) {
+/** Copies a text, and says so below the buttons; where the browser doesn't let it, the text is shown to be copied by hand. */
+async function copy(text, what, more = '') {
   try {
     await navigator.clipboard.writeText(text);
-    at('copied').textContent = `${what} copied.`;
+    at('copied').textContent = `${what} copied.${more}`;
   } catch {
     at('copied').textContent = `This browser doesn’t let the page copy. ${what}: ${text}`;
   }
@@ -41,16 +41,21 @@ export class Take {
     wire('save-pattern', () => save(`${page.plan?.base ?? 'mine'}.pattern`, 'text/plain', page.setup.text));
     wire('save-picture', () => save(`${page.plan.base}.svg`, 'image/svg+xml', pictureFile(page.plan)));
     wire('save-program', () => { const { name, text } = this.#program(); save(name, 'text/plain', text); });
-    wire('copy-link', () => copy(this.#address([]), 'A link to this set-up'));
-    wire('copy-run', () => copy(this.#address(page.run.steps), 'A link to this run'));
-    wire('copy-log', async () => copy((await scheduleOf(page.run)).whole.map((line) => `${line}\n`).join(''), 'The key schedule'));
+    wire('copy-link', () => this.#copyLink([], 'A link to this set-up'));
+    wire('copy-run', () => this.#copyLink(page.run.steps, 'A link to this run'));
+    wire('copy-log', async () => copy((await schedulesOf(page.run)).whole.map((line) => `${line}\n`).join(''), 'The key schedule'));
     for (const name of LANGUAGES) at('languages').append(button(name, () => { this.#language = name; this.show(); }));
     at('program-row').append(copier('the program', () => this.#program().text));
   }
 
-  /** The page's own address, wherever it is served, with a set-up and a run's steps. */
-  #address(steps) {
-    return location.href.split('#')[0] + link.write(this.#page.setup, steps);
+  /** Copies the page's own address, wherever it is served, with a set-up and a run's steps. */
+  async #copyLink(steps, what) {
+    if (steps.length > link.MOST_STEPS) {
+      at('copied').textContent = `No link is copied: this run has ${steps.length} steps, and a link can have ${link.MOST_STEPS}. Save the run as a vector file.`;
+      return;
+    }
+    const here = link.isLocal(location) ? ' It opens only on this computer, which serves this page.' : '';
+    await copy(location.href.split('#')[0] + link.write(this.#page.setup, steps), what, here);
   }
 
   #program() {
@@ -61,8 +66,12 @@ export class Take {
   show() {
     const { plan, run } = this.#page;
     for (const made of at('languages').children) made.setAttribute('aria-pressed', String(made.textContent === this.#language));
-    for (const id of ['save-program', 'save-picture']) enable(at(id), plan);
-    for (const id of ['save-vector', 'copy-run', 'copy-log']) enable(at(id), run && !this.#page.isStale);
+    const none = run ? 'The run belongs to another set-up.' : 'No keys are drawn yet.';
+    const isLive = run && !this.#page.isStale;
+    for (const id of ['save-program', 'save-picture']) enable(at(id), plan, 'The pattern isn’t valid.');
+    for (const id of ['copy-run', 'copy-log']) enable(at(id), isLive, none);
+    enable(at('save-vector'), isLive && !run.hasOwnPsks, isLive ? at('no-vector').textContent : none);
+    at('no-vector').hidden = !isLive || !run.hasOwnPsks;
     at('code').classList.toggle('old', !plan);
     at('code-old').hidden = Boolean(plan);
     clearTimeout(this.#coding);

@@ -49,15 +49,25 @@ async function fill(page) {
   await page.until('document.querySelectorAll(".schedule").length >= 1');
 }
 
+/** In forced colours what is pressed looks otherwise than what isn't, and where less motion is asked for nothing moves. */
+async function preferences(page, scheme) {
+  const style = (selector, name) => page.evaluate(`getComputedStyle(document.querySelector(${JSON.stringify(selector)})).${name}`);
+  await scheme('light', { name: 'forced-colors', value: 'active' }, { name: 'prefers-reduced-motion', value: 'reduce' });
+  assert.notEqual(await style('#languages [aria-pressed=true]', 'backgroundColor'), await style('#languages [aria-pressed=false]', 'backgroundColor'));
+  assert.notEqual(await style('#picture .e', 'fill'), await style('#picture .tag', 'fill'));
+  assert.equal(await style('#picture', 'transitionDuration'), '0s');
+  await scheme('light');
+}
+
 export async function axe(page) {
   const { browser } = page;
   const text = await source(browser);
-  const scheme = (value) => browser.send('Emulation.setEmulatedMedia', { features: [{ name: 'prefers-color-scheme', value }] });
+  const scheme = (value, ...more) => browser.send('Emulation.setEmulatedMedia', { features: [{ name: 'prefers-color-scheme', value }, ...more] });
   if (!text) return 'left out: axe-core: this Chromium’s tools have none';
   let runs = 0;
   const at = async (width, what, rules) => {
     await page.resize(width);
-    assert.ok(await page.evaluate('document.scrollingElement.scrollWidth <= innerWidth'), `${what} is too wide at ${width}`);
+    assert.ok(await page.isWithin(width), `${what} is too wide at ${width}`);
     await check(page, text, `${what} at ${width}`, rules);
     runs += 1;
   };
@@ -70,7 +80,9 @@ export async function axe(page) {
   await page.type('prologue', 'another');
   await page.type('text', 'MINE:\n  <- s\n  -> e, es\n');
   await at(1440, 'a fault and an old run');
-  for (const [name, width] of [['rules', 320], ['mistakes', 320], ['format', 1440]]) {
+  await page.open();
+  await preferences(page, scheme);
+  for (const [name, width] of [['rules', 320], ['mistakes', 390], ['format', 1440]]) {
     await browser.open(`${page.url}${name}.html`);
     await browser.until('document.readyState === "complete" && document.querySelector("article") !== null');
     await at(width, name);

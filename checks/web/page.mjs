@@ -38,6 +38,14 @@ export class Page {
     await this.browser.send('Emulation.setDeviceMetricsOverride', { width, height, deviceScaleFactor: 1, mobile: width < 500 });
   }
 
+  /**
+   * Whether nothing is wider than the window, of which so many pixels were asked for: a phone shows a page that is too wide smaller, and its window has
+   * more pixels then.
+   */
+  isWithin(width) {
+    return this.evaluate(`document.documentElement.scrollWidth <= ${width}`);
+  }
+
   click(selector) {
     return this.run(`document.querySelector(${quoted(selector)}).click()`);
   }

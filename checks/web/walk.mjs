@@ -31,6 +31,8 @@ export class Walk {
     await this.refusal();
     await this.stale();
     await this.shared();
+    await this.programs();
+    await this.psks();
     await this.streams();
   }
 
@@ -113,6 +115,7 @@ export class Walk {
     await hand.press('#log li:nth-child(2) details.keys .copy');
     assert.match(await this.clipboard(/^trace /), /^trace responder 0?1? ?\d e MixHash 0 [0-9a-f]{64} [0-9a-f]{64} [0-9a-f]{64} - 0\n/);
     await hand.press('#log li:nth-child(2) .deliver .copy');
+    await this.until('document.getElementById("told").textContent === "Copied: message 2."');
     assert.match(await this.clipboard(/^[0-9a-f]*$/), /^[0-9a-f]{192,}$/);
   }
 
@@ -136,6 +139,7 @@ export class Walk {
     const [first, keys] = [await entries(), await this.of('key-list')];
     await hand.press('#copy-run');
     const address = await this.clipboard(/#pattern=/);
+    assert.equal(await this.of('copied'), 'A link to this run copied. It opens only on this computer, which serves this page.');
     assert.ok(address.startsWith(await this.page.evaluate('location.href.split("#")[0]')));
     for (const [, key] of keys.matchAll(/([0-9a-f]{64})/g)) assert.ok(!address.includes(key));
     await this.page.open(new URL(address).hash);
@@ -147,6 +151,58 @@ export class Walk {
     await this.page.reload();
     await this.until('document.getElementById("log").childElementCount === 4');
     assert.deepEqual(await entries(), first);
+  }
+
+  /** The program of each language, coloured, and as it is copied. */
+  async programs() {
+    const { hand } = this;
+    const isCopied = 'navigator.clipboard.readText().then((text) => text === document.getElementById("code").textContent)';
+    for (const [n, opening] of ['#include', 'package main', 'use ', 'import ', 'import '].entries()) {
+      await hand.press(`#languages button:nth-child(${n + 1})`);
+      await this.until(`document.querySelector("#languages button:nth-child(${n + 1})").matches("[aria-pressed=true]")`);
+      await hand.press('#program-row .copy');
+      await this.until(isCopied);
+      assert.ok((await this.of('code')).includes(opening));
+      assert.ok(await this.page.evaluate('document.querySelectorAll("#code [class^=h-]").length') > 20);
+    }
+  }
+
+  /** A responder with other psks: the refusal, the key schedules that part at the psk, and the way back to psks that are the same. */
+  async psks() {
+    const { hand } = this;
+    const isShown = (id) => this.page.evaluate(`document.getElementById("${id}").checkVisibility()`);
+    await hand.choose('#pick', 'NN');
+    assert.equal(await isShown('ownPsks'), false);
+    await hand.tick('#places input[value="2"]');
+    assert.equal(await this.page.evaluate('document.getElementById("ownPsks").checked'), false);
+    await hand.tick('#ownPsks');
+    await this.begin();
+    await this.adding(4, () => hand.press('#all'));
+    assert.match(await this.of('said'), / 4\. Initiator refused message 2, payload: a tag is wrong\. The parties’ psks differ\. Its handshake has ended\.$/);
+    const schedule = (await this.page.evaluate('noisePage.log')).map((line) => line.split(' ').slice(1));
+    const [[own], [other]] = ['initiator', 'responder'].map((role) => schedule.filter((words) => words[0] === role && words[3] === 'psk'));
+    assert.deepEqual(own.slice(1, 7), other.slice(1, 7));
+    for (const n of [7, 8, 9]) assert.notEqual(own[n], other[n]);
+    const [ee, same] = ['initiator', 'responder'].map((role) => schedule.find((words) => words[0] === role && words[3] === 'ee').slice(1).join());
+    assert.equal(ee, same);
+    assert.match(await this.of('key-list'), /Initiator’s psk 1, a secret of this run [0-9a-f]{64} .*Responder’s psk 1, a secret/);
+    assert.equal(await this.page.evaluate('document.getElementById("save-vector").getAttribute("aria-disabled")'), 'true');
+    assert.equal(await isShown('no-vector'), true);
+    await this.until('/psks=own.*run=wi.*_di\\.0$/.test(location.hash)');
+    await this.page.reload();
+    await this.until('document.getElementById("log").childElementCount === 4');
+    assert.equal(await this.page.evaluate('document.getElementById("ownPsks").checked'), true);
+    await hand.tick('#ownPsks');
+    await hand.press('#again');
+    await this.until('document.getElementById("log").childElementCount === 0');
+    await this.adding(4, () => hand.press('#all'));
+    assert.match(await this.of('state'), /initiator is open .*responder is open/);
+    await hand.press('#keys > summary');
+    await hand.press('#key-list details summary');
+    await this.until('document.querySelector("#key-list .schedule tbody tr") !== null');
+    assert.deepEqual(await this.page.evaluate('[...document.querySelectorAll("#key-list .schedule tbody th")].map((it) => it.textContent)'),
+      ['name (InitializeSymmetric)', 'prologue (MixHash)']);
+    await hand.tick('#places input[value="2"]');
   }
 
   /** Streams: an end, a cut, a refusal after which nothing is sent, and what each side reports. */

@@ -1,0 +1,140 @@
+// Section 3: the buttons of a run, and what comes of each.
+import { FUNDAMENTAL } from '../bindings/js/patterns.mjs';
+import { encode } from './bytes.mjs';
+import { enable } from './element.mjs';
+import { keyOf, write } from './link.mjs';
+import { NotNow, Run } from './run.mjs';
+import { Log, showKeys, showStale, showWindows } from './runview.mjs';
+import { sentenceOf, stateOf } from './sentences.mjs';
+
+const at = (id) => document.getElementById(id);
+const payload = () => encode(at('payload').value);
+
+function say(text, isBad = false) {
+  at('said').textContent = text;
+  at('said').classList.toggle('bad', isBad);
+}
+
+export class Control {
+  #page;
+  #shown;
+  #log = new Log(at('log'), at('earlier'));
+  #acting = Promise.resolve();
+
+  /** `page` has `setup`, `plan`, `run` and `isStale`. `shown()` is called after each thing done, and `back()` takes the run's set-up again. */
+  constructor(page, shown, back) {
+    this.#page = page;
+    this.#shown = shown;
+    this.#wire(back);
+  }
+
+  #wire(back) {
+    const page = this.#page;
+    const onPress = (it, work) => it.addEventListener('click', () => { if (it.getAttribute('aria-disabled') !== 'true') work(); });
+    const onAct = (it, work) => onPress(it, () => this.#act(work));
+    onPress(at('start'), () => this.begin());
+    onPress(at('again'), () => this.begin().then(() => at('start').focus()));
+    onPress(at('back'), () => { back(); at('start').focus(); });
+    onAct(at('all'), () => page.run.passAll(payload));
+    onAct(at('close'), () => page.run.close());
+    for (const it of document.querySelectorAll('[data-write]')) onAct(it, () => page.run.write(it.dataset.write, payload()));
+    for (const it of document.querySelectorAll('[data-end]')) onAct(it, () => page.run.write(it.dataset.end));
+    at('payload').addEventListener('keydown', ({ key }) => {
+      const role = key === 'Enter' ? page.run?.next : undefined;
+      if (role) this.#act(() => page.run.write(role, payload()));
+    });
+  }
+
+  #showButtons() {
+    const { run, plan, isStale, setup } = this.#page;
+    const isLive = Boolean(run) && !isStale;
+    const none = run ? 'This run belongs to another set-up.' : 'No keys are drawn yet.';
+    const silence = (role) => (isLive ? `It can’t write: ${run.silenceOf(role) ?? 'this isn’t a stream'}.` : none);
+    enable(at('start'), plan, 'The pattern isn’t valid.');
+    at('start').textContent = run ? 'Begin again with new keys' : 'Draw keys and begin';
+    enable(at('all'), isLive && run.next !== undefined, isLive ? 'No message of the handshake is left.' : none);
+    for (const it of document.querySelectorAll('[data-write]')) {
+      const role = it.dataset.write;
+      enable(it, isLive && (run.silenceOf(role) === undefined || !run[role].sealer), silence(role));
+    }
+    const isStream = isLive && setup.mode === 'stream';
+    at('ends').hidden = !isStream || !run.isOpen;
+    for (const it of document.querySelectorAll('[data-end]')) enable(it, isStream && !run.silenceOf(it.dataset.end), silence(it.dataset.end));
+    enable(at('close'), isStream && run.isOpen && !run.isClosed, 'The connection is closed.');
+    at('write').hidden = !run;
+    at('keys').hidden = !run;
+  }
+
+  show() {
+    const { run, isStale } = this.#page;
+    this.#showButtons();
+    at('state').textContent = stateOf(run);
+    this.#log.show(run, (work) => this.#act(work));
+    showWindows(at('windows'), run);
+    at('stale').hidden = !isStale;
+    showStale(at('ran'), isStale);
+  }
+
+  /** Says what has come of a call: the newest entries. */
+  #announce(entries) {
+    say(entries.map((entry) => `${entry.at}. ${sentenceOf(this.#page.run, entry)}`).join(' '), entries.some(({ kind }) => ['refused', 'unwritten'].includes(kind)));
+  }
+
+  async #actNow(work, isNew) {
+    const page = this.#page;
+    const { run } = page;
+    const before = run?.log.length ?? 0;
+    try {
+      if (page.isStale && !isNew) throw new NotNow('This run belongs to another set-up: begin again with this one.');
+      await work();
+      this.#shown();
+      const entries = page.run.log.slice(page.run === run ? before : 0);
+      if (entries.length) this.#announce(entries.slice(-3));
+    } catch (error) {
+      const why = isSecureContext ? error.message : 'keys need https, or a page of this computer';
+      say(error instanceof NotNow ? error.message : `This can’t be done: ${why}`, true);
+      this.#shown();
+    }
+  }
+
+  /** Does one thing after the other with the run, or with a new one, and shows the outcome of each. */
+  #act(work, isNew = false) {
+    this.#acting = this.#acting.catch(() => {}).then(() => this.#actNow(work, isNew));
+    return this.#acting;
+  }
+
+  async #start() {
+    const { setup, plan, run: old } = this.#page;
+    const given = { ...setup };
+    const run = await Run.start({ ...given, prologue: encode(given.prologue), isOwn: !FUNDAMENTAL.includes(plan.base) });
+    old?.dispose();
+    Object.assign(this.#page, { run: Object.assign(run, { given }), isStale: keyOf(given) !== keyOf(setup) });
+    showKeys(at('key-list'), run);
+    say('New keys are drawn. The initiator writes the first message.');
+  }
+
+  begin() {
+    at('notice').textContent = '';
+    return this.#act(() => this.#start(), true);
+  }
+
+  /** Whether these are the steps of the run at hand, in its set-up. */
+  isAtHand(steps) {
+    const { run, setup, isStale } = this.#page;
+    return Boolean(run) && !isStale && write(setup, steps) === write(setup, run.steps);
+  }
+
+  /** Does the steps of a run again, with new keys. */
+  async repeat(steps) {
+    const page = this.#page;
+    let done;
+    await this.#act(async () => {
+      await this.#start();
+      for (done = 0; done < steps.length; done += 1) await page.run.repeat(steps[done]);
+    }, true);
+    if (done === undefined) return;
+    const what = done < steps.length ? `Of the link’s run ${done} of ${steps.length} steps were done` : 'The run of the link was done';
+    const { length } = page.run.log;
+    at('said').textContent = `${what} again with new keys: ${length} ${length === 1 ? 'entry' : 'entries'}. ${at('said').textContent}`;
+  }
+}
