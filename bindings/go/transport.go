@@ -24,7 +24,12 @@ type Receiver struct {
 // room overlaps the payload. At an error nothing changes: ErrTooLong, ErrOneWay, ErrExhausted, ErrClosed.
 func (s *Sender) Seal(dst, payload []byte) ([]byte, error) {
 	s.mutex.Lock()
-	defer s.mutex.Unlock()
+	whole, err := s.seal(dst, payload)
+	s.mutex.Unlock() // a deferred call would cost more
+	return whole, err
+}
+
+func (s *Sender) seal(dst, payload []byte) ([]byte, error) {
 	if s.closed {
 		return dst, ErrClosed
 	}
@@ -64,7 +69,12 @@ func (s *Sender) Close() error {
 // nothing changes: ErrTag, ErrShort, ErrLength, ErrOneWay, ErrExhausted, ErrClosed. Over a stream close at the first ErrTag or ErrShort.
 func (r *Receiver) Open(dst, message []byte) ([]byte, error) {
 	r.mutex.Lock()
-	defer r.mutex.Unlock()
+	whole, err := r.open(dst, message)
+	r.mutex.Unlock()
+	return whole, err
+}
+
+func (r *Receiver) open(dst, message []byte) ([]byte, error) {
 	if r.closed {
 		return dst, ErrClosed
 	}
@@ -72,7 +82,9 @@ func (r *Receiver) Open(dst, message []byte) ([]byte, error) {
 		return dst, ErrLength
 	}
 	whole, room := grown(dst, len(message))
-	copy(room, message)
+	if len(room) > 0 && &room[0] != &message[0] {
+		copy(room, message)
+	}
 	code := C.noise_open(&r.memory.kept, place(room), C.size_t(len(room)), &r.memory.told)
 	if code != C.NOISE_OK {
 		return dst, Code(code)
