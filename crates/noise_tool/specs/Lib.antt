@@ -1,3 +1,4 @@
+pub mod Comparing
 pub mod Conversion
 pub mod Ends
 pub mod Kept

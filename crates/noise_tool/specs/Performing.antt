@@ -23,7 +23,8 @@ use Rattle.noise_tool.specs.declared.running.Outcome.{Outcome}
 use Rattle.noise_words.specs.declared.orders.Chosen.{Chosen}
 use Rattle.noise_words.specs.declared.orders.Chosen.TheVariants.{List as Listing, Show, Check, Talk, Replay, Convert, Trace}
 use Rattle.noise_words.specs.declared.orders.Order.{Order}
-use Rattle.noise_words.specs.declared.orders.Order.TheVariants.{Command, Test}
+use Rattle.noise_words.specs.declared.orders.Order.TheVariants.{Command, Compare, Test}
+use Rattle.noise_words.specs.declared.orders.Compared.{Compared}
 use Rattle.noise_words.specs.declared.orders.Tested.{Tested}
 use Rattle.noise_vectors.specs.declared.faults.VectorFault.{VectorFault}
 use Rattle.noise_vectors.specs.declared.vector.AllowedEvents.{AllowedEvents}
@@ -143,13 +144,22 @@ IsOfLines fault = ⊥
 abbrev pub IfCommand : Order → (Chosen → Type 0) → Type 0
 IfCommand (Command chosen) P = P chosen
 IfCommand (Test asked) P = ⊤
+IfCommand (Compare names) P = ⊤
 
 -- of `test`
 abbrev pub IfTest : Order → (Tested → Type 0) → Type 0
 IfTest (Command chosen) P = ⊤
 IfTest (Test asked) P = P asked
+IfTest (Compare names) P = ⊤
 
--- `test` reads its files by their names
+-- of `compare`
+abbrev pub IfCompare : Order → (Compared → Type 0) → Type 0
+IfCompare (Command chosen) P = ⊤
+IfCompare (Test asked) P = ⊤
+IfCompare (Compare names) P = P names
+
+-- `test` and `compare` read their files by their names
 abbrev pub LeavesInput : {R : Type 0} → Order → R → R → Type 0
 LeavesInput (Command chosen) before after = LeavesFile chosen before after
 LeavesInput (Test asked) before after = after ≡ before
+LeavesInput (Compare names) before after = after ≡ before
