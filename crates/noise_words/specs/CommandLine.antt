@@ -124,8 +124,11 @@ flag_text true = Some (codes "true")
 flag_text false = None
 
 abbrev pub named_trace : Traced → Named
-named_trace traced = (codes "trace", string_bytes traced.file ∷ [],
-    option_map part_text traced.only ∷ option_map role_text traced.role ∷ flag_text traced.heading ∷ [])
+named_trace traced = (
+  codes "trace",
+  string_bytes traced.file ∷ [],
+  option_map part_text traced.only ∷ option_map role_text traced.role ∷ flag_text traced.heading ∷ [],
+)
 
 abbrev pub words_of : Chosen → Named
 words_of chosen.List = (codes "list", [], [])

@@ -8,7 +8,9 @@ ghost use Rattle.noise_words.specs.CommandLine.{Nothing, asked, compare, flag, n
 ghost use Rattle.noise_words.specs.CommandLine.{trace, wanted, wanted_by, words_of};
 
 use crate::choices::{compared, tested, traced, wrong_choice};
-use crate::help::{COMPARE, Flag, HEADING, ONLY, ROLE, Subcommand, TEST, TRACE, TRACES, ValueOption, WITH_VALUE};
+use crate::help::{
+    COMPARE, Flag, HEADING, ONLY, ROLE, Subcommand, TEST, TRACE, TRACES, ValueOption, WITH_VALUE,
+};
 use crate::orders::{Chosen, LineFault, Order};
 use clap::error::ErrorKind;
 use clap::{Arg, ArgAction, ArgMatches, Command};
@@ -130,9 +132,9 @@ fn second_value<'a>(alloc: Global) -> Arg<'a>
     ensures rule { rule_of result ≡ wanted (codes "FILE") }
     ensures local { result.global ≡ false }
 {
-    Arg::new(alloc, "FILE")
-        .required(true)
-        .help("A vector file as replay takes it, with keys that are for tests alone")
+    Arg::new(alloc, "FILE").required(true).help(
+        "A vector file as replay takes it, with keys that are for tests alone",
+    )
 }
 
 // The argument of an option.
