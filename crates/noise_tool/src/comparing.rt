@@ -34,7 +34,7 @@ pub enum Comparison {
 /// of the log agree; 1 where one differs, or the log ends before a step of its party's handshake; 2 where the log or
 /// the file is wrong, which is written to `err`; 3 where a file can't be read, the output can't be written, or memory
 /// runs out.
-pub fn compare<F: FilesByName, O: Write, E: Write>(
+pub fn compare_log<F: FilesByName, O: Write, E: Write>(
     alloc: Global,
     names: &Compared,
     files: &F,
@@ -49,7 +49,7 @@ pub fn compare<F: FilesByName, O: Write, E: Write>(
     ensures outside { result ≡ 3 → (fault : Fault) × (status_of fault ≡ 3)
         × AppendsPrefix (E.contents err.old) (E.contents err.new) (error_text fault) }
 {
-    match comparison(alloc, names, files) {
+    match compare_named(alloc, names, files) {
         Ok(Comparison::Made(report)) => match print_report(&report, out) {
             Ok(status) => status,
             Err(fault) => tell(alloc, fault, out, err),
@@ -77,7 +77,7 @@ fn print_report<O: Write>(report: &LogReport, out: &mut O) -> Result<u8, Fault>
 }
 
 // What comes of the log and the vector file of these names.
-fn comparison<F: FilesByName>(
+fn compare_named<F: FilesByName>(
     alloc: Global,
     names: &Compared,
     files: &F,

@@ -16,7 +16,7 @@ ghost use Rattle.noise_lines.specs.Told.{LeavesOther, TellsRule, error_text};
 ghost use Rattle.noise_lines.specs.Verdicts.{IsMet};
 ghost use Rattle.noise_lines.specs.declared.faults.Fault.{Fault};
 
-use crate::comparing::compare;
+use crate::comparing::compare_log;
 use crate::laws::conversions_meet_themselves;
 use crate::running::{Outcome, replay, run_vector};
 use crate::testing::{FilesByName, test};
@@ -71,7 +71,7 @@ pub fn perform<R: Read, F: FilesByName, O: Write, E: Write>(
     match order {
         Order::Command(chosen) => perform_command(alloc, chosen, file, out, err),
         Order::Test(asked) => test(alloc, &asked.files, asked.traces, files, out, err),
-        Order::Compare(names) => compare(alloc, names, files, out, err),
+        Order::Compare(names) => compare_log(alloc, names, files, out, err),
     }
 }
 
