@@ -1,6 +1,6 @@
 //! The command `compare`: a key schedule that was logged is compared with that of a vector file.
 
-ghost use Rattle.std.specs.Prelude.{◌≡◌, ◌⊎◌, ◌++◌, ◌≤◌, ℕ, List, IfErr, IfOk, IfSome, MatchResult, OnOk, map, string_bytes};
+ghost use Rattle.std.specs.Prelude.{◌≡◌, ◌⊎◌, ◌++◌, ◌≤◌, ℕ, List, true, IfErr, IfOk, IfSome, MatchResult, OnOk, map, string_bytes};
 ghost use Rattle.std.specs.Io.KnownBytes.{Appends};
 ghost use Rattle.noise_compare.specs.Lines.{words_in, words_of};
 ghost use Rattle.noise_lines.specs.Faults.{status_of};
