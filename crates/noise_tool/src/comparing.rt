@@ -153,11 +153,7 @@ fn wrong_file(alloc: Global, name: &str, fault: Fault) -> Result<Comparison, Fau
     if fault.status() == 3 {
         return Err(fault);
     }
-    Ok(Comparison::Wrong(verdict_lines(
-        alloc,
-        name,
-        &Verdict::CannotRun(fault),
-    )?))
+    Ok(Comparison::Wrong(verdict_lines(alloc, name, &Verdict::CannotRun(fault))?))
 }
 
 // That this file is wrong, and why.
