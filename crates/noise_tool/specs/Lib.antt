@@ -1,5 +1,6 @@
 pub mod Conversion
 pub mod Ends
+pub mod Explaining
 pub mod Kept
 pub mod Moments
 pub mod OnePattern

@@ -3,6 +3,7 @@
 
 mod datagram_report;
 mod ends;
+mod explaining;
 mod laws;
 mod moment_lines;
 mod performing;

@@ -1,12 +1,13 @@
 -- The command line, as `clap` sees it, and the command that its matches state.
-use Rattle.std.specs.Prelude.{List, [], ◌∷◌, Option, Some, None, Bool, true, false, map, codes, find, option_map, option_and_then, string_bytes, if◌then◌else◌}
+use Rattle.std.specs.Prelude.{List, [], ◌∷◌, Option, Some, None, Bool, true, false, String, Vec, map, codes, find, option_map, option_and_then, string_bytes, if◌then◌else◌}
+use Rattle.std.specs.Global.{Global}
 use Rattle.std.specs.List.{list_any}
 use Rattle.std.specs.Str.{bytes_eq}
 use Rattle.noise_words.specs.declared.help.Subcommand.{Subcommand}
 use Rattle.noise_words.specs.declared.orders.Chosen.{Chosen}
 use Rattle.noise_words.specs.declared.orders.Chosen.TheVariants as chosen
 use Rattle.noise_words.specs.declared.orders.Order.{Order}
-use Rattle.noise_words.specs.declared.orders.Order.TheVariants.{Command, Test}
+use Rattle.noise_words.specs.declared.orders.Order.TheVariants.{Command, Explain, Test}
 use Rattle.noise_words.specs.declared.orders.Tested.{Tested}
 use Rattle.noise_words.specs.declared.orders.Traced.{Traced}
 use Rattle.noise_words.specs.declared.orders.TracedPart.{TracedPart}
@@ -54,6 +55,7 @@ commands =
     (codes "list", Nothing)
     ∷ (codes "show", One (codes "NAME"))
     ∷ (codes "check", One (codes "FILE"))
+    ∷ (codes "explain", Several (codes "FILE") [])
     ∷ (codes "talk", One (codes "FILE"))
     ∷ (codes "replay", One (codes "FILE"))
     ∷ (codes "convert", One (codes "FILE"))
@@ -128,9 +130,13 @@ flag_text false = None
 abbrev pub named_test : Tested → Named
 named_test tested = (codes "test", map string_bytes tested.files.items, flag_text tested.traces ∷ [])
 
+abbrev pub named_explain : Vec (String Global) Global → Named
+named_explain files = (codes "explain", map string_bytes files.items, [])
+
 abbrev pub order_of : Order → Named
 order_of (Command c) = words_of c
 order_of (Test tested) = named_test tested
+order_of (Explain files) = named_explain files
 
 -- what is chosen of these values, where it is left out or is one of them
 abbrev pub chosen_of : List Text → Option Text → Option (Option Text)

@@ -7,7 +7,7 @@ ghost use Rattle.clap.specs.declared.builder.command.Command.TheViews.{out-Comma
 ghost use Rattle.noise_words.specs.CommandLine.{Nothing, asked, flag, noise, optional, order_of, rules_for, stated_by, stated_in, subcommand, test};
 ghost use Rattle.noise_words.specs.CommandLine.{trace, wanted_by, words_of};
 
-use crate::choices::{tested, traced, wrong_choice};
+use crate::choices::{explained, tested, traced, wrong_choice};
 use crate::help::{Flag, ONLY, ROLE, Subcommand, TEST, TRACE, TRACES, ValueOption, WITH_VALUE};
 use crate::orders::{Chosen, LineFault, Order};
 use clap::error::ErrorKind;
@@ -189,6 +189,9 @@ fn order(alloc: Global, matches: &ArgMatches<'_>) -> Result<Option<Order>, Alloc
     if name == "test" {
         return Ok(tested(alloc, found)?.map(Order::Test));
     }
+    if name == "explain" {
+        return Ok(explained(alloc, found)?.map(Order::Explain));
+    }
     match command_order(alloc, name, found)? {
         Some(command) => Ok(Some(Order::Command(command))),
         None => Ok(None),
@@ -201,7 +204,7 @@ fn command_order(
     name: &str,
     found: &ArgMatches<'_>,
 ) -> Result<Option<Chosen>, AllocError>
-    ensures { (name.now ≡ codes "test" → ⊥) → IfOk result (λ c. option_map words_of c ≡ stated_by name.now (rows_of (found_of found.now))) }
+    ensures { (name.now ≡ codes "test" → ⊥) → (name.now ≡ codes "explain" → ⊥) → IfOk result (λ c. option_map words_of c ≡ stated_by name.now (rows_of (found_of found.now))) }
 {
     match name {
         "list" => Ok(Some(Chosen::List)),

@@ -69,6 +69,8 @@ pub enum Order {
     Command(Chosen),
     /// Run vector files, and compare each run with what its file expects.
     Test(Tested),
+    /// Explain the files of these names.
+    Explain(Vec<String>),
 }
 
 /// Why the words of a command line are no command.
