@@ -4,6 +4,7 @@
 mod comparing;
 mod datagram_report;
 mod ends;
+mod explaining;
 mod laws;
 mod moment_lines;
 mod performing;

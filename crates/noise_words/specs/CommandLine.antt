@@ -1,5 +1,6 @@
 -- The command line, as `clap` sees it, and the command that its matches state.
-use Rattle.std.specs.Prelude.{List, [], ◌∷◌, ◌++◌, Option, Some, None, Bool, true, false, map, codes, find, option_map, option_and_then, string_bytes, if◌then◌else◌}
+use Rattle.std.specs.Prelude.{List, [], ◌∷◌, ◌++◌, Option, Some, None, Bool, true, false, String, Vec, map, codes, find, option_map, option_and_then, string_bytes, if◌then◌else◌}
+use Rattle.std.specs.Global.{Global}
 use Rattle.std.specs.List.{list_any}
 use Rattle.std.specs.Str.{bytes_eq}
 use Rattle.noise_words.specs.declared.help.Subcommand.{Subcommand}
@@ -7,7 +8,7 @@ use Rattle.noise_words.specs.declared.orders.Chosen.{Chosen}
 use Rattle.noise_words.specs.declared.orders.Chosen.TheVariants as chosen
 use Rattle.noise_words.specs.declared.orders.Order.{Order}
 use Rattle.noise_words.specs.declared.orders.Compared.{Compared}
-use Rattle.noise_words.specs.declared.orders.Order.TheVariants.{Command, Compare, Test}
+use Rattle.noise_words.specs.declared.orders.Order.TheVariants.{Command, Compare, Explain, Test}
 use Rattle.noise_words.specs.declared.orders.Tested.{Tested}
 use Rattle.noise_words.specs.declared.orders.Traced.{Traced}
 use Rattle.noise_words.specs.declared.orders.TracedPart.{TracedPart}
@@ -62,6 +63,7 @@ commands =
     (codes "list", Nothing)
     ∷ (codes "show", One (codes "NAME"))
     ∷ (codes "check", One (codes "FILE"))
+    ∷ (codes "explain", Several (codes "FILE") [])
     ∷ (codes "talk", One (codes "FILE"))
     ∷ (codes "replay", One (codes "FILE"))
     ∷ (codes "convert", One (codes "FILE"))
@@ -142,12 +144,16 @@ words_of (chosen.Trace traced) = named_trace traced
 abbrev pub named_test : Tested → Named
 named_test tested = (codes "test", map string_bytes tested.files.items, flag_text tested.traces ∷ [])
 
+abbrev pub named_explain : Vec (String Global) Global → Named
+named_explain files = (codes "explain", map string_bytes files.items, [])
+
 abbrev pub named_compare : Compared → Named
 named_compare compared = (codes "compare", string_bytes compared.log ∷ string_bytes compared.file ∷ [], [])
 
 abbrev pub order_of : Order → Named
 order_of (Command c) = words_of c
 order_of (Test tested) = named_test tested
+order_of (Explain files) = named_explain files
 order_of (Compare compared) = named_compare compared
 
 -- what is chosen of these values, where it is left out or is one of them

@@ -1,8 +1,9 @@
-//! The options of `trace`, whose values are judged here, the flags of `trace` and `test`, and the files of `compare`.
+//! The options of `trace`, whose values are judged here, the flags of `trace` and `test`, and the files of `explain` and `compare`.
 
 ghost use Rattle.std.specs.Prelude.{◌≡◌, IfOk, codes, option_map};
 ghost use Rattle.clap.specs.Words.{found_of, rows_of};
-ghost use Rattle.noise_words.specs.CommandLine.{choice_in, flag_in, flag_text, named_compare, named_test, named_trace, part_choice, part_text};
+ghost use Rattle.noise_words.specs.CommandLine.{choice_in, flag_in, flag_text, named_compare, named_explain, named_test};
+ghost use Rattle.noise_words.specs.CommandLine.{named_trace, part_choice, part_text};
 ghost use Rattle.noise_words.specs.CommandLine.{role_choice, role_text, stated_by};
 
 use crate::command_line::{value, values};
@@ -40,6 +41,16 @@ pub fn tested(alloc: Global, found: &ArgMatches<'_>) -> Result<Option<Tested>, A
     let traces = is_given(found, TRACES.name);
     match values(alloc, found, "FILE")? {
         Some(files) => Ok(Some(Tested { files, traces })),
+        None => Ok(None),
+    }
+}
+
+/// What is explained, where the matches of `explain` have files.
+pub fn explained(alloc: Global, found: &ArgMatches<'_>) -> Result<Option<Vec<String>>, AllocError>
+    ensures { IfOk result (λ files. option_map named_explain files ≡ stated_by (codes "explain") (rows_of (found_of found.now))) }
+{
+    match values(alloc, found, "FILE")? {
+        Some(files) => Ok(Some(files)),
         None => Ok(None),
     }
 }

@@ -7,7 +7,7 @@ ghost use Rattle.clap.specs.declared.builder.command.Command.TheViews.{out-Comma
 ghost use Rattle.noise_words.specs.CommandLine.{Nothing, asked, compare, flag, noise, optional, order_of, rules_for, stated_by, stated_in, subcommand, test};
 ghost use Rattle.noise_words.specs.CommandLine.{trace, wanted, wanted_by, words_of};
 
-use crate::choices::{compared, tested, traced, wrong_choice};
+use crate::choices::{compared, explained, tested, traced, wrong_choice};
 use crate::help::{
     COMPARE, Flag, HEADING, ONLY, ROLE, Subcommand, TEST, TRACE, TRACES, ValueOption, WITH_VALUE,
 };
@@ -220,6 +220,9 @@ fn order(alloc: Global, matches: &ArgMatches<'_>) -> Result<Option<Order>, Alloc
     if name == "test" {
         return Ok(tested(alloc, found)?.map(Order::Test));
     }
+    if name == "explain" {
+        return Ok(explained(alloc, found)?.map(Order::Explain));
+    }
     if name == "compare" {
         return Ok(compared(alloc, found)?.map(Order::Compare));
     }
@@ -235,7 +238,8 @@ fn command_order(
     name: &str,
     found: &ArgMatches<'_>,
 ) -> Result<Option<Chosen>, AllocError>
-    ensures { (name.now ≡ codes "test" → ⊥) → (name.now ≡ codes "compare" → ⊥) → IfOk result (λ c. option_map words_of c ≡ stated_by name.now (rows_of (found_of found.now))) }
+    ensures { (name.now ≡ codes "test" → ⊥) → (name.now ≡ codes "explain" → ⊥) → (name.now ≡ codes "compare" → ⊥)
+        → IfOk result (λ c. option_map words_of c ≡ stated_by name.now (rows_of (found_of found.now))) }
 {
     match name {
         "list" => Ok(Some(Chosen::List)),

@@ -18,7 +18,7 @@ pub struct Subcommand<'a> {
 }
 
 /// The subcommands that have a value.
-pub const WITH_VALUE: [Subcommand<'static>; 5] = [
+pub const WITH_VALUE: [Subcommand<'static>; 6] = [
     Subcommand {
         name: "show",
         value: "NAME",
@@ -34,6 +34,14 @@ pub const WITH_VALUE: [Subcommand<'static>; 5] = [
         about: "Say whether the pattern in a file is valid, and how many bytes each message adds",
         meaning: "A file with the text of a pattern",
         example: "Example: noise check examples/patterns/ikpsk2.pattern",
+    },
+    Subcommand {
+        name: "explain",
+        value: "FILE",
+        several: true,
+        about: "Say in sentences what is wrong with a pattern or a vector file, and what follows from its tokens",
+        meaning: "Files with the text of a pattern, or vector files",
+        example: "Example: noise explain examples/patterns/broken.pattern",
     },
     Subcommand {
         name: "talk",

@@ -80,6 +80,8 @@ pub enum Order {
     Command(Chosen),
     /// Run vector files, and compare each run with what its file expects.
     Test(Tested),
+    /// Explain the files of these names.
+    Explain(Vec<String>),
     /// Compare a key schedule that was logged with that of a vector file.
     Compare(Compared),
 }
