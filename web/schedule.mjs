@@ -6,7 +6,7 @@ import { rekeyed } from './chacha.mjs';
 import { OTHER, ROLES } from './party.mjs';
 
 /** The number of the first message in these lines. */
-const FIRST = 0;
+const FIRST = 1;
 const HMAC = { name: 'HMAC', hash: 'SHA-256' };
 
 const sha256 = async (...parts) => new Uint8Array(await crypto.subtle.digest('SHA-256', joined(...parts)));

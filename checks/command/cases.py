@@ -33,6 +33,8 @@ class Cases:
                 self.run_case(path, line, expected)
         for path in self.files("table"):
             self.run_table(path)
+        for path in self.files("explained"):
+            self.run_explained(path)
         for path in self.files("lines"):
             self.run_lines(path)
         self.faults += [f"command: {path}: no command names it" for path in self.unnamed()]
@@ -45,7 +47,7 @@ class Cases:
                 texts.setdefault(os.path.dirname(path), set()).update(file.read().split())
         for path in self.files("*"):
             folder, name = os.path.split(path)
-            if not name.endswith((".case", ".commands", ".table", ".lines", ".long")) and name not in texts.get(folder, ()):
+            if not name.endswith((".case", ".commands", ".table", ".explained", ".lines", ".long")) and name not in texts.get(folder, ()):
                 yield os.path.relpath(path, self.folder)
 
     def expect(self, name, expected, ran):
@@ -83,6 +85,13 @@ class Cases:
         for text, told in rows:
             self.run_text(f"{os.path.relpath(path, self.folder)}: {text}", command, bytes_of(text), status, told)
 
+    def run_explained(self, path):
+        """Runs `explain` on the text of each row, of which a place and two sentences are said."""
+        command, status, _, rows = rows_of(path)
+        for text, place, says, mends in rows:
+            expected = f"/dev/stdin:{place}: [..]\n  [..]\n  {says}\n  {mends}\nstatus: {status}\n"
+            self.expect(f"{os.path.relpath(path, self.folder)}: {text}", expected, run([command, "/dev/stdin"], given=bytes_of(text)))
+
     def run_lines(self, path):
         """Runs a command on a file with one more line, or on the front of it with a last line that isn't ended, for each row."""
         command, status, name, rows = rows_of(path)
@@ -110,7 +119,7 @@ def rows_of(path):
 
 def bytes_of(text):
     """The bytes of a row's text, with its escapes and repetitions written out."""
-    for escape, meant in (("\\n", "\n"), ("\\t", "\t"), ("\\x7f", "\x7f")):
+    for escape, meant in (("\\n", "\n"), ("\\r", "\r"), ("\\t", "\t"), ("\\x7f", "\x7f"), ("\\u2192", "\u2192"), ("\\ufeff", "\ufeff")):
         text = text.replace(escape, meant)
     return written_out(text.encode())
 

@@ -171,7 +171,7 @@ class End:
 
     def step(self, number, name, call, start, piece, state):
         """The line of a token or of the payload."""
-        self.show("handshake", str(self.passed), f"{number} {name} {call} {start} {hex_word(piece)} {state.words()}")
+        self.show("handshake", str(self.passed + 1), f"{number} {name} {call} {start} {hex_word(piece)} {state.words()}")
 
     def write_message(self, payload, head):
         """WriteMessage (5.3): the message, or the token that it stops at."""

@@ -113,7 +113,7 @@ export class Walk {
     const steps = await this.page.evaluate('[...document.querySelectorAll("#log li:nth-child(2) .schedule tbody th")].map((it) => it.textContent)');
     assert.deepEqual(steps, ['e (MixHash)', 'ee (MixKey)', 's (EncryptAndHash)', 'es (MixKey)', 'payload (EncryptAndHash)']);
     await hand.press('#log li:nth-child(2) details.keys .copy');
-    assert.match(await this.clipboard(/^trace /), /^trace responder 0?1? ?\d e MixHash 0 [0-9a-f]{64} [0-9a-f]{64} [0-9a-f]{64} - 0\n/);
+    assert.match(await this.clipboard(/^trace /), /^trace responder 2 0 e MixHash 0 [0-9a-f]{64} [0-9a-f]{64} [0-9a-f]{64} - 0\n/);
     await hand.press('#log li:nth-child(2) .deliver .copy');
     await this.until('document.getElementById("told").textContent === "Copied: message 2."');
     assert.match(await this.clipboard(/^[0-9a-f]*$/), /^[0-9a-f]{192,}$/);

@@ -37,7 +37,9 @@ fn words(rt: &HostRuntime) -> io::Result<Vec<String>> {
 fn run(rt: &HostRuntime, order: &Order) -> u8 {
     match order {
         Order::Command(command) => run_command(rt, order, command),
-        Order::Test(_) => run_on(rt, order, &mut io::empty()),
+        Order::Test(_) | Order::Explain(_) | Order::Compare(_) => {
+            run_on(rt, order, &mut io::empty())
+        }
     }
 }
 

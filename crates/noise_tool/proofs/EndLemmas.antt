@@ -19,6 +19,7 @@ use Rattle.noise_vectors.specs.declared.vector.VectorFile.{VectorFile}
 use Rattle.noise_vectors.specs.FileKeys.{public_of, agreement_of}
 use Rattle.noise_vectors.specs.SameFile.{SaySame}
 use Rattle.noise_tool.specs.Ends.{IsPatternOf, IsStartFault, known_before, setup_of}
+use Rattle.noise_tool.specs.Kept.{heading_lines}
 use Rattle.noise_tool.specs.Tracing.{start_lines_of, start_traces}
 use Rattle.noise_tool.specs.declared.moment_lines.Kept.{Kept}
 
@@ -80,7 +81,7 @@ same-start kept f g plan s =
     ∙ ap (λ (k : FileKeys). lines f.prologue.items f.initiator k) (sym s.responder) where
       lines : List ℕ → FileKeys → FileKeys → List (List ℕ)
       lines text first second =
-          start_lines_of kept Initiator plan text first (known_before plan Responder (public_of second))
+          heading_lines kept ++ start_lines_of kept Initiator plan text first (known_before plan Responder (public_of second))
           ++ start_lines_of kept Responder plan text second (known_before plan Initiator (public_of first))
 
 -- ---- the role of an end

@@ -12,6 +12,7 @@ pub mod TestingLemmas
 pub mod TraceLineLemmas
 pub mod ReceivedLemmas
 pub mod EventLemmas
+pub mod ExplainLemmas
 pub mod KeptLemmas
 pub mod FollowLemmas
 pub mod TracedRunLemmas

@@ -1,5 +1,5 @@
 -- What comes of vector files that are tested.
-use Rattle.std.proofs.Common.{◌≡◌, ◌∙◌, refl, sym, ap, ap₂, subst, ◌⊎◌, inl, inr, ◌≢◌, ◌≤◌, ◌+◌, ◌==◌, if◌then◌else◌, ℕ, Bool, true, false, not, List, [], ◌∷◌, ◌++◌, Option, Some, None, String, drop, length, string_bytes, take, append_assoc, append-nil, arith}
+use Rattle.std.proofs.Common.{◌≡◌, ◌∙◌, refl, sym, ap, ap₂, subst, ◌⊎◌, inl, inr, ◌≤◌, ◌+◌, ◌==◌, if◌then◌else◌, ℕ, Bool, true, false, not, List, [], ◌∷◌, ◌++◌, Option, Some, None, String, drop, length, string_bytes, take, append_assoc, append-nil, arith}
 use Rattle.std.specs.Prelude.{IfErr, IfOk, IfSome, IsTrue, Result, Ok, Err, cond, count_by, map}
 use Rattle.std.specs.Global.{Global}
 use Rattle.std.specs.List.{sum_by}
@@ -276,7 +276,7 @@ failed-more traces bytes_at unreadable names all name a m e passed failed met al
     let more : failed + 1 ≡ failed + cond (not met) 1 0 = rw is refl in
     rw all_is (tested-more traces bytes_at unreadable names name a m e passed failed met passed (failed + 1) before one same more)
 
-kept-appends : (a b c : Option (List ℕ)) (bs : List ℕ) → Appends a b bs → Keeps b c → Appends a c bs
+pub kept-appends : (a b c : Option (List ℕ)) (bs : List ℕ) → Appends a b bs → Keeps b c → Appends a c bs
 kept-appends None b c bs p q = tt
 kept-appends (Some x) None c bs p q = absurd p
 kept-appends (Some x) (Some y) None bs p q = absurd q
@@ -299,7 +299,7 @@ whole-tested traces bytes_at unreadable names a m n e passed failed status tally
 
 -- ---- a prefix of what is printed
 
-whole-prefix : (a e : Option (List ℕ)) (text : List ℕ) → Appends a e text → AppendsPrefix a e text
+pub whole-prefix : (a e : Option (List ℕ)) (text : List ℕ) → Appends a e text → AppendsPrefix a e text
 whole-prefix a e text h = record { prefix = text; rest = []; begins = sym (append-nil text); appended = h }
 
 more-prefix : (a e : Option (List ℕ)) (text more : List ℕ) → AppendsPrefix a e text → AppendsPrefix a e (text ++ more)
@@ -310,7 +310,7 @@ more-prefix a e text more p = record {
   appended = p.appended;
 }
 
-after-prefix : (a m e : Option (List ℕ)) (first next : List ℕ) → Appends a m first → AppendsPrefix m e next → AppendsPrefix a e (first ++ next)
+pub after-prefix : (a m e : Option (List ℕ)) (first next : List ℕ) → Appends a m first → AppendsPrefix m e next → AppendsPrefix a e (first ++ next)
 after-prefix a m e first next h p = record {
   prefix = first ++ p.prefix;
   rest = p.rest;

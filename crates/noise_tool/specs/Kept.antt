@@ -1,12 +1,12 @@
 -- Which lines of a key schedule are printed.
-use Rattle.std.specs.Prelude.{ℕ, Bool, true, false, ◌&&◌, List, []}
+use Rattle.std.specs.Prelude.{ℕ, Bool, true, false, ◌&&◌, List, [], ◌∷◌, codes}
 use Rattle.noise_names.specs.declared.token.Role.{Role}
 use Rattle.noise_names.specs.declared.token.Role.TheVariants.{Initiator, Responder}
 use Rattle.noise_tool.specs.declared.moment_lines.Kept.{Kept}
 
--- all lines, of both parts and both roles
+-- all lines, of both parts and both roles, and no heading
 abbrev pub all_kept : Kept
-all_kept = record { handshake = true; transport = true; initiator = true; responder = true }
+all_kept = record { heading = false; handshake = true; transport = true; initiator = true; responder = true }
 
 abbrev pub keeps_role : Kept → Role → Bool
 keeps_role kept Initiator = kept.initiator
@@ -23,3 +23,7 @@ keeps_transport kept role = kept.transport && keeps_role kept role
 abbrev pub only_if : Bool → List (List ℕ) → List (List ℕ)
 only_if true lines = lines
 only_if false lines = []
+
+-- the first line, where it is wanted: it names the twelve words of the others
+abbrev pub heading_lines : Kept → List (List ℕ)
+heading_lines kept = only_if kept.heading (codes "trace ROLE PART NUMBER NAME CALL FROM BYTES HASH CHAINING-KEY KEY NONCE" ∷ [])

@@ -1,5 +1,7 @@
+pub mod Comparing
 pub mod Conversion
 pub mod Ends
+pub mod Explaining
 pub mod Kept
 pub mod Moments
 pub mod OnePattern

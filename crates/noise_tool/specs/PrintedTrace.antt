@@ -1,4 +1,4 @@
--- The words of the lines that `trace` prints of a key schedule: twelve in each, and a hyphen where there is nothing.
+-- The words of the lines that `trace` prints of a key schedule: twelve in each, and a hyphen where there is nothing; and the line that names them.
 use Rattle.std.specs.Prelude.{ℕ, ◌+◌, List, [], ◌∷◌, Bool, true, Option, None, Some, codes, decimal, slice_range}
 use Rattle.noise_names.specs.declared.token.Role.{Role}
 use Rattle.noise_names.specs.declared.token.Role.TheVariants.{Initiator, Responder}
@@ -22,7 +22,7 @@ use Rattle.noise_tool.specs.declared.trace_lines.Act.TheVariants.{Writes, Accept
 abbrev pub none_word : List ℕ
 none_word = codes "-"
 
--- a line of this role, and of a part of the run: the start, a handshake message's number, `open`, `transport` or `datagrams`
+-- a line of this role, and of a part of the run: the start, the number of a handshake message, `open`, `transport` or `datagrams`
 abbrev pub trace_line : Role → List ℕ → List (List ℕ) → List ℕ
 trace_line role where_it_is words = line_of (codes "trace" ∷ role_word role ∷ where_it_is ∷ words)
 

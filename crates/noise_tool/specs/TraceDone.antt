@@ -19,7 +19,7 @@ use Rattle.noise_tool.specs.Running.{expected_in}
 use Rattle.noise_tool.specs.Tracing.{IsTraceOf}
 use Rattle.noise_tool.specs.declared.moment_lines.Kept.{Kept}
 
--- the lines of both parts, but where one alone is wanted; and of both roles
+-- the lines of both parts, but where one alone is wanted; and of both roles; the heading where it is wanted
 abbrev pub keeps_start : Option TracedPart → Bool
 keeps_start (Some Transport) = false
 keeps_start _ = true
@@ -38,6 +38,7 @@ keeps_second _ = true
 
 abbrev pub kept_of : Traced → Kept
 kept_of t = record {
+  heading = t.heading;
   handshake = keeps_start t.only;
   transport = keeps_end t.only;
   initiator = keeps_first t.role;

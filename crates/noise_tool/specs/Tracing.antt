@@ -1,5 +1,5 @@
 -- What is shown of the key schedules in a run, along what happens in it, and the lines of it.
-use Rattle.std.specs.Prelude.{◌≡◌, ℕ, List, [], ◌∷◌, ◌++◌, map, length, Option, None, Result}
+use Rattle.std.specs.Prelude.{◌≡◌, ℕ, ◌+◌, List, [], ◌∷◌, ◌++◌, map, length, Option, None, Result}
 use Rattle.noise_names.specs.declared.token.Role.{Role}
 use Rattle.noise_names.specs.declared.token.Role.TheVariants.{Initiator, Responder}
 use Rattle.noise_names.specs.Plan.{Plan, has_psk}
@@ -35,7 +35,7 @@ use Rattle.noise_vectors.specs.declared.file_keys.FileKeys.{FileKeys}
 use Rattle.noise_vectors.specs.declared.vector.FileDatagrams.{FileDatagrams}
 use Rattle.noise_vectors.specs.declared.vector.VectorFile.{VectorFile}
 use Rattle.noise_tool.specs.Ends.{IsPatternOf, facing_in, keys_in as file_keys, known_to, setup_of}
-use Rattle.noise_tool.specs.Kept.{keeps_handshake, keeps_transport, only_if}
+use Rattle.noise_tool.specs.Kept.{heading_lines, keeps_handshake, keeps_transport, only_if}
 use Rattle.noise_tool.specs.Moments.{moment_lines}
 use Rattle.noise_tool.specs.Printed.{note_line}
 use Rattle.noise_tool.specs.PrintedTrace.{datagram_key_lines, start_lines_from}
@@ -92,8 +92,9 @@ act_of _ = Refusing
 
 -- ---- the lines of an event: for each of its notes those that follow it
 
+-- a message of an end: handshake messages are numbered from 1 on
 abbrev pub about : Role → EndView → Act → About
-about role v act = record { role = role; psks = has_psk v.party.pattern; act = act; number = v.party.passed }
+about role v act = record { role = role; psks = has_psk v.party.pattern; act = act; number = v.party.passed + 1 }
 
 abbrev pub written_trace : Kept → Role → (s next : Side) (payload : List ℕ) (note : Note) → SideWrites s payload note next → List (List ℕ)
 written_trace kept role s next payload note w =
@@ -144,9 +145,9 @@ start_lines_of kept role plan prologue keys remote = only_if (keeps_handshake ke
 abbrev pub start_of_role : Kept → VectorFile → Plan → Role → List (List ℕ)
 start_of_role kept file plan role = start_lines_of kept role plan file.prologue.items (file_keys file role) (known_to file plan role)
 
--- of each end
+-- of each end, after the heading
 abbrev pub start_traces : Kept → VectorFile → Plan → List (List ℕ)
-start_traces kept file plan = start_of_role kept file plan Initiator ++ start_of_role kept file plan Responder
+start_traces kept file plan = heading_lines kept ++ start_of_role kept file plan Initiator ++ start_of_role kept file plan Responder
 
 -- the keys of datagrams of each end
 abbrev pub datagram_keys_of : Kept → Role → EndView → List (List ℕ)

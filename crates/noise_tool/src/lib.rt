@@ -1,8 +1,10 @@
 //! What the command `noise` does: it does what the command line asks for, and writes lines or reports a fault.
 #![tactic(auto)]
 
+mod comparing;
 mod datagram_report;
 mod ends;
+mod explaining;
 mod laws;
 mod moment_lines;
 mod performing;

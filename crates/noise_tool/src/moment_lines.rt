@@ -17,6 +17,8 @@ use std::alloc::{AllocError, Global};
 /// Which lines of a key schedule are printed.
 #[derive(Clone, Copy)]
 pub struct Kept {
+    /// A first line that names the words of the others.
+    pub heading: bool,
     /// Those of the start and of handshake messages.
     pub handshake: bool,
     /// Those of the transport keys, of transport messages and of datagrams.
@@ -26,8 +28,9 @@ pub struct Kept {
     pub responder: bool,
 }
 
-/// All lines, of both parts and both roles.
+/// All lines, of both parts and both roles, and no heading.
 pub const ALL_KEPT: Kept = Kept {
+    heading: false,
     handshake: true,
     transport: true,
     initiator: true,

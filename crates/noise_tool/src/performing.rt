@@ -6,7 +6,9 @@ ghost use Rattle.std.specs.Io.KnownBytes.{Appends};
 ghost use Rattle.noise_vectors.specs.Expectations.{bytes_of};
 ghost use Rattle.noise_vectors.specs.declared.vector.AllowedEvents.TheVariants.{VersionOne};
 ghost use Rattle.noise_tool.specs.Performing.{HasConverted, HasRun, IsDone, IsFault, IsOfLines, IsRunFault, IsTooLongConverted, IsUnlike, IsUnmet};
-ghost use Rattle.noise_tool.specs.Performing.{IfCommand, IfTest, IsShort, LeavesFile, LeavesInput, ReadsShort};
+ghost use Rattle.noise_tool.specs.Performing.{IfCommand, IfCompare, IfExplain, IfTest, IsShort, LeavesFile, LeavesInput, ReadsShort};
+ghost use Rattle.noise_tool.specs.Comparing.{IsCompared};
+ghost use Rattle.noise_tool.specs.Explaining.{ExplainsPrefix, HasExplained};
 ghost use Rattle.noise_tool.specs.Testing.{EndsTest, IsTested, TestsPrefix};
 ghost use Rattle.noise_tool.specs.Prefixes.{PrintsConvertedPrefix, PrintsPrefix, PrintsRunPrefix};
 ghost use Rattle.noise_lines.specs.Lines.{lines_text};
@@ -15,6 +17,8 @@ ghost use Rattle.noise_lines.specs.Told.{LeavesOther, TellsRule, error_text};
 ghost use Rattle.noise_lines.specs.Verdicts.{IsMet};
 ghost use Rattle.noise_lines.specs.declared.faults.Fault.{Fault};
 
+use crate::comparing::compare_log;
+use crate::explaining::explain_files;
 use crate::laws::conversions_meet_themselves;
 use crate::running::{Outcome, replay, run_vector};
 use crate::testing::{FilesByName, test};
@@ -28,8 +32,8 @@ use std::alloc::Global;
 use std::io::{Read, Write};
 
 /// Does what the words of the command line ask for, and gives the exit status: a command on at most one file, which is opened, as `perform_command` does
-/// it, or `test`, with the files by their names. What isn't asked for is not read: of `file` nothing for `test`, `list` and `show`, of `files` nothing for
-/// a command.
+/// it, or `test`, `explain` or `compare`, with the files by their names. What isn't asked for is not read: of `file` nothing for `test`, `explain`,
+/// `compare`, `list` and `show`, of `files` nothing for a command.
 pub fn perform<R: Read, F: FilesByName, O: Write, E: Write>(
     alloc: Global,
     order: &Order,
@@ -50,7 +54,7 @@ pub fn perform<R: Read, F: FilesByName, O: Write, E: Write>(
     ensures prefix { IfCommand order.now (λ chosen. (out.new ≡ out.old)
         ⊎ PrintsPrefix chosen (R.remaining file.old) (O.contents out.old) (O.contents out.new)) }
     ensures long { (2 ≤ result) ⊎ IfCommand order.now (λ chosen. ReadsShort chosen (R.remaining file.old)) }
-    ensures unwritten { result ≡ 2 → out.new ≡ out.old }
+    ensures unwritten { result ≡ 2 → IfCommand order.now (λ _. out.new ≡ out.old) }
     ensures quiet { result ≡ 0 → err.new ≡ err.old }
     ensures unread { LeavesInput order.now file.old file.new }
     ensures tested { IfTest order.now (λ asked. (result ≡ 3)
@@ -60,10 +64,22 @@ pub fn perform<R: Read, F: FilesByName, O: Write, E: Write>(
         × AppendsPrefix (E.contents err.old) (E.contents err.new) (error_text fault)) }
     ensures test_prefix { IfTest order.now (λ asked. TestsPrefix asked.traces (F.bytes_at files.now) (F.unreadable files.now)
         (map string_bytes asked.files.items) (O.contents out.old) (O.contents out.new)) }
+    ensures explained { IfExplain order.now (λ names. (result ≡ 3)
+        ⊎ (HasExplained (F.bytes_at files.now) names (O.contents out.old) (O.contents out.new) result × (err.new ≡ err.old))) }
+    ensures explain_outside { result ≡ 3 → IfExplain order.now (λ _. (fault : Fault) × (status_of fault ≡ 3)
+        × AppendsPrefix (E.contents err.old) (E.contents err.new) (error_text fault)) }
+    ensures explain_prefix { IfExplain order.now (λ names. ExplainsPrefix (F.bytes_at files.now) names (O.contents out.old) (O.contents out.new)) }
+    ensures compared { IfCompare order.now (λ names. (2 ≤ result)
+        ⊎ (IsCompared (F.bytes_at files.now (string_bytes names.log)) (F.bytes_at files.now (string_bytes names.file)) (O.contents out.old)
+        (O.contents out.new) result × (err.new ≡ err.old))) }
+    ensures compare_outside { result ≡ 3 → IfCompare order.now (λ names. (fault : Fault) × (status_of fault ≡ 3)
+        × AppendsPrefix (E.contents err.old) (E.contents err.new) (error_text fault)) }
 {
     match order {
         Order::Command(chosen) => perform_command(alloc, chosen, file, out, err),
         Order::Test(asked) => test(alloc, &asked.files, asked.traces, files, out, err),
+        Order::Explain(names) => explain_files(alloc, names, files, out, err),
+        Order::Compare(names) => compare_log(alloc, names, files, out, err),
     }
 }
 

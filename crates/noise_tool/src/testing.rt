@@ -231,8 +231,8 @@ fn run_named<F: FilesByName>(
     run_text(alloc, &text, traces)
 }
 
-// The same of the file of this text.
-fn run_text(alloc: Global, text: &[u8], traces: bool) -> Result<Traced, Fault>
+/// The same of the file of this text.
+pub(crate) fn run_text(alloc: Global, text: &[u8], traces: bool) -> Result<Traced, Fault>
     ensures runs { length text.now ≤ 4194304 → IfOk result (RunsTo traces text.now) }
     ensures read { IfErr result (λ fault. ¬ (fault ≡ Unreadable)) }
     ensures fault { IfErr result (λ fault. (status_of fault ≡ 3) ⊎ IsRunFault Any text.now fault) }

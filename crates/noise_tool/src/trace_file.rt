@@ -43,6 +43,7 @@ fn kept(chosen: &ChosenTrace) -> Kept
     ensures { result ≡ kept_of chosen.now }
 {
     Kept {
+        heading: chosen.heading,
         handshake: keeps_start(chosen.only),
         transport: keeps_end(chosen.only),
         initiator: keeps_first(chosen.role),

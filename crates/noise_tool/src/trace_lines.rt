@@ -28,7 +28,7 @@ pub struct About {
     /// Whether the pattern has psk tokens.
     pub psks: bool,
     pub act: Act,
-    /// How many handshake messages have passed before it.
+    /// The number of a handshake message, from 1 on.
     pub number: u64,
 }
 

@@ -49,7 +49,7 @@ impl TracedEnd {
             role: self.role,
             psks: self.psks,
             act,
-            number: u64::from(self.end.messages_passed()),
+            number: u64::from(self.end.messages_passed()) + 1,
         }
     }
 

@@ -10,6 +10,7 @@ ghost use Rattle.noise_vectors.specs.Expectations.{bytes_of};
 ghost use Rattle.noise_vectors.specs.FileKeys.{agreement_of, public_of};
 ghost use Rattle.noise_vectors.specs.SameFile.{SaySame};
 ghost use Rattle.noise_tool.specs.Ends.{IsStartFault, setup_of};
+ghost use Rattle.noise_tool.specs.Kept.{heading_lines};
 ghost use Rattle.noise_tool.specs.TracedEnds.{AreTracedEnds, TracedStands};
 ghost use Rattle.noise_tool.specs.Tracing.{start_lines_of, start_traces};
 
@@ -117,6 +118,7 @@ fn start_lines(
     let of_initiator = known_before(pattern.pattern(), Role::Initiator, &file.initiator);
     let of_responder = known_before(pattern.pattern(), Role::Responder, &file.responder);
     let mut lines = Vec::new(alloc);
+    push_heading(alloc, kept, &mut lines)?;
     push_start(
         alloc,
         kept,
@@ -138,6 +140,17 @@ fn start_lines(
         &mut lines,
     )?;
     Ok(lines)
+}
+
+// Appends the line that names the words of the others, where it is wanted.
+fn push_heading(alloc: Global, kept: Kept, lines: &mut Vec<Vec<u8>>) -> Result<(), AllocError>
+    ensures { OnOk result (bytes_of lines.new.items ≡ bytes_of lines.old.items ++ heading_lines kept) }
+{
+    if kept.heading {
+        let line = b"trace ROLE PART NUMBER NAME CALL FROM BYTES HASH CHAINING-KEY KEY NONCE";
+        lines.push(Vec::from_slice(alloc, line.as_slice())?)?;
+    }
+    Ok(())
 }
 
 // Appends the lines of the start of one end.

@@ -1,5 +1,5 @@
 -- From a parse's matches to the order that they state.
-use Rattle.std.proofs.Common.{◌≡◌, ◌∙◌, ap, ap₂, sym, refl, codes, List, [], ◌∷◌, Option, Some, None, option_map}
+use Rattle.std.proofs.Common.{◌≡◌, ◌∙◌, ap, ap₂, sym, refl, codes, List, [], ◌∷◌, ◌++◌, Option, Some, None, option_map}
 use Rattle.std.specs.Prelude.{Box, Bool, true, false, option_and_then}
 use Rattle.std.specs.Str.{bytes_eq}
 use Rattle.std.proofs.lemmas.Slice.Eq.{bytes_eq-Decides}
@@ -14,7 +14,7 @@ use Rattle.clap.specs.Faults.{fault_of}
 use Rattle.clap.specs.declared.parser.matches.ArgMatches.{ArgMatches}
 use Rattle.clap.specs.declared.parser.matches.SubCommand.{SubCommand}
 use Rattle.clap.specs.declared.parser.matches.ArgMatches.TheViews.{out-ArgMatches, out-SubCommand}
-use Rattle.noise_words.specs.CommandLine.{Choice, Named, asked, asked_without, choice_in, chosen_of, flag_in, flag_of, noise, part_choice, role_choice, stated_by, stated_in}
+use Rattle.noise_words.specs.CommandLine.{Choice, Named, asked, asked_without, choice_in, chosen_of, flag_in, flag_of, heading_flag, noise, part_choice, role_choice, stated_by, stated_in}
 
 -- the name that a parse found is that of its rows
 name_of-rows : {Z : Type 0} (o : Option (Box SubCommand Z))
@@ -53,8 +53,8 @@ differs x name other = at (bytes_eq x name) refl where
 -- no other name states an order
 pub stated_by-unknown : (name : Text) (rows : List Row) → (name ≡ codes "list" → ⊥) → (name ≡ codes "show" → ⊥) → (name ≡ codes "check" → ⊥)
     → (name ≡ codes "talk" → ⊥) → (name ≡ codes "replay" → ⊥) → (name ≡ codes "convert" → ⊥) → (name ≡ codes "test" → ⊥) → (name ≡ codes "trace" → ⊥)
-    → stated_by name rows ≡ None
-stated_by-unknown name rows list show check talk replay convert test trace =
+    → (name ≡ codes "explain" → ⊥) → (name ≡ codes "compare" → ⊥) → stated_by name rows ≡ None
+stated_by-unknown name rows list show check talk replay convert test trace explain compare =
     let no_list = differs (codes "list") name list in
     let no_show = differs (codes "show") name show in
     let no_check = differs (codes "check") name check in
@@ -63,7 +63,9 @@ stated_by-unknown name rows list show check talk replay convert test trace =
     let no_convert = differs (codes "convert") name convert in
     let no_test = differs (codes "test") name test in
     let no_trace = differs (codes "trace") name trace in
-    rw (no_list, no_show, no_check, no_talk, no_replay, no_convert, no_test, no_trace) refl
+    let no_explain = differs (codes "explain") name explain in
+    let no_compare = differs (codes "compare") name compare in
+    rw (no_list, no_show, no_check, no_explain, no_talk, no_replay, no_convert, no_test, no_trace, no_compare) refl
 
 -- what the matches have for an option, by what a parse found for it
 pub choice_in-found : (m : ArgMatches) (choice : Choice) (o : Option Text) → o ≡ first_value (found_of m) choice.0
@@ -88,13 +90,15 @@ chosen_of-other a b text not_a not_b =
     let no_b = differs b text not_b in
     rw (no_a, no_b) refl
 
--- the order for a trace, by what the matches have for its options and its file
-abbrev pub traced_by : Option (Option Text) → Option (Option Text) → Option Text → Option Named
-traced_by part role file =
-    option_and_then (λ chosen. option_map (λ text. (codes "trace", text ∷ [], chosen)) file)
+-- the order for a trace, by what the matches have for its options, its flag and its file
+abbrev pub traced_by : Option (Option Text) → Option (Option Text) → Option Text → Option Text → Option Named
+traced_by part role heading file =
+    option_and_then (λ chosen. option_map (λ text. (codes "trace", text ∷ [], chosen ++ heading ∷ [])) file)
     (option_and_then (λ first. option_map (λ more. first ∷ more) (option_and_then (λ second. Some (second ∷ [])) role)) part)
 
-pub stated_by-trace : (rows : List Row) (part role : Option (Option Text)) (file : Option Text) → part ≡ choice_in rows part_choice
-    → role ≡ choice_in rows role_choice → file ≡ first_of (codes "FILE") rows → traced_by part role file ≡ stated_by (codes "trace") rows
-stated_by-trace rows part role file part_is role_is file_is =
-    ap₂ (λ p r. traced_by p r file) part_is role_is ∙ ap (traced_by (choice_in rows part_choice) (choice_in rows role_choice)) file_is
+pub stated_by-trace : (rows : List Row) (part role : Option (Option Text)) (heading file : Option Text) → part ≡ choice_in rows part_choice
+    → role ≡ choice_in rows role_choice → heading ≡ flag_in rows heading_flag → file ≡ first_of (codes "FILE") rows
+    → traced_by part role heading file ≡ stated_by (codes "trace") rows
+stated_by-trace rows part role heading file part_is role_is heading_is file_is =
+    ap₂ (λ p r. traced_by p r heading file) part_is role_is
+    ∙ ap₂ (traced_by (choice_in rows part_choice) (choice_in rows role_choice)) heading_is file_is

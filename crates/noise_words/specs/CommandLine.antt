@@ -1,12 +1,14 @@
 -- The command line, as `clap` sees it, and the command that its matches state.
-use Rattle.std.specs.Prelude.{List, [], ◌∷◌, Option, Some, None, Bool, true, false, map, codes, find, option_map, option_and_then, string_bytes, if◌then◌else◌}
+use Rattle.std.specs.Prelude.{List, [], ◌∷◌, ◌++◌, Option, Some, None, Bool, true, false, String, Vec, map, codes, find, option_map, option_and_then, string_bytes, if◌then◌else◌}
+use Rattle.std.specs.Global.{Global}
 use Rattle.std.specs.List.{list_any}
 use Rattle.std.specs.Str.{bytes_eq}
 use Rattle.noise_words.specs.declared.help.Subcommand.{Subcommand}
 use Rattle.noise_words.specs.declared.orders.Chosen.{Chosen}
 use Rattle.noise_words.specs.declared.orders.Chosen.TheVariants as chosen
 use Rattle.noise_words.specs.declared.orders.Order.{Order}
-use Rattle.noise_words.specs.declared.orders.Order.TheVariants.{Command, Test}
+use Rattle.noise_words.specs.declared.orders.Compared.{Compared}
+use Rattle.noise_words.specs.declared.orders.Order.TheVariants.{Command, Compare, Explain, Test}
 use Rattle.noise_words.specs.declared.orders.Tested.{Tested}
 use Rattle.noise_words.specs.declared.orders.Traced.{Traced}
 use Rattle.noise_words.specs.declared.orders.TracedPart.{TracedPart}
@@ -24,13 +26,14 @@ use Rattle.clap.specs.Faults.{fault_of}
 abbrev pub Choice : Type 0
 Choice = Text × List Text
 
--- The values that the command of this name wants: none, one, at least one beside these flags, or one beside these
--- options.
+-- The values that a command wants, by these names: none, one, two, at least one beside these flags, or one beside
+-- these options and flags.
 pub data Wants : Type 0 where
   Nothing : Wants
   One : Text → Wants
   Several : Text → List Text → Wants
-  OneWith : Text → List Choice → Wants
+  Two : Text → Text → Wants
+  OneWith : Text → List Choice → List Text → Wants
 
 -- the flag of `test`
 abbrev pub traces_flag : Text
@@ -39,15 +42,21 @@ traces_flag = codes "trace"
 abbrev pub test : Text × Wants
 test = (codes "test", Several (codes "FILE") (traces_flag ∷ []))
 
--- the options of `trace`
+-- the options and the flag of `trace`
 abbrev pub part_choice : Choice
 part_choice = (codes "only", codes "handshake" ∷ codes "transport" ∷ [])
 
 abbrev pub role_choice : Choice
 role_choice = (codes "role", codes "initiator" ∷ codes "responder" ∷ [])
 
+abbrev pub heading_flag : Text
+heading_flag = codes "heading"
+
 abbrev pub trace : Text × Wants
-trace = (codes "trace", OneWith (codes "FILE") (part_choice ∷ role_choice ∷ []))
+trace = (codes "trace", OneWith (codes "FILE") (part_choice ∷ role_choice ∷ []) (heading_flag ∷ []))
+
+abbrev pub compare : Text × Wants
+compare = (codes "compare", Two (codes "LOG") (codes "FILE"))
 
 -- the commands, each with the values that it wants
 abbrev pub commands : List (Text × Wants)
@@ -55,11 +64,13 @@ commands =
     (codes "list", Nothing)
     ∷ (codes "show", One (codes "NAME"))
     ∷ (codes "check", One (codes "FILE"))
+    ∷ (codes "explain", Several (codes "FILE") [])
     ∷ (codes "talk", One (codes "FILE"))
     ∷ (codes "replay", One (codes "FILE"))
     ∷ (codes "convert", One (codes "FILE"))
     ∷ test
     ∷ trace
+    ∷ compare
     ∷ []
 
 -- a value that has to be there
@@ -81,8 +92,9 @@ flag name = record (new_rule name) { long = Some name; action = Some SetTrue }
 abbrev pub rules_for : Wants → List Rule
 rules_for Nothing = []
 rules_for (One value) = wanted value ∷ []
+rules_for (Two first second) = wanted first ∷ wanted second ∷ []
 rules_for (Several value flags) = several value ∷ map flag flags
-rules_for (OneWith value choices) = wanted value ∷ map optional choices
+rules_for (OneWith value choices flags) = wanted value ∷ (map optional choices ++ map flag flags)
 
 abbrev pub subcommand : Text × Wants → Shape
 subcommand (name, wants) = record (new_shape name) { rules = rules_for wants }
@@ -111,11 +123,15 @@ abbrev pub role_text : TracedRole → Text
 role_text Initiator = codes "initiator"
 role_text Responder = codes "responder"
 
+abbrev pub flag_text : Bool → Option Text
+flag_text true = Some (codes "true")
+flag_text false = None
+
 abbrev pub named_trace : Traced → Named
 named_trace traced = (
   codes "trace",
   string_bytes traced.file ∷ [],
-  option_map part_text traced.only ∷ option_map role_text traced.role ∷ [],
+  option_map part_text traced.only ∷ option_map role_text traced.role ∷ flag_text traced.heading ∷ [],
 )
 
 abbrev pub words_of : Chosen → Named
@@ -127,16 +143,20 @@ words_of (chosen.Replay file) = (codes "replay", string_bytes file ∷ [], [])
 words_of (chosen.Convert file) = (codes "convert", string_bytes file ∷ [], [])
 words_of (chosen.Trace traced) = named_trace traced
 
-abbrev pub flag_text : Bool → Option Text
-flag_text true = Some (codes "true")
-flag_text false = None
-
 abbrev pub named_test : Tested → Named
 named_test tested = (codes "test", map string_bytes tested.files.items, flag_text tested.traces ∷ [])
+
+abbrev pub named_explain : Vec (String Global) Global → Named
+named_explain files = (codes "explain", map string_bytes files.items, [])
+
+abbrev pub named_compare : Compared → Named
+named_compare compared = (codes "compare", string_bytes compared.log ∷ string_bytes compared.file ∷ [], [])
 
 abbrev pub order_of : Order → Named
 order_of (Command c) = words_of c
 order_of (Test tested) = named_test tested
+order_of (Explain files) = named_explain files
+order_of (Compare compared) = named_compare compared
 
 -- what is chosen of these values, where it is left out or is one of them
 abbrev pub chosen_of : List Text → Option Text → Option (Option Text)
@@ -165,10 +185,13 @@ flag_in rows name = flag_of (first_of name rows)
 abbrev pub order_with : List Row → Text × Wants → Option Named
 order_with rows (name, Nothing) = Some (name, [], [])
 order_with rows (name, One value) = option_map (λ text. (name, text ∷ [], [])) (first_of value rows)
+order_with rows (name, Two first second) =
+    option_and_then (λ one. option_map (λ two. (name, one ∷ two ∷ [], [])) (first_of second rows)) (first_of first rows)
 order_with rows (name, Several value flags) =
     option_map (λ texts. (name, texts, map (flag_in rows) flags)) (all_of value rows)
-order_with rows (name, OneWith value choices) =
-    option_and_then (λ chosen. option_map (λ text. (name, text ∷ [], chosen)) (first_of value rows))
+order_with rows (name, OneWith value choices flags) =
+    option_and_then
+    (λ chosen. option_map (λ text. (name, text ∷ [], chosen ++ map (flag_in rows) flags)) (first_of value rows))
     (choices_in rows choices)
 
 -- the order that a subcommand with these matches is

@@ -1,13 +1,14 @@
-//! The options of `trace`, whose values are judged here, and the flag of `test`.
+//! The options of `trace`, whose values are judged here, the flags of `trace` and `test`, and the files of `explain` and `compare`.
 
 ghost use Rattle.std.specs.Prelude.{◌≡◌, IfOk, codes, option_map};
 ghost use Rattle.clap.specs.Words.{found_of, rows_of};
-ghost use Rattle.noise_words.specs.CommandLine.{choice_in, flag_in, flag_text, named_test, named_trace, part_choice, part_text};
+ghost use Rattle.noise_words.specs.CommandLine.{choice_in, flag_in, flag_text, named_compare, named_explain, named_test};
+ghost use Rattle.noise_words.specs.CommandLine.{named_trace, part_choice, part_text};
 ghost use Rattle.noise_words.specs.CommandLine.{role_choice, role_text, stated_by};
 
 use crate::command_line::{value, values};
-use crate::help::{ONLY, ROLE, TRACES};
-use crate::orders::{Tested, Traced, TracedPart, TracedRole};
+use crate::help::{HEADING, ONLY, ROLE, TRACES};
+use crate::orders::{Compared, Tested, Traced, TracedPart, TracedRole};
 use clap::ArgMatches;
 use std::alloc::{AllocError, Global};
 
@@ -21,8 +22,14 @@ pub fn traced(alloc: Global, found: &ArgMatches<'_>) -> Result<Option<Traced>, A
     let Some(role) = role_in(found) else {
         return Ok(None);
     };
+    let heading = is_given(found, HEADING.name);
     match value(alloc, found, "FILE")? {
-        Some(file) => Ok(Some(Traced { file, only, role })),
+        Some(file) => Ok(Some(Traced {
+            file,
+            only,
+            role,
+            heading,
+        })),
         None => Ok(None),
     }
 }
@@ -34,6 +41,29 @@ pub fn tested(alloc: Global, found: &ArgMatches<'_>) -> Result<Option<Tested>, A
     let traces = is_given(found, TRACES.name);
     match values(alloc, found, "FILE")? {
         Some(files) => Ok(Some(Tested { files, traces })),
+        None => Ok(None),
+    }
+}
+
+/// What is explained, where the matches of `explain` have files.
+pub fn explained(alloc: Global, found: &ArgMatches<'_>) -> Result<Option<Vec<String>>, AllocError>
+    ensures { IfOk result (λ files. option_map named_explain files ≡ stated_by (codes "explain") (rows_of (found_of found.now))) }
+{
+    match values(alloc, found, "FILE")? {
+        Some(files) => Ok(Some(files)),
+        None => Ok(None),
+    }
+}
+
+/// What is compared, where the matches of `compare` have a log and a file.
+pub fn compared(alloc: Global, found: &ArgMatches<'_>) -> Result<Option<Compared>, AllocError>
+    ensures { IfOk result (λ c. option_map named_compare c ≡ stated_by (codes "compare") (rows_of (found_of found.now))) }
+{
+    let Some(log) = value(alloc, found, "LOG")? else {
+        return Ok(None);
+    };
+    match value(alloc, found, "FILE")? {
+        Some(file) => Ok(Some(Compared { log, file })),
         None => Ok(None),
     }
 }

@@ -4,11 +4,13 @@ ghost use Rattle.std.specs.Prelude.{◌≡◌, ◌≢◌, ◌⊎◌, ◌∷◌, 
 ghost use Rattle.clap.specs.Simple.{with_subcommand};
 ghost use Rattle.clap.specs.Words.{all_of, app_of, first_of, found_of, kind_of, rows_of, rule_of, shape_of, subcommand_rows_of};
 ghost use Rattle.clap.specs.declared.builder.command.Command.TheViews.{out-Command};
-ghost use Rattle.noise_words.specs.CommandLine.{Nothing, asked, flag, noise, optional, order_of, rules_for, stated_by, stated_in, subcommand, test};
-ghost use Rattle.noise_words.specs.CommandLine.{trace, wanted_by, words_of};
+ghost use Rattle.noise_words.specs.CommandLine.{Nothing, asked, compare, flag, noise, optional, order_of, rules_for, stated_by, stated_in, subcommand, test};
+ghost use Rattle.noise_words.specs.CommandLine.{trace, wanted, wanted_by, words_of};
 
-use crate::choices::{tested, traced, wrong_choice};
-use crate::help::{Flag, ONLY, ROLE, Subcommand, TEST, TRACE, TRACES, ValueOption, WITH_VALUE};
+use crate::choices::{compared, explained, tested, traced, wrong_choice};
+use crate::help::{
+    COMPARE, Flag, HEADING, ONLY, ROLE, Subcommand, TEST, TRACE, TRACES, ValueOption, WITH_VALUE,
+};
 use crate::orders::{Chosen, LineFault, Order};
 use clap::error::ErrorKind;
 use clap::{Arg, ArgAction, ArgMatches, Command};
@@ -43,14 +45,16 @@ fn stated<'a>(
     }
 }
 
-// What is wrong where a parse states no order.
+// What is wrong where a parse states no order: a wrong value is one of an option of `trace`.
 fn unstated(
     alloc: Global,
     whole: &mut Command<'_>,
     matches: &ArgMatches<'_>,
 ) -> Result<clap::Error, AllocError> {
     match wrong_choice(alloc, matches)? {
-        Some(text) => whole.error(ErrorKind::InvalidValue, text.as_str()),
+        Some(text) => with_options(alloc)?
+            .bin_name("noise trace")?
+            .error(ErrorKind::InvalidValue, text.as_str()),
         None => whole.error(ErrorKind::MissingRequiredArgument, "a value is missing"),
     }
 }
@@ -60,7 +64,7 @@ fn command<'a>(alloc: Global) -> Result<Command<'a>, AllocError>
     ensures { IfOk result (λ c. app_of c ≡ noise) }
 {
     let whole = adding(alloc, with_list(alloc)?, &WITH_VALUE)?;
-    with_trace(alloc, with_test(alloc, whole)?)
+    with_compare(alloc, with_trace(alloc, with_test(alloc, whole)?)?)
 }
 
 // With the subcommand that has a flag, too.
@@ -97,14 +101,41 @@ fn with_trace<'a>(alloc: Global, whole: Command<'a>) -> Result<Command<'a>, Allo
     whole.subcommand(with_options(alloc)?)
 }
 
-// The subcommand that has options.
+// The subcommand that has options and a flag.
 fn with_options<'a>(alloc: Global) -> Result<Command<'a>, AllocError>
     ensures shape { IfOk result (λ c. shape_of c ≡ subcommand trace) }
     ensures local { IfOk result (λ c. (out-Command c).has_globals ≡ false) }
 {
     let whole = with_value(alloc, &TRACE)?;
     let whole = whole.arg(option_of(alloc, &ONLY))?;
-    whole.arg(option_of(alloc, &ROLE))
+    let whole = whole.arg(option_of(alloc, &ROLE))?;
+    whole.arg(flag_of(alloc, &HEADING))
+}
+
+// With the subcommand that has two values, too.
+fn with_compare<'a>(alloc: Global, whole: Command<'a>) -> Result<Command<'a>, AllocError>
+    ensures { IfOk result (λ c. app_of c ≡ with_subcommand (app_of whole.entry) (subcommand compare)) }
+{
+    whole.subcommand(with_two(alloc)?)
+}
+
+// The subcommand that has two values.
+fn with_two<'a>(alloc: Global) -> Result<Command<'a>, AllocError>
+    ensures shape { IfOk result (λ c. shape_of c ≡ subcommand compare) }
+    ensures local { IfOk result (λ c. (out-Command c).has_globals ≡ false) }
+{
+    let whole = with_value(alloc, &COMPARE)?;
+    whole.arg(second_value(alloc))
+}
+
+// Its second value.
+fn second_value<'a>(alloc: Global) -> Arg<'a>
+    ensures rule { rule_of result ≡ wanted (codes "FILE") }
+    ensures local { result.global ≡ false }
+{
+    Arg::new(alloc, "FILE").required(true).help(
+        "A vector file as replay takes it, with keys that are for tests alone",
+    )
 }
 
 // The argument of an option.
@@ -191,6 +222,12 @@ fn order(alloc: Global, matches: &ArgMatches<'_>) -> Result<Option<Order>, Alloc
     if name == "test" {
         return Ok(tested(alloc, found)?.map(Order::Test));
     }
+    if name == "explain" {
+        return Ok(explained(alloc, found)?.map(Order::Explain));
+    }
+    if name == "compare" {
+        return Ok(compared(alloc, found)?.map(Order::Compare));
+    }
     match command_order(alloc, name, found)? {
         Some(command) => Ok(Some(Order::Command(command))),
         None => Ok(None),
@@ -203,7 +240,7 @@ fn command_order(
     name: &str,
     found: &ArgMatches<'_>,
 ) -> Result<Option<Chosen>, AllocError>
-    ensures { (name.now ≡ codes "test" → ⊥)
+    ensures { (name.now ≡ codes "test" → ⊥) → (name.now ≡ codes "explain" → ⊥) → (name.now ≡ codes "compare" → ⊥)
         → IfOk result (λ c. option_map words_of c ≡ stated_by name.now (rows_of (found_of found.now))) }
 {
     match name {

@@ -18,7 +18,7 @@ pub struct Subcommand<'a> {
 }
 
 /// The subcommands that have a value.
-pub const WITH_VALUE: [Subcommand<'static>; 5] = [
+pub const WITH_VALUE: [Subcommand<'static>; 6] = [
     Subcommand {
         name: "show",
         value: "NAME",
@@ -34,6 +34,14 @@ pub const WITH_VALUE: [Subcommand<'static>; 5] = [
         about: "Say whether the pattern in a file is valid, and how many bytes each message adds",
         meaning: "A file with the text of a pattern",
         example: "Example: noise check examples/patterns/ikpsk2.pattern",
+    },
+    Subcommand {
+        name: "explain",
+        value: "FILE",
+        several: true,
+        about: "Say in sentences what is wrong with a pattern or a vector file, and what follows from its tokens",
+        meaning: "Files with the text of a pattern, or vector files",
+        example: "Example: noise explain examples/patterns/broken.pattern",
     },
     Subcommand {
         name: "talk",
@@ -71,7 +79,7 @@ pub const TEST: Subcommand<'static> = Subcommand {
     example: "Example: noise test examples/vectors/xx.vector examples/vectors/ik.vector",
 };
 
-/// The subcommand that has a value and options.
+/// The subcommand that has a value, options and a flag.
 pub const TRACE: Subcommand<'static> = Subcommand {
     name: "trace",
     value: "FILE",
@@ -79,6 +87,16 @@ pub const TRACE: Subcommand<'static> = Subcommand {
     about: "Run two ends as replay does and print each end's key schedule: what it prints are secrets",
     meaning: "A vector file as replay takes it, with keys that are for tests alone",
     example: "Example: noise trace --role responder examples/vectors/nnpsk2.vector",
+};
+
+/// The subcommand that has two values: the first.
+pub const COMPARE: Subcommand<'static> = Subcommand {
+    name: "compare",
+    value: "LOG",
+    several: false,
+    about: "Print the first place where a logged key schedule parts from that of a vector file: what it prints are secrets",
+    meaning: "Lines of a key schedule in the form of trace, logged by another implementation",
+    example: "Example: noise compare yours.log examples/vectors/xx.vector",
 };
 
 /// An option that has a value, and what its help says.
@@ -105,6 +123,12 @@ pub struct Flag<'a> {
 pub const TRACES: Flag<'static> = Flag {
     name: "trace",
     meaning: "Print the trace of each file that differs, up to the line that differs: what it prints are secrets",
+};
+
+/// Whether the first line of a trace names the words of the others.
+pub const HEADING: Flag<'static> = Flag {
+    name: "heading",
+    meaning: "Print first a line that names the words of a line of a key schedule",
 };
 
 /// The part whose lines alone are printed of a key schedule.

@@ -7,4 +7,4 @@ mod help;
 mod orders;
 
 pub use command_line::chosen;
-pub use orders::{Chosen, LineFault, Order, Tested, Traced, TracedPart, TracedRole};
+pub use orders::{Chosen, Compared, LineFault, Order, Tested, Traced, TracedPart, TracedRole};

@@ -32,6 +32,8 @@ pub struct Traced {
     pub only: Option<TracedPart>,
     /// The party whose lines alone are wanted, or None where those of both are.
     pub role: Option<TracedRole>,
+    /// Whether a line that names the words of the others is wanted first.
+    pub heading: bool,
 }
 
 /// What is tested.
@@ -41,6 +43,15 @@ pub struct Tested {
     pub files: Vec<String>,
     /// Whether the trace of each file that differs is wanted too.
     pub traces: bool,
+}
+
+/// What is compared.
+#[derive(Drop, PartialEq, Eq)]
+pub struct Compared {
+    /// The name of the log.
+    pub log: String,
+    /// The name of the vector file.
+    pub file: String,
 }
 
 /// A command on at most one file, with its value.
@@ -69,6 +80,10 @@ pub enum Order {
     Command(Chosen),
     /// Run vector files, and compare each run with what its file expects.
     Test(Tested),
+    /// Explain the files of these names.
+    Explain(Vec<String>),
+    /// Compare a key schedule that was logged with that of a vector file.
+    Compare(Compared),
 }
 
 /// Why the words of a command line are no command.

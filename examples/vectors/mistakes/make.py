@@ -1,9 +1,10 @@
 #!/usr/bin/env python3
 """Writes the vector files of this folder, each with one mistake that implementations of Noise make.
 
-    make.py FOLDER          writes the files into FOLDER
-    make.py --log NAME      prints the log of the party that makes the mistake NAME, in the format of docs/DEBUGGING.md
-    make.py --right NAME    prints the log of a party of the same role and keys that makes no mistake
+    make.py FOLDER              writes the files into FOLDER
+    make.py --log NAME ROLE     prints the log of a party of this role that makes the mistake NAME, in the format of `trace`
+    make.py --right NAME ROLE   prints the log of a party of the same role and keys that makes no mistake
+    make.py --says NAME         prints a vector file of the same keys and payloads, in which both parties are right
 
 In each file one party is a `Party` with a mistake, whose frames come by `raw`, and the other is right. The `expect` lines are what the right `Party`
 writes and answers. This is a Noise of its own: it shares nothing with the code of `noise`. It needs python's `cryptography`.
@@ -71,6 +72,14 @@ MISTAKES = {
 }
 
 
+# Mistakes of which only logs are made: the bytes of each DH result in reverse order, HMAC with blocks of 32 bytes, and HKDF's first two outputs exchanged.
+LOGGED = {
+    "dh-reversed": Mistake("NN", "responder", ""),
+    "hmac-block": Mistake("NN", "responder", ""),
+    "outputs-exchanged": Mistake("NN", "responder", ""),
+}
+
+
 class RefusedError(Exception):
     """The token and the cause of a refusal."""
 
@@ -85,11 +94,21 @@ def public_key(role: str, letter: str) -> bytes:
     return private_key(role, letter).public_key().public_bytes(Encoding.Raw, PublicFormat.Raw)
 
 
-def hkdf(chaining_key: bytes, text: bytes, count: int) -> list[bytes]:
+def short_hmac(key: bytes, text: bytes) -> bytes:
+    """HMAC with a key of 32 bytes, and blocks of 32 bytes in place of 64."""
+    inner, outer = bytes(byte ^ 0x36 for byte in key), bytes(byte ^ 0x5C for byte in key)
+    return hashlib.sha256(outer + hashlib.sha256(inner + text).digest()).digest()
+
+
+def hkdf(chaining_key: bytes, text: bytes, count: int, mistake: str = "") -> list[bytes]:
     """HKDF of the standard (4.3)."""
-    temporary, outputs = hmac.digest(chaining_key, text, "sha256"), [b""]
+
+    def mac(key: bytes, text: bytes) -> bytes:
+        return short_hmac(key, text) if mistake == "hmac-block" else hmac.digest(key, text, "sha256")
+
+    temporary, outputs = mac(chaining_key, text), [b""]
     for number in range(1, count + 1):
-        outputs.append(hmac.digest(temporary, outputs[-1] + bytes([number]), "sha256"))
+        outputs.append(mac(temporary, outputs[-1] + bytes([number])))
     return outputs[1:]
 
 
@@ -99,6 +118,7 @@ class Party:
     def __init__(self, role: str, pattern: str, mistake: str = "") -> None:
         self.role, self.mistake = role, mistake
         self.log: list[str] = []
+        self.passed, self.step = 0, 0
         self.other = ROLES[1 - ROLES.index(role)]
         self.has_psk = "psk" in pattern
         self.remote: dict[str, bytes] = {}
@@ -112,9 +132,11 @@ class Party:
             self.mix_hash(b"")
         self.write_log("prologue")
 
-    def write_log(self, token: str) -> None:
-        """A line of the log: the token, h, ck, k (or -), n."""
-        self.log.append(f"{token} {self.hash.hex()} {self.chaining_key.hex()} {self.key.hex() or '-'} {self.nonce}")
+    def write_log(self, token: str, piece: bytes = b"") -> None:
+        """A line of the log: the words of `trace`, and `?` for its call and for where the bytes begin."""
+        state = f"{self.hash.hex()} {self.chaining_key.hex()} {self.key.hex() or '-'} {self.nonce}"
+        self.log.append(f"trace {self.role} {self.passed or 'start'} {self.step} {token} ? ? {piece.hex() or '-'} {state}")
+        self.step += 1
 
     def mix_hash(self, text: bytes) -> None:
         """MixHash (5.2)."""
@@ -122,13 +144,15 @@ class Party:
 
     def mix_key(self, text: bytes) -> None:
         """MixKey (5.2)."""
-        self.chaining_key, self.key = hkdf(self.chaining_key, text, 2)
+        self.chaining_key, self.key = hkdf(self.chaining_key, text, 2, self.mistake)
+        if self.mistake == "outputs-exchanged":
+            self.chaining_key, self.key = self.key, self.chaining_key
         if self.mistake != "nonce-kept":
             self.nonce = 0
 
     def mix_key_and_hash(self, text: bytes) -> None:
         """MixKeyAndHash (5.2)."""
-        self.chaining_key, second, third = hkdf(self.chaining_key, text, 3)
+        self.chaining_key, second, third = hkdf(self.chaining_key, text, 3, self.mistake)
         if self.mistake == "third-output":
             second, third = third, second
         self.mix_hash(second)
@@ -171,7 +195,7 @@ class Party:
         if self.role == "responder" and self.mistake != "es-se":
             own, theirs = theirs, own
         answer = private_key(self.role, own).exchange(X25519PublicKey.from_public_bytes(self.remote[theirs]))
-        self.mix_key(answer)
+        self.mix_key(answer[::-1] if self.mistake == "dh-reversed" else answer)
 
     def mix_ephemeral(self, public: bytes) -> None:
         """The token e, and its key where the pattern has a psk (9.2)."""
@@ -180,7 +204,8 @@ class Party:
             self.mix_key(public)
 
     def begin(self, length: int) -> None:
-        """What the mistake with the hashed length does before a message."""
+        """A message begins; what the mistake with the hashed length does before it."""
+        self.passed, self.step = self.passed + 1, 0
         if self.mistake == "length-hashed":
             self.mix_hash(length.to_bytes(2, "big"))
 
@@ -198,39 +223,43 @@ class Party:
         before, message = self.hash, b""
         self.begin(self.length_of(tokens, payload))
         for token in tokens.split():
+            piece = b""
             if token == "e":
-                message += public_key(self.role, "e")
-                self.mix_ephemeral(public_key(self.role, "e"))
+                piece = public_key(self.role, "e")
+                self.mix_ephemeral(piece)
             elif token == "s":
-                message += self.encrypt(public_key(self.role, "s"), self.hash)
+                piece = self.encrypt(public_key(self.role, "s"), self.hash)
             elif token == "psk":
                 self.mix_key_and_hash(PSK)
             else:
                 self.agree(token)
-            self.write_log(token)
-        message += self.encrypt(payload, before if self.mistake == "old-hash" else self.hash)
-        self.write_log("payload")
-        return message
+            message += piece
+            self.write_log(token, piece)
+        piece = self.encrypt(payload, before if self.mistake == "old-hash" else self.hash)
+        self.write_log("payload", piece)
+        return message + piece
 
     def read(self, tokens: str, message: bytes) -> bytes:
         """ReadMessage (5.3)."""
         self.begin(len(message))
         rest = message
         for number, token in enumerate(tokens.split()):
+            piece = b""
             if token == "e":
-                self.remote["e"], rest = rest[:32], rest[32:]
-                self.mix_ephemeral(self.remote["e"])
+                piece = rest[:32]
+                self.remote["e"] = piece
+                self.mix_ephemeral(piece)
             elif token == "s":
-                width = 48 if self.key else 32
-                self.remote["s"] = self.decrypt(rest[:width], number)
-                rest = rest[width:]
+                piece = rest[: 48 if self.key else 32]
+                self.remote["s"] = self.decrypt(piece, number)
             elif token == "psk":
                 self.mix_key_and_hash(PSK)
             else:
                 self.agree(token)
-            self.write_log(token)
+            rest = rest[len(piece) :]
+            self.write_log(token, piece)
         payload = self.decrypt(rest, len(tokens.split()))
-        self.write_log("payload")
+        self.write_log("payload", rest)
         return payload
 
     def keys(self) -> list[bytes]:
@@ -253,12 +282,12 @@ def frame_of(message: bytes, mistake: str = "") -> str:
 class Run:
     """A session between the party with a mistake and the right one: the events of the file and the lines that it expects."""
 
-    def __init__(self, name: str, is_right: bool = False) -> None:
+    def __init__(self, name: str) -> None:
         self.name, self.mistake = name, MISTAKES[name]
         self.events: list[str] = []
         self.expected: list[str] = []
         self.messages = PATTERNS[self.mistake.pattern]
-        self.parties = {it: Party(it, self.mistake.pattern, name if it == self.mistake.wrong and not is_right else "") for it in ROLES}
+        self.parties = {it: Party(it, self.mistake.pattern, name if it == self.mistake.wrong else "") for it in ROLES}
         self.wrong, self.passed, self.has_ended = self.mistake.wrong, 0, False
         self.right = self.parties[self.wrong].other
         self.written = 0
@@ -351,6 +380,28 @@ class Run:
         return lines + expected
 
 
+def logged(name: str, role: str, is_right: bool = False) -> list[str]:
+    """The log of a party of this role, with this mistake or without it, in a handshake with a right party that goes on up to a refusal."""
+    pattern = (MISTAKES | LOGGED)[name].pattern
+    parties = {it: Party(it, pattern, name if it == role and not is_right else "") for it in ROLES}
+    for number, tokens in enumerate(PATTERNS[pattern]):
+        try:
+            parties[ROLES[1 - number % 2]].read(tokens, parties[ROLES[number % 2]].write(tokens, PAYLOAD))
+        except RefusedError:
+            break
+    return parties[role].log
+
+
+def says(name: str) -> list[str]:
+    """The lines of a vector file with the same keys and payloads, in which each message is said."""
+    pattern = (MISTAKES | LOGGED)[name].pattern
+    lines = ["vector 1", f"protocol Noise_{pattern}_25519_ChaChaPoly_SHA256", "prologue -", "interval 0"]
+    lines += [f"psk {PSK.hex()}"] * ("psk" in pattern)
+    for role in ROLES:
+        lines += party_lines(role)
+    return lines + [f"say {ROLES[number % 2]} {PAYLOAD.hex()} -" for number in range(len(PATTERNS[pattern]))]
+
+
 def party_lines(role: str) -> list[str]:
     """The public keys of a party, and its DH answers."""
     other = ROLES[1 - ROLES.index(role)]
@@ -365,13 +416,15 @@ def party_lines(role: str) -> list[str]:
 
 def main(words: list[str]) -> int:
     """The command."""
-    if len(words) == 2 and words[0] in ("--log", "--right") and words[1] in MISTAKES:
-        run = Run(words[1], words[0] == "--right")
-        run.handshake()
-        print("\n".join(run.parties[run.wrong].log))
+    known = len(words) > 1 and words[1] in MISTAKES | LOGGED
+    if known and len(words) == 3 and words[0] in ("--log", "--right") and words[2] in ROLES:
+        print("\n".join(logged(words[1], words[2], words[0] == "--right")))
+        return 0
+    if known and len(words) == 2 and words[0] == "--says":
+        print("\n".join(says(words[1])))
         return 0
     if len(words) != 1 or words[0].startswith("-"):
-        print("usage: make.py FOLDER | --log NAME | --right NAME", file=sys.stderr)
+        print("usage: make.py FOLDER | --log NAME ROLE | --right NAME ROLE | --says NAME", file=sys.stderr)
         return 2
     folder = pathlib.Path(words[0])
     folder.mkdir(parents=True, exist_ok=True)

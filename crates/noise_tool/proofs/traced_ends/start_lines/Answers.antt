@@ -18,10 +18,12 @@ returns c = λ set_up.
     c.known_before-of_initiator.ensures ∙ ap (λ (z : Plan). known_before z Initiator (public_of file.initiator)) c.pattern.ensures.same in
     let text : c.deref.result.now ≡ file.prologue.items = search rules in
     let text-2 : c.deref-2.result.now ≡ file.prologue.items = search rules in
+    let head = rw c.new-lines.ensures.items at c.in_ok-push_heading.ensures in
     let first = c.in_ok-push_start.ensures (length file.psks.items)
     (ap (λ (r : Remote). setup_fault plan Initiator (public_of file.initiator) r (length file.psks.items)) known ∙ set_up Initiator) in
     let second = c.in_ok-push_start-2.ensures (length file.psks.items)
     (ap (λ (r : Remote). setup_fault plan Responder (public_of file.responder) r (length file.psks.items)) known-2 ∙ set_up Responder) in
     second ∙ ap₂ (λ (s t : List (List ℕ)). s ++ t)
-    ((rw c.new-lines.ensures.items at first) ∙ ap₂ (λ (t : List ℕ) (r : Remote). start_lines_of c.args.kept Initiator plan t file.initiator r) text known)
+    (first ∙ ap₂ (λ (s t : List (List ℕ)). s ++ t) head
+    (ap₂ (λ (t : List ℕ) (r : Remote). start_lines_of c.args.kept Initiator plan t file.initiator r) text known))
     (ap₂ (λ (t : List ℕ) (r : Remote). start_lines_of c.args.kept Responder plan t file.responder r) text-2 known-2)

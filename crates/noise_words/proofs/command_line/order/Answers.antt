@@ -11,7 +11,9 @@ returns-in-Some-2 c =
     let m = c.args.matches.now in
     let rows : List Row = rows_of (found_of c.in-Some.found.now) in
     let other : c.in-Some.name.now ≢ codes "test" = search rules in
-    ap (option_map words_of) (sym c.in-Some-2.is) ∙ c.in_ok-command.ensures other
+    let explain : c.in-Some.name.now ≢ codes "explain" = search rules in
+    let compare : c.in-Some.name.now ≢ codes "compare" = search rules in
+    ap (option_map words_of) (sym c.in-Some-2.is) ∙ c.in_ok-command.ensures other explain compare
     ∙ sym (stated_in-found (subcommand_rows_of m) c.in-Some.name.now rows (c.in-Some.ensures.name ∙ subcommand_name_of-rows m) c.in-Some.ensures.rows)
 
 pub returns-in-None : goal.returns-in-None
@@ -19,5 +21,7 @@ returns-in-None c =
     let m = c.args.matches.now in
     let rows : List Row = rows_of (found_of c.in-Some.found.now) in
     let other : c.in-Some.name.now ≢ codes "test" = search rules in
-    ap (option_map words_of) (sym c.in-None.is) ∙ c.in_ok-command.ensures other
+    let explain : c.in-Some.name.now ≢ codes "explain" = search rules in
+    let compare : c.in-Some.name.now ≢ codes "compare" = search rules in
+    ap (option_map words_of) (sym c.in-None.is) ∙ c.in_ok-command.ensures other explain compare
     ∙ sym (stated_in-found (subcommand_rows_of m) c.in-Some.name.now rows (c.in-Some.ensures.name ∙ subcommand_name_of-rows m) c.in-Some.ensures.rows)

@@ -1,0 +1,10 @@
+use Rattle.std.proofs.Common.{◌≡◌, ◌++◌, ℕ, List, append_assoc}
+use Rattle.noise_compare.proofs.report.push_values.Goals as goal
+
+joined : (a b c d e f v w x y z : List ℕ) → b ≡ a ++ v → c ≡ b ++ w → d ≡ c ++ x → e ≡ d ++ y → f ≡ e ++ z
+    → f ≡ a ++ (v ++ (w ++ (x ++ (y ++ z))))
+joined a b c d e f v w x y z first second third fourth fifth = rw (fifth, fourth, third, second, first) (simp append_assoc)
+
+pub returns : goal.returns
+returns c = joined _ _ _ _ _ _ _ _ _ _ _ c.in_ok-push_value.ensures c.in_ok-push_value-2.ensures c.in_ok-push_value-3.ensures
+    c.in_ok-push_value-4.ensures c.in_ok-push_value-5.ensures

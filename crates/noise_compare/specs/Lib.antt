@@ -1,0 +1,5 @@
+pub mod Differences
+pub mod Findings
+pub mod Lines
+pub mod Reading
+pub mod Report

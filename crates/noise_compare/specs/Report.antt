@@ -1,0 +1,49 @@
+-- What is printed of a log.
+use Rattle.std.specs.Prelude.{ℕ, Bool, List, [], ◌∷◌, ◌++◌, Option, Some, None, codes, decimal, if◌then◌else◌, nat_lt, slice_get, unwrap_or}
+use Rattle.noise_compare.specs.Lines.{is_same_word, word_at, words_in}
+use Rattle.noise_compare.specs.declared.line.Line.{Line}
+
+abbrev pub ended : List ℕ → List ℕ
+ended text = text ++ 10 ∷ []
+
+-- a message by its number, and any other part by its name
+unfoldable pub is_number : List ℕ → Bool
+is_number part = nat_lt (unwrap_or (slice_get part 0) 97) 58
+
+abbrev pub part_text : List ℕ → List ℕ
+part_text part = if is_number part then codes "message " ++ part else part
+
+-- the role, the part and the name of a line
+abbrev pub place_text : Line → List ℕ
+place_text line = word_at (words_in line) 1
+    ++ (codes ", " ++ (part_text (word_at (words_in line) 2) ++ (codes ", " ++ word_at (words_in line) 4)))
+
+-- two lines with a value that differs: the right one, and that of the log
+unfoldable pub value_text : List ℕ → ℕ → Line → Line → List ℕ
+value_text name i logged right = if is_same_word logged right i then [] else
+    ended (codes "right " ++ (name ++ 32 ∷ word_at (words_in right) i))
+    ++ ended (codes "yours " ++ (name ++ 32 ∷ word_at (words_in logged) i))
+
+-- those of each value that differs
+abbrev pub values_text : Line → Line → List ℕ
+values_text logged right = value_text (codes "bytes") 7 logged right
+    ++ (value_text (codes "hash") 8 logged right
+    ++ (value_text (codes "chaining-key") 9 logged right
+    ++ (value_text (codes "key") 10 logged right ++ value_text (codes "nonce") 11 logged right)))
+
+abbrev pub answer_text : Line → Option Line → List ℕ
+answer_text logged None = []
+answer_text logged (Some right) = values_text logged right
+
+-- the line of the log, the values that differ, and a line of advice
+unfoldable pub difference_text : Line → Option Line → List ℕ → List ℕ
+difference_text logged answer advice =
+    ended (codes "differs at line " ++ (decimal logged.number ++ (codes ": " ++ place_text logged)))
+    ++ (answer_text logged answer ++ ended advice)
+
+unfoldable pub agreement_text : ℕ → List ℕ
+agreement_text count = codes "agrees in " ++ (decimal count ++ ended (codes " lines"))
+
+-- the step before which the log ends
+unfoldable pub ending_text : Line → List ℕ → List ℕ
+ending_text next advice = ended (codes "ends before " ++ place_text next) ++ ended advice

@@ -1,0 +1,85 @@
+//! Comparing a log with a key schedule.
+
+ghost use Rattle.std.specs.Prelude.{◌≡◌, ◌<◌, true, List, IfOk, length, option_copied};
+ghost use Rattle.noise_compare.specs.Differences.{IsFirstDifference, agrees};
+ghost use Rattle.noise_compare.specs.Findings.{IsReport, step_after};
+ghost use Rattle.noise_compare.specs.declared.line.Line.{Line as Logged};
+
+use crate::difference::{Difference, first_difference, next_step};
+use crate::line::Line;
+use crate::report::{agreement_text, difference_text, ending_text};
+use crate::sentences::{advice, ending_advice};
+use std::alloc::{AllocError, Global};
+
+/// What comes of a log that is compared.
+#[derive(Clone, Copy, PartialEq, Eq)]
+pub enum Finding {
+    /// Each of its lines agrees.
+    Agrees,
+    /// Each of its lines agrees, and the key schedule of its last line's party has a further step of the handshake.
+    Ends,
+    /// A line doesn't agree.
+    Differs,
+}
+
+/// What comes of a log, and the lines that are printed of it.
+#[derive(Drop)]
+pub struct LogReport {
+    pub finding: Finding,
+    pub text: Vec<u8>,
+}
+
+/// Compares the lines of a log with those of a key schedule.
+pub fn compare_lines(
+    alloc: Global,
+    log: &[Line<'_>],
+    right: &[Line<'_>],
+) -> Result<LogReport, AllocError>
+    ensures { IfOk result (λ report. IsReport right.now log.now report.finding report.text.items) }
+{
+    match first_difference(log, right) {
+        Some(found) => differing(alloc, log, found),
+        None => agreeing(alloc, log, right),
+    }
+}
+
+// The report on a log whose first difference this is.
+fn differing(
+    alloc: Global,
+    log: &[Line<'_>],
+    found: Difference<'_, '_>,
+) -> Result<LogReport, AllocError>
+    requires { found.index < length log.now }
+    ensures { (right : List Logged) → IsFirstDifference right log.now found.entry.index (option_copied found.entry.right)
+        → IfOk result (λ report. IsReport right log.now report.finding report.text.items) }
+{
+    let line = &log[found.index];
+    Ok(LogReport {
+        finding: Finding::Differs,
+        text: difference_text(alloc, line, found.right, advice(line, found.right))?,
+    })
+}
+
+// The report on a log whose lines agree.
+fn agreeing(alloc: Global, log: &[Line<'_>], right: &[Line<'_>]) -> Result<LogReport, AllocError>
+    requires { agrees right.now log.now ≡ true }
+    ensures { IfOk result (λ report. IsReport right.now log.now report.finding report.text.items) }
+{
+    match step_after(log, right) {
+        Some(next) => Ok(LogReport {
+            finding: Finding::Ends,
+            text: ending_text(alloc, next, ending_advice(next))?,
+        }),
+        None => Ok(LogReport {
+            finding: Finding::Agrees,
+            text: agreement_text(alloc, log.len())?,
+        }),
+    }
+}
+
+// The next right line of the handshake after the one that answers the last of a log.
+fn step_after<'a, 'b>(log: &[Line<'_>], right: &'a [Line<'b>]) -> Option<&'a Line<'b>>
+    ensures { option_copied result ≡ step_after right.now log.now }
+{
+    next_step(right, log.last()?)
+}

@@ -1,0 +1,139 @@
+//! What is printed of a log.
+
+ghost use Rattle.std.specs.Prelude.{◌≡◌, ◌++◌, ◌∷◌, [], IfOk, OnOk, codes, decimal, option_copied};
+ghost use Rattle.noise_compare.specs.Report.{agreement_text, answer_text, difference_text, ended, ending_text, is_number, part_text, place_text};
+ghost use Rattle.noise_compare.specs.Report.{value_text, values_text};
+
+use crate::line::Line;
+use std::alloc::{AllocError, Global};
+
+/// That all lines of a log agree, so many.
+#[tactic(auto, unfolding(crate::specs::Report::agreement_text))]
+pub fn agreement_text(alloc: Global, count: usize) -> Result<Vec<u8>, AllocError>
+    ensures { IfOk result (λ text. text.items ≡ agreement_text count) }
+{
+    let line = format!(in alloc; "agrees in {count} lines\n")?;
+    Vec::from_slice(alloc, line.as_bytes())
+}
+
+/// That a log ends before this step, and a line of advice.
+#[tactic(auto, unfolding(crate::specs::Report::ending_text))]
+pub fn ending_text(alloc: Global, next: &Line<'_>, advice: &str) -> Result<Vec<u8>, AllocError>
+    ensures { IfOk result (λ text. text.items ≡ ending_text next.now advice.now) }
+{
+    let mut text = Vec::from_slice(alloc, b"ends before ".as_slice())?;
+    push_place(next, &mut text)?;
+    text.push(b'\n')?;
+    push_line(advice, &mut text)?;
+    Ok(text)
+}
+
+/// The line of a log that differs, each value that does, right and logged, and a line of advice.
+#[tactic(auto, unfolding(crate::specs::Report::difference_text))]
+pub fn difference_text(
+    alloc: Global,
+    logged: &Line<'_>,
+    right: Option<&Line<'_>>,
+    advice: &str,
+) -> Result<Vec<u8>, AllocError>
+    ensures { IfOk result (λ text. text.items ≡ difference_text logged.now (option_copied right.entry) advice.now) }
+{
+    let number = logged.number;
+    let front = format!(in alloc; "differs at line {number}: ")?;
+    let mut text = Vec::from_slice(alloc, front.as_bytes())?;
+    push_place(logged, &mut text)?;
+    text.push(b'\n')?;
+    push_answer(logged, right, &mut text)?;
+    push_line(advice, &mut text)?;
+    Ok(text)
+}
+
+fn push_line(line: &str, text: &mut Vec<u8>) -> Result<(), AllocError>
+    ensures { OnOk result (text.new.items ≡ text.old.items ++ ended line.now) }
+{
+    text.extend_from_slice(line.as_bytes())?;
+    text.push(b'\n')?;
+    Ok(())
+}
+
+fn push_place(line: &Line<'_>, text: &mut Vec<u8>) -> Result<(), AllocError>
+    ensures { OnOk result (text.new.items ≡ text.old.items ++ place_text line.now) }
+{
+    text.extend_from_slice(line.word(1))?;
+    text.extend_from_slice(b", ".as_slice())?;
+    push_part(line.word(2), text)?;
+    text.extend_from_slice(b", ".as_slice())?;
+    text.extend_from_slice(line.word(4))
+}
+
+fn push_part(part: &[u8], text: &mut Vec<u8>) -> Result<(), AllocError>
+    ensures { OnOk result (text.new.items ≡ text.old.items ++ part_text part.now) }
+{
+    if is_number(part) {
+        text.extend_from_slice(b"message ".as_slice())?;
+        return text.extend_from_slice(part);
+    }
+    text.extend_from_slice(part)
+}
+
+#[tactic(auto, unfolding(crate::specs::Report::is_number))]
+fn is_number(part: &[u8]) -> bool
+    ensures { result ≡ is_number part.now }
+{
+    match part.first() {
+        Some(byte) => *byte < b':',
+        None => false,
+    }
+}
+
+fn push_answer(
+    logged: &Line<'_>,
+    right: Option<&Line<'_>>,
+    text: &mut Vec<u8>,
+) -> Result<(), AllocError>
+    ensures { OnOk result (text.new.items ≡ text.old.items ++ answer_text logged.now (option_copied right.entry)) }
+{
+    match right {
+        Some(right) => push_values(logged, right, text),
+        None => Ok(()),
+    }
+}
+
+fn push_values(logged: &Line<'_>, right: &Line<'_>, text: &mut Vec<u8>) -> Result<(), AllocError>
+    ensures { OnOk result (text.new.items ≡ text.old.items ++ values_text logged.now right.now) }
+{
+    push_value("bytes", 7, logged, right, text)?;
+    push_value("hash", 8, logged, right, text)?;
+    push_value("chaining-key", 9, logged, right, text)?;
+    push_value("key", 10, logged, right, text)?;
+    push_value("nonce", 11, logged, right, text)?;
+    Ok(())
+}
+
+#[tactic(auto, unfolding(crate::specs::Report::value_text))]
+fn push_value(
+    name: &str,
+    place: usize,
+    logged: &Line<'_>,
+    right: &Line<'_>,
+    text: &mut Vec<u8>,
+) -> Result<(), AllocError>
+    ensures { OnOk result (text.new.items ≡ text.old.items ++ value_text name.now place logged.now right.now) }
+{
+    if right.is_same(logged, place) {
+        return Ok(());
+    }
+    push_named("right ", name, right.word(place), text)?;
+    push_named("yours ", name, logged.word(place), text)
+}
+
+fn push_named(front: &str, name: &str, value: &[u8], text: &mut Vec<u8>) -> Result<(), AllocError>
+    ensures { OnOk result (text.new.items ≡ text.old.items ++ ended (front.now ++ (name.now ++ 32 ∷ value.now))) }
+{
+    text.extend_from_slice(front.as_bytes())?;
+    text.extend_from_slice(name.as_bytes())?;
+    text.push(b' ')?;
+    text.extend_from_slice(value)?;
+    text.push(b'\n')?;
+    Ok(())
+}

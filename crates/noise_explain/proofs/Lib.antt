@@ -1,0 +1,3 @@
+pub mod ExplainedLemmas
+pub mod PlaceLemmas
+pub mod RuleLemmas

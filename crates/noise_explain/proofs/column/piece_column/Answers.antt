@@ -1,0 +1,5 @@
+use Rattle.noise_explain.proofs.PlaceLemmas.{piece-more, piece-shorter, piece-wrong}
+use Rattle.noise_explain.proofs.column.piece_column.Goals as goal
+
+pub loop-after-preserved : goal.loop-after-preserved
+loop-after-preserved c = piece-more c.args.list.now c.loop-after.left.now c.in-Some.after.now c.loop-after.invariant c.in-Some.ensures.some

@@ -1,0 +1,7 @@
+use Rattle.std.proofs.Common.{◌≡◌, ◌++◌, take}
+use Rattle.noise_explain.specs.Shown.{shown}
+use Rattle.noise_explain.proofs.showing.push_shown.Given as goal
+
+-- the bytes so far are shown
+abbrev pub invariant-loop-byte : goal.invariant-loop-byte
+invariant-loop-byte l = l.text.items ≡ l.initial.text.items ++ shown (take l.byte-index l.bytes)

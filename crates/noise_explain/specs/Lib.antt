@@ -1,0 +1,4 @@
+pub mod Explained
+pub mod Places
+pub mod RulePlaces
+pub mod Shown

@@ -1,0 +1,160 @@
+//! What is said of a text.
+
+ghost use Rattle.std.specs.Prelude.{◌≡◌, ◌≤◌, IfOk};
+ghost use Rattle.noise_lines.specs.Output.{IsCheckFault};
+ghost use Rattle.noise_lines.specs.declared.faults.Fault.TheVariants.{Rule, Text};
+ghost use Rattle.noise_names.specs.Text.{Spells};
+ghost use Rattle.noise_explain.specs.Explained.{Begins, IsExplained, SaysLong, SaysWrong};
+ghost use Rattle.noise_explain.specs.Shown.{right_head};
+
+use crate::advice::Advice;
+use crate::column::column_of;
+use crate::facts::fact_lines;
+use crate::place::{Place, line_at};
+use crate::rule_place::rule_place;
+use crate::rule_sentences::rule_sentences;
+use crate::showing::{push_caret, push_sentence, right_head, unread_head, wrong_head};
+use crate::text_advice::text_advice;
+use noise_lines::Fault;
+use noise_names::{Pattern, RuleFault, TextFault, ValidPattern};
+use std::alloc::{AllocError, Global};
+
+/// What is said of a text.
+#[derive(Drop)]
+pub struct Explained {
+    /// Lines of ASCII, each with a line feed.
+    pub text: Vec<u8>,
+    /// 0 for a right text, 1 for a pattern that breaks a rule of validity, 2 for a wrong text.
+    pub status: u8,
+}
+
+/// Explains a pattern text, from the file of this name: a valid pattern by its messages and what follows from its tokens; else the fault that `check`
+/// reports, with its line and its column, and what would mend it.
+pub fn explain(alloc: Global, name: &str, text: &[u8]) -> Result<Explained, AllocError>
+    ensures explained { IfOk result (IsExplained name.now text.now) }
+    ensures bound { IfOk result (λ e. e.status ≤ 2) }
+{
+    match Pattern::parse_text(text) {
+        Ok(pattern) => explain_spelled(alloc, name, text, pattern),
+        Err(fault) => explain_text(alloc, name, text, fault),
+    }
+}
+
+// Explains the text of this pattern.
+fn explain_spelled(
+    alloc: Global,
+    name: &str,
+    text: &[u8],
+    pattern: Pattern,
+) -> Result<Explained, AllocError>
+    requires { Spells text.now pattern }
+    ensures explained { IfOk result (IsExplained name.now text.now) }
+    ensures bound { IfOk result (λ e. e.status ≤ 2) }
+{
+    let same = pattern.clone()?;
+    match pattern.check() {
+        Ok(valid) => explain_valid(alloc, name, &valid),
+        Err(fault) => explain_rule(alloc, name, text, &same, fault),
+    }
+}
+
+/// Says of the file of this name that it has too many bytes.
+pub fn explain_long(alloc: Global, name: &str) -> Result<Explained, AllocError>
+    ensures explained { IfOk result (SaysLong name.now) }
+    ensures bound { IfOk result (λ e. e.status ≤ 2) }
+{
+    let fault = Fault::TooLong;
+    let mut text = unread_head(alloc, name, fault)?;
+    text.extend_from_slice(&advice_lines(alloc, Advice::TooLong)?)?;
+    Ok(Explained {
+        text,
+        status: fault.status(),
+    })
+}
+
+// Explains a valid pattern.
+pub(crate) fn explain_valid(
+    alloc: Global,
+    name: &str,
+    pattern: &ValidPattern,
+) -> Result<Explained, AllocError>
+    ensures status { IfOk result (λ e. e.status ≡ 0) }
+    ensures begins { IfOk result (Begins (right_head name.now pattern.now)) }
+{
+    let mut text = right_head(alloc, name, pattern.pattern())?;
+    text.extend_from_slice(&fact_lines(alloc, pattern)?)?;
+    Ok(Explained { text, status: 0 })
+}
+
+// Explains a wrong text.
+fn explain_text(
+    alloc: Global,
+    name: &str,
+    text: &[u8],
+    fault: TextFault,
+) -> Result<Explained, AllocError>
+    requires { IsCheckFault text.now (Text fault) }
+    ensures said { IfOk result (SaysWrong name.now text.now) }
+    ensures bound { IfOk result (λ e. e.status ≤ 2) }
+{
+    let line = line_at(text, fault.line);
+    let place = Place {
+        line: fault.line,
+        column: column_of(fault.kind, fault.line, line),
+    };
+    let mut told = wrong_head(alloc, name, place, Fault::Text(fault))?;
+    told.extend_from_slice(&caret_lines(alloc, line, place.column)?)?;
+    told.extend_from_slice(&advice_lines(alloc, text_advice(text, fault, place.column))?)?;
+    Ok(Explained {
+        text: told,
+        status: 2,
+    })
+}
+
+// Explains a pattern that breaks a rule.
+fn explain_rule(
+    alloc: Global,
+    name: &str,
+    text: &[u8],
+    pattern: &Pattern,
+    fault: RuleFault,
+) -> Result<Explained, AllocError>
+    requires spells { Spells text.now pattern.now }
+    requires fault { IsCheckFault text.now (Rule fault) }
+    ensures said { IfOk result (SaysWrong name.now text.now) }
+    ensures bound { IfOk result (λ e. e.status ≤ 2) }
+{
+    let place = rule_place(pattern, fault);
+    let mut told = wrong_head(alloc, name, place, Fault::Rule(fault))?;
+    told.extend_from_slice(&caret_lines(alloc, line_at(text, place.line), place.column)?)?;
+    told.extend_from_slice(&rule_lines(alloc, pattern, fault)?)?;
+    Ok(Explained {
+        text: told,
+        status: 1,
+    })
+}
+
+// A line, and a caret below this column.
+fn caret_lines(alloc: Global, line: &[u8], column: usize) -> Result<Vec<u8>, AllocError> {
+    let mut text = Vec::new(alloc);
+    push_caret(line, column, &mut text)?;
+    Ok(text)
+}
+
+// What is wrong with a text, and what mends it.
+fn advice_lines(alloc: Global, advice: Advice) -> Result<Vec<u8>, AllocError> {
+    let mut text = Vec::new(alloc);
+    push_sentence(advice.says(), &mut text)?;
+    push_sentence(advice.mends(), &mut text)?;
+    Ok(text)
+}
+
+// Which rule is broken where, what is wrong there, and what mends it.
+fn rule_lines(alloc: Global, pattern: &Pattern, fault: RuleFault) -> Result<Vec<u8>, AllocError> {
+    let sentences = rule_sentences(alloc, pattern, fault)?;
+    let mut text = Vec::new(alloc);
+    push_sentence(sentences.place.as_str(), &mut text)?;
+    push_sentence(sentences.says.as_str(), &mut text)?;
+    push_sentence(sentences.mends.as_str(), &mut text)?;
+    Ok(text)
+}

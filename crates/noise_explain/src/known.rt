@@ -1,0 +1,100 @@
+//! Which keys and DHs of a pattern stand where.
+
+use noise_names::{Message, Pattern, Role, Token};
+
+// A place among the tokens: a message, from 1, and how many of its tokens stand before.
+#[derive(Clone, Copy)]
+pub(crate) struct Spot {
+    pub message: usize,
+    pub token: usize,
+}
+
+impl Spot {
+    // Whether what ends at this place stands before the other one.
+    pub fn is_before(self, other: Spot) -> bool {
+        self.message < other.message || (self.message == other.message && self.token <= other.token)
+    }
+}
+
+// Who sends the message of this number.
+pub(crate) fn sender_of(message: usize) -> Role {
+    if message % 2 == 0 {
+        Role::Responder
+    } else {
+        Role::Initiator
+    }
+}
+
+pub(crate) fn role_name(role: Role) -> &'static str {
+    match role {
+        Role::Initiator => "initiator",
+        Role::Responder => "responder",
+    }
+}
+
+// The initiator's key of a DH, and the responder's. Other tokens have none.
+pub(crate) fn keys_of(dh: Token) -> (Token, Token) {
+    match dh {
+        Token::Es => (Token::E, Token::S),
+        Token::Se => (Token::S, Token::E),
+        Token::Ss => (Token::S, Token::S),
+        _ => (Token::E, Token::E),
+    }
+}
+
+// The token at a place, if one stands there.
+pub(crate) fn token_at(messages: &[Message], spot: Spot) -> Option<Token> {
+    let message = messages.get(spot.message.saturating_sub(1))?;
+    message.tokens().get(spot.token).copied()
+}
+
+// Where a party's key is known from: the place after its token, or the first one where it is known before.
+pub(crate) fn key_spot(pattern: &Pattern, role: Role, key: Token) -> Option<Spot> {
+    if pattern.pre(role).contains(&key) {
+        return Some(Spot {
+            message: 1,
+            token: 0,
+        });
+    }
+    let mut message: usize = 0;
+    for tokens in pattern.messages() {
+        message = message.saturating_add(1);
+        if sender_of(message) != role {
+            continue;
+        }
+        if let Some(at) = position(tokens.tokens(), key) {
+            return Some(Spot {
+                message,
+                token: at.saturating_add(1),
+            });
+        }
+    }
+    None
+}
+
+// Where a DH or a psk is mixed first: the place after its token.
+pub(crate) fn mixed_spot(pattern: &Pattern, token: Token) -> Option<Spot> {
+    let mut message: usize = 0;
+    for tokens in pattern.messages() {
+        message = message.saturating_add(1);
+        if let Some(at) = position(tokens.tokens(), token) {
+            return Some(Spot {
+                message,
+                token: at.saturating_add(1),
+            });
+        }
+    }
+    None
+}
+
+fn position(tokens: &[Token], wanted: Token) -> Option<usize> {
+    tokens.iter().position(|t| *t == wanted)
+}
+
+// Whether it stands before this place.
+pub(crate) fn is_by(found: Option<Spot>, spot: Spot) -> bool {
+    match found {
+        Some(found) => found.is_before(spot),
+        None => false,
+    }
+}

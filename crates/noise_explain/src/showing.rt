@@ -1,0 +1,149 @@
+//! The first line of an explanation, and a line of the text with a caret below it.
+
+ghost use Rattle.std.specs.Prelude.{◌≡◌, ◌++◌, IfOk, OnOk, decimal};
+ghost use Rattle.noise_lines.specs.PrintedWords.{is_printed_byte};
+ghost use Rattle.noise_names.specs.Names.{section_bytes};
+ghost use Rattle.noise_explain.specs.Shown.{right_head, shown, shown_byte, unread_head, wrong_head};
+
+use crate::place::Place;
+use noise_lines::{Fault, fault_line};
+use noise_names::Pattern;
+use noise_vectors::hex_word;
+use std::alloc::{AllocError, Global};
+
+// The first line of what is said of a wrong text.
+pub(crate) fn wrong_head(
+    alloc: Global,
+    name: &str,
+    place: Place,
+    fault: Fault,
+) -> Result<Vec<u8>, AllocError>
+    ensures { IfOk result (λ text. text.items ≡ wrong_head name.now place fault) }
+{
+    let mut text = Vec::new(alloc);
+    push_shown(name.as_bytes(), &mut text)?;
+    text.push(b':')?;
+    push_number(alloc, place.line, &mut text)?;
+    text.push(b':')?;
+    push_number(alloc, place.column, &mut text)?;
+    text.extend_from_slice(b": ".as_slice())?;
+    text.extend_from_slice(&fault_line(alloc, fault)?.into_bytes())?;
+    text.push(b'\n')?;
+    Ok(text)
+}
+
+// The first line of what is said of a right pattern text.
+pub(crate) fn right_head(
+    alloc: Global,
+    name: &str,
+    pattern: &Pattern,
+) -> Result<Vec<u8>, AllocError>
+    ensures { IfOk result (λ text. text.items ≡ right_head name.now pattern.now) }
+{
+    let mut text = Vec::new(alloc);
+    push_shown(name.as_bytes(), &mut text)?;
+    text.extend_from_slice(b": valid ".as_slice())?;
+    push_section(pattern, &mut text)?;
+    text.push(b'\n')?;
+    Ok(text)
+}
+
+// The first line of what is said of a file that isn't read.
+pub(crate) fn unread_head(alloc: Global, name: &str, fault: Fault) -> Result<Vec<u8>, AllocError>
+    ensures { IfOk result (λ text. text.items ≡ unread_head name.now fault) }
+{
+    let mut text = Vec::new(alloc);
+    push_shown(name.as_bytes(), &mut text)?;
+    text.extend_from_slice(b": ".as_slice())?;
+    text.extend_from_slice(&fault_line(alloc, fault)?.into_bytes())?;
+    text.push(b'\n')?;
+    Ok(text)
+}
+
+// Appends the pattern section: what is between `Noise_` and `_25519_ChaChaPoly_SHA256` in the pattern's name.
+fn push_section(pattern: &Pattern, text: &mut Vec<u8>) -> Result<(), AllocError>
+    ensures { OnOk result (text.new.items ≡ text.old.items ++ section_bytes pattern.now.base pattern.now.places) }
+{
+    let name = pattern.name().write();
+    text.extend_from_slice(&name[6..name.len() - 24])
+}
+
+fn push_number(alloc: Global, number: usize, text: &mut Vec<u8>) -> Result<(), AllocError>
+    ensures { OnOk result (text.new.items ≡ text.old.items ++ decimal number) }
+{
+    let digits = format!(in alloc; "{number}")?;
+    text.extend_from_slice(digits.as_bytes())
+}
+
+// Appends these bytes as they are shown.
+fn push_shown(bytes: &[u8], text: &mut Vec<u8>) -> Result<(), AllocError>
+    ensures { OnOk result (text.new.items ≡ text.old.items ++ shown bytes.now) }
+{
+    for byte in bytes {
+        push_byte(*byte, text)?;
+    }
+    Ok(())
+}
+
+// Appends a byte that is printed, and any other as `\x` and two hex digits.
+fn push_byte(byte: u8, text: &mut Vec<u8>) -> Result<(), AllocError>
+    ensures { OnOk result (text.new.items ≡ text.old.items ++ shown_byte byte) }
+{
+    if is_printed(byte) {
+        text.push(byte)?;
+        return Ok(());
+    }
+    text.extend_from_slice(b"\\x".as_slice())?;
+    hex_word(&[byte], text)
+}
+
+fn is_printed(byte: u8) -> bool
+    ensures { result ≡ is_printed_byte byte }
+{
+    32 <= byte && byte <= 126
+}
+
+// How much of a line is shown before and after a column.
+const SHOWN: usize = 64;
+
+// Appends a line, or the part of a long one round this column, and a caret below the column.
+pub(crate) fn push_caret(line: &[u8], column: usize, text: &mut Vec<u8>) -> Result<(), AllocError> {
+    let (before, after) = line.split_at(column.saturating_sub(1).min(line.len()));
+    let start = text.len();
+    push_end(before, text)?;
+    let end = text.len();
+    push_start(after, text)?;
+    text.push(b'\n')?;
+    for _ in start..end {
+        text.push(b' ')?;
+    }
+    text.extend_from_slice(b"^\n".as_slice())
+}
+
+// Appends two spaces and the last bytes.
+fn push_end(bytes: &[u8], text: &mut Vec<u8>) -> Result<(), AllocError> {
+    text.extend_from_slice(b"  ".as_slice())?;
+    let (left_out, last) = bytes.split_at(bytes.len().saturating_sub(SHOWN));
+    if !left_out.is_empty() {
+        text.extend_from_slice(b"[..]".as_slice())?;
+    }
+    push_shown(last, text)
+}
+
+// Appends the first bytes.
+fn push_start(bytes: &[u8], text: &mut Vec<u8>) -> Result<(), AllocError> {
+    let (first, left_out) = bytes.split_at(bytes.len().min(SHOWN));
+    push_shown(first, text)?;
+    if left_out.is_empty() {
+        return Ok(());
+    }
+    text.extend_from_slice(b"[..]".as_slice())
+}
+
+// Appends a line of two spaces and a sentence.
+pub(crate) fn push_sentence(sentence: &str, text: &mut Vec<u8>) -> Result<(), AllocError> {
+    text.extend_from_slice(b"  ".as_slice())?;
+    text.extend_from_slice(sentence.as_bytes())?;
+    text.push(b'\n')?;
+    Ok(())
+}

@@ -1,0 +1,151 @@
+//! Which sentences are said of a fault of a pattern text.
+
+use crate::advice::Advice;
+use crate::column::after_arrow;
+use crate::place::line_at;
+use noise_names::{TextFault, TextFaultKind};
+
+// What is wrong with the line of the fault, which has this column.
+pub(crate) fn text_advice(text: &[u8], fault: TextFault, column: usize) -> Advice {
+    let line = line_at(text, fault.line);
+    let (_, piece) = line.split_at(column.saturating_sub(1).min(line.len()));
+    match fault.kind {
+        TextFaultKind::Heading if text.is_empty() => Advice::Heading,
+        TextFaultKind::Heading => slip(line).unwrap_or(heading_advice(line, piece)),
+        TextFaultKind::Arrow => slip(line).unwrap_or(arrow_advice(line)),
+        TextFaultKind::Token => slip(line).unwrap_or(token_advice(piece)),
+        TextFaultKind::PreMessage if line == b"  ...".as_slice() => Advice::DotsAlone,
+        TextFaultKind::PreMessage => Advice::PreMessage,
+        TextFaultKind::Turn => turn_advice(text, fault.line),
+        TextFaultKind::PskPlace if fault.line == 1 => Advice::PskBeyond,
+        TextFaultKind::PskPlace => Advice::PskTokens,
+        TextFaultKind::NameTaken => Advice::NameTaken,
+        TextFaultKind::Limit => limit_advice(after_arrow(line)),
+        TextFaultKind::Ending if line.is_empty() => Advice::MessageMissing,
+        TextFaultKind::Ending => Advice::LineFeedMissing,
+    }
+}
+
+// What is wrong in characters that aren't seen.
+pub(crate) fn slip(line: &[u8]) -> Option<Advice> {
+    if line.starts_with(b"\xef\xbb\xbf".as_slice()) {
+        return Some(Advice::ByteOrderMark);
+    }
+    if line.contains(&b'\t') {
+        return Some(Advice::Tab);
+    }
+    match line.last().copied() {
+        None => Some(Advice::Empty),
+        Some(b'\r') => Some(Advice::CarriageReturn),
+        Some(b' ') => Some(Advice::SpaceAtEnd),
+        Some(_) => None,
+    }
+}
+
+// What is wrong with a first line, where the piece at its fault begins with these bytes.
+fn heading_advice(line: &[u8], piece: &[u8]) -> Advice {
+    if line.starts_with(b"  ".as_slice()) || has_arrow(line) {
+        return Advice::HeadingMissing;
+    }
+    let Some(first) = piece.first().copied() else {
+        return Advice::ColonMissing;
+    };
+    if piece.starts_with(b"psk".as_slice()) {
+        modifiers_advice(piece)
+    } else if first.is_ascii_digit() && line.len() == piece.len() {
+        Advice::NameFirst
+    } else if first.is_ascii_uppercase() || first.is_ascii_digit() {
+        Advice::NameLength
+    } else if first.is_ascii_lowercase() {
+        Advice::NameCase
+    } else {
+        Advice::Heading
+    }
+}
+
+fn modifiers_advice(piece: &[u8]) -> Advice {
+    if piece.contains(&b':') {
+        Advice::Modifiers
+    } else {
+        Advice::ColonMissing
+    }
+}
+
+fn has_arrow(line: &[u8]) -> bool {
+    line.starts_with(b"->".as_slice()) || line.starts_with(b"<-".as_slice())
+}
+
+// What is wrong with a line of no arrow.
+fn arrow_advice(line: &[u8]) -> Advice {
+    match without_spaces(line).first().copied() {
+        Some(b'.') => Advice::Dots,
+        Some(0xe2) => Advice::ArrowCharacter,
+        _ => Advice::Arrow,
+    }
+}
+
+fn without_spaces(line: &[u8]) -> &[u8] {
+    let count = line.iter().take_while(|b| **b == b' ').count();
+    let (_, words) = line.split_at(count);
+    words
+}
+
+// What is wrong with the piece of a list that begins so.
+fn token_advice(rest: &[u8]) -> Advice {
+    let len = rest.iter().take_while(|b| b.is_ascii_alphabetic()).count();
+    let (word, after) = rest.split_at(len);
+    if word.is_empty() {
+        return Advice::TokenMissing;
+    }
+    if word.iter().any(|b| b.is_ascii_uppercase()) {
+        return Advice::TokenCase;
+    }
+    match after.first().copied() {
+        Some(b' ') => Advice::TokensJoined,
+        Some(b',') => Advice::TokensJoined,
+        _ => Advice::Token,
+    }
+}
+
+// Whether the line of keys that are known before was forgotten, or an arrow is wrong.
+fn turn_advice(text: &[u8], number: usize) -> Advice {
+    let first = line_at(text, 2);
+    let is_known = match number {
+        2 => is_keys(first),
+        3 => is_keys(first) && first.starts_with(b"  ->".as_slice()),
+        _ => false,
+    };
+    if is_known {
+        Advice::DotsMissing
+    } else {
+        Advice::Turn
+    }
+}
+
+// Whether a line has a static key alone, or both keys of a party.
+fn is_keys(line: &[u8]) -> bool {
+    let list = after_arrow(line);
+    list == b"s".as_slice() || list == b"e, s".as_slice()
+}
+
+// Which limit a list of tokens is beyond: it has none but psk, or more than 8 others; or its message is the ninth.
+fn limit_advice(list: &[u8]) -> Advice {
+    match own_count(list) {
+        0 => Advice::PskAlone,
+        1..=8 => Advice::NinthMessage,
+        _ => Advice::ManyTokens,
+    }
+}
+
+// How many tokens of a list aren't psk: each begins at the front or after a space.
+fn own_count(list: &[u8]) -> usize {
+    let mut count: usize = 0;
+    let mut before = b' ';
+    for byte in list {
+        if before == b' ' && *byte != b'p' {
+            count = count.saturating_add(1);
+        }
+        before = *byte;
+    }
+    count
+}

@@ -1,0 +1,132 @@
+-- What is said of files that are explained.
+use Rattle.std.proofs.Common.{◌≡◌, ◌∙◌, refl, sym, ap, subst, ◌⊎◌, inl, inr, arith, ◌≤◌, if◌then◌else◌, ℕ, Bool, true, false, nat_le, List, [], ◌∷◌, ◌++◌, Option, String, drop, string_bytes, take, append_assoc, append-nil}
+use Rattle.std.specs.Prelude.{map}
+use Rattle.std.specs.Global.{Global}
+use Rattle.std.specs.Io.KnownBytes.{Appends, Keeps}
+use Rattle.std.proofs.KnownBytes.{Appends-nil, Appends-trans}
+use Rattle.std.proofs.lemmas.List.{flat_map_more, map-append, map_push, take-append-drop}
+use Rattle.std.proofs.lemmas.List.Elements.{All-nil, All-push}
+use Rattle.std.proofs.lemmas.List.Sums.{fold-append}
+use Rattle.noise_explain.specs.declared.explaining.Explained.{Explained}
+use Rattle.noise_lines.specs.Faults.{status_of}
+use Rattle.noise_lines.specs.Prefixes.{AppendsPrefix}
+use Rattle.noise_lines.specs.Told.{LeavesOutput}
+use Rattle.noise_lines.specs.declared.faults.Fault.{Fault}
+use Rattle.noise_lines.specs.declared.faults.Fault.TheVariants as fault
+use Rattle.noise_tool.specs.Explaining.{AreSaid, ExplainsPrefix, HasExplained, IsExplainedFile, Said, said_text, worse}
+use Rattle.noise_tool.proofs.TestingLemmas.{after-prefix, kept-appends, whole-prefix}
+
+pub none-said : (bytes_at : List ℕ → Option (List ℕ)) (out : Option (List ℕ)) → HasExplained bytes_at [] out out 0
+none-said bytes_at out = record {
+  said = [];
+  are = record { named = refl; right = All-nil (λ (s : Said). IsExplainedFile (bytes_at s.name) s.name s.explained) };
+  printed = Appends-nil out;
+  status_is = refl;
+}
+
+-- it is said of one file more
+said-of : (bytes_at : List ℕ → Option (List ℕ)) (names : List (List ℕ)) (name : List ℕ) (said : List Said) (x : Explained) → AreSaid bytes_at names said
+    → IsExplainedFile (bytes_at name) name x → AreSaid bytes_at (names ++ name ∷ []) (said ++ record { name = name; explained = x } ∷ [])
+said-of bytes_at names name said x are right =
+    let this : Said = record { name = name; explained = x } in
+    record {
+      named = map_push (λ (s : Said). s.name) said this ∙ ap (λ (ns : List (List ℕ)). ns ++ name ∷ []) are.named;
+      right = All-push (λ (s : Said). IsExplainedFile (bytes_at s.name) s.name s.explained) said this are.right right;
+    }
+
+text-of : (said : List Said) (name : List ℕ) (x : Explained)
+    → said_text said ++ x.text.items ≡ said_text (said ++ record { name = name; explained = x } ∷ [])
+text-of said name x = flat_map_more (λ (s : Said). s.explained.text.items) [] said (record { name = name; explained = x })
+
+pub said-more : (bytes_at : List ℕ → Option (List ℕ)) (names all : List (List ℕ)) (name : List ℕ) (a m e : Option (List ℕ)) (status next : ℕ) (x : Explained)
+    (text : List ℕ) → all ≡ names ++ name ∷ [] → HasExplained bytes_at names a m status → IsExplainedFile (bytes_at name) name x → text ≡ x.text.items
+    → Appends m e text → next ≡ worse status x.status → HasExplained bytes_at all a e next
+said-more bytes_at names all name a m e status next x text all_is before right text_is written next_is =
+    let this : Said = record { name = name; explained = x } in
+    let printed : Appends a e (said_text before.said ++ text) = Appends-trans a m e (said_text before.said) text before.printed written in
+    subst (λ (ns : List (List ℕ)). HasExplained bytes_at ns a e next) (sym all_is) (record {
+      said = before.said ++ this ∷ [];
+      are = said-of bytes_at names name before.said x before.are right;
+      printed = subst (λ (t : List ℕ). Appends a e t) (ap (λ (t : List ℕ). said_text before.said ++ t) text_is ∙ text-of before.said name x) printed;
+      status_is = next_is ∙ ap (λ (n : ℕ). worse n x.status) before.status_is
+          ∙ sym (fold-append (λ (n : ℕ) (s : Said). worse n s.explained.status) 0 before.said (this ∷ []));
+    })
+
+pub said-kept : (bytes_at : List ℕ → Option (List ℕ)) (names : List (List ℕ)) (a m e : Option (List ℕ)) (status : ℕ) → HasExplained bytes_at names a m status
+    → Keeps m e → HasExplained bytes_at names a e status
+said-kept bytes_at names a m e status before kept = record {
+  said = before.said;
+  are = before.are;
+  printed = kept-appends a m e (said_text before.said) before.printed kept;
+  status_is = before.status_is;
+}
+
+pub worse-few : (first second worst : ℕ) → first ≤ 2 → second ≤ 2 → worst ≡ worse first second → worst ≤ 2
+worse-few first second worst few few' is = at (nat_le first second) refl where
+  at : (b : Bool) → nat_le first second ≡ b → worst ≤ 2
+  at true e = let w : worst ≡ second = is ∙ ap (λ (b : Bool). if b then second else first) e in omega (arith, w, few')
+  at false e = let w : worst ≡ first = is ∙ ap (λ (b : Bool). if b then second else first) e in omega (arith, w, few)
+
+-- ---- a prefix of what is said
+
+pub said-begun : (bytes_at : List ℕ → Option (List ℕ)) (names others all : List (List ℕ)) (a e : Option (List ℕ)) (status : ℕ) → names ++ others ≡ all
+    → HasExplained bytes_at names a e status → ExplainsPrefix bytes_at all a e
+said-begun bytes_at names others all a e status is before = record {
+  first = names;
+  others = others;
+  names_are = is;
+  said = before.said;
+  are = before.are;
+  grown = whole-prefix a e (said_text before.said) before.printed;
+}
+
+pub all-begun : (bytes_at : List ℕ → Option (List ℕ)) (names : List (List ℕ)) (a e : Option (List ℕ)) (status : ℕ) → HasExplained bytes_at names a e status
+    → ExplainsPrefix bytes_at names a e
+all-begun bytes_at names a e status before = said-begun bytes_at names [] names a e status (append-nil names) before
+
+-- what is said of the next file has begun
+pub next-begun : (bytes_at : List ℕ → Option (List ℕ)) (names others all : List (List ℕ)) (name : List ℕ) (a m e : Option (List ℕ)) (status : ℕ) (x : Explained)
+    (text : List ℕ) → names ++ name ∷ others ≡ all → HasExplained bytes_at names a m status → IsExplainedFile (bytes_at name) name x → text ≡ x.text.items
+    → AppendsPrefix m e text → ExplainsPrefix bytes_at all a e
+next-begun bytes_at names others all name a m e status x text is before right text_is grown =
+    let this : Said = record { name = name; explained = x } in
+    record {
+      first = names ++ name ∷ [];
+      others = others;
+      names_are = append_assoc names (name ∷ []) others ∙ is;
+      said = before.said ++ this ∷ [];
+      are = said-of bytes_at names name before.said x before.are right;
+      grown = subst (λ (t : List ℕ). AppendsPrefix a e t) (ap (λ (t : List ℕ). said_text before.said ++ t) text_is ∙ text-of before.said name x)
+          (after-prefix a m e (said_text before.said) text before.printed grown);
+    }
+
+-- the names, cut before one of them
+pub names-cut : (names : List (String Global)) (i : ℕ) → map string_bytes (take i names) ++ map string_bytes (drop i names) ≡ map string_bytes names
+names-cut names i = sym (map-append string_bytes (take i names) (drop i names)) ∙ ap (map string_bytes) (take-append-drop i names)
+
+-- ---- what is reported where the command ends
+
+pub three-told : (why : Fault) (result : ℕ) → status_of why ≡ 3 → (result ≡ status_of why) ⊎ (result ≡ 3) → result ≡ 3
+three-told why result three (inl is) = is ∙ three
+three-told why result three (inr is) = is
+
+left-at-three : {O : Type 0} (contents : O → Option (List ℕ)) (why : Fault) (middle new : O) → status_of why ≡ 3 → LeavesOutput contents why middle new
+    → new ≡ middle
+left-at-three contents (fault.Rule f) middle new three h = absurd (cc three)
+left-at-three contents (fault.Place f) middle new three h = h
+left-at-three contents (fault.Setup role f) middle new three h = h
+left-at-three contents (fault.Unmet n) middle new three h = h
+left-at-three contents (fault.Name f) middle new three h = h
+left-at-three contents fault.UnknownPattern middle new three h = h
+left-at-three contents (fault.Text f) middle new three h = h
+left-at-three contents (fault.Line n kind) middle new three h = h
+left-at-three contents fault.TooLong middle new three h = h
+left-at-three contents fault.Unreadable middle new three h = h
+left-at-three contents fault.Unwritable middle new three h = h
+left-at-three contents fault.Memory middle new three h = h
+
+pub left-begun : {O : Type 0} (contents : O → Option (List ℕ)) (bytes_at : List ℕ → Option (List ℕ)) (names : List (List ℕ)) (a : Option (List ℕ))
+    (why : Fault) (middle new : O) → status_of why ≡ 3 → LeavesOutput contents why middle new → ExplainsPrefix bytes_at names a (contents middle)
+    → ExplainsPrefix bytes_at names a (contents new)
+left-begun {O = O} contents bytes_at names a why middle new three left begun =
+    subst (λ (o : O). ExplainsPrefix bytes_at names a (contents o)) (sym (left-at-three contents why middle new three left)) begun

@@ -1,0 +1,166 @@
+//! The command `compare`: a key schedule that was logged is compared with that of a vector file.
+
+ghost use Rattle.std.specs.Prelude.{◌≡◌, ◌⊎◌, ◌++◌, ◌≤◌, ℕ, List, true, IfErr, IfOk, IfSome, MatchResult, OnOk, map, string_bytes};
+ghost use Rattle.std.specs.Io.KnownBytes.{Appends};
+ghost use Rattle.noise_compare.specs.Lines.{words_in, words_of};
+ghost use Rattle.noise_lines.specs.Faults.{status_of};
+ghost use Rattle.noise_lines.specs.Prefixes.{AppendsPrefix};
+ghost use Rattle.noise_lines.specs.Told.{error_text};
+ghost use Rattle.noise_lines.specs.declared.faults.Fault.{Fault};
+ghost use Rattle.noise_lines.specs.Woven.{traces_of};
+ghost use Rattle.noise_vectors.specs.Expectations.{bytes_of};
+ghost use Rattle.noise_tool.specs.Comparing.{Compares, IfMade, IsCompared, IsWrong, finding_status, schedule_of};
+ghost use Rattle.noise_tool.specs.Testing.{RunsTo};
+
+use crate::testing::{FilesByName, run_text};
+use crate::tracing::Traced;
+use noise_compare::{Finding, Line, LogFault, LogReport, compare_lines, push_schedule, read_log};
+use noise_lines::{Fault, Verdict, flush, tell, verdict_lines, write};
+use noise_words::Compared;
+use std::alloc::{AllocError, Global};
+use std::io::Write;
+
+/// What comes of a log and a vector file.
+#[derive(Drop)]
+pub enum Comparison {
+    /// They are compared.
+    Made(LogReport),
+    /// One of them is wrong, and this text says why.
+    Wrong(Vec<u8>),
+}
+
+/// Compares the log of a key schedule with the key schedule of a vector file, as `trace` prints it, and writes the
+/// first difference, and what it says of the cause. What it writes are secrets. The exit status is 0 where all lines
+/// of the log agree; 1 where one differs, or the log ends before a step of its party's handshake; 2 where the log or
+/// the file is wrong, which is written to `err`; 3 where a file can't be read, the output can't be written, or memory
+/// runs out.
+pub fn compare_log<F: FilesByName, O: Write, E: Write>(
+    alloc: Global,
+    names: &Compared,
+    files: &F,
+    out: &mut O,
+    err: &mut E,
+) -> u8
+    ensures status { result ≤ 3 }
+    ensures compared { (2 ≤ result) ⊎ IsCompared (F.bytes_at files.now (string_bytes names.now.log))
+        (F.bytes_at files.now (string_bytes names.now.file)) (O.contents out.old) (O.contents out.new) result }
+    ensures quiet { (2 ≤ result) ⊎ (err.new ≡ err.old) }
+    ensures unwritten { result ≡ 2 → out.new ≡ out.old }
+    ensures outside { result ≡ 3 → (fault : Fault) × (status_of fault ≡ 3)
+        × AppendsPrefix (E.contents err.old) (E.contents err.new) (error_text fault) }
+{
+    match compare_named(alloc, names, files) {
+        Ok(Comparison::Made(report)) => match print_report(&report, out) {
+            Ok(status) => status,
+            Err(fault) => tell(alloc, fault, out, err),
+        },
+        Ok(Comparison::Wrong(text)) => {
+            let _ = write(&text, err);
+            2
+        }
+        Err(fault) => tell(alloc, fault, out, err),
+    }
+}
+
+// Writes a report, and gives the status.
+fn print_report<O: Write>(report: &LogReport, out: &mut O) -> Result<u8, Fault>
+    ensures printed { IfOk result (λ status. Appends (O.contents out.old) (O.contents out.new) report.now.text.items
+        × (status ≡ finding_status report.now.finding)) }
+    ensures fault { IfErr result (λ fault. status_of fault ≡ 3) }
+{
+    write(&report.text, out)?;
+    flush(out)?;
+    Ok(match report.finding {
+        Finding::Agrees => 0,
+        Finding::Ends | Finding::Differs => 1,
+    })
+}
+
+// What comes of the log and the vector file of these names.
+fn compare_named<F: FilesByName>(
+    alloc: Global,
+    names: &Compared,
+    files: &F,
+) -> Result<Comparison, Fault>
+    ensures made { IfOk result (λ made. IfMade made
+        (λ report. IfSome (F.bytes_at files.now (string_bytes names.now.log))
+        (λ log. IfSome (F.bytes_at files.now (string_bytes names.now.file)) (λ file. Compares log file report)))) }
+    ensures fault { IfErr result (λ fault. status_of fault ≡ 3) }
+{
+    let (log_name, file_name) = (names.log.as_str(), names.file.as_str());
+    if log_name == "-" && file_name == "-" {
+        return wrong(alloc, "-", ": standard input is named twice");
+    }
+    let log = match files.read(alloc, log_name) {
+        Ok(log) => log,
+        Err(fault) => return wrong_file(alloc, log_name, fault),
+    };
+    let file = match files.read(alloc, file_name) {
+        Ok(file) => file,
+        Err(fault) => return wrong_file(alloc, file_name, fault),
+    };
+    match run_text(alloc, &file, true) {
+        Ok(traced) => compare_traced(alloc, log_name, &log, &traced),
+        Err(fault) => wrong_file(alloc, file_name, fault),
+    }
+}
+
+// What comes of the log of this text and a run that is traced.
+fn compare_traced(
+    alloc: Global,
+    name: &str,
+    log: &[u8],
+    traced: &Traced,
+) -> Result<Comparison, Fault>
+    ensures made { (file : List ℕ) → RunsTo true file traced.now
+        → IfOk result (λ made. IfMade made (Compares log.now file)) }
+    ensures fault { IfErr result (λ fault. status_of fault ≡ 3) }
+{
+    let right = schedule(alloc, traced)?;
+    match read_log(alloc, log) {
+        Ok(lines) => {
+            if lines.is_empty() {
+                return wrong(alloc, name, ": no line of a key schedule");
+            }
+            Ok(Comparison::Made(compare_lines(alloc, &lines, &right)?))
+        }
+        Err(LogFault::Line(number)) => {
+            let why = format!(in alloc; ": line {number} trace")?;
+            wrong(alloc, name, why.as_str())
+        }
+        Err(LogFault::Memory) => Err(Fault::Memory),
+    }
+}
+
+// The lines of the key schedule of a run.
+fn schedule(alloc: Global, traced: &Traced) -> Result<Vec<Line<'_>>, AllocError>
+    ensures { IfOk result (λ lines. map words_in lines.items
+        ≡ map words_of (schedule_of (bytes_of traced.now.start.items) (traces_of traced.now.traces.items))) }
+{
+    let mut lines = Vec::new(alloc);
+    push_schedule(alloc, &traced.start, &mut lines)?;
+    for trace in &traced.traces {
+        push_schedule(alloc, trace, &mut lines)?;
+    }
+    Ok(lines)
+}
+
+// That a file isn't compared, and why; a fault from outside is handed on.
+fn wrong_file(alloc: Global, name: &str, fault: Fault) -> Result<Comparison, Fault>
+    ensures made { IfOk result IsWrong }
+    ensures fault { IfErr result (λ fault. status_of fault ≡ 3) }
+{
+    if fault.status() == 3 {
+        return Err(fault);
+    }
+    Ok(Comparison::Wrong(verdict_lines(alloc, name, &Verdict::CannotRun(fault))?))
+}
+
+// That this file is wrong, and why.
+fn wrong(alloc: Global, name: &str, why: &str) -> Result<Comparison, Fault>
+    ensures made { IfOk result IsWrong }
+    ensures fault { IfErr result (λ fault. status_of fault ≡ 3) }
+{
+    let text = format!(in alloc; "fault {name}{why}\n")?;
+    Ok(Comparison::Wrong(Vec::from_slice(alloc, text.as_bytes())?))
+}
