@@ -41,14 +41,14 @@ module _ (old new : NoiseHandshake) (payload out after : List ℕ) (told : Noise
 
 module _ (old new : NoiseHandshake) (message after : List ℕ) (told : NoiseTold) (n : ℕ) where
   pub reads-outcome : (want : Want) (next : NoiseTold) (code : ℕ) → ReportsWant want next code
-      → (code ≡ 20 → ReportsAnswer told next) → (code ≡ 40 → ReportsRemote told next) → n ≡ old.secret_count → new ≡ old → after ≡ message
+      → (code ≡ 20 → ReportsAnswer told next) → (code ≡ 40 → ReportsRemote told next) → n ≡ old.secret_count → after ≡ message
       → ((p : Plan) (v : View) → KeepsView old p v → LeavesLateUnread v n message (unread.Wants want))
       → ReadOutcome old message told new after next code
-  reads-outcome (Answer own key) next code t answer static count same bytes leaves =
+  reads-outcome (Answer own key) next code t answer static count bytes leaves =
       subst (λ (c : ℕ). ReadOutcome old message told new after next c) (sym t.0)
-      (read_wants_answer (answer t.0) same bytes (λ p v k. reads-answer v message own key next t.1 t.2 (leaves p v k)))
-  reads-outcome (Secret remote) next code t answer static count same bytes leaves =
+      (read_wants_answer (answer t.0) bytes (λ p v k. reads-answer v message own key next t.1 t.2 (leaves p v k)))
+  reads-outcome (Secret remote) next code t answer static count bytes leaves =
       subst (λ (c : ℕ). ReadOutcome old message told new after next c) (sym t.0)
-      (read_wants_secret (static t.0) same bytes (λ p v k.
+      (read_wants_secret (static t.0) bytes (λ p v k.
       subst (λ (i : ℕ). WantsSecretToRead v i message (remote_reported next)) count
       (reads-secret v n message (Secret remote) next code t t.0 (leaves p v k))))

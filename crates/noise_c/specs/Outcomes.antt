@@ -5,7 +5,7 @@ use Rattle.noise_handshake.specs.Held.{message_len_of}
 use Rattle.noise_handshake.specs.Late.{WantsSecretToRead, WantsSecretToWrite}
 use Rattle.noise_handshake.specs.View.{View}
 use Rattle.noise_handshake.specs.Wanting.{WantsToRead, WantsToWrite}
-use Rattle.noise_c.specs.declared.codes.numbers.TheConstants.{AGREEMENT, DONE, ENDED, LENGTH, NOT_YOUR_TURN, OK, ROOM, STRUCT, TAG, WANTED, WANTED_PSK}
+use Rattle.noise_c.specs.declared.codes.numbers.TheConstants.{AGREEMENT, DONE, LENGTH, NOT_YOUR_TURN, OK, ROOM, STRUCT, TAG, WANTED, WANTED_PSK}
 use Rattle.noise_c.specs.declared.kept.NoiseHandshake.{NoiseHandshake}
 use Rattle.noise_c.specs.declared.kept.NoiseTold.{NoiseTold}
 use Rattle.noise_c.specs.Kept.{handshake_from_c, own_in, remote_reported, text_in, ForView, HasMessageLen, IsPatternOf, IsUsable, KeepsView, ReportsAnswer, ReportsRemote, WasDeclined, WasRead, WasWithheld, WasWritten}
@@ -46,20 +46,19 @@ pub data ReadOutcome (old : NoiseHandshake) (message : List ℕ) (told : NoiseTo
       → next.from + next.len ≤ length after → IsAround message after next.from (next.from + next.len)
       → ForView old (λ p v. WasRead p v message (slice_range after next.from (next.from + next.len)) new)
       → ReadOutcome old message told new after next OK
-  wants_answer : ReportsAnswer told next → new ≡ old → after ≡ message
+  wants_answer : ReportsAnswer told next → after ≡ message
       → ForView old (λ _ v. WantsToRead v message (own_in next.of_static) next.remote)
       → ReadOutcome old message told new after next WANTED
-  wants_secret : ReportsRemote told next → new ≡ old → after ≡ message
+  wants_secret : ReportsRemote told next → after ≡ message
       → ForView old (λ _ v. WantsSecretToRead v old.secret_count message (remote_reported next))
       → ReadOutcome old message told new after next WANTED_PSK
   declined : (code : ℕ) → (code ≡ NOT_YOUR_TURN) ⊎ ((DONE ≤ code) × (code ≤ TAG))
-      → next ≡ record told { token = next.token } → (code ≤ ENDED → new ≡ old) → (IsUsable old → IsUsable new)
-      → after ≡ message
+      → next ≡ record told { token = next.token } → (IsUsable old → IsUsable new) → after ≡ message
       → ForView old (λ p v. (code ≡ AGREEMENT → ⊥) × WasDeclined p v message code next.token new)
       → ReadOutcome old message told new after next code
-  too_long : 65535 < length message → IsUsable old → next ≡ told → new ≡ old → after ≡ message
+  too_long : 65535 < length message → IsUsable old → next ≡ told → after ≡ message
       → ReadOutcome old message told new after next LENGTH
-  unusable : (IsUsable old → ⊥) → next ≡ told → new ≡ old → after ≡ message
+  unusable : (IsUsable old → ⊥) → next ≡ told → after ≡ message
       → ReadOutcome old message told new after next STRUCT
 
 -- what there is too little room for isn't written

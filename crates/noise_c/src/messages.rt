@@ -1,9 +1,9 @@
 //! Exports: writing and reading the messages of a handshake.
 
-ghost use Rattle.std.specs.Prelude.{◌≡◌, ◌<◌, ◌↔◌, length};
+ghost use Rattle.std.specs.Prelude.{◌≡◌, ◌≤◌, ◌<◌, ◌⊎◌, ◌↔◌, length};
 ghost use Rattle.noise_c.specs.Kept.{IsUsable, ReportsAnswer, ReportsRemote, ReportsWant};
 ghost use Rattle.noise_c.specs.Outcomes.{AsksToRead, AsksToWrite, ReadOutcome, RefusesRoom, WriteOutcome};
-ghost use Rattle.noise_c.specs.declared.codes.numbers.TheConstants.{LENGTH, STRUCT, WANTED, WANTED_PSK};
+ghost use Rattle.noise_c.specs.declared.codes.numbers.TheConstants.{ENDED, LENGTH, OK, STRUCT, WANTED, WANTED_PSK};
 
 use crate::codes::numbers::{LENGTH, MESSAGE_MAX, OK, ROOM, STRUCT, WANTED, WANTED_PSK};
 use crate::codes::{read_code, some_or, write_code};
@@ -81,6 +81,7 @@ pub extern "C" fn noise_read(
     ensures unusable { result ≡ STRUCT ↔ (IsUsable kept.old → ⊥) }
     ensures length { result ≡ LENGTH ↔ ((65535 < length message.old) × IsUsable kept.old) }
     ensures outcome { ReadOutcome kept.old message.old told.old kept.new message.new told.new result }
+    ensures left { (result ≤ ENDED) ⊎ (WANTED ≤ result) → OK < result → kept.new ≡ kept.old }
     ensures asked { AsksToRead kept.old message.old told.new result }
 {
     let mut handshake = some_or!(handshake_from_c(kept), STRUCT);

@@ -14,11 +14,12 @@ use Rattle.noise_handshake.specs.Late.{with_later, LeavesLateUnread, after_late_
 use Rattle.noise_handshake.specs.Party.{Stands, DoesNotRead}
 use Rattle.noise_handshake.specs.View.{View, Refuses}
 use Rattle.noise_c.specs.Codes.{read_code, token_in}
+use Rattle.noise_c.specs.declared.kept.NoiseTold.{NoiseTold}
 use Rattle.noise_c.specs.Outcomes.{IsAround}
 use Rattle.noise_c.specs.Outcomes.ReadOutcome.{accepted, declined, too_long, unusable}
 use Rattle.noise_c.specs.Kept.{public_in, agreement_in, handshake_from_c, IsUsable, ReportsWant}
 use Rattle.noise_c.proofs.Keeps.{secrets-left, ended-kept, plain-leaves, refused-leaves, usable-after, usable-ended, was-declined, opened, was-read, stands-for}
-use Rattle.noise_c.proofs.Numbers.{IsPlain, other, not-after, too-long, wants-other, plain-among, plain-within, plain-sort, refused-within, refused-between, refused-among}
+use Rattle.noise_c.proofs.Numbers.{IsPlain, other, above, not-after, too-long, wants-other, plain-among, plain-within, plain-sort, refused-within, refused-between, refused-among}
 use Rattle.noise_c.proofs.Wanting.{reads-outcome}
 use Rattle.noise_c.proofs.messages.noise_read.Goals as goal
 
@@ -28,7 +29,8 @@ returns-in-None c =
     record {
       unusable = (λ _. none, λ _. refl);
       length = (other 23 24 refl, λ w. absurd (none w.1));
-      outcome = unusable none refl refl refl;
+      outcome = unusable none refl refl;
+      left = λ _ _. refl;
       asked = λ u _ _ _ _ _ _. absurd (none u);
     }
 
@@ -39,7 +41,8 @@ returns-then-message-gt-MESSAGE_MAX c =
     record {
       unusable = (other 24 23 refl, λ none. absurd (none usable));
       length = (λ _. (long, usable), λ _. refl);
-      outcome = too_long long usable refl refl refl;
+      outcome = too_long long usable refl refl;
+      left = λ _ _. refl;
       asked = λ _ len _ _ _ _ _. too-long (length c.args.message.now) 65535 long len;
     }
 
@@ -82,6 +85,7 @@ returns-in-Ok c =
           let r = c.in-Ok.ensures.reads v k.later s in
           was-read old new h h2 p v c.in-Some.ensures.one c.in-Some.ensures.same stays c.keep.ensures.text same k
           c.args.message.now m start end c.in-Ok.ensures.range.0 r.0 r.1 r.2);
+      left = λ _. above 1 0 refl;
       asked = λ _ _ p v k remote asks.
           let s = stands-for old h p v c.in-Some.ensures.one c.in-Some.ensures.same k in
           let w = subst (λ (i : ℕ). WantsSecretToRead v i c.args.message.now remote) (sym c.in-Some.ensures.count) asks in
@@ -115,8 +119,8 @@ returns-in-Refused c =
     record {
       unusable = (not-after code 16 23 within.1 refl, λ none. absurd (none (c.in-Some.ensures.usable.0 refl)));
       length = (not-after code 16 24 within.1 refl, λ w. too-long (length c.args.message.now) 65535 w.0 c.if-message-gt-MESSAGE_MAX.false);
-      outcome = declined code (inr (refused-among code within)) refl (λ low. refused-between code within (inl low)) (usable-ended old)
-          c.in-Err-Declined.ensures.unchanged
+      left = λ outside _. refused-between code within outside;
+      outcome = declined code (inr (refused-among code within)) refl (usable-ended old) c.in-Err-Declined.ensures.unchanged
           (λ p v k.
           let over : h2 ≡ ended_as h = refused-leaves h h2 _ fault _ _ c.in-Err-Declined.ensures.state c.in-Err-Declined.field-0-is refused in
           let same : handshake_from_c h2.pattern new ≡ h2 = ended-kept old new h h2 refl c.in-Some.ensures.same over in
@@ -151,7 +155,8 @@ returns-in_default c =
     record {
       unusable = (not-after code 13 23 within.1 refl, λ none. absurd (none (c.in-Some.ensures.usable.0 refl)));
       length = (not-after code 13 24 within.1 refl, λ w. too-long (length c.args.message.now) 65535 w.0 c.if-message-gt-MESSAGE_MAX.false);
-      outcome = declined code (plain-sort code among) refl (λ _. refl) (λ u. u) c.in-Err-Declined.ensures.unchanged
+      left = λ _ _. refl;
+      outcome = declined code (plain-sort code among) refl (λ u. u) c.in-Err-Declined.ensures.unchanged
           (λ p v k.
           let as_was : h2 ≡ h = plain-leaves h h2 _ fault plain c.in-Err-Declined.ensures.state c.in-Err-Declined.field-0-is in
           let same : handshake_from_c h2.pattern old ≡ h2 = subst (λ (z : Held Table). handshake_from_c z.pattern old ≡ z) (sym as_was) (sym c.in-Some.ensures.same) in
@@ -174,25 +179,38 @@ returns-in_default c =
 want-same : (u : LateUnread) (a b : Want) → ◌≡◌ {A = Result (ℕ × ℕ) LateUnread} (Err u) (Err (unread.Wants b)) → u ≡ unread.Wants a → a ≡ b
 want-same u a b e f = cc
 
-pub returns-in-Err-Wants : goal.returns-in-Err-Wants
-returns-in-Err-Wants c =
-    let old = c.args.kept.now in
+-- what is wanted, with its number
+wanted : (a b : Want) (told : NoiseTold) (code : ℕ) → b ≡ a → ReportsWant b told code → ReportsWant a told code
+wanted a b told code e t = subst (λ (w : Want). ReportsWant w told code) e t
+
+pub returns-in-Err-Wants-clause-unusable : goal.returns-in-Err-Wants-clause-unusable
+returns-in-Err-Wants-clause-unusable c = (
+  wants-other c.in-Err-Wants.want c.report_want.new.told c.report_want.result 23
+      (wanted c.in-Err-Wants.want _ c.report_want.new.told c.report_want.result c.in-Err-Wants.want-is c.report_want.ensures.want) refl refl,
+  λ none. absurd (none (c.in-Some.ensures.usable.0 refl)),
+)
+
+pub returns-in-Err-Wants-clause-length : goal.returns-in-Err-Wants-clause-length
+returns-in-Err-Wants-clause-length c = (
+  wants-other c.in-Err-Wants.want c.report_want.new.told c.report_want.result 24
+      (wanted c.in-Err-Wants.want _ c.report_want.new.told c.report_want.result c.in-Err-Wants.want-is c.report_want.ensures.want) refl refl,
+  λ w. too-long (length c.args.message.now) 65535 w.0 c.if-message-gt-MESSAGE_MAX.false,
+)
+
+pub returns-in-Err-Wants-clause-outcome : goal.returns-in-Err-Wants-clause-outcome
+returns-in-Err-Wants-clause-outcome c =
     let h = c.in-Some.value in
-    let want = c.in-Err-Wants.want in
-    let told = c.report_want.new.told in
-    let code : ℕ = c.report_want.result in
-    let t : ReportsWant want told code = subst (λ (w : Want). ReportsWant w told code) c.in-Err-Wants.want-is c.report_want.ensures.want in
-    record {
-      unusable = (wants-other want told code 23 t refl refl, λ none. absurd (none (c.in-Some.ensures.usable.0 refl)));
-      length = (wants-other want told code 24 t refl refl, λ w. too-long (length c.args.message.now) 65535 w.0 c.if-message-gt-MESSAGE_MAX.false);
-      outcome = reads-outcome old _ c.args.message.now c.read_or_ask.new.message c.args.told.now (length h.secrets) want told code t
-          c.report_want.ensures.answer c.report_want.ensures.remote c.in-Some.ensures.count refl c.in-Err-Wants.ensures.unchanged
-          (λ p v k. subst (λ (u : LateUnread). LeavesLateUnread v (length h.secrets) c.args.message.now u) c.in-Err-Wants.field-0-is
-          (c.in-Err-Wants.ensures.reads v k.later (stands-for old h p v c.in-Some.ensures.one c.in-Some.ensures.same k)).0);
-      asked = λ _ _ p v k remote asks.
-          let s = stands-for old h p v c.in-Some.ensures.one c.in-Some.ensures.same k in
-          let w = subst (λ (i : ℕ). WantsSecretToRead v i c.args.message.now remote) (sym c.in-Some.ensures.count) asks in
-          let same : want ≡ Secret remote = want-same c.in-Err-Wants.field-0 want (Secret remote)
-          (c.in-Err-Wants.ensures.asked v k.later s remote w) c.in-Err-Wants.field-0-is in
-          subst (λ (z : Want). ReportsWant z told code) same t;
-    }
+    reads-outcome c.args.kept.now _ c.args.message.now c.read_or_ask.new.message c.args.told.now (length h.secrets)
+    c.in-Err-Wants.want c.report_want.new.told c.report_want.result
+    (wanted c.in-Err-Wants.want _ c.report_want.new.told c.report_want.result c.in-Err-Wants.want-is c.report_want.ensures.want)
+    c.report_want.ensures.answer c.report_want.ensures.remote c.in-Some.ensures.count c.in-Err-Wants.ensures.unchanged
+    (λ p v k. subst (λ (u : LateUnread). LeavesLateUnread v (length h.secrets) c.args.message.now u) c.in-Err-Wants.field-0-is
+    (c.in-Err-Wants.ensures.reads v k.later (stands-for c.args.kept.now h p v c.in-Some.ensures.one c.in-Some.ensures.same k)).0)
+
+pub returns-in-Err-Wants-clause-asked : goal.returns-in-Err-Wants-clause-asked
+returns-in-Err-Wants-clause-asked c usable len p v k remote asks =
+    let s = stands-for c.args.kept.now c.in-Some.value p v c.in-Some.ensures.one c.in-Some.ensures.same k in
+    let w = subst (λ (i : ℕ). WantsSecretToRead v i c.args.message.now remote) (sym c.in-Some.ensures.count) asks in
+    let same : c.in-Err-Wants.want ≡ Secret remote =
+    want-same c.in-Err-Wants.field-0 c.in-Err-Wants.want (Secret remote) (c.in-Err-Wants.ensures.asked v k.later s remote w) c.in-Err-Wants.field-0-is in
+    subst (λ (z : Want). ReportsWant z c.report_want.new.told c.report_want.result) (c.in-Err-Wants.want-is ∙ same) c.report_want.ensures.want
