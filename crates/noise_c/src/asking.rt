@@ -8,7 +8,7 @@ use crate::codes::numbers::{NOT_DUE, OK, STRUCT};
 use crate::codes::some_or;
 use crate::from_c::handshake_from_c;
 use crate::kept::{NoiseHandshake, NoiseKey, NoiseStageTold};
-use crate::keys::key_to_c;
+use crate::kept_keys::key_to_c;
 
 /// Reports how long the next message is with a payload of this length, both in bytes. NOT_DUE where none would be
 /// written: it isn't this party's turn, the handshake is done or has ended, or the message would have more than 65535

@@ -8,7 +8,7 @@ ghost use Rattle.noise_c.specs.Kept.{public_in, role_in, text_in, handshake_from
 
 use crate::codes::numbers::HANDSHAKE;
 use crate::kept::NoiseHandshake;
-use crate::keys::{KeptKeys, key_of, key_to_c};
+use crate::kept_keys::{KeptKeys, key_of, key_to_c};
 use crate::patterns::pattern_of;
 use noise_handshake::{LateHandshake, Parts, Progress, Remote};
 use noise_names::{Role, ValidPattern};

@@ -12,7 +12,7 @@ mod from_c;
 mod halves;
 mod halves_from_c;
 mod kept;
-mod keys;
+mod kept_keys;
 pub mod laws;
 mod messages;
 mod patterns;

@@ -9,7 +9,7 @@ use crate::codes::numbers::{LENGTH, MESSAGE_MAX, OK, ROOM, STRUCT, WANTED, WANTE
 use crate::codes::{read_code, some_or, write_code};
 use crate::from_c::{handshake_from_c, keep};
 use crate::kept::{NoiseHandshake, NoiseTold};
-use crate::keys::{key_to_c, own_to_c};
+use crate::kept_keys::{key_to_c, own_to_c};
 use noise_handshake::{LateUnread, LateUnwritten, ReadFault, Want};
 
 // Reports what is wanted, and returns the number of that.

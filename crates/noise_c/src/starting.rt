@@ -13,7 +13,7 @@ use crate::codes::numbers::{HANDSHAKE, LENGTH, OK, PSK_COUNT};
 use crate::codes::{ok_or, setup_code};
 use crate::from_c::{keep, role_of};
 use crate::kept::{NoiseHandshake, NoiseSetup};
-use crate::keys::{KeptKeys, key_of};
+use crate::kept_keys::{KeptKeys, key_of};
 use crate::patterns::pattern_of;
 use noise_handshake::{LateHandshake, Remote, SetupFault};
 use noise_names::ValidPattern;
