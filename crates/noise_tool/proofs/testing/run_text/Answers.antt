@@ -1,5 +1,5 @@
 use Rattle.std.proofs.Common.{◌∙◌, sym}
-use Rattle.noise_tool.proofs.TestingLemmas.{runs-traced, runs-untraced, start-fault, start-read, vector-read}
+use Rattle.noise_tool.proofs.TestingLemmas.{runs-traced, runs-untraced, start-fault, start-read}
 use Rattle.noise_tool.proofs.testing.run_text.Goals as goal
 
 pub trace-requires : goal.trace-requires

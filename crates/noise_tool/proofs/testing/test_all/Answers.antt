@@ -1,4 +1,4 @@
-use Rattle.std.proofs.Common.{rules, ◌≡◌, ◌∙◌, [], append-nil, map, string_bytes}
+use Rattle.std.proofs.Common.{rules, ◌≡◌, [], append-nil, map, string_bytes}
 use Rattle.noise_tool.specs.Testing.{tally_line}
 use Rattle.noise_tool.proofs.TestingLemmas.{err-any, kept-begun, last-begun, none-begun}
 use Rattle.noise_tool.proofs.testing.test_all.Goals as goal
