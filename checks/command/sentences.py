@@ -9,7 +9,7 @@ STRING = re.compile(r"'((?:[^'\\\n]|\\.)*)'")
 TABLES = {"faults.mjs": ("RULES", "FORMS", "CLOSER"), "facts.mjs": ("TABLE",)}
 # What the page says of its own boxes and buttons, or `explain` more closely: it knows which of several limits is broken.
 OF_THE_PAGE = {
-    "{mend}.",
+    "{}.",
     "psk0 is before message 1, pskN at the end of message N: set the places by the boxes above the text.",
     "A pattern has at most 8 messages, and each has from 1 to 8 tokens besides psk.",
     "Leave some out, or add one.",
@@ -18,8 +18,8 @@ OF_THE_PAGE = {
 
 
 def plain(text):
-    """A text with the quotes of ASCII."""
-    return text.replace("’", "'").replace("“", '"').replace("”", '"')
+    """A text with the quotes of ASCII, and without the names of what is filled in."""
+    return re.sub(r"\{\w+\}", "{}", text.replace("’", "'").replace("“", '"').replace("”", '"'))
 
 
 def of_the_page():
@@ -38,6 +38,6 @@ def compare_sentences():
     sources = ""
     for path in sorted(glob.glob(f"{TOP}/crates/noise_explain/src/*.rt")):
         with open(path, encoding="utf-8") as file:
-            sources += file.read().replace('\\"', '"')
+            sources += plain(file.read().replace('\\"', '"'))
     sentences = [it for it in of_the_page() if it not in OF_THE_PAGE]
     return len(sentences), [f"command: explain doesn't say what the page says: {it}" for it in sentences if it not in sources]

@@ -100,6 +100,9 @@ fn token_advice(rest: &[u8]) -> Advice {
     if word.iter().any(|b| b.is_ascii_uppercase()) {
         return Advice::TokenCase;
     }
+    if after.starts_with(b", ".as_slice()) {
+        return Advice::Token;
+    }
     match after.first().copied() {
         Some(b' ') => Advice::TokensJoined,
         Some(b',') => Advice::TokensJoined,

@@ -1,4 +1,4 @@
-//! The command `explain`: what is wrong with files, in sentences, or what follows from the tokens of their patterns.
+//! The command `explain`: what is wrong with pattern texts, in sentences, or what follows from their tokens.
 
 ghost use Rattle.std.specs.Prelude.{◌≡◌, ◌⊎◌, ◌≤◌, IfErr, IfOk, IfSome, map, string_bytes};
 ghost use Rattle.noise_lines.specs.Faults.{status_of};

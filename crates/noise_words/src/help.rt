@@ -39,8 +39,8 @@ pub const WITH_VALUE: [Subcommand<'static>; 6] = [
         name: "explain",
         value: "FILE",
         several: true,
-        about: "Say in sentences what is wrong with a pattern or a vector file, and what follows from its tokens",
-        meaning: "Files with the text of a pattern, or vector files",
+        about: "Say in sentences what is wrong with a pattern, and what follows from its tokens",
+        meaning: "Files with the text of a pattern",
         example: "Example: noise explain examples/patterns/broken.pattern",
     },
     Subcommand {
