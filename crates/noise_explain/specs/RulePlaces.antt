@@ -1,5 +1,5 @@
 -- Where a broken rule stands in the text of its pattern.
-use Rattle.std.specs.Prelude.{◌≡◌, ℕ, ◌+◌, ◌-◌, List, [], ◌∷◌, ◌++◌, codes, length, nat_le, nat_lt, slice_get, take, unwrap_or, if◌then◌else◌}
+use Rattle.std.specs.Prelude.{◌≡◌, ℕ, ◌+◌, ◌-◌, List, [], ◌++◌, codes, length, nat_le, nat_lt, slice_get, take, unwrap_or, if◌then◌else◌}
 use Rattle.noise_names.specs.declared.faults.RuleFault.{RuleFault}
 use Rattle.noise_names.specs.declared.token.Role.TheVariants.{Initiator}
 use Rattle.noise_names.specs.declared.token.Token.{Token}

@@ -1,10 +1,10 @@
 -- What is said of files that are explained.
-use Rattle.std.proofs.Common.{◌≡◌, ◌∙◌, refl, sym, ap, subst, ◌⊎◌, inl, inr, arith, ◌≤◌, if◌then◌else◌, ℕ, Bool, true, false, nat_le, List, [], ◌∷◌, ◌++◌, Option, String, drop, string_bytes, take, append_assoc, append-nil}
+use Rattle.std.proofs.Common.{◌≡◌, ◌∙◌, refl, sym, ap, subst, ◌⊎◌, inl, inr, arith, ◌≤◌, if◌then◌else◌, ℕ, Bool, true, false, nat_le, List, [], ◌∷◌, ◌++◌, Option, String, drop, length, string_bytes, take, append_assoc, append-nil}
 use Rattle.std.specs.Prelude.{map}
 use Rattle.std.specs.Global.{Global}
 use Rattle.std.specs.Io.KnownBytes.{Appends, Keeps}
 use Rattle.std.proofs.KnownBytes.{Appends-nil, Appends-trans}
-use Rattle.std.proofs.lemmas.List.{flat_map_more, map-append, map_push, take-append-drop}
+use Rattle.std.proofs.lemmas.List.{flat_map_more, map-append, map_push, take_all, take-append-drop}
 use Rattle.std.proofs.lemmas.List.Elements.{All-nil, All-push}
 use Rattle.std.proofs.lemmas.List.Sums.{fold-append}
 use Rattle.noise_explain.specs.declared.explaining.Explained.{Explained}
@@ -60,6 +60,13 @@ said-kept bytes_at names a m e status before kept = record {
   printed = kept-appends a m e (said_text before.said) before.printed kept;
   status_is = before.status_is;
 }
+
+-- all names are passed
+pub all-kept : (bytes_at : List ℕ → Option (List ℕ)) (names : List (String Global)) (i : ℕ) (a m e : Option (List ℕ)) (status : ℕ) → length names ≤ i
+    → HasExplained bytes_at (map string_bytes (take i names)) a m status → Keeps m e → HasExplained bytes_at (map string_bytes names) a e status
+all-kept bytes_at names i a m e status past before kept =
+    subst (λ (ns : List (String Global)). HasExplained bytes_at (map string_bytes ns) a e status) (take_all i names past)
+    (said-kept bytes_at (map string_bytes (take i names)) a m e status before kept)
 
 pub worse-few : (first second worst : ℕ) → first ≤ 2 → second ≤ 2 → worst ≡ worse first second → worst ≤ 2
 worse-few first second worst few few' is = at (nat_le first second) refl where

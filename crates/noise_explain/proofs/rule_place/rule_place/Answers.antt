@@ -1,4 +1,3 @@
-use Rattle.std.proofs.Common.{rules}
 use Rattle.noise_explain.proofs.RuleLemmas.{rule-place}
 use Rattle.noise_explain.proofs.rule_place.rule_place.Goals as goal
 

@@ -1,4 +1,4 @@
-use Rattle.std.proofs.Common.{◌≡◌, ◌≤◌, map, take, string_bytes}
+use Rattle.std.proofs.Common.{◌≤◌, map, take, string_bytes}
 use Rattle.noise_tool.specs.Explaining.{HasExplained}
 use Rattle.noise_tool.proofs.explaining.explain_each.Given as goal
 

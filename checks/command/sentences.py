@@ -1,0 +1,43 @@
+"""The sentences of the page and of `explain`: what both say, they say in the same words."""
+
+import glob
+import re
+
+from program import TOP
+
+STRING = re.compile(r"'((?:[^'\\\n]|\\.)*)'")
+TABLES = {"faults.mjs": ("RULES", "FORMS", "CLOSER"), "facts.mjs": ("TABLE",)}
+# What the page says of its own boxes and buttons, or `explain` more closely: it knows which of several limits is broken.
+OF_THE_PAGE = {
+    "{mend}.",
+    "psk0 is before message 1, pskN at the end of message N: set the places by the boxes above the text.",
+    "A pattern has at most 8 messages, and each has from 1 to 8 tokens besides psk.",
+    "Leave some out, or add one.",
+    'Put "..." below this line.',
+}
+
+
+def plain(text):
+    """A text with the quotes of ASCII."""
+    return text.replace("’", "'").replace("“", '"').replace("”", '"')
+
+
+def of_the_page():
+    """The sentences of the page's tables."""
+    for name, tables in TABLES.items():
+        with open(f"{TOP}/web/{name}", encoding="utf-8") as file:
+            text = file.read()
+        for table in tables:
+            rows = re.search(rf"^(?:export )?const {table} = Object\.freeze\(\{{\n(.*?)^\}}\);", text, re.DOTALL | re.MULTILINE)[1]
+            for sentence in STRING.findall(rows):
+                yield plain(sentence)
+
+
+def compare_sentences():
+    """How many sentences were compared, and a fault for each that `explain` hasn't."""
+    sources = ""
+    for path in sorted(glob.glob(f"{TOP}/crates/noise_explain/src/*.rt")):
+        with open(path, encoding="utf-8") as file:
+            sources += file.read().replace('\\"', '"')
+    sentences = [it for it in of_the_page() if it not in OF_THE_PAGE]
+    return len(sentences), [f"command: explain doesn't say what the page says: {it}" for it in sentences if it not in sources]
