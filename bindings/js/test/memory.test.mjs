@@ -31,14 +31,14 @@ test('memory', async (t) => {
     };
     const places = Object.fromEntries(['handshake', 'sender', 'receiver'].map((kind) => [kind, new Set(lib.kept[kind])]));
     await forget();
-    for (let n = 0; n < 100 && ['handshake', 'sender'].some((kind) => lib.kept[kind].length < places[kind].size + 150); n += 1) {
+    for (let n = 0; n < 100 && ['handshake', 'sender'].some((kind) => lib.kept[kind].length < places[kind].size + 100); n += 1) {
       gc();
       await new Promise((resolve) => { setTimeout(resolve, 20); });
     }
     for (const kind of ['handshake', 'sender', 'receiver']) {
       const freed = lib.kept[kind];
       assert.equal(new Set(freed).size, freed.length, 'a place is free twice');
-      assert.ok(freed.length >= 150, `${freed.length} ${kind}`);
+      assert.ok(freed.length >= 100, `${freed.length} ${kind}`);    // less than 200: an engine may collect some before the last are made
       assert.ok(freed.every((place) => lib.view(place, lib.sizes[kind]).every((byte) => byte === 0)));
     }
     const before = lib.next;
