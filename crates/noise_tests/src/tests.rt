@@ -1,6 +1,7 @@
-//! What no contract says: worked frames and packets, the results with readers and writers that fail, and that each call
-//! can succeed.
+//! What no contract says: published values, printed faults, worked frames and packets, the results with readers and
+//! writers that fail, and that each call can succeed.
 
+mod aead;
 mod channel;
 mod conversations;
 mod datagram_conversations;
@@ -8,6 +9,11 @@ mod datagram_duels;
 mod datagrams;
 mod duels;
 mod frames;
+mod handshake;
+mod kdf;
+mod names;
+mod poly;
+mod state;
 mod streams;
 mod support;
 mod taking;
