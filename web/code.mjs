@@ -14,7 +14,7 @@ export const LANGUAGES = Object.keys(MADE);
 function factsOf(plan, { text, prologue, interval, mode, window }) {
   const { section, base, before, psks, oneWay } = plan;
   return {
-    section, psks, oneWay, prologue, interval, window,
+    section, psks, oneWay, prologue, interval, mode, window,
     name: base.toLowerCase(),
     isNamed: FUNDAMENTAL.includes(base),
     lines: text.trimEnd().split('\n'),

@@ -14,6 +14,8 @@ const SETUPS = [
   { text: textOf('NN'), prologue: 'a "quoted" \\ text,\n\u0001 and é' },
   { text: textOf('X', [0, 1]), interval: 1 },
   { text: textOf('IK', [2]), mode: 'datagrams', window: 256 },
+  { text: textOf('XX'), mode: 'stream', interval: 1 },
+  { text: textOf('N'), mode: 'stream' },
   { text: textOf('NN', [0]) },
   { text: OWN },
   { text: OWN, mode: 'datagrams' },
@@ -28,7 +30,7 @@ for (const [number, setup] of SETUPS.entries()) {
   for (const language of LANGUAGES) {
     if (isForCAndJavaScript && ['Go', 'Rust', 'Python'].includes(language)) continue;
     const { name, text } = program(language, plan, whole);
-    const answers = language !== 'C' && whole.mode === 'transport' && !plan.oneWay;
+    const answers = language !== 'C' && whole.mode !== 'datagrams' && !plan.oneWay;
     const place = join(folder, language, String(number));
     await mkdir(place, { recursive: true });
     await writeFile(join(place, name), text);

@@ -76,16 +76,41 @@ function start({ has, knows, knowsEphemeral, psks }) {
   );
 }
 
-function main({ psks, isDatagrams, interval, window }) {
-  const [finish, option, seal, open] = isDatagrams
-    ? ['noise_finish_datagrams', window, 'noise_datagram_seal', 'noise_datagram_open']
-    : ['noise_finish', interval, 'noise_seal', 'noise_open'];
+/** For each mode the call that ends the handshake, its two structs, and where it has messages the calls that seal and open one. */
+const KINDS = {
+  transport: ['noise_finish', 'noise_sender', 'noise_receiver', 'noise_seal', 'noise_open'],
+  stream: ['noise_finish_stream', 'noise_stream_sender', 'noise_stream_receiver'],
+  datagrams: ['noise_finish_datagrams', 'noise_datagram_sender', 'noise_datagram_receiver', 'noise_datagram_seal', 'noise_datagram_open'],
+};
+
+const MESSAGE = (seal, open) => lines(
+  `    must(${seal}(&client.sender, (const uint8_t *)"hello", 5, message, sizeof message, &told) == NOISE_OK, "not sealed");`,
+  `    must(${open}(&server.receiver, message, told.len, &told) == NOISE_OK, "not opened");`,
+  '    printf("the server reads: %.*s\\n", (int)told.len, (const char *)message + told.from);',
+).trimEnd();
+
+const STREAM = lines(
+  '    must(noise_stream_write(&client.sender, (const uint8_t *)"hello", 5, message, sizeof message, &told) == NOISE_OK, "not written");',
+  '    size_t at = 0, len = told.len;',
+  '    must(noise_stream_end(&client.sender, message + len, sizeof message - len, &told) == NOISE_OK, "not ended");',
+  '    len += told.len;    // all that the connection carries',
+  '    uint32_t code;',
+  '    while ((code = noise_stream_read(&server.receiver, message + at, len - at, &told)) == NOISE_OK) {',
+  '        printf("the server reads: %.*s\\n", (int)told.len, (const char *)message + at + told.from);',
+  '        at += told.used;',
+  '    }',
+  '    must(code == NOISE_END, noise_text(code));    // at NOISE_MORE receive more; if the connection ends then, the stream is cut',
+).trimEnd();
+
+function main({ psks, mode, interval, window }) {
+  const [finish, , , seal, open] = KINDS[mode];
+  const option = mode === 'datagrams' ? window : interval;
   return lines(
     'int main(void) {',
     '    static party client, server;',
-    '    static uint8_t message[NOISE_MAX_MESSAGE];',
+    `    static uint8_t message[${mode === 'stream' ? 'NOISE_MAX_FRAME' : 'NOISE_MAX_MESSAGE'}];`,
     '    noise_stage_told stage;',
-    '    noise_told told;',
+    `    ${mode === 'stream' ? 'noise_stream_told' : 'noise_told'} told;`,
     '    client.e = draw(), client.s = draw(), server.e = draw(), server.s = draw();',
     psks > 0 && '    must(RAND_bytes(psks[0], sizeof psks) == 1, "no random bytes");',
     '    start(&client, &server, 0);',
@@ -99,9 +124,7 @@ function main({ psks, isDatagrams, interval, window }) {
     `    must(${finish}(&server.handshake, ${option}, &server.sender, &server.receiver) == NOISE_OK, "the server isn't done");`,
     '    noise_wipe(&client.handshake, sizeof client.handshake);',
     '    noise_wipe(&server.handshake, sizeof server.handshake);',
-    `    must(${seal}(&client.sender, (const uint8_t *)"hello", 5, message, sizeof message, &told) == NOISE_OK, "not sealed");`,
-    `    must(${open}(&server.receiver, message, told.len, &told) == NOISE_OK, "not opened");`,
-    '    printf("the server reads: %.*s\\n", (int)told.len, (const char *)message + told.from);',
+    mode === 'stream' ? STREAM : MESSAGE(seal, open),
     '    noise_wipe(&client, sizeof client);',
     '    noise_wipe(&server, sizeof server);',
     '    return 0;',
@@ -110,13 +133,14 @@ function main({ psks, isDatagrams, interval, window }) {
 }
 
 export function c(facts) {
-  const { section, name, isNamed, prologue, psks, isDatagrams } = facts;
+  const { section, name, isNamed, prologue, psks, mode } = facts;
+  const [, sender, receiver] = KINDS[mode];
   const text = isNamed
     ? [`static const char pattern[] = "Noise_${section}_25519_ChaChaPoly_SHA256";`]
     : ['static const char pattern[] =', ...facts.lines.map((line, n) => `    "${line}\\n"${n === facts.lines.length - 1 ? ';' : ''}`)];
   return lines(
-    `// The pattern ${section}: both parties in one program.`,
-    `//     cc -I include ${name}.c libnoise_c.a -lcrypto -o ${name}`,
+    `// The pattern ${section}: both parties in one program. At the top of the repository, with OpenSSL's headers:`,
+    `//     cc -I include ${name}.c dist/noise_c.S -lcrypto -o ${name}`,
     '#include "noise.h"',
     '#include <openssl/evp.h>',
     psks > 0 && '#include <openssl/rand.h>',
@@ -129,8 +153,8 @@ export function c(facts) {
     'typedef struct {',
     '    key_pair e, s;',
     '    noise_handshake handshake;',
-    `    ${isDatagrams ? 'noise_datagram_sender' : 'noise_sender'} sender;`,
-    `    ${isDatagrams ? 'noise_datagram_receiver' : 'noise_receiver'} receiver;`,
+    `    ${sender} sender;`,
+    `    ${receiver} receiver;`,
     '} party;', '',
     start(facts), STEP, main(facts).trimEnd(),
   );
