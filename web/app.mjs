@@ -24,7 +24,7 @@ let shape;
 let late;
 
 async function loadLate() {
-  const names = ['./control.mjs', './take.mjs', './mends.mjs', './vectorfile.mjs', './schedules.mjs'];
+  const names = ['./control.mjs', './take.mjs', './mends.mjs', './vectorfile.mjs', './schedule.mjs'];
   const modules = await Promise.all(names.map((name) => import(name)));
   const all = Object.assign({}, ...modules);
   return { ...all, control: new all.Control(page, acted, takeBack), take: new all.Take(page) };
@@ -168,7 +168,7 @@ try {
   globalThis.noisePage = {
     get vectorFile() { return page.run && late.vectorFile(page.run).text; },
     get lines() { return page.run?.lines; },
-    get log() { return page.run && late.schedulesOf(page.run).then(({ whole }) => whole); },
+    get log() { return page.run && late.scheduleOf(page.run).then(({ whole }) => whole); },
     standardOf, firstVerdict,
   };
   keepOffline();

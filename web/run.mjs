@@ -43,11 +43,6 @@ export class Run {
     return party;
   }
 
-  /** The run with a party's own psks, and with what it has done alone. */
-  asSeenBy(role) {
-    return Object.create(this, { psks: { value: this[role].psks }, log: { value: this.log.filter((entry) => entry.role === role) } });
-  }
-
   get isOpen() {
     return Boolean(this.initiator.sealer && this.responder.sealer);
   }

@@ -3,7 +3,7 @@ import { hex, shown } from './bytes.mjs';
 import { bytesView } from './bytesview.mjs';
 import { button, copier, element, enable } from './element.mjs';
 import { OTHER, ROLES } from './party.mjs';
-import { schedulesOf } from './schedules.mjs';
+import { scheduleOf } from './schedule.mjs';
 import { CHIPS, fateOf, messageName, named, sentenceOf } from './sentences.mjs';
 
 /** How many of the newest entries are open, and how many are shown unless more are asked for. */
@@ -35,7 +35,7 @@ function scheduleDetails(run, linesOf, what, title) {
   made.addEventListener('toggle', async () => {
     if (!made.open || made.childElementCount > 1) return;
     try {
-      const lines = linesOf(await schedulesOf(run));
+      const lines = linesOf(await scheduleOf(run));
       if (made.childElementCount > 1) return;
       if (!lines.length) return made.append(element('p', '', 'No step of the key schedule belongs to it.'));
       made.append(scheduleTable(lines), copier(`the key schedule of ${what}`, () => lines.map((line) => `${line}\n`).join(''), 'Copy as log'),

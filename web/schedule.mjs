@@ -98,7 +98,7 @@ class Schedule {
   /** One token of a message: what it is called, and how many bytes it has there. */
   async #token(state, token, rest, isOwn, remote) {
     if (token === 'psk') {
-      await state.mixKeyAndHash(this.run.psks[this.psk]);
+      await state.mixKeyAndHash(this.run[this.role].psks[this.psk]);
       this.psk += 1;
       return ['MixKeyAndHash', 0];
     }

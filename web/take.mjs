@@ -4,7 +4,7 @@ import { button, copier, element, enable } from './element.mjs';
 import { highlighted } from './highlight.mjs';
 import * as link from './link.mjs';
 import { pictureFile } from './picture.mjs';
-import { schedulesOf } from './schedules.mjs';
+import { scheduleOf } from './schedule.mjs';
 import { vectorFile } from './vectorfile.mjs';
 
 const at = (id) => document.getElementById(id);
@@ -43,7 +43,7 @@ export class Take {
     wire('save-program', () => { const { name, text } = this.#program(); save(name, 'text/plain', text); });
     wire('copy-link', () => this.#copyLink([], 'A link to this set-up'));
     wire('copy-run', () => this.#copyLink(page.run.steps, 'A link to this run'));
-    wire('copy-log', async () => copy((await schedulesOf(page.run)).whole.map((line) => `${line}\n`).join(''), 'The key schedule'));
+    wire('copy-log', async () => copy((await scheduleOf(page.run)).whole.map((line) => `${line}\n`).join(''), 'The key schedule'));
     for (const name of LANGUAGES) at('languages').append(button(name, () => { this.#language = name; this.show(); }));
     at('program-row').append(copier('the program', () => this.#program().text));
   }

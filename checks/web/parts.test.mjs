@@ -7,7 +7,7 @@ import { textOf } from '../../bindings/js/patterns.mjs';
 import { faultOf, isLocal, isSetup, read, readRun, write } from '../../web/link.mjs';
 import { picture, words } from '../../web/picture.mjs';
 import { Run } from '../../web/run.mjs';
-import { schedulesOf } from '../../web/schedules.mjs';
+import { scheduleOf } from '../../web/schedule.mjs';
 import { sentenceOf } from '../../web/sentences.mjs';
 
 before(() => load());
@@ -84,7 +84,7 @@ test('parties with other psks: the first tag after a psk is refused', async () =
     assert.equal(sentenceOf(run, run.log.at(-1)), `${said}: a tag is wrong. The parties’ psks differ. Its handshake has ended.`, base);
     assert.equal(run.hasOwnPsks, true);
     // Each party's schedule is worked out from its own psks: what was written has the hash of the library's.
-    const { whole, entries } = await schedulesOf(run);
+    const { whole, entries } = await scheduleOf(run);
     const psks = whole.filter((line) => line.split(' ')[4] === 'psk').map((line) => line.split(' ').slice(8).join());
     assert.equal(psks.length, new Set(psks).size, base);
     assert.equal([...entries.values()].flat().length + whole.filter((line) => line.split(' ')[2] === 'start').length, whole.length);
