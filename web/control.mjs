@@ -4,10 +4,11 @@ import { encode } from './bytes.mjs';
 import { enable } from './element.mjs';
 import { keyOf, write } from './link.mjs';
 import { NotNow, Run } from './run.mjs';
-import { Log, showKeys, showStale, showWindows } from './runview.mjs';
+import { Log, showKeys, showWindows } from './runview.mjs';
 import { sentenceOf, stateOf } from './sentences.mjs';
 
 const at = (id) => document.getElementById(id);
+const STALE = 'This run belongs to another set-up.';
 const payload = () => encode(at('payload').value);
 
 function say(text, isBad = false) {
@@ -18,7 +19,7 @@ function say(text, isBad = false) {
 export class Control {
   #page;
   #shown;
-  #log = new Log(at('log'), at('earlier'));
+  #log = new Log(at('log'), at('earlier'), { act: (work) => this.#act(work), whyNot: () => this.#whyNot() });
   #acting = Promise.resolve();
 
   /** `page` has `setup`, `plan`, `run` and `isStale`. `shown()` is called after each thing done, and `back()` takes the run's set-up again. */
@@ -45,14 +46,21 @@ export class Control {
     });
   }
 
+  /** Why no message can come now, or ''. */
+  #whyNot() {
+    const { run, isStale } = this.#page;
+    if (isStale) return STALE;
+    return run?.isClosed ? 'The connection is closed.' : '';
+  }
+
   #showButtons() {
     const { run, plan, isStale, setup } = this.#page;
     const isLive = Boolean(run) && !isStale;
-    const none = run ? 'This run belongs to another set-up.' : 'No keys are drawn yet.';
+    const none = run ? STALE : 'No keys are drawn yet.';
     const silence = (role) => (isLive ? `It can’t write: ${run.silenceOf(role) ?? 'this isn’t a stream'}.` : none);
     enable(at('start'), plan, 'The pattern isn’t valid.');
     at('start').textContent = run ? 'Begin again with new keys' : 'Draw keys and begin';
-    enable(at('all'), isLive && run.next !== undefined, isLive ? 'No message of the handshake is left.' : none);
+    enable(at('all'), isLive && (run.next || run.pending), isLive ? 'No message of the handshake is left.' : none);
     for (const it of document.querySelectorAll('[data-write]')) {
       const role = it.dataset.write;
       enable(it, isLive && (run.silenceOf(role) === undefined || !run[role].sealer), silence(role));
@@ -69,10 +77,10 @@ export class Control {
     const { run, isStale } = this.#page;
     this.#showButtons();
     at('state').textContent = stateOf(run);
-    this.#log.show(run, (work) => this.#act(work));
+    this.#log.show(run);
     showWindows(at('windows'), run);
     at('stale').hidden = !isStale;
-    showStale(at('ran'), isStale);
+    at('ran').classList.toggle('stale', isStale);    // greyed: nothing more happens in it
   }
 
   /** Says what has come of a call: the newest entries. */

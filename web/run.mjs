@@ -7,6 +7,9 @@ import { frameOf, linesOf, rawOf, reports, silence, take } from './streams.mjs';
 /** The words of the command for the codes of include/noise.h. */
 export const WORDS = { 10: 'not-your-turn', 11: 'too-long', 13: 'ended', 15: 'short', 16: 'tag', 17: 'exhausted', 22: 'one-way', 26: 'reserved', 27: 'old', 28: 'repeated' };
 
+/** The places of a message's changed bytes, in order. */
+export const sorted = (flips) => [...flips].sort((a, b) => a - b);
+
 /** A call that can't be made now, with the reason for the user. */
 export class NotNow extends Error {}
 
@@ -53,6 +56,14 @@ export class Run {
       const party = this[role];
       return !party.sealer && !party.ended && party.handshake.stage.writesNext && !party.handshake.stage.done;
     });
+  }
+
+  /** The handshake's message that is written and that the other party waits for, or undefined. */
+  get pending() {
+    return ROLES.flatMap((role) => this[role].written.filter(({ number }) => {
+      const to = this[OTHER[role]];
+      return number !== undefined && !to.sealer && !to.ended && number === to.handshake.stage.passed;
+    }).map((item) => ({ to: OTHER[role], item })))[0];
   }
 
   /** Why a party can't write now, or undefined. */
@@ -223,11 +234,13 @@ export class Run {
     return this.#note(undefined, 'closed', { reports: reports(this) });
   }
 
-  /** Passes what is left of the handshake. */
+  /** Passes what is left of the handshake: a message that is on its way comes as it is then. */
   async passAll(payloadOf) {
-    for (let role; (role = this.next) !== undefined;) {
-      const { n } = await this.write(role, payloadOf(role));
-      await this.deliver(OTHER[role], n);
+    for (;;) {
+      const { pending, next } = this;
+      if (pending) await this.deliver(pending.to, pending.item.n, sorted(pending.item.flips));
+      else if (next) await this.write(next, payloadOf(next));
+      else return;
     }
   }
 

@@ -3,6 +3,7 @@ import { hex, shown } from './bytes.mjs';
 import { bytesView } from './bytesview.mjs';
 import { button, copier, element, enable } from './element.mjs';
 import { OTHER, ROLES } from './party.mjs';
+import { sorted } from './run.mjs';
 import { scheduleOf } from './schedule.mjs';
 import { CHIPS, fateOf, messageName, named, sentenceOf } from './sentences.mjs';
 
@@ -48,23 +49,30 @@ function scheduleDetails(run, linesOf, what, title) {
   return made;
 }
 
+/** Switches on what delivers messages, or off with a reason. */
+function allow(box, why) {
+  for (const it of box.querySelectorAll('button:not(.copy)')) enable(it, !why, why);
+}
+
 /** The buttons that let a written message come, as it is or changed; of a stream also the one that cuts it. */
-function deliverRow(run, entry, act) {
+function deliverRow(run, entry, { act, whyNot }) {
   const { item } = entry;
   const to = OTHER[entry.role];
   const name = messageName(entry);
   const row = element('div', 'deliver');
   row.setAttribute('role', 'group');
   row.setAttribute('aria-label', named(name));
-  const deliver = button('', () => act(() => run.deliver(to, item.n, [...item.flips].sort((a, b) => a - b))), 'go');
+  const deliver = button('', () => act(() => run.deliver(to, item.n, sorted(item.flips))), 'go');
   row.append(deliver);
   if (run.setup.mode === 'stream' && item.number === undefined) {
     const place = element('input');
-    Object.assign(place, { type: 'number', min: 0, max: item.message.length + 1, value: 2 });
+    const { length } = item.message;
+    Object.assign(place, { type: 'number', min: 0, max: length + 1, value: 2 });
     place.setAttribute('aria-label', `So many bytes of ${name} come, with its length of 2`);
-    const count = () => Math.max(0, Math.min(item.message.length + 1, Math.floor(Number(place.value)) || 0));
-    row.append(button('Cut the connection after', () => act(() => run.cut(to, item.n, count()))), element('label', '', place, ' bytes'));
+    const count = () => Math.max(0, Math.min(length + 1, Math.floor(Number(place.value)) || 0));
+    row.append(button('Cut the connection after', () => act(() => run.cut(to, item.n, count()))), element('label', '', place, ` bytes of ${length + 2}: the first 2 are its length`));
   }
+  allow(row, whyNot());
   row.append(copier(name, () => hex(item.message)));
   const show = () => {
     const { size } = item.flips;
@@ -83,11 +91,11 @@ function hashLine({ initiator, responder }) {
 }
 
 /** What is inside an entry, made when it is first opened. */
-function inside(run, entry, act) {
+function inside(run, entry, hands) {
   const parts = [];
   const name = entry.kind === 'closed' ? '' : entry.item ? messageName(entry) : '';
   if (entry.kind === 'wrote') {
-    const { row, show } = deliverRow(run, entry, act);
+    const { row, show } = deliverRow(run, entry, hands);
     parts.push(bytesView(run, entry.item, name, show), row);
     if (entry.payload?.length > 48) parts.push(element('p', 'payload', `payload: ${shown(entry.payload)} `, copier(`the payload of ${name} in hex`, () => hex(entry.payload))));
   }
@@ -96,7 +104,7 @@ function inside(run, entry, act) {
   return parts.filter(Boolean);
 }
 
-function entryItem(run, entry, act) {
+function entryItem(run, entry, hands) {
   const isRefused = ['refused', 'unwritten'].includes(entry.kind);
   const li = element('li', isRefused ? 'refused' : entry.kind);
   const chip = element('span', 'chip', CHIPS[entry.kind]);
@@ -110,7 +118,7 @@ function entryItem(run, entry, act) {
   const details = element('details', 'entry', element('summary', '', chip, ' ', sentence, fate));
   const open = () => {
     details.open = true;
-    if (details.childElementCount === 1) details.append(...inside(run, entry, act));
+    if (details.childElementCount === 1) details.append(...inside(run, entry, hands));
   };
   details.addEventListener('toggle', () => { if (details.open) open(); });
   li.append(details);
@@ -123,11 +131,14 @@ export class Log {
   #more;
   #shown = [];
   #run;
+  #hands;
 
-  constructor(list, more) {
+  /** `hands` has `act(work)`, which does something with the run, and `whyNot()`, which says why no message can come now, or ''. */
+  constructor(list, more, hands) {
     Object.assign(this, { isWhole: false });
     this.#list = list;
     this.#more = more;
+    this.#hands = hands;
     more.addEventListener('click', () => {
       this.isWhole = true;
       this.#limit();
@@ -137,7 +148,8 @@ export class Log {
     });
   }
 
-  show(run, act) {
+  show(run) {
+    for (const row of this.#list.querySelectorAll('.deliver')) allow(row, this.#hands.whyNot());
     if (run && run === this.#run && run.log.length === this.#shown.length) return undefined;
     if (run !== this.#run) {
       this.#list.replaceChildren();
@@ -146,7 +158,7 @@ export class Log {
       this.#run = run;
     }
     for (const entry of run?.log.slice(this.#shown.length) ?? []) {
-      const made = entryItem(run, entry, act);
+      const made = entryItem(run, entry, this.#hands);
       this.#shown.push(made);
       this.#list.prepend(made.li);
     }
@@ -169,7 +181,7 @@ export class Log {
     const isShort = this.isWhole || length <= SHOWN;
     [...this.#list.children].forEach((li, n) => { li.hidden = !isShort && n >= SHOWN && !li.contains(document.activeElement); });
     this.#more.hidden = isShort;
-    this.#more.textContent = `Show ${length - SHOWN} earlier entries`;
+    this.#more.textContent = `Show ${length - SHOWN} earlier ${length - SHOWN === 1 ? 'entry' : 'entries'}`;
   }
 }
 
@@ -202,10 +214,4 @@ export function showWindows(box, run) {
     grid.setAttribute('aria-hidden', 'true');
     box.append(element('div', '', element('p', '', label), grid));
   }
-}
-
-/** Greys a run whose set-up isn't the one above any more: nothing more happens in it. */
-export function showStale(section, isStale) {
-  section.classList.toggle('stale', isStale);
-  for (const it of section.querySelectorAll('#log .deliver button:not(.copy)')) enable(it, !isStale, 'This run belongs to another set-up.');
 }

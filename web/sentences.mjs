@@ -5,12 +5,13 @@ import { OTHER, ROLES } from './party.mjs';
 
 export const named = (role) => role[0].toUpperCase() + role.slice(1);
 
-/** How a message is called. */
-export function messageName({ role, kind, n, number, transport, isDatagram, isEnd }) {
+/** How a message is called; also in a sentence whose subject is the writer. */
+export function messageName({ role, kind, n, number, transport, isDatagram, isEnd }, isOfSubject = false) {
   const writer = kind === undefined || kind === 'wrote' ? role : OTHER[role];
-  if (isDatagram) return `datagram ${n} of the ${writer}`;
   if (number !== undefined) return `message ${number + 1}`;
-  return isEnd ? `the end of the ${writer}’s stream (transport message ${transport})` : `transport message ${transport} of the ${writer}`;
+  if (isEnd) return `the end of ${isOfSubject ? 'its' : `the ${writer}’s`} stream (transport message ${transport})`;
+  const name = isDatagram ? `datagram ${n}` : `transport message ${transport}`;
+  return isOfSubject ? `its ${name}` : `${name} of the ${writer}`;
 }
 
 const list = (numbers) => (numbers.length > 4 ? `${numbers.slice(0, 4).join(', ')} and ${numbers.length - 4} more` : numbers.join(', '));
@@ -49,7 +50,7 @@ function leaves(run, { role, token, code }) {
 const WHAT = {
   wrote: (run, entry) => {
     const { role, message, payload, isEnd } = entry;
-    return `${named(role)} wrote ${messageName(entry)}: ${message.length} bytes${isEnd ? '' : `, payload ${shown(payload)}`}.`;
+    return `${named(role)} wrote ${messageName(entry, true)}: ${message.length} bytes${isEnd ? '' : `, payload ${shown(payload)}`}.`;
   },
   unwritten: (run, { role, code }) => `${named(role)} wrote nothing: ${CAUSES[code] ?? `code ${code}`}. It goes on as before.`,
   accepted: (run, entry) => `${named(entry.role)} accepted ${messageName(entry)}: payload ${shown(entry.payload)}.${changedWords(entry.flips)}`,
@@ -85,7 +86,7 @@ export function stateOf(run) {
     const party = run[role];
     if (party.ended) return `the ${role}’s handshake has ended: begin again with new keys`;
     if (party.isBroken) return `the ${role}’s stream is broken`;
-    if (party.sealer) return `the ${role} is open (sent ${party.sent}, accepted ${party.taken})`;
+    if (party.sealer) return `the ${role} ${party.hasEnded ? 'has ended its stream' : 'is open'} (sent ${party.sent}, accepted ${party.taken})`;
     return `the ${role} has passed ${party.handshake.stage.passed} of ${run.plan.messages.length}`;
   };
   return `${named(of('initiator'))}; ${of('responder')}.`;

@@ -69,6 +69,31 @@ test('the hash covers the psks so far too', () => {
   assert.deepEqual(coveredBy(textOf('XK', [0]), 250)[1][0], 'hash: name, prologue, keys, psk,');
 });
 
+test('what is left of a handshake is passed, also where a message is on its way', async () => {
+  const started = () => Run.start({ text: textOf('XX'), prologue: new Uint8Array(0), interval: 0, mode: 'transport', window: 64 });
+  const nothing = () => new Uint8Array(0);
+  for (const written of [0, 1, 2]) {
+    const run = await started();
+    for (let n = 0; n < written; n += 1) {
+      if (run.pending) await run.deliver(run.pending.to, run.pending.item.n);
+      await run.write(run.next, nothing());
+    }
+    await run.passAll(nothing);
+    assert.equal(run.isOpen, true, String(written));
+    assert.equal(run.log.length, 6);
+    assert.deepEqual([run.next, run.pending], [undefined, undefined]);
+    run.dispose();
+  }
+  const run = await started();
+  const { item } = await run.write('initiator', nothing());
+  await run.deliver('responder', 0);
+  (await run.write('responder', nothing())).item.flips.add(95);
+  await run.passAll(nothing);
+  assert.match(sentenceOf(run, run.log.at(-1)), /^Initiator refused message 2, payload: a tag is wrong\. Changed on the way: byte 95\./);
+  assert.deepEqual([run.next, run.pending, item.comings], [undefined, undefined, ['accepted']]);
+  run.dispose();
+});
+
 async function runOf(base, places, ownPsks) {
   const run = await Run.start({ text: textOf(base, places), prologue: new Uint8Array(0), interval: 0, mode: 'transport', window: 64, ownPsks });
   await run.passAll(() => new Uint8Array(0));
