@@ -30,10 +30,14 @@ async function loadLate() {
   return { ...all, control: new all.Control(page, acted, takeBack), take: new all.Take(page) };
 }
 
-/** Says what of a link is left out. */
-function notice(...sentences) {
-  at('notice').textContent = sentences.filter(Boolean).join(' ');
+/** Says what of a link is left out; and that it has a run, which is further down. */
+function notice(sentences, hasRun) {
+  const toRun = Object.assign(element('a', '', 'See the run'), { href: '#run' });
+  at('notice').replaceChildren(sentences.filter(Boolean).join(' '), ...(hasRun ? ['This link has a run, which is done again with new keys. ', toRun] : []));
 }
+
+/** Whether the page was opened by a link, and not by a reload or by Back. */
+const isOpened = () => performance.getEntriesByType('navigation')[0]?.type === 'navigate';
 
 function showInputs() {
   const { setup, plan } = page;
@@ -107,10 +111,10 @@ function takeBack() {
 }
 
 /** The steps of an address's run that can be done. What else it has and can't be taken is said. */
-function stepsOf(fragment) {
+function stepsOf(fragment, isFirst = false) {
   const { steps, fault } = link.readRun(fragment);
   const isIdle = steps.length > 0 && !page.plan;
-  notice(link.faultOf(fragment), fault, isIdle && 'The run of this link is left out: its pattern isn’t valid.');
+  notice([link.faultOf(fragment), fault, isIdle && 'The run of this link is left out: its pattern isn’t valid.'], isFirst && steps.length > 0 && !isIdle);
   return isIdle ? [] : steps;
 }
 
@@ -149,12 +153,13 @@ function keepOffline() {
 
 try {
   const shaping = import('./shape.mjs');
+  notice([], isOpened() && link.readRun(location.hash).steps.length > 0);    // before anything is drawn, so that nothing moves
   await load();
   showInputs();
   wire();
   editor = new Editor(patternChanged, leave);
   editor.set(page.setup.text);
-  const steps = stepsOf(location.hash);
+  const steps = stepsOf(location.hash, isOpened());
   const firstVerdict = performance.now();
   shape = new (await shaping).Shape(page, besideChosen);
   document.body.classList.remove('loading');

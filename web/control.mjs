@@ -34,7 +34,6 @@ export class Control {
     const onPress = (it, work) => it.addEventListener('click', () => { if (it.getAttribute('aria-disabled') !== 'true') work(); });
     const onAct = (it, work) => onPress(it, () => this.#act(work));
     onPress(at('start'), () => this.begin());
-    onPress(at('again'), () => this.begin().then(() => at('start').focus()));
     onPress(at('back'), () => { back(); at('start').focus(); });
     onAct(at('all'), () => page.run.passAll(payload));
     onAct(at('close'), () => page.run.close());
@@ -59,7 +58,7 @@ export class Control {
     const none = run ? STALE : 'No keys are drawn yet.';
     const silence = (role) => (isLive ? `It can’t write: ${run.silenceOf(role) ?? 'this isn’t a stream'}.` : none);
     enable(at('start'), plan, 'The pattern isn’t valid.');
-    at('start').textContent = run ? 'Begin again with new keys' : 'Draw keys and begin';
+    at('start').textContent = run ? `Begin again with ${isStale ? 'this set-up' : 'new keys'}` : 'Draw keys and begin';
     enable(at('all'), isLive && (run.next || run.pending), isLive ? 'No message of the handshake is left.' : none);
     for (const it of document.querySelectorAll('[data-write]')) {
       const role = it.dataset.write;

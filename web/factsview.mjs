@@ -41,7 +41,7 @@ export function warningsOf(plan) {
 function rowsOf(text) {
   const plan = layout(text);
   const { moments, facts } = judge(plan);
-  const before = linesOf(text).map(({ line }) => line.trim()).slice(1);
+  const before = linesOf(text).map(({ line }) => line.trim().replace('->', '→').replace('<-', '←')).slice(1);
   const dots = before.indexOf('...');
   const rows = [['Known before', dots < 0 ? 'nothing' : before.slice(0, dots).join('; ')]];
   plan.messages.forEach(({ from, tokens, length }, n) => rows.push([`Message ${n + 1}`, `${from === 'initiator' ? '→' : '←'} ${tokens.join(', ')} (${length} bytes)`]));

@@ -9,12 +9,14 @@ import { vectorFile } from './vectorfile.mjs';
 
 const at = (id) => document.getElementById(id);
 
+/** Hands a file to the browser, and says so. */
 function save(name, type, text) {
   const url = URL.createObjectURL(new Blob([text], { type }));
   const anchor = element('a');
   Object.assign(anchor, { href: url, download: name });
   anchor.click();
   setTimeout(() => URL.revokeObjectURL(url), 1000);
+  at('copied').textContent = `The browser saves ${name}.`;
 }
 
 /** Copies a text, and says so below the buttons; where the browser doesn't let it, the text is shown to be copied by hand. */

@@ -154,6 +154,7 @@ async function long() {
 /** Each walk with one hand, and at a width of its own. */
 async function walks() {
   await browser.send('Browser.grantPermissions', { permissions: ['clipboardReadWrite', 'clipboardSanitizedWrite'] });
+  await browser.send('Browser.setDownloadBehavior', { behavior: 'deny' });
   for (const [Hand, width] of [[Keyboard, 390], [Pointer, 1100]]) {
     await page.resize(width);
     await new Walk(page, new Hand(browser)).all();

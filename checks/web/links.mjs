@@ -22,6 +22,11 @@ async function leftOut(page) {
     assert.equal(await page.evaluate('document.getElementById("notice").getAttribute("role")'), 'status');
   }
   await page.open(linkOf({ run: 'wi_dr.0' }));
+  assert.equal(await page.textOf('notice'), 'This link has a run, which is done again with new keys. See the run');
+  assert.ok(await page.evaluate('document.getElementById("run").getBoundingClientRect().top > innerHeight'));
+  await page.click('#notice a');
+  await page.until('document.getElementById("run").getBoundingClientRect().top < innerHeight / 2 && location.hash.includes("run=wi")');
+  await page.reload();
   assert.equal(await page.textOf('notice'), '');
   assert.match(await page.textOf('said'), /^The run of the link was done again with new keys: 2 entries\. 1\. Initiator wrote/);
   await page.evaluate(`location.hash = ${JSON.stringify(linkOf({ run: 'w' }))}`);

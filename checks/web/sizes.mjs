@@ -29,11 +29,23 @@ const OVERLAPS = `(() => {
 
 async function whileLoading(page) {
   for (const width of WIDTHS) {
-    for (const fragment of ['', PSKS]) {
+    for (const fragment of ['', PSKS, `${PSKS}&run=wi_dr.0.3`]) {
       await page.resize(width);
       await page.open(fragment);
       assert.equal(await page.evaluate(SHIFT), 0, `the page shifts while it loads, at ${width}`);
     }
+  }
+}
+
+/** The picture stays where it is while a text becomes wrong, and is mended. */
+async function whileTyping(page) {
+  const top = () => page.evaluate('document.getElementById("picture").getBoundingClientRect().top + scrollY');
+  await page.resize(1100);
+  await page.open();
+  const before = await top();
+  for (const text of ['MINE:\n  -> e\n  <- e, ee, ee\n', 'MINE:\n-> e\n', 'MINE:\n', 'MINE:\n  -> e\n  <- e, ee\n']) {
+    await page.type('text', text);
+    assert.equal(await top(), before, text);
   }
 }
 
@@ -50,6 +62,7 @@ async function atEachWidth(page) {
 
 export async function sizes(page, top) {
   await whileLoading(page);
+  await whileTyping(page);
   await atEachWidth(page);
   const names = (await readdir(join(top, 'web'))).filter((name) => name.endsWith('.html') && name !== 'index.html');
   for (const name of names) {
@@ -61,5 +74,5 @@ export async function sizes(page, top) {
     }
   }
   await page.resize(1100);
-  return `no page is wider than its window, at ${WIDTHS.length + BETWEEN.length} widths; nothing moves while the page loads, and no two texts of the picture meet`;
+  return `no page is wider than its window, at ${WIDTHS.length + BETWEEN.length} widths; nothing moves while the page loads or a fault is typed, and no two texts of the picture meet`;
 }

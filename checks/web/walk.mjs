@@ -62,7 +62,7 @@ export class Walk {
     await hand.choose('#beside', 'NK1');
     const rows = await this.page.evaluate('[...document.querySelectorAll("#other tbody tr")].map((it) => [it.className, ...[...it.children].map((cell) => cell.textContent)])');
     const row = (name) => rows.find(([, head]) => head.startsWith(name));
-    assert.deepEqual(row('Known before'), ['', 'Known before', '<- s', '<- s']);
+    assert.deepEqual(row('Known before'), ['', 'Known before', '← s', '← s']);
     assert.deepEqual(row('Message 1'), ['other', 'Message 1 differs', '→ e, es (48 bytes)', '→ e (32 bytes)']);
     assert.equal(row('Keys of transport')[0], '');
     await hand.choose('#beside', '');
@@ -126,7 +126,8 @@ export class Walk {
     const before = await this.page.count();
     await hand.type('#prologue', 'walks');
     assert.equal(await this.page.count(), before);
-    assert.ok(await this.page.evaluate('document.getElementById("ran").matches(".stale") && document.getElementById("again").offsetHeight > 0'));
+    assert.ok(await this.page.evaluate('document.getElementById("ran").matches(".stale") && document.getElementById("back").offsetHeight > 0'));
+    assert.equal(await this.of('start'), 'Begin again with this set-up');
     await hand.press('#back');
     assert.equal(await this.page.evaluate('document.getElementById("prologue").value + document.getElementById("ran").className'), 'walk');
     assert.equal(await this.page.count(), before);
@@ -142,6 +143,8 @@ export class Walk {
     const address = await this.clipboard(/#pattern=/);
     assert.equal(await this.of('copied'), 'A link to this run copied. It opens only on this computer, which serves this page.');
     assert.ok(address.startsWith(await this.page.evaluate('location.href.split("#")[0]')));
+    await hand.press('#save-vector');
+    await this.until('document.getElementById("copied").textContent === "The browser saves XX.vector."');
     for (const [, key] of keys.matchAll(/([0-9a-f]{64})/g)) assert.ok(!address.includes(key));
     await this.page.open(new URL(address).hash);
     await this.until('document.getElementById("log").childElementCount === 4');
@@ -194,7 +197,7 @@ export class Walk {
     await this.until('document.getElementById("log").childElementCount === 4');
     assert.equal(await this.page.evaluate('document.getElementById("ownPsks").checked'), true);
     await hand.tick('#ownPsks');
-    await hand.press('#again');
+    await hand.press('#start');
     await this.until('document.getElementById("log").childElementCount === 0');
     await this.adding(4, () => hand.press('#all'));
     assert.match(await this.of('state'), /initiator is open .*responder is open/);
@@ -211,7 +214,7 @@ export class Walk {
     const { hand } = this;
     await hand.choose('#pick', 'NN');
     await hand.choose('#mode', 'stream');
-    await hand.press('#again');
+    await hand.press('#start');
     await this.until('document.getElementById("log").childElementCount === 0');
     await this.until('document.activeElement.id === "start"');
     await hand.press('#all');
