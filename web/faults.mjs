@@ -154,6 +154,6 @@ export const CAUSES = {
   22: 'the pattern is one-way',
   26: 'its nonce is 2⁶⁴ − 1, which none has',
   27: 'its nonce is below the window',
-  28: 'a datagram of its nonce was opened',
+  28: 'a datagram with its nonce was opened already',
   43: 'its stream has ended',
 };

@@ -136,10 +136,13 @@ function ruleMends(lines, verdict) {
   return [[mend, mixed(lines, missing, n)]];
 }
 
+/** The kinds of faults of a line, by code, in the order in which they are looked for. */
+const KINDS = [30, 31, 32, 33, 34, 37, 35, 36, 38];
+
 /** How far a text is right, as a number for comparing. */
 function reach(verdict) {
   if (verdict.valid) return Infinity;
-  return verdict.rule ? 1e6 + verdict.message * 100 + verdict.token : verdict.line * 100 + (verdict.code === 36 ? 1 : 0);
+  return verdict.rule ? 1e6 + verdict.message * 100 + verdict.token : verdict.line * 100 + KINDS.indexOf(verdict.code);
 }
 
 /** Corrections of a refused text, each with a label and the whole text after it: at most two. */

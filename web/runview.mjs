@@ -110,7 +110,7 @@ function entryItem(run, entry, hands) {
   const chip = element('span', 'chip', CHIPS[entry.kind]);
   const fate = element('span', 'fate');
   const sentence = element('span', 'who', `${entry.at}. ${sentenceOf(run, entry)} `);
-  const hasMore = entry.kind === 'wrote' || entry.item;
+  const hasMore = entry.kind === 'wrote' || (entry.item && !entry.isDatagram);
   if (!hasMore) {
     li.append(element('p', '', chip, ' ', sentence));
     return { li, entry };

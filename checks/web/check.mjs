@@ -121,7 +121,8 @@ async function datagrams() {
   for (let n = 0; n < 4; n += 1) await page.write('initiator');
   for (const n of [4, 3]) await page.deliver(n);
   await page.deliver(3);
-  assert.match(await page.last(), /datagram 1 of the initiator: a datagram of its nonce was opened/);
+  assert.match(await page.last(), /datagram 1 of the initiator: a datagram with its nonce was opened already/);
+  assert.equal(await page.evaluate('[...document.querySelectorAll("#log details[open]")].filter((it) => it.childElementCount < 2).length'), 0, 'an entry opens onto nothing');
   await page.deliver(5, [20]);
   assert.match(await page.last(), /^refused/);
   assert.equal(await page.evaluate('document.querySelectorAll(".window i.opened, .window i.top").length'), 2);

@@ -124,6 +124,7 @@ test('what the editor can mend it offers to', () => {
     ['XX:\n  -> e\n', 'MINE:\n  -> e\n'],
     ['MINE:\n  -> e, psk\n', 'MINEpsk1:\n  -> e, psk\n'],
     ['MINE:\n', 'MINE:\n  -> e\n'],
+    ['MINE:\n<- s\n', 'MINE:\n  <- s\n'],
     ['  -> e\n', 'MINE:\n  -> e\n'],
     ['MINE:\n  <- s\n  -> s\n  ...\n  -> e, es, ss\n', 'MINE:\n  -> s\n  <- s\n  ...\n  -> e, es, ss\n'],
   ]) assert.equal(saidOf(text).offers[0]?.text, mended, JSON.stringify(text));
