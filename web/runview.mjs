@@ -70,7 +70,10 @@ function deliverRow(run, entry, { act, whyNot }) {
     Object.assign(place, { type: 'number', min: 0, max: length + 1, value: 2 });
     place.setAttribute('aria-label', `So many bytes of ${name} come, with its length of 2`);
     const count = () => Math.max(0, Math.min(length + 1, Math.floor(Number(place.value)) || 0));
-    row.append(button('Cut the connection after', () => act(() => run.cut(to, item.n, count()))), element('label', '', place, ` bytes of ${length + 2}: the first 2 are its length`));
+    row.append(
+      button('Cut the connection after', () => act(() => run.cut(to, item.n, count()))),
+      element('label', '', place, ` bytes of ${length + 2}: the first 2 are its length`),
+    );
   }
   allow(row, whyNot());
   row.append(copier(name, () => hex(item.message)));

@@ -74,5 +74,6 @@ export async function sizes(page, top) {
     }
   }
   await page.resize(1100);
-  return `no page is wider than its window, at ${WIDTHS.length + BETWEEN.length} widths; nothing moves while the page loads or a fault is typed, and no two texts of the picture meet`;
+  return `no page is wider than its window, at ${WIDTHS.length + BETWEEN.length} widths; nothing moves while the page loads or a fault is typed, and no two `
+    + 'texts of the picture meet';
 }
