@@ -57,21 +57,24 @@ function showRun() {
   late?.take.show();
 }
 
+/** The state of the history's entries that are this page's own: that of a link is null. */
+const KEPT = { isKept: true };
 const addressOf = () => link.address(page.setup, page.run && !page.isStale ? page.run.steps : []);
+const keepNow = () => history.replaceState(KEPT, '', addressOf());
 
 /** The page's address has the set-up and the run: not at each key, which browsers refuse, and not before the run of a link is done again. */
 function keepAddress() {
   clearTimeout(addressing);
   if (!late) return;
-  addressing = setTimeout(() => history.replaceState(null, '', addressOf()), 250);
+  addressing = setTimeout(keepNow, 250);
 }
 
 /** Keeps the address as it is for Back, and goes on under one of its own, which has the new set-up as soon as it is there. */
 function leave() {
   clearTimeout(addressing);
-  history.replaceState(null, '', addressOf());
-  history.pushState(null, '', addressOf());
-  queueMicrotask(() => history.replaceState(null, '', addressOf()));
+  keepNow();
+  history.pushState(KEPT, '', addressOf());
+  queueMicrotask(keepNow);
 }
 
 /** After each change of the set-up. The run stays; it is greyed while it belongs to another one. */
@@ -119,7 +122,7 @@ function stepsOf(fragment, isFirst = false) {
 }
 
 /** Takes the set-up of the page's address, and its run. Where the address has another place of the page, the set-up stays. */
-async function follow() {
+async function follow({ state }) {
   if (!link.isSetup(location.hash)) return keepAddress();
   const { activeElement } = document;
   const setup = link.read(location.hash, STARTED);
@@ -130,8 +133,9 @@ async function follow() {
   }
   changed();
   clearTimeout(addressing);
-  const steps = stepsOf(location.hash);
-  if (steps.length && late && !late.control.isAtHand(steps)) await late.control.repeat(steps);
+  const isAtHand = late?.control.isAtHand(link.readRun(location.hash).steps);
+  const steps = stepsOf(location.hash, state === null && !isAtHand);
+  if (steps.length && late && !isAtHand) await late.control.repeat(steps);
   return refocus(activeElement, at('start'));
 }
 

@@ -31,6 +31,8 @@ async function leftOut(page) {
   assert.match(await page.textOf('said'), /^The run of the link was done again with new keys: 2 entries\. 1\. Initiator wrote/);
   await page.evaluate(`location.hash = ${JSON.stringify(linkOf({ run: 'w' }))}`);
   await page.until('document.getElementById("notice").textContent.includes("its step 1 can’t be read")');
+  await page.evaluate(`location.hash = ${JSON.stringify(linkOf({ run: 'wi.00_dr.0' }))}`);
+  await page.until('document.getElementById("notice").textContent.startsWith("This link has a run")');
   await page.open(linkOf({ run: 'wi_dr.3' }));
   assert.equal(await page.textOf('said'), 'Of the link’s run 1 of 2 steps were done again with new keys: 1 entry. There is no such message.');
 }
@@ -59,6 +61,7 @@ async function backAndForward(page) {
   await page.until('/^#pattern=XX.*run=wi\\.68/.test(location.hash)');
   await page.run('document.querySelector("#log .go").focus(); history.back()');
   await at(NN, 2);
+  assert.equal(await page.textOf('notice'), '');
   assert.equal(await page.evaluate('document.getElementById("ran").className'), '');
   assert.equal(await page.evaluate('document.activeElement.id'), 'start');
   await page.run('history.forward()');
