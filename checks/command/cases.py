@@ -42,7 +42,7 @@ class Cases:
     def unnamed(self):
         """The files that no command of their folder names."""
         texts = {}
-        for path in self.files("case") + self.files("commands") + self.files("lines"):
+        for path in self.files("case") + self.files("commands") + self.files("lines") + self.files("explained"):
             with open(path, encoding="utf-8") as file:
                 texts.setdefault(os.path.dirname(path), set()).update(file.read().split())
         for path in self.files("*"):
@@ -86,11 +86,26 @@ class Cases:
             self.run_text(f"{os.path.relpath(path, self.folder)}: {text}", command, bytes_of(text), status, told)
 
     def run_explained(self, path):
-        """Runs `explain` on the text of each row, of which a place and two sentences are said."""
-        command, status, _, rows = rows_of(path)
+        """Runs `explain` on the text of each row, of which a place and two sentences are said, or on a file with a line that is changed."""
+        command, status, name, rows = rows_of(path)
+        if name:
+            self.run_explained_lines(path, command, status, name, rows)
+            return
         for text, place, says, mends in rows:
             expected = f"/dev/stdin:{place}: [..]\n  [..]\n  {says}\n  {mends}\nstatus: {status}\n"
             self.expect(f"{os.path.relpath(path, self.folder)}: {text}", expected, run([command, "/dev/stdin"], given=bytes_of(text)))
+
+    def run_explained_lines(self, path, command, status, name, rows):
+        """Runs `explain` on a file with one line more or another one, for each row. The whole output is compared: the place, the line and the caret, and
+        each sentence."""
+        with open(f"{os.path.dirname(path)}/{name}", "rb") as file:
+            lines = file.readlines()
+        for place, number, line, told, *sentences in rows:
+            text = changed(lines, place, int(number), bytes_of(line))
+            at, column, word = told.replace(":", " ").split()
+            shown_lines = caret_lines(text.split(b"\n")[int(at) - 1], int(column))
+            expected = f"/dev/stdin:{at}:{column}: line {at} {word}\n{shown_lines}" + "".join(f"  {it}\n" for it in sentences)
+            self.expect(f"{os.path.relpath(path, self.folder)}: {place} {number}: {line}", f"{expected}status: {status}\n", run([command, "/dev/stdin"], given=text))
 
     def run_lines(self, path):
         """Runs a command on a file with one more line, or on the front of it with a last line that isn't ended, for each row."""
@@ -98,14 +113,31 @@ class Cases:
         with open(f"{os.path.dirname(path)}/{name}", "rb") as file:
             lines = file.readlines()
         for place, number, line, told in rows:
-            before, after = lines[: int(number) - 1], lines[int(number) - 1 :]
-            end = [b"\n", *after] if place == "before" else []
             name = f"{os.path.relpath(path, self.folder)}: {place} {number}: {line}"
-            self.run_text(name, command, b"".join([*before, bytes_of(line), *end]), status, told)
+            self.run_text(name, command, changed(lines, place, int(number), bytes_of(line)), status, told)
 
     def run_text(self, name, command, text, status, told):
         """Runs a command on a text, of which this has to be told."""
         self.expect(name, f"standard error: {told}\nstatus: {status}\n", run([command, "/dev/stdin"], given=text))
+
+
+def changed(lines, place, number, line):
+    """The text of these lines with another one: before the line of this number, in its place, or last, without its end."""
+    before, after = lines[: number - 1], lines[number - 1 :]
+    ends = {"before": [b"\n", *after], "instead": [b"\n", *after[1:]], "last": []}
+    return b"".join([*before, line, *ends[place]])
+
+
+def escaped(part):
+    """Bytes as `explain` shows them."""
+    return "".join(chr(it) if 32 <= it <= 126 else f"\\x{it:02x}" for it in part)
+
+
+def caret_lines(line, column):
+    """A line with a caret below a column, and 64 bytes before it and after it."""
+    before, after = line[: column - 1], line[column - 1 :]
+    first = ("[..]" if len(before) > 64 else "") + escaped(before[-64:])
+    return f"  {first}{escaped(after[:64])}{'[..]' if len(after) > 64 else ''}\n  {' ' * len(first)}^\n"
 
 
 def rows_of(path):

@@ -135,7 +135,11 @@ fn explain_rule(
 }
 
 // A line, and a caret below this column.
-fn caret_lines(alloc: Global, line: &[u8], column: usize) -> Result<Vec<u8>, AllocError> {
+pub(crate) fn caret_lines(
+    alloc: Global,
+    line: &[u8],
+    column: usize,
+) -> Result<Vec<u8>, AllocError> {
     let mut text = Vec::new(alloc);
     push_caret(line, column, &mut text)?;
     Ok(text)
@@ -150,7 +154,11 @@ fn advice_lines(alloc: Global, advice: Advice) -> Result<Vec<u8>, AllocError> {
 }
 
 // Which rule is broken where, what is wrong there, and what mends it.
-fn rule_lines(alloc: Global, pattern: &Pattern, fault: RuleFault) -> Result<Vec<u8>, AllocError> {
+pub(crate) fn rule_lines(
+    alloc: Global,
+    pattern: &Pattern,
+    fault: RuleFault,
+) -> Result<Vec<u8>, AllocError> {
     let sentences = rule_sentences(alloc, pattern, fault)?;
     let mut text = Vec::new(alloc);
     push_sentence(sentences.place.as_str(), &mut text)?;

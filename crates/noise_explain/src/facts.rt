@@ -212,7 +212,7 @@ fn one_static(alloc: Global, role: Role, psk: &str) -> Result<String, AllocError
 }
 
 // Appends a line of four spaces and a fact of the message or the transport above.
-fn push_fact(fact: &str, text: &mut Vec<u8>) -> Result<(), AllocError> {
+pub(crate) fn push_fact(fact: &str, text: &mut Vec<u8>) -> Result<(), AllocError> {
     text.extend_from_slice(b"  ".as_slice())?;
     push_sentence(fact, text)
 }

@@ -34,7 +34,7 @@ fn first_line(text: &[u8]) -> &[u8]
 }
 
 // What follows the first line and its line feed.
-fn after_line(text: &[u8]) -> &[u8]
+pub(crate) fn after_line(text: &[u8]) -> &[u8]
     ensures { result.now ≡ after_line text.now }
 {
     let (_, rest) = text.split_at(line_len(text));

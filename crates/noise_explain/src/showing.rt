@@ -76,7 +76,7 @@ fn push_number(alloc: Global, number: usize, text: &mut Vec<u8>) -> Result<(), A
 }
 
 // Appends these bytes as they are shown.
-fn push_shown(bytes: &[u8], text: &mut Vec<u8>) -> Result<(), AllocError>
+pub(crate) fn push_shown(bytes: &[u8], text: &mut Vec<u8>) -> Result<(), AllocError>
     ensures { OnOk result (text.new.items ≡ text.old.items ++ shown bytes.now) }
 {
     for byte in bytes {

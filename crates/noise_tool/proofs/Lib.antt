@@ -13,6 +13,7 @@ pub mod TraceLineLemmas
 pub mod ReceivedLemmas
 pub mod EventLemmas
 pub mod ExplainLemmas
+pub mod VectorExplainLemmas
 pub mod KeptLemmas
 pub mod FollowLemmas
 pub mod TracedRunLemmas

@@ -1,14 +1,61 @@
 -- What `explain` prints of files, and its exit status.
-use Rattle.std.specs.Prelude.{◌≡◌, ◌⊎◌, ◌<◌, ℕ, List, ◌++◌, Option, IfSome, flat_map, fold, length, map, nat_le, if◌then◌else◌}
+use Rattle.std.specs.Prelude.{◌≡◌, ◌⊎◌, ◌<◌, ℕ, List, ◌++◌, Option, IfSome, IsFalse, IsTrue, flat_map, fold, length, map, nat_le, if◌then◌else◌}
 use Rattle.std.specs.List.{All}
 use Rattle.std.specs.Io.KnownBytes.{Appends}
 use Rattle.noise_explain.specs.Explained.{IsExplained, SaysLong}
 use Rattle.noise_explain.specs.declared.explaining.Explained.{Explained}
+use Rattle.noise_explain.specs.VectorExplained.{TellsFault, TellsLine, TellsVector, is_vector_text}
 use Rattle.noise_lines.specs.Prefixes.{AppendsPrefix}
+use Rattle.noise_lines.specs.declared.faults.Fault.{Fault}
+use Rattle.noise_lines.specs.declared.faults.Fault.TheVariants.{Line}
+use Rattle.noise_tool.specs.Ends.{IsStartFault}
+use Rattle.noise_tool.specs.Performing.{IsUnread}
+use Rattle.noise_tool.specs.Running.{IsRunOf}
+use Rattle.noise_vectors.specs.VectorFile.{IsVectorFile}
+use Rattle.noise_vectors.specs.VectorText.{text_of}
+use Rattle.noise_vectors.specs.declared.faults.LineKind.{LineKind}
+use Rattle.noise_vectors.specs.declared.vector.AllowedEvents.TheVariants.{Any}
+use Rattle.noise_vectors.specs.declared.vector.VectorFile.{VectorFile}
+
+-- what is said of a right vector file: what its run comes to, or why it has no ends
+pub record SaysRun (name : List ℕ) (file : VectorFile) (e : Explained) : Type 0 where
+  pub lines : List (List ℕ)
+  pub run : IsRunOf file lines
+  pub tells : TellsVector name file.protocol e
+
+pub record SaysNoEnds (name : List ℕ) (file : VectorFile) (e : Explained) : Type 0 where
+  pub fault : Fault
+  pub wrong : IsStartFault file fault
+  pub tells : TellsFault name fault e
+
+abbrev pub IsExplainedRun : List ℕ → VectorFile → Explained → Type 0
+IsExplainedRun name file e = SaysRun name file e ⊎ SaysNoEnds name file e
+
+-- a right vector file has this text, and this is said of it
+pub record SaysFile (name text : List ℕ) (e : Explained) : Type 0 where
+  pub file : VectorFile
+  pub right : IsVectorFile file
+  pub text_is : text ≡ text_of file
+  pub said : IsExplainedRun name file e
+
+-- the text is that of no vector file, and the line that `replay` tells is told with its place
+pub record SaysWrongLine (name text : List ℕ) (e : Explained) : Type 0 where
+  pub number : ℕ
+  pub kind : LineKind
+  pub wrong : IsUnread Any text (Line number kind)
+  pub tells : TellsLine name text number kind e
+
+abbrev pub IsExplainedVector : List ℕ → List ℕ → Explained → Type 0
+IsExplainedVector name text e = SaysFile name text e ⊎ SaysWrongLine name text e
+
+-- what is said of a text, by whether it is taken as that of a vector file
+abbrev pub IsExplainedText : List ℕ → List ℕ → Explained → Type 0
+IsExplainedText name text e =
+    (IsTrue (is_vector_text text) × IsExplainedVector name text e) ⊎ (IsFalse (is_vector_text text) × IsExplained name text e)
 
 -- what is said of the file of this name, where its bytes are known
 abbrev pub IsExplainedFile : Option (List ℕ) → List ℕ → Explained → Type 0
-IsExplainedFile known name e = IfSome known (λ text. IsExplained name text e ⊎ ((4194304 < length text) × SaysLong name e))
+IsExplainedFile known name e = IfSome known (λ text. IsExplainedText name text e ⊎ ((4194304 < length text) × SaysLong name e))
 
 -- the name of a file, and what is said of it
 pub record Said : Type 0 where

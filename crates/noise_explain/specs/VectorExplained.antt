@@ -1,0 +1,44 @@
+-- What an explanation of a vector file says.
+use Rattle.std.specs.Prelude.{◌≡◌, ℕ, Bool, List, [], ◌∷◌, ◌++◌, codes, drop, if◌then◌else◌}
+use Rattle.std.specs.Bool.{nat_eq}
+use Rattle.std.specs.List.{starts_with}
+use Rattle.noise_lines.specs.Faults.{status_of}
+use Rattle.noise_lines.specs.declared.faults.Fault.{Fault}
+use Rattle.noise_lines.specs.declared.faults.Fault.TheVariants.{Line}
+use Rattle.noise_names.specs.Names.{Section, name_bytes}
+use Rattle.noise_vectors.specs.declared.faults.LineKind.{LineKind}
+use Rattle.noise_explain.specs.Explained.{Begins}
+use Rattle.noise_explain.specs.Shown.{shown, unread_head, wrong_head}
+use Rattle.noise_explain.specs.VectorColumns.{IsLineColumn}
+use Rattle.noise_explain.specs.declared.explaining.Explained.{Explained}
+use Rattle.noise_explain.specs.declared.place.Place.{Place}
+
+-- the text without the byte-order mark at its front, if one is there: the bytes 239, 187 and 191
+abbrev pub without_mark : List ℕ → List ℕ
+without_mark text = if starts_with nat_eq text (239 ∷ 187 ∷ 191 ∷ []) then drop 3 text else text
+
+-- whether it is taken as that of a vector file: by its first word
+abbrev pub is_vector_text : List ℕ → Bool
+is_vector_text text = starts_with nat_eq (without_mark text) (codes "vector ")
+
+-- the line of this number, wrong as one of this kind, is told with its place
+pub record TellsLine (name text : List ℕ) (number : ℕ) (kind : LineKind) (e : Explained) : Type 0 where
+  pub place : Place
+  pub line_is : place.line ≡ number
+  pub at : IsLineColumn kind text number place.column
+  pub status_is : e.status ≡ 2
+  pub begins : Begins (wrong_head name place (Line number kind)) e
+
+-- a fault of a file as a whole is told
+pub record TellsFault (name : List ℕ) (fault : Fault) (e : Explained) : Type 0 where
+  pub status_is : e.status ≡ status_of fault
+  pub begins : Begins (unread_head name fault) e
+
+-- the first two lines of what is said of a right vector file: its name, and its protocol's
+abbrev pub vector_head : List ℕ → Section → List ℕ
+vector_head name protocol = shown name ++ codes ": valid vector file\n" ++ codes "  protocol " ++ name_bytes protocol ++ codes "\n"
+
+-- a right file of this protocol is told
+pub record TellsVector (name : List ℕ) (protocol : Section) (e : Explained) : Type 0 where
+  pub status_is : e.status ≡ 0
+  pub begins : Begins (vector_head name protocol) e

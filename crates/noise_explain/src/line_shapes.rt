@@ -1,0 +1,73 @@
+//! The shapes of the words of a vector file's lines.
+
+ghost use Rattle.std.specs.Prelude.{◌≡◌};
+ghost use Rattle.noise_explain.specs.VectorColumns.{event_shapes, hex_event, only_if, shapes_of};
+
+use crate::shapes::{Shape, is_role};
+use noise_vectors::LineKind;
+
+// The shapes of the words of a line that has to be of this kind and begins with this word: none where no such line begins
+// so, or where its words aren't told.
+pub(crate) fn shapes_of(kind: LineKind, first: &[u8]) -> &'static [Shape]
+    ensures { result.now ≡ shapes_of kind first.now }
+{
+    match kind {
+        LineKind::Header => either(
+            first == b"vector".as_slice(),
+            &[Shape::First, Shape::Version],
+        ),
+        LineKind::Protocol => either(
+            first == b"protocol".as_slice(),
+            &[Shape::First, Shape::Rest],
+        ),
+        LineKind::Prologue => either(first == b"prologue".as_slice(), &[Shape::First, Shape::Hex]),
+        LineKind::Interval => either(
+            first == b"interval".as_slice(),
+            &[Shape::First, Shape::Number],
+        ),
+        LineKind::Psk => either(first == b"psk".as_slice(), &[Shape::First, Shape::Key]),
+        LineKind::Keys => either(
+            is_role(first),
+            &[Shape::First, Shape::Kind, Shape::MaybeKey, Shape::MaybeKey],
+        ),
+        LineKind::Answer => either(
+            first == b"answer".as_slice(),
+            &[Shape::First, Shape::Own, Shape::Key, Shape::Key],
+        ),
+        LineKind::Event => event_shapes(first),
+        LineKind::Pattern | LineKind::Expect | LineKind::Ending => &[],
+    }
+}
+
+// These shapes, where the line begins as such a one does.
+fn either(is_right: bool, shapes: &'static [Shape]) -> &'static [Shape]
+    ensures { result.now ≡ only_if is_right shapes.now }
+{
+    if is_right { shapes } else { &[] }
+}
+
+// The shapes of the words of an event, or of the line of the datagrams.
+fn event_shapes(first: &[u8]) -> &'static [Shape]
+    ensures { result.now ≡ event_shapes first.now }
+{
+    if first == b"say".as_slice() {
+        &[Shape::First, Shape::Role, Shape::Hex, Shape::Cuts]
+    } else if first == b"deliver".as_slice() {
+        &[Shape::First, Shape::Role, Shape::Number, Shape::Cuts]
+    } else if first == b"open".as_slice() {
+        &[Shape::First, Shape::Role, Shape::Number]
+    } else if is_hex_event(first) {
+        &[Shape::First, Shape::Role, Shape::Hex]
+    } else if first == b"datagrams".as_slice() {
+        &[Shape::First, Shape::Window]
+    } else {
+        &[]
+    }
+}
+
+fn is_hex_event(first: &[u8]) -> bool
+    ensures { result ≡ hex_event first.now }
+{
+    (first == b"write".as_slice() || first == b"raw".as_slice())
+        || (first == b"seal".as_slice() || first == b"foreign".as_slice())
+}

@@ -1,0 +1,29 @@
+-- What is said of vector files.
+use Rattle.std.proofs.Common.{◌≡◌, ◌∙◌, subst, true, inl, ℕ, List, Option, Some, None}
+use Rattle.std.specs.Prelude.{IfOk, IfSome, Result, Ok, Err}
+use Rattle.noise_explain.specs.VectorExplained.{is_vector_text}
+use Rattle.noise_explain.specs.declared.explaining.Explained.{Explained}
+use Rattle.noise_lines.specs.declared.faults.Fault.{Fault}
+use Rattle.noise_vectors.specs.VectorFile.{IsVectorFile}
+use Rattle.noise_vectors.specs.VectorText.{text_of}
+use Rattle.noise_vectors.specs.declared.vector.VectorFile.{VectorFile}
+use Rattle.noise_tool.specs.Explaining.{IsExplainedFile, IsExplainedRun, IsExplainedText, IsExplainedVector}
+
+-- a right file is told
+pub file-said : (name text : List ℕ) (file : VectorFile) (r : Result Explained Fault) → IsVectorFile file → text ≡ text_of file
+    → IfOk r (IsExplainedRun name file) → IfOk r (IsExplainedVector name text)
+file-said name text file (Ok e) right is said = inl (record { file = file; right = right; text_is = is; said = said })
+file-said name text file (Err why) right is said = tt
+
+-- by the first word
+pub vector-said : (name text : List ℕ) (r : Result Explained Fault) → is_vector_text text ≡ true → IfOk r (IsExplainedVector name text)
+    → IfOk r (IsExplainedText name text)
+vector-said name text (Ok e) is said = inl (is, said)
+vector-said name text (Err why) is said = tt
+
+-- of the bytes that are known
+pub bytes-said : (known : Option (List ℕ)) (name text items : List ℕ) (r : Result Explained Fault) → text ≡ items → IfSome known (λ bytes. items ≡ bytes)
+    → IfOk r (IsExplainedText name text) → IfOk r (IsExplainedFile known name)
+bytes-said None name text items (Ok e) is same said = tt
+bytes-said (Some bytes) name text items (Ok e) is same said = inl (subst (λ (t : List ℕ). IsExplainedText name t e) (is ∙ same) said)
+bytes-said known name text items (Err why) is same said = tt
