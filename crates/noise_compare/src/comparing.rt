@@ -25,7 +25,9 @@ pub enum Finding {
 /// What comes of a log, and the lines that are printed of it.
 #[derive(Drop)]
 pub struct LogReport {
+    /// Whether all its lines agree.
     pub finding: Finding,
+    /// The lines that are printed, each with its LF. They have values of the log and of the key schedule: secrets.
     pub text: Vec<u8>,
 }
 

@@ -65,7 +65,7 @@ fn differing(logged: &Line<'_>, right: &Line<'_>) -> Differs {
         key: !right.is_same(logged, 10),
         nonce: !right.is_same(logged, 11),
         exchanged: right.word(9) == logged.word(10) && right.word(10) == logged.word(9),
-        tag: is_tag_alone(logged.word(7), right.word(7)),
+        tag: !right.is_same(logged, 7) && is_tag_alone(logged.word(7), right.word(7)),
     }
 }
 
