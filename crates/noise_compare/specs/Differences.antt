@@ -1,61 +1,56 @@
 -- Where the lines of a log first part from those of a key schedule.
-use Rattle.std.specs.Prelude.{◌≡◌, ℕ, ◌+◌, ◌<◌, ◌&&◌, Bool, true, false, not, List, [], ◌∷◌, Option, Some, None, codes, drop, find, fold, length, take, slice_index_or}
-use Rattle.std.specs.Prelude.{if◌then◌else◌, is_some, option_and_then, option_map}
+use Rattle.std.specs.Prelude.{◌≡◌, ℕ, ◌<◌, ◌&&◌, Bool, true, false, not, List, [], ◌∷◌, ◌++◌, Option, Some, None, IfSome}
+use Rattle.std.specs.Prelude.{codes, find, if◌then◌else◌, length, option_and_then, slice_index_or, take}
+use Rattle.std.specs.List.{All, filter}
 use Rattle.std.specs.Str.{bytes_eq}
 use Rattle.noise_compare.specs.Lines.{has_values, is_of_place, word_at, words_in}
 use Rattle.noise_compare.specs.declared.line.Line.{Line}
 
--- The first of the right lines with the place of a logged one answers it. These are the lines after it, if it has the
--- same values; None if it has others, or if no line has the place.
+unfoldable pub is_of_responder : Line → Bool
+is_of_responder line = bytes_eq (word_at (words_in line) 1) (codes "responder")
+
+-- the lines of the responder, or those of the initiator
+abbrev pub of_role : Bool → List Line → List Line
+of_role true lines = filter is_of_responder lines
+of_role false lines = filter (λ line. not (is_of_responder line)) lines
+
+-- The first of the right lines with the place of a logged one has its values too. These are the lines after it.
+pub record IsAnswered (logged : Line) (right rest : List Line) : Type 0 where
+  pub passed : List Line
+  pub answer : Line
+  pub right_are : right ≡ passed ++ answer ∷ rest
+  pub others : All (λ line. is_of_place logged line ≡ false) passed
+  pub place : is_of_place logged answer ≡ true
+  pub values : has_values logged answer ≡ true
+
+-- logged lines are answered in turn, each by the right lines that the one before it leaves; these are left at last
+abbrev pub AreAnswered : List Line → List Line → List Line → Type 0
+AreAnswered [] right left = left ≡ right
+AreAnswered (logged ∷ more) right left = (rest : List Line) × IsAnswered logged right rest × AreAnswered more rest left
+
+-- The lines of each role are answered. The log may have the two roles in any order, and the lines of each in their own.
+abbrev pub Agrees : List Line → List Line → Type 0
+Agrees right log = (role : Bool) → (left : List Line) × AreAnswered (of_role role log) right left
+
+-- The line of the log at this index is the first that isn't answered: those before it are, and of the right lines that
+-- those of its role leave, none has its place, or the first that has is this one, with other values.
+pub record IsFirstDifference (right log : List Line) (index : ℕ) (answer : Option Line) : Type 0 where
+  pub within : index < length log
+  pub before : Agrees right (take index log)
+  pub line : Line
+  pub line_is : line ≡ slice_index_or log index line
+  pub left : List Line
+  pub left_are : AreAnswered (of_role (is_of_responder line) (take index log)) right left
+  pub answer_is : answer ≡ find (is_of_place line) left
+  pub differs : IfSome answer (λ right. has_values line right ≡ false)
+
+-- ---- the next step
+
+-- the right lines after the one that answers a logged line, if one does
 abbrev pub answered : Line → List Line → Option (List Line)
 answered logged [] = None
 answered logged (right ∷ more) =
     if is_of_place logged right then (if has_values logged right then Some more else None) else answered logged more
-
--- the right lines of each role that are left to answer with: the log may have the two roles in any order, and the
--- lines of each in their own
-pub record Left : Type 0 where
-  pub initiator : List Line
-  pub responder : List Line
-
-abbrev pub both : List Line → List Line → Left
-both initiator responder = record { initiator = initiator; responder = responder }
-
--- the right lines from these places on, of each role
-abbrev pub left_from : List Line → ℕ → ℕ → Left
-left_from right initiator responder = both (drop initiator right) (drop responder right)
-
-unfoldable pub is_of_responder : Line → Bool
-is_of_responder logged = bytes_eq (word_at (words_in logged) 1) (codes "responder")
-
--- those of the role of a logged line
-abbrev pub left_for : Left → Line → List Line
-left_for left logged = if is_of_responder logged then left.responder else left.initiator
-
-abbrev pub left_after : Left → Line → Option Left
-left_after left logged = if is_of_responder logged
-    then option_map (λ more. record left { responder = more }) (answered logged left.responder)
-    else option_map (λ more. record left { initiator = more }) (answered logged left.initiator)
-
-abbrev pub step : Option Left → Line → Option Left
-step None logged = None
-step (Some left) logged = left_after left logged
-
--- what is left of the right lines after all lines of a log, or None where one isn't answered
-abbrev pub left_by : List Line → List Line → Option Left
-left_by right log = fold step (Some (both right right)) log
-
-abbrev pub agrees : List Line → List Line → Bool
-agrees right log = is_some (left_by right log)
-
--- The first line of the log that isn't answered is at this index: the lines before it agree, and with it they don't.
--- This is the first of the right lines left that has its place, if one has.
-pub record IsFirstDifference (right log : List Line) (index : ℕ) (answer : Option Line) : Type 0 where
-  pub within : index < length log
-  pub before : agrees right (take index log) ≡ true
-  pub differs : agrees right (take (index + 1) log) ≡ false
-  pub answer_is : (left : Left) (d : Line) → left_by right (take index log) ≡ Some left
-      → answer ≡ find (is_of_place (slice_index_or log index d)) (left_for left (slice_index_or log index d))
 
 -- a line of the start or of a handshake message, of the role of a logged line
 unfoldable pub is_step_of : Line → Line → Bool

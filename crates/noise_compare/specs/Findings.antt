@@ -1,6 +1,6 @@
 -- What is reported of a log, by the right lines.
-use Rattle.std.specs.Prelude.{◌≡◌, ℕ, ◌-◌, true, List, Option, Some, None, length, option_and_then, slice_get, slice_index_or}
-use Rattle.noise_compare.specs.Differences.{IsFirstDifference, agrees, next_step}
+use Rattle.std.specs.Prelude.{◌≡◌, ℕ, ◌-◌, List, Option, Some, None, length, option_and_then, slice_get, slice_index_or}
+use Rattle.noise_compare.specs.Differences.{Agrees as AllAgree, IsFirstDifference, next_step}
 use Rattle.noise_compare.specs.Report.{agreement_text, difference_text, ending_text}
 use Rattle.noise_compare.specs.declared.comparing.Finding.{Finding}
 use Rattle.noise_compare.specs.declared.comparing.Finding.TheVariants.{Agrees, Ends, Differs}
@@ -13,9 +13,9 @@ step_after right log = option_and_then (next_step right) (slice_get log (length 
 -- The lines agree, or this is the first that doesn't; where they agree, the log may end before a step of the
 -- handshake. The advice may be any line.
 abbrev pub IsReport : List Line → List Line → Finding → List ℕ → Type 0
-IsReport right log Agrees text = (agrees right log ≡ true) × (step_after right log ≡ None)
+IsReport right log Agrees text = AllAgree right log × (step_after right log ≡ None)
     × (text ≡ agreement_text (length log))
-IsReport right log Ends text = (agrees right log ≡ true) × (next : Line) × (step_after right log ≡ Some next)
+IsReport right log Ends text = AllAgree right log × (next : Line) × (step_after right log ≡ Some next)
     × (advice : List ℕ) × (text ≡ ending_text next advice)
 IsReport right log Differs text = (index : ℕ) × (answer : Option Line) × IsFirstDifference right log index answer
     × (line : Line) × (line ≡ slice_index_or log index line) × (advice : List ℕ)

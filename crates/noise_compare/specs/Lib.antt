@@ -3,3 +3,4 @@ pub mod Findings
 pub mod Lines
 pub mod Reading
 pub mod Report
+pub mod Walk

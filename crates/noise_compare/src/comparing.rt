@@ -1,7 +1,7 @@
 //! Comparing a log with a key schedule.
 
-ghost use Rattle.std.specs.Prelude.{◌≡◌, ◌<◌, true, List, IfOk, length, option_copied};
-ghost use Rattle.noise_compare.specs.Differences.{IsFirstDifference, agrees};
+ghost use Rattle.std.specs.Prelude.{◌≡◌, ◌<◌, List, IfOk, length, option_copied};
+ghost use Rattle.noise_compare.specs.Differences.{Agrees, IsFirstDifference};
 ghost use Rattle.noise_compare.specs.Findings.{IsReport, step_after};
 ghost use Rattle.noise_compare.specs.declared.line.Line.{Line as Logged};
 
@@ -64,7 +64,7 @@ fn differing(
 
 // The report on a log whose lines agree.
 fn agreeing(alloc: Global, log: &[Line<'_>], right: &[Line<'_>]) -> Result<LogReport, AllocError>
-    requires { agrees right.now log.now ≡ true }
+    requires { Agrees right.now log.now }
     ensures { IfOk result (λ report. IsReport right.now log.now report.finding report.text.items) }
 {
     match step_after(log, right) {

@@ -1,8 +1,9 @@
 //! Where a log first parts from a key schedule.
 
-ghost use Rattle.std.specs.Prelude.{◌≡◌, ◌≤◌, true, Some, None, MatchOption, MatchResult, drop, find, length, option_copied};
-ghost use Rattle.noise_compare.specs.Differences.{IsFirstDifference, agrees, answered, is_of_responder, is_step_of, left_after, left_for, left_from, next_step};
+ghost use Rattle.std.specs.Prelude.{◌≡◌, ◌≤◌, Some, None, MatchOption, MatchResult, drop, find, length, option_copied};
+ghost use Rattle.noise_compare.specs.Differences.{Agrees, IsFirstDifference, answered, is_of_responder, is_step_of, next_step};
 ghost use Rattle.noise_compare.specs.Lines.{is_of_place};
+ghost use Rattle.noise_compare.specs.Walk.{left_after, left_for, left_from};
 
 use crate::line::Line;
 
@@ -23,7 +24,7 @@ pub fn first_difference<'a, 'b>(
     log: &[Line<'_>],
     right: &'a [Line<'b>],
 ) -> Option<Difference<'a, 'b>>
-    ensures { MatchOption result (agrees right.now log.now ≡ true)
+    ensures { MatchOption result (Agrees right.now log.now)
         (λ found. IsFirstDifference right.now log.now found.index (option_copied found.right)) }
 {
     let mut initiator = 0;

@@ -1,5 +1,5 @@
 use Rattle.std.proofs.Common.{◌≡◌, ◌≤◌, Some, length, take}
-use Rattle.noise_compare.specs.Differences.{left_by, left_from}
+use Rattle.noise_compare.specs.Walk.{left_by, left_from}
 use Rattle.noise_compare.proofs.difference.first_difference.Given as goal
 
 -- the lines so far are answered, and these are left

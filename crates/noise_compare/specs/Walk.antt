@@ -1,0 +1,33 @@
+-- What a walk through a log leaves of the right lines.
+use Rattle.std.specs.Prelude.{ℕ, List, Option, Some, None, drop, fold, if◌then◌else◌, option_map}
+use Rattle.noise_compare.specs.Differences.{answered, is_of_responder}
+use Rattle.noise_compare.specs.declared.line.Line.{Line}
+
+-- the right lines of each role that are left to answer with
+pub record Left : Type 0 where
+  pub initiator : List Line
+  pub responder : List Line
+
+abbrev pub both : List Line → List Line → Left
+both initiator responder = record { initiator = initiator; responder = responder }
+
+-- the right lines from these places on, of each role
+abbrev pub left_from : List Line → ℕ → ℕ → Left
+left_from right initiator responder = both (drop initiator right) (drop responder right)
+
+-- those of the role of a logged line
+abbrev pub left_for : Left → Line → List Line
+left_for left logged = if is_of_responder logged then left.responder else left.initiator
+
+abbrev pub left_after : Left → Line → Option Left
+left_after left logged = if is_of_responder logged
+    then option_map (λ more. both left.initiator more) (answered logged left.responder)
+    else option_map (λ more. both more left.responder) (answered logged left.initiator)
+
+abbrev pub step : Option Left → Line → Option Left
+step None logged = None
+step (Some left) logged = left_after left logged
+
+-- what is left of the right lines after all lines of a log, or None where one isn't answered
+abbrev pub left_by : List Line → List Line → Option Left
+left_by right log = fold step (Some (both right right)) log
