@@ -1,19 +1,11 @@
--- What is shown of a file's name, and how an explanation begins.
-use Rattle.std.specs.Prelude.{ℕ, List, [], ◌∷◌, ◌++◌, codes, decimal, flat_map, if◌then◌else◌}
-use Rattle.noise_lines.specs.PrintedWords.{is_printed_byte}
+-- How an explanation begins.
+use Rattle.std.specs.Prelude.{ℕ, List, ◌++◌, codes, decimal}
+use Rattle.noise_lines.specs.Shown.{shown}
 use Rattle.noise_lines.specs.Told.{fault_line}
 use Rattle.noise_lines.specs.declared.faults.Fault.{Fault}
 use Rattle.noise_names.specs.Names.{section_bytes}
 use Rattle.noise_names.specs.Plan.{Plan}
-use Rattle.noise_vectors.specs.HexWord.{hex_of}
 use Rattle.noise_explain.specs.declared.place.Place.{Place}
-
--- a byte that is printed as it is, and any other as \x (92 and 120) and two hex digits
-abbrev pub shown_byte : ℕ → List ℕ
-shown_byte b = if is_printed_byte b then b ∷ [] else (92 ∷ 120 ∷ hex_of (b ∷ []))
-
-abbrev pub shown : List ℕ → List ℕ
-shown bytes = flat_map shown_byte bytes
 
 -- the first line of what is said of a wrong file: its name, the place, and the line that the other commands print of the fault
 abbrev pub wrong_head : List ℕ → Place → Fault → List ℕ

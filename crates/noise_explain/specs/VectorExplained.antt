@@ -8,7 +8,8 @@ use Rattle.noise_lines.specs.declared.faults.Fault.TheVariants.{Line}
 use Rattle.noise_names.specs.Names.{Section, name_bytes}
 use Rattle.noise_vectors.specs.declared.faults.LineKind.{LineKind}
 use Rattle.noise_explain.specs.Explained.{Begins}
-use Rattle.noise_explain.specs.Shown.{shown, unread_head, wrong_head}
+use Rattle.noise_explain.specs.Shown.{unread_head, wrong_head}
+use Rattle.noise_lines.specs.Shown.{shown}
 use Rattle.noise_explain.specs.VectorColumns.{IsLineColumn}
 use Rattle.noise_explain.specs.declared.explaining.Explained.{Explained}
 use Rattle.noise_explain.specs.declared.place.Place.{Place}

@@ -1,14 +1,12 @@
 //! The first line of an explanation, and a line of the text with a caret below it.
 
 ghost use Rattle.std.specs.Prelude.{◌≡◌, ◌++◌, IfOk, OnOk, decimal};
-ghost use Rattle.noise_lines.specs.PrintedWords.{is_printed_byte};
 ghost use Rattle.noise_names.specs.Names.{section_bytes};
-ghost use Rattle.noise_explain.specs.Shown.{right_head, shown, shown_byte, unread_head, wrong_head};
+ghost use Rattle.noise_explain.specs.Shown.{right_head, unread_head, wrong_head};
 
 use crate::place::Place;
-use noise_lines::{Fault, fault_line};
+use noise_lines::{Fault, fault_line, push_shown};
 use noise_names::Pattern;
-use noise_vectors::hex_word;
 use std::alloc::{AllocError, Global};
 
 // The first line of what is said of a wrong text.
@@ -73,34 +71,6 @@ fn push_number(alloc: Global, number: usize, text: &mut Vec<u8>) -> Result<(), A
 {
     let digits = format!(in alloc; "{number}")?;
     text.extend_from_slice(digits.as_bytes())
-}
-
-// Appends these bytes as they are shown.
-pub(crate) fn push_shown(bytes: &[u8], text: &mut Vec<u8>) -> Result<(), AllocError>
-    ensures { OnOk result (text.new.items ≡ text.old.items ++ shown bytes.now) }
-{
-    for byte in bytes {
-        push_byte(*byte, text)?;
-    }
-    Ok(())
-}
-
-// Appends a byte that is printed, and any other as `\x` and two hex digits.
-fn push_byte(byte: u8, text: &mut Vec<u8>) -> Result<(), AllocError>
-    ensures { OnOk result (text.new.items ≡ text.old.items ++ shown_byte byte) }
-{
-    if is_printed(byte) {
-        text.push(byte)?;
-        return Ok(());
-    }
-    text.extend_from_slice(b"\\x".as_slice())?;
-    hex_word(&[byte], text)
-}
-
-fn is_printed(byte: u8) -> bool
-    ensures { result ≡ is_printed_byte byte }
-{
-    32 <= byte && byte <= 126
 }
 
 // How much of a line is shown before and after a column.

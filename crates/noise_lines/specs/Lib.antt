@@ -5,6 +5,7 @@ pub mod Named
 pub mod Output
 pub mod Prefixes
 pub mod PrintedWords
+pub mod Shown
 pub mod Told
 pub mod Verdicts
 pub mod Woven

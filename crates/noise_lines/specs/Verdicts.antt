@@ -3,11 +3,12 @@ use Rattle.std.specs.Prelude.{◌≡◌, ◌≢◌, ◌⊎◌, ◌-◌, ℕ, Boo
 use Rattle.std.specs.Global.{Global}
 use Rattle.noise_names.specs.Text.{line}
 use Rattle.noise_vectors.specs.Expectations.{IsFirstUnmet}
+use Rattle.noise_lines.specs.Shown.{shown}
 use Rattle.noise_lines.specs.Told.{fault_line}
 use Rattle.noise_lines.specs.declared.faults.Fault.{Fault}
 use Rattle.noise_lines.specs.declared.faults.Fault.TheVariants.{Unmet}
 use Rattle.noise_lines.specs.declared.verdict.Verdict.{Verdict}
-use Rattle.noise_lines.specs.declared.verdict.Verdict.TheVariants.{Met, Differs, CannotRun, ExpectsNothing}
+use Rattle.noise_lines.specs.declared.verdict.Verdict.TheVariants.{Met, Differs, CannotRun, ExpectsNothing, NamedTwice}
 
 -- the bytes of a line, where there is one
 abbrev pub bytes_in : Option (Vec ℕ Global) → Option (List ℕ)
@@ -20,6 +21,7 @@ IsJudged lines expected (Differs d) = (expected ≢ []) × IsFirstUnmet lines ex
     × (bytes_in d.expected ≡ slice_get expected (d.number - 1)) × (bytes_in d.printed ≡ slice_get lines (d.number - 1))
 IsJudged lines expected ExpectsNothing = expected ≡ []
 IsJudged lines expected (CannotRun why) = ⊥
+IsJudged lines expected NamedTwice = ⊥
 
 -- nothing is expected, or these lines
 abbrev pub IsMet : List (List ℕ) → List (List ℕ) → Type 0
@@ -36,7 +38,11 @@ is_met _ = false
 
 -- a line of a word, the name of a file, and the rest
 abbrev pub named_line : List ℕ → List ℕ → List ℕ → List ℕ
-named_line word name rest = line (word ++ 32 ∷ (name ++ rest))
+named_line word name rest = line (word ++ 32 ∷ (shown name ++ rest))
+
+-- the line of what is wrong with a file
+abbrev pub named_fault : List ℕ → List ℕ → List ℕ
+named_fault name why = named_line (codes "fault") name (codes ": " ++ why)
 
 -- a line of a word, and one of the two lines that differ, if there is one
 abbrev pub shown_line : List ℕ → Option (List ℕ) → List ℕ
@@ -47,5 +53,6 @@ abbrev pub verdict_text : List ℕ → Verdict → List ℕ
 verdict_text name Met = named_line (codes "ok") name []
 verdict_text name (Differs d) = named_line (codes "differs") name (codes " at " ++ decimal d.number)
     ++ (shown_line (codes "expected") (bytes_in d.expected) ++ shown_line (codes "printed") (bytes_in d.printed))
-verdict_text name (CannotRun why) = named_line (codes "fault") name (codes ": " ++ fault_line why)
-verdict_text name ExpectsNothing = named_line (codes "fault") name (codes ": no expect lines")
+verdict_text name (CannotRun why) = named_fault name (fault_line why)
+verdict_text name ExpectsNothing = named_fault name (codes "no expect lines")
+verdict_text name NamedTwice = named_fault name (codes "standard input is named twice")

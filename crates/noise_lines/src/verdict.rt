@@ -2,10 +2,11 @@
 
 ghost use Rattle.std.specs.Prelude.{◌≡◌, ◌<◌, ◌++◌, IfErr, IfOk, OnOk, slice_get};
 ghost use Rattle.noise_vectors.specs.Expectations.{bytes_of};
-ghost use Rattle.noise_lines.specs.declared.verdict.Verdict.TheVariants.{CannotRun, Differs};
-ghost use Rattle.noise_lines.specs.Verdicts.{IsJudged, IsMet, TellsUnmet, bytes_in, is_met, named_line, shown_line, verdict_text};
+ghost use Rattle.noise_lines.specs.declared.verdict.Verdict.TheVariants.{Differs};
+ghost use Rattle.noise_lines.specs.Verdicts.{IsJudged, IsMet, TellsUnmet, bytes_in, is_met, named_fault, named_line, shown_line, verdict_text};
 
 use crate::faults::Fault;
+use crate::shown::push_shown;
 use crate::telling::fault_line;
 use noise_vectors::first_unmet;
 use std::alloc::{AllocError, Global};
@@ -32,6 +33,8 @@ pub enum Verdict {
     CannotRun(Fault),
     /// It expects no lines.
     ExpectsNothing,
+    /// It is standard input, which was named before and is read once.
+    NamedTwice,
 }
 
 impl Verdict {
@@ -41,7 +44,10 @@ impl Verdict {
     {
         match self {
             Verdict::Met => true,
-            Verdict::Differs(_) | Verdict::CannotRun(_) | Verdict::ExpectsNothing => false,
+            Verdict::Differs(_)
+            | Verdict::CannotRun(_)
+            | Verdict::ExpectsNothing
+            | Verdict::NamedTwice => false,
         }
     }
 }
@@ -92,7 +98,7 @@ fn line_at(lines: &[Vec<u8>], place: usize) -> Result<Option<Vec<u8>>, AllocErro
     }
 }
 
-/// What is printed of a file of this name.
+/// What is printed of a file of this name: its bytes that aren't printed ASCII as `\x` and two hex digits.
 pub fn verdict_lines(alloc: Global, name: &str, verdict: &Verdict) -> Result<Vec<u8>, AllocError>
     ensures { IfOk result (λ text. text.items ≡ verdict_text name.now verdict.now) }
 {
@@ -100,11 +106,27 @@ pub fn verdict_lines(alloc: Global, name: &str, verdict: &Verdict) -> Result<Vec
     match verdict {
         Verdict::Met => push_named("ok", name, b"".as_slice(), &mut text)?,
         Verdict::Differs(difference) => push_difference(alloc, name, difference, &mut text)?,
-        Verdict::CannotRun(fault) => push_fault(alloc, name, *fault, &mut text)?,
+        Verdict::CannotRun(fault) => {
+            let why = fault_line(alloc, *fault)?.into_bytes();
+            push_fault(alloc, name, &why, &mut text)?
+        }
         Verdict::ExpectsNothing => {
-            push_named("fault", name, b": no expect lines".as_slice(), &mut text)?
+            push_fault(alloc, name, b"no expect lines".as_slice(), &mut text)?
+        }
+        Verdict::NamedTwice => {
+            let why = b"standard input is named twice".as_slice();
+            push_fault(alloc, name, why, &mut text)?
         }
     }
+    Ok(text)
+}
+
+/// The line of what is wrong with a file of this name, which is shown as in `verdict_lines`.
+pub fn named_fault(alloc: Global, name: &str, why: &str) -> Result<Vec<u8>, AllocError>
+    ensures { IfOk result (λ text. text.items ≡ named_fault name.now why.now) }
+{
+    let mut text = Vec::new(alloc);
+    push_fault(alloc, name, why.as_bytes(), &mut text)?;
     Ok(text)
 }
 
@@ -119,16 +141,16 @@ fn push_difference(
     let number = difference.number;
     let rest = format!(in alloc; " at {number}")?;
     push_named("differs", name, rest.as_bytes(), text)?;
-    push_shown("expected", &difference.expected, text)?;
-    push_shown("printed", &difference.printed, text)
+    push_shown_line("expected", &difference.expected, text)?;
+    push_shown_line("printed", &difference.printed, text)
 }
 
-fn push_fault(alloc: Global, name: &str, fault: Fault, text: &mut Vec<u8>) -> Result<(), AllocError>
-    ensures { OnOk result (text.new.items ≡ text.old.items ++ verdict_text name.now (CannotRun fault)) }
+fn push_fault(alloc: Global, name: &str, why: &[u8], text: &mut Vec<u8>) -> Result<(), AllocError>
+    ensures { OnOk result (text.new.items ≡ text.old.items ++ named_fault name.now why.now) }
 {
     let mut rest = Vec::new(alloc);
     rest.extend_from_slice(b": ".as_slice())?;
-    rest.extend_from_slice(&fault_line(alloc, fault)?.into_bytes())?;
+    rest.extend_from_slice(why)?;
     push_named("fault", name, &rest, text)
 }
 
@@ -138,14 +160,18 @@ fn push_named(word: &str, name: &str, rest: &[u8], text: &mut Vec<u8>) -> Result
 {
     text.extend_from_slice(word.as_bytes())?;
     text.push(b' ')?;
-    text.extend_from_slice(name.as_bytes())?;
+    push_shown(name.as_bytes(), text)?;
     text.extend_from_slice(rest)?;
     text.push(b'\n')?;
     Ok(())
 }
 
 // Appends a line of a word, and the line that it shows, if there is one.
-fn push_shown(word: &str, shown: &Option<Vec<u8>>, text: &mut Vec<u8>) -> Result<(), AllocError>
+fn push_shown_line(
+    word: &str,
+    shown: &Option<Vec<u8>>,
+    text: &mut Vec<u8>,
+) -> Result<(), AllocError>
     ensures { OnOk result (text.new.items ≡ text.old.items ++ shown_line word.now (bytes_in shown.now)) }
 {
     text.extend_from_slice(word.as_bytes())?;

@@ -117,7 +117,7 @@ pub three-told : (why : Fault) (result : ℕ) → status_of why ≡ 3 → (resul
 three-told why result three (inl is) = is ∙ three
 three-told why result three (inr is) = is
 
-left-at-three : {O : Type 0} (contents : O → Option (List ℕ)) (why : Fault) (middle new : O) → status_of why ≡ 3 → LeavesOutput contents why middle new
+pub left-at-three : {O : Type 0} (contents : O → Option (List ℕ)) (why : Fault) (middle new : O) → status_of why ≡ 3 → LeavesOutput contents why middle new
     → new ≡ middle
 left-at-three contents (fault.Rule f) middle new three h = absurd (cc three)
 left-at-three contents (fault.Place f) middle new three h = h

@@ -1,4 +1,5 @@
 pub mod ConversionLemmas
+pub mod ComparingLemmas
 pub mod EndLemmas
 pub mod OneRunLemmas
 pub mod MetLemmas

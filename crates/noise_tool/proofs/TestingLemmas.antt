@@ -1,5 +1,5 @@
 -- What comes of vector files that are tested.
-use Rattle.std.proofs.Common.{◌≡◌, ◌∙◌, refl, sym, ap, ap₂, subst, ◌⊎◌, inl, inr, ◌≤◌, ◌+◌, ◌==◌, if◌then◌else◌, ℕ, Bool, true, false, not, List, [], ◌∷◌, ◌++◌, Option, Some, None, String, drop, length, string_bytes, take, append_assoc, append-nil, arith}
+use Rattle.std.proofs.Common.{◌≡◌, ◌∙◌, refl, sym, ap, ap₂, subst, ◌⊎◌, inl, inr, ◌≤◌, ◌+◌, ◌==◌, if◌then◌else◌, ℕ, Bool, true, false, not, ◌&&◌, ◌||◌, List, [], ◌∷◌, ◌++◌, Option, Some, None, String, drop, length, string_bytes, take, append_assoc, append-nil, arith}
 use Rattle.std.specs.Prelude.{IfErr, IfOk, IfSome, IsTrue, Result, Ok, Err, cond, count_by, map}
 use Rattle.std.specs.Global.{Global}
 use Rattle.std.specs.List.{sum_by}
@@ -30,14 +30,14 @@ use Rattle.noise_tool.specs.Ends.{IsPatternFault, IsStartFault}
 use Rattle.noise_tool.specs.Performing.{IsRunFault}
 use Rattle.noise_tool.specs.Running.{IsRunOf, expected_in}
 use Rattle.noise_tool.specs.Kept.{all_kept}
-use Rattle.noise_tool.specs.Testing.{EndsTest, HasBegun, HasTested, HaveTested, IsFront, IsOfFile, IsTested, IsVerdictOn, Judged, RunsTo, TestsPrefix}
-use Rattle.noise_tool.specs.Testing.{failed_in, passed_in, tally_line, tested_text, verdicts_text}
+use Rattle.noise_tool.specs.Testing.{Asked, EndsTest, HasBegun, HasTested, HaveTested, IsFront, IsOfFile, IsTested, IsVerdictOn, Judged, RunsTo, TestsPrefix}
+use Rattle.noise_tool.specs.Testing.{asked, asked_after, asked_in, failed_in, is_input, passed_in, tally_line, tested_text, verdicts_text}
 use Rattle.noise_tool.specs.TracedText.{front_of}
 use Rattle.noise_tool.specs.Tracing.{HasTraces}
 use Rattle.noise_tool.specs.declared.moment_lines.Kept.{Kept}
 use Rattle.noise_tool.specs.declared.tracing.Traced.{Traced}
 use Rattle.noise_lines.specs.declared.verdict.Verdict.{Verdict}
-use Rattle.noise_lines.specs.declared.verdict.Verdict.TheVariants.{Met, Differs, CannotRun, ExpectsNothing}
+use Rattle.noise_lines.specs.declared.verdict.Verdict.TheVariants.{Met, Differs, CannotRun, ExpectsNothing, NamedTwice}
 
 -- ---- the verdict on a file
 
@@ -122,6 +122,7 @@ front-is true file t (Differs d) shown = record {
 front-is true file t Met shown = tt
 front-is true file t (CannotRun why) shown = tt
 front-is true file t ExpectsNothing shown = tt
+front-is true file t NamedTwice shown = tt
 front-is false file t verdict shown = tt
 
 -- a verdict on lines is of the file
@@ -130,10 +131,11 @@ judged-file lines expected Met h = tt
 judged-file lines expected (Differs d) h = tt
 judged-file lines expected ExpectsNothing h = tt
 judged-file lines expected (CannotRun why) h = absurd h
+judged-file lines expected NamedTwice h = absurd h
 
 pub judged-known : (traces : Bool) (known : Option (List ℕ)) (unreadable : Bool) (t : Traced) (verdict : Verdict)
     → IfSome known (λ bytes. RunsTo traces bytes t) → IsJudged (bytes_of t.outcome.lines.items) (bytes_of t.outcome.expected.items) verdict
-    → IsVerdictOn traces known unreadable verdict (front_of verdict t)
+    → IsVerdictOn false traces known unreadable verdict (front_of verdict t)
 judged-known traces None unreadable t verdict runs judged = inr (judged-file _ _ verdict judged, tt)
 judged-known traces (Some bytes) unreadable t verdict runs judged = inr (
   judged-file _ _ verdict judged,
@@ -173,11 +175,11 @@ sort-of fault.Memory = inl (inl refl)
 -- the verdict on a file that isn't run
 pub fault-known : (traces : Bool) (known : Option (List ℕ)) (unreadable : Bool) (why : Fault) → ¬ EndsTest why
     → (why ≡ fault.Unreadable → IsTrue unreadable) → (status_of why ≡ 3) ⊎ IfSome known (λ bytes. IsRunFault Any bytes why)
-    → IsVerdictOn traces known unreadable (CannotRun why) []
+    → IsVerdictOn false traces known unreadable (CannotRun why) []
 fault-known traces known unreadable why other failed h = of-sort (sort-of why) known h
   where
     of-sort : EndsTest why ⊎ (why ≡ fault.Unreadable) ⊎ (status_of why ≤ 2) → (known : Option (List ℕ))
-        → (status_of why ≡ 3) ⊎ IfSome known (λ bytes. IsRunFault Any bytes why) → IsVerdictOn traces known unreadable (CannotRun why) []
+        → (status_of why ≡ 3) ⊎ IfSome known (λ bytes. IsRunFault Any bytes why) → IsVerdictOn false traces known unreadable (CannotRun why) []
     of-sort (inl ends) known h = absurd (other ends)
     of-sort (inr (inl is)) known h = inl (ap CannotRun is, failed is)
     of-sort (inr (inr few)) known (inl three) = absurd (omega (arith, few, three))
@@ -187,7 +189,7 @@ fault-known traces known unreadable why other failed h = of-sort (sort-of why) k
 pub unrun-tested : (traces : Bool) (known : Option (List ℕ)) (unreadable : Bool) (name : List ℕ) (a e : Option (List ℕ)) (why : Fault) (verdict : Verdict)
     (text : List ℕ) → verdict ≡ CannotRun why → ¬ EndsTest why → (why ≡ fault.Unreadable → IsTrue unreadable)
     → (status_of why ≡ 3) ⊎ IfSome known (λ bytes. IsRunFault Any bytes why) → text ≡ verdict_text name verdict → Appends a e text
-    → HasTested traces known unreadable name a e false
+    → HasTested false traces known unreadable name a e false
 unrun-tested traces known unreadable name a e why verdict text is other failed fails text_is printed = record {
   verdict = CannotRun why;
   front = [];
@@ -199,7 +201,7 @@ unrun-tested traces known unreadable name a e why verdict text is other failed f
 pub unrun-begun : (traces : Bool) (known : Option (List ℕ)) (unreadable : Bool) (name : List ℕ) (a e : Option (List ℕ)) (why : Fault) (verdict : Verdict)
     (text : List ℕ) → verdict ≡ CannotRun why → ¬ EndsTest why → (why ≡ fault.Unreadable → IsTrue unreadable)
     → (status_of why ≡ 3) ⊎ IfSome known (λ bytes. IsRunFault Any bytes why) → text ≡ verdict_text name verdict → AppendsPrefix a e text
-    → HasBegun traces known unreadable name a e
+    → HasBegun false traces known unreadable name a e
 unrun-begun traces known unreadable name a e why verdict text is other failed fails text_is grown = record {
   verdict = CannotRun why;
   front = [];
@@ -224,13 +226,37 @@ pub start-read : (file : VectorFile) (result : Result Traced Fault) → IfErr re
 start-read file (Ok t) h = tt
 start-read file (Err why) h = λ e. no-pattern-read file.block file.protocol (subst (IsStartFault file) e h)
 
+-- standard input is named twice
+text-again : (traces : Bool) (name : List ℕ) → verdict_text name NamedTwice ≡ tested_text traces name NamedTwice []
+text-again true name = refl
+text-again false name = refl
+
+pub again-tested : (traces : Bool) (known : Option (List ℕ)) (unreadable : Bool) (name : List ℕ) (a e : Option (List ℕ)) (text : List ℕ)
+    → text ≡ verdict_text name NamedTwice → Appends a e text → HasTested true traces known unreadable name a e false
+again-tested traces known unreadable name a e text text_is printed = record {
+  verdict = NamedTwice;
+  front = [];
+  right = refl;
+  printed = subst (λ (t : List ℕ). Appends a e t) (text_is ∙ text-again traces name) printed;
+  met_is = refl;
+}
+
+pub again-begun : (traces : Bool) (known : Option (List ℕ)) (unreadable : Bool) (name : List ℕ) (a e : Option (List ℕ)) (text : List ℕ)
+    → text ≡ verdict_text name NamedTwice → AppendsPrefix a e text → HasBegun true traces known unreadable name a e
+again-begun traces known unreadable name a e text text_is grown = record {
+  verdict = NamedTwice;
+  front = [];
+  right = refl;
+  grown = subst (λ (t : List ℕ). AppendsPrefix a e t) (text_is ∙ text-again traces name) grown;
+}
+
 -- ---- several files
 
 pub none-tested : (traces : Bool) (bytes_at : List ℕ → Option (List ℕ)) (unreadable : List ℕ → Bool) (out : Option (List ℕ)) → HaveTested traces bytes_at unreadable [] out out 0 0
 none-tested traces bytes_at unreadable out = record {
   verdicts = [];
   named = refl;
-  right = All-nil (λ (v : Judged). IsVerdictOn traces (bytes_at v.name) (unreadable v.name) v.verdict v.front);
+  right = All-nil (λ (v : Judged). IsVerdictOn v.again traces (bytes_at v.name) (unreadable v.name) v.verdict v.front);
   printed = Appends-nil out;
   passed_is = refl;
   failed_is = refl;
@@ -241,15 +267,15 @@ counted {X = X} p xs x =
     let last : 0 + cond (p x) 1 0 ≡ cond (p x) 1 0 = omega arith in
     sum_by-append (λ (y : X). cond (p y) 1 0) xs (x ∷ []) ∙ ap (λ (n : ℕ). sum_by (λ (y : X). cond (p y) 1 0) xs + n) last
 
-tested-more : (traces : Bool) (bytes_at : List ℕ → Option (List ℕ)) (unreadable : List ℕ → Bool) (names : List (List ℕ)) (name : List ℕ) (a m e : Option (List ℕ)) (passed failed : ℕ)
-    (met : Bool) (p f : ℕ) → HaveTested traces bytes_at unreadable names a m passed failed → HasTested traces (bytes_at name) (unreadable name) name m e met → p ≡ passed + cond met 1 0
-    → f ≡ failed + cond (not met) 1 0 → HaveTested traces bytes_at unreadable (names ++ name ∷ []) a e p f
-tested-more traces bytes_at unreadable names name a m e passed failed met p f before one p_is f_is =
-    let this : Judged = record { name = name; verdict = one.verdict; front = one.front } in
+tested-more : (traces : Bool) (bytes_at : List ℕ → Option (List ℕ)) (unreadable : List ℕ → Bool) (names : List Asked) (name : List ℕ) (again : Bool) (a m e : Option (List ℕ)) (passed failed : ℕ)
+    (met : Bool) (p f : ℕ) → HaveTested traces bytes_at unreadable names a m passed failed → HasTested again traces (bytes_at name) (unreadable name) name m e met → p ≡ passed + cond met 1 0
+    → f ≡ failed + cond (not met) 1 0 → HaveTested traces bytes_at unreadable (names ++ (name, again) ∷ []) a e p f
+tested-more traces bytes_at unreadable names name again a m e passed failed met p f before one p_is f_is =
+    let this : Judged = record { name = name; again = again; verdict = one.verdict; front = one.front } in
     record {
       verdicts = before.verdicts ++ this ∷ [];
-      named = map_push (λ (v : Judged). v.name) before.verdicts this ∙ ap (λ (ns : List (List ℕ)). ns ++ name ∷ []) before.named;
-      right = All-push (λ (v : Judged). IsVerdictOn traces (bytes_at v.name) (unreadable v.name) v.verdict v.front) before.verdicts this before.right one.right;
+      named = map_push asked_in before.verdicts this ∙ ap (λ (ns : List Asked). ns ++ (name, again) ∷ []) before.named;
+      right = All-push (λ (v : Judged). IsVerdictOn v.again traces (bytes_at v.name) (unreadable v.name) v.verdict v.front) before.verdicts this before.right one.right;
       printed = subst (λ (t : List ℕ). Appends a e t) (flat_map_more (λ (v : Judged). tested_text traces v.name v.verdict v.front) [] before.verdicts this)
           (Appends-trans a m e (verdicts_text traces before.verdicts) (tested_text traces name one.verdict one.front) before.printed one.printed);
       passed_is = p_is ∙ ap₂ (λ (n : ℕ) (b : Bool). n + cond b 1 0) before.passed_is one.met_is
@@ -259,22 +285,22 @@ tested-more traces bytes_at unreadable names name a m e passed failed met p f be
     }
 
 -- one file more, which passed
-pub passed-more : (traces : Bool) (bytes_at : List ℕ → Option (List ℕ)) (unreadable : List ℕ → Bool) (names all : List (List ℕ)) (name : List ℕ) (a m e : Option (List ℕ))
-    (passed failed : ℕ) (met : Bool) → all ≡ names ++ name ∷ [] → met ≡ true → HaveTested traces bytes_at unreadable names a m passed failed
-    → HasTested traces (bytes_at name) (unreadable name) name m e met → HaveTested traces bytes_at unreadable all a e (passed + 1) failed
-passed-more traces bytes_at unreadable names all name a m e passed failed met all_is is before one =
+pub passed-more : (traces : Bool) (bytes_at : List ℕ → Option (List ℕ)) (unreadable : List ℕ → Bool) (names all : List Asked) (name : List ℕ) (again : Bool) (a m e : Option (List ℕ))
+    (passed failed : ℕ) (met : Bool) → all ≡ names ++ (name, again) ∷ [] → met ≡ true → HaveTested traces bytes_at unreadable names a m passed failed
+    → HasTested again traces (bytes_at name) (unreadable name) name m e met → HaveTested traces bytes_at unreadable all a e (passed + 1) failed
+passed-more traces bytes_at unreadable names all name again a m e passed failed met all_is is before one =
     let more : passed + 1 ≡ passed + cond met 1 0 = rw is refl in
     let same : failed ≡ failed + cond (not met) 1 0 = rw is (omega arith) in
-    rw all_is (tested-more traces bytes_at unreadable names name a m e passed failed met (passed + 1) failed before one more same)
+    rw all_is (tested-more traces bytes_at unreadable names name again a m e passed failed met (passed + 1) failed before one more same)
 
 -- one file more, which failed
-pub failed-more : (traces : Bool) (bytes_at : List ℕ → Option (List ℕ)) (unreadable : List ℕ → Bool) (names all : List (List ℕ)) (name : List ℕ) (a m e : Option (List ℕ))
-    (passed failed : ℕ) (met : Bool) → all ≡ names ++ name ∷ [] → met ≡ false → HaveTested traces bytes_at unreadable names a m passed failed
-    → HasTested traces (bytes_at name) (unreadable name) name m e met → HaveTested traces bytes_at unreadable all a e passed (failed + 1)
-failed-more traces bytes_at unreadable names all name a m e passed failed met all_is is before one =
+pub failed-more : (traces : Bool) (bytes_at : List ℕ → Option (List ℕ)) (unreadable : List ℕ → Bool) (names all : List Asked) (name : List ℕ) (again : Bool) (a m e : Option (List ℕ))
+    (passed failed : ℕ) (met : Bool) → all ≡ names ++ (name, again) ∷ [] → met ≡ false → HaveTested traces bytes_at unreadable names a m passed failed
+    → HasTested again traces (bytes_at name) (unreadable name) name m e met → HaveTested traces bytes_at unreadable all a e passed (failed + 1)
+failed-more traces bytes_at unreadable names all name again a m e passed failed met all_is is before one =
     let same : passed ≡ passed + cond met 1 0 = rw is (omega arith) in
     let more : failed + 1 ≡ failed + cond (not met) 1 0 = rw is refl in
-    rw all_is (tested-more traces bytes_at unreadable names name a m e passed failed met passed (failed + 1) before one same more)
+    rw all_is (tested-more traces bytes_at unreadable names name again a m e passed failed met passed (failed + 1) before one same more)
 
 pub kept-appends : (a b c : Option (List ℕ)) (bs : List ℕ) → Appends a b bs → Keeps b c → Appends a c bs
 kept-appends None b c bs p q = tt
@@ -284,7 +310,7 @@ kept-appends (Some x) (Some y) (Some z) bs p q = q ∙ p
 
 -- the line of how many passed and failed is written after them
 pub whole-tested : (traces : Bool) (bytes_at : List ℕ → Option (List ℕ)) (unreadable : List ℕ → Bool) (names : List (List ℕ)) (a m n e : Option (List ℕ)) (passed failed status : ℕ)
-    (tally : List ℕ) → HaveTested traces bytes_at unreadable names a m passed failed → tally ≡ tally_line passed failed → Appends m n tally → Keeps n e
+    (tally : List ℕ) → HaveTested traces bytes_at unreadable (asked names) a m passed failed → tally ≡ tally_line passed failed → Appends m n tally → Keeps n e
     → status ≡ (if failed == 0 then 0 else 1) → IsTested traces bytes_at unreadable names a e status
 whole-tested traces bytes_at unreadable names a m n e passed failed status tally before tally_is written kept status_is =
     record {
@@ -332,6 +358,7 @@ verdict-first true name (Differs d) front = (lines_text front, refl)
 verdict-first true name Met front = ([], append-nil _)
 verdict-first true name (CannotRun why) front = ([], append-nil _)
 verdict-first true name ExpectsNothing front = ([], append-nil _)
+verdict-first true name NamedTwice front = ([], append-nil _)
 verdict-first false name verdict front = ([], append-nil _)
 
 pub verdict-prefix : (traces : Bool) (name : List ℕ) (verdict : Verdict) (front : List (List ℕ)) (a e : Option (List ℕ)) (text : List ℕ)
@@ -350,7 +377,7 @@ front-prefix traces name d t a m e text wanted is written grown =
 
 pub judged-begun : (traces : Bool) (known : Option (List ℕ)) (unreadable : Bool) (name : List ℕ) (t : Traced) (verdict : Verdict) (a e : Option (List ℕ))
     → IfSome known (λ bytes. RunsTo traces bytes t) → IsJudged (bytes_of t.outcome.lines.items) (bytes_of t.outcome.expected.items) verdict
-    → AppendsPrefix a e (tested_text traces name verdict (front_of verdict t)) → HasBegun traces known unreadable name a e
+    → AppendsPrefix a e (tested_text traces name verdict (front_of verdict t)) → HasBegun false traces known unreadable name a e
 judged-begun traces known unreadable name t verdict a e runs judged grown = record {
   verdict = verdict;
   front = front_of verdict t;
@@ -359,13 +386,13 @@ judged-begun traces known unreadable name t verdict a e runs judged grown = reco
 }
 
 -- no file more than these
-pub none-begun : (traces : Bool) (bytes_at : List ℕ → Option (List ℕ)) (unreadable : List ℕ → Bool) (names others all : List (List ℕ))
-    (a e : Option (List ℕ)) (passed failed : ℕ) → names ++ others ≡ all → HaveTested traces bytes_at unreadable names a e passed failed
+pub none-begun : (traces : Bool) (bytes_at : List ℕ → Option (List ℕ)) (unreadable : List ℕ → Bool) (names others : List Asked) (all : List (List ℕ))
+    (a e : Option (List ℕ)) (passed failed : ℕ) → names ++ others ≡ asked all → HaveTested traces bytes_at unreadable names a e passed failed
     → TestsPrefix traces bytes_at unreadable all a e
 none-begun traces bytes_at unreadable names others all a e passed failed is before = record {
   verdicts = before.verdicts;
   others = others;
-  named = ap (λ (ns : List (List ℕ)). ns ++ others) before.named ∙ is;
+  named = ap (λ (ns : List Asked). ns ++ others) before.named ∙ is;
   right = before.right;
   last = [];
   last_is = inl refl;
@@ -375,26 +402,26 @@ none-begun traces bytes_at unreadable names others all a e passed failed is befo
 
 -- the next file has begun
 pub one-begun : {O : Type 0} (contents : O → Option (List ℕ)) (traces : Bool) (bytes_at : List ℕ → Option (List ℕ)) (unreadable : List ℕ → Bool)
-    (names others all : List (List ℕ)) (name : List ℕ) (a : Option (List ℕ)) (old new : O) (passed failed : ℕ) → names ++ name ∷ others ≡ all
+    (names others : List Asked) (all : List (List ℕ)) (name : List ℕ) (again : Bool) (a : Option (List ℕ)) (old new : O) (passed failed : ℕ) → names ++ (name, again) ∷ others ≡ asked all
     → HaveTested traces bytes_at unreadable names a (contents old) passed failed
-    → (new ≡ old) ⊎ HasBegun traces (bytes_at name) (unreadable name) name (contents old) (contents new)
+    → (new ≡ old) ⊎ HasBegun again traces (bytes_at name) (unreadable name) name (contents old) (contents new)
     → TestsPrefix traces bytes_at unreadable all a (contents new)
-one-begun {O = O} contents traces bytes_at unreadable names others all name a old new passed failed is before (inl same) =
+one-begun {O = O} contents traces bytes_at unreadable names others all name again a old new passed failed is before (inl same) =
     subst (λ (o : O). TestsPrefix traces bytes_at unreadable all a (contents o)) (sym same)
-    (none-begun traces bytes_at unreadable names (name ∷ others) all a (contents old) passed failed is before)
-one-begun contents traces bytes_at unreadable names others all name a old new passed failed is before (inr one) =
-    let this : Judged = record { name = name; verdict = one.verdict; front = one.front } in
+    (none-begun traces bytes_at unreadable names ((name, again) ∷ others) all a (contents old) passed failed is before)
+one-begun contents traces bytes_at unreadable names others all name again a old new passed failed is before (inr one) =
+    let this : Judged = record { name = name; again = again; verdict = one.verdict; front = one.front } in
     let text = tested_text traces name one.verdict one.front in
-    let named : map (λ (v : Judged). v.name) (before.verdicts ++ this ∷ []) ≡ names ++ name ∷ [] =
-    map_push (λ (v : Judged). v.name) before.verdicts this ∙ ap (λ (ns : List (List ℕ)). ns ++ name ∷ []) before.named in
+    let named : map asked_in (before.verdicts ++ this ∷ []) ≡ names ++ (name, again) ∷ [] =
+    map_push asked_in before.verdicts this ∙ ap (λ (ns : List Asked). ns ++ (name, again) ∷ []) before.named in
     let whole : verdicts_text traces before.verdicts ++ text ≡ verdicts_text traces (before.verdicts ++ this ∷ []) ++ [] =
     flat_map_more (λ (v : Judged). tested_text traces v.name v.verdict v.front) [] before.verdicts this
     ∙ sym (append-nil (verdicts_text traces (before.verdicts ++ this ∷ []))) in
     record {
       verdicts = before.verdicts ++ this ∷ [];
       others = others;
-      named = ap (λ (ns : List (List ℕ)). ns ++ others) named ∙ append_assoc names (name ∷ []) others ∙ is;
-      right = All-push (λ (v : Judged). IsVerdictOn traces (bytes_at v.name) (unreadable v.name) v.verdict v.front) before.verdicts this before.right one.right;
+      named = ap (λ (ns : List Asked). ns ++ others) named ∙ append_assoc names ((name, again) ∷ []) others ∙ is;
+      right = All-push (λ (v : Judged). IsVerdictOn v.again traces (bytes_at v.name) (unreadable v.name) v.verdict v.front) before.verdicts this before.right one.right;
       last = [];
       last_is = inl refl;
       grown = subst (λ (t : List ℕ). AppendsPrefix a (contents new) t) whole
@@ -403,7 +430,7 @@ one-begun contents traces bytes_at unreadable names others all name a old new pa
 
 -- all files are tested, and the last line has begun
 pub last-begun : (traces : Bool) (bytes_at : List ℕ → Option (List ℕ)) (unreadable : List ℕ → Bool) (names : List (List ℕ)) (a m e : Option (List ℕ))
-    (passed failed : ℕ) (tally : List ℕ) → HaveTested traces bytes_at unreadable names a m passed failed → tally ≡ tally_line passed failed
+    (passed failed : ℕ) (tally : List ℕ) → HaveTested traces bytes_at unreadable (asked names) a m passed failed → tally ≡ tally_line passed failed
     → AppendsPrefix m e tally → TestsPrefix traces bytes_at unreadable names a e
 last-begun traces bytes_at unreadable names a m e passed failed tally before tally_is grown = record {
   verdicts = before.verdicts;
@@ -417,7 +444,7 @@ last-begun traces bytes_at unreadable names a m e passed failed tally before tal
 
 -- and written, and kept
 pub kept-begun : (traces : Bool) (bytes_at : List ℕ → Option (List ℕ)) (unreadable : List ℕ → Bool) (names : List (List ℕ)) (a m n e : Option (List ℕ))
-    (passed failed : ℕ) (tally : List ℕ) → HaveTested traces bytes_at unreadable names a m passed failed → tally ≡ tally_line passed failed
+    (passed failed : ℕ) (tally : List ℕ) → HaveTested traces bytes_at unreadable (asked names) a m passed failed → tally ≡ tally_line passed failed
     → Appends m n tally → Keeps n e → TestsPrefix traces bytes_at unreadable names a e
 kept-begun traces bytes_at unreadable names a m n e passed failed tally before tally_is written kept =
     last-begun traces bytes_at unreadable names a m e passed failed tally before tally_is
@@ -443,6 +470,57 @@ names-at names i name here =
     sym (append_assoc (map string_bytes (take i names)) (name ∷ []) (map string_bytes (drop (i + 1) names)))
     ∙ ap (λ (ns : List (List ℕ)). ns ++ map string_bytes (drop (i + 1) names)) (sym here)
     ∙ sym (map-append string_bytes (take (i + 1) names) (drop (i + 1) names)) ∙ ap (map string_bytes) (take-append-drop (i + 1) names)
+
+-- ---- standard input that is named again
+
+-- whether standard input was named among these
+abbrev pub named-after : Bool → List (List ℕ) → Bool
+named-after named [] = named
+named-after named (name ∷ more) = named-after (named || is_input name) more
+
+pub named-more : (named : Bool) (names : List (List ℕ)) (name : List ℕ) → named-after named (names ++ name ∷ []) ≡ (named-after named names || is_input name)
+named-more named [] name = refl
+named-more named (n ∷ names) name = named-more (named || is_input n) names name
+
+asked-append : (named : Bool) (names more : List (List ℕ))
+    → asked_after named (names ++ more) ≡ asked_after named names ++ asked_after (named-after named names) more
+asked-append named [] more = refl
+asked-append named (n ∷ names) more =
+    ap (λ (fs : List Asked). (n, is_input n && named) ∷ fs) (asked-append (named || is_input n) names more)
+
+-- a name is that of standard input again, and it was named from there on
+pub is-again : (again is named i n : Bool) → is ≡ i → named ≡ n → ((is ≡ true) × (again ≡ named)) ⊎ ((is ≡ false) × (again ≡ false)) → again ≡ (i && n)
+is-again again is named i n e f (inl (on, same)) = same ∙ f ∙ rw (sym e ∙ on) refl
+is-again again is named i n e f (inr (off, none)) = none ∙ rw (sym e ∙ off) refl
+
+pub is-named : (next named is n i : Bool) → named ≡ n → is ≡ i → ((named ≡ true) × (next ≡ true)) ⊎ ((named ≡ false) × (next ≡ is)) → next ≡ (n || i)
+is-named next named is n i f e (inl (on, stays)) = stays ∙ rw (sym f ∙ on) refl
+is-named next named is n i f e (inr (off, same)) = same ∙ e ∙ rw (sym f ∙ off) refl
+
+-- one name more
+pub asked-more : (names all : List (List ℕ)) (name : List ℕ) (again : Bool) → all ≡ names ++ name ∷ [] → again ≡ (is_input name && named-after false names)
+    → asked all ≡ asked names ++ (name, again) ∷ []
+asked-more names all name again all_is again_is =
+    ap asked all_is ∙ asked-append false names (name ∷ []) ∙ ap (λ (b : Bool). asked names ++ (name, b) ∷ []) (sym again_is)
+
+-- the names, cut before one of them
+asked-cut : (names : List (String Global)) (i : ℕ)
+    → asked (map string_bytes (take i names)) ++ asked_after (named-after false (map string_bytes (take i names))) (map string_bytes (drop i names))
+    ≡ asked (map string_bytes names)
+asked-cut names i = sym (asked-append false (map string_bytes (take i names)) (map string_bytes (drop i names)))
+    ∙ ap asked (sym (map-append string_bytes (take i names) (drop i names)) ∙ ap (map string_bytes) (take-append-drop i names))
+
+-- the files after the first
+abbrev pub others-at : List (String Global) → ℕ → List Asked
+others-at names i = asked_after (named-after false (map string_bytes (take i names))) (map string_bytes (drop i names))
+
+-- the place of a file among them
+pub asked-at : (names : List (String Global)) (i : ℕ) (name : List ℕ) (again : Bool)
+    → asked (map string_bytes (take (i + 1) names)) ≡ asked (map string_bytes (take i names)) ++ (name, again) ∷ []
+    → asked (map string_bytes (take i names)) ++ (name, again) ∷ others-at names (i + 1) ≡ asked (map string_bytes names)
+asked-at names i name again here =
+    sym (append_assoc (asked (map string_bytes (take i names))) ((name, again) ∷ []) (others-at names (i + 1)))
+    ∙ ap (λ (fs : List Asked). fs ++ others-at names (i + 1)) (sym here) ∙ asked-cut names (i + 1)
 
 -- ---- what is reported where the command ends
 

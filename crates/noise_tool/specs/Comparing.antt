@@ -1,19 +1,31 @@
 -- What `compare` prints of a log and of a vector file, and its exit status.
-use Rattle.std.specs.Prelude.{⊤, ◌≡◌, ℕ, List, ◌++◌, Option, IfSome, flat_map, map}
+use Rattle.std.specs.Prelude.{⊤, ◌≡◌, ◌⊎◌, ◌<◌, ◌≤◌, ℕ, true, List, [], ◌++◌, Option, Some, IfSome, codes, decimal, flat_map, length, map, string_bytes}
 use Rattle.std.specs.Io.KnownBytes.{Appends}
 use Rattle.noise_compare.specs.Findings.{IsReport}
 use Rattle.noise_compare.specs.Lines.{words_in, words_of}
-use Rattle.noise_compare.specs.Reading.{lines_of, views}
+use Rattle.noise_compare.specs.Reading.{first_wrong, lines_of, views}
 use Rattle.noise_compare.specs.declared.comparing.Finding.{Finding}
 use Rattle.noise_compare.specs.declared.comparing.Finding.TheVariants.{Agrees, Ends, Differs}
 use Rattle.noise_compare.specs.declared.line.Line.{Line}
+use Rattle.noise_lines.specs.Faults.{status_of}
+use Rattle.noise_lines.specs.Prefixes.{AppendsPrefix}
+use Rattle.noise_lines.specs.Told.{fault_line}
+use Rattle.noise_lines.specs.Verdicts.{named_fault}
+use Rattle.noise_lines.specs.declared.faults.Fault.{Fault}
+use Rattle.noise_lines.specs.declared.faults.Fault.TheVariants.{TooLong}
 use Rattle.noise_vectors.specs.VectorFile.{IsVectorFile}
 use Rattle.noise_vectors.specs.VectorText.{text_of}
+use Rattle.noise_vectors.specs.declared.vector.AllowedEvents.TheVariants.{Any}
 use Rattle.noise_vectors.specs.declared.vector.VectorFile.{VectorFile}
+use Rattle.noise_words.specs.declared.orders.Compared.{Compared}
 use Rattle.noise_tool.specs.Kept.{all_kept}
+use Rattle.noise_tool.specs.Performing.{IsRunFault}
+use Rattle.noise_tool.specs.Testing.{is_input}
 use Rattle.noise_tool.specs.Tracing.{HasTraces}
 use Rattle.noise_tool.specs.declared.comparing.Comparison.{Comparison}
 use Rattle.noise_tool.specs.declared.comparing.Comparison.TheVariants.{Made, Wrong}
+use Rattle.noise_tool.specs.declared.comparing.Uncompared.{Uncompared}
+use Rattle.noise_tool.specs.declared.comparing.Uncompared.TheVariants.{NamedTwice, LongLog, WrongFile, NoLine, WrongLine}
 use Rattle.noise_compare.specs.declared.comparing.LogReport.{LogReport}
 
 -- the lines of a key schedule: those of the start, and those that follow each line of the run
@@ -47,11 +59,11 @@ pub record Compares (log file : List ℕ) (report : LogReport) : Type 0 where
 
 abbrev pub IfMade : Comparison → (LogReport → Type 0) → Type 0
 IfMade (Made report) P = P report
-IfMade (Wrong text) P = ⊤
+IfMade (Wrong why) P = ⊤
 
-abbrev pub IsWrong : Comparison → Type 0
-IsWrong (Made report) = ⊥
-IsWrong (Wrong text) = ⊤
+abbrev pub IfWrong : Comparison → (Uncompared → Type 0) → Type 0
+IfWrong (Made report) P = ⊤
+IfWrong (Wrong why) P = P why
 
 -- the log and the file were compared, where their texts are known: the output grew by the report on them, and the
 -- status is that of what was found
@@ -60,3 +72,38 @@ pub record IsCompared (log file : Option (List ℕ)) (before after : Option (Lis
   pub compares : IfSome log (λ l. IfSome file (λ f. Compares l f report))
   pub printed : Appends before after report.text.items
   pub status_is : status ≡ finding_status report.finding
+
+-- the output grew by a prefix of the report on them
+pub record ComparesPrefix (log file : Option (List ℕ)) (before after : Option (List ℕ)) : Type 0 where
+  pub report : LogReport
+  pub compares : IfSome log (λ l. IfSome file (λ f. Compares l f report))
+  pub grown : AppendsPrefix before after report.text.items
+
+-- ---- a log that isn't compared
+
+-- why it isn't, by its text
+abbrev pub IsWrongLog : List ℕ → Uncompared → Type 0
+IsWrongLog log NoLine = lines_of log ≡ []
+IsWrongLog log (WrongLine number) = first_wrong log ≡ Some number
+IsWrongLog log LongLog = 4194304 < length log
+IsWrongLog log _ = ⊥
+
+-- why it isn't, by the names and by the texts of the log and the vector file, where these are known
+abbrev pub IsUncompared : Compared → Option (List ℕ) → Option (List ℕ) → Uncompared → Type 0
+IsUncompared names log file NamedTwice = (is_input (string_bytes names.log) ≡ true) × (is_input (string_bytes names.file) ≡ true)
+IsUncompared names log file (WrongFile fault) = (status_of fault ≤ 2) × IfSome file (λ f. IsRunFault Any f fault)
+IsUncompared names log file why = IfSome log (λ l. IsWrongLog l why)
+
+-- the line that says so
+abbrev pub uncompared_line : Compared → Uncompared → List ℕ
+uncompared_line names NamedTwice = named_fault (codes "-") (codes "standard input is named twice")
+uncompared_line names LongLog = named_fault (string_bytes names.log) (fault_line TooLong)
+uncompared_line names (WrongFile fault) = named_fault (string_bytes names.file) (fault_line fault)
+uncompared_line names NoLine = named_fault (string_bytes names.log) (codes "no line of a key schedule")
+uncompared_line names (WrongLine number) = named_fault (string_bytes names.log) (codes "line " ++ (decimal number ++ codes " trace"))
+
+-- the log or the file is wrong, and the error output grew by a prefix of the line that says why
+pub record IsNotCompared (names : Compared) (log file : Option (List ℕ)) (before after : Option (List ℕ)) : Type 0 where
+  pub why : Uncompared
+  pub is_why : IsUncompared names log file why
+  pub grown : AppendsPrefix before after (uncompared_line names why)

@@ -168,6 +168,12 @@ IfCompare (Test asked) P = ⊤
 IfCompare (Explain files) P = ⊤
 IfCompare (Compare names) P = P names
 
+-- At status 2 the output is as it was. `explain` alone prints there, and `test` has no such status.
+abbrev pub LeavesAtTwo : {O : Type 0} → Order → O → O → Type 0
+LeavesAtTwo (Test asked) before after = ⊥
+LeavesAtTwo (Explain files) before after = ⊤
+LeavesAtTwo _ before after = after ≡ before
+
 -- `test`, `explain` and `compare` read their files by their names
 abbrev pub LeavesInput : {R : Type 0} → Order → R → R → Type 0
 LeavesInput (Command chosen) before after = LeavesFile chosen before after

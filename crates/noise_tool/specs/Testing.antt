@@ -1,7 +1,8 @@
 -- What `test` prints of vector files, and its exit status.
-use Rattle.std.specs.Prelude.{⊤, ◌≡◌, ◌⊎◌, ◌≤◌, ◌==◌, if◌then◌else◌, ℕ, Bool, true, not, List, [], ◌++◌, Option, IfSome, IsTrue}
+use Rattle.std.specs.Prelude.{⊤, ◌≡◌, ◌⊎◌, ◌≤◌, ◌==◌, ◌&&◌, ◌||◌, if◌then◌else◌, ℕ, Bool, true, false, not, List, [], ◌∷◌, ◌++◌, Option, IfSome, IsTrue}
 use Rattle.std.specs.Prelude.{codes, count_by, decimal, flat_map, length, map}
 use Rattle.std.specs.List.{All}
+use Rattle.std.specs.Str.{bytes_eq}
 use Rattle.std.specs.Io.KnownBytes.{Appends}
 use Rattle.noise_names.specs.Text.{line}
 use Rattle.noise_lines.specs.Faults.{status_of}
@@ -21,8 +22,26 @@ use Rattle.noise_tool.specs.Running.{IsRunOf, expected_in}
 use Rattle.noise_tool.specs.Tracing.{HasTraces, IsTraceTo}
 use Rattle.noise_tool.specs.declared.tracing.Traced.{Traced}
 use Rattle.noise_lines.specs.declared.verdict.Verdict.{Verdict}
-use Rattle.noise_lines.specs.declared.verdict.Verdict.TheVariants.{Differs, CannotRun}
+use Rattle.noise_lines.specs.declared.verdict.Verdict.TheVariants.{Differs, CannotRun, NamedTwice}
 use Rattle.noise_lines.specs.Verdicts.{IsJudged, is_met, verdict_text}
+
+-- ---- standard input
+
+-- `-` names standard input
+abbrev pub is_input : List ℕ → Bool
+is_input name = bytes_eq name (codes "-")
+
+-- the name of a file, and whether it is standard input again
+abbrev pub Asked : Type 0
+Asked = List ℕ × Bool
+
+-- those of these names, after standard input was named or not
+abbrev pub asked_after : Bool → List (List ℕ) → List Asked
+asked_after named [] = []
+asked_after named (name ∷ more) = (name, is_input name && named) ∷ asked_after (named || is_input name) more
+
+abbrev pub asked : List (List ℕ) → List Asked
+asked names = asked_after false names
 
 -- ---- the verdict on a file
 
@@ -68,14 +87,18 @@ abbrev pub tested_text : Bool → List ℕ → Verdict → List (List ℕ) → L
 tested_text true name (Differs d) front = verdict_text name (Differs d) ++ lines_text front
 tested_text _ name verdict front = verdict_text name verdict
 
--- the name of a file, the verdict on it, and the front of a trace
+-- the name of a file, whether it is standard input again, the verdict on it, and the front of a trace
 pub record Judged : Type 0 where
   pub name : List ℕ
+  pub again : Bool
   pub verdict : Verdict
   pub front : List (List ℕ)
 
 abbrev pub Verdicts : Type 0
 Verdicts = List Judged
+
+abbrev pub asked_in : Judged → Asked
+asked_in v = (v.name, v.again)
 
 abbrev pub passed_in : Verdicts → ℕ
 passed_in verdicts = count_by (λ v. is_met v.verdict) verdicts
@@ -93,39 +116,41 @@ tally_line passed failed = line (decimal passed ++ (codes " passed, " ++ (decima
 -- what the file says is the reason, and nothing outside it: neither memory nor a read or a write that was refused
 abbrev pub IsOfFile : Verdict → Type 0
 IsOfFile (CannotRun why) = status_of why ≤ 2
+IsOfFile NamedTwice = ⊥
 IsOfFile verdict = ⊤
 
--- The verdict on a file: that it can't be read, where it may be that it can't; else one that is of the file and that its bytes have, where they are known,
--- and this is the front of a trace.
-abbrev pub IsVerdictOn : Bool → Option (List ℕ) → Bool → Verdict → List (List ℕ) → Type 0
-IsVerdictOn traces known unreadable verdict front =
+-- The verdict on a file. On standard input again: that it is named twice. On any other: that it can't be read, where it may be that it can't; else one that
+-- is of the file and that its bytes have, where they are known, and this is the front of a trace.
+abbrev pub IsVerdictOn : Bool → Bool → Option (List ℕ) → Bool → Verdict → List (List ℕ) → Type 0
+IsVerdictOn true traces known unreadable verdict front = verdict ≡ NamedTwice
+IsVerdictOn false traces known unreadable verdict front =
     ((verdict ≡ CannotRun Unreadable) × IsTrue unreadable) ⊎ (IsOfFile verdict × IfSome known (λ text. IsVerdict traces text verdict front))
 
 -- one file is tested: the output grew by the text of its verdict, and the front of a trace where that is wanted
-pub record HasTested (traces : Bool) (known : Option (List ℕ)) (unreadable : Bool) (name : List ℕ) (before after : Option (List ℕ)) (met : Bool)
+pub record HasTested (again traces : Bool) (known : Option (List ℕ)) (unreadable : Bool) (name : List ℕ) (before after : Option (List ℕ)) (met : Bool)
     : Type 0 where
   pub verdict : Verdict
   pub front : List (List ℕ)
-  pub right : IsVerdictOn traces known unreadable verdict front
+  pub right : IsVerdictOn again traces known unreadable verdict front
   pub printed : Appends before after (tested_text traces name verdict front)
   pub met_is : met ≡ is_met verdict
 
--- the files of these names are tested, in order: the output grew by the texts of their verdicts
-pub record HaveTested (traces : Bool) (bytes_at : List ℕ → Option (List ℕ)) (unreadable : List ℕ → Bool) (names : List (List ℕ))
+-- these files are tested, in order: the output grew by the texts of their verdicts
+pub record HaveTested (traces : Bool) (bytes_at : List ℕ → Option (List ℕ)) (unreadable : List ℕ → Bool) (files : List Asked)
     (before after : Option (List ℕ)) (passed failed : ℕ) : Type 0 where
   pub verdicts : Verdicts
-  pub named : map (λ v. v.name) verdicts ≡ names
-  pub right : All (λ v. IsVerdictOn traces (bytes_at v.name) (unreadable v.name) v.verdict v.front) verdicts
+  pub named : map asked_in verdicts ≡ files
+  pub right : All (λ v. IsVerdictOn v.again traces (bytes_at v.name) (unreadable v.name) v.verdict v.front) verdicts
   pub printed : Appends before after (verdicts_text traces verdicts)
   pub passed_is : passed ≡ passed_in verdicts
   pub failed_is : failed ≡ failed_in verdicts
 
--- The same, and after it the output has the line of how many passed and failed. The status is 0 if none failed, and else 1.
+-- The same of the files of these names, and after it the output has the line of how many passed and failed. The status is 0 if none failed, and else 1.
 pub record IsTested (traces : Bool) (bytes_at : List ℕ → Option (List ℕ)) (unreadable : List ℕ → Bool) (names : List (List ℕ))
     (before after : Option (List ℕ)) (status : ℕ) : Type 0 where
   pub verdicts : Verdicts
-  pub named : map (λ v. v.name) verdicts ≡ names
-  pub right : All (λ v. IsVerdictOn traces (bytes_at v.name) (unreadable v.name) v.verdict v.front) verdicts
+  pub named : map asked_in verdicts ≡ asked names
+  pub right : All (λ v. IsVerdictOn v.again traces (bytes_at v.name) (unreadable v.name) v.verdict v.front) verdicts
   pub printed : Appends before after (verdicts_text traces verdicts ++ tally_line (passed_in verdicts) (failed_in verdicts))
   pub status_is : status ≡ (if failed_in verdicts == 0 then 0 else 1)
 
@@ -136,10 +161,10 @@ abbrev pub EndsTest : Fault → Type 0
 EndsTest fault = (fault ≡ Memory) ⊎ (fault ≡ Unwritable)
 
 -- one file is tested, and the output grew by a prefix of the text of its verdict, and of the front of a trace where that is wanted
-pub record HasBegun (traces : Bool) (known : Option (List ℕ)) (unreadable : Bool) (name : List ℕ) (before after : Option (List ℕ)) : Type 0 where
+pub record HasBegun (again traces : Bool) (known : Option (List ℕ)) (unreadable : Bool) (name : List ℕ) (before after : Option (List ℕ)) : Type 0 where
   pub verdict : Verdict
   pub front : List (List ℕ)
-  pub right : IsVerdictOn traces known unreadable verdict front
+  pub right : IsVerdictOn again traces known unreadable verdict front
   pub grown : AppendsPrefix before after (tested_text traces name verdict front)
 
 -- The output grew by a prefix of what is printed of the files of these names: the texts of the verdicts on the first of them, and after those of all files
@@ -147,9 +172,9 @@ pub record HasBegun (traces : Bool) (known : Option (List ℕ)) (unreadable : Bo
 pub record TestsPrefix (traces : Bool) (bytes_at : List ℕ → Option (List ℕ)) (unreadable : List ℕ → Bool) (names : List (List ℕ))
     (before after : Option (List ℕ)) : Type 0 where
   pub verdicts : Verdicts
-  pub others : List (List ℕ)
-  pub named : map (λ v. v.name) verdicts ++ others ≡ names
-  pub right : All (λ v. IsVerdictOn traces (bytes_at v.name) (unreadable v.name) v.verdict v.front) verdicts
+  pub others : List Asked
+  pub named : map asked_in verdicts ++ others ≡ asked names
+  pub right : All (λ v. IsVerdictOn v.again traces (bytes_at v.name) (unreadable v.name) v.verdict v.front) verdicts
   pub last : List ℕ
   pub last_is : (last ≡ []) ⊎ ((others ≡ []) × (last ≡ tally_line (passed_in verdicts) (failed_in verdicts)))
   pub grown : AppendsPrefix before after (verdicts_text traces verdicts ++ last)

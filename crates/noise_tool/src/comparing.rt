@@ -9,13 +9,16 @@ ghost use Rattle.noise_lines.specs.Told.{error_text};
 ghost use Rattle.noise_lines.specs.declared.faults.Fault.{Fault};
 ghost use Rattle.noise_lines.specs.Woven.{traces_of};
 ghost use Rattle.noise_vectors.specs.Expectations.{bytes_of};
-ghost use Rattle.noise_tool.specs.Comparing.{Compares, IfMade, IsCompared, IsWrong, finding_status, schedule_of};
+ghost use Rattle.noise_tool.specs.Comparing.{Compares, ComparesPrefix, IfMade, IfWrong, IsCompared, IsNotCompared, IsUncompared, IsWrongLog};
+ghost use Rattle.noise_tool.specs.Comparing.{finding_status, schedule_of, uncompared_line};
 ghost use Rattle.noise_tool.specs.Testing.{RunsTo};
+ghost use Rattle.noise_tool.specs.declared.comparing.Comparison.TheVariants.{Wrong};
+ghost use Rattle.noise_tool.specs.declared.comparing.Uncompared.TheVariants.{WrongFile};
 
-use crate::testing::{FilesByName, run_text};
+use crate::testing::{FilesByName, is_input, run_named};
 use crate::tracing::Traced;
 use noise_compare::{Finding, Line, LogFault, LogReport, compare_lines, push_schedule, read_log};
-use noise_lines::{Fault, Verdict, flush, tell, verdict_lines, write};
+use noise_lines::{Fault, Verdict, flush, named_fault, tell, verdict_lines, write};
 use noise_words::Compared;
 use std::alloc::{AllocError, Global};
 use std::io::Write;
@@ -25,8 +28,24 @@ use std::io::Write;
 pub enum Comparison {
     /// They are compared.
     Made(LogReport),
-    /// One of them is wrong, and this text says why.
-    Wrong(Vec<u8>),
+    /// One of them is wrong.
+    Wrong(Uncompared),
+}
+
+/// Why a log isn't compared with a vector file.
+#[derive(Clone, Copy)]
+pub enum Uncompared {
+    /// Both are standard input, which is read once.
+    NamedTwice,
+    /// The log has more bytes than are read.
+    LongLog,
+    /// The vector file isn't run.
+    WrongFile(Fault),
+    /// The log has no line of a key schedule.
+    NoLine,
+    /// The line of this number of the log, from 1 on, is the first that begins as one of a key schedule and has more or
+    /// fewer than twelve words.
+    WrongLine(usize),
 }
 
 /// Compares the log of a key schedule with the key schedule of a vector file, as `trace` prints it, and writes the
@@ -45,19 +64,26 @@ pub fn compare_log<F: FilesByName, O: Write, E: Write>(
     ensures compared { (2 ≤ result) ⊎ IsCompared (F.bytes_at files.now (string_bytes names.now.log))
         (F.bytes_at files.now (string_bytes names.now.file)) (O.contents out.old) (O.contents out.new) result }
     ensures quiet { (2 ≤ result) ⊎ (err.new ≡ err.old) }
+    ensures fault { result ≡ 2 → IsNotCompared names.now (F.bytes_at files.now (string_bytes names.now.log))
+        (F.bytes_at files.now (string_bytes names.now.file)) (E.contents err.old) (E.contents err.new) }
     ensures unwritten { result ≡ 2 → out.new ≡ out.old }
     ensures outside { result ≡ 3 → (fault : Fault) × (status_of fault ≡ 3)
         × AppendsPrefix (E.contents err.old) (E.contents err.new) (error_text fault) }
+    ensures prefix { (out.new ≡ out.old) ⊎ ComparesPrefix (F.bytes_at files.now (string_bytes names.now.log))
+        (F.bytes_at files.now (string_bytes names.now.file)) (O.contents out.old) (O.contents out.new) }
 {
     match compare_named(alloc, names, files) {
         Ok(Comparison::Made(report)) => match print_report(&report, out) {
             Ok(status) => status,
             Err(fault) => tell(alloc, fault, out, err),
         },
-        Ok(Comparison::Wrong(text)) => {
-            let _ = write(&text, err);
-            2
-        }
+        Ok(Comparison::Wrong(why)) => match uncompared_line(alloc, names, why) {
+            Ok(line) => {
+                let _ = write(&line, err);
+                2
+            }
+            Err(_) => tell(alloc, Fault::Memory, out, err),
+        },
         Err(fault) => tell(alloc, fault, out, err),
     }
 }
@@ -66,6 +92,7 @@ pub fn compare_log<F: FilesByName, O: Write, E: Write>(
 fn print_report<O: Write>(report: &LogReport, out: &mut O) -> Result<u8, Fault>
     ensures printed { IfOk result (λ status. Appends (O.contents out.old) (O.contents out.new) report.now.text.items
         × (status ≡ finding_status report.now.finding)) }
+    ensures prefix { AppendsPrefix (O.contents out.old) (O.contents out.new) report.now.text.items }
     ensures fault { IfErr result (λ fault. status_of fault ≡ 3) }
 {
     write(&report.text, out)?;
@@ -85,49 +112,41 @@ fn compare_named<F: FilesByName>(
     ensures made { IfOk result (λ made. IfMade made
         (λ report. IfSome (F.bytes_at files.now (string_bytes names.now.log))
         (λ log. IfSome (F.bytes_at files.now (string_bytes names.now.file)) (λ file. Compares log file report)))) }
+    ensures wrong { IfOk result (λ made. IfWrong made
+        (IsUncompared names.now (F.bytes_at files.now (string_bytes names.now.log)) (F.bytes_at files.now (string_bytes names.now.file)))) }
     ensures fault { IfErr result (λ fault. status_of fault ≡ 3) }
 {
     let (log_name, file_name) = (names.log.as_str(), names.file.as_str());
-    if log_name == "-" && file_name == "-" {
-        return wrong(alloc, "-", ": standard input is named twice");
+    if is_input(log_name) && is_input(file_name) {
+        return Ok(Comparison::Wrong(Uncompared::NamedTwice));
     }
     let log = match files.read(alloc, log_name) {
         Ok(log) => log,
-        Err(fault) => return wrong_file(alloc, log_name, fault),
+        Err(Fault::TooLong) => return Ok(Comparison::Wrong(Uncompared::LongLog)),
+        Err(fault) => return Err(fault),
     };
-    let file = match files.read(alloc, file_name) {
-        Ok(file) => file,
-        Err(fault) => return wrong_file(alloc, file_name, fault),
-    };
-    match run_text(alloc, &file, true) {
-        Ok(traced) => compare_traced(alloc, log_name, &log, &traced),
-        Err(fault) => wrong_file(alloc, file_name, fault),
+    match run_named(alloc, file_name, true, files) {
+        Ok(traced) => compare_traced(alloc, &log, &traced),
+        Err(fault) => wrong_file(fault),
     }
 }
 
 // What comes of the log of this text and a run that is traced.
-fn compare_traced(
-    alloc: Global,
-    name: &str,
-    log: &[u8],
-    traced: &Traced,
-) -> Result<Comparison, Fault>
+fn compare_traced(alloc: Global, log: &[u8], traced: &Traced) -> Result<Comparison, Fault>
     ensures made { (file : List ℕ) → RunsTo true file traced.now
         → IfOk result (λ made. IfMade made (Compares log.now file)) }
+    ensures wrong { IfOk result (λ made. IfWrong made (IsWrongLog log.now)) }
     ensures fault { IfErr result (λ fault. status_of fault ≡ 3) }
 {
     let right = schedule(alloc, traced)?;
     match read_log(alloc, log) {
         Ok(lines) => {
             if lines.is_empty() {
-                return wrong(alloc, name, ": no line of a key schedule");
+                return Ok(Comparison::Wrong(Uncompared::NoLine));
             }
             Ok(Comparison::Made(compare_lines(alloc, &lines, &right)?))
         }
-        Err(LogFault::Line(number)) => {
-            let why = format!(in alloc; ": line {number} trace")?;
-            wrong(alloc, name, why.as_str())
-        }
+        Err(LogFault::Line(number)) => Ok(Comparison::Wrong(Uncompared::WrongLine(number))),
         Err(LogFault::Memory) => Err(Fault::Memory),
     }
 }
@@ -145,22 +164,30 @@ fn schedule(alloc: Global, traced: &Traced) -> Result<Vec<Line<'_>>, AllocError>
     Ok(lines)
 }
 
-// That a file isn't compared, and why; a fault from outside is handed on.
-fn wrong_file(alloc: Global, name: &str, fault: Fault) -> Result<Comparison, Fault>
-    ensures made { IfOk result IsWrong }
-    ensures fault { IfErr result (λ fault. status_of fault ≡ 3) }
+// That a vector file isn't run; a fault from outside is handed on.
+fn wrong_file(fault: Fault) -> Result<Comparison, Fault>
+    ensures wrong { IfOk result (λ made. (made ≡ Wrong (WrongFile fault)) × (status_of fault ≤ 2)) }
+    ensures fault { IfErr result (λ other. status_of other ≡ 3) }
 {
     if fault.status() == 3 {
         return Err(fault);
     }
-    Ok(Comparison::Wrong(verdict_lines(alloc, name, &Verdict::CannotRun(fault))?))
+    Ok(Comparison::Wrong(Uncompared::WrongFile(fault)))
 }
 
-// That this file is wrong, and why.
-fn wrong(alloc: Global, name: &str, why: &str) -> Result<Comparison, Fault>
-    ensures made { IfOk result IsWrong }
-    ensures fault { IfErr result (λ fault. status_of fault ≡ 3) }
+// The line that says why a log isn't compared.
+fn uncompared_line(alloc: Global, names: &Compared, why: Uncompared) -> Result<Vec<u8>, AllocError>
+    ensures { IfOk result (λ line. line.items ≡ uncompared_line names.now why) }
 {
-    let text = format!(in alloc; "fault {name}{why}\n")?;
-    Ok(Comparison::Wrong(Vec::from_slice(alloc, text.as_bytes())?))
+    let (log, file) = (names.log.as_str(), names.file.as_str());
+    match why {
+        Uncompared::NamedTwice => verdict_lines(alloc, "-", &Verdict::NamedTwice),
+        Uncompared::LongLog => verdict_lines(alloc, log, &Verdict::CannotRun(Fault::TooLong)),
+        Uncompared::WrongFile(fault) => verdict_lines(alloc, file, &Verdict::CannotRun(fault)),
+        Uncompared::NoLine => named_fault(alloc, log, "no line of a key schedule"),
+        Uncompared::WrongLine(number) => {
+            let why = format!(in alloc; "line {number} trace")?;
+            named_fault(alloc, log, why.as_str())
+        }
+    }
 }

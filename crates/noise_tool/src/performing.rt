@@ -6,8 +6,8 @@ ghost use Rattle.std.specs.Io.KnownBytes.{Appends};
 ghost use Rattle.noise_vectors.specs.Expectations.{bytes_of};
 ghost use Rattle.noise_vectors.specs.declared.vector.AllowedEvents.TheVariants.{VersionOne};
 ghost use Rattle.noise_tool.specs.Performing.{HasConverted, HasRun, IsDone, IsFault, IsOfLines, IsRunFault, IsTooLongConverted, IsUnlike, IsUnmet};
-ghost use Rattle.noise_tool.specs.Performing.{IfCommand, IfCompare, IfExplain, IfTest, IsShort, LeavesFile, LeavesInput, ReadsShort};
-ghost use Rattle.noise_tool.specs.Comparing.{IsCompared};
+ghost use Rattle.noise_tool.specs.Performing.{IfCommand, IfCompare, IfExplain, IfTest, IsShort, LeavesAtTwo, LeavesFile, LeavesInput, ReadsShort};
+ghost use Rattle.noise_tool.specs.Comparing.{ComparesPrefix, IsCompared, IsNotCompared};
 ghost use Rattle.noise_tool.specs.Explaining.{ExplainsPrefix, HasExplained};
 ghost use Rattle.noise_tool.specs.Testing.{EndsTest, IsTested, TestsPrefix};
 ghost use Rattle.noise_tool.specs.Prefixes.{PrintsConvertedPrefix, PrintsPrefix, PrintsRunPrefix};
@@ -54,7 +54,7 @@ pub fn perform<R: Read, F: FilesByName, O: Write, E: Write>(
     ensures prefix { IfCommand order.now (λ chosen. (out.new ≡ out.old)
         ⊎ PrintsPrefix chosen (R.remaining file.old) (O.contents out.old) (O.contents out.new)) }
     ensures long { (2 ≤ result) ⊎ IfCommand order.now (λ chosen. ReadsShort chosen (R.remaining file.old)) }
-    ensures unwritten { result ≡ 2 → IfCommand order.now (λ _. out.new ≡ out.old) }
+    ensures unwritten { result ≡ 2 → LeavesAtTwo order.now out.old out.new }
     ensures quiet { result ≡ 0 → err.new ≡ err.old }
     ensures unread { LeavesInput order.now file.old file.new }
     ensures tested { IfTest order.now (λ asked. (result ≡ 3)
@@ -72,6 +72,10 @@ pub fn perform<R: Read, F: FilesByName, O: Write, E: Write>(
     ensures compared { IfCompare order.now (λ names. (2 ≤ result)
         ⊎ (IsCompared (F.bytes_at files.now (string_bytes names.log)) (F.bytes_at files.now (string_bytes names.file)) (O.contents out.old)
         (O.contents out.new) result × (err.new ≡ err.old))) }
+    ensures compare_fault { result ≡ 2 → IfCompare order.now (λ names. IsNotCompared names (F.bytes_at files.now (string_bytes names.log))
+        (F.bytes_at files.now (string_bytes names.file)) (E.contents err.old) (E.contents err.new)) }
+    ensures compare_prefix { IfCompare order.now (λ names. (out.new ≡ out.old) ⊎ ComparesPrefix (F.bytes_at files.now (string_bytes names.log))
+        (F.bytes_at files.now (string_bytes names.file)) (O.contents out.old) (O.contents out.new)) }
     ensures compare_outside { result ≡ 3 → IfCompare order.now (λ names. (fault : Fault) × (status_of fault ≡ 3)
         × AppendsPrefix (E.contents err.old) (E.contents err.new) (error_text fault)) }
 {

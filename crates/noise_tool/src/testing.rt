@@ -1,6 +1,6 @@
 //! The command `test`: vector files are run, and each run is compared with what its file expects.
 
-ghost use Rattle.std.specs.Prelude.{◌≡◌, ◌⊎◌, ◌<◌, ◌≤◌, ℕ, Bool, List, Option, IfErr, IfOk, IfSome, IsTrue, OnOk, length, map, string_bytes, vec_len};
+ghost use Rattle.std.specs.Prelude.{◌≡◌, ◌⊎◌, ◌<◌, ◌≤◌, ℕ, Bool, List, Option, true, false, IfErr, IfOk, IfSome, IsTrue, OnOk, length, map, string_bytes, vec_len};
 ghost use Rattle.std.specs.Io.KnownBytes.{Appends};
 ghost use Rattle.noise_lines.specs.Faults.{status_of};
 ghost use Rattle.noise_lines.specs.Prefixes.{AppendsPrefix};
@@ -12,7 +12,7 @@ ghost use Rattle.noise_vectors.specs.declared.vector.AllowedEvents.TheVariants.{
 ghost use Rattle.noise_tool.specs.Ends.{IsStartFault};
 ghost use Rattle.noise_tool.specs.Performing.{IsRunFault};
 ghost use Rattle.noise_tool.specs.Running.{IsRunOf, expected_in};
-ghost use Rattle.noise_tool.specs.Testing.{EndsTest, HasBegun, HasTested, HaveTested, IsTested, RunsTo, TestsPrefix, tally_line, tested_text};
+ghost use Rattle.noise_tool.specs.Testing.{EndsTest, HasBegun, HasTested, HaveTested, IsTested, RunsTo, TestsPrefix, asked, is_input, tally_line, tested_text};
 ghost use Rattle.noise_tool.specs.TracedText.{front_of};
 ghost use Rattle.noise_lines.specs.declared.verdict.Verdict.TheVariants.{CannotRun};
 
@@ -44,7 +44,7 @@ pub trait FilesByName {
 
 /// Runs the vector file of each name, one after the other, and writes what comes of it, and last how many passed and failed. The exit status is 0 if all
 /// passed, and else 1. A file that can't be read or run fails, and the others are still run; 3 where memory runs out or the output can't be written,
-/// after which no more files are run.
+/// after which no more files are run. Standard input, `-`, is read once: named again it fails.
 ///
 /// Where traces are wanted, the text of each file whose run differs from what it expects goes on with the trace of this run, up to the first line that
 /// differs and what is shown of the key schedules there. These lines are secrets.
@@ -56,6 +56,7 @@ pub fn test<F: FilesByName, O: Write, E: Write>(
     out: &mut O,
     err: &mut E,
 ) -> u8
+    ensures status { (result ≤ 1) ⊎ (result ≡ 3) }
     ensures tested { (result ≡ 3) ⊎ IsTested traces (F.bytes_at files.now) (F.unreadable files.now)
         (map string_bytes names.now) (O.contents out.old) (O.contents out.new) result }
     ensures quiet { (result ≡ 3) ⊎ (err.new ≡ err.old) }
@@ -79,6 +80,7 @@ fn test_all<F: FilesByName, O: Write>(
     files: &F,
     out: &mut O,
 ) -> Result<u8, Fault>
+    ensures status { IfOk result (λ status. status ≤ 1) }
     ensures tested { IfOk result (λ status. IsTested traces (F.bytes_at files.now) (F.unreadable files.now)
         (map string_bytes names.now) (O.contents out.old) (O.contents out.new) status) }
     ensures prefix { IfErr result (λ fault. TestsPrefix traces (F.bytes_at files.now) (F.unreadable files.now)
@@ -101,15 +103,20 @@ fn test_each<F: FilesByName, O: Write>(
     out: &mut O,
 ) -> Result<(usize, usize), Fault>
     ensures tested { IfOk result (λ counts. HaveTested traces (F.bytes_at files.now) (F.unreadable files.now)
-        (map string_bytes names.now) (O.contents out.old) (O.contents out.new) counts.0 counts.1) }
+        (asked (map string_bytes names.now)) (O.contents out.old) (O.contents out.new) counts.0 counts.1) }
     ensures prefix { IfErr result (λ fault. TestsPrefix traces (F.bytes_at files.now) (F.unreadable files.now)
         (map string_bytes names.now) (O.contents out.old) (O.contents out.new)) }
     ensures fault { IfErr result EndsTest }
 {
     let mut passed: usize = 0;
     let mut failed: usize = 0;
+    let mut named = false;
     for name in names {
-        if test_file(alloc, name.as_str(), traces, files, out)? {
+        let name = name.as_str();
+        let is_input = is_input(name);
+        let again = is_input && named;
+        named = named || is_input;
+        if test_file(alloc, name, again, traces, files, out)? {
             passed += 1;
         } else {
             failed += 1;
@@ -118,24 +125,48 @@ fn test_each<F: FilesByName, O: Write>(
     Ok((passed, failed))
 }
 
-// Runs the file of this name, and writes what comes of it. Whether it passed.
+/// Whether standard input has this name.
+pub(crate) fn is_input(name: &str) -> bool
+    ensures { result ≡ is_input name.now }
+{
+    name == "-"
+}
+
+// Runs the file of this name, if it isn't standard input again, and writes what comes of it. Whether it passed.
 fn test_file<F: FilesByName, O: Write>(
     alloc: Global,
     name: &str,
+    again: bool,
     traces: bool,
     files: &F,
     out: &mut O,
 ) -> Result<bool, Fault>
-    ensures tested { IfOk result (HasTested traces (F.bytes_at files.now name.now) (F.unreadable files.now name.now) name.now (O.contents out.old)
+    ensures tested { IfOk result (HasTested again traces (F.bytes_at files.now name.now) (F.unreadable files.now name.now) name.now (O.contents out.old)
         (O.contents out.new)) }
     ensures prefix { IfErr result (λ fault. (out.new ≡ out.old)
-        ⊎ HasBegun traces (F.bytes_at files.now name.now) (F.unreadable files.now name.now) name.now (O.contents out.old) (O.contents out.new)) }
+        ⊎ HasBegun again traces (F.bytes_at files.now name.now) (F.unreadable files.now name.now) name.now (O.contents out.old) (O.contents out.new)) }
     ensures fault { IfErr result EndsTest }
 {
+    if again {
+        return write_again(alloc, name, out);
+    }
     match run_named(alloc, name, traces, files) {
         Ok(traced) => write_run(alloc, name, traces, &traced, out),
         Err(fault) => write_unrun(alloc, name, fault, out),
     }
+}
+
+// Writes that standard input is named twice. Whether the file passed.
+fn write_again<O: Write>(alloc: Global, name: &str, out: &mut O) -> Result<bool, Fault>
+    ensures tested { (traces : Bool) (known : Option (List ℕ)) (unreadable : Bool)
+        → IfOk result (HasTested true traces known unreadable name.now (O.contents out.old) (O.contents out.new)) }
+    ensures prefix { (traces : Bool) (known : Option (List ℕ)) (unreadable : Bool) → IfErr result (λ _. (out.new ≡ out.old)
+        ⊎ HasBegun true traces known unreadable name.now (O.contents out.old) (O.contents out.new)) }
+    ensures fault { IfErr result EndsTest }
+{
+    let text = verdict_lines(alloc, name, &Verdict::NamedTwice)?;
+    write(&text, out)?;
+    Ok(false)
 }
 
 // Writes what a run comes to. Whether the file passed.
@@ -147,9 +178,9 @@ fn write_run<O: Write>(
     out: &mut O,
 ) -> Result<bool, Fault>
     ensures tested { (known : Option (List ℕ)) (unreadable : Bool) → IfSome known (λ text. RunsTo traces text traced.now)
-        → IfOk result (HasTested traces known unreadable name.now (O.contents out.old) (O.contents out.new)) }
+        → IfOk result (HasTested false traces known unreadable name.now (O.contents out.old) (O.contents out.new)) }
     ensures prefix { (known : Option (List ℕ)) (unreadable : Bool) → IfSome known (λ text. RunsTo traces text traced.now)
-        → IfErr result (λ fault. (out.new ≡ out.old) ⊎ HasBegun traces known unreadable name.now (O.contents out.old) (O.contents out.new)) }
+        → IfErr result (λ fault. (out.new ≡ out.old) ⊎ HasBegun false traces known unreadable name.now (O.contents out.old) (O.contents out.new)) }
     ensures fault { IfErr result EndsTest }
 {
     let verdict = judge(&traced.outcome.lines, &traced.outcome.expected)?;
@@ -179,7 +210,10 @@ fn write_verdict<O: Write>(
     }
     match verdict {
         Verdict::Differs(difference) => write_front(traced, difference.number, out),
-        Verdict::Met | Verdict::CannotRun(_) | Verdict::ExpectsNothing => Ok(()),
+        Verdict::Met
+        | Verdict::CannotRun(_)
+        | Verdict::ExpectsNothing
+        | Verdict::NamedTwice => Ok(()),
     }
 }
 
@@ -192,10 +226,10 @@ fn write_unrun<O: Write>(
 ) -> Result<bool, Fault>
     ensures tested { (traces : Bool) (known : Option (List ℕ)) (unreadable : Bool) → (fault ≡ Unreadable → IsTrue unreadable)
         → (status_of fault ≡ 3) ⊎ IfSome known (λ text. IsRunFault Any text fault)
-        → IfOk result (HasTested traces known unreadable name.now (O.contents out.old) (O.contents out.new)) }
+        → IfOk result (HasTested false traces known unreadable name.now (O.contents out.old) (O.contents out.new)) }
     ensures prefix { (traces : Bool) (known : Option (List ℕ)) (unreadable : Bool) → (fault ≡ Unreadable → IsTrue unreadable)
         → (status_of fault ≡ 3) ⊎ IfSome known (λ text. IsRunFault Any text fault)
-        → IfErr result (λ _. (out.new ≡ out.old) ⊎ HasBegun traces known unreadable name.now (O.contents out.old) (O.contents out.new)) }
+        → IfErr result (λ _. (out.new ≡ out.old) ⊎ HasBegun false traces known unreadable name.now (O.contents out.old) (O.contents out.new)) }
     ensures fault { IfErr result EndsTest }
 {
     let verdict = fault_verdict(fault)?;
@@ -216,8 +250,8 @@ fn fault_verdict(fault: Fault) -> Result<Verdict, Fault>
     }
 }
 
-// What comes of the run of the file of this name, with its trace where traces are wanted.
-fn run_named<F: FilesByName>(
+/// What comes of the run of the file of this name, with its trace where traces are wanted.
+pub(crate) fn run_named<F: FilesByName>(
     alloc: Global,
     name: &str,
     traces: bool,
@@ -231,8 +265,8 @@ fn run_named<F: FilesByName>(
     run_text(alloc, &text, traces)
 }
 
-/// The same of the file of this text.
-pub(crate) fn run_text(alloc: Global, text: &[u8], traces: bool) -> Result<Traced, Fault>
+// The same of the file of this text.
+fn run_text(alloc: Global, text: &[u8], traces: bool) -> Result<Traced, Fault>
     ensures runs { length text.now ≤ 4194304 → IfOk result (RunsTo traces text.now) }
     ensures read { IfErr result (λ fault. ¬ (fault ≡ Unreadable)) }
     ensures fault { IfErr result (λ fault. (status_of fault ≡ 3) ⊎ IsRunFault Any text.now fault) }

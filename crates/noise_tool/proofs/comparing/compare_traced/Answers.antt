@@ -6,7 +6,7 @@ use Rattle.noise_tool.proofs.comparing.compare_traced.Goals as goal
 pub returns-in-Ok-clause-made : goal.returns-in-Ok-clause-made
 returns-in-Ok-clause-made c = λ file runs. record {
   logged = c.in-Ok.lines.items;
-  logged_are = c.in-Ok.ensures;
+  logged_are = c.in-Ok.ensures.lines;
   right = c.in_ok-right.right.items;
   right_are = record {
     file = runs.file;

@@ -1,6 +1,6 @@
 use Rattle.std.proofs.Common.{◌≡◌, ◌++◌, take}
-use Rattle.noise_explain.specs.Shown.{shown}
-use Rattle.noise_explain.proofs.showing.push_shown.Given as goal
+use Rattle.noise_lines.specs.Shown.{shown}
+use Rattle.noise_lines.proofs.shown.push_shown.Given as goal
 
 -- the bytes so far are shown
 abbrev pub invariant-loop-byte : goal.invariant-loop-byte
