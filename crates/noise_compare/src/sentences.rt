@@ -6,6 +6,8 @@ use crate::line::Line;
 #[derive(Clone, Copy)]
 struct Differs {
     bytes: bool,
+    /// Whether the log has `?` in the place of the bytes.
+    unlogged: bool,
     hash: bool,
     chaining_key: bool,
     key: bool,
@@ -60,6 +62,7 @@ pub fn ending_advice(next: &Line<'_>) -> &'static str {
 fn differing(logged: &Line<'_>, right: &Line<'_>) -> Differs {
     Differs {
         bytes: !right.is_same(logged, 7),
+        unlogged: logged.word(7) == b"?".as_slice(),
         hash: !right.is_same(logged, 8),
         chaining_key: !right.is_same(logged, 9),
         key: !right.is_same(logged, 10),
@@ -69,14 +72,14 @@ fn differing(logged: &Line<'_>, right: &Line<'_>) -> Differs {
     }
 }
 
-// Whether two texts in hex have one length and differ in their last 32 digits alone.
+// Whether two texts in hex have one length and the same digits before the last 32.
 fn is_tag_alone(logged: &[u8], right: &[u8]) -> bool {
-    if logged.len() != right.len() || right.len() < 32 {
-        return false;
-    }
-    let (of_logged, _) = logged.split_at(logged.len() - 32);
-    let (of_right, _) = right.split_at(right.len() - 32);
-    of_logged == of_right
+    logged.len() == right.len() && before_tag(logged) == before_tag(right)
+}
+
+// What stands before the last 32 digits.
+fn before_tag(text: &[u8]) -> Option<&[u8]> {
+    text.get(..text.len().checked_sub(32)?)
 }
 
 fn of_ephemeral(differs: Differs) -> &'static str {
@@ -85,7 +88,7 @@ fn of_ephemeral(differs: Differs) -> &'static str {
     } else if differs.hash {
         "h: MixHash takes the 32 bytes of the key, and nothing more (5.3)"
     } else {
-        "ck and k differ, h agrees: in a pattern with a psk MixKey follows MixHash at each e, and in no other (9.2)"
+        "ck and k differ, h agrees: with a psk MixKey follows MixHash at each e, written or read, and else never (9.2)"
     }
 }
 
@@ -116,6 +119,8 @@ fn of_text(differs: Differs) -> &'static str {
         "the tag alone differs: the associated data is h before this text, with all tokens before it (5.2)"
     } else if differs.bytes {
         "the encrypted bytes differ: the nonce is 4 zero bytes and 8 little-endian ones (12.3); or it was another text"
+    } else if differs.unlogged {
+        "h differs: log the bytes too, which tell a mistake of MixHash from one of the tag or the nonce (5.2)"
     } else {
         "h differs, the bytes agree: MixHash takes all encrypted bytes and the tag (5.2)"
     }
