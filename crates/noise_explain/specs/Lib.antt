@@ -2,5 +2,3 @@ pub mod Explained
 pub mod Places
 pub mod RulePlaces
 pub mod Shown
-pub mod VectorColumns
-pub mod VectorExplained

@@ -2,7 +2,7 @@
 
 /// What is wrong, as closely as an explanation tells it.
 #[derive(Clone, Copy, Debug, PartialEq, Eq)]
-pub(crate) enum Advice {
+pub enum Advice {
     /// The file has too many bytes.
     TooLong,
     /// A byte-order mark stands before the first line.

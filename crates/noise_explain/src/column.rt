@@ -9,8 +9,8 @@ ghost use Rattle.noise_explain.specs.Places.{IsColumn, IsWrongPiece, arrow_colum
 use noise_lines::token_word;
 use noise_names::{TextFaultKind, Token};
 
-// The column of a fault of this kind in the line of this number.
-pub(crate) fn column_of(kind: TextFaultKind, number: usize, line: &[u8]) -> usize
+/// The column of a fault of this kind in the line of this number.
+pub fn column_of(kind: TextFaultKind, number: usize, line: &[u8]) -> usize
     ensures { IsColumn kind number line.now result }
 {
     match kind {

@@ -134,12 +134,8 @@ fn explain_rule(
     })
 }
 
-// A line, and a caret below this column.
-pub(crate) fn caret_lines(
-    alloc: Global,
-    line: &[u8],
-    column: usize,
-) -> Result<Vec<u8>, AllocError> {
+/// A line, and a caret below this column.
+pub fn caret_lines(alloc: Global, line: &[u8], column: usize) -> Result<Vec<u8>, AllocError> {
     let mut text = Vec::new(alloc);
     push_caret(line, column, &mut text)?;
     Ok(text)
@@ -153,8 +149,8 @@ fn advice_lines(alloc: Global, advice: Advice) -> Result<Vec<u8>, AllocError> {
     Ok(text)
 }
 
-// Which rule is broken where, what is wrong there, and what mends it.
-pub(crate) fn rule_lines(
+/// Which rule is broken where, what is wrong there, and what mends it.
+pub fn rule_lines(
     alloc: Global,
     pattern: &Pattern,
     fault: RuleFault,

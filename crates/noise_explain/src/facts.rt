@@ -10,8 +10,8 @@ use noise_lines::token_word;
 use noise_names::{Role, Token, ValidPattern};
 use std::alloc::{AllocError, Global};
 
-// The messages, each with its pieces and what is mixed in by its payload; the transport; and what follows for the parties.
-pub(crate) fn fact_lines(alloc: Global, pattern: &ValidPattern) -> Result<Vec<u8>, AllocError> {
+/// The messages, each with its pieces and what is mixed in by its payload; the transport; and what follows for the parties.
+pub fn fact_lines(alloc: Global, pattern: &ValidPattern) -> Result<Vec<u8>, AllocError> {
     let mut text = Vec::new(alloc);
     for index in 0..pattern.pattern().messages().len() {
         push_message(alloc, pattern, index as u8 + 1, &mut text)?;
@@ -211,8 +211,8 @@ fn one_static(alloc: Global, role: Role, psk: &str) -> Result<String, AllocError
     format!(in alloc; "Whoever has the {owner}'s static private key{psk} can compute these keys.")
 }
 
-// Appends a line of four spaces and a fact of the message or the transport above.
-pub(crate) fn push_fact(fact: &str, text: &mut Vec<u8>) -> Result<(), AllocError> {
+/// Appends a line of four spaces and a fact of the message or the transport above.
+pub fn push_fact(fact: &str, text: &mut Vec<u8>) -> Result<(), AllocError> {
     text.extend_from_slice(b"  ".as_slice())?;
     push_sentence(fact, text)
 }

@@ -2,15 +2,15 @@
 
 use noise_names::{Message, Pattern, Role, Token};
 
-// A place among the tokens: a message, from 1, and how many of its tokens stand before.
+/// A place among the tokens: a message, from 1, and how many of its tokens stand before.
 #[derive(Clone, Copy)]
-pub(crate) struct Spot {
+pub struct Spot {
     pub message: usize,
     pub token: usize,
 }
 
 impl Spot {
-    // Whether what ends at this place stands before the other one.
+    /// Whether what ends at this place stands before the other one.
     pub fn is_before(self, other: Spot) -> bool {
         self.message < other.message || (self.message == other.message && self.token <= other.token)
     }
@@ -25,7 +25,7 @@ pub(crate) fn sender_of(message: usize) -> Role {
     }
 }
 
-pub(crate) fn role_name(role: Role) -> &'static str {
+pub fn role_name(role: Role) -> &'static str {
     match role {
         Role::Initiator => "initiator",
         Role::Responder => "responder",
@@ -42,8 +42,8 @@ pub(crate) fn keys_of(dh: Token) -> (Token, Token) {
     }
 }
 
-// The token at a place, if one stands there.
-pub(crate) fn token_at(messages: &[Message], spot: Spot) -> Option<Token> {
+/// The token at a place, if one stands there.
+pub fn token_at(messages: &[Message], spot: Spot) -> Option<Token> {
     let message = messages.get(spot.message.saturating_sub(1))?;
     message.tokens().get(spot.token).copied()
 }

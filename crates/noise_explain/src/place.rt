@@ -13,8 +13,8 @@ pub struct Place {
     pub column: usize,
 }
 
-// The line of this number, from 1, without its line feed. It is empty where the text has fewer lines.
-pub(crate) fn line_at(text: &[u8], number: usize) -> &[u8]
+/// The line of this number, from 1, without its line feed. It is empty where the text has fewer lines.
+pub fn line_at(text: &[u8], number: usize) -> &[u8]
     ensures { result.now ≡ line_at text.now number }
 {
     let mut rest = text;
@@ -33,8 +33,8 @@ fn first_line(text: &[u8]) -> &[u8]
     line
 }
 
-// What follows the first line and its line feed.
-pub(crate) fn after_line(text: &[u8]) -> &[u8]
+/// What follows the first line and its line feed.
+pub fn after_line(text: &[u8]) -> &[u8]
     ensures { result.now ≡ after_line text.now }
 {
     let (_, rest) = text.split_at(line_len(text));

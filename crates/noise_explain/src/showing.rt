@@ -9,8 +9,8 @@ use noise_lines::{Fault, fault_line, push_shown};
 use noise_names::Pattern;
 use std::alloc::{AllocError, Global};
 
-// The first line of what is said of a wrong text.
-pub(crate) fn wrong_head(
+/// The first line of what is said of a wrong text.
+pub fn wrong_head(
     alloc: Global,
     name: &str,
     place: Place,
@@ -46,8 +46,8 @@ pub(crate) fn right_head(
     Ok(text)
 }
 
-// The first line of what is said of a file that isn't read.
-pub(crate) fn unread_head(alloc: Global, name: &str, fault: Fault) -> Result<Vec<u8>, AllocError>
+/// The first line of what is said of a file that isn't read.
+pub fn unread_head(alloc: Global, name: &str, fault: Fault) -> Result<Vec<u8>, AllocError>
     ensures { IfOk result (λ text. text.items ≡ unread_head name.now fault) }
 {
     let mut text = Vec::new(alloc);
@@ -110,8 +110,8 @@ fn push_start(bytes: &[u8], text: &mut Vec<u8>) -> Result<(), AllocError> {
     text.extend_from_slice(b"[..]".as_slice())
 }
 
-// Appends a line of two spaces and a sentence.
-pub(crate) fn push_sentence(sentence: &str, text: &mut Vec<u8>) -> Result<(), AllocError> {
+/// Appends a line of two spaces and a sentence.
+pub fn push_sentence(sentence: &str, text: &mut Vec<u8>) -> Result<(), AllocError> {
     text.extend_from_slice(b"  ".as_slice())?;
     text.extend_from_slice(sentence.as_bytes())?;
     text.push(b'\n')?;

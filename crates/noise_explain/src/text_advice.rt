@@ -5,8 +5,8 @@ use crate::column::after_arrow;
 use crate::place::line_at;
 use noise_names::{TextFault, TextFaultKind};
 
-// What is wrong with the line of the fault, which has this column.
-pub(crate) fn text_advice(text: &[u8], fault: TextFault, column: usize) -> Advice {
+/// What is wrong with the line of the fault, which has this column.
+pub fn text_advice(text: &[u8], fault: TextFault, column: usize) -> Advice {
     let line = line_at(text, fault.line);
     let (_, piece) = line.split_at(column.saturating_sub(1).min(line.len()));
     match fault.kind {
@@ -26,8 +26,8 @@ pub(crate) fn text_advice(text: &[u8], fault: TextFault, column: usize) -> Advic
     }
 }
 
-// What is wrong in characters that aren't seen.
-pub(crate) fn slip(line: &[u8]) -> Option<Advice> {
+/// What is wrong in characters that aren't seen.
+pub fn slip(line: &[u8]) -> Option<Advice> {
     if line.starts_with(b"\xef\xbb\xbf".as_slice()) {
         return Some(Advice::ByteOrderMark);
     }

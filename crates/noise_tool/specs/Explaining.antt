@@ -4,7 +4,7 @@ use Rattle.std.specs.List.{All}
 use Rattle.std.specs.Io.KnownBytes.{Appends}
 use Rattle.noise_explain.specs.Explained.{IsExplained, SaysLong}
 use Rattle.noise_explain.specs.declared.explaining.Explained.{Explained}
-use Rattle.noise_explain.specs.VectorExplained.{TellsFault, TellsLine, TellsVector, is_vector_text}
+use Rattle.noise_explain_vectors.specs.VectorExplained.{TellsFault, TellsLine, TellsVector, is_vector_text}
 use Rattle.noise_lines.specs.Prefixes.{AppendsPrefix}
 use Rattle.noise_lines.specs.declared.faults.Fault.{Fault}
 use Rattle.noise_lines.specs.declared.faults.Fault.TheVariants.{Line}

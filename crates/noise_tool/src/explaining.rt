@@ -9,9 +9,9 @@ ghost use Rattle.noise_tool.specs.Explaining.{ExplainsPrefix, HasExplained, IsEx
 
 use crate::running::replay;
 use crate::testing::FilesByName;
-use noise_explain::{
-    Explained, explain, explain_line, explain_long, explain_start, explain_vector, is_vector_text,
-    pattern_in,
+use noise_explain::{Explained, explain, explain_long};
+use noise_explain_vectors::{
+    explain_line, explain_start, explain_vector, is_vector_text, pattern_in,
 };
 use noise_lines::{Fault, flush, tell, write};
 use noise_vectors::{AllowedEvents, VectorFault, VectorFile, read_vector};

@@ -8,8 +8,8 @@ use Rattle.noise_vectors.specs.HexWord.{is_lower_digit}
 use Rattle.noise_vectors.specs.declared.faults.LineKind.{LineKind}
 use Rattle.noise_vectors.specs.declared.faults.LineKind.TheVariants as kinds
 use Rattle.noise_explain.specs.Places.{IsColumn, line_at, repeated, after_line}
-use Rattle.noise_explain.specs.declared.shapes.Shape.{Shape}
-use Rattle.noise_explain.specs.declared.shapes.Shape.TheVariants as shapes
+use Rattle.noise_explain_vectors.specs.declared.shapes.Shape.{Shape}
+use Rattle.noise_explain_vectors.specs.declared.shapes.Shape.TheVariants as shapes
 
 -- ---- words
 

@@ -1,11 +1,9 @@
 //! The sentences on the pattern that a vector file spells, and on a file that ends too early.
 
-use crate::advice::Advice;
 use crate::line_column::{block_fault, block_of, first_word};
 use crate::line_place::{has_end, is_own};
-use crate::place::line_at;
-use crate::text_advice::text_advice;
 use crate::told::Told;
+use noise_explain::{Advice, line_at, text_advice};
 
 // What is wrong with a line of that pattern.
 pub(crate) fn block_told(text: &[u8], number: usize, column: usize) -> Told {

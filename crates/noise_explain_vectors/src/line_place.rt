@@ -1,6 +1,6 @@
 //! What stands above a line of a vector file.
 
-use crate::place::line_at;
+use noise_explain::line_at;
 use noise_names::{ProtocolName, fundamental};
 
 // The party whose line has to stand next.

@@ -1,7 +1,7 @@
 //! The shapes of the words of a vector file's lines.
 
 ghost use Rattle.std.specs.Prelude.{◌≡◌};
-ghost use Rattle.noise_explain.specs.VectorColumns.{event_shapes, hex_event, only_if, shapes_of};
+ghost use Rattle.noise_explain_vectors.specs.VectorColumns.{event_shapes, hex_event, only_if, shapes_of};
 
 use crate::shapes::{Shape, is_role};
 use noise_vectors::LineKind;

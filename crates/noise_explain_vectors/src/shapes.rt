@@ -3,7 +3,7 @@
 ghost use Rattle.std.specs.Prelude.{◌≡◌, ◌||◌, ◌==◌, bytes_eq, codes};
 ghost use Rattle.std.specs.List.{list_all};
 ghost use Rattle.noise_vectors.specs.HexWord.{is_lower_digit};
-ghost use Rattle.noise_explain.specs.VectorColumns.{are_digits, are_hex, are_numbers, has_leading_zero, has_shape, is_digit, is_hex, is_key, is_number};
+ghost use Rattle.noise_explain_vectors.specs.VectorColumns.{are_digits, are_hex, are_numbers, has_leading_zero, has_shape, is_digit, is_hex, is_key, is_number};
 
 /// What a word has to be.
 #[derive(Clone, Copy, Debug, PartialEq, Eq)]

@@ -1,6 +1,6 @@
 use Rattle.std.proofs.Common.{refl, ◌∙◌, ◌++◌, ap, ℕ, List}
 use Rattle.noise_explain.specs.declared.place.Place.{Place}
-use Rattle.noise_explain.proofs.vector_explaining.explain_line.Goals as goal
+use Rattle.noise_explain_vectors.proofs.vector_explaining.explain_line.Goals as goal
 
 pub returns : goal.returns
 returns c =

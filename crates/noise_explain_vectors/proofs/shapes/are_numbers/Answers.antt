@@ -1,8 +1,8 @@
 use Rattle.std.proofs.Common.{rules, tests}
 use Rattle.std.proofs.lemmas.Iterator.Search.{all_from_yields_List}
 use Rattle.std.proofs.lemmas.Iterator.Splits.{YieldsList-from_slice_split}
-use Rattle.noise_explain.specs.VectorColumns.{is_number}
-use Rattle.noise_explain.proofs.shapes.are_numbers.Goals as goal
+use Rattle.noise_explain_vectors.specs.VectorColumns.{is_number}
+use Rattle.noise_explain_vectors.proofs.shapes.are_numbers.Goals as goal
 
 pub returns : goal.returns
 returns c = all_from_yields_List is_number _ _ _ c.all.ensures.ran

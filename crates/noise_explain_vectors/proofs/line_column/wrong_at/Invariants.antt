@@ -1,6 +1,6 @@
 use Rattle.std.proofs.Common.{◌≡◌, ◌≤◌, ◌+◌, drop, length}
-use Rattle.noise_explain.specs.VectorColumns.{wrong_at}
-use Rattle.noise_explain.proofs.line_column.wrong_at.Given as goal
+use Rattle.noise_explain_vectors.specs.VectorColumns.{wrong_at}
+use Rattle.noise_explain_vectors.proofs.line_column.wrong_at.Given as goal
 
 -- the words so far are of their shapes
 abbrev pub invariant-loop-shape : goal.invariant-loop-shape

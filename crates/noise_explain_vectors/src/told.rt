@@ -1,6 +1,6 @@
 //! What is wrong, and what mends it.
 
-use crate::advice::Advice;
+use noise_explain::Advice;
 
 /// Two sentences.
 #[derive(Clone, Copy)]

@@ -1,10 +1,8 @@
 //! The sentences on what the events of a vector file come to.
 
-use crate::facts::push_fact;
-use crate::known::{Spot, role_name, token_at};
 use crate::line_column::{first_word, word_at};
 use crate::run_counts::Counts;
-use crate::showing::push_sentence;
+use noise_explain::{Spot, push_fact, push_sentence, role_name, token_at};
 use noise_lines::token_word;
 use noise_names::{Pattern, Role};
 use std::alloc::{AllocError, Global};

@@ -1,7 +1,6 @@
 //! The sentences on an end that can't be made.
 
-use crate::known::role_name;
-use crate::showing::push_sentence;
+use noise_explain::{push_sentence, role_name};
 use noise_keys::SetupFault;
 use noise_names::Role;
 use std::alloc::{AllocError, Global};

@@ -2,19 +2,16 @@
 
 ghost use Rattle.std.specs.Prelude.{◌≡◌, ◌++◌, IfOk, OnOk};
 ghost use Rattle.noise_names.specs.Names.{name_bytes};
-ghost use Rattle.noise_explain.specs.VectorExplained.{TellsFault, TellsLine, TellsVector, is_vector_text, vector_head, without_mark};
+ghost use Rattle.noise_explain_vectors.specs.VectorExplained.{TellsFault, TellsLine, TellsVector, is_vector_text, vector_head, without_mark};
 
 use crate::block_sentences::{block_told, ending_told};
 use crate::expected_forms::expected_form;
-use crate::explaining::{Explained, caret_lines, rule_lines};
-use crate::facts::fact_lines;
 use crate::line_column::{first_word, line_column};
 use crate::line_sentences::line_told;
-use crate::place::{Place, line_at};
 use crate::run_sentences::run_lines;
 use crate::setup_sentences::setup_lines;
-use crate::showing::{push_sentence, unread_head, wrong_head};
 use crate::told::Told;
+use noise_explain::{Explained, Place, caret_lines, fact_lines, line_at, push_sentence, rule_lines, unread_head, wrong_head};
 use noise_lines::{Fault, named_pattern, push_shown};
 use noise_names::{Pattern, ProtocolName};
 use noise_vectors::LineKind;

@@ -2,12 +2,11 @@
 
 ghost use Rattle.std.specs.Prelude.{◌≡◌, ◌≤◌, ◌-◌, ◌++◌, ℕ, List, IfSome, IsTrue, length};
 ghost use Rattle.noise_explain.specs.Places.{after_line, repeated};
-ghost use Rattle.noise_explain.specs.VectorColumns.{IsBlockColumn, IsBlockFault, IsLineColumn, column_after, first_word, right_at, word_at, word_column, wrong_at};
+ghost use Rattle.noise_explain_vectors.specs.VectorColumns.{IsBlockColumn, IsBlockFault, IsLineColumn, column_after, first_word, right_at, word_at, word_column, wrong_at};
 
-use crate::column::column_of;
 use crate::line_shapes::shapes_of;
-use crate::place::{after_line, line_at};
 use crate::shapes::{Shape, has_shape};
+use noise_explain::{after_line, column_of, line_at};
 use noise_names::{Pattern, TextFault};
 use noise_vectors::LineKind;
 

@@ -10,7 +10,7 @@ use Rattle.noise_vectors.specs.declared.faults.LineKind.{LineKind}
 use Rattle.noise_explain.specs.Explained.{Begins}
 use Rattle.noise_explain.specs.Shown.{unread_head, wrong_head}
 use Rattle.noise_lines.specs.Shown.{shown}
-use Rattle.noise_explain.specs.VectorColumns.{IsLineColumn}
+use Rattle.noise_explain_vectors.specs.VectorColumns.{IsLineColumn}
 use Rattle.noise_explain.specs.declared.explaining.Explained.{Explained}
 use Rattle.noise_explain.specs.declared.place.Place.{Place}
 

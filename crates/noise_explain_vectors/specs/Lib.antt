@@ -1,0 +1,2 @@
+pub mod VectorColumns
+pub mod VectorExplained
