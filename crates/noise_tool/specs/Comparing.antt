@@ -1,5 +1,5 @@
 -- What `compare` prints of a log and of a vector file, and its exit status.
-use Rattle.std.specs.Prelude.{⊤, ◌≡◌, ◌⊎◌, ◌<◌, ◌≤◌, ℕ, true, List, [], ◌++◌, Option, Some, IfSome, codes, decimal, flat_map, length, map, string_bytes}
+use Rattle.std.specs.Prelude.{⊤, ◌≡◌, ◌<◌, ◌≤◌, ℕ, true, List, [], ◌++◌, Option, Some, IfSome, codes, decimal, flat_map, length, map, string_bytes}
 use Rattle.std.specs.Io.KnownBytes.{Appends}
 use Rattle.noise_compare.specs.Findings.{IsReport}
 use Rattle.noise_compare.specs.Lines.{words_in, words_of}
@@ -11,7 +11,6 @@ use Rattle.noise_lines.specs.Faults.{status_of}
 use Rattle.noise_lines.specs.Prefixes.{AppendsPrefix}
 use Rattle.noise_lines.specs.Told.{fault_line}
 use Rattle.noise_lines.specs.Verdicts.{named_fault}
-use Rattle.noise_lines.specs.declared.faults.Fault.{Fault}
 use Rattle.noise_lines.specs.declared.faults.Fault.TheVariants.{TooLong}
 use Rattle.noise_vectors.specs.VectorFile.{IsVectorFile}
 use Rattle.noise_vectors.specs.VectorText.{text_of}

@@ -210,10 +210,9 @@ fn write_verdict<O: Write>(
     }
     match verdict {
         Verdict::Differs(difference) => write_front(traced, difference.number, out),
-        Verdict::Met
-        | Verdict::CannotRun(_)
-        | Verdict::ExpectsNothing
-        | Verdict::NamedTwice => Ok(()),
+        Verdict::Met | Verdict::CannotRun(_) | Verdict::ExpectsNothing | Verdict::NamedTwice => Ok(
+            (),
+        ),
     }
 }
 

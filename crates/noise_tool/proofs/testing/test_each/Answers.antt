@@ -1,6 +1,6 @@
-use Rattle.std.proofs.Common.{arith, ◌≡◌, ◌∙◌, ◌⊎◌, inl, inr, ◌+◌, ◌++◌, ◌∷◌, ◌&&◌, ◌||◌, [], ap, drop, sym, true, false, ℕ, Bool, List, map, string_bytes, take}
+use Rattle.std.proofs.Common.{arith, ◌≡◌, ◌∙◌, ◌⊎◌, inl, inr, ◌+◌, ◌++◌, ◌∷◌, ◌&&◌, [], ap, sym, true, false, ℕ, List, map, string_bytes, take}
 use Rattle.std.proofs.lemmas.List.{map_more}
-use Rattle.noise_tool.specs.Testing.{Asked, asked, is_input}
+use Rattle.noise_tool.specs.Testing.{asked, is_input}
 use Rattle.noise_tool.proofs.TestingLemmas.{asked-at, asked-more, err-any, failed-more, is-again, is-named, named-after, named-more, one-begun, others-at, passed-more}
 use Rattle.noise_tool.proofs.testing.test_each.Goals as goal
 use Rattle.noise_tool.proofs.testing.test_each.Goals.{then-branch, else-branch, then-is_input, else-is_input, then-named, else-named}
