@@ -11,7 +11,10 @@ use crate::line_sentences::line_told;
 use crate::run_sentences::run_lines;
 use crate::setup_sentences::setup_lines;
 use crate::told::Told;
-use noise_explain::{Explained, Place, caret_lines, fact_lines, line_at, push_sentence, rule_lines, unread_head, wrong_head};
+use noise_explain::{
+    Explained, Place, caret_lines, fact_lines, line_at, push_sentence, rule_lines, unread_head,
+    wrong_head,
+};
 use noise_lines::{Fault, named_pattern, push_shown};
 use noise_names::{Pattern, ProtocolName};
 use noise_vectors::LineKind;

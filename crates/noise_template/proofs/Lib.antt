@@ -1,0 +1,3 @@
+pub mod FileLemmas
+pub mod NeedLemmas
+pub mod PushLemmas
