@@ -5,7 +5,9 @@
 ghost use Rattle.std.specs.Prelude.{◌≡◌, true, IfErr, None};
 ghost use Rattle.noise_lines.specs.Faults.{status_of};
 
-use noise_tool::{Chosen, Fault, FilesByName, LineFault, Order, chosen, perform, read_file, tell};
+use noise_tool::{
+    Chosen, Fault, FilesByName, LineFault, Order, chosen, names_protocol, perform, read_file, tell,
+};
 use std::alloc::Global;
 use std::env;
 use std::fs::File;
@@ -46,6 +48,10 @@ fn run(rt: &HostRuntime, order: &Order) -> u8 {
 fn run_command(rt: &HostRuntime, order: &Order, command: &Chosen) -> u8 {
     match command {
         Chosen::List | Chosen::Show(_) => run_on(rt, order, &mut io::empty()),
+        Chosen::Template(word) if names_protocol(word.as_str()) => {
+            run_on(rt, order, &mut io::empty())
+        }
+        Chosen::Template(name) => run_on_file(rt, order, name.as_str()),
         Chosen::Check(name) | Chosen::Talk(name) | Chosen::Replay(name) | Chosen::Convert(name) =>
             run_on_file(rt, order, name.as_str()),
         Chosen::Trace(traced) => run_on_file(rt, order, traced.file.as_str()),

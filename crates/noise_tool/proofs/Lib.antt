@@ -9,6 +9,7 @@ pub mod PrefixLemmas
 pub mod Shortness
 pub mod PrintedLemmas
 pub mod RunningLemmas
+pub mod TemplateLemmas
 pub mod TestingLemmas
 pub mod TraceLineLemmas
 pub mod ReceivedLemmas

@@ -227,6 +227,7 @@ fault-after : (chosen : Chosen) (known before middle after : Option (List ℕ)) 
 fault-after order.List known before middle after why same h = h
 fault-after (order.Show name) known before middle after why same h = h
 fault-after (order.Check path) known before middle after why same h = h
+fault-after (order.Template word) known before middle after why same h = h
 fault-after (order.Talk path) None before middle after why same h = h
 fault-after (order.Talk path) (Some bytes) before middle after why same h = either-after _ bytes before middle after why same h
 fault-after (order.Replay path) None before middle after why same h = h

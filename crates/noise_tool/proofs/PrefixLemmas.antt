@@ -13,6 +13,13 @@ use Rattle.noise_tool.specs.Conversion.{MeetsItself}
 use Rattle.noise_tool.specs.Performing.{IsFault, IsOfLines}
 use Rattle.noise_tool.specs.Prefixes.{PrintsConvertedPrefix, PrintsPrefix, PrintsRun, PrintsRunPrefix}
 use Rattle.noise_tool.specs.Running.{expected_in}
+use Rattle.noise_tool.specs.Templating.{HasTemplate, HasTemplated}
+use Rattle.std.specs.Prelude.{Bool, false, IfSome, MatchBool, string_bytes}
+use Rattle.noise_lines.specs.Output.{NamesPattern}
+use Rattle.noise_names.specs.Plan.{Plan}
+use Rattle.noise_names.specs.Text.{Spells}
+use Rattle.noise_names.specs.Validity.{IsValid}
+use Rattle.noise_template.specs.Template.{IsTemplateText, names_protocol}
 use Rattle.noise_tool.specs.declared.running.Outcome.{Outcome}
 use Rattle.noise_tool.proofs.MetLemmas.{met-or-unmet}
 use Rattle.noise_tool.proofs.PerformingLemmas.{Ran, has-converted, has-run}
@@ -62,6 +69,26 @@ talk-prefix path None a b old new (inr (text, h, grown)) = inr (text, inl tt, gr
 talk-prefix path (Some bytes) a b old new (inr (text, inl met, grown)) = inr (text, inl met, grown)
 talk-prefix path (Some bytes) a b old new (inr (text, inr (n, unmet), grown)) = inr (text, inr (fault.Unmet n, inr unmet), grown)
 
+pub template-prefix : {O : Type 0} (word : String Global) (bytes : List ℕ) (known a b : Option (List ℕ)) (old new : O) → bytes ≡ string_bytes word
+    → (new ≡ old) ⊎ ((text : List ℕ) × HasTemplated bytes known (Some []) (Some text) × AppendsPrefix a b text)
+    → (new ≡ old) ⊎ PrintsPrefix (order.Template word) known a b
+template-prefix word bytes known a b old new e (inl same) = inl same
+template-prefix word bytes known a b old new e (inr (text, h, grown)) =
+    inr (text, inl (subst (λ (w : List ℕ). HasTemplated w known (Some []) (Some text)) e h), grown)
+
+-- the template of the pattern that a file spells
+pub spelled-template : (word : List ℕ) (known : Option (List ℕ)) (t items told : List ℕ) → names_protocol word ≡ false → t ≡ items
+    → IfSome known (λ bytes. items ≡ bytes) → (p : Plan) × Spells t p × IsValid p × IsTemplateText p told → HasTemplated word known (Some []) (Some told)
+spelled-template word known t items told e same h (p, spells, valid, is) =
+    subst (λ (b : Bool). MatchBool b ((q : Plan) × NamesPattern word q × HasTemplate q (Some []) (Some told))
+    (IfSome known (λ bytes. (q : Plan) × Spells bytes q × HasTemplate q (Some []) (Some told)))) (sym e) (by known h)
+  where
+    by : (known : Option (List ℕ)) → IfSome known (λ bytes. items ≡ bytes)
+        → IfSome known (λ bytes. (q : Plan) × Spells bytes q × HasTemplate q (Some []) (Some told))
+    by None h = tt
+    by (Some bytes) h =
+        (p, subst (λ (z : List ℕ). Spells z p) (same ∙ h) spells, record { valid = valid; text = told; is = is; printed = refl })
+
 pub replay-prefix : {O : Type 0} (path : String Global) (known a b : Option (List ℕ)) (old new : O) → (new ≡ old) ⊎ PrintsRunPrefix known a b
     → (new ≡ old) ⊎ PrintsPrefix (order.Replay path) known a b
 replay-prefix path known a b old new (inl same) = inl same
@@ -100,6 +127,7 @@ rule-anywhere : (chosen : Chosen) (known a b c e : Option (List ℕ)) (f : RuleF
 rule-anywhere order.List known a b c e f h = h
 rule-anywhere (order.Show name) known a b c e f h = h
 rule-anywhere (order.Check path) known a b c e f h = h
+rule-anywhere (order.Template word) known a b c e f h = h
 rule-anywhere (order.Talk path) None a b c e f h = tt
 rule-anywhere (order.Talk path) (Some bytes) a b c e f (inl h) = inl h
 rule-anywhere (order.Talk path) (Some bytes) a b c e f (inr h) = absurd h

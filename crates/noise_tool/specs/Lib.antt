@@ -12,6 +12,8 @@ pub mod Printed
 pub mod PrintedDatagrams
 pub mod PrintedTrace
 pub mod Running
+pub mod TemplateStarts
+pub mod Templating
 pub mod Testing
 pub mod TraceDone
 pub mod TracedEnds

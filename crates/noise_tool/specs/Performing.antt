@@ -11,6 +11,7 @@ use Rattle.noise_lines.specs.Faults.{of_vector}
 use Rattle.noise_lines.specs.Output.{IsCheckFault, IsShowFault, NamesPattern, check_text, list_text, show_text}
 use Rattle.noise_lines.specs.Lines.{lines_text}
 use Rattle.noise_tool.specs.Running.{IsRunOf, expected_in}
+use Rattle.noise_tool.specs.Templating.{HasTemplated, IsTemplateFault, LeavesPattern, ReadsShortPattern}
 use Rattle.noise_tool.specs.TraceDone.{HasTraced, IsTraceUnmet, kept_of}
 use Rattle.noise_lines.specs.Converted.{converted_text}
 use Rattle.noise_vectors.specs.Expectations.{IsFirstUnmet, bytes_of}
@@ -21,7 +22,7 @@ use Rattle.noise_lines.specs.declared.faults.Fault.{Fault}
 use Rattle.noise_lines.specs.declared.faults.Fault.TheVariants.{TooLong, Unmet}
 use Rattle.noise_tool.specs.declared.running.Outcome.{Outcome}
 use Rattle.noise_words.specs.declared.orders.Chosen.{Chosen}
-use Rattle.noise_words.specs.declared.orders.Chosen.TheVariants.{List as Listing, Show, Check, Talk, Replay, Convert, Trace}
+use Rattle.noise_words.specs.declared.orders.Chosen.TheVariants.{List as Listing, Show, Check, Template, Talk, Replay, Convert, Trace}
 use Rattle.noise_words.specs.declared.orders.Order.{Order}
 use Rattle.noise_words.specs.declared.orders.Order.TheVariants.{Command, Compare, Explain, Test}
 use Rattle.noise_words.specs.declared.orders.Compared.{Compared}
@@ -60,6 +61,7 @@ abbrev pub IsDone : Chosen → Option (List ℕ) → Option (List ℕ) → Optio
 IsDone Listing file before after = Appends before after list_text
 IsDone (Show name) file before after = (p : Plan) × NamesPattern (string_bytes name) p × Appends before after (show_text p)
 IsDone (Check path) file before after = IfSome file (λ text. (p : Plan) × Spells text p × IsValid p × Appends before after (check_text p))
+IsDone (Template word) file before after = HasTemplated (string_bytes word) file before after
 IsDone (Talk path) file before after = IfSome file (λ text. HasRun text before after)
 IsDone (Replay path) file before after = IfSome file (λ text. HasRun text before after)
 IsDone (Convert path) file before after = IfSome file (λ text. HasConverted text before after)
@@ -73,6 +75,7 @@ IsShort file = IfSome file (λ text. length text ≤ 4194304)
 abbrev pub ReadsShort : Chosen → Option (List ℕ) → Type 0
 ReadsShort Listing file = ⊤
 ReadsShort (Show name) file = ⊤
+ReadsShort (Template word) file = ReadsShortPattern (string_bytes word) file
 ReadsShort _ file = IsShort file
 
 abbrev pub IsTooLong : List ℕ → Fault → Type 0
@@ -122,15 +125,17 @@ abbrev pub IsFault : Chosen → Option (List ℕ) → Option (List ℕ) → Opti
 IsFault Listing file before after fault = ⊥
 IsFault (Show name) file before after fault = IsShowFault (string_bytes name) fault
 IsFault (Check path) file before after fault = IfSome file (λ text. IsTooLong text fault ⊎ IsCheckFault text fault)
+IsFault (Template word) file before after fault = IsTemplateFault (string_bytes word) file fault
 IsFault (Talk path) file before after fault = IfSome file (λ text. IsRunFault SayOnly text fault ⊎ IsUnmet text before after fault)
 IsFault (Replay path) file before after fault = IfSome file (λ text. IsRunFault Any text fault ⊎ IsUnmet text before after fault)
 IsFault (Convert path) file before after fault = IfSome file (λ text. IsRunFault VersionOne text fault ⊎ IsTooLongConverted text fault)
 IsFault (Trace traced) file before after fault = IfSome file (λ text. IsRunFault Any text fault ⊎ IsTraceUnmet (kept_of traced) text before after fault)
 
--- `list` and `show` leave the file as it was
+-- `list` and `show` leave the file as it was, and `template` of a protocol name
 abbrev pub LeavesFile : {R : Type 0} → Chosen → R → R → Type 0
 LeavesFile Listing before after = after ≡ before
 LeavesFile (Show name) before after = after ≡ before
+LeavesFile (Template word) before after = LeavesPattern (string_bytes word) before after
 LeavesFile _ before after = ⊤
 
 -- after this fault alone the output has the lines of a run

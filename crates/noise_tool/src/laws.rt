@@ -2,8 +2,10 @@
 
 ghost use Rattle.noise_tool.specs.Conversion.{ConversionsMeetThemselves};
 ghost use Rattle.noise_tool.specs.OneRun.{OneRun};
+ghost use Rattle.noise_tool.specs.TemplateStarts.{TemplatesStart};
 
 use noise_duel::{datagram_run_once, run_once};
+use noise_handshake::tokens_stand;
 use noise_vectors::vector_texts_are_unique;
 
 /// Files that say the same print the same lines; so a file has one list of lines.
@@ -20,4 +22,11 @@ pub fn conversions_meet_themselves()
 {
     file_run_once();
     vector_texts_are_unique();
+}
+
+/// The ends of a template's file can be made: it is of the template's pattern, and nothing is wrong with either setup.
+pub fn templates_start()
+    ensures { TemplatesStart }
+{
+    tokens_stand();
 }

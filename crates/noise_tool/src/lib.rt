@@ -18,8 +18,9 @@ mod traced_ends;
 mod traced_event;
 mod tracing;
 
-pub use laws::{conversions_meet_themselves, file_run_once};
+pub use laws::{conversions_meet_themselves, file_run_once, templates_start};
 pub use noise_lines::{Difference, Fault, Verdict, read_file, tell};
+pub use noise_template::names_protocol;
 pub use noise_words::{Chosen, LineFault, Order, Tested, chosen};
 pub use performing::{perform, perform_command};
 pub use report::entry_lines;

@@ -1,6 +1,6 @@
 //! Doing what the command line asks for.
 
-ghost use Rattle.std.specs.Prelude.{◌≡◌, ◌⊎◌, ◌≤◌, IfErr, IfSome, MatchResult, OnOk, map, string_bytes};
+ghost use Rattle.std.specs.Prelude.{◌≡◌, ◌⊎◌, ◌≤◌, [], ℕ, List, Some, IfErr, IfSome, MatchResult, OnOk, map, string_bytes};
 ghost use Rattle.noise_lines.specs.Faults.{status_of};
 ghost use Rattle.std.specs.Io.KnownBytes.{Appends};
 ghost use Rattle.noise_vectors.specs.Expectations.{bytes_of};
@@ -9,6 +9,7 @@ ghost use Rattle.noise_tool.specs.Performing.{HasConverted, HasRun, IsDone, IsFa
 ghost use Rattle.noise_tool.specs.Performing.{IfCommand, IfCompare, IfExplain, IfTest, IsShort, LeavesAtTwo, LeavesFile, LeavesInput, ReadsShort};
 ghost use Rattle.noise_tool.specs.Comparing.{ComparesPrefix, IsCompared, IsNotCompared};
 ghost use Rattle.noise_tool.specs.Explaining.{ExplainsPrefix, HasExplained};
+ghost use Rattle.noise_tool.specs.Templating.{HasTemplated, IsTemplateFault, LeavesPattern, ReadsShortPattern};
 ghost use Rattle.noise_tool.specs.Testing.{EndsTest, IsTested, TestsPrefix};
 ghost use Rattle.noise_tool.specs.Prefixes.{PrintsConvertedPrefix, PrintsPrefix, PrintsRunPrefix};
 ghost use Rattle.noise_lines.specs.Lines.{lines_text};
@@ -26,6 +27,7 @@ use crate::trace_file::trace_chosen;
 use noise_lines::{
     Fault, check, compare, convert, flush, list, read_file, show, tell, write, write_lines,
 };
+use noise_template::{named_template, names_protocol, spelled_template};
 use noise_vectors::{AllowedEvents, read_vector};
 use noise_words::{Chosen, Order};
 use std::alloc::Global;
@@ -33,7 +35,7 @@ use std::io::{Read, Write};
 
 /// Does what the words of the command line ask for, and gives the exit status: a command on at most one file, which is opened, as `perform_command` does
 /// it, or `test`, `explain` or `compare`, with the files by their names. What isn't asked for is not read: of `file` nothing for `test`, `explain`,
-/// `compare`, `list` and `show`, of `files` nothing for a command.
+/// `compare`, `list`, `show` and `template` of a protocol name, of `files` nothing for a command.
 pub fn perform<R: Read, F: FilesByName, O: Write, E: Write>(
     alloc: Global,
     order: &Order,
@@ -90,8 +92,8 @@ pub fn perform<R: Read, F: FilesByName, O: Write, E: Write>(
 /// Does what was chosen, with the opened file, and gives the exit status: 0 without a fault; 1 where a pattern breaks a rule of validity or has
 /// fewer messages than a psk place needs, the ends of a vector file can't be made, or the lines of its run aren't those that it expects; 2 where
 /// the name is none, is of no fundamental pattern, or the file isn't a pattern text or a vector file, or what it is converted to is too long; 3
-/// where the file can't be read, the output can't be written, or memory runs out. A refused write to `err` leaves the status. `list` and `show`
-/// read no byte of `file`. At each status what comes to the output is a prefix of a text that is right for status 0 or 1, and what comes to `err` is
+/// where the file can't be read, the output can't be written, or memory runs out. A refused write to `err` leaves the status. `list`, `show` and
+/// `template` of a protocol name read no byte of `file`. At each status what comes to the output is a prefix of a text that is right for status 0 or 1, and what comes to `err` is
 /// a prefix of the line of the fault.
 pub fn perform_command<R: Read, O: Write, E: Write>(
     alloc: Global,
@@ -143,11 +145,35 @@ fn run<R: Read, O: Write>(
             let text = read_file(alloc, file)?;
             print(&check(alloc, &text)?, out)
         }
+        Chosen::Template(word) => print_template(alloc, word.as_str(), file, out),
         Chosen::Talk(_) => run_file(alloc, AllowedEvents::SayOnly, file, out),
         Chosen::Replay(_) => run_file(alloc, AllowedEvents::Any, file, out),
         Chosen::Convert(_) => convert_file(alloc, file, out),
         Chosen::Trace(traced) => trace_chosen(alloc, traced, file, out),
     }
+}
+
+// Prints the template of the pattern that has this protocol name, or else of the one that the file spells.
+fn print_template<R: Read, O: Write>(
+    alloc: Global,
+    word: &str,
+    file: &mut R,
+    out: &mut O,
+) -> Result<(), Fault>
+    ensures done { OnOk result (HasTemplated word.now (R.remaining file.old) (O.contents out.old) (O.contents out.new)) }
+    ensures fault { IfErr result (λ fault. (status_of fault ≡ 3) ⊎ IsTemplateFault word.now (R.remaining file.old) fault) }
+    ensures long { MatchResult result (λ _. ReadsShortPattern word.now (R.remaining file.old))
+        (λ fault. (2 ≤ status_of fault) ⊎ ReadsShortPattern word.now (R.remaining file.old)) }
+    ensures unwritten { IfErr result (λ fault. (status_of fault ≡ 3) ⊎ (out.new ≡ out.old)) }
+    ensures prefix { (out.new ≡ out.old) ⊎ ((text : List ℕ) × HasTemplated word.now (R.remaining file.old) (Some []) (Some text)
+        × AppendsPrefix (O.contents out.old) (O.contents out.new) text) }
+    ensures unread { LeavesPattern word.now file.old file.new }
+{
+    if names_protocol(word) {
+        return print(&named_template(alloc, word.as_bytes())?, out);
+    }
+    let text = read_file(alloc, file)?;
+    print(&spelled_template(alloc, &text)?, out)
 }
 
 // Runs two ends on a vector file, prints what they do, and compares it with what the file expects.

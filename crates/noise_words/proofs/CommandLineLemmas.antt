@@ -52,12 +52,13 @@ differs x name other = at (bytes_eq x name) refl where
 
 -- no other name states an order
 pub stated_by-unknown : (name : Text) (rows : List Row) → (name ≡ codes "list" → ⊥) → (name ≡ codes "show" → ⊥) → (name ≡ codes "check" → ⊥)
-    → (name ≡ codes "talk" → ⊥) → (name ≡ codes "replay" → ⊥) → (name ≡ codes "convert" → ⊥) → (name ≡ codes "test" → ⊥) → (name ≡ codes "trace" → ⊥)
+    → (name ≡ codes "template" → ⊥) → (name ≡ codes "talk" → ⊥) → (name ≡ codes "replay" → ⊥) → (name ≡ codes "convert" → ⊥) → (name ≡ codes "test" → ⊥) → (name ≡ codes "trace" → ⊥)
     → (name ≡ codes "explain" → ⊥) → (name ≡ codes "compare" → ⊥) → stated_by name rows ≡ None
-stated_by-unknown name rows list show check talk replay convert test trace explain compare =
+stated_by-unknown name rows list show check template talk replay convert test trace explain compare =
     let no_list = differs (codes "list") name list in
     let no_show = differs (codes "show") name show in
     let no_check = differs (codes "check") name check in
+    let no_template = differs (codes "template") name template in
     let no_talk = differs (codes "talk") name talk in
     let no_replay = differs (codes "replay") name replay in
     let no_convert = differs (codes "convert") name convert in
@@ -65,7 +66,7 @@ stated_by-unknown name rows list show check talk replay convert test trace expla
     let no_trace = differs (codes "trace") name trace in
     let no_explain = differs (codes "explain") name explain in
     let no_compare = differs (codes "compare") name compare in
-    rw (no_list, no_show, no_check, no_explain, no_talk, no_replay, no_convert, no_test, no_trace, no_compare) refl
+    rw (no_list, no_show, no_check, no_explain, no_template, no_talk, no_replay, no_convert, no_test, no_trace, no_compare) refl
 
 -- what the matches have for an option, by what a parse found for it
 pub choice_in-found : (m : ArgMatches) (choice : Choice) (o : Option Text) → o ≡ first_value (found_of m) choice.0

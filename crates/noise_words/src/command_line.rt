@@ -247,6 +247,7 @@ fn command_order(
         "list" => Ok(Some(Chosen::List)),
         "show" => Ok(value(alloc, found, "NAME")?.map(Chosen::Show)),
         "check" => Ok(value(alloc, found, "FILE")?.map(Chosen::Check)),
+        "template" => Ok(value(alloc, found, "NAME|FILE")?.map(Chosen::Template)),
         "talk" => Ok(value(alloc, found, "FILE")?.map(Chosen::Talk)),
         "replay" => Ok(value(alloc, found, "FILE")?.map(Chosen::Replay)),
         "convert" => Ok(value(alloc, found, "FILE")?.map(Chosen::Convert)),

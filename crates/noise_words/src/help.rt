@@ -17,8 +17,18 @@ pub struct Subcommand<'a> {
     pub example: &'a str,
 }
 
+// What the placeholders of a template stand for.
+const TEMPLATE_HELP: &str = "\
+Replace the digits of each placeholder wherever they stand:
+  e1e1..  the initiator's ephemeral public key    5151..  its static public key
+  e2e2..  the responder's ephemeral public key    5252..  its static public key
+  eeee..  the result of DH at ee, e5e5.. at es, 5e5e.. at se, 5555.. at ss
+  a0a0..  the pre-shared secret of psk0, a1a1.. of psk1, up to a8a8.. of psk8
+
+Example: noise template Noise_XXpsk3_25519_ChaChaPoly_SHA256";
+
 /// The subcommands that have a value.
-pub const WITH_VALUE: [Subcommand<'static>; 6] = [
+pub const WITH_VALUE: [Subcommand<'static>; 7] = [
     Subcommand {
         name: "show",
         value: "NAME",
@@ -42,6 +52,14 @@ pub const WITH_VALUE: [Subcommand<'static>; 6] = [
         about: "Say in sentences what is wrong with a pattern, and what follows from its tokens",
         meaning: "Files with the text of a pattern",
         example: "Example: noise explain examples/patterns/broken.pattern",
+    },
+    Subcommand {
+        name: "template",
+        value: "NAME|FILE",
+        several: false,
+        about: "Print a vector file with the lines that a pattern needs, and a placeholder for each key",
+        meaning: "A whole protocol name, as Noise_XXpsk3_25519_ChaChaPoly_SHA256, or a file with the text of a pattern",
+        example: TEMPLATE_HELP,
     },
     Subcommand {
         name: "talk",

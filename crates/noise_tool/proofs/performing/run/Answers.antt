@@ -1,6 +1,10 @@
-use Rattle.noise_tool.proofs.PrefixLemmas.{replay-prefix, talk-prefix}
+use Rattle.noise_tool.proofs.PrefixLemmas.{replay-prefix, talk-prefix, template-prefix}
 use Rattle.noise_tool.proofs.TracePerforming.{traced-prefix}
 use Rattle.noise_tool.proofs.performing.run.Goals as goal
+
+pub returns-in-Template-clause-prefix : goal.returns-in-Template-clause-prefix
+returns-in-Template-clause-prefix g c =
+    rw c.in-Template.is (template-prefix c.in-Template.word c.as_str.result.now _ _ _ _ _ c.as_str.ensures.value c.print_template.ensures.prefix)
 
 pub returns-in-Talk-clause-prefix : goal.returns-in-Talk-clause-prefix
 returns-in-Talk-clause-prefix g c = rw c.in-Talk.is (talk-prefix c.in-Talk.field-0 _ _ _ _ _ c.run_file.ensures.prefix)

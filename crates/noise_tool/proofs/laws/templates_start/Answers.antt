@@ -1,0 +1,8 @@
+use Rattle.noise_tool.proofs.TemplateLemmas.{no-setup-fault, pattern-of}
+use Rattle.noise_tool.proofs.laws.templates_start.Goals as goal
+
+pub returns : goal.returns
+returns c = λ p text template. record {
+  pattern = pattern-of p template.file template.pattern template.is;
+  set_up = no-setup-fault p template.file template.pattern (c.tokens_stand.ensures.before p) template.is;
+}
