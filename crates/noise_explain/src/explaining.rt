@@ -14,7 +14,7 @@ use crate::place::{Place, line_at};
 use crate::rule_place::rule_place;
 use crate::rule_sentences::rule_sentences;
 use crate::showing::{push_caret, push_sentence, right_head, unread_head, wrong_head};
-use crate::text_advice::text_advice;
+use crate::text_advice::fault_advice;
 use noise_lines::Fault;
 use noise_names::{Pattern, RuleFault, TextFault, ValidPattern};
 use std::alloc::{AllocError, Global};
@@ -104,7 +104,7 @@ fn explain_text(
     };
     let mut told = wrong_head(alloc, name, place, Fault::Text(fault))?;
     told.extend_from_slice(&caret_lines(alloc, line, place.column)?)?;
-    told.extend_from_slice(&advice_lines(alloc, text_advice(text, fault, place.column))?)?;
+    told.extend_from_slice(&advice_lines(alloc, fault_advice(text, fault, place.column))?)?;
     Ok(Explained {
         text: told,
         status: 2,

@@ -21,4 +21,4 @@ pub use facts::{fact_lines, push_fact};
 pub use known::{Spot, role_name, token_at};
 pub use place::{Place, after_line, line_at};
 pub use showing::{push_sentence, unread_head, wrong_head};
-pub use text_advice::{slip, text_advice};
+pub use text_advice::{fault_advice, slip};

@@ -6,7 +6,7 @@ use crate::place::line_at;
 use noise_names::{TextFault, TextFaultKind};
 
 /// What is wrong with the line of the fault, which has this column.
-pub fn text_advice(text: &[u8], fault: TextFault, column: usize) -> Advice {
+pub fn fault_advice(text: &[u8], fault: TextFault, column: usize) -> Advice {
     let line = line_at(text, fault.line);
     let (_, piece) = line.split_at(column.saturating_sub(1).min(line.len()));
     match fault.kind {

@@ -3,7 +3,7 @@
 use crate::line_column::{block_fault, block_of, first_word};
 use crate::line_place::{has_end, is_own};
 use crate::told::Told;
-use noise_explain::{Advice, line_at, text_advice};
+use noise_explain::{Advice, line_at, fault_advice};
 
 // What is wrong with a line of that pattern.
 pub(crate) fn block_told(text: &[u8], number: usize, column: usize) -> Told {
@@ -12,7 +12,7 @@ pub(crate) fn block_told(text: &[u8], number: usize, column: usize) -> Told {
     }
     match block_fault(text) {
         Some(fault) if fault.line == number.saturating_sub(2) => {
-            Told::of(text_advice(block_of(text), fault, column))
+            Told::of(fault_advice(block_of(text), fault, column))
         }
         _ => Told::new(
             "The pattern's first line has the base and the psk places of the protocol's name, and a colon, and this one doesn't.",
