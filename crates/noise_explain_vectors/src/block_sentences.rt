@@ -3,7 +3,7 @@
 use crate::line_column::{block_fault, block_of, first_word};
 use crate::line_place::{has_end, is_own};
 use crate::told::Told;
-use noise_explain::{Advice, line_at, fault_advice};
+use noise_explain::{Advice, fault_advice, line_at};
 
 // What is wrong with a line of that pattern.
 pub(crate) fn block_told(text: &[u8], number: usize, column: usize) -> Told {
