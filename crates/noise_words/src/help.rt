@@ -49,8 +49,8 @@ pub const WITH_VALUE: [Subcommand<'static>; 7] = [
         name: "explain",
         value: "FILE",
         several: true,
-        about: "Say in sentences what is wrong with a pattern, and what follows from its tokens",
-        meaning: "Files with the text of a pattern",
+        about: "Say in sentences what is wrong with a pattern or a vector file, and what follows from it",
+        meaning: "Files with the text of a pattern, and vector files",
         example: "Example: noise explain examples/patterns/broken.pattern",
     },
     Subcommand {
