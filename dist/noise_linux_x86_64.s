@@ -172240,52 +172240,52 @@ main:
 	.quad	.Lnoise_static.3+817
 	.asciz	"\004\000\000\000\000\000\000\000\001\000\000\000\000\000\000"
 	.quad	.Lnoise_static.3+994
-	.asciz	"O\000\000\000\000\000\000"
-	.quad	.Lnoise_static.3+1073
-	.asciz	" \000\000\000\000\000\000"
-	.quad	.Lnoise_static.3+1105
+	.asciz	"X\000\000\000\000\000\000"
+	.quad	.Lnoise_static.3+1082
+	.asciz	"2\000\000\000\000\000\000"
+	.quad	.Lnoise_static.3+1132
 	.asciz	"7\000\000\000\000\000\000"
-	.quad	.Lnoise_static.3+1160
+	.quad	.Lnoise_static.3+1187
 	.asciz	"\b\000\000\000\000\000\000"
-	.quad	.Lnoise_static.3+1168
+	.quad	.Lnoise_static.3+1195
 	.asciz	"\t\000\000\000\000\000\000\000\000\000\000\000\000\000\000"
-	.quad	.Lnoise_static.3+1177
+	.quad	.Lnoise_static.3+1204
 	.asciz	"W\000\000\000\000\000\000"
-	.quad	.Lnoise_static.3+1264
+	.quad	.Lnoise_static.3+1291
 	.asciz	"d\000\000\000\000\000\000"
-	.quad	.Lnoise_static.3+1364
+	.quad	.Lnoise_static.3+1391
 	.asciz	"\262\001\000\000\000\000\000"
-	.quad	.Lnoise_static.3+1798
+	.quad	.Lnoise_static.3+1825
 	.asciz	"\004\000\000\000\000\000\000"
 	.quad	.Lnoise_static.3+817
 	.asciz	"\004\000\000\000\000\000\000\000\000\000\000\000\000\000\000"
-	.quad	.Lnoise_static.3+1802
+	.quad	.Lnoise_static.3+1829
 	.asciz	"B\000\000\000\000\000\000"
-	.quad	.Lnoise_static.3+1868
+	.quad	.Lnoise_static.3+1895
 	.asciz	"J\000\000\000\000\000\000"
-	.quad	.Lnoise_static.3+1942
+	.quad	.Lnoise_static.3+1969
 	.asciz	"9\000\000\000\000\000\000"
-	.quad	.Lnoise_static.3+1999
+	.quad	.Lnoise_static.3+2026
 	.asciz	"\006\000\000\000\000\000\000"
 	.quad	.Lnoise_static.3+817
 	.asciz	"\004\000\000\000\000\000\000\000\000\000\000\000\000\000\000"
-	.quad	.Lnoise_static.3+2005
+	.quad	.Lnoise_static.3+2032
 	.asciz	"K\000\000\000\000\000\000"
-	.quad	.Lnoise_static.3+2080
+	.quad	.Lnoise_static.3+2107
 	.asciz	"Y\000\000\000\000\000\000"
-	.quad	.Lnoise_static.3+2169
+	.quad	.Lnoise_static.3+2196
 	.asciz	":\000\000\000\000\000\000"
-	.quad	.Lnoise_static.3+2227
+	.quad	.Lnoise_static.3+2254
 	.asciz	"\007\000\000\000\000\000\000"
 	.quad	.Lnoise_static.3+817
 	.asciz	"\004\000\000\000\000\000\000\000\000\000\000\000\000\000\000"
-	.quad	.Lnoise_static.3+2234
+	.quad	.Lnoise_static.3+2261
 	.asciz	"R\000\000\000\000\000\000"
-	.quad	.Lnoise_static.3+2316
+	.quad	.Lnoise_static.3+2343
 	.asciz	"\032\000\000\000\000\000\000"
-	.quad	.Lnoise_static.3+2342
-	.asciz	"<\000\000\000\000\000\000\000showNAMEPrint the pattern of a protocol name, and how many bytes each message addsA whole protocol name, as Noise_XXpsk3_25519_ChaChaPoly_SHA256Example: noise show Noise_XX_25519_ChaChaPoly_SHA256checkFILESay whether the pattern in a file is valid, and how many bytes each message addsA file with the text of a patternExample: noise check examples/patterns/ikpsk2.patternexplainSay in sentences what is wrong with a pattern, and what follows from its tokensFiles with the text of a patternExample: noise explain examples/patterns/broken.patterntemplateNAME|FILEPrint a vector file with the lines that a pattern needs, and a placeholder for each keyA whole protocol name, as Noise_XXpsk3_25519_ChaChaPoly_SHA256, or a file with the text of a patternReplace the digits of each placeholder wherever they stand:\n  e1e1..  the initiator's ephemeral public key    5151..  its static public key\n  e2e2..  the responder's ephemeral public key    5252..  its static public key\n  eeee..  the result of DH at ee, e5e5.. at es, 5e5e.. at se, 5555.. at ss\n  a0a0..  the pre-shared secret of psk0, a1a1.. of psk1, up to a8a8.. of psk8\n\nExample: noise template Noise_XXpsk3_25519_ChaChaPoly_SHA256talkRun two ends on a vector file and print what each writes and takesA vector file whose events are all say; lines that it expects are comparedExample: noise talk examples/vectors/first-message.vectorreplayRun two ends on a vector file whose frames may be lost, repeated or foreignA vector file with events of all kinds, and datagrams; lines that it expects are comparedExample: noise replay examples/vectors/each-outcome.vectorconvertPrint a version 1 vector file as one of version 2 that expects what its run printsA vector file of version 1Example: noise convert examples/vectors/first-message.vector\000\000\000\000\000"
-	.size	.Lnoise_static.3, 2408
+	.quad	.Lnoise_static.3+2369
+	.asciz	"<\000\000\000\000\000\000\000showNAMEPrint the pattern of a protocol name, and how many bytes each message addsA whole protocol name, as Noise_XXpsk3_25519_ChaChaPoly_SHA256Example: noise show Noise_XX_25519_ChaChaPoly_SHA256checkFILESay whether the pattern in a file is valid, and how many bytes each message addsA file with the text of a patternExample: noise check examples/patterns/ikpsk2.patternexplainSay in sentences what is wrong with a pattern or a vector file, and what follows from itFiles with the text of a pattern, and vector filesExample: noise explain examples/patterns/broken.patterntemplateNAME|FILEPrint a vector file with the lines that a pattern needs, and a placeholder for each keyA whole protocol name, as Noise_XXpsk3_25519_ChaChaPoly_SHA256, or a file with the text of a patternReplace the digits of each placeholder wherever they stand:\n  e1e1..  the initiator's ephemeral public key    5151..  its static public key\n  e2e2..  the responder's ephemeral public key    5252..  its static public key\n  eeee..  the result of DH at ee, e5e5.. at es, 5e5e.. at se, 5555.. at ss\n  a0a0..  the pre-shared secret of psk0, a1a1.. of psk1, up to a8a8.. of psk8\n\nExample: noise template Noise_XXpsk3_25519_ChaChaPoly_SHA256talkRun two ends on a vector file and print what each writes and takesA vector file whose events are all say; lines that it expects are comparedExample: noise talk examples/vectors/first-message.vectorreplayRun two ends on a vector file whose frames may be lost, repeated or foreignA vector file with events of all kinds, and datagrams; lines that it expects are comparedExample: noise replay examples/vectors/each-outcome.vectorconvertPrint a version 1 vector file as one of version 2 that expects what its run printsA vector file of version 1Example: noise convert examples/vectors/first-message.vector\000\000"
+	.size	.Lnoise_static.3, 2432
 
 	.type	.Lnoise_static.4,@object
 	.section	.rodata.cst4,"aM",@progbits,4
